@@ -1,0 +1,5 @@
+pub mod Answered
+pub mod Bounded
+pub mod FollowSteps
+pub mod Outcomes
+pub mod RunSteps

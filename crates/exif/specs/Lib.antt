@@ -1,0 +1,6 @@
+pub mod Bounds
+pub mod Readings
+pub mod Results
+pub mod Running
+pub mod StopErrors
+pub mod Stops

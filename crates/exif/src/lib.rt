@@ -1,0 +1,17 @@
+//! Exif metadata: reading of TIFF data into fields and faults.
+#![tactic(auto)]
+
+mod bytes;
+mod directory;
+mod parser;
+mod reader;
+mod stop;
+mod tiff;
+
+pub use exif_base::{Counted, Items, Sink, Source};
+pub use exif_types::{
+    Context, Error, Exif, Field, Fields, In, PartialResult, Rational, SRational, Tag, UIntIter,
+    UIntValue, Value,
+};
+pub use reader::Reader;
+pub use tiff::parse_exif;

@@ -1,0 +1,96 @@
+//! Readers of Exif metadata.
+
+ghost use Rattle.std.specs.Prelude.{◌≡◌, All, map, IfOk, None, Some, false};
+ghost use Rattle.exif_types.specs.Failures.{told_text, bytes_of, IsInvalidFormat};
+ghost use Rattle.exif_format.specs.Faults.{text_of};
+ghost use Rattle.exif_format.specs.Answers.{raw_answer};
+ghost use Rattle.exif.specs.Bounds.{most_reports, ReportsAtMost};
+ghost use Rattle.exif.specs.Readings.{ReadsAs};
+
+use crate::bytes::show_bytes;
+use crate::tiff;
+use exif_format::Fault;
+use exif_types::{Error, Exif, PartialResult};
+use std::alloc::{AllocError, Global};
+use std::marker::Model;
+
+/// A reader of Exif metadata: how it takes faults, and how many entries it visits at most.
+#[derive(Drop)]
+pub struct Reader {
+    lenient: bool,
+    limit: Option<u64>,
+}
+
+impl Model for Reader {
+    ghost use Rattle.exif.specs.Readings.{Mode};
+
+    ghost Value = { Mode };
+
+    ghost view = { λ r. record { lenient = r.lenient; limit = r.limit } };
+}
+
+// The errors of these faults.
+fn errors_of(alloc: Global, faults: &[Fault]) -> Result<Vec<Error>, AllocError>
+    ensures texts { IfOk result (λ errors. map bytes_of (map told_text errors.items) ≡ map text_of faults.now) }
+    ensures invalid { IfOk result (λ errors. All IsInvalidFormat errors.items) }
+{
+    let mut errors = Vec::with_capacity(alloc, faults.len())?;
+    for fault in faults {
+        errors.push(Error::InvalidFormat(fault.message()))?;
+    }
+    Ok(errors)
+}
+
+impl Reader {
+    /// A strict reader without a limit.
+    pub fn new() -> Reader
+        ensures { result ≡ record { lenient = false; limit = None } }
+    {
+        Reader {
+            lenient: false,
+            limit: None,
+        }
+    }
+
+    /// Sets whether the reader passes over soft faults, and then answers a `PartialResult`.
+    pub fn continue_on_error(&mut self, lenient: bool) -> &mut Self
+        ensures same { result.ghost_name ≡ self.entry.ghost_name }
+        ensures value { result.now ≡ record self.old { lenient = lenient } }
+    {
+        self.lenient = lenient;
+        self
+    }
+
+    /// Sets the most directory entries that one reading visits. A limit that is met is a soft
+    /// fault, and nothing behind it is read.
+    pub fn limit_entries(&mut self, limit: u64) -> &mut Self
+        ensures same { result.ghost_name ≡ self.entry.ghost_name }
+        ensures value { result.now ≡ record self.old { limit = Some limit } }
+    {
+        self.limit = Some(limit);
+        self
+    }
+
+    /// Reads TIFF data. Hard faults of the header come first, in either mode, and take no memory.
+    /// Behind them, strict reading answers the first fault, and lenient reading all fields and, in
+    /// a `PartialResult`, all faults.
+    pub fn read_raw(&self, alloc: Global, bytes: Vec<u8>) -> Result<Exif, Error>
+        ensures reads { ReadsAs (raw_answer self.now.lenient self.now.limit bytes.items) bytes.items result }
+        ensures bounded { ReportsAtMost (most_reports self.now.limit bytes.items) result }
+    {
+        show_bytes(bytes.as_slice());
+        self.read(alloc, bytes)
+    }
+
+    fn read(&self, alloc: Global, bytes: Vec<u8>) -> Result<Exif, Error>
+        ensures { ReadsAs (raw_answer self.now.lenient self.now.limit bytes.items) bytes.items result }
+    {
+        let parsed = tiff::parse(alloc, bytes.as_slice(), self.lenient, self.limit)?;
+        let errors = errors_of(alloc, parsed.faults.as_slice())?;
+        let exif = Exif::from_parts(alloc, bytes, parsed.fields, parsed.little_endian)?;
+        if errors.is_empty() {
+            return Ok(exif);
+        }
+        Err(Error::PartialResult(PartialResult::from_parts(exif, errors)))
+    }
+}

@@ -1,0 +1,5 @@
+pub mod AtHand
+pub mod Head
+pub mod Loops
+pub mod Sent
+pub mod Told

@@ -1,0 +1,33 @@
+-- One step after another on told bytes.
+use Rattle.std.proofs.Common.{◌≡◌, ℕ, ◌+◌, ◌-◌, ◌≤◌, List, ◌++◌, length, take, drop, Option, None, Some, ap, sym, ◌∙◌, refl, arith, append_assoc, length-append, length-drop}
+use Rattle.std.proofs.Math.Seq.{take-append-add}
+use Rattle.std.proofs.lemmas.List.{length-take-le, take-append-le, drop-drop, drop_at}
+use borrow.Rule.Slice.PartMut.{put_mid, post_of}
+use Rattle.std.specs.Io.KnownBytes.{Consumes}
+use Rattle.exif_base.specs.Told.{Skips}
+
+-- bytes, and then more bytes
+pub consumes_append : (a b c : Option (List ℕ)) (xs ys : List ℕ) → Consumes a b xs → Consumes b c ys → Consumes a c (xs ++ ys)
+consumes_append None b c xs ys h k = tt
+consumes_append (Some p) None c xs ys h k = absurd h
+consumes_append (Some p) (Some q) None xs ys h k = absurd k
+consumes_append (Some p) (Some q) (Some r) xs ys h k = h ∙ ap (λ t. xs ++ t) k ∙ sym (append_assoc xs ys r)
+
+-- a skip, and then more bytes
+pub skips_more : (a b c : Option (List ℕ)) (m k : ℕ) (bs : List ℕ) → Skips a b m → Consumes b c bs → m + length bs ≡ k → Skips a c k
+skips_more None b c m k bs h e s = tt
+skips_more (Some p) None c m k bs h e s = absurd h
+skips_more (Some p) (Some q) None m k bs h e s = absurd e
+skips_more (Some p) (Some q) (Some r) m k bs h e s =
+    let rest : drop m p ≡ bs ++ r = sym h.1 ∙ e in
+    let total : length p - m ≡ length bs + length r = sym (length-drop m p) ∙ ap length rest ∙ length-append bs r in (
+      omega arith,
+      sym (ap (λ t. drop t p) (sym s) ∙ sym (drop-drop (length bs) m p) ∙ ap (drop (length bs)) rest ∙ drop_at bs r (length bs) refl),
+    )
+
+-- after a read of n bytes into the part from place `at` on
+pub take_filled : (at k n : ℕ) (old new : List ℕ) → at ≤ length old → n ≤ length new → take (at + n) (put_mid at k old new) ≡ take at old ++ take n new
+take_filled at k n old new h f =
+    ap (λ m. take (m + n) (put_mid at k old new)) (sym (length-take-le at old h))
+    ∙ take-append-add (take at old) (new ++ post_of at k old) n
+    ∙ ap (λ t. take at old ++ t) (take-append-le n new (post_of at k old) f)

@@ -1,0 +1,12 @@
+use Rattle.std.proofs.Common.{◌-◌, length, rules}
+use Rattle.exif_base.proofs.Told.{consumes_append, take_filled}
+use Rattle.exif_base.proofs.read.read_front.Goals as goal
+
+pub loop-at-preserved : goal.loop-at-preserved
+loop-at-preserved g c = record {
+  in_range = search rules;
+  taken = rw (take_filled c.loop-at.at (length c.loop-at.buf - c.loop-at.at) c.in_ok-n.n c.loop-at.buf c.fetch.new.buf c.loop-at.invariant.in_range c.in_ok-n.ensures.bound.0)
+      (consumes_append _ _ _ _ _ c.loop-at.invariant.taken c.in_ok-n.ensures.bytes.0);
+  count = search rules;
+  same = search rules;
+}

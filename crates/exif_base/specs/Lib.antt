@@ -1,0 +1,11 @@
+pub mod Ahead
+pub mod Blocks
+pub mod Bytes
+pub mod Counted
+pub mod Device
+pub mod Exact
+pub mod Orders
+pub mod ReadFaults
+pub mod Scan
+pub mod Sent
+pub mod Told

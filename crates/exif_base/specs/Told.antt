@@ -1,0 +1,22 @@
+-- What reads and writes do to the bytes of a reader or a writer, where those are told.
+use Rattle.std.specs.Prelude.{◌≡◌, ℕ, ◌<◌, ◌≤◌, List, ◌++◌, length, drop, ⊤, Option, None, Some}
+
+-- P holds of the bytes told before and after; told bytes stay told
+abbrev pub WhereTold : Option (List ℕ) → Option (List ℕ) → (List ℕ → List ℕ → Type 0) → Type 0
+WhereTold None new P = ⊤
+WhereTold (Some xs) None P = ⊥
+WhereTold (Some xs) (Some ys) P = P xs ys
+
+-- the first n bytes are gone
+abbrev pub Skips : Option (List ℕ) → Option (List ℕ) → ℕ → Type 0
+Skips old new n = WhereTold old new (λ xs ys. (n ≤ length xs) × (ys ≡ drop n xs))
+
+-- fewer than n bytes are left
+abbrev pub HasFewer : Option (List ℕ) → ℕ → Type 0
+HasFewer None n = ⊤
+HasFewer (Some xs) n = length xs < n
+
+-- all the bytes left were added at the end of a list
+abbrev pub TakesAll : Option (List ℕ) → List ℕ → List ℕ → Type 0
+TakesAll None old new = ⊤
+TakesAll (Some xs) old new = new ≡ old ++ xs

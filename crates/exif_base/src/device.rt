@@ -1,0 +1,135 @@
+//! Where bytes come from and go to: readers and writers that count their failures.
+
+ghost use Rattle.std.specs.Prelude.{◌≡◌, ℕ, List, Option, length, is_err, true};
+ghost use Rattle.std.specs.Io.{ReadsAtMost, WritesAtMost};
+ghost use Rattle.std.specs.Io.KnownBytes.{Keeps, ReadConsumes, WriteAppends};
+ghost use Rattle.exif_base.specs.Device.{count_after, put_failed};
+ghost use Rattle.exif_base.specs.Counted.{counted_inner, counted_failures};
+
+use std::io;
+use std::io::{Read, Write};
+
+/// What gives bytes. `Ok(0)` into room is the end.
+pub trait Source {
+    /// The bytes that fetches will give from here on, where they are told.
+    ghost left: { Self → Option (List ℕ) };
+
+    /// How many fetches failed, up to 2^64 - 1.
+    ghost failures: { Self → ℕ };
+
+    /// The name of the reference that it reads through, if it does.
+    ghost through: { Self → ℕ };
+
+    /// Puts the next bytes at the front of the buffer, and answers how many.
+    ///
+    /// An error gave none of them, and they are still to come.
+    fn fetch(&mut self, buf: &mut [u8]) -> io::Result<usize>
+        ensures bound { ReadsAtMost result buf.new }
+        ensures bytes { ReadConsumes (left self.old) (left self.new) result buf.new }
+        ensures count { failures self.new ≡ count_after (is_err result) (failures self.old) }
+        ensures same { through self.new ≡ through self.old };
+}
+
+/// What takes bytes. `Ok(0)` of some bytes is a failure.
+pub trait Sink {
+    /// The bytes that were taken so far, where they are told.
+    ghost taken: { Self → Option (List ℕ) };
+
+    /// How many puts and flushes failed, up to 2^64 - 1.
+    ghost failures: { Self → ℕ };
+
+    /// The name of the reference that it writes through, if it does.
+    ghost through: { Self → ℕ };
+
+    /// Takes a front of the bytes, and answers how many. An error took none.
+    fn put(&mut self, bytes: &[u8]) -> io::Result<usize>
+        ensures bound { WritesAtMost result bytes.now }
+        ensures bytes { WriteAppends (taken self.old) (taken self.new) result bytes.now }
+        ensures count { failures self.new
+            ≡ count_after (put_failed result (length bytes.now)) (failures self.old) }
+        ensures same { through self.new ≡ through self.old };
+
+    /// Hands on what was taken, and takes no byte.
+    fn flush(&mut self) -> io::Result<()>
+        ensures bytes { Keeps (taken self.old) (taken self.new) }
+        ensures count { failures self.new ≡ count_after (is_err result) (failures self.old) }
+        ensures same { through self.new ≡ through self.old };
+}
+
+/// A reader or a writer, and how many of its calls failed.
+///
+/// Each fetch, put or flush is one call of it.
+#[derive(Drop)]
+pub struct Counted<T> {
+    inner: T,
+    failures: u64,
+}
+
+impl<T> Counted<T> {
+    /// The reader or writer as it is, with no failure counted.
+    pub fn new(inner: T) -> Counted<T>
+        ensures inner { counted_inner result ≡ inner }
+        ensures count { counted_failures result ≡ 0 }
+    {
+        Counted { inner, failures: 0 }
+    }
+
+    /// The reader or writer as it is now.
+    pub fn into_inner(self) -> T
+        ensures { result ≡ counted_inner self }
+    {
+        self.inner
+    }
+
+    // One failure more.
+    fn count_failure(&mut self)
+        ensures inner { counted_inner self.new ≡ counted_inner self.old }
+        ensures count { counted_failures self.new ≡ count_after true (counted_failures self.old) }
+    {
+        self.failures = self.failures.saturating_add(1);
+    }
+}
+
+impl<R: Read> Source for Counted<R> {
+    ghost left = { λ c. R.remaining (counted_inner c) };
+
+    ghost failures = { counted_failures };
+
+    ghost through = { λ _. 0 };
+
+    fn fetch(&mut self, buf: &mut [u8]) -> io::Result<usize> {
+        let result = self.inner.read(buf);
+        if result.is_err() {
+            self.count_failure();
+        }
+        result
+    }
+}
+
+impl<W: Write> Sink for Counted<W> {
+    ghost taken = { λ c. W.contents (counted_inner c) };
+
+    ghost failures = { counted_failures };
+
+    ghost through = { λ _. 0 };
+
+    fn put(&mut self, bytes: &[u8]) -> io::Result<usize> {
+        let result = self.inner.write(bytes);
+        let failed = match result {
+            Ok(n) => n == 0 && !bytes.is_empty(),
+            Err(_) => true,
+        };
+        if failed {
+            self.count_failure();
+        }
+        result
+    }
+
+    fn flush(&mut self) -> io::Result<()> {
+        let result = self.inner.flush();
+        if result.is_err() {
+            self.count_failure();
+        }
+        result
+    }
+}

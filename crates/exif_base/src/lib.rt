@@ -1,0 +1,24 @@
+//! What every layer of `exif` stands on: numbers in both byte orders, lists of values, the devices
+//! that bytes come from and go to, and the reads and sends over them.
+#![tactic(auto)]
+
+pub mod ahead;
+pub mod device;
+pub mod endian;
+pub mod items;
+pub mod read;
+pub mod scan;
+pub mod send;
+#[cfg(test)]
+mod tests;
+
+pub use ahead::Ahead;
+pub use device::{Counted, Sink, Source};
+pub use endian::{BigEndian, Endian, LittleEndian, Order};
+pub use items::Items;
+pub use read::{
+    ReadFault, discard_exact, read_exact, read_exact_len, read_front, read_to_end, read8, read16,
+    read64,
+};
+pub use scan::{Blocks, Exact, Scan};
+pub use send::send_all;

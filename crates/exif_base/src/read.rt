@@ -1,0 +1,224 @@
+//! Reads and skips that keep apart the end of the bytes, a reader's error and want of memory.
+
+ghost use Rattle.std.specs.Prelude.{◌≡◌, ◌≢◌, ◌<◌, ◌≤◌, ◌∷◌, [], ◌++◌, List, ℕ, length, take, Err, OnOk, IfOk, is_err};
+ghost use Rattle.std.specs.Io.{StartsWith};
+ghost use Rattle.std.specs.Io.KnownBytes.{Consumes, IsAtEnd};
+ghost use Rattle.byteorder.specs.Endian.{ReadsNumber, big_number};
+ghost use Rattle.exif_base.specs.Device.{count_after};
+ghost use Rattle.exif_base.specs.ReadFaults.{OnEnd, is_io_fault};
+ghost use Rattle.exif_base.specs.Told.{HasFewer, Skips, TakesAll};
+ghost use Rattle.exif_base.specs.declared.read.ReadFault.TheVariants.{End, Io, OutOfMemory};
+
+use crate::device::Source;
+use crate::endian::{BigEndian, Endian};
+use std::alloc::{AllocError, AllocFailed};
+use std::io;
+
+/// Why the wanted bytes did not come.
+#[derive(Debug, Drop)]
+pub enum ReadFault {
+    /// The bytes ended before.
+    End,
+    /// The reader answered this error.
+    Io(io::Error),
+    /// There was no memory to put them in.
+    OutOfMemory,
+}
+
+impl From<io::Error> for ReadFault {
+    ghost from_gives = { λ e fault. fault ≡ Io e };
+
+    fn from(e: io::Error) -> ReadFault {
+        ReadFault::Io(e)
+    }
+}
+
+impl From<AllocError> for ReadFault {
+    ghost from_gives = { λ _ fault. fault ≡ OutOfMemory };
+
+    fn from(_e: AllocError) -> ReadFault {
+        ReadFault::OutOfMemory
+    }
+}
+
+impl<T: Drop> From<AllocFailed<T>> for ReadFault {
+    ghost from_gives = { λ _ fault. fault ≡ OutOfMemory };
+
+    fn from(_e: AllocFailed<T>) -> ReadFault {
+        ReadFault::OutOfMemory
+    }
+}
+
+/// Fills the front of the buffer with the next bytes: all of it, or as far as the bytes go.
+///
+/// Answers how many. After an error of the reader, how far it was read is left open.
+pub fn read_front<R: Source>(source: &mut R, buf: &mut [u8]) -> io::Result<usize>
+    ensures taken { IfOk result (λ n. Consumes (R.left source.old) (R.left source.new) (take n buf.new)) }
+    ensures bound { IfOk result (λ n. n ≤ length buf.new) }
+    ensures end { IfOk result (λ n. n < length buf.new → IsAtEnd (R.left source.new)) }
+    ensures count { R.failures source.new ≡ count_after (is_err result) (R.failures source.old) }
+    ensures same { R.through source.new ≡ R.through source.old }
+{
+    let mut at = 0;
+    while at < buf.len() {
+        let n = source.fetch(&mut buf[at..])?;
+        if n == 0 {
+            return Ok(at);
+        }
+        at += n;
+    }
+    Ok(at)
+}
+
+/// Fills the buffer with the next bytes, without memory.
+///
+/// Where the bytes end before it is full, all of them were taken. After an error of the reader, how
+/// far it was read is left open.
+pub fn read_exact<R: Source>(source: &mut R, buf: &mut [u8]) -> Result<(), ReadFault>
+    ensures taken { OnOk result (Consumes (R.left source.old) (R.left source.new) buf.new) }
+    ensures end { OnEnd result (HasFewer (R.left source.old) (length buf.old)) }
+    ensures at_end { OnEnd result (IsAtEnd (R.left source.new)) }
+    ensures no_memory { result ≢ Err OutOfMemory }
+    ensures count { R.failures source.new ≡ count_after (is_io_fault result) (R.failures source.old) }
+    ensures same { R.through source.new ≡ R.through source.old }
+{
+    let n = read_front(source, buf)?;
+    if n < buf.len() {
+        return Err(ReadFault::End);
+    }
+    Ok(())
+}
+
+/// The next byte. Faults are those of `read_exact`.
+pub fn read8<R: Source>(source: &mut R) -> Result<u8, ReadFault>
+    ensures taken { IfOk result (λ byte. Consumes (R.left source.old) (R.left source.new) (byte ∷ [])) }
+    ensures end { OnEnd result (HasFewer (R.left source.old) 1) }
+    ensures at_end { OnEnd result (IsAtEnd (R.left source.new)) }
+    ensures no_memory { result ≢ Err OutOfMemory }
+    ensures count { R.failures source.new ≡ count_after (is_io_fault result) (R.failures source.old) }
+    ensures same { R.through source.new ≡ R.through source.old }
+{
+    let mut bytes = [0u8; 1];
+    read_exact(source, &mut bytes)?;
+    Ok(bytes[0])
+}
+
+/// The number in the next two bytes, the highest first. Faults are those of `read_exact`.
+pub fn read16<R: Source>(source: &mut R) -> Result<u16, ReadFault>
+    ensures taken { IfOk result (ReadsNumber big_number 2 (R.left source.old) (R.left source.new)) }
+    ensures end { OnEnd result (HasFewer (R.left source.old) 2) }
+    ensures at_end { OnEnd result (IsAtEnd (R.left source.new)) }
+    ensures no_memory { result ≢ Err OutOfMemory }
+    ensures count { R.failures source.new ≡ count_after (is_io_fault result) (R.failures source.old) }
+    ensures same { R.through source.new ≡ R.through source.old }
+{
+    let mut bytes = [0u8; 2];
+    read_exact(source, &mut bytes)?;
+    Ok(BigEndian::loadu16(&bytes, 0))
+}
+
+/// The number in the next eight bytes, the highest first. Faults are those of `read_exact`.
+pub fn read64<R: Source>(source: &mut R) -> Result<u64, ReadFault>
+    ensures taken { IfOk result (ReadsNumber big_number 8 (R.left source.old) (R.left source.new)) }
+    ensures end { OnEnd result (HasFewer (R.left source.old) 8) }
+    ensures at_end { OnEnd result (IsAtEnd (R.left source.new)) }
+    ensures no_memory { result ≢ Err OutOfMemory }
+    ensures count { R.failures source.new ≡ count_after (is_io_fault result) (R.failures source.old) }
+    ensures same { R.through source.new ≡ R.through source.old }
+{
+    let mut bytes = [0u8; 8];
+    read_exact(source, &mut bytes)?;
+    Ok(BigEndian::loadu64(&bytes, 0))
+}
+
+// How many bytes go through the stack at a time.
+const BLOCK: usize = 4096;
+
+// One fetch of at least one byte and at most `most`, to the front of the block.
+fn fetch_some<R: Source>(
+    source: &mut R,
+    block: &mut [u8; BLOCK],
+    most: u64,
+) -> Result<usize, ReadFault>
+    requires { 0 < most }
+    ensures some { IfOk result (λ n. (0 < n) × (n ≤ most) × (n ≤ BLOCK) × (length (take n block.new) ≡ n)) }
+    ensures taken { IfOk result (λ n. Consumes (R.left source.old) (R.left source.new) (take n block.new)) }
+    ensures end { OnEnd result (HasFewer (R.left source.old) 1) }
+    ensures at_end { OnEnd result (IsAtEnd (R.left source.new)) }
+    ensures no_memory { result ≢ Err OutOfMemory }
+    ensures count { R.failures source.new ≡ count_after (is_io_fault result) (R.failures source.old) }
+    ensures same { R.through source.new ≡ R.through source.old }
+{
+    let room = most.min(BLOCK as u64) as usize;
+    let n = source.fetch(&mut block[..room])?;
+    if n == 0 {
+        return Err(ReadFault::End);
+    }
+    Ok(n)
+}
+
+/// Takes the next `len` bytes and forgets them, without memory. Faults are those of `read_exact`.
+pub fn discard_exact<R: Source>(source: &mut R, len: u64) -> Result<(), ReadFault>
+    ensures taken { OnOk result (Skips (R.left source.old) (R.left source.new) len) }
+    ensures end { OnEnd result (HasFewer (R.left source.old) len) }
+    ensures at_end { OnEnd result (IsAtEnd (R.left source.new)) }
+    ensures no_memory { result ≢ Err OutOfMemory }
+    ensures count { R.failures source.new ≡ count_after (is_io_fault result) (R.failures source.old) }
+    ensures same { R.through source.new ≡ R.through source.old }
+{
+    let mut block = [0u8; BLOCK];
+    let mut rest = len;
+    while rest > 0 {
+        let n = fetch_some(source, &mut block, rest)?;
+        rest -= n as u64;
+    }
+    Ok(())
+}
+
+/// Puts the next `len` bytes at the end of the list.
+///
+/// The list grows only as far as bytes come, so a length that lies takes no memory. After a fault it
+/// holds what it held and then some of the bytes.
+pub fn read_exact_len<R: Source>(
+    source: &mut R,
+    buf: &mut Vec<u8>,
+    len: u64,
+) -> Result<(), ReadFault>
+    ensures taken { OnOk result ((bytes : List ℕ) × Consumes (R.left source.old) (R.left source.new) bytes
+        × (length bytes ≡ len) × (buf.new.items ≡ buf.old.items ++ bytes)) }
+    ensures end { OnEnd result (HasFewer (R.left source.old) len) }
+    ensures at_end { OnEnd result (IsAtEnd (R.left source.new)) }
+    ensures kept { StartsWith buf.new.items buf.old.items }
+    ensures count { R.failures source.new ≡ count_after (is_io_fault result) (R.failures source.old) }
+    ensures same { R.through source.new ≡ R.through source.old }
+{
+    let mut block = [0u8; BLOCK];
+    let mut missing = len;
+    while missing > 0 {
+        let n = fetch_some(source, &mut block, missing)?;
+        buf.extend_from_slice(&block[..n])?;
+        missing -= n as u64;
+    }
+    Ok(())
+}
+
+/// Puts all the bytes that are left at the end of the list.
+///
+/// The end is no fault here. After a fault the list holds what it held and then some of the bytes.
+pub fn read_to_end<R: Source>(source: &mut R, buf: &mut Vec<u8>) -> Result<(), ReadFault>
+    ensures taken { OnOk result (TakesAll (R.left source.old) buf.old.items buf.new.items) }
+    ensures at_end { OnOk result (IsAtEnd (R.left source.new)) }
+    ensures no_end { result ≢ Err End }
+    ensures kept { StartsWith buf.new.items buf.old.items }
+    ensures count { R.failures source.new ≡ count_after (is_io_fault result) (R.failures source.old) }
+    ensures same { R.through source.new ≡ R.through source.old }
+{
+    let mut block = [0u8; BLOCK];
+    loop {
+        let n = source.fetch(&mut block)?;
+        if n == 0 {
+            return Ok(());
+        }
+        buf.extend_from_slice(&block[..n])?;
+    }
+}

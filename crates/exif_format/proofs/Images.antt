@@ -1,0 +1,24 @@
+-- The proofs on images: from texts that stand in bytes to the laws.
+pub mod Words
+pub mod Standing
+pub mod Values
+pub mod Places
+pub mod Slots
+pub mod Whole
+pub mod Entries
+pub mod Directories
+pub mod Families
+pub mod Fitting
+pub mod ReadBack
+pub mod Sorting
+pub mod Pushing
+pub mod Flat
+pub mod Shares
+pub mod Rewritten
+pub mod Naming
+pub mod Contents
+pub mod Exact
+pub mod Counting
+pub mod Room
+pub mod Laid
+pub mod Laws

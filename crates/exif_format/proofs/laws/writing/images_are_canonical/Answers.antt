@@ -1,0 +1,14 @@
+use Rattle.exif_format.proofs.Images.Laws.{rewrites, equal_by_contents, lengths_agree, orders_agree}
+use Rattle.exif_format.proofs.laws.writing.images_are_canonical.Goals as goal
+
+pub returns-clause-rewriting : goal.returns-clause-rewriting
+returns-clause-rewriting c = rewrites
+
+pub returns-clause-equality : goal.returns-clause-equality
+returns-clause-equality c = equal_by_contents
+
+pub returns-clause-lengths : goal.returns-clause-lengths
+returns-clause-lengths c = lengths_agree
+
+pub returns-clause-orders : goal.returns-clause-orders
+returns-clause-orders c = orders_agree

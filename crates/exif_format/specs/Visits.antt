@@ -1,0 +1,26 @@
+-- How many entries a reading may visit.
+use Rattle.std.specs.Prelude.{ℕ, ◌+◌, ◌*◌, ◌/◌, ◌<◌, ◌≤◌, min, List, length, slice_index}
+use Rattle.exif_format.specs.Trace.{trace, visits_of, fields_of, faults_of, cut}
+
+-- the most entries that one directory of the data can have whole
+abbrev pub entries_at_most : List ℕ → ℕ
+entries_at_most bytes = min 65535 (length bytes / 12)
+
+-- eight directories, each with entries, children of these and children of those
+abbrev pub visits_at_most : List ℕ → ℕ
+visits_at_most bytes = let n = entries_at_most bytes in 8 * (n + n * n + n * n * n)
+
+abbrev pub AreBytes : List ℕ → Type 0
+AreBytes bytes = (i : ℕ) → slice_index bytes i < 256
+
+-- the visits of data are bounded by their length
+abbrev pub VisitsAreBounded : List ℕ → Type 0
+VisitsAreBounded bytes = AreBytes bytes → visits_of (trace bytes) ≤ visits_at_most bytes
+
+-- each field and fault, but for one, has an entry of its own
+abbrev pub ReportsAreBounded : List ℕ → Type 0
+ReportsAreBounded bytes = length (fields_of (trace bytes)) + length (faults_of (trace bytes)) ≤ visits_of (trace bytes) + 1
+
+-- with a limit, the fields and the faults together are at most one more than it
+abbrev pub LimitBoundsReports : ℕ → List ℕ → Type 0
+LimitBoundsReports n bytes = length (fields_of (cut n (trace bytes))) + length (faults_of (cut n (trace bytes))) ≤ n + 1

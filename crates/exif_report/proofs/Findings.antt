@@ -1,0 +1,122 @@
+-- What a reading answers is what a report needs.
+use Rattle.std.proofs.Common.{◌≡◌, ◌⊎◌, inl, inr, ℕ, List, [], ◌∷◌, ◌++◌, length, map, Option, Some, None, Result, Ok, Err, refl, sym, ◌∙◌, ap, subst}
+use Rattle.std.proofs.lemmas.List.{append-nil, length-map}
+use Rattle.std.specs.Prelude.{Vec, OnErr}
+use Rattle.std.specs.Borrow.{Bor}
+use Rattle.std.specs.Global.{Global}
+use Rattle.std.specs.List.{flat_map}
+use Rattle.std.specs.Io.KnownBytes.{Appends, Keeps}
+use Rattle.exif_base.specs.Sent.{SendsFront}
+use Rattle.exif_base.specs.Told.{TakesAll}
+use Rattle.exif_base.proofs.Sent.{appends_more, front_whole}
+use Rattle.exif_types.specs.Contents.{ExifContents, PartialContents}
+use Rattle.exif_types.specs.Failures.{Failure, told_text, bytes_of}
+use Rattle.exif_types.specs.declared.error.Error.TheVariants as error
+use Rattle.exif_types.specs.declared.field.Field.{Field}
+use Rattle.exif_format.specs.Answers.{Answer, Refused, Whole, Partial}
+use Rattle.exif_format.specs.Faults.{text_of}
+use Rattle.exif_format.specs.declared.fault.Fault.{Fault}
+use Rattle.exif.specs.Readings.{ReadsAs}
+use Rattle.exif_report.specs.Lines.{field_line, fault_line, error_line}
+use Rattle.exif_report.specs.Reports.{Finds, Holds, Reports, WhenTold, IsInterrupted, IsRefusedAs, answer_text, fault_count}
+
+-- what was found in the bytes taken was found in those that were told
+pub told_finds : (left : Option (List ℕ)) (taken : List ℕ) (answer : List ℕ → Answer) (found : Result (ExifContents × Vec Failure Global) Failure)
+    → TakesAll left [] taken → Finds (answer taken) found → WhenTold left (λ bytes. Finds (answer bytes) found)
+told_finds None taken answer found t f = tt
+told_finds (Some bytes) taken answer found t f =
+    let P : List ℕ → Type 0 = λ xs. Finds (answer xs) found in subst P t f
+
+-- a partial result has the fields and the faults of its answer
+pub partial_holds : (answer : Answer) (bytes : List ℕ) (partial : PartialContents (Bor (List ℕ))) (exif : ExifContents) (errors : List Failure)
+    → ReadsAs answer bytes (Err (error.PartialResult partial)) → exif ≡ partial.exif → map told_text errors ≡ partial.faults → Holds answer exif errors
+partial_holds answer bytes partial exif errors h same told =
+    rw (h.1) (ap (λ (e : ExifContents). e.fields) same, ap (map bytes_of) told ∙ h.2)
+
+-- ---- what is written for what was found
+
+flat_map-map : {X Y : Type 0} (f : X → Y) (text : Y → List ℕ) (xs : List X) → flat_map text (map f xs) ≡ flat_map (λ x. text (f x)) xs
+flat_map-map f text [] = refl
+flat_map-map f text (x ∷ xs) = ap (λ t. text (f x) ++ t) (flat_map-map f text xs)
+
+error_lines : (errors : List Failure) → flat_map error_line errors ≡ flat_map fault_line (map bytes_of (map told_text errors))
+unfolding error_line
+error_lines [] = refl
+error_lines (e ∷ errors) = ap (λ t. fault_line (bytes_of (told_text e)) ++ t) (error_lines errors)
+
+errors_text : (errors : List Failure) (faults : List Fault) → map bytes_of (map told_text errors) ≡ map text_of faults
+    → flat_map error_line errors ≡ flat_map (λ fault. fault_line (text_of fault)) faults
+errors_text errors faults e = error_lines errors ∙ (ap (flat_map fault_line) e ∙ flat_map-map text_of fault_line faults)
+
+-- the text of what was found is the answer's
+pub found_text : (answer : Answer) (exif : ExifContents) (errors : List Failure) → Holds answer exif errors
+    → flat_map field_line exif.fields ++ flat_map error_line errors ≡ answer_text answer
+found_text (Refused fault) exif errors h = absurd h
+found_text (Whole fields) exif errors h = rw (h.0, h.1) (append-nil (flat_map field_line fields))
+found_text (Partial fields faults) exif errors h = rw (h.0, errors_text errors faults h.1) refl
+
+-- and as many faults
+pub found_count : (answer : Answer) (exif : ExifContents) (errors : List Failure) → Holds answer exif errors → length errors ≡ fault_count answer
+found_count (Refused fault) exif errors h = absurd h
+found_count (Whole fields) exif errors h = ap length (h.1)
+found_count (Partial fields faults) exif errors h =
+    sym (length-map errors told_text) ∙ (sym (length-map (map told_text errors) bytes_of) ∙ (ap length (h.1) ∙ length-map faults text_of))
+
+-- what was found is no refusal
+pub found_is_whole : (answer : Answer) (exif : ExifContents) (errors : List Failure) → Holds answer exif errors → (fault : Fault) → answer ≡ Refused fault → ⊥
+found_is_whole (Refused other) exif errors h fault e = h
+found_is_whole (Whole fields) exif errors h fault e = cc
+found_is_whole (Partial fields faults) exif errors h fault e = cc
+
+-- ---- reports
+
+keeps_same : (a : Option (List ℕ)) → Keeps a a
+keeps_same None = tt
+keeps_same (Some bytes) = refl
+
+front_none : (a : Option (List ℕ)) (text : List ℕ) → SendsFront a a text
+front_none None text = tt
+front_none (Some bytes) text = ([], text, refl, sym (append-nil bytes))
+
+read_text : (exif : ExifContents) (fields : List Field) (errors faults : List Failure) → fields ≡ exif.fields → faults ≡ errors
+    → flat_map field_line fields ++ flat_map error_line faults ≡ flat_map field_line exif.fields ++ flat_map error_line errors
+read_text exif fields errors faults e f = rw (e, f) refl
+
+-- all that was found was written
+pub reports_whole : (left old new : Option (List ℕ)) (answer : List ℕ → Answer) (exif : ExifContents) (errors : Vec Failure Global) (fields : List Field) (faults : List Failure)
+    → WhenTold left (λ bytes. Finds (answer bytes) (Ok (exif, errors))) → fields ≡ exif.fields → faults ≡ errors.items
+    → Appends old new (flat_map field_line fields ++ flat_map error_line faults) → WhenTold left (λ bytes. Reports (answer bytes) (Ok (length faults)) old new)
+reports_whole None old new answer exif errors fields faults h e f sent = tt
+reports_whole (Some bytes) old new answer exif errors fields faults h e f sent =
+    let P : List ℕ → Type 0 = λ text. Appends old new text in
+    (found_is_whole (answer bytes) exif errors.items h, ap length f ∙ found_count (answer bytes) exif errors.items h, subst P (read_text exif fields errors.items faults e f ∙ found_text (answer bytes) exif errors.items h) sent)
+
+-- the writing was interrupted
+pub reports_front : (left old new : Option (List ℕ)) (answer : List ℕ → Answer) (exif : ExifContents) (errors : Vec Failure Global) (fields : List Field) (faults : List Failure) (e : Failure)
+    → WhenTold left (λ bytes. Finds (answer bytes) (Ok (exif, errors))) → IsInterrupted e → fields ≡ exif.fields → faults ≡ errors.items
+    → SendsFront old new (flat_map field_line fields ++ flat_map error_line faults) → WhenTold left (λ bytes. Reports (answer bytes) (Err e) old new)
+reports_front None old new answer exif errors fields faults e h i k f front = tt
+reports_front (Some bytes) old new answer exif errors fields faults e h i k f front =
+    let P : List ℕ → Type 0 = λ text. SendsFront old new text in
+    inr (i, subst P (read_text exif fields errors.items faults k f ∙ found_text (answer bytes) exif errors.items h) front)
+
+read_none : (answer : Answer) (old : Option (List ℕ)) (e : Failure) → (IsRefusedAs answer e) ⊎ (IsInterrupted e) → Reports answer (Err e) old old
+read_none answer old e (inl refused) = inl (refused, keeps_same old)
+read_none answer old e (inr interrupted) = inr (interrupted, front_none old (answer_text answer))
+
+-- nothing was read
+pub reports_none : (left old : Option (List ℕ)) (answer : List ℕ → Answer) (e : Failure)
+    → WhenTold left (λ bytes. Finds (answer bytes) (Err e)) → WhenTold left (λ bytes. Reports (answer bytes) (Err e) old old)
+reports_none None old answer e h = tt
+reports_none (Some bytes) old answer e h = read_none (answer bytes) old e h
+
+-- what holds, holds of an error
+pub on_err : {T E : Type 0} (r : Result T E) (P : Type 0) → P → OnErr r P
+on_err (Ok x) P p = tt
+on_err (Err e) P p = p
+
+-- both texts were taken, and a call that takes nothing failed
+pub front_of_both : (a b c d : Option (List ℕ)) (xs ys : List ℕ) → Appends a b xs → Appends b c ys → Keeps c d → SendsFront a d (xs ++ ys)
+front_of_both a b c d xs ys first second none =
+    let P : List ℕ → Type 0 = λ text. SendsFront a d text in
+    subst P (append-nil (xs ++ ys)) (front_whole a c d (xs ++ ys) [] (appends_more a b c xs ys first second) none)

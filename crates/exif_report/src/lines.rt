@@ -1,0 +1,38 @@
+//! The lines of a report.
+
+ghost use Rattle.std.specs.Prelude.{◌≡◌, OnOk, IfErr};
+ghost use Rattle.std.specs.String.{string_bytes};
+ghost use Rattle.exif_types.specs.Failures.{IsInvalidFormat};
+ghost use Rattle.exif_report.specs.Lines.{field_line, error_line};
+
+use exif::{Error, Field};
+use exif_text::PlainText;
+use std::fmt::Write;
+
+/// Puts a field's line in place of the text: its tag, its directory and its value.
+#[tactic(auto, unfolding(crate::specs::Lines::field_line))]
+pub fn set_field_line(line: &mut String, field: &Field) -> Result<(), Error>
+    ensures text { OnOk result (string_bytes line.new ≡ field_line field.now) }
+    ensures memory { IfErr result (λ e. e ≡ Error.OutOfMemory) }
+{
+    line.clear();
+    let value = PlainText(field.value.contents());
+    match write!(line, "{} {} {value}\n", field.tag, field.ifd_num) {
+        Ok(()) => Ok(()),
+        Err(_) => Err(Error::OutOfMemory),
+    }
+}
+
+/// Puts the line of a fault, which is an invalid format, in place of the text.
+#[tactic(auto, unfolding(crate::specs::Lines::error_line, crate::specs::Lines::fault_line))]
+pub fn set_error_line(line: &mut String, error: &Error) -> Result<(), Error>
+    requires { IsInvalidFormat error.now }
+    ensures text { OnOk result (string_bytes line.new ≡ error_line error.now) }
+    ensures memory { IfErr result (λ e. e ≡ Error.OutOfMemory) }
+{
+    line.clear();
+    match write!(line, "fault: {error}\n") {
+        Ok(()) => Ok(()),
+        Err(_) => Err(Error::OutOfMemory),
+    }
+}

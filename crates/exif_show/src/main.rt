@@ -1,0 +1,32 @@
+//! Prints what the Exif metadata of a file say: `exif_show [-c] FILE`.
+#![tactic(auto)]
+
+use exif::{Counted, Error};
+use exif_report::{mode, say, show};
+use std::fs::File;
+use std::io::BufWriter;
+use std::process::ExitCode;
+use std::{env, io};
+
+fn main(rt: HostRuntime) -> io::Result<ExitCode> {
+    let mut words = Vec::new(rt.alloc());
+    for word in env::args(&rt)?.skip(1) {
+        words.push(word)?;
+    }
+    let Some((lenient, place)) = mode(words.as_slice()) else {
+        eprintln!(rt; "usage: exif_show [-c] FILE")?;
+        return Ok(ExitCode::from(2));
+    };
+    let mut err = Counted::new(rt.stderr());
+    let file = match File::open(&rt, words[place].as_str()) {
+        Ok(file) => file,
+        Err(cause) => {
+            say(rt.alloc(), &mut err, &Error::Io(cause));
+            return Ok(ExitCode::from(1));
+        }
+    };
+    let mut reader = Counted::new(file);
+    let mut out = Counted::new(BufWriter::new(rt.alloc(), rt.stdout())?);
+    let status = show(rt.alloc(), &mut reader, &mut out, &mut err, lenient);
+    Ok(ExitCode::from(status))
+}

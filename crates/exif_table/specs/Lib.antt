@@ -1,0 +1,5 @@
+pub mod Fixed
+pub mod Rising
+pub mod Rows
+pub mod Table
+pub mod View

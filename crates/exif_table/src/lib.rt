@@ -1,0 +1,16 @@
+//! The tags of Exif 2.32 and the fixed texts of their values.
+#![tactic(auto)]
+
+pub mod fixed;
+pub mod kind;
+pub mod lookup;
+pub mod row;
+pub mod rows;
+
+pub use fixed::{Choice, FixedTexts, fixed_texts};
+pub use kind::TextKind;
+pub use lookup::find_row;
+pub use row::{Context, DefaultValue, Row, UnitPiece};
+
+#[cfg(test)]
+mod tests;

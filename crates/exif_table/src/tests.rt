@@ -1,0 +1,7 @@
+//! The table and the fixed texts are those of the lines of text.
+
+mod descriptions;
+mod fixed;
+mod lines;
+mod table;
+mod words;

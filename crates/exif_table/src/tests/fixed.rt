@@ -1,0 +1,91 @@
+//! Fixed texts written as lines again.
+
+use super::lines::{FIXED, ORIENTATIONS};
+use super::words::{WORDS, kind_of};
+use crate::fixed::{Choice, FixedTexts, fixed_texts};
+use crate::kind::TextKind;
+use std::alloc::{AllocError, Global};
+use std::process::Abort;
+
+/// The texts behind what chooses them.
+fn entries(alloc: Global, texts: &FixedTexts) -> Result<String, AllocError> {
+    let mut line = String::new(alloc);
+    for (i, entry) in texts.texts.iter().enumerate() {
+        if i > 0 {
+            line.push_str(", ")?;
+        }
+        let (key, text) = (entry.0, entry.1);
+        match (texts.chosen_by, u8::try_from(key)) {
+            (Choice::Letter, Ok(letter)) => line.push(char::from(letter))?,
+            _ => write!(line, "{key}")?,
+        }
+        write!(line, " {text}")?;
+    }
+    Ok(line)
+}
+
+fn choice_of(word: &str) -> Choice {
+    match word {
+        "filesrc" | "scenetype" => Choice::UndefinedByte,
+        "gpsstatus" | "gpsmeasuremode" | "gpsspeedref" | "gpsdirref" | "gpsdistref" => {
+            Choice::Letter
+        }
+        _ => Choice::FirstNumber,
+    }
+}
+
+/// Checks the texts of one kind, `word [name]`.
+fn check_kind(rt: &(impl Abort + AllocGlobal), head: &str, line: &str) -> Result<(), AllocError> {
+    let Some((word, name)) = head.split_once(" [") else {
+        panic!(rt; "a kind without a name");
+    };
+    let Some(texts) = kind_of(word).and_then(fixed_texts) else {
+        panic!(rt; "a kind without texts");
+    };
+    assert_eq!(rt; texts.name, name.trim_end_matches(']'));
+    assert_eq!(rt; texts.chosen_by, choice_of(word));
+    assert_eq!(rt; entries(rt.alloc(), texts)?.as_str(), line);
+    Ok(())
+}
+
+#[test]
+fn fixed_texts_are_the_lines(rt: HostRuntime) -> Result<(), AllocError> {
+    let mut seen = 0usize;
+    for line in FIXED.lines() {
+        let Some((heads, line)) = line.trim_end_matches('.').split_once(": ") else {
+            panic!(rt; "a line without texts");
+        };
+        for head in heads.split(", ") {
+            check_kind(&rt, head, line)?;
+            seen = seen.wrapping_add(1);
+        }
+    }
+    let have_texts = WORDS
+        .iter()
+        .filter(|entry| fixed_texts(entry.0).is_some())
+        .count();
+    assert_eq!(rt; (seen, have_texts), (30, 31));
+    Ok(())
+}
+
+#[test]
+fn orientations_name_two_sides(rt: HostRuntime) -> Result<(), AllocError> {
+    let alloc = rt.alloc();
+    let mut line = String::new(alloc);
+    for (i, sides) in ORIENTATIONS.split(", ").enumerate() {
+        let Some((row, column)) = sides.split_once(' ') else {
+            panic!(rt; "a line without sides");
+        };
+        if i > 0 {
+            line.push_str(", ")?;
+        }
+        let number = i.wrapping_add(1);
+        write!(line, "{number} row 0 at {row} and column 0 at {column}")?;
+    }
+    let Some(texts) = fixed_texts(TextKind::Orientation) else {
+        panic!(rt; "a kind without texts");
+    };
+    assert_eq!(rt; texts.name, "orientation");
+    assert_eq!(rt; entries(alloc, texts)?, line);
+    Ok(())
+}

@@ -1,0 +1,5 @@
+mod FractionLemmas
+mod PadLemmas
+mod QuotedLemmas
+mod SubsecLemmas
+mod ZeroPadding

@@ -1,0 +1,67 @@
+-- Texts that bytes and letters choose (Exif 2.32, sections 4.6.5 and 4.6.6).
+use Rattle.std.specs.Prelude.{ℕ, ◌+◌, ◌*◌, ◌==◌, ◌&&◌, nat_le, if◌then◌else◌, List, [], ◌∷◌, codes, Option, Some, None, Bool, length, slice_index}
+use Rattle.std.specs.List.{flat_map}
+use Rattle.exif_text.specs.Contents.{Plain, Texts, Undefined}
+use Rattle.exif_text.specs.Plain.{plain_text}
+use Rattle.exif_text.specs.Quoted.{quoted}
+use Rattle.exif_text.specs.Clock.{date_text}
+use Rattle.exif_text.specs.Digits.{are_two_at, two_at}
+
+-- the first of the texts
+abbrev pub first_text : Plain → Option (List ℕ)
+first_text (Texts (text ∷ texts)) = Some text
+first_text v = None
+
+-- the only byte of a text
+abbrev pub letter_in : Option (List ℕ) → Option ℕ
+letter_in (Some (letter ∷ [])) = Some letter
+letter_in text = None
+
+-- the first of bytes of any meaning
+abbrev pub undefined_byte : Plain → Option ℕ
+undefined_byte (Undefined (byte ∷ bytes)) = Some byte
+undefined_byte v = None
+
+-- the letters of a color component
+abbrev pub component : ℕ → List ℕ
+component n =
+    if n == 0 then codes "_" else (if n == 1 then codes "Y" else (if n == 2 then codes "Cb" else (if n == 3 then codes "Cr"
+    else (if n == 4 then codes "R" else (if n == 5 then codes "G" else (if n == 6 then codes "B" else codes "?"))))))
+
+abbrev pub components_text : Plain → List ℕ
+components_text (Undefined bytes) = flat_map component bytes
+components_text v = plain_text v
+
+-- a capital letter
+abbrev pub capital_of : Option ℕ → List ℕ → List ℕ
+capital_of (Some letter) otherwise = if nat_le 65 letter && nat_le letter 90 then letter ∷ [] else otherwise
+capital_of None otherwise = otherwise
+
+abbrev pub capital_text : Plain → List ℕ
+capital_text v = capital_of (letter_in (first_text v)) (plain_text v)
+
+-- colons and digits stand as in `2016:05:04`
+abbrev pub is_date : List ℕ → Bool
+is_date text =
+    nat_le 10 (length text) && (slice_index text 4 == 58 && (slice_index text 7 == 58
+    && (are_two_at text 0 && (are_two_at text 2 && (are_two_at text 5 && are_two_at text 8)))))
+
+-- the year, the month and the day
+abbrev pub date_in : List ℕ → Option (ℕ × ℕ × ℕ)
+date_in text = if is_date text then Some (two_at text 0 * 100 + two_at text 2, two_at text 5, two_at text 8) else None
+
+abbrev pub date_of : Option (ℕ × ℕ × ℕ) → List ℕ → List ℕ
+date_of None otherwise = otherwise
+date_of (Some date) otherwise = date_text date.0 date.1 date.2
+
+abbrev pub date_stamp_of : Option (List ℕ) → List ℕ → List ℕ
+date_stamp_of None otherwise = otherwise
+date_stamp_of (Some text) otherwise = date_of (date_in text) otherwise
+
+abbrev pub date_stamp_text : Plain → List ℕ
+date_stamp_text v = date_stamp_of (first_text v) (plain_text v)
+
+-- bytes of any meaning in quotes
+abbrev pub undefined_text : Plain → List ℕ
+undefined_text (Undefined bytes) = quoted bytes
+undefined_text v = plain_text v

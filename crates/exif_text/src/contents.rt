@@ -1,0 +1,37 @@
+//! What a value holds, borrowed.
+
+use crate::rational::{Rational, SRational};
+use exif_base::Items;
+
+/// The list in a value, or in a tag's default (TIFF 6.0, section 2, "Types").
+#[derive(Clone, Copy)]
+pub enum Contents<'a> {
+    /// 8-bit numbers.
+    Byte(&'a [u8]),
+    /// Texts.
+    Ascii(&'a [Items<u8>]),
+    /// One text.
+    Text(&'a [u8]),
+    /// 16-bit numbers.
+    Short(&'a [u16]),
+    /// 32-bit numbers.
+    Long(&'a [u32]),
+    /// Fractions.
+    Rational(&'a [Rational]),
+    /// 8-bit numbers with sign.
+    SByte(&'a [i8]),
+    /// Bytes of any meaning.
+    Undefined(&'a [u8]),
+    /// 16-bit numbers with sign.
+    SShort(&'a [i16]),
+    /// 32-bit numbers with sign.
+    SLong(&'a [i32]),
+    /// Fractions with sign.
+    SRational(&'a [SRational]),
+    /// The bits of 32-bit floating point numbers.
+    Float(&'a [u32]),
+    /// The bits of 64-bit floating point numbers.
+    Double(&'a [u64]),
+    /// A value of another type: its type, its count and the place of its value element.
+    Unknown(u16, u32, u32),
+}

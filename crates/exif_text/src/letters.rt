@@ -1,0 +1,139 @@
+//! Texts that bytes and letters choose.
+
+ghost use Rattle.std.specs.Prelude.{◌≡◌};
+ghost use Rattle.std.specs.Option.{option_map};
+ghost use Rattle.std.specs.Fmt.{WritesOnOk};
+ghost use Rattle.exif_text.specs.Contents.{contents_view};
+ghost use Rattle.exif_text.specs.Letters.{capital_text, component, components_text, date_in, date_stamp_text, first_text, letter_in, undefined_byte, undefined_text};
+
+use crate::clock::write_date;
+use crate::contents::Contents;
+use crate::digits::two_digits;
+use crate::plain::write_plain;
+use crate::quoted::Quoted;
+use std::fmt;
+use std::fmt::Display;
+
+impl<'a> Contents<'a> {
+    /// The first of the texts.
+    pub fn first_text(self) -> Option<&'a [u8]>
+        ensures { option_map (λ text. text.now) result ≡ first_text (contents_view self.entry) }
+    {
+        match self {
+            Contents::Ascii([text, ..]) => Some(text.as_slice()),
+            Contents::Text(text) => Some(text),
+            _ => None,
+        }
+    }
+
+    /// The only byte of the first text.
+    pub(crate) fn letter(self) -> Option<u8>
+        ensures { result ≡ letter_in (first_text (contents_view self.entry)) }
+    {
+        match self.first_text() {
+            Some([letter]) => Some(*letter),
+            _ => None,
+        }
+    }
+
+    /// The first of bytes of any meaning.
+    pub(crate) fn undefined_byte(self) -> Option<u8>
+        ensures { result ≡ undefined_byte (contents_view self.entry) }
+    {
+        match self {
+            Contents::Undefined([byte, ..]) => Some(*byte),
+            _ => None,
+        }
+    }
+}
+
+/// Writes the letters of color components.
+pub(crate) fn write_components<W: fmt::Write>(
+    f: &mut fmt::Formatter<W>,
+    contents: Contents<'_>,
+) -> fmt::Result
+    ensures { WritesOnOk W.write_str_gives f.old result
+        (components_text (contents_view contents.entry)) f.new }
+{
+    let Contents::Undefined(bytes) = contents else {
+        return write_plain(f, contents);
+    };
+    for byte in bytes {
+        f.write_str(component(*byte))?;
+    }
+    Ok(())
+}
+
+fn component(byte: u8) -> &'static str
+    ensures { result.now ≡ component byte }
+{
+    match byte {
+        0 => "_",
+        1 => "Y",
+        2 => "Cb",
+        3 => "Cr",
+        4 => "R",
+        5 => "G",
+        6 => "B",
+        _ => "?",
+    }
+}
+
+/// Writes a capital letter.
+pub(crate) fn write_capital<W: fmt::Write>(
+    f: &mut fmt::Formatter<W>,
+    contents: Contents<'_>,
+) -> fmt::Result
+    ensures { WritesOnOk W.write_str_gives f.old result
+        (capital_text (contents_view contents.entry)) f.new }
+{
+    match contents.letter() {
+        Some(letter @ b'A'..=b'Z') => f.write_char(char::from(letter)),
+        _ => write_plain(f, contents),
+    }
+}
+
+/// Writes a date, whose digits stand between colons.
+pub(crate) fn write_date_stamp<W: fmt::Write>(
+    f: &mut fmt::Formatter<W>,
+    contents: Contents<'_>,
+) -> fmt::Result
+    ensures { WritesOnOk W.write_str_gives f.old result
+        (date_stamp_text (contents_view contents.entry)) f.new }
+{
+    let Some(text) = contents.first_text() else {
+        return write_plain(f, contents);
+    };
+    match date_in(text) {
+        Some((year, month, day)) => write_date(f, year, month, day),
+        None => write_plain(f, contents),
+    }
+}
+
+/// The year, the month and the day of `2016:05:04`. More bytes are ignored.
+fn date_in(text: &[u8]) -> Option<(u16, u8, u8)>
+    ensures { result ≡ date_in text.now }
+{
+    if text.len() < 10 || text[4] != b':' || text[7] != b':' {
+        return None;
+    }
+    let century = two_digits(text, 0)?;
+    let year = two_digits(text, 2)?;
+    let month = two_digits(text, 5)?;
+    let day = two_digits(text, 8)?;
+    Some((u16::from(century) * 100 + u16::from(year), month, day))
+}
+
+/// Writes bytes of any meaning in quotes.
+pub(crate) fn write_undefined_text<W: fmt::Write>(
+    f: &mut fmt::Formatter<W>,
+    contents: Contents<'_>,
+) -> fmt::Result
+    ensures { WritesOnOk W.write_str_gives f.old result
+        (undefined_text (contents_view contents.entry)) f.new }
+{
+    match contents {
+        Contents::Undefined(bytes) => Quoted(bytes).fmt(f),
+        _ => write_plain(f, contents),
+    }
+}

@@ -1,0 +1,34 @@
+//! The printed texts of values, written from borrowed contents without memory.
+#![tactic(auto)]
+
+mod clock;
+pub mod contents;
+mod date;
+pub mod datetime;
+pub mod decimal;
+mod digits;
+mod fixed;
+mod flash;
+mod fractions;
+pub mod kinds;
+pub mod laws;
+mod letters;
+mod numbers;
+pub mod offset;
+pub mod pad;
+pub mod plain;
+pub mod quoted;
+pub mod rational;
+pub mod subsec;
+mod versions;
+
+pub use contents::Contents;
+pub use datetime::{DateFault, DateTime};
+pub use decimal::Decimal;
+pub use kinds::{ValueText, write_value};
+pub use plain::PlainText;
+pub use quoted::Quoted;
+pub use rational::{Rational, SRational};
+
+#[cfg(test)]
+mod tests;

@@ -1,0 +1,60 @@
+//! Texts in quotes.
+
+ghost use Rattle.std.specs.Prelude.{◌≡◌, ◌<◌, Some, false, [], ◌∷◌};
+ghost use Rattle.std.specs.Fmt.{WritesOnOk, digit_glyph};
+ghost use Rattle.exif_text.specs.Quoted.{escaped, hex_byte, quoted};
+
+use std::fmt;
+
+/// Bytes in double quotes: printable ASCII as it is, `"` and `\` behind a `\`, each other byte as
+/// `\x` and two lower hexadecimal digits.
+#[derive(Clone, Copy)]
+pub struct Quoted<'a>(pub &'a [u8]);
+
+impl fmt::Display for Quoted<'_> {
+    ghost output = { λ q. Some (quoted q.0.now) };
+
+    fn fmt<W: fmt::Write>(&self, f: &mut fmt::Formatter<W>) -> fmt::Result {
+        let bytes = self.0;
+        f.write_str("\"")?;
+        for byte in bytes {
+            write_escaped(f, *byte)?;
+        }
+        f.write_str("\"")
+    }
+}
+
+/// Writes a byte as it stands between the quotes.
+fn write_escaped<W: fmt::Write>(f: &mut fmt::Formatter<W>, byte: u8) -> fmt::Result
+    ensures { WritesOnOk W.write_str_gives f.old result (escaped byte) f.new }
+{
+    match byte {
+        b'"' => f.write_str("\\\""),
+        b'\\' => f.write_str("\\\\"),
+        0x20..=0x7e => f.write_char(char::from(byte)),
+        _ => {
+            f.write_str("\\x")?;
+            write_hex_byte(f, byte)
+        }
+    }
+}
+
+/// Writes two lower hexadecimal digits.
+pub(crate) fn write_hex_byte<W: fmt::Write>(f: &mut fmt::Formatter<W>, byte: u8) -> fmt::Result
+    ensures { WritesOnOk W.write_str_gives f.old result (hex_byte byte) f.new }
+{
+    write_hex_digit(f, byte / 16)?;
+    write_hex_digit(f, byte % 16)
+}
+
+fn write_hex_digit<W: fmt::Write>(f: &mut fmt::Formatter<W>, digit: u8) -> fmt::Result
+    requires { digit < 16 }
+    ensures { WritesOnOk W.write_str_gives f.old result (digit_glyph false digit ∷ []) f.new }
+{
+    let glyph = if digit < 10 {
+        b'0' + digit
+    } else {
+        b'a' + (digit - 10)
+    };
+    f.write_char(char::from(glyph))
+}

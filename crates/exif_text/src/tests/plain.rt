@@ -1,0 +1,161 @@
+//! Fractions, quoted and plain texts.
+
+use crate::contents::Contents;
+use crate::laws::{is_same_rational, is_same_srational, quoted_tells_bytes};
+use crate::plain::PlainText;
+use crate::quoted::Quoted;
+use crate::rational::{Rational, SRational};
+use arrayvec::ArrayString;
+use exif_base::Items;
+use std::alloc::AllocError;
+use std::fmt::Write;
+use std::process::Abort;
+
+#[test]
+fn fractions(rt: HostRuntime) -> Result<(), AllocError> {
+    let alloc = rt.alloc();
+    let (half, signed) = (Rational::from((10, 20)), SRational::from((-2, -1)));
+    assert_eq!(rt;
+        format!(in alloc; "{half}|{half:11}|{half:<7}|{half:^8}|{half:>3}|")?.as_str(),
+        "10/20|      10/20|10/20  | 10/20  |10/20|"
+    );
+    assert_eq!(rt;
+        format!(in alloc; "{signed}|{signed:7}|{signed:<7}|{signed:^8}|")?.as_str(),
+        "-2/-1|  -2/-1|-2/-1  | -2/-1  |"
+    );
+    assert_eq!(rt;
+        format!(in alloc; "{half:?} {signed:?}")?.as_str(),
+        "Rational(10/20) SRational(-2/-1)"
+    );
+    let (most, least) = (
+        Rational::from((u32::MAX, u32::MAX)),
+        SRational::from((i32::MIN, i32::MIN)),
+    );
+    assert_eq!(rt;
+        format!(in alloc; "{most} {least}")?.as_str(),
+        "4294967295/4294967295 -2147483648/-2147483648"
+    );
+    assert!(rt; is_same_rational(half, half) && !is_same_rational(half, Rational::from((1, 2))));
+    assert!(rt; is_same_srational(signed, signed));
+    Ok(())
+}
+
+#[test]
+fn decimals(rt: HostRuntime) -> Result<(), AllocError> {
+    let alloc = rt.alloc();
+    for (num, denom, text) in [
+        (3, 2, "1.5"),
+        (72, 1, "72"),
+        (2, 3, "0.666666666"),
+        (61, 2, "30.5"),
+        (1, 1000000000, "0.000000001"),
+        (1, u32::MAX, "0"),
+        (u32::MAX, 1, "4294967295"),
+        (0, 1, "0"),
+        (5, 0, "5/0"),
+    ] {
+        let shown = Rational::from((num, denom)).decimal();
+        assert_eq!(rt; format!(in alloc; "{shown}")?.as_str(), text);
+    }
+    for (num, denom, text) in [
+        (-1, 3, "-0.333333333"),
+        (1, -4, "-0.25"),
+        (-1, 2000000000, "0"),
+        (-7, -2, "3.5"),
+        (-5, 0, "-5/0"),
+        (i32::MIN, -1, "2147483648"),
+    ] {
+        let shown = SRational::from((num, denom)).decimal();
+        assert_eq!(rt; format!(in alloc; "{shown}")?.as_str(), text);
+    }
+    Ok(())
+}
+
+#[test]
+fn quoted_texts(rt: HostRuntime) -> Result<(), AllocError> {
+    let alloc = rt.alloc();
+    let quoted = Quoted(b"a \"\\b\"\x0a");
+    assert_eq!(rt;
+        format!(in alloc; "{quoted}")?.as_str(),
+        "\"a \\\"\\\\b\\\"\\x0a\""
+    );
+    let quoted = Quoted(b"\0\x1f ~\x7f\xff");
+    assert_eq!(rt;
+        format!(in alloc; "{quoted}")?.as_str(),
+        "\"\\x00\\x1f ~\\x7f\\xff\""
+    );
+    quoted_tells_bytes(b"a", b"b");
+    Ok(())
+}
+
+fn assert_plain(
+    rt: &(impl Abort + AllocGlobal),
+    contents: Contents<'_>,
+    text: &str,
+) -> Result<(), AllocError> {
+    let plain = PlainText(contents);
+    let alloc = rt.alloc();
+    assert_eq!(rt; format!(in alloc; "{plain}")?.as_str(), text);
+    assert_eq!(rt; format!(in alloc; "{plain:60}")?.as_str(), text);
+    Ok(())
+}
+
+#[test]
+fn plain_lists(rt: HostRuntime) -> Result<(), AllocError> {
+    assert_plain(&rt, Contents::Byte(&[2, 3, 0, 0]), "2, 3, 0, 0")?;
+    assert_plain(&rt, Contents::Byte(&[]), "")?;
+    assert_plain(&rt, Contents::Short(&[65535]), "65535")?;
+    assert_plain(&rt, Contents::Long(&[154, 4]), "154, 4")?;
+    assert_plain(&rt, Contents::SByte(&[-128, 127]), "-128, 127")?;
+    assert_plain(&rt, Contents::SShort(&[-32768, 0]), "-32768, 0")?;
+    assert_plain(&rt, Contents::SLong(&[-19088744]), "-19088744")
+}
+
+#[test]
+fn plain_fractions(rt: HostRuntime) -> Result<(), AllocError> {
+    let fractions = [Rational::from((1, 3)), Rational::from((5, 0))];
+    assert_plain(&rt, Contents::Rational(&fractions), "1/3, 5/0")?;
+    let signed = [SRational::from((-1, 3))];
+    assert_plain(&rt, Contents::SRational(&signed), "-1/3")?;
+    assert_plain(&rt, Contents::SRational(&signed[1..]), "")
+}
+
+#[test]
+fn plain_bytes(rt: HostRuntime) -> Result<(), AllocError> {
+    let alloc = rt.alloc();
+    let texts = [
+        Items::from_slice(alloc, b"a")?,
+        Items::from_slice(alloc, b"")?,
+    ];
+    assert_plain(&rt, Contents::Ascii(&texts), "\"a\", \"\"")?;
+    assert_plain(&rt, Contents::Ascii(&[]), "")?;
+    assert_plain(&rt, Contents::Text(b"K"), "\"K\"")?;
+    assert_plain(&rt, Contents::Undefined(b"\0\x02\x03\x02"), "0x00020302")?;
+    assert_plain(&rt, Contents::Undefined(&[]), "0x")?;
+    assert_plain(&rt, Contents::Float(&[0x40200000]), "0x40200000")?;
+    assert_plain(
+        &rt,
+        Contents::Float(&[1, 0xdeadbeef]),
+        "0x00000001, 0xdeadbeef",
+    )?;
+    assert_plain(
+        &rt,
+        Contents::Double(&[0xf, 0]),
+        "0x000000000000000f, 0x0000000000000000",
+    )?;
+    let unknown = "unknown value (type=65535, count=1, offset=0x12)";
+    assert_plain(&rt, Contents::Unknown(65535, 1, 18), unknown)
+}
+
+#[test]
+fn a_text_fails_where_its_formatter_does(rt: HostRuntime) {
+    let quoted = Quoted(b"abc");
+    let plain = PlainText(Contents::Short(&[10, 20]));
+    let half = Rational::from((10, 20));
+    assert!(rt; write!(ArrayString::<5>::new(), "{quoted}").is_ok());
+    assert!(rt; write!(ArrayString::<4>::new(), "{quoted}").is_err());
+    assert!(rt; write!(ArrayString::<6>::new(), "{plain}").is_ok());
+    assert!(rt; write!(ArrayString::<5>::new(), "{plain}").is_err());
+    assert!(rt; write!(ArrayString::<6>::new(), "{half:6}").is_ok());
+    assert!(rt; write!(ArrayString::<6>::new(), "{half:7}").is_err());
+}

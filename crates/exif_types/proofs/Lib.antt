@@ -1,0 +1,4 @@
+pub mod ItemSteps
+pub mod KeyOrder
+pub mod Locating
+pub mod TextLemmas

@@ -1,0 +1,218 @@
+//! Values as TIFF data spell them (TIFF 6.0, section 2).
+
+ghost use Rattle.std.specs.Prelude.{◌≡◌, ◌==◌, ◌≤◌, ◌+◌, ◌*◌, ℕ, List, length, slice_index, IfOk};
+ghost use Rattle.std.specs.List.{slice_split};
+ghost use Rattle.std.specs.Int.{w8, w16, w32, cast_signed};
+ghost use Rattle.exif_base.specs.Bytes.{Reading, number_at, items_at};
+ghost use Rattle.exif_types.specs.Rationals.{rational_at, srational_at};
+ghost use Rattle.exif_types.specs.FieldTypes.{unit_length};
+ghost use Rattle.exif_types.specs.Texts.{texts, without_empty_last};
+ghost use Rattle.exif_types.specs.Decode.{decode_as};
+
+use crate::{FieldType, Rational, SRational, Value};
+use exif_base::{Endian, Items};
+use std::alloc::{AllocError, Global};
+
+/// An item of a list in TIFF data.
+pub trait Item: Copy + Drop {
+    // How many bytes an item takes.
+    ghost LEN: { ℕ };
+
+    // The item at a place of the data.
+    ghost item_at: { Reading → List ℕ → ℕ → Self };
+
+    const LEN: usize;
+
+    /// Loads the item at a place.
+    fn load<E: Endian>(bytes: &[u8], place: usize) -> Self
+        requires { place + LEN ≤ length bytes.now }
+        ensures { result ≡ item_at E.number_of bytes.now place };
+}
+
+impl Item for u16 {
+    ghost LEN = { 2 };
+
+    ghost item_at = { λ number bytes place. number_at number 2 bytes place };
+
+    const LEN: usize = 2;
+
+    fn load<E: Endian>(bytes: &[u8], place: usize) -> u16 {
+        E::loadu16(bytes, place)
+    }
+}
+
+impl Item for u32 {
+    ghost LEN = { 4 };
+
+    ghost item_at = { λ number bytes place. number_at number 4 bytes place };
+
+    const LEN: usize = 4;
+
+    fn load<E: Endian>(bytes: &[u8], place: usize) -> u32 {
+        E::loadu32(bytes, place)
+    }
+}
+
+impl Item for u64 {
+    ghost LEN = { 8 };
+
+    ghost item_at = { λ number bytes place. number_at number 8 bytes place };
+
+    const LEN: usize = 8;
+
+    fn load<E: Endian>(bytes: &[u8], place: usize) -> u64 {
+        E::loadu64(bytes, place)
+    }
+}
+
+impl Item for i8 {
+    ghost LEN = { 1 };
+
+    ghost item_at = { λ number bytes place. cast_signed w8 (slice_index bytes place) };
+
+    const LEN: usize = 1;
+
+    fn load<E: Endian>(bytes: &[u8], place: usize) -> i8 {
+        bytes[place].cast_signed()
+    }
+}
+
+impl Item for i16 {
+    ghost LEN = { 2 };
+
+    ghost item_at = { λ number bytes place. cast_signed w16 (number_at number 2 bytes place) };
+
+    const LEN: usize = 2;
+
+    fn load<E: Endian>(bytes: &[u8], place: usize) -> i16 {
+        E::loadu16(bytes, place).cast_signed()
+    }
+}
+
+impl Item for i32 {
+    ghost LEN = { 4 };
+
+    ghost item_at = { λ number bytes place. cast_signed w32 (number_at number 4 bytes place) };
+
+    const LEN: usize = 4;
+
+    fn load<E: Endian>(bytes: &[u8], place: usize) -> i32 {
+        E::loadu32(bytes, place).cast_signed()
+    }
+}
+
+impl Item for Rational {
+    ghost LEN = { 8 };
+
+    ghost item_at = { rational_at };
+
+    const LEN: usize = 8;
+
+    fn load<E: Endian>(bytes: &[u8], place: usize) -> Rational {
+        Rational {
+            num: E::loadu32(bytes, place),
+            denom: E::loadu32(bytes, place + 4),
+        }
+    }
+}
+
+impl Item for SRational {
+    ghost LEN = { 8 };
+
+    ghost item_at = { srational_at };
+
+    const LEN: usize = 8;
+
+    fn load<E: Endian>(bytes: &[u8], place: usize) -> SRational {
+        SRational {
+            num: E::loadu32(bytes, place).cast_signed(),
+            denom: E::loadu32(bytes, place + 4).cast_signed(),
+        }
+    }
+}
+
+// Decodes so many items, one after the other from a place on.
+fn decode_items<T: Item, E: Endian>(
+    alloc: Global,
+    bytes: &[u8],
+    place: usize,
+    count: usize,
+) -> Result<Items<T>, AllocError>
+    requires { place + T.LEN * count ≤ length bytes.now }
+    ensures { IfOk result (λ items. items ≡ items_at (T.item_at E.number_of bytes.now) T.LEN count place) }
+{
+    let mut items = Vec::with_capacity(alloc, count)?;
+    let mut at = place;
+    for _ in 0..count {
+        items.push(T::load::<E>(bytes, at))?;
+        at += T::LEN;
+    }
+    Ok(Items::from_vec(items))
+}
+
+// The texts of bytes, each up to a zero byte or the end.
+fn parts_of(alloc: Global, bytes: &[u8]) -> Result<Vec<Items<u8>>, AllocError>
+    ensures { IfOk result (λ parts. parts.items ≡ slice_split (λ b. b == 0) bytes.now) }
+{
+    let mut parts = Vec::new(alloc);
+    for part in bytes.split(|b| *b == 0) {
+        parts.push(Items::from_slice(alloc, part)?)?;
+    }
+    Ok(parts)
+}
+
+// Takes off an empty last text.
+fn drop_empty_last(texts: &mut Vec<Items<u8>>)
+    ensures { texts.new.items ≡ without_empty_last texts.old.items }
+{
+    let count = texts.len();
+    if count > 0 && texts[count - 1].is_empty() {
+        texts.truncate(count - 1);
+    }
+}
+
+// The texts of bytes, each up to a zero byte; an empty last one is left out.
+fn texts_of(alloc: Global, bytes: &[u8]) -> Result<Items<Items<u8>>, AllocError>
+    ensures { IfOk result (λ found. found ≡ texts bytes.now) }
+{
+    let mut found = parts_of(alloc, bytes)?;
+    drop_empty_last(&mut found);
+    Ok(Items::from_vec(found))
+}
+
+impl Value {
+    /// The value of a type that `count` items from a place on spell.
+    pub fn decode<E: Endian>(
+        alloc: Global,
+        field_type: FieldType,
+        count: u32,
+        bytes: &[u8],
+        place: u32,
+    ) -> Result<Value, AllocError>
+        requires { place + unit_length field_type * count ≤ length bytes.now }
+        ensures { IfOk result (λ v. v ≡ decode_as E.number_of field_type count bytes.now place) }
+    {
+        let at = place as usize;
+        let n = count as usize;
+        Ok(match field_type {
+            FieldType::Byte => Value::Byte(Items::from_slice(alloc, &bytes[at..at + n])?),
+            FieldType::Ascii => Value::Ascii(texts_of(alloc, &bytes[at..at + n])?),
+            FieldType::Short => Value::Short(decode_items::<u16, E>(alloc, bytes, at, n)?),
+            FieldType::Long => Value::Long(decode_items::<u32, E>(alloc, bytes, at, n)?),
+            FieldType::Rational => {
+                Value::Rational(decode_items::<Rational, E>(alloc, bytes, at, n)?)
+            }
+            FieldType::SByte => Value::SByte(decode_items::<i8, E>(alloc, bytes, at, n)?),
+            FieldType::Undefined => {
+                Value::Undefined(Items::from_slice(alloc, &bytes[at..at + n])?, place)
+            }
+            FieldType::SShort => Value::SShort(decode_items::<i16, E>(alloc, bytes, at, n)?),
+            FieldType::SLong => Value::SLong(decode_items::<i32, E>(alloc, bytes, at, n)?),
+            FieldType::SRational => {
+                Value::SRational(decode_items::<SRational, E>(alloc, bytes, at, n)?)
+            }
+            FieldType::Float => Value::Float(decode_items::<u32, E>(alloc, bytes, at, n)?),
+            FieldType::Double => Value::Double(decode_items::<u64, E>(alloc, bytes, at, n)?),
+        })
+    }
+}

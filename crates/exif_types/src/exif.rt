@@ -1,0 +1,85 @@
+//! TIFF data that were read, with their fields.
+
+ghost use Rattle.std.specs.Prelude.{◌≡◌, All, IfOk};
+ghost use Rattle.std.specs.Option.{option_copied};
+ghost use Rattle.exif_types.specs.Lookup.{last_named};
+ghost use Rattle.exif_types.specs.Sound.{IsRead};
+
+use crate::index::{FieldIndex, FieldKey};
+use crate::{Field, Fields, In, Tag};
+use std::alloc::{AllocError, Global};
+use std::marker::Model;
+
+/// TIFF data with their fields. No text in them holds a zero byte, and each directory is one of
+/// the first eight of the chain.
+#[derive(Drop)]
+pub struct Exif {
+    buf: Vec<u8>,
+    fields: Vec<Field>,
+    index: FieldIndex,
+    little_endian: bool,
+}
+
+impl Model for Exif {
+    ghost use Rattle.std.specs.Prelude.{All};
+    ghost use Rattle.exif_types.specs.Sound.{IsRead};
+    ghost use Rattle.exif_types.specs.Contents.{ExifContents};
+    ghost use Rattle.exif_types.specs.Located.{Locates};
+
+    ghost Value = { ExifContents };
+
+    ghost view = { λ a. record { buf = a.buf.items; fields = a.fields.items; little_endian = a.little_endian } };
+
+    ghost invariant = { λ a. All IsRead a.fields.items × Locates ⟦<FieldKey as Ord>⟧.cmp a.index a.fields.items };
+}
+
+impl Exif {
+    /// The data, the fields that were read of them, and whether they are little endian.
+    pub fn from_parts(
+        alloc: Global,
+        buf: Vec<u8>,
+        fields: Vec<Field>,
+        little_endian: bool,
+    ) -> Result<Exif, AllocError>
+        requires { All IsRead fields.items }
+        ensures { IfOk result (λ exif. exif ≡ record { buf = buf.items; fields = fields.items; little_endian = little_endian }) }
+    {
+        let index = FieldIndex::of(alloc, fields.as_slice())?;
+        Ok(Exif {
+            buf,
+            fields,
+            index,
+            little_endian,
+        })
+    }
+
+    /// The TIFF data.
+    pub fn buf(&self) -> &[u8]
+        ensures { result.now ≡ self.now.buf }
+    {
+        &self.buf
+    }
+
+    /// The fields in the order in which they stand.
+    pub fn fields(&self) -> Fields<'_>
+        ensures fields { result ≡ self.now.fields }
+        ensures read { All IsRead self.now.fields }
+    {
+        Fields::new(&self.fields)
+    }
+
+    /// The last field with this tag and this directory.
+    pub fn get_field(&self, tag: Tag, ifd_num: In) -> Option<&Field>
+        ensures { option_copied result ≡ last_named self.now.fields tag ifd_num }
+    {
+        let place = self.index.place_of(tag, ifd_num)?;
+        self.fields.get(place)
+    }
+
+    /// Whether the data are little endian.
+    pub fn little_endian(&self) -> bool
+        ensures { result ≡ self.now.little_endian }
+    {
+        self.little_endian
+    }
+}

@@ -1,0 +1,25 @@
+//! Values, tags, fields and errors: the types that users of `exif` meet.
+#![tactic(auto)]
+
+pub mod decode;
+pub mod error;
+pub mod exif;
+pub mod field;
+pub mod field_type;
+pub mod fields;
+pub mod ifd;
+mod index;
+pub mod tag;
+pub mod unsigned;
+pub mod value;
+
+pub use error::{Error, PartialResult};
+pub use exif::Exif;
+pub use exif_text::{Rational, SRational};
+pub use field::Field;
+pub use field_type::FieldType;
+pub use fields::Fields;
+pub use ifd::In;
+pub use tag::{Context, Tag};
+pub use unsigned::{UIntIter, UIntValue};
+pub use value::Value;

@@ -1,0 +1,178 @@
+//! The unsigned whole numbers of a value.
+
+ghost use Rattle.std.specs.Prelude.{◌≡◌, length, slice_get, codes};
+ghost use Rattle.std.specs.Option.{option_map};
+ghost use Rattle.std.specs.Iterator.{YieldsFirst, item_count};
+ghost use Rattle.exif_types.specs.Numbers.{numbers_of, number_in, numbers_in, first_and_rest, split_first};
+ghost use Rattle.exif_types.specs.Refusals.{Answers, unexpected_value, or_refuse};
+
+use crate::{Error, Value};
+use std::fmt;
+use std::iter::FusedIterator;
+use std::marker::Model;
+
+// The numbers of one of the three kinds.
+#[derive(Clone, Copy)]
+pub(crate) enum Numbers<'a> {
+    Byte(&'a [u8]),
+    Short(&'a [u16]),
+    Long(&'a [u32]),
+}
+
+impl<'a> Numbers<'a> {
+    // The numbers of a value, if it is of one of the kinds.
+    fn of(value: &'a Value) -> Option<Numbers<'a>>
+        ensures { option_map numbers_in result ≡ numbers_of value.now }
+    {
+        match value {
+            Value::Byte(items) => Some(Numbers::Byte(items.as_slice())),
+            Value::Short(items) => Some(Numbers::Short(items.as_slice())),
+            Value::Long(items) => Some(Numbers::Long(items.as_slice())),
+            _ => None,
+        }
+    }
+
+    fn get(self, index: usize) -> Option<u32>
+        ensures { result ≡ slice_get (numbers_in self.entry) index }
+    {
+        match self {
+            Numbers::Byte(items) => items.get(index).map(|n| u32::from(*n)),
+            Numbers::Short(items) => items.get(index).map(|n| u32::from(*n)),
+            Numbers::Long(items) => items.get(index).copied(),
+        }
+    }
+
+    fn len(self) -> usize
+        ensures { result ≡ length (numbers_in self.entry) }
+    {
+        match self {
+            Numbers::Byte(items) => items.len(),
+            Numbers::Short(items) => items.len(),
+            Numbers::Long(items) => items.len(),
+        }
+    }
+
+    fn split_first(self) -> Option<(u32, Numbers<'a>)>
+        ensures { option_map first_and_rest result ≡ split_first (numbers_in self.entry) }
+    {
+        match self {
+            Numbers::Byte(items) => {
+                let (first, others) = items.split_first()?;
+                Some((u32::from(*first), Numbers::Byte(others)))
+            }
+            Numbers::Short(items) => {
+                let (first, others) = items.split_first()?;
+                Some((u32::from(*first), Numbers::Short(others)))
+            }
+            Numbers::Long(items) => {
+                let (first, others) = items.split_first()?;
+                Some((*first, Numbers::Long(others)))
+            }
+        }
+    }
+}
+
+impl Value {
+    /// A view of a `Byte`, `Short` or `Long` value. Any other kind is refused as
+    /// `UnexpectedValue`.
+    pub fn as_uint(&self) -> Result<UIntValue<'_>, Error>
+        ensures { Answers (λ v. v) result (or_refuse (numbers_of self.now) (unexpected_value (codes "Not unsigned integer"))) }
+    {
+        match Numbers::of(self) {
+            Some(numbers) => Ok(UIntValue { numbers }),
+            None => Err(Error::UnexpectedValue("Not unsigned integer")),
+        }
+    }
+
+    /// The number at an index of a `Byte`, `Short` or `Long` value.
+    pub fn get_uint(&self, index: usize) -> Option<u32>
+        ensures { result ≡ number_in self.now index }
+    {
+        let borrowed = Numbers::of(self)?;
+        borrowed.get(index)
+    }
+
+    /// The numbers of a `Byte`, `Short` or `Long` value in order.
+    pub fn iter_uint(&self) -> Option<UIntIter<'_>>
+        ensures { result ≡ numbers_of self.now }
+    {
+        let left = Numbers::of(self)?;
+        Some(UIntIter { left })
+    }
+}
+
+/// A view of a `Byte`, `Short` or `Long` value.
+#[derive(Drop)]
+pub struct UIntValue<'a> {
+    numbers: Numbers<'a>,
+}
+
+impl<'a> Model for UIntValue<'a> {
+    ghost use Rattle.std.specs.Prelude.{ℕ, List};
+    ghost use Rattle.exif_types.specs.Numbers.{numbers_in};
+
+    ghost Value = { List ℕ };
+
+    ghost view = { λ a. numbers_in a.numbers };
+}
+
+impl UIntValue<'_> {
+    /// The number at an index.
+    pub fn get(&self, index: usize) -> Option<u32>
+        ensures { result ≡ slice_get self.now index }
+    {
+        self.numbers.get(index)
+    }
+}
+
+impl fmt::Debug for UIntValue<'_> {
+    fn fmt<W: fmt::Write>(&self, f: &mut fmt::Formatter<W>) -> fmt::Result {
+        match self.numbers {
+            Numbers::Byte(items) => write!(f, "UIntValue(Byte({items:?}))"),
+            Numbers::Short(items) => write!(f, "UIntValue(Short({items:?}))"),
+            Numbers::Long(items) => write!(f, "UIntValue(Long({items:?}))"),
+        }
+    }
+}
+
+/// The numbers of a `Byte`, `Short` or `Long` value. It knows how many are left.
+#[derive(Drop)]
+pub struct UIntIter<'a> {
+    left: Numbers<'a>,
+}
+
+impl<'a> Model for UIntIter<'a> {
+    ghost use Rattle.std.specs.Prelude.{ℕ, List};
+    ghost use Rattle.exif_types.specs.Numbers.{numbers_in};
+
+    ghost Value = { List ℕ };
+
+    ghost view = { λ a. numbers_in a.left };
+}
+
+impl Iterator for UIntIter<'_> {
+    type Item = u32;
+
+    ghost next_gives = { YieldsFirst (λ s. s) };
+
+    ghost remaining = { item_count (λ s. s) };
+
+    fn next(&mut self) -> Option<u32> {
+        let (first, others) = self.left.split_first()?;
+        self.left = others;
+        Some(first)
+    }
+
+    fn size_hint(&self) -> (usize, Option<usize>) {
+        let count = self.left.len();
+        (count, Some(count))
+    }
+}
+
+impl ExactSizeIterator for UIntIter<'_> {
+    fn len(&self) -> usize {
+        self.left.len()
+    }
+}
+
+impl FusedIterator for UIntIter<'_> {}

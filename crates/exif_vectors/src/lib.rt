@@ -1,0 +1,8 @@
+//! Small worked files, devices that give or take little and then fail, and the tests that cross
+//! crates.
+#![tactic(auto)]
+
+pub mod devices;
+pub mod files;
+#[cfg(test)]
+mod tests;

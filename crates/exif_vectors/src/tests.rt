@@ -1,0 +1,8 @@
+//! Tests that cross crates: what is read of small files, and what is said of them.
+
+mod devices;
+mod fields;
+mod limits;
+mod partial;
+mod reports;
+mod support;

@@ -1,0 +1,140 @@
+//! The reports of the small files, strict and lenient.
+
+use super::support::{reported, text_of};
+use crate::files;
+use exif::Counted;
+use exif_report::{mode, show};
+use std::test::Fail;
+
+const EIGHT_WIDTHS: &str = "Tag(Tiff, 256) primary 20
+Tag(Tiff, 256) thumbnail 20
+Tag(Tiff, 256) IFD2 20
+Tag(Tiff, 256) IFD3 20
+Tag(Tiff, 256) IFD4 20
+Tag(Tiff, 256) IFD5 20
+Tag(Tiff, 256) IFD6 20
+Tag(Tiff, 256) IFD7 20
+fault: Limit the IFD count to 8
+";
+
+const EVERY_TYPE: &str = "Tag(Tiff, 65000) primary 1, 2, 255
+Tag(Tiff, 65001) primary \"a\", \"\", \"b\"
+Tag(Tiff, 65002) primary 1, 2, 65535
+Tag(Tiff, 65003) primary 1, 4294967295
+Tag(Tiff, 65004) primary 1/2
+Tag(Tiff, 65005) primary -2, 127
+Tag(Tiff, 65006) primary 0x0aff
+Tag(Tiff, 65007) primary -2, 32767
+Tag(Tiff, 65008) primary -3
+Tag(Tiff, 65009) primary -1/-2
+Tag(Tiff, 65010) primary 0x40200000
+Tag(Tiff, 65011) primary 0x4004000000000000
+Tag(Tiff, 65012) primary unknown value (type=13, count=2, offset=0xa2)
+Tag(Tiff, 65013) primary\x20
+";
+
+#[test]
+fn whole_files(rt: HostRuntime) -> Result<(), Fail> {
+    let alloc = rt.alloc();
+    let description = "Tag(Tiff, 270) primary \"Sample\"\n";
+    let shared = "Tag(Tiff, 256) primary 20
+Tag(Tiff, 256) primary 21
+Tag(Exif, 36864) primary 0x30323331
+Tag(Exif, 36864) primary 0x30323331
+";
+    let elsewhere = "Tag(Exif, 34665) primary 7
+Tag(Gps, 40965) primary 7
+Tag(Gps, 34853) primary 9
+";
+    let unknown = "Tag(Tiff, 256) primary unknown value (type=65535, count=1, offset=0x12)\n";
+    for (bytes, text) in [
+        (files::NOTHING, ""),
+        (files::DESCRIBED_BIG, description),
+        (files::DESCRIBED_LITTLE, description),
+        (files::UNKNOWN_TYPE, unknown),
+        (files::SHARED_CHILD, shared),
+        (files::POINTER_NUMBERS_ELSEWHERE, elsewhere),
+        (files::EVERY_TYPE_BIG, EVERY_TYPE),
+        (files::EVERY_TYPE_LITTLE, EVERY_TYPE),
+    ] {
+        for lenient in [false, true] {
+            let (answer, written) = reported(alloc, bytes, lenient, None);
+            assert_eq!(rt; answer?, 0);
+            assert_eq!(rt; written.as_slice(), text.as_bytes());
+        }
+    }
+    Ok(())
+}
+
+#[test]
+fn faulty_files(rt: HostRuntime) -> Result<(), Fail> {
+    let alloc = rt.alloc();
+    let wrong_next = "Tag(Exif, 36864) primary 0x00020302
+Tag(Tiff, 65000) primary -19088744
+fault: Unexpected next IFD
+fault: Truncated IFD count
+";
+    let cut = "Tag(Tiff, 256) primary 20\nfault: Truncated IFD\n";
+    let child = "Tag(Exif, 36864) primary 0x30323331\nfault: Unexpected next IFD\n";
+    let pointers = "Tag(Tiff, 256) primary 20\nfault: Invalid pointer\nfault: Invalid pointer\n";
+    for (bytes, first, faults, text) in [
+        (files::CIRCLE, "Limit the IFD count to 8", 1, EIGHT_WIDTHS),
+        (files::WRONG_NEXT, "Unexpected next IFD", 2, wrong_next),
+        (files::CUT_DIRECTORY, "Truncated IFD", 1, cut),
+        (files::CHILD_WITH_NEXT, "Unexpected next IFD", 1, child),
+        (files::WRONG_POINTERS, "Invalid pointer", 2, pointers),
+    ] {
+        let (answer, written) = reported(alloc, bytes, true, None);
+        assert_eq!(rt; answer?, faults);
+        assert_eq!(rt; written.as_slice(), text.as_bytes());
+        let (answer, written) = reported(alloc, bytes, false, None);
+        assert!(rt; written.is_empty());
+        if let Err(error) = answer {
+            assert_eq!(rt; text_of(alloc, &error)?.as_str(), first);
+        } else {
+            assert!(rt; false, "a fault was passed over");
+        }
+    }
+    Ok(())
+}
+
+// What is shown of data: the status, and what went to either writer.
+fn shown(rt: &HostRuntime, bytes: &[u8], lenient: bool) -> (u8, Vec<u8>, Vec<u8>) {
+    let alloc = rt.alloc();
+    let mut out = Counted::new(Vec::new(alloc));
+    let mut err = Counted::new(Vec::new(alloc));
+    let status = show(alloc, &mut Counted::new(bytes), &mut out, &mut err, lenient);
+    (status, out.into_inner(), err.into_inner())
+}
+
+#[test]
+fn statuses(rt: HostRuntime) {
+    let limit = "exif_show: Limit the IFD count to 8\n";
+    let description = "Tag(Tiff, 270) primary \"Sample\"\n";
+    for (bytes, lenient, status, out, err) in [
+        (files::NOTHING, false, 0, "", ""),
+        (files::DESCRIBED_BIG, false, 0, description, ""),
+        (files::CIRCLE, false, 1, "", limit),
+        (files::CIRCLE, true, 3, EIGHT_WIDTHS, ""),
+    ] {
+        let (found, written, told) = shown(&rt, bytes, lenient);
+        assert_eq!(rt; found, status);
+        assert_eq!(rt; written.as_slice(), out.as_bytes());
+        assert_eq!(rt; told.as_slice(), err.as_bytes());
+    }
+}
+
+#[test]
+fn modes(rt: HostRuntime) -> Result<(), Fail> {
+    let alloc = rt.alloc();
+    let file = || String::from_str(alloc, "a.tif");
+    let flag = || String::from_str(alloc, "-c");
+    assert_eq!(rt; mode(&[]), None);
+    assert_eq!(rt; mode(&[file()?]), Some((false, 0)));
+    assert_eq!(rt; mode(&[flag()?]), None);
+    assert_eq!(rt; mode(&[flag()?, file()?]), Some((true, 1)));
+    assert_eq!(rt; mode(&[flag()?, flag()?]), Some((true, 1)));
+    assert_eq!(rt; mode(&[file()?, flag()?]), None);
+    assert_eq!(rt; mode(&[flag()?, file()?, file()?]), None);
+    Ok(())
+}
