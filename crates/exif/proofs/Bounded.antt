@@ -36,7 +36,7 @@ answered_at_most k false fields (fault ∷ faults) h = tt
 
 by_header : (k : ℕ) (x : Result Order Fault) (lenient : Bool) (limit : Option ℕ) (bytes : List ℕ)
     → length (fields_of (limited limit (elim x as (λ _. List Node) [ Ok order ↦ ordered_trace (number_of order) bytes | Err fault ↦ [] ])))
-      + length (faults_of (limited limit (elim x as (λ _. List Node) [ Ok order ↦ ordered_trace (number_of order) bytes | Err fault ↦ [] ]))) ≤ k
+    + length (faults_of (limited limit (elim x as (λ _. List Node) [ Ok order ↦ ordered_trace (number_of order) bytes | Err fault ↦ [] ]))) ≤ k
     → AtMost k (elim x as (λ _. Answer) [ Err fault ↦ Refused fault | Ok order ↦ answer_of lenient (content_of (limited limit (ordered_trace (number_of order) bytes))) ])
 by_header k (Err fault) lenient limit bytes h = tt
 by_header k (Ok order) lenient limit bytes h =

@@ -3,3 +3,5 @@ pub mod Bounded
 pub mod FollowSteps
 pub mod Outcomes
 pub mod RunSteps
+pub mod WriterGrowth
+pub mod WriterRanges

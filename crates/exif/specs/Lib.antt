@@ -4,3 +4,4 @@ pub mod Results
 pub mod Running
 pub mod StopErrors
 pub mod Stops
+pub mod WriterViews

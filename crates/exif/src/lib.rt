@@ -7,6 +7,7 @@ mod parser;
 mod reader;
 mod stop;
 mod tiff;
+mod writer;
 
 pub use exif_base::{Counted, Items, Sink, Source};
 pub use exif_types::{

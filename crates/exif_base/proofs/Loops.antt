@@ -2,7 +2,6 @@
 use Rattle.std.proofs.Common.{◌≡◌, ℕ, ◌+◌, ◌<◌, length, arith, List, [], ◌∷◌, ◌++◌, take, drop, get_or, Option, None, Some, ap, subst, sym, ◌∙◌, refl, append_assoc}
 use Rattle.std.proofs.lemmas.List.{take-append-drop, drop_more, take_more, append-nil}
 use Rattle.std.proofs.lemmas.List.Concat.{flat_map-append}
-
 use Rattle.std.specs.List.{flat_map}
 use Rattle.std.specs.Io.KnownBytes.{Appends}
 use Rattle.exif_base.specs.Sent.{SendsFront}

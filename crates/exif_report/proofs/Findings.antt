@@ -11,6 +11,7 @@ use Rattle.exif_base.specs.Told.{TakesAll}
 use Rattle.exif_base.proofs.Sent.{appends_more, front_whole}
 use Rattle.exif_types.specs.Contents.{ExifContents, PartialContents}
 use Rattle.exif_types.specs.Failures.{Failure, told_text, bytes_of}
+use Rattle.exif_types.specs.Refusals.{IsInterrupted}
 use Rattle.exif_types.specs.declared.error.Error.TheVariants as error
 use Rattle.exif_types.specs.declared.field.Field.{Field}
 use Rattle.exif_format.specs.Answers.{Answer, Refused, Whole, Partial}
@@ -18,7 +19,7 @@ use Rattle.exif_format.specs.Faults.{text_of}
 use Rattle.exif_format.specs.declared.fault.Fault.{Fault}
 use Rattle.exif.specs.Readings.{ReadsAs}
 use Rattle.exif_report.specs.Lines.{field_line, fault_line, error_line}
-use Rattle.exif_report.specs.Reports.{Finds, Holds, Reports, WhenTold, IsInterrupted, IsRefusedAs, answer_text, fault_count}
+use Rattle.exif_report.specs.Reports.{Finds, Holds, Reports, WhenTold, IsRefusedAs, answer_text, fault_count}
 
 -- what was found in the bytes taken was found in those that were told
 pub told_finds : (left : Option (List ℕ)) (taken : List ℕ) (answer : List ℕ → Answer) (found : Result (ExifContents × Vec Failure Global) Failure)

@@ -7,7 +7,7 @@ use Rattle.exif_base.specs.Device.{count_after}
 use Rattle.exif_base.specs.Sent.{SendsFront}
 use Rattle.exif_types.specs.Contents.{ExifContents}
 use Rattle.exif_types.specs.Failures.{Failure, told_text, bytes_of}
-use Rattle.exif_types.specs.Refusals.{refusal_of, is_io_error}
+use Rattle.exif_types.specs.Refusals.{refusal_of, IsInterrupted}
 use Rattle.exif_types.specs.declared.error.Error.TheVariants as error
 use Rattle.exif_format.specs.Answers.{Answer, Refused, Whole, Partial}
 use Rattle.exif_format.specs.Faults.{text_of, refusal}
@@ -34,10 +34,6 @@ WhenTold (Some bytes) P = P bytes
 abbrev pub CountsBoth : ℕ → ℕ → ℕ → ℕ → Bool → Type 0
 CountsBoth read read' written written' io =
     (r w : Bool) × (read' ≡ count_after r read) × (written' ≡ count_after w written) × (io ≡ (r || w))
-
--- memory or a device failed
-abbrev pub IsInterrupted : Failure → Type 0
-IsInterrupted e = (is_io_error e ≡ true) ⊎ (e ≡ error.OutOfMemory)
 
 -- the answer is refused with this error
 abbrev pub IsRefusedAs : Answer → Failure → Type 0

@@ -7,11 +7,11 @@ ghost use Rattle.exif_base.specs.Device.{count_after};
 ghost use Rattle.exif_base.specs.Sent.{SendsFront};
 ghost use Rattle.exif_base.specs.Told.{TakesAll};
 ghost use Rattle.exif_types.specs.Failures.{IsInvalidFormat};
-ghost use Rattle.exif_types.specs.Refusals.{is_io};
+ghost use Rattle.exif_types.specs.Refusals.{is_io, IsInterrupted};
 ghost use Rattle.exif_format.specs.Answers.{Answer, raw_answer};
 ghost use Rattle.exif.specs.Readings.{ReadsAs};
 ghost use Rattle.exif_report.specs.Lines.{field_line, error_line};
-ghost use Rattle.exif_report.specs.Reports.{WhenTold, Finds, Reports, IsInterrupted, CountsBoth};
+ghost use Rattle.exif_report.specs.Reports.{WhenTold, Finds, Reports, CountsBoth};
 
 use crate::lines::{set_error_line, set_field_line};
 use exif::{Error, Exif, Field, Reader, Sink, Source};

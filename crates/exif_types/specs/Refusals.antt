@@ -1,5 +1,5 @@
 -- Refusals: what an error says of the bytes, and steps that may be refused, one after another.
-use Rattle.std.specs.Prelude.{◌≡◌, ℕ, List, [], ◌∷◌, ◌++◌, Bool, true, false, Option, Some, None, Result, Ok, Err, MatchOption}
+use Rattle.std.specs.Prelude.{◌≡◌, ◌⊎◌, ℕ, List, [], ◌∷◌, ◌++◌, Bool, true, false, Option, Some, None, Result, Ok, Err, MatchOption}
 use Rattle.std.specs.List.{last_or}
 use Rattle.exif_types.specs.Failures.{Failure}
 use Rattle.exif_types.specs.declared.error.Error.TheVariants as error
@@ -36,6 +36,10 @@ is_io_error (error.NotSupported text) = false
 is_io_error (error.UnexpectedValue text) = false
 is_io_error (error.PartialResult partial) = false
 is_io_error error.OutOfMemory = false
+
+-- memory or a device failed
+abbrev pub IsInterrupted : Failure → Type 0
+IsInterrupted e = (is_io_error e ≡ true) ⊎ (e ≡ error.OutOfMemory)
 
 abbrev pub is_io : {T : Type 0} → Result T Failure → Bool
 is_io (Ok x) = false

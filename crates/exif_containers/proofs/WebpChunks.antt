@@ -1,0 +1,155 @@
+-- How the answer of a WebP file follows from its header and its first chunk.
+use Rattle.std.proofs.Common.{◌≡◌, ℕ, zero, suc, ◌-◌, ◌<◌, ◌≤◌, Bool, true, false, cond, eqb, ltb, ◌&&◌, List, ◌++◌, length, take, drop, codes, Option, None, Some, Result, Ok, Err, IfSome, ap, sym, ◌∙◌, refl, arith, length-drop, length-append}
+use Rattle.std.specs.Cmp.Lexicographic.{pointwise}
+use Rattle.std.proofs.lemmas.Bool.Decides.{nat_tests}
+use Rattle.std.proofs.lemmas.Bool.{ltb-false}
+use Rattle.std.proofs.lemmas.List.{take-append-le, drop-append-le, drop_at}
+use Rattle.std.specs.Io.KnownBytes.{Consumes}
+use Rattle.byteorder.specs.Endian.{little_number}
+use Rattle.byteorder.specs.Numbers.{little_from-append}
+use Rattle.exif_base.specs.Told.{WhereTold}
+use Rattle.exif_types.specs.Failures.{Failure}
+use Rattle.exif_types.specs.Refusals.{Refusal, Fails}
+use Rattle.exif_containers.specs.Answer.{found, refused}
+use Rattle.exif_containers.proofs.Refusing.{fails_along}
+use Rattle.exif_containers.specs.Webp.{Chunk, exif, other, broken_webp, not_webp, invalid_file_size, overflowing, no_exif_in_webp, padded, exif_chunk, other_chunk, chunk_body, chunk_at, follow, answer_within, body_answer, begins_webp, sized_answer, webp_answer}
+
+pub begins_webp-append : (header ys : List ℕ) → length header ≡ 12 → begins_webp (header ++ ys) ≡ begins_webp header
+begins_webp-append header ys e =
+    ap (λ t. pointwise eqb t (codes "RIFF") && pointwise eqb (take 4 (drop 8 (header ++ ys))) (codes "WEBP")) (take-append-le 4 header ys (omega arith))
+    ∙ ap (λ t. pointwise eqb (take 4 header) (codes "RIFF") && pointwise eqb (take 4 t) (codes "WEBP")) (drop-append-le 8 header ys (omega arith))
+    ∙ ap (λ t. pointwise eqb (take 4 header) (codes "RIFF") && pointwise eqb t (codes "WEBP")) (take-append-le 4 (drop 8 header) ys (omega (arith, length-drop 8 header)))
+
+long : (header ys : List ℕ) → length header ≡ 12 → ltb (length (header ++ ys)) 12 ≡ false
+long header ys e = let l = length-append header ys in grind (arith, nat_tests)
+
+-- twelve bytes, and what follows them
+pub webp-twelve : (header ys : List ℕ) → length header ≡ 12
+    → webp_answer (header ++ ys) ≡ cond (begins_webp header) (sized_answer (little_number 4 (drop 4 header)) ys) (refused not_webp)
+webp-twelve header ys e =
+    ap (λ t. cond t (refused broken_webp) (cond (begins_webp (header ++ ys)) (sized_answer (little_number 4 (drop 4 (header ++ ys))) (drop 12 (header ++ ys))) (refused not_webp))) (long header ys e)
+    ∙ ap (λ t. cond t (sized_answer (little_number 4 (drop 4 (header ++ ys))) (drop 12 (header ++ ys))) (refused not_webp)) (begins_webp-append header ys e)
+    ∙ ap (λ t. cond (begins_webp header) (sized_answer t (drop 12 (header ++ ys))) (refused not_webp))
+    (ap (little_number 4) (drop-append-le 4 header ys (omega arith)) ∙ little_from-append 4 (drop 4 header) ys (omega (arith, length-drop 4 header)))
+    ∙ ap (λ t. cond (begins_webp header) (sized_answer (little_number 4 (drop 4 header)) t) (refused not_webp)) (drop_at header ys 12 e)
+
+pub webp_other : (a b : Option (List ℕ)) (header : List ℕ) → length header ≡ 12 → begins_webp header ≡ false → Consumes a b header
+    → IfSome a (λ xs. webp_answer xs ≡ refused not_webp)
+webp_other None b header e w h = tt
+webp_other (Some xs) None header e w h = absurd h
+webp_other (Some xs) (Some ys) header e w h =
+    ap webp_answer h ∙ webp-twelve header ys e ∙ ap (λ t. cond t (sized_answer (little_number 4 (drop 4 header)) ys) (refused not_webp)) w
+
+pub sized-small : (size : ℕ) (ys : List ℕ) → size < 4 → sized_answer size ys ≡ refused invalid_file_size
+sized-small size ys h = grind (arith, nat_tests)
+
+pub sized-body : (size : ℕ) (ys : List ℕ) → 4 ≤ size → sized_answer size ys ≡ body_answer (size - 4) ys
+sized-body size ys h = ap (λ t. cond t (refused invalid_file_size) (body_answer (size - 4) ys)) (not_small size h)
+  where
+    not_small : (n : ℕ) → 4 ≤ n → ltb n 4 ≡ false
+    not_small n h = grind (arith, nat_tests)
+
+-- the header of a WebP file, and what follows it
+pub webp-header : (header ys : List ℕ) → length header ≡ 12 → begins_webp header ≡ true → webp_answer (header ++ ys) ≡ sized_answer (little_number 4 (drop 4 header)) ys
+webp-header header ys e w =
+    webp-twelve header ys e ∙ ap (λ t. cond t (sized_answer (little_number 4 (drop 4 header)) ys) (refused not_webp)) w
+
+pub webp_small : (a b : Option (List ℕ)) (header : List ℕ) (size : ℕ) → length header ≡ 12 → begins_webp header ≡ true → size ≡ little_number 4 (drop 4 header) → size < 4 → Consumes a b header
+    → IfSome a (λ xs. webp_answer xs ≡ refused invalid_file_size)
+webp_small None b header size e w s small h = tt
+webp_small (Some xs) None header size e w s small h = absurd h
+webp_small (Some xs) (Some ys) header size e w s small h =
+    ap webp_answer h ∙ webp-header header ys e w ∙ ap (λ t. sized_answer t ys) (sym s) ∙ sized-small size ys small
+
+pub webp_body : (a b : Option (List ℕ)) (header : List ℕ) (size : ℕ) → length header ≡ 12 → begins_webp header ≡ true → size ≡ little_number 4 (drop 4 header) → 4 ≤ size → Consumes a b header
+    → WhereTold a b (λ xs ys. webp_answer xs ≡ body_answer (size - 4) ys)
+webp_body None b header size e w s big h = tt
+webp_body (Some xs) None header size e w s big h = absurd h
+webp_body (Some xs) (Some ys) header size e w s big h =
+    ap webp_answer h ∙ webp-header header ys e w ∙ ap (λ t. sized_answer t ys) (sym s) ∙ sized-body size ys big
+
+-- what is behind a chunk is shorter
+other-shorter : (t : Bool) (taken room : ℕ) (bytes : List ℕ) (r : ℕ) (rest : List ℕ)
+    → cond t (Err broken_webp) (Ok (other (room - taken) (drop taken bytes))) ≡ Ok (other r rest) → length rest ≤ length bytes
+other-shorter true taken room bytes r rest e = absurd (cc)
+other-shorter false taken room bytes r rest e =
+    let same : drop taken bytes ≡ rest = cc in
+    let l : length rest ≡ length bytes - taken = ap length (sym same) ∙ length-drop taken bytes in omega arith
+
+exif-no_other : (t : Bool) (payload left : List ℕ) (r : ℕ) (rest : List ℕ) → cond t (Err broken_webp) (Ok (exif payload left)) ≡ Ok (other r rest) → ⊥
+exif-no_other true payload left r rest e = cc
+exif-no_other false payload left r rest e = cc
+
+body-shorter : (s t : Bool) (size room : ℕ) (bytes : List ℕ) (r : ℕ) (rest : List ℕ)
+    → cond s (Err overflowing) (cond t (exif_chunk size bytes) (other_chunk (padded size room) room bytes)) ≡ Ok (other r rest) → length rest ≤ length bytes
+body-shorter true t size room bytes r rest e = absurd (cc)
+body-shorter false true size room bytes r rest e = absurd (exif-no_other (ltb (length bytes) size) _ _ r rest e)
+body-shorter false false size room bytes r rest e = other-shorter (ltb (length bytes) (padded size room)) (padded size room) room bytes r rest e
+
+at-shorter : (s t u : Bool) (room : ℕ) (bytes : List ℕ) (r : ℕ) (rest : List ℕ) → ltb (length bytes) 8 ≡ u
+    → cond s (Err no_exif_in_webp) (cond t (Err overflowing) (cond u (Err broken_webp) (chunk_body (take 4 bytes) (little_number 4 (drop 4 bytes)) (room - 8) (drop 8 bytes)))) ≡ Ok (other r rest) → length rest < length bytes
+at-shorter true t u room bytes r rest l e = absurd (cc)
+at-shorter false true u room bytes r rest l e = absurd (cc)
+at-shorter false false true room bytes r rest l e = absurd (cc)
+at-shorter false false false room bytes r rest l e =
+    let size = little_number 4 (drop 4 bytes) in
+    let h = body-shorter (ltb (room - 8) size) (pointwise eqb (take 4 bytes) (codes "EXIF")) size (room - 8) (drop 8 bytes) r rest e in
+    let long : 8 ≤ length bytes = ltb-false (length bytes) 8 l in
+    omega (arith, length-drop 8 bytes)
+
+pub chunk-shorter : (room : ℕ) (bytes : List ℕ) (r : ℕ) (rest : List ℕ) → chunk_at room bytes ≡ Ok (other r rest) → length rest < length bytes
+chunk-shorter room bytes r rest e = at-shorter (eqb room 0) (ltb room 8) (ltb (length bytes) 8) room bytes r rest refl e
+
+-- as many chunks as there are bytes are enough
+follow_enough : (n m room : ℕ) (xs : List ℕ) (c : Result Chunk Refusal)
+    → ((r : ℕ) (ys : List ℕ) → length ys < n → length ys < m → answer_within n r ys ≡ answer_within m r ys)
+    → chunk_at room xs ≡ c → length xs < suc n → length xs < suc m → follow c (answer_within n) ≡ follow c (answer_within m)
+follow_enough n m room xs (Ok (exif payload rest)) ih e h k = refl
+follow_enough n m room xs (Ok (other r rest)) ih e h k = let l = chunk-shorter room xs r rest e in ih r rest (omega arith) (omega arith)
+follow_enough n m room xs (Err r) ih e h k = refl
+
+answer_enough : (n m room : ℕ) (xs : List ℕ) → length xs < n → length xs < m → answer_within n room xs ≡ answer_within m room xs
+answer_enough zero m room xs h k = absurd (omega arith)
+answer_enough (suc n) zero room xs h k = absurd (omega arith)
+answer_enough (suc n) (suc m) room xs h k = follow_enough n m room xs (chunk_at room xs) (answer_enough n m) refl h k
+
+-- the answer is that of the first chunk, or of what follows it
+pub body-other : (room : ℕ) (xs : List ℕ) (r : ℕ) (rest : List ℕ) → chunk_at room xs ≡ Ok (other r rest) → body_answer room xs ≡ body_answer r rest
+body-other room xs r rest e =
+    let l = chunk-shorter room xs r rest e in
+    ap (λ c. follow c (answer_within (length xs))) e ∙ answer_enough (length xs) (suc (length rest)) r rest l (omega arith)
+
+pub body-exif : (room : ℕ) (xs payload rest : List ℕ) → chunk_at room xs ≡ Ok (exif payload rest) → body_answer room xs ≡ found payload rest
+body-exif room xs payload rest e = ap (λ c. follow c (answer_within (length xs))) e
+
+pub body-refused : (room : ℕ) (xs : List ℕ) (r : Refusal) → chunk_at room xs ≡ Err r → body_answer room xs ≡ refused r
+body-refused room xs r e = ap (λ c. follow c (answer_within (length xs))) e
+
+pub webp_passed : (a b c : Option (List ℕ)) (room r : ℕ) → WhereTold a b (λ xs ys. webp_answer xs ≡ body_answer room ys) → WhereTold b c (λ xs ys. chunk_at room xs ≡ Ok (other r ys))
+    → WhereTold a c (λ xs ys. webp_answer xs ≡ body_answer r ys)
+webp_passed None b c room r h k = tt
+webp_passed (Some xs) None c room r h k = absurd h
+webp_passed (Some xs) (Some ys) None room r h k = absurd k
+webp_passed (Some xs) (Some ys) (Some zs) room r h k = h ∙ body-other room ys r zs k
+
+pub webp_found : (a b c : Option (List ℕ)) (room : ℕ) (v : List ℕ) → WhereTold a b (λ xs ys. webp_answer xs ≡ body_answer room ys) → WhereTold b c (λ xs ys. chunk_at room xs ≡ Ok (exif v ys))
+    → WhereTold a c (λ xs ys. webp_answer xs ≡ found v ys)
+webp_found None b c room v h k = tt
+webp_found (Some xs) None c room v h k = absurd h
+webp_found (Some xs) (Some ys) None room v h k = absurd k
+webp_found (Some xs) (Some ys) (Some zs) room v h k = h ∙ body-exif room ys v zs k
+
+-- a failure at a chunk is a failure of the file
+fails_body : (e : Failure) (room : ℕ) (ys : List ℕ) → Fails e (chunk_at room ys) → Fails e (body_answer room ys)
+fails_body e room ys = fails_along e (λ c. follow c (answer_within (length ys))) (chunk_at room ys) (λ r. refl)
+
+pub webp_fails : (e : Failure) (a b : Option (List ℕ)) (room : ℕ) → WhereTold a b (λ xs ys. webp_answer xs ≡ body_answer room ys)
+    → IfSome b (λ ys. Fails e (chunk_at room ys)) → IfSome a (λ xs. Fails e (webp_answer xs))
+webp_fails e None b room h k = tt
+webp_fails e (Some xs) None room h k = absurd h
+webp_fails e (Some xs) (Some ys) room h k = rw h (fails_body e room ys k)
+
+pub webp_used_up : (a b : Option (List ℕ)) (room : ℕ) → room ≡ 0 → WhereTold a b (λ xs ys. webp_answer xs ≡ body_answer room ys) → IfSome a (λ xs. webp_answer xs ≡ refused no_exif_in_webp)
+webp_used_up None b room z h = tt
+webp_used_up (Some xs) None room z h = absurd h
+webp_used_up (Some xs) (Some ys) room z h = h ∙ ap (λ t. body_answer t ys) z

@@ -1,0 +1,19 @@
+use Rattle.std.proofs.Common.{rules}
+use Rattle.std.proofs.lemmas.Result.{err_from_is_err_and}
+use Rattle.exif_containers.specs.declared.jpeg.TheConstants.{LIMIT}
+use Rattle.exif_containers.proofs.JpegMoves.{jpeg_short, jpeg_other, jpeg_found}
+use Rattle.exif_containers.proofs.jpeg.exif_attr.Goals as goal
+
+pub returns-in_err-fill-clause-refused : goal.returns-in_err-fill-clause-refused
+returns-in_err-fill-clause-refused g c =
+    let p = err_from_is_err_and c.from_residual.result c.from_residual.ensures.1 in
+    rw (p.1, p.2) (jpeg_short _ (g.R.Source.left c.args.source.now) LIMIT c.in_err-fill.ensures.short)
+
+pub returns-then-ne-clause-refused : goal.returns-then-ne-clause-refused
+returns-then-ne-clause-refused g c =
+    jpeg_other (g.R.Source.left c.args.source.now) (g.R.Source.left c.fill.new.source) LIMIT c.fill.new.budget c.fill.new.buf (search rules) c.if-ne.ensures c.in_ok-fill.ensures.taken
+
+pub returns-in-Some-clause-found : goal.returns-in-Some-clause-found
+returns-in-Some-clause-found g c =
+    jpeg_found c.in-Some.payload.items (g.R.Source.left c.args.source.now) (g.R.Source.left c.loop-payload.source) (g.R.Source.left c.next_unit.new.source) LIMIT c.loop-payload.budget c.next_unit.new.budget
+    c.loop-payload.invariant.passed (rw c.in-Some.is at c.in_ok-payload.ensures.taken)

@@ -1,0 +1,10 @@
+use Rattle.exif_containers.proofs.JpegMoves.{segment_exif, segment_other}
+use Rattle.exif_containers.proofs.jpeg.segment.Goals as goal
+
+pub returns-then-code-eq-APP1-clause-taken : goal.returns-then-code-eq-APP1-clause-taken
+returns-then-code-eq-APP1-clause-taken g c =
+    segment_exif (λ v. v.items) _ _ _ _ _ _ c.args.code c.from-size.result _ c.requires c.if-code-eq-APP1.true c.if-size-lt2.false (rw c.from-size.ensures c.in_ok-next16.ensures.taken) c.in_ok-payload.ensures.taken
+
+pub returns-clause-taken : goal.returns-clause-taken
+returns-clause-taken g c =
+    segment_other _ _ _ _ _ _ c.args.code c.from-size.result c.requires c.if-code-eq-APP1.false c.if-size-lt2.false (rw c.from-size.ensures c.in_ok-next16.ensures.taken) c.in_ok-skip.ensures.taken

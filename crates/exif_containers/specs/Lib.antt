@@ -1,0 +1,7 @@
+pub mod Answer
+pub mod Jpeg
+pub mod JpegGrammar
+pub mod Webp
+pub mod WebpGrammar
+pub mod WebpSteps
+pub mod Within

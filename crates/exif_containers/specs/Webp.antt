@@ -1,0 +1,79 @@
+-- A WebP file as a list of chunks, and what it answers (WebP Container Specification, "RIFF File
+-- Format", "WebP File Header", "Metadata").
+use Rattle.std.specs.Prelude.{ℕ, zero, suc, ◌+◌, ◌-◌, ◌%◌, List, length, take, drop, codes, nat_lt, Bool, ◌&&◌, ◌==◌, if◌then◌else◌, Result, Ok, Err}
+use Rattle.std.specs.Str.{bytes_eq}
+use Rattle.byteorder.specs.Endian.{little_number}
+use Rattle.exif_types.specs.Refusals.{Refusal, invalid_format, not_found}
+use Rattle.exif_containers.specs.Answer.{Answer, found, refused}
+
+abbrev pub broken_webp : Refusal
+broken_webp = invalid_format (codes "Broken WebP file")
+
+abbrev pub not_webp : Refusal
+not_webp = invalid_format (codes "Not a WebP file")
+
+abbrev pub invalid_file_size : Refusal
+invalid_file_size = invalid_format (codes "Invalid header file size")
+
+abbrev pub overflowing : Refusal
+overflowing = invalid_format (codes "Chunk overflowing parent")
+
+abbrev pub no_exif_in_webp : Refusal
+no_exif_in_webp = not_found (codes "WebP")
+
+-- a chunk at a place of the body: the payload of `EXIF` and all that follows, or another one, with
+-- the room that is left behind it and the bytes there
+pub data Chunk : Type 0 where
+  exif : List ℕ → List ℕ → Chunk
+  other : ℕ → List ℕ → Chunk
+
+-- an odd payload is padded, but at the end of the body
+abbrev pub padded : ℕ → ℕ → ℕ
+padded size room = if (size % 2 == 1) && nat_lt size room then size + 1 else size
+
+abbrev pub exif_chunk : ℕ → List ℕ → Result Chunk Refusal
+exif_chunk size bytes = if nat_lt (length bytes) size then Err broken_webp else Ok (exif (take size bytes) (drop size bytes))
+
+abbrev pub other_chunk : ℕ → ℕ → List ℕ → Result Chunk Refusal
+other_chunk taken room bytes = if nat_lt (length bytes) taken then Err broken_webp else Ok (other (room - taken) (drop taken bytes))
+
+-- what follows the name and the size of a chunk
+abbrev pub chunk_body : List ℕ → ℕ → ℕ → List ℕ → Result Chunk Refusal
+chunk_body name size room bytes =
+    if nat_lt room size then Err overflowing else
+    if bytes_eq name (codes "EXIF") then exif_chunk size bytes else other_chunk (padded size room) room bytes
+
+-- the chunk at a place with so much room
+abbrev pub chunk_at : ℕ → List ℕ → Result Chunk Refusal
+chunk_at room bytes =
+    if room == 0 then Err no_exif_in_webp else
+    if nat_lt room 8 then Err overflowing else
+    if nat_lt (length bytes) 8 then Err broken_webp else
+    chunk_body (take 4 bytes) (little_number 4 (drop 4 bytes)) (room - 8) (drop 8 bytes)
+
+abbrev pub follow : Result Chunk Refusal → (ℕ → List ℕ → Answer) → Answer
+follow (Ok (exif payload rest)) next = found payload rest
+follow (Ok (other room bytes)) next = next room bytes
+follow (Err r) next = refused r
+
+-- the answer of a body, over at most n chunks
+abbrev pub answer_within : ℕ → ℕ → List ℕ → Answer
+answer_within zero room bytes = refused broken_webp
+answer_within (suc n) room bytes = follow (chunk_at room bytes) (answer_within n)
+
+-- a chunk has bytes, so there are no more chunks than bytes
+abbrev pub body_answer : ℕ → List ℕ → Answer
+body_answer room bytes = answer_within (suc (length bytes)) room bytes
+
+-- whether bytes begin as a WebP file does
+abbrev pub begins_webp : List ℕ → Bool
+begins_webp bytes = bytes_eq (take 4 bytes) (codes "RIFF") && bytes_eq (take 4 (drop 8 bytes)) (codes "WEBP")
+
+-- the answer of what stands behind the header of a file of this size; the form type counts in it
+abbrev pub sized_answer : ℕ → List ℕ → Answer
+sized_answer size bytes = if nat_lt size 4 then refused invalid_file_size else body_answer (size - 4) bytes
+
+abbrev pub webp_answer : List ℕ → Answer
+webp_answer bytes =
+    if nat_lt (length bytes) 12 then refused broken_webp else
+    if begins_webp bytes then sized_answer (little_number 4 (drop 4 bytes)) (drop 12 bytes) else refused not_webp

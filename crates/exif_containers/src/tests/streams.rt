@@ -1,0 +1,140 @@
+//! JPEG streams and WebP files.
+
+use super::{Answer, is_answer, is_fault, one_byte};
+use crate::get_exif_attr_from_jpeg;
+use crate::jpeg::{exif_attr, is_jpeg};
+use crate::util::read_all;
+use crate::webp::{self, is_webp};
+use exif_base::{Blocks, Counted, Source};
+use exif_types::Error;
+use std::alloc::Global;
+use std::io::ErrorKind;
+use std::test::Fail;
+
+const BROKEN_JPEG: Answer = Err("Broken JPEG file");
+
+const BROKEN_WEBP: Answer = Err("Broken WebP file");
+
+const OVERFLOWING: Answer = Err("Chunk overflowing parent");
+
+const SECOND_SEGMENT: &[u8] = b"\xff\xd8\xff\xe1\0\x04ab\xff\xe1\0\x09Exif\0\0Z";
+
+const SECOND_CHUNK: &[u8] = b"RIFF\x17\0\0\0WEBPwhat\0\0\0\0EXIF\x03\0\0\0abc";
+
+const JPEG_ROWS: [(&[u8], Answer); 11] = [
+    (b"\xff\xd8\x01\x02\x03\xff\0\xff\xd9", Err("JPEG")),
+    (b"\xff\xd8\xff\xe1\0\x08\x03\x04", BROKEN_JPEG),
+    (
+        b"\xff\xd8\xff\xe1\0\x0aExif\0\0\xbe\xad\xff\xd9",
+        Ok(b"\xbe\xad"),
+    ),
+    (b"", BROKEN_JPEG),
+    (b"\xff", BROKEN_JPEG),
+    (b"\x89PNG", Err("Not a JPEG file")),
+    (b"\xff\xd8\xff\xd8", Err("Unexpected SOI")),
+    (b"\xff\xd8\xff\xe0\0\x01", Err("Invalid segment length")),
+    (b"\xff\xd8\xff\xff\xd9", Err("JPEG")),
+    (SECOND_SEGMENT, Ok(b"Z")),
+    (b"\xff\xd8\xff\xe1\0\x08Exif\0\0\xff\xd9", Ok(b"")),
+];
+
+const WEBP_ROWS: [(&[u8], Answer); 11] = [
+    (SECOND_CHUNK, Ok(b"abc")),
+    (
+        b"RIFF\x0e\0\0\0WEBPwhat\x02\0\0\0abEXIF\x02\0\0\0cd",
+        Err("WebP"),
+    ),
+    (b"RIFF\x16\0\0\0WEBPodd_\x01\0\0\0X\0EXIF\0\0\0\0", Ok(b"")),
+    (b"RIFF\x0e\0\0\0WEBPEXIF\x01\0\0\0X", Ok(b"X")),
+    (b"RIFF", BROKEN_WEBP),
+    (b"RIFX\x04\0\0\0WEBP", Err("Not a WebP file")),
+    (b"RIFF\x03\0\0\0WEBP", Err("Invalid header file size")),
+    (b"RIFF\x05\0\0\0WEBP", OVERFLOWING),
+    (b"RIFF\x0c\0\0\0WEBPwhat", BROKEN_WEBP),
+    (b"RIFF\x0c\0\0\0WEBPwhat\x01\0\0\0", OVERFLOWING),
+    (b"RIFF\x04\0\0\0WEBP", Err("WebP")),
+];
+
+fn by_blocks<R: Source>(alloc: Global, source: &mut R) -> Result<Vec<u8>, Error> {
+    let mut block = [0u8; 7];
+    let payload = exif_attr(alloc, &mut Blocks::new(&mut block, 0, source))?;
+    Ok(payload)
+}
+
+#[test]
+fn jpeg_rows(rt: HostRuntime) {
+    for (bytes, want) in JPEG_ROWS {
+        let whole = get_exif_attr_from_jpeg(rt.alloc(), &mut Counted::new(bytes));
+        assert!(rt; is_answer(&whole, want));
+        let mut slow = one_byte(bytes, 100, ErrorKind::Other);
+        let cut = get_exif_attr_from_jpeg(rt.alloc(), &mut slow);
+        assert!(rt; is_answer(&cut, want));
+        let mut slow = one_byte(bytes, 100, ErrorKind::Other);
+        assert!(rt; is_answer(&by_blocks(rt.alloc(), &mut slow), want));
+    }
+}
+
+#[test]
+fn jpeg_leaves_what_follows(rt: HostRuntime) -> Result<(), Fail> {
+    let bytes: &[u8] = b"\xff\xd8\xff\xe1\0\x0aExif\0\0\xbe\xad\xff\xd9";
+    let mut source = Counted::new(bytes);
+    get_exif_attr_from_jpeg(rt.alloc(), &mut source)?;
+    let rest = read_all(rt.alloc(), &mut source)?;
+    assert_eq!(rt; rest.as_slice(), b"\xff\xd9".as_slice());
+    assert_eq!(rt; source.fetch(&mut [0u8; 1])?, 0);
+    Ok(())
+}
+
+#[test]
+fn webp_rows(rt: HostRuntime) {
+    for (bytes, want) in WEBP_ROWS {
+        let whole = webp::get_exif_attr(rt.alloc(), &mut Counted::new(bytes));
+        assert!(rt; is_answer(&whole, want));
+        let mut slow = one_byte(bytes, 100, ErrorKind::Other);
+        let cut = webp::get_exif_attr(rt.alloc(), &mut slow);
+        assert!(rt; is_answer(&cut, want));
+    }
+}
+
+#[test]
+fn fronts_are_broken(rt: HostRuntime) {
+    for n in 0..SECOND_SEGMENT.len() {
+        let front = &SECOND_SEGMENT[..n];
+        let result = get_exif_attr_from_jpeg(rt.alloc(), &mut Counted::new(front));
+        assert!(rt; is_answer(&result, BROKEN_JPEG));
+    }
+    let empty: &[u8] = b"\xff\xd8\xff\xe1\0\x08Exif\0\0";
+    for n in 0..empty.len() {
+        let result = get_exif_attr_from_jpeg(rt.alloc(), &mut Counted::new(&empty[..n]));
+        assert!(rt; is_answer(&result, BROKEN_JPEG));
+    }
+    for n in 0..SECOND_CHUNK.len() {
+        let result = webp::get_exif_attr(rt.alloc(), &mut Counted::new(&SECOND_CHUNK[..n]));
+        assert!(rt; is_answer(&result, BROKEN_WEBP));
+    }
+}
+
+#[test]
+fn a_reader_fails_at_each_call(rt: HostRuntime) {
+    for kind in [ErrorKind::Interrupted, ErrorKind::UnexpectedEof] {
+        for calls in 0..SECOND_SEGMENT.len() {
+            let mut source = one_byte(SECOND_SEGMENT, calls, kind);
+            let result = get_exif_attr_from_jpeg(rt.alloc(), &mut source);
+            assert!(rt; is_fault(&result, kind));
+        }
+        for calls in 0..SECOND_CHUNK.len() {
+            let mut source = one_byte(SECOND_CHUNK, calls, kind);
+            let result = webp::get_exif_attr(rt.alloc(), &mut source);
+            assert!(rt; is_fault(&result, kind));
+        }
+        let mut source = one_byte(b"abc", 2, kind);
+        assert!(rt; is_fault(&read_all(rt.alloc(), &mut source), kind));
+    }
+}
+
+#[test]
+fn recognisers(rt: HostRuntime) {
+    assert!(rt; is_jpeg(b"\xff\xd8") && !is_jpeg(b"\xff") && !is_jpeg(b"\xff\xd9\xff"));
+    assert!(rt; is_webp(b"RIFF\x04\0\0\0WEBP") && !is_webp(b"RIFF\x04\0\0\0WEB"));
+    assert!(rt; !is_webp(b"RIFF\x04\0\0\0WEBQ") && !is_webp(b"RIFX\x04\0\0\0WEBP"));
+}

@@ -1,0 +1,192 @@
+//! The Exif chunk of a WebP file (WebP Container Specification, "RIFF File Format", "Metadata").
+
+ghost use Rattle.std.specs.Prelude.{◌≡◌, ◌≢◌, ◌<◌, ◌≤◌, ◌-◌, length, take, drop, OnOk, IfOk, IfErr, IfSome, Ok, Err};
+ghost use Rattle.std.specs.Io.KnownBytes.{Consumes};
+ghost use Rattle.byteorder.specs.Endian.{little_number};
+ghost use Rattle.exif_base.specs.Device.{count_after};
+ghost use Rattle.exif_base.specs.Told.{Skips, WhereTold};
+ghost use Rattle.exif_types.specs.Refusals.{Fails, is_io};
+ghost use Rattle.exif_types.specs.declared.error.Error.TheVariants.{OutOfMemory};
+ghost use Rattle.exif_containers.specs.Answer.{IsErrorOf, IsShort, found};
+ghost use Rattle.exif_containers.specs.Webp.{begins_webp, body_answer, broken_webp, chunk_at, chunk_body, padded, webp_answer};
+ghost use Rattle.exif_containers.specs.WebpSteps.{LeavesAtMost, chunk_of};
+
+use crate::util::error_of;
+use exif_base::{
+    Endian, LittleEndian, ReadFault, Source, discard_exact, read_exact, read_exact_len,
+};
+use exif_types::Error;
+use std::alloc::Global;
+
+// A chunk that was passed: the payload of the one named `EXIF`, or the room behind another.
+#[derive(Drop)]
+enum Step {
+    Exif(Vec<u8>),
+    Other(u64),
+}
+
+fn broken(fault: ReadFault) -> Error
+    ensures { IsErrorOf broken_webp fault result }
+{
+    error_of(fault, "Broken WebP file")
+}
+
+fn fill<R: Source>(source: &mut R, buf: &mut [u8]) -> Result<(), Error>
+    ensures taken { OnOk result (Consumes (R.left source.old) (R.left source.new) buf.new) }
+    ensures short { IfErr result (λ e. IsShort broken_webp e (R.left source.old) (λ xs. length xs < length buf.old)) }
+    ensures no_memory { result ≢ Err OutOfMemory }
+    ensures count { R.failures source.new ≡ count_after (is_io result) (R.failures source.old) }
+    ensures same { R.through source.new ≡ R.through source.old }
+{
+    read_exact(source, buf).map_err(broken)?;
+    Ok(())
+}
+
+fn skip<R: Source>(source: &mut R, len: u64) -> Result<(), Error>
+    ensures taken { OnOk result (Skips (R.left source.old) (R.left source.new) len) }
+    ensures short { IfErr result (λ e. IsShort broken_webp e (R.left source.old) (λ xs. length xs < len)) }
+    ensures no_memory { result ≢ Err OutOfMemory }
+    ensures count { R.failures source.new ≡ count_after (is_io result) (R.failures source.old) }
+    ensures same { R.through source.new ≡ R.through source.old }
+{
+    discard_exact(source, len).map_err(broken)?;
+    Ok(())
+}
+
+fn collect<R: Source>(alloc: Global, source: &mut R, len: u64) -> Result<Vec<u8>, Error>
+    ensures taken { IfOk result (λ v. Consumes (R.left source.old) (R.left source.new) v.items) }
+    ensures len { IfOk result (λ v. length v.items ≡ len) }
+    ensures short { IfErr result (λ e. IsShort broken_webp e (R.left source.old) (λ xs. length xs < len)) }
+    ensures count { R.failures source.new ≡ count_after (is_io result) (R.failures source.old) }
+    ensures same { R.through source.new ≡ R.through source.old }
+{
+    let mut bytes = Vec::new(alloc);
+    read_exact_len(source, &mut bytes, len).map_err(broken)?;
+    Ok(bytes)
+}
+
+// How many bytes a payload takes, its pad byte among them: there is none at the end of the body.
+fn padded_len(size: u64, room: u64) -> u64
+    requires { size ≤ room }
+    ensures value { result ≡ padded size room }
+    ensures fits { result ≤ room }
+    ensures least { size ≤ result }
+{
+    if size % 2 == 1 && size < room {
+        size + 1
+    } else {
+        size
+    }
+}
+
+// What follows the header of a chunk.
+fn body<R: Source>(
+    alloc: Global,
+    source: &mut R,
+    name: [u8; 4],
+    size: u64,
+    room: u64,
+) -> Result<Step, Error>
+    ensures chunk { IfOk result (λ step. WhereTold (R.left source.old) (R.left source.new)
+        (λ xs ys. chunk_body name size room xs ≡ Ok (chunk_of step ys))) }
+    ensures refused { IfErr result (λ e. IfSome (R.left source.old) (λ xs. Fails e (chunk_body name size room xs))) }
+    ensures fewer { IfOk result (LeavesAtMost room) }
+    ensures count { R.failures source.new ≡ count_after (is_io result) (R.failures source.old) }
+    ensures same { R.through source.new ≡ R.through source.old }
+{
+    if size > room {
+        return Err(Error::InvalidFormat("Chunk overflowing parent"));
+    }
+    if name == *b"EXIF" {
+        let payload = collect(alloc, source, size)?;
+        return Ok(Step::Exif(payload));
+    }
+    let taken = padded_len(size, room);
+    skip(source, taken)?;
+    Ok(Step::Other(room - taken))
+}
+
+// The name and the size of a chunk.
+fn header<R: Source>(source: &mut R) -> Result<([u8; 4], u64), Error>
+    ensures taken { IfOk result (λ h. WhereTold (R.left source.old) (R.left source.new)
+        (λ xs ys. (h.0 ≡ take 4 xs) × (h.1 ≡ little_number 4 (drop 4 xs)) × (8 ≤ length xs) × (ys ≡ drop 8 xs))) }
+    ensures short { IfErr result (λ e. IsShort broken_webp e (R.left source.old) (λ xs. length xs < 8)) }
+    ensures no_memory { result ≢ Err OutOfMemory }
+    ensures count { R.failures source.new ≡ count_after (is_io result) (R.failures source.old) }
+    ensures same { R.through source.new ≡ R.through source.old }
+{
+    let mut bytes = [0u8; 8];
+    fill(source, &mut bytes)?;
+    let name = [bytes[0], bytes[1], bytes[2], bytes[3]];
+    let size = u32::from_le_bytes([bytes[4], bytes[5], bytes[6], bytes[7]]);
+    Ok((name, u64::from(size)))
+}
+
+/// Whether the bytes begin as a WebP file does.
+pub fn is_webp(bytes: &[u8]) -> bool
+    ensures { result ≡ begins_webp bytes.now }
+{
+    bytes.len() >= 12 && bytes[..4] == b"RIFF"[..] && bytes[8..12] == b"WEBP"[..]
+}
+
+// The room behind the header of a file.
+fn room_of_body<R: Source>(source: &mut R) -> Result<u64, Error>
+    ensures room { IfOk result (λ room. WhereTold (R.left source.old) (R.left source.new)
+        (λ xs ys. webp_answer xs ≡ body_answer room ys)) }
+    ensures refused { IfErr result (λ e. IfSome (R.left source.old) (λ xs. Fails e (webp_answer xs))) }
+    ensures no_memory { result ≢ Err OutOfMemory }
+    ensures count { R.failures source.new ≡ count_after (is_io result) (R.failures source.old) }
+    ensures same { R.through source.new ≡ R.through source.old }
+{
+    let mut bytes = [0u8; 12];
+    fill(source, &mut bytes)?;
+    if !is_webp(&bytes) {
+        return Err(Error::InvalidFormat("Not a WebP file"));
+    }
+    let size = LittleEndian::loadu32(&bytes, 4);
+    if size < 4 {
+        return Err(Error::InvalidFormat("Invalid header file size"));
+    }
+    Ok(u64::from(size - 4))
+}
+
+// The next chunk of a body with so much room left.
+fn next_chunk<R: Source>(alloc: Global, source: &mut R, room: u64) -> Result<Step, Error>
+    requires { 0 < room }
+    ensures chunk { IfOk result (λ step. WhereTold (R.left source.old) (R.left source.new)
+        (λ xs ys. chunk_at room xs ≡ Ok (chunk_of step ys))) }
+    ensures refused { IfErr result (λ e. IfSome (R.left source.old) (λ xs. Fails e (chunk_at room xs))) }
+    ensures fewer { IfOk result (LeavesAtMost (room - 8)) }
+    ensures room { OnOk result (8 ≤ room) }
+    ensures count { R.failures source.new ≡ count_after (is_io result) (R.failures source.old) }
+    ensures same { R.through source.new ≡ R.through source.old }
+{
+    if room < 8 {
+        return Err(Error::InvalidFormat("Chunk overflowing parent"));
+    }
+    let (name, size) = header(source)?;
+    let step = body(alloc, source, name, size, room - 8)?;
+    Ok(step)
+}
+
+/// The payload of the first chunk named `EXIF`. What follows it is left in the source.
+///
+/// Refusals: `Not a WebP file`, `Invalid header file size`, `Chunk overflowing parent`, NotFound `WebP`
+/// where the file's body is used up, and `Broken WebP file` where the bytes end before. What is skipped
+/// takes no memory. After an error, how far the source was read is left open.
+pub fn get_exif_attr<R: Source>(alloc: Global, source: &mut R) -> Result<Vec<u8>, Error>
+    ensures found { IfOk result (λ v. WhereTold (R.left source.old) (R.left source.new)
+        (λ xs ys. webp_answer xs ≡ found v.items ys)) }
+    ensures refused { IfErr result (λ e. IfSome (R.left source.old) (λ xs. Fails e (webp_answer xs))) }
+    ensures count { R.failures source.new ≡ count_after (is_io result) (R.failures source.old) }
+    ensures same { R.through source.new ≡ R.through source.old }
+{
+    let mut room = room_of_body(source)?;
+    while room > 0 {
+        match next_chunk(alloc, source, room)? {
+            Step::Exif(payload) => return Ok(payload),
+            Step::Other(rest) => room = rest,
+        }
+    }
+    Err(Error::NotFound("WebP"))
+}
