@@ -5,3 +5,12 @@ pub mod Outcomes
 pub mod RunSteps
 pub mod WriterGrowth
 pub mod WriterRanges
+pub mod WriterLaid
+pub mod WriterLoops
+pub mod WriterMeasured
+pub mod WriterMoved
+pub mod WriterOrder
+pub mod WriterRunning
+pub mod WriterSent
+pub mod WriterSizes
+pub mod FileLaws

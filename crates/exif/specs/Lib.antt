@@ -1,7 +1,12 @@
 pub mod Bounds
+pub mod Files
 pub mod Readings
 pub mod Results
 pub mod Running
 pub mod StopErrors
 pub mod Stops
 pub mod WriterViews
+pub mod WriterMeasure
+pub mod WriterPlans
+pub mod WriterRunning
+pub mod WriterSending

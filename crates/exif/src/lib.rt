@@ -3,6 +3,7 @@
 
 mod bytes;
 mod directory;
+pub mod laws;
 mod parser;
 mod reader;
 mod stop;
@@ -10,6 +11,7 @@ mod tiff;
 mod writer;
 
 pub use exif_base::{Counted, Items, Sink, Source};
+pub use exif_containers::get_exif_attr_from_jpeg;
 pub use exif_types::{
     Context, Error, Exif, Field, Fields, In, PartialResult, Rational, SRational, Tag, UIntIter,
     UIntValue, Value,

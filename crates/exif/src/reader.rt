@@ -1,14 +1,20 @@
 //! Readers of Exif metadata.
 
-ghost use Rattle.std.specs.Prelude.{◌≡◌, All, map, IfOk, None, Some, false};
+ghost use Rattle.std.specs.Prelude.{◌≡◌, ⊤, All, map, IfOk, IfErr, IfSome, MatchOption, None, Some, false};
+ghost use Rattle.exif_base.specs.Device.{count_after};
 ghost use Rattle.exif_types.specs.Failures.{told_text, bytes_of, IsInvalidFormat};
+ghost use Rattle.exif_types.specs.Refusals.{Gives, IsInterrupted, is_io, refusal_of};
 ghost use Rattle.exif_format.specs.Faults.{text_of};
 ghost use Rattle.exif_format.specs.Answers.{raw_answer};
+ghost use Rattle.exif_containers.specs.Container.{container_answer};
 ghost use Rattle.exif.specs.Bounds.{most_reports, ReportsAtMost};
+ghost use Rattle.exif.specs.Files.{ReadsContainer};
 ghost use Rattle.exif.specs.Readings.{ReadsAs};
 
 use crate::bytes::show_bytes;
 use crate::tiff;
+use exif_base::Source;
+use exif_containers::exif_attr_of_stream;
 use exif_format::Fault;
 use exif_types::{Error, Exif, PartialResult};
 use std::alloc::{AllocError, Global};
@@ -39,6 +45,18 @@ fn errors_of(alloc: Global, faults: &[Fault]) -> Result<Vec<Error>, AllocError>
         errors.push(Error::InvalidFormat(fault.message()))?;
     }
     Ok(errors)
+}
+
+// The TIFF data that a container holds.
+fn container_data<R: Source>(alloc: Global, source: &mut R) -> Result<Vec<u8>, Error>
+    ensures gives { IfSome (R.left source.old) (λ bytes. Gives (λ v. v.items) result (container_answer bytes)) }
+    ensures interrupted { IfErr result (λ e. MatchOption (refusal_of e) (IsInterrupted e) (λ _. ⊤)) }
+    ensures count { R.failures source.new ≡ count_after (is_io result) (R.failures source.old) }
+{
+    match exif_attr_of_stream(alloc, source) {
+        Err(Error::PartialResult(_partial)) => Err(Error::OutOfMemory),
+        answer => answer,
+    }
 }
 
 impl Reader {
@@ -80,6 +98,24 @@ impl Reader {
     {
         show_bytes(bytes.as_slice());
         self.read(alloc, bytes)
+    }
+
+    /// Reads the Exif data of a picture: TIFF data, or a JPEG, HEIF or WebP file. The first 4096
+    /// bytes choose, whatever the cuts. Behind the container's data all is as `read_raw` has it; a
+    /// refusal of the container is the answer in either mode. How far the source was read is left
+    /// open.
+    pub fn read_from_container<R: Source>(
+        &self,
+        alloc: Global,
+        source: &mut R,
+    ) -> Result<Exif, Error>
+        ensures reads { IfSome (R.left source.old)
+            (λ bytes. ReadsContainer (raw_answer self.now.lenient self.now.limit) (container_answer bytes) result) }
+        ensures count { R.failures source.new ≡ count_after (is_io result) (R.failures source.old) }
+    {
+        let bytes = container_data(alloc, source)?;
+        let exif = self.read(alloc, bytes)?;
+        Ok(exif)
     }
 
     fn read(&self, alloc: Global, bytes: Vec<u8>) -> Result<Exif, Error>

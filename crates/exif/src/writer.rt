@@ -4,7 +4,13 @@ ghost use Rattle.std.specs.Prelude.{◌≡◌, ◌<◌, [], OnOk, OnErr, IfErr};
 ghost use Rattle.exif_format.specs.Groups.{pushed, strips_set, tiles_set, jpeg_set};
 ghost use Rattle.exif.specs.WriterViews.{texts_in, grown};
 
+mod directory;
+mod forward;
 mod groups;
+mod image;
+mod item;
+mod measure;
+mod plan;
 mod ranges;
 
 use exif_types::{Error, Field, In};

@@ -1,8 +1,15 @@
+pub mod BoxTrees
+pub mod Boxes
+pub mod Children
+pub mod ContainerSteps
+pub mod FileBoxes
+pub mod Filling
 pub mod JpegCalls
 pub mod JpegMoves
 pub mod JpegTrees
 pub mod JpegUnits
 pub mod Refusing
+pub mod Times
 pub mod WebpChunks
 pub mod WebpTrees
 pub mod Within

@@ -1,6 +1,17 @@
 pub mod Answer
+pub mod BoxGrammar
+pub mod Boxes
+pub mod Container
+pub mod FileBoxView
+pub mod Heif
+pub mod HeifFile
+pub mod HeifRefusals
+pub mod Items
 pub mod Jpeg
 pub mod JpegGrammar
+pub mod Kinds
+pub mod Places
+pub mod TablesView
 pub mod Webp
 pub mod WebpGrammar
 pub mod WebpSteps

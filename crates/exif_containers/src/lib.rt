@@ -1,6 +1,8 @@
-//! The Exif data in container files: JPEG streams and WebP files.
+//! The Exif data in container files: JPEG streams, HEIF files and WebP files.
 #![tactic(auto)]
 
+pub mod container;
+pub mod isobmff;
 pub mod jpeg;
 pub mod laws;
 #[cfg(test)]
@@ -8,4 +10,5 @@ mod tests;
 pub mod util;
 pub mod webp;
 
+pub use container::exif_attr_of_stream;
 pub use jpeg::get_exif_attr_from_jpeg;

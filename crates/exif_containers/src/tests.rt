@@ -1,5 +1,7 @@
-//! Worked rows, whole and one byte a read; fronts that are refused; readers that fail at each call.
+//! Worked examples, whole and one byte a read; fronts that are refused; readers that fail at each call.
 
+mod container;
+mod heif;
 mod streams;
 
 use exif_base::Counted;
@@ -7,7 +9,7 @@ use exif_types::Error;
 use std::io;
 use std::io::{ErrorKind, Read};
 
-/// What a row's bytes give: a payload, or the text of the refusal.
+/// What an example's bytes give: a payload, or the text of the refusal.
 type Answer = Result<&'static [u8], &'static str>;
 
 /// A reader of one byte a call, which fails from some call on.
@@ -42,7 +44,7 @@ fn one_byte(bytes: &[u8], good_calls: usize, kind: ErrorKind) -> Counted<OneByte
     })
 }
 
-/// Whether a result is a row's answer.
+/// Whether a result is this answer.
 fn is_answer(got: &Result<Vec<u8>, Error>, want: Result<&[u8], &str>) -> bool {
     match (got, want) {
         (Ok(payload), Ok(bytes)) => payload.as_slice() == bytes,

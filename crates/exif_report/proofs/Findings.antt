@@ -1,38 +1,72 @@
 -- What a reading answers is what a report needs.
-use Rattle.std.proofs.Common.{◌≡◌, ◌⊎◌, inl, inr, ℕ, List, [], ◌∷◌, ◌++◌, length, map, Option, Some, None, Result, Ok, Err, refl, sym, ◌∙◌, ap, subst}
+use Rattle.std.proofs.Common.{◌≡◌, ◌⊎◌, inl, inr, ℕ, List, [], ◌∷◌, ◌++◌, length, map, Option, Some, None, Result, Ok, Err, MatchOption, refl, sym, ◌∙◌, ap, subst}
 use Rattle.std.proofs.lemmas.List.{append-nil, length-map}
-use Rattle.std.specs.Prelude.{Vec, OnErr}
+use Rattle.std.specs.Prelude.{Vec, OnErr, IfSome}
 use Rattle.std.specs.Borrow.{Bor}
 use Rattle.std.specs.Global.{Global}
 use Rattle.std.specs.List.{flat_map}
 use Rattle.std.specs.Io.KnownBytes.{Appends, Keeps}
 use Rattle.exif_base.specs.Sent.{SendsFront}
-use Rattle.exif_base.specs.Told.{TakesAll}
 use Rattle.exif_base.proofs.Sent.{appends_more, front_whole}
 use Rattle.exif_types.specs.Contents.{ExifContents, PartialContents}
 use Rattle.exif_types.specs.Failures.{Failure, told_text, bytes_of}
-use Rattle.exif_types.specs.Refusals.{IsInterrupted}
+use Rattle.exif_types.specs.Refusals.{Refusal, refusal_of, IsInterrupted}
 use Rattle.exif_types.specs.declared.error.Error.TheVariants as error
 use Rattle.exif_types.specs.declared.field.Field.{Field}
 use Rattle.exif_format.specs.Answers.{Answer, Refused, Whole, Partial}
 use Rattle.exif_format.specs.Faults.{text_of}
 use Rattle.exif_format.specs.declared.fault.Fault.{Fault}
-use Rattle.exif.specs.Readings.{ReadsAs}
+use Rattle.exif.specs.Files.{ReadsContainer, IsRefusal}
 use Rattle.exif_report.specs.Lines.{field_line, fault_line, error_line}
-use Rattle.exif_report.specs.Reports.{Finds, Holds, Reports, WhenTold, IsRefusedAs, answer_text, fault_count}
+use Rattle.exif_report.specs.Reports.{Finds, Holds, HoldsAnswer, Reports, WritesWhole, IsRefusedAs, given_by, report_text, answer_text, fault_count}
 
--- what was found in the bytes taken was found in those that were told
-pub told_finds : (left : Option (List ℕ)) (taken : List ℕ) (answer : List ℕ → Answer) (found : Result (ExifContents × Vec Failure Global) Failure)
-    → TakesAll left [] taken → Finds (answer taken) found → WhenTold left (λ bytes. Finds (answer bytes) found)
-told_finds None taken answer found t f = tt
-told_finds (Some bytes) taken answer found t f =
-    let P : List ℕ → Type 0 = λ xs. Finds (answer xs) found in subst P t f
+-- ---- what was read of a container
 
--- a partial result has the fields and the faults of its answer
-pub partial_holds : (answer : Answer) (bytes : List ℕ) (partial : PartialContents (Bor (List ℕ))) (exif : ExifContents) (errors : List Failure)
-    → ReadsAs answer bytes (Err (error.PartialResult partial)) → exif ≡ partial.exif → map told_text errors ≡ partial.faults → Holds answer exif errors
-partial_holds answer bytes partial exif errors h same told =
+-- all the fields
+pub finds_whole : (answer : List ℕ → Answer) (container : Result (List ℕ) Refusal) (exif : ExifContents) (errors : List Failure) → errors ≡ []
+    → ReadsContainer answer container (Ok exif) → HoldsAnswer (given_by answer container) exif errors
+finds_whole answer (Ok bytes) exif errors none h = rw (h.0) (refl, none)
+finds_whole answer (Err r) exif errors none h = h
+
+-- the fields and the faults of a partial result
+pub finds_partial : (answer : List ℕ → Answer) (container : Result (List ℕ) Refusal) (partial : PartialContents (Bor (List ℕ))) (exif : ExifContents) (errors : List Failure)
+    → ReadsContainer answer container (Err (error.PartialResult partial)) → exif ≡ partial.exif → map told_text errors ≡ partial.faults
+    → HoldsAnswer (given_by answer container) exif errors
+finds_partial answer (Ok bytes) partial exif errors h same told =
     rw (h.1) (ap (λ (e : ExifContents). e.fields) same, ap (map bytes_of) told ∙ h.2)
+finds_partial answer (Err r) partial exif errors h same told = h
+
+-- an error
+abbrev pub RefusedBy : (List ℕ → Answer) → Result (List ℕ) Refusal → Refusal → Type 0
+RefusedBy answer (Ok bytes) r = IsRefusal (answer bytes) r
+RefusedBy answer (Err q) r = r ≡ q
+
+by_refusal : (e : Failure) (o : Option Refusal) (P : Refusal → Type 0) (Q : Type 0) → refusal_of e ≡ o → ((r : Refusal) → refusal_of e ≡ Some r → P r → Q)
+    → MatchOption o (IsInterrupted e) P → Q ⊎ IsInterrupted e
+by_refusal e None P Q is found h = inr h
+by_refusal e (Some r) P Q is found h = inl (found r is h)
+
+same_refusal : (e : Failure) (q r : Refusal) → refusal_of e ≡ Some q → q ≡ r → refusal_of e ≡ Some r
+same_refusal e q r is same = is ∙ ap (λ x. Some x) same
+
+pub finds_error : (answer : List ℕ → Answer) (container : Result (List ℕ) Refusal) (e : Failure)
+    → MatchOption (refusal_of e) (IsInterrupted e) (RefusedBy answer container) → Finds (given_by answer container) (Err e)
+finds_error answer (Ok bytes) e h = by_refusal e (refusal_of e) (IsRefusal (answer bytes)) (IsRefusedAs (Ok (answer bytes)) e) refl (λ r is p. (r, is, p)) h
+finds_error answer (Err r) e h = by_refusal e (refusal_of e) (λ q. q ≡ r) (IsRefusedAs (Err r) e) refl (λ q is p. same_refusal e q r is p) h
+
+-- an error that is no partial result
+pub other_error : (answer : List ℕ → Answer) (container : Result (List ℕ) Refusal) (e : Failure) → ((partial : PartialContents (Bor (List ℕ))) → e ≡ error.PartialResult partial → ⊥)
+    → ReadsContainer answer container (Err e) → Finds (given_by answer container) (Err e)
+other_error answer (Err r) e differs h = finds_error answer (Err r) e h
+other_error answer (Ok bytes) (error.PartialResult x) differs h = absurd (differs x refl)
+other_error answer (Ok bytes) error.OutOfMemory differs h = finds_error answer (Ok bytes) error.OutOfMemory h
+other_error answer (Ok bytes) (error.InvalidFormat x) differs h = finds_error answer (Ok bytes) (error.InvalidFormat x) h
+other_error answer (Ok bytes) (error.Io x) differs h = finds_error answer (Ok bytes) (error.Io x) h
+other_error answer (Ok bytes) (error.NotFound x) differs h = finds_error answer (Ok bytes) (error.NotFound x) h
+other_error answer (Ok bytes) (error.BlankValue x) differs h = finds_error answer (Ok bytes) (error.BlankValue x) h
+other_error answer (Ok bytes) (error.TooBig x) differs h = finds_error answer (Ok bytes) (error.TooBig x) h
+other_error answer (Ok bytes) (error.NotSupported x) differs h = finds_error answer (Ok bytes) (error.NotSupported x) h
+other_error answer (Ok bytes) (error.UnexpectedValue x) differs h = finds_error answer (Ok bytes) (error.UnexpectedValue x) h
 
 -- ---- what is written for what was found
 
@@ -83,31 +117,43 @@ read_text : (exif : ExifContents) (fields : List Field) (errors faults : List Fa
     → flat_map field_line fields ++ flat_map error_line faults ≡ flat_map field_line exif.fields ++ flat_map error_line errors
 read_text exif fields errors faults e f = rw (e, f) refl
 
--- all that was found was written
-pub reports_whole : (left old new : Option (List ℕ)) (answer : List ℕ → Answer) (exif : ExifContents) (errors : Vec Failure Global) (fields : List Field) (faults : List Failure)
-    → WhenTold left (λ bytes. Finds (answer bytes) (Ok (exif, errors))) → fields ≡ exif.fields → faults ≡ errors.items
-    → Appends old new (flat_map field_line fields ++ flat_map error_line faults) → WhenTold left (λ bytes. Reports (answer bytes) (Ok (length faults)) old new)
-reports_whole None old new answer exif errors fields faults h e f sent = tt
-reports_whole (Some bytes) old new answer exif errors fields faults h e f sent =
+whole_of : (answer : Result Answer Refusal) (old new : Option (List ℕ)) (exif : ExifContents) (errors : List Failure) (fields : List Field) (faults : List Failure)
+    → HoldsAnswer answer exif errors → fields ≡ exif.fields → faults ≡ errors
+    → Appends old new (flat_map field_line fields ++ flat_map error_line faults) → WritesWhole answer (length faults) old new
+whole_of (Err r) old new exif errors fields faults h e f sent = h
+whole_of (Ok answer) old new exif errors fields faults h e f sent =
     let P : List ℕ → Type 0 = λ text. Appends old new text in
-    (found_is_whole (answer bytes) exif errors.items h, ap length f ∙ found_count (answer bytes) exif errors.items h, subst P (read_text exif fields errors.items faults e f ∙ found_text (answer bytes) exif errors.items h) sent)
+    (found_is_whole answer exif errors h, ap length f ∙ found_count answer exif errors h, subst P (read_text exif fields errors faults e f ∙ found_text answer exif errors h) sent)
+
+-- all that was found was written
+pub reports_whole : (left old new : Option (List ℕ)) (answer : List ℕ → Result Answer Refusal) (exif : ExifContents) (errors : Vec Failure Global) (fields : List Field) (faults : List Failure)
+    → IfSome left (λ bytes. Finds (answer bytes) (Ok (exif, errors))) → fields ≡ exif.fields → faults ≡ errors.items
+    → Appends old new (flat_map field_line fields ++ flat_map error_line faults) → IfSome left (λ bytes. Reports (answer bytes) (Ok (length faults)) old new)
+reports_whole None old new answer exif errors fields faults h e f sent = tt
+reports_whole (Some bytes) old new answer exif errors fields faults h e f sent = whole_of (answer bytes) old new exif errors.items fields faults h e f sent
+
+front_of : (answer : Result Answer Refusal) (old new : Option (List ℕ)) (exif : ExifContents) (errors : List Failure) (fields : List Field) (faults : List Failure)
+    → HoldsAnswer answer exif errors → fields ≡ exif.fields → faults ≡ errors
+    → SendsFront old new (flat_map field_line fields ++ flat_map error_line faults) → SendsFront old new (report_text answer)
+front_of (Err r) old new exif errors fields faults h e f front = absurd h
+front_of (Ok answer) old new exif errors fields faults h e f front =
+    let P : List ℕ → Type 0 = λ text. SendsFront old new text in
+    subst P (read_text exif fields errors faults e f ∙ found_text answer exif errors h) front
 
 -- the writing was interrupted
-pub reports_front : (left old new : Option (List ℕ)) (answer : List ℕ → Answer) (exif : ExifContents) (errors : Vec Failure Global) (fields : List Field) (faults : List Failure) (e : Failure)
-    → WhenTold left (λ bytes. Finds (answer bytes) (Ok (exif, errors))) → IsInterrupted e → fields ≡ exif.fields → faults ≡ errors.items
-    → SendsFront old new (flat_map field_line fields ++ flat_map error_line faults) → WhenTold left (λ bytes. Reports (answer bytes) (Err e) old new)
+pub reports_front : (left old new : Option (List ℕ)) (answer : List ℕ → Result Answer Refusal) (exif : ExifContents) (errors : Vec Failure Global) (fields : List Field) (faults : List Failure) (e : Failure)
+    → IfSome left (λ bytes. Finds (answer bytes) (Ok (exif, errors))) → IsInterrupted e → fields ≡ exif.fields → faults ≡ errors.items
+    → SendsFront old new (flat_map field_line fields ++ flat_map error_line faults) → IfSome left (λ bytes. Reports (answer bytes) (Err e) old new)
 reports_front None old new answer exif errors fields faults e h i k f front = tt
-reports_front (Some bytes) old new answer exif errors fields faults e h i k f front =
-    let P : List ℕ → Type 0 = λ text. SendsFront old new text in
-    inr (i, subst P (read_text exif fields errors.items faults k f ∙ found_text (answer bytes) exif errors.items h) front)
+reports_front (Some bytes) old new answer exif errors fields faults e h i k f front = inr (i, front_of (answer bytes) old new exif errors.items fields faults h k f front)
 
-read_none : (answer : Answer) (old : Option (List ℕ)) (e : Failure) → (IsRefusedAs answer e) ⊎ (IsInterrupted e) → Reports answer (Err e) old old
+read_none : (answer : Result Answer Refusal) (old : Option (List ℕ)) (e : Failure) → (IsRefusedAs answer e) ⊎ (IsInterrupted e) → Reports answer (Err e) old old
 read_none answer old e (inl refused) = inl (refused, keeps_same old)
-read_none answer old e (inr interrupted) = inr (interrupted, front_none old (answer_text answer))
+read_none answer old e (inr interrupted) = inr (interrupted, front_none old (report_text answer))
 
 -- nothing was read
-pub reports_none : (left old : Option (List ℕ)) (answer : List ℕ → Answer) (e : Failure)
-    → WhenTold left (λ bytes. Finds (answer bytes) (Err e)) → WhenTold left (λ bytes. Reports (answer bytes) (Err e) old old)
+pub reports_none : (left old : Option (List ℕ)) (answer : List ℕ → Result Answer Refusal) (e : Failure)
+    → IfSome left (λ bytes. Finds (answer bytes) (Err e)) → IfSome left (λ bytes. Reports (answer bytes) (Err e) old old)
 reports_none None old answer e h = tt
 reports_none (Some bytes) old answer e h = read_none (answer bytes) old e h
 

@@ -1,38 +1,21 @@
 //! The report of a file: a line for each field, and one for each fault that was passed over.
 
-ghost use Rattle.std.specs.Prelude.{◌≡◌, ◌++◌, All, Bool, ℕ, List, [], OnOk, OnErr, IfOk, IfErr, None, Some, true, false, is_err, length};
+ghost use Rattle.std.specs.Prelude.{◌≡◌, ◌++◌, All, ℕ, List, OnOk, OnErr, IfOk, IfErr, IfSome, None, Some, Result, Ok, Err};
 ghost use Rattle.std.specs.List.{flat_map};
-ghost use Rattle.std.specs.Io.KnownBytes.{Appends, Keeps};
+ghost use Rattle.std.specs.Io.KnownBytes.{Appends};
 ghost use Rattle.exif_base.specs.Device.{count_after};
 ghost use Rattle.exif_base.specs.Sent.{SendsFront};
-ghost use Rattle.exif_base.specs.Told.{TakesAll};
 ghost use Rattle.exif_types.specs.Failures.{IsInvalidFormat};
-ghost use Rattle.exif_types.specs.Refusals.{is_io, IsInterrupted};
-ghost use Rattle.exif_format.specs.Answers.{Answer, raw_answer};
-ghost use Rattle.exif.specs.Readings.{ReadsAs};
+ghost use Rattle.exif_types.specs.Refusals.{Refusal, is_io, is_io_error, IsInterrupted};
+ghost use Rattle.exif_format.specs.Answers.{Answer};
+ghost use Rattle.exif.specs.Files.{ReadsContainer, file_answer};
 ghost use Rattle.exif_report.specs.Lines.{field_line, error_line};
-ghost use Rattle.exif_report.specs.Reports.{WhenTold, Finds, Reports, CountsBoth};
+ghost use Rattle.exif_report.specs.Reports.{Finds, Reports, CountsBoth, given_by};
 
 use crate::lines::{set_error_line, set_field_line};
 use exif::{Error, Exif, Field, Reader, Sink, Source};
-use exif_base::{ReadFault, read_to_end, send_all};
+use exif_base::send_all;
 use std::alloc::Global;
-
-/// All the bytes that the reader has left.
-fn read_all<R: Source>(alloc: Global, reader: &mut R) -> Result<Vec<u8>, Error>
-    ensures taken { IfOk result (λ bytes. TakesAll (R.left reader.old) [] bytes.items) }
-    ensures interrupted { IfErr result IsInterrupted }
-    ensures count { R.failures reader.new ≡ count_after (is_io result) (R.failures reader.old) }
-    ensures same { R.through reader.new ≡ R.through reader.old }
-{
-    let mut bytes = Vec::new(alloc);
-    match read_to_end(reader, &mut bytes) {
-        Ok(()) => Ok(bytes),
-        Err(ReadFault::Io(cause)) => Err(Error::Io(cause)),
-        Err(ReadFault::OutOfMemory) => Err(Error::OutOfMemory),
-        Err(ReadFault::End) => unreachable!(),
-    }
-}
 
 /// Writes a line for each field.
 #[tactic(auto, using(exif_base::proofs::Loops::front_item, exif_base::proofs::Loops::front_between, exif_base::proofs::Loops::sent_item))]
@@ -69,31 +52,42 @@ fn write_errors<W: Sink>(alloc: Global, errors: &[Error], out: &mut W) -> Result
     Ok(())
 }
 
+/// The fields and the faults of a partial result. Any other error stays what it is.
+fn passed_over(error: Error) -> Result<(Exif, Vec<Error>), Error>
+    ensures finds { (expected : List ℕ → Answer) (container : Result (List ℕ) Refusal)
+        → ReadsContainer expected container (Err error.entry) → Finds (given_by expected container) result }
+    ensures invalid { IfOk result (λ found. All IsInvalidFormat found.1.items) }
+    ensures io { is_io result ≡ is_io_error error.entry }
+{
+    match error {
+        Error::PartialResult(partial) => {
+            let (exif, errors) = partial.into_inner();
+            Ok((exif, errors))
+        }
+        other => Err(other),
+    }
+}
+
 /// The fields that were read, and the faults that were passed over.
 fn found_of(alloc: Global, answer: Result<Exif, Error>) -> Result<(Exif, Vec<Error>), Error>
-    ensures finds { (expected : Answer) (bytes : List ℕ) → ReadsAs expected bytes answer.entry → Finds expected result }
+    ensures finds { (expected : List ℕ → Answer) (container : Result (List ℕ) Refusal)
+        → ReadsContainer expected container answer.entry → Finds (given_by expected container) result }
     ensures invalid { IfOk result (λ found. All IsInvalidFormat found.1.items) }
     ensures io { is_io result ≡ is_io answer.entry }
 {
     match answer {
         Ok(exif) => Ok((exif, Vec::new(alloc))),
-        Err(Error::PartialResult(partial)) => {
-            let (exif, errors) = partial.into_inner();
-            Ok((exif, errors))
-        }
-        Err(error) => Err(error),
+        Err(error) => passed_over(error),
     }
 }
 
-/// What is read of all the bytes: the fields, and the faults that were passed over.
+/// What is read of a file: the fields, and the faults that were passed over.
 fn read<R: Source>(alloc: Global, by: &Reader, reader: &mut R) -> Result<(Exif, Vec<Error>), Error>
-    ensures finds { WhenTold (R.left reader.old) (λ bytes. Finds (raw_answer by.now.lenient by.now.limit bytes) result) }
+    ensures finds { IfSome (R.left reader.old) (λ bytes. Finds (file_answer by.now.lenient by.now.limit bytes) result) }
     ensures invalid { IfOk result (λ found. All IsInvalidFormat found.1.items) }
     ensures count { R.failures reader.new ≡ count_after (is_io result) (R.failures reader.old) }
-    ensures same { R.through reader.new ≡ R.through reader.old }
 {
-    let bytes = read_all(alloc, reader)?;
-    let found = found_of(alloc, by.read_raw(alloc, bytes))?;
+    let found = found_of(alloc, by.read_from_container(alloc, reader))?;
     Ok(found)
 }
 
@@ -125,10 +119,9 @@ fn report_by<R: Source, W: Sink>(
     reader: &mut R,
     out: &mut W,
 ) -> Result<u64, Error>
-    ensures reports { WhenTold (R.left reader.old) (λ bytes. Reports (raw_answer by.now.lenient by.now.limit bytes) result (W.taken out.old) (W.taken out.new)) }
+    ensures reports { IfSome (R.left reader.old) (λ bytes. Reports (file_answer by.now.lenient by.now.limit bytes) result (W.taken out.old) (W.taken out.new)) }
     ensures count { CountsBoth (R.failures reader.old) (R.failures reader.new) (W.failures out.old) (W.failures out.new) (is_io result) }
-    ensures read_through { R.through reader.new ≡ R.through reader.old }
-    ensures written_through { W.through out.new ≡ W.through out.old }
+    ensures same { W.through out.new ≡ W.through out.old }
 {
     let (exif, errors) = read(alloc, by, reader)?;
     let faults = errors.as_slice();
@@ -136,11 +129,11 @@ fn report_by<R: Source, W: Sink>(
     Ok(faults.len() as u64)
 }
 
-/// Writes what TIFF data hold: one line a field, with its tag, its directory and its value. A
+/// Writes what the Exif data of a picture say (TIFF data, or a JPEG, HEIF or WebP file): one line a field, with its tag, its directory and its value. A
 /// lenient report passes over soft faults, and writes one line for each behind the fields.
 /// Answers how many faults were passed over.
 ///
-/// Where the data are refused nothing is written. Where memory or a device fails, a front of the
+/// Where the file is refused nothing is written. Where memory or a device fails, a front of the
 /// report may stand out.
 pub fn report<R: Source, W: Sink>(
     alloc: Global,
@@ -148,10 +141,9 @@ pub fn report<R: Source, W: Sink>(
     out: &mut W,
     lenient: bool,
 ) -> Result<u64, Error>
-    ensures reports { WhenTold (R.left reader.old) (λ bytes. Reports (raw_answer lenient None bytes) result (W.taken out.old) (W.taken out.new)) }
+    ensures reports { IfSome (R.left reader.old) (λ bytes. Reports (file_answer lenient None bytes) result (W.taken out.old) (W.taken out.new)) }
     ensures count { CountsBoth (R.failures reader.old) (R.failures reader.new) (W.failures out.old) (W.failures out.new) (is_io result) }
-    ensures read_through { R.through reader.new ≡ R.through reader.old }
-    ensures written_through { W.through out.new ≡ W.through out.old }
+    ensures same { W.through out.new ≡ W.through out.old }
 {
     let mut by = Reader::new();
     by.continue_on_error(lenient);
@@ -167,10 +159,9 @@ pub fn report_limited<R: Source, W: Sink>(
     lenient: bool,
     limit: u64,
 ) -> Result<u64, Error>
-    ensures reports { WhenTold (R.left reader.old) (λ bytes. Reports (raw_answer lenient (Some limit) bytes) result (W.taken out.old) (W.taken out.new)) }
+    ensures reports { IfSome (R.left reader.old) (λ bytes. Reports (file_answer lenient (Some limit) bytes) result (W.taken out.old) (W.taken out.new)) }
     ensures count { CountsBoth (R.failures reader.old) (R.failures reader.new) (W.failures out.old) (W.failures out.new) (is_io result) }
-    ensures read_through { R.through reader.new ≡ R.through reader.old }
-    ensures written_through { W.through out.new ≡ W.through out.old }
+    ensures same { W.through out.new ≡ W.through out.old }
 {
     let mut by = Reader::new();
     by.continue_on_error(lenient).limit_entries(limit);

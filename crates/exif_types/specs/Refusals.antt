@@ -1,5 +1,5 @@
 -- Refusals: what an error says of the bytes, and steps that may be refused, one after another.
-use Rattle.std.specs.Prelude.{◌≡◌, ◌⊎◌, ℕ, List, [], ◌∷◌, ◌++◌, Bool, true, false, Option, Some, None, Result, Ok, Err, MatchOption}
+use Rattle.std.specs.Prelude.{◌≡◌, ⊤, ℕ, List, [], ◌∷◌, ◌++◌, Bool, true, false, Option, Some, None, Result, Ok, Err, MatchOption}
 use Rattle.std.specs.List.{last_or}
 use Rattle.exif_types.specs.Failures.{Failure}
 use Rattle.exif_types.specs.declared.error.Error.TheVariants as error
@@ -39,7 +39,9 @@ is_io_error error.OutOfMemory = false
 
 -- memory or a device failed
 abbrev pub IsInterrupted : Failure → Type 0
-IsInterrupted e = (is_io_error e ≡ true) ⊎ (e ≡ error.OutOfMemory)
+IsInterrupted (error.Io cause) = ⊤
+IsInterrupted error.OutOfMemory = ⊤
+IsInterrupted _ = ⊥
 
 abbrev pub is_io : {T : Type 0} → Result T Failure → Bool
 is_io (Ok x) = false

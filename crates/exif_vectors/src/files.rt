@@ -49,3 +49,26 @@ pub const EVERY_TYPE_BIG: &[u8] =
 /// A value of each of the twelve types, of a thirteenth and of no text, little endian.
 pub const EVERY_TYPE_LITTLE: &[u8] =
     b"II*\0\x08\0\0\0\x0e\0\xe8\xfd\x01\0\x03\0\0\0\x01\x02\xff\0\xe9\xfd\x02\0\x04\0\0\0a\0\0b\xea\xfd\x03\0\x03\0\0\0\xb6\0\0\0\xeb\xfd\x04\0\x02\0\0\0\xbc\0\0\0\xec\xfd\x05\0\x01\0\0\0\xc4\0\0\0\xed\xfd\x06\0\x02\0\0\0\xfe\x7f\0\0\xee\xfd\x07\0\x02\0\0\0\x0a\xff\0\0\xef\xfd\x08\0\x02\0\0\0\xfe\xff\xff\x7f\xf0\xfd\x09\0\x01\0\0\0\xfd\xff\xff\xff\xf1\xfd\x0a\0\x01\0\0\0\xcc\0\0\0\xf2\xfd\x0b\0\x01\0\0\0\0\0 @\xf3\xfd\x0c\0\x01\0\0\0\xd4\0\0\0\xf4\xfd\x0d\0\x02\0\0\0\x09\0\0\0\xf5\xfd\x02\0\0\0\0\0\0\0\0\0\0\0\0\0\x01\0\x02\0\xff\xff\x01\0\0\0\xff\xff\xff\xff\x01\0\0\0\x02\0\0\0\xff\xff\xff\xff\xfe\xff\xff\xff\0\0\0\0\0\0\x04@";
+
+/// The image description in the first segment of a JPEG stream.
+pub const JPEG: &[u8] =
+    b"\xff\xd8\xff\xe1\0)Exif\0\0MM\0*\0\0\0\x08\0\x01\x01\x0e\0\x02\0\0\0\x07\0\0\0\x1a\0\0\0\0Sample\0";
+
+/// The image description in a WebP file.
+pub const WEBP: &[u8] =
+    b"RIFF.\0\0\0WEBPEXIF!\0\0\0MM\0*\0\0\0\x08\0\x01\x01\x0e\0\x02\0\0\0\x07\0\0\0\x1a\0\0\0\0Sample\0\0";
+
+/// The image description in a HEIF file.
+pub const HEIF: &[u8] =
+    b"\0\0\0\x14ftypmif1\0\0\0\0mif1\0\0\0Lmeta\0\0\0\0\0\0\0\x1eiloc\0\0\0\0D\0\0\x01\x1e\x1d\0\0\0\x01\0\0\0`\0\0\0%\0\0\0\"iinf\0\0\0\0\0\x01\0\0\0\x14infe\x02\0\0\0\x1e\x1d\0\0Exif\0\0\0\0MM\0*\0\0\0\x08\0\x01\x01\x0e\0\x02\0\0\0\x07\0\0\0\x1a\0\0\0\0Sample\0";
+
+/// A HEIF file whose Exif item holds four bytes.
+pub const HEIF_SHORT_DATA: &[u8] =
+    b"\0\0\0\x09XXXXx\0\0\0\x14ftypmif1\0\0\0\0mif1\0\0\0Wmeta\0\0\0\0\0\0\0\x18iloc\x01\0\0\0\0\0\0\x01\x1e\x1d\0\x01\0\0\0\x01\0\0\0\"iinf\0\0\0\0\0\x01\0\0\0\x14infe\x02\0\0\0\x1e\x1d\0\0Exif\0\0\0\x11idat\0\0\0\x01xabcd";
+
+/// A HEIF file whose Exif item lies behind its end.
+pub const HEIF_EMPTY_ITEM: &[u8] =
+    b"\0\0\0\x14ftypmif1\0\0\0\0mif1\0\0\0Hmeta\0\0\0\0\0\0\0\x1ailoc\0\0\0\0@\0\0\x01\x1e\x1d\0\0\0\x01\0\0\x10\0\0\0\0\"iinf\0\0\0\0\0\x01\0\0\0\x14infe\x02\0\0\0\x1e\x1d\0\0Exif";
+
+/// The first box of a HEIF file.
+pub const HEIF_BRANDS: &[u8] = b"\0\0\0\x14ftypmif1\0\0\0\0mif1";

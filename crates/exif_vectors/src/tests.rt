@@ -1,5 +1,6 @@
 //! Tests that cross crates: what is read of small files, and what is said of them.
 
+mod containers;
 mod devices;
 mod fields;
 mod limits;

@@ -74,7 +74,7 @@ all_accepted (group ∷ groups) h =
     let both = first_none group groups (group_fault group) refl h in
     (accepted group both.0, all_accepted groups both.1)
 
--- what no write_fault says
+-- what is known of groups that are written
 pub record AllAccepted (groups : List Group) : Type 0 where
   pub each : AllByRecursion IsAccepted groups
   pub small : drafts_end 8 (map draft_of groups) ≤ 4294967295

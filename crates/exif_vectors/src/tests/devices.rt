@@ -39,7 +39,7 @@ fn readers(rt: HostRuntime) -> Result<(), Fail> {
             assert!(rt; out.into_inner().is_empty());
         }
     }
-    let mut reader = Counted::new(Slow::new(bytes, bytes.len() + 1, ErrorKind::Other));
+    let mut reader = Counted::new(Slow::new(bytes, bytes.len() + 9, ErrorKind::Other));
     let mut out = Counted::new(Vec::new(alloc));
     assert_eq!(rt; report(alloc, &mut reader, &mut out, false)?, 0);
     assert_eq!(rt; out.into_inner().as_slice(), DESCRIPTION);

@@ -1,0 +1,10 @@
+//! Laws of reading files. They hold for all bytes, and speak of the definitions alone.
+
+ghost use Rattle.std.specs.Prelude.{ℕ, List, Option};
+ghost use Rattle.exif.specs.Files.{StrictIsFirstFaultOfFile};
+
+/// Strict reading of a file gives the first fault of lenient reading, or the same fields where
+/// there is none; a refusal of the container is the answer in both modes.
+pub fn strict_gives_the_first_fault_of_a_file()
+    ensures { (limit : Option ℕ) (bytes : List ℕ) → StrictIsFirstFaultOfFile limit bytes }
+{}

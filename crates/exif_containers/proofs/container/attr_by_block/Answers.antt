@@ -1,0 +1,18 @@
+use Rattle.std.proofs.Common.{◌≡◌, Ok, rules}
+use Rattle.std.proofs.lemmas.Result.{err_from_is_err_and}
+use Rattle.exif_types.specs.Refusals.{Fails}
+use Rattle.exif_containers.proofs.ContainerSteps.{container_holds}
+use Rattle.exif_containers.proofs.container.attr_by_block.Goals as goal
+
+pub returns-in_err-payload-clause-gives : goal.returns-in_err-payload-clause-gives
+returns-in_err-payload-clause-gives g c =
+    let p = err_from_is_err_and c.from_residual-in_err-payload.result c.from_residual-in_err-payload.ensures.1 in
+    let head = c.in_ok-filled.ensures in
+    rw (p.1, p.2) (container_holds (Fails c.in_err-payload.field-0.0) c.in_ok-filled.filled c.read_head.new.block _ _ _
+    head.taken head.bound head.most (search rules) head.end c.format_of-format.ensures c.in_err-payload.ensures.gives)
+
+pub returns-clause-gives : goal.returns-clause-gives
+returns-clause-gives g c =
+    let head = c.in_ok-filled.ensures in
+    container_holds (λ t. t ≡ Ok c.in_ok-payload.payload.items) c.in_ok-filled.filled c.read_head.new.block _ _ _
+    head.taken head.bound head.most (search rules) head.end c.format_of-format.ensures c.in_ok-payload.ensures.gives

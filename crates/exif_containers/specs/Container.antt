@@ -1,0 +1,43 @@
+-- What a stream gives, as the first 4096 bytes say which container it is (TIFF 6.0, section 2; ITU-T
+-- T.81, B.1.1; ISO/IEC 14496-12:2015, 4.3; WebP Container Specification, "WebP File Header").
+use Rattle.std.specs.Prelude.{ℕ, ◌-◌, ◌^◌, List, take, codes, Bool, ◌||◌, if◌then◌else◌, Option, None, Some, Result, Ok, Err}
+use Rattle.std.specs.Str.{bytes_eq}
+use Rattle.exif_types.specs.Refusals.{Refusal, invalid_format, ◌>>=◌}
+use Rattle.exif_containers.specs.declared.container.Format.{Format}
+use Rattle.exif_containers.specs.declared.container.Format.TheVariants.{Tiff, Jpeg, Heif, WebP}
+use Rattle.exif_containers.specs.Answer.{Answer}
+use Rattle.exif_containers.specs.Heif.{exif_of}
+use Rattle.exif_containers.specs.HeifFile.{begins_heif}
+use Rattle.exif_containers.specs.Jpeg.{begins_jpeg, jpeg_answer}
+use Rattle.exif_containers.specs.Webp.{begins_webp, webp_answer}
+
+abbrev pub unknown_format : Refusal
+unknown_format = invalid_format (codes "Unknown image format")
+
+-- whether bytes begin as TIFF data do, in either byte order
+abbrev pub begins_tiff : List ℕ → Bool
+begins_tiff bytes = bytes_eq (take 4 bytes) (codes "MM\0*") || bytes_eq (take 4 bytes) (codes "II*\0")
+
+-- the container that a head begins
+unfoldable pub format_in : List ℕ → Option Format
+format_in head =
+    if begins_tiff head then Some Tiff else
+    (if begins_jpeg head then Some Jpeg else
+    (if begins_heif head then Some Heif else
+    (if begins_webp head then Some WebP else None)))
+
+-- the Exif data alone
+abbrev pub data_of : Answer → Result (List ℕ) Refusal
+data_of answer = answer >>= λ found. Ok found.0
+
+-- what the bytes of a container give; a JPEG stream ends after 2^64 - 1 bytes
+unfoldable pub answer_as : Option Format → List ℕ → Result (List ℕ) Refusal
+answer_as (Some Tiff) bytes = Ok bytes
+answer_as (Some Jpeg) bytes = data_of (jpeg_answer (take (2 ^ 64 - 1) bytes))
+answer_as (Some Heif) bytes = exif_of bytes
+answer_as (Some WebP) bytes = data_of (webp_answer bytes)
+answer_as None bytes = Err unknown_format
+
+-- the first 4096 bytes, or all if there are fewer, choose
+unfoldable pub container_answer : List ℕ → Result (List ℕ) Refusal
+container_answer bytes = answer_as (format_in (take 4096 bytes)) bytes

@@ -1,0 +1,178 @@
+//! The Exif data of a stream, whatever container it is.
+
+ghost use Rattle.std.specs.Prelude.{◌≡◌, ◌<◌, ◌≤◌, ◌++◌, length, min, take, is_err, None, IfOk, IfErr, IfSome};
+ghost use Rattle.std.specs.Io.KnownBytes.{Consumes, IsAtEnd};
+ghost use Rattle.exif_base.specs.Device.{count_after};
+ghost use Rattle.exif_types.specs.Refusals.{Gives, is_io, refusal_of};
+ghost use Rattle.exif_containers.specs.Container.{answer_as, begins_tiff, container_answer, data_of, format_in};
+ghost use Rattle.exif_containers.specs.Heif.{exif_of};
+ghost use Rattle.exif_containers.specs.Jpeg.{jpeg_answer};
+ghost use Rattle.exif_containers.specs.Webp.{webp_answer};
+
+use crate::isobmff::{exif_of_file, is_heif};
+use crate::jpeg::{self, LIMIT, is_jpeg};
+use crate::util::read_behind;
+use crate::webp::{self, is_webp};
+use exif_base::{Blocks, Source, read_front};
+use exif_types::Error;
+use std::alloc::Global;
+use std::io;
+
+// How many bytes choose the container.
+const HEAD: usize = 4096;
+
+// How many bytes are read at a time behind them.
+const BLOCK: usize = 16384;
+
+/// A container of Exif data.
+#[derive(Clone, Copy, Debug)]
+pub enum Format {
+    /// TIFF data, which are the Exif data.
+    Tiff,
+    /// A JPEG stream.
+    Jpeg,
+    /// A HEIF file.
+    Heif,
+    /// A WebP file.
+    WebP,
+}
+
+/// Whether the bytes begin as TIFF data do, in either byte order.
+pub fn is_tiff(bytes: &[u8]) -> bool
+    ensures { result ≡ begins_tiff bytes.now }
+{
+    bytes.len() >= 4 && (bytes[..4] == b"MM\0*"[..] || bytes[..4] == b"II*\0"[..])
+}
+
+/// The container that begins with these bytes.
+#[tactic(auto, unfolding(crate::specs::Container::format_in))]
+pub fn format_of(head: &[u8]) -> Option<Format>
+    ensures { result ≡ format_in head.now }
+{
+    if is_tiff(head) {
+        Some(Format::Tiff)
+    } else if is_jpeg(head) {
+        Some(Format::Jpeg)
+    } else if is_heif(head) {
+        Some(Format::Heif)
+    } else if is_webp(head) {
+        Some(Format::WebP)
+    } else {
+        None
+    }
+}
+
+// The data of a file in memory, of which these bytes were read.
+fn heif_attr<R: Source>(alloc: Global, head: &[u8], source: &mut R) -> Result<Vec<u8>, Error>
+    ensures gives { IfSome (R.left source.old) (λ rest. Gives (λ v. v.items) result (exif_of (head.now ++ rest))) }
+    ensures count { R.failures source.new ≡ count_after (is_io result) (R.failures source.old) }
+{
+    let file = read_behind(alloc, head, source)?;
+    let payload = exif_of_file(alloc, &file)?;
+    Ok(payload)
+}
+
+// The data of a JPEG stream whose first bytes stand in the block.
+fn jpeg_attr<R: Source>(
+    alloc: Global,
+    block: &mut [u8],
+    filled: usize,
+    source: &mut R,
+) -> Result<Vec<u8>, Error>
+    requires filled { filled ≤ length block.now }
+    requires some { 0 < length block.now }
+    ensures gives { IfSome (R.left source.old)
+        (λ rest. Gives (λ v. v.items) result (data_of (jpeg_answer (take LIMIT (take filled block.old ++ rest))))) }
+    ensures count { R.failures source.new ≡ count_after (is_io result) (R.failures source.old) }
+{
+    let mut blocks = Blocks::new(block, filled, source);
+    let payload = jpeg::exif_attr(alloc, &mut blocks)?;
+    Ok(payload)
+}
+
+// The data of a WebP file whose first bytes stand in the block.
+fn webp_attr<R: Source>(
+    alloc: Global,
+    block: &mut [u8],
+    filled: usize,
+    source: &mut R,
+) -> Result<Vec<u8>, Error>
+    requires filled { filled ≤ length block.now }
+    requires some { 0 < length block.now }
+    ensures gives { IfSome (R.left source.old)
+        (λ rest. Gives (λ v. v.items) result (data_of (webp_answer (take filled block.old ++ rest)))) }
+    ensures count { R.failures source.new ≡ count_after (is_io result) (R.failures source.old) }
+{
+    let mut blocks = Blocks::new(block, filled, source);
+    let payload = webp::get_exif_attr(alloc, &mut blocks)?;
+    Ok(payload)
+}
+
+// The data of a container whose first bytes stand in the block.
+#[tactic(auto, unfolding(crate::specs::Container::answer_as))]
+fn attr_as<R: Source>(
+    alloc: Global,
+    format: Option<Format>,
+    block: &mut [u8],
+    filled: usize,
+    source: &mut R,
+) -> Result<Vec<u8>, Error>
+    requires filled { filled ≤ length block.now }
+    requires some { 0 < length block.now }
+    ensures gives { IfSome (R.left source.old)
+        (λ rest. Gives (λ v. v.items) result (answer_as format (take filled block.old ++ rest))) }
+    ensures count { R.failures source.new ≡ count_after (is_io result) (R.failures source.old) }
+{
+    match format {
+        Some(Format::Tiff) => read_behind(alloc, &block[..filled], source),
+        Some(Format::Jpeg) => jpeg_attr(alloc, block, filled, source),
+        Some(Format::Heif) => heif_attr(alloc, &block[..filled], source),
+        Some(Format::WebP) => webp_attr(alloc, block, filled, source),
+        None => Err(Error::InvalidFormat("Unknown image format")),
+    }
+}
+
+// Fills the front of the block with the head of the stream, or all of it.
+fn read_head<R: Source>(source: &mut R, block: &mut [u8]) -> io::Result<usize>
+    ensures taken { IfOk result (λ n. Consumes (R.left source.old) (R.left source.new) (take n block.new)) }
+    ensures bound { IfOk result (λ n. n ≤ length block.new) }
+    ensures len { length block.new ≡ length block.old }
+    ensures end { IfOk result (λ n. n < min HEAD (length block.new) → IsAtEnd (R.left source.new)) }
+    ensures most { IfOk result (λ n. n ≤ HEAD) }
+    ensures count { R.failures source.new ≡ count_after (is_err result) (R.failures source.old) }
+    ensures same { R.through source.new ≡ R.through source.old }
+{
+    let room = HEAD.min(block.len());
+    let n = read_front(source, &mut block[..room])?;
+    Ok(n)
+}
+
+// The data of a stream, read by way of the block.
+fn attr_by_block<R: Source>(
+    alloc: Global,
+    block: &mut [u8],
+    source: &mut R,
+) -> Result<Vec<u8>, Error>
+    requires { HEAD ≤ length block.now }
+    ensures gives { IfSome (R.left source.old) (λ bytes. Gives (λ v. v.items) result (container_answer bytes)) }
+    ensures count { R.failures source.new ≡ count_after (is_io result) (R.failures source.old) }
+{
+    let filled = read_head(source, block)?;
+    let format = format_of(&block[..filled]);
+    let payload = attr_as(alloc, format, block, filled, source)?;
+    Ok(payload)
+}
+
+/// The Exif data of a stream: all bytes of TIFF data, or what a JPEG stream, a HEIF file or a WebP file
+/// holds. The first 4096 bytes choose, or all if there are fewer, whatever the source's cuts.
+///
+/// Refusals are those of the containers, and `Unknown image format`. How far the source was read is left
+/// open.
+pub fn exif_attr_of_stream<R: Source>(alloc: Global, source: &mut R) -> Result<Vec<u8>, Error>
+    ensures gives { IfSome (R.left source.old) (λ bytes. Gives (λ v. v.items) result (container_answer bytes)) }
+    ensures count { R.failures source.new ≡ count_after (is_io result) (R.failures source.old) }
+{
+    let mut block = vec![in alloc; 0u8; BLOCK]?;
+    let payload = attr_by_block(alloc, &mut block, source)?;
+    Ok(payload)
+}
