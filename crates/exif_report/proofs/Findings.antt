@@ -12,7 +12,6 @@ use Rattle.exif_types.specs.Contents.{ExifContents, PartialContents}
 use Rattle.exif_types.specs.Failures.{Failure, told_text, bytes_of}
 use Rattle.exif_types.specs.Refusals.{Refusal, refusal_of, IsInterrupted}
 use Rattle.exif_types.specs.declared.error.Error.TheVariants as error
-use Rattle.exif_types.specs.declared.field.Field.{Field}
 use Rattle.exif_format.specs.Answers.{Answer, Refused, Whole, Partial}
 use Rattle.exif_format.specs.Faults.{text_of}
 use Rattle.exif_format.specs.declared.fault.Fault.{Fault}
@@ -85,9 +84,9 @@ errors_text errors faults e = error_lines errors ∙ (ap (flat_map fault_line) e
 
 -- the text of what was found is the answer's
 pub found_text : (answer : Answer) (exif : ExifContents) (errors : List Failure) → Holds answer exif errors
-    → flat_map field_line exif.fields ++ flat_map error_line errors ≡ answer_text answer
+    → flat_map (field_line exif.fields) exif.fields ++ flat_map error_line errors ≡ answer_text answer
 found_text (Refused fault) exif errors h = absurd h
-found_text (Whole fields) exif errors h = rw (h.0, h.1) (append-nil (flat_map field_line fields))
+found_text (Whole fields) exif errors h = rw (h.0, h.1) (append-nil (flat_map (field_line fields) fields))
 found_text (Partial fields faults) exif errors h = rw (h.0, errors_text errors faults h.1) refl
 
 -- and as many faults
@@ -113,39 +112,39 @@ front_none : (a : Option (List ℕ)) (text : List ℕ) → SendsFront a a text
 front_none None text = tt
 front_none (Some bytes) text = ([], text, refl, sym (append-nil bytes))
 
-read_text : (exif : ExifContents) (fields : List Field) (errors faults : List Failure) → fields ≡ exif.fields → faults ≡ errors
-    → flat_map field_line fields ++ flat_map error_line faults ≡ flat_map field_line exif.fields ++ flat_map error_line errors
-read_text exif fields errors faults e f = rw (e, f) refl
+read_text : (exif : ExifContents) (errors faults : List Failure) → faults ≡ errors
+    → flat_map (field_line exif.fields) exif.fields ++ flat_map error_line faults ≡ flat_map (field_line exif.fields) exif.fields ++ flat_map error_line errors
+read_text exif errors faults e = rw e refl
 
-whole_of : (answer : Result Answer Refusal) (old new : Option (List ℕ)) (exif : ExifContents) (errors : List Failure) (fields : List Field) (faults : List Failure)
-    → HoldsAnswer answer exif errors → fields ≡ exif.fields → faults ≡ errors
-    → Appends old new (flat_map field_line fields ++ flat_map error_line faults) → WritesWhole answer (length faults) old new
-whole_of (Err r) old new exif errors fields faults h e f sent = h
-whole_of (Ok answer) old new exif errors fields faults h e f sent =
+whole_of : (answer : Result Answer Refusal) (old new : Option (List ℕ)) (exif : ExifContents) (errors : List Failure) (faults : List Failure)
+    → HoldsAnswer answer exif errors → faults ≡ errors
+    → Appends old new (flat_map (field_line exif.fields) exif.fields ++ flat_map error_line faults) → WritesWhole answer (length faults) old new
+whole_of (Err r) old new exif errors faults h f sent = h
+whole_of (Ok answer) old new exif errors faults h f sent =
     let P : List ℕ → Type 0 = λ text. Appends old new text in
-    (found_is_whole answer exif errors h, ap length f ∙ found_count answer exif errors h, subst P (read_text exif fields errors faults e f ∙ found_text answer exif errors h) sent)
+    (found_is_whole answer exif errors h, ap length f ∙ found_count answer exif errors h, subst P (read_text exif errors faults f ∙ found_text answer exif errors h) sent)
 
 -- all that was found was written
-pub reports_whole : (left old new : Option (List ℕ)) (answer : List ℕ → Result Answer Refusal) (exif : ExifContents) (errors : Vec Failure Global) (fields : List Field) (faults : List Failure)
-    → IfSome left (λ bytes. Finds (answer bytes) (Ok (exif, errors))) → fields ≡ exif.fields → faults ≡ errors.items
-    → Appends old new (flat_map field_line fields ++ flat_map error_line faults) → IfSome left (λ bytes. Reports (answer bytes) (Ok (length faults)) old new)
-reports_whole None old new answer exif errors fields faults h e f sent = tt
-reports_whole (Some bytes) old new answer exif errors fields faults h e f sent = whole_of (answer bytes) old new exif errors.items fields faults h e f sent
+pub reports_whole : (left old new : Option (List ℕ)) (answer : List ℕ → Result Answer Refusal) (exif : ExifContents) (errors : Vec Failure Global) (faults : List Failure)
+    → IfSome left (λ bytes. Finds (answer bytes) (Ok (exif, errors))) → faults ≡ errors.items
+    → Appends old new (flat_map (field_line exif.fields) exif.fields ++ flat_map error_line faults) → IfSome left (λ bytes. Reports (answer bytes) (Ok (length faults)) old new)
+reports_whole None old new answer exif errors faults h f sent = tt
+reports_whole (Some bytes) old new answer exif errors faults h f sent = whole_of (answer bytes) old new exif errors.items faults h f sent
 
-front_of : (answer : Result Answer Refusal) (old new : Option (List ℕ)) (exif : ExifContents) (errors : List Failure) (fields : List Field) (faults : List Failure)
-    → HoldsAnswer answer exif errors → fields ≡ exif.fields → faults ≡ errors
-    → SendsFront old new (flat_map field_line fields ++ flat_map error_line faults) → SendsFront old new (report_text answer)
-front_of (Err r) old new exif errors fields faults h e f front = absurd h
-front_of (Ok answer) old new exif errors fields faults h e f front =
+front_of : (answer : Result Answer Refusal) (old new : Option (List ℕ)) (exif : ExifContents) (errors : List Failure) (faults : List Failure)
+    → HoldsAnswer answer exif errors → faults ≡ errors
+    → SendsFront old new (flat_map (field_line exif.fields) exif.fields ++ flat_map error_line faults) → SendsFront old new (report_text answer)
+front_of (Err r) old new exif errors faults h f front = absurd h
+front_of (Ok answer) old new exif errors faults h f front =
     let P : List ℕ → Type 0 = λ text. SendsFront old new text in
-    subst P (read_text exif fields errors faults e f ∙ found_text answer exif errors h) front
+    subst P (read_text exif errors faults f ∙ found_text answer exif errors h) front
 
 -- the writing was interrupted
-pub reports_front : (left old new : Option (List ℕ)) (answer : List ℕ → Result Answer Refusal) (exif : ExifContents) (errors : Vec Failure Global) (fields : List Field) (faults : List Failure) (e : Failure)
-    → IfSome left (λ bytes. Finds (answer bytes) (Ok (exif, errors))) → IsInterrupted e → fields ≡ exif.fields → faults ≡ errors.items
-    → SendsFront old new (flat_map field_line fields ++ flat_map error_line faults) → IfSome left (λ bytes. Reports (answer bytes) (Err e) old new)
-reports_front None old new answer exif errors fields faults e h i k f front = tt
-reports_front (Some bytes) old new answer exif errors fields faults e h i k f front = inr (i, front_of (answer bytes) old new exif errors.items fields faults h k f front)
+pub reports_front : (left old new : Option (List ℕ)) (answer : List ℕ → Result Answer Refusal) (exif : ExifContents) (errors : Vec Failure Global) (faults : List Failure) (e : Failure)
+    → IfSome left (λ bytes. Finds (answer bytes) (Ok (exif, errors))) → IsInterrupted e → faults ≡ errors.items
+    → SendsFront old new (flat_map (field_line exif.fields) exif.fields ++ flat_map error_line faults) → IfSome left (λ bytes. Reports (answer bytes) (Err e) old new)
+reports_front None old new answer exif errors faults e h i f front = tt
+reports_front (Some bytes) old new answer exif errors faults e h i f front = inr (i, front_of (answer bytes) old new exif errors.items faults h f front)
 
 read_none : (answer : Result Answer Refusal) (old : Option (List ℕ)) (e : Failure) → (IsRefusedAs answer e) ⊎ (IsInterrupted e) → Reports answer (Err e) old old
 read_none answer old e (inl refused) = inl (refused, keeps_same old)

@@ -17,8 +17,8 @@ use Rattle.exif_report.specs.Lines.{field_line, fault_line}
 -- a line for each field, and then one for each fault
 abbrev pub answer_text : Answer → List ℕ
 answer_text (Refused fault) = []
-answer_text (Whole fields) = flat_map field_line fields
-answer_text (Partial fields faults) = flat_map field_line fields ++ flat_map (λ fault. fault_line (text_of fault)) faults
+answer_text (Whole fields) = flat_map (field_line fields) fields
+answer_text (Partial fields faults) = flat_map (field_line fields) fields ++ flat_map (λ fault. fault_line (text_of fault)) faults
 
 -- how many faults were passed over
 abbrev pub fault_count : Answer → ℕ

@@ -5,18 +5,18 @@ ghost use Rattle.std.specs.String.{string_bytes};
 ghost use Rattle.exif_types.specs.Failures.{IsInvalidFormat};
 ghost use Rattle.exif_report.specs.Lines.{field_line, error_line};
 
-use exif::{Error, Field};
-use exif_text::PlainText;
+use exif::{Error, Exif, Field};
 use std::fmt::Write;
 
-/// Puts a field's line in place of the text: its tag, its directory and its value.
+/// Puts a field's line in place of the text: its tag, its directory and its value with its unit,
+/// whose tags are looked up in `exif`.
 #[tactic(auto, unfolding(crate::specs::Lines::field_line))]
-pub fn set_field_line(line: &mut String, field: &Field) -> Result<(), Error>
-    ensures text { OnOk result (string_bytes line.new ≡ field_line field.now) }
+pub fn set_field_line(line: &mut String, exif: &Exif, field: &Field) -> Result<(), Error>
+    ensures text { OnOk result (string_bytes line.new ≡ field_line exif.now.fields field.now) }
     ensures memory { IfErr result (λ e. e ≡ Error.OutOfMemory) }
 {
     line.clear();
-    let value = PlainText(field.value.contents());
+    let value = field.display_value().with_unit(exif);
     match write!(line, "{} {} {value}\n", field.tag, field.ifd_num) {
         Ok(()) => Ok(()),
         Err(_) => Err(Error::OutOfMemory),

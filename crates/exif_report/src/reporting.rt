@@ -17,18 +17,23 @@ use exif::{Error, Exif, Field, Reader, Sink, Source};
 use exif_base::send_all;
 use std::alloc::Global;
 
-/// Writes a line for each field.
+/// Writes a line for each of the fields, which are those of `exif`.
 #[tactic(auto, using(exif_base::proofs::Loops::front_item, exif_base::proofs::Loops::front_between, exif_base::proofs::Loops::sent_item))]
-fn write_fields<W: Sink>(alloc: Global, fields: &[Field], out: &mut W) -> Result<(), Error>
-    ensures sent { OnOk result (Appends (W.taken out.old) (W.taken out.new) (flat_map field_line fields.now)) }
-    ensures front { OnErr result (SendsFront (W.taken out.old) (W.taken out.new) (flat_map field_line fields.now)) }
+fn write_fields<W: Sink>(
+    alloc: Global,
+    exif: &Exif,
+    fields: &[Field],
+    out: &mut W,
+) -> Result<(), Error>
+    ensures sent { OnOk result (Appends (W.taken out.old) (W.taken out.new) (flat_map (field_line exif.now.fields) fields.now)) }
+    ensures front { OnErr result (SendsFront (W.taken out.old) (W.taken out.new) (flat_map (field_line exif.now.fields) fields.now)) }
     ensures interrupted { IfErr result IsInterrupted }
     ensures count { W.failures out.new ≡ count_after (is_io result) (W.failures out.old) }
     ensures same { W.through out.new ≡ W.through out.old }
 {
     let mut line = String::new(alloc);
     for field in fields {
-        set_field_line(&mut line, field)?;
+        set_field_line(&mut line, exif, field)?;
         send_all(out, line.as_bytes())?;
     }
     Ok(())
@@ -95,18 +100,18 @@ fn read<R: Source>(alloc: Global, by: &Reader, reader: &mut R) -> Result<(Exif, 
 #[tactic(auto, using(exif_base::proofs::Sent::appends_more, exif_base::proofs::Sent::front_whole, exif_base::proofs::Sent::front_second, exif_base::proofs::Sent::front_first))]
 fn write_all<W: Sink>(
     alloc: Global,
-    fields: &[Field],
+    exif: &Exif,
     errors: &[Error],
     out: &mut W,
 ) -> Result<(), Error>
     requires { All IsInvalidFormat errors.now }
-    ensures sent { OnOk result (Appends (W.taken out.old) (W.taken out.new) (flat_map field_line fields.now ++ flat_map error_line errors.now)) }
-    ensures front { OnErr result (SendsFront (W.taken out.old) (W.taken out.new) (flat_map field_line fields.now ++ flat_map error_line errors.now)) }
+    ensures sent { OnOk result (Appends (W.taken out.old) (W.taken out.new) (flat_map (field_line exif.now.fields) exif.now.fields ++ flat_map error_line errors.now)) }
+    ensures front { OnErr result (SendsFront (W.taken out.old) (W.taken out.new) (flat_map (field_line exif.now.fields) exif.now.fields ++ flat_map error_line errors.now)) }
     ensures interrupted { IfErr result IsInterrupted }
     ensures count { W.failures out.new ≡ count_after (is_io result) (W.failures out.old) }
     ensures same { W.through out.new ≡ W.through out.old }
 {
-    write_fields(alloc, fields, out)?;
+    write_fields(alloc, exif, exif.fields().as_slice(), out)?;
     write_errors(alloc, errors, out)?;
     out.flush()?;
     Ok(())
@@ -125,7 +130,7 @@ fn report_by<R: Source, W: Sink>(
 {
     let (exif, errors) = read(alloc, by, reader)?;
     let faults = errors.as_slice();
-    write_all(alloc, exif.fields().as_slice(), faults, out)?;
+    write_all(alloc, &exif, faults, out)?;
     Ok(faults.len() as u64)
 }
 

@@ -1,5 +1,7 @@
 pub mod Contents
+pub mod Dates
 pub mod Decode
+pub mod Defaults
 pub mod Distilling
 pub mod ErrorFalls
 pub mod Failures
@@ -13,6 +15,9 @@ pub mod PlainValues
 pub mod Rationals
 pub mod Refusals
 pub mod Sound
+pub mod TagRows
 pub mod TagTexts
 pub mod Texts
+pub mod Units
 pub mod ValueEq
+pub mod ValueTexts

@@ -1,10 +1,17 @@
 //! Numbers of the directories in a chain (TIFF 6.0, section 2, "Multiple images").
 
-ghost use Rattle.std.specs.Prelude.{◌≡◌, Some};
+ghost use Rattle.std.specs.Prelude.{◌≡◌, Some, unwrap_or};
+ghost use Rattle.std.specs.Fmt.{spec_align, spec_width};
+ghost use Rattle.std.specs.declared.fmt.Alignment.TheVariants.{Left};
+ghost use Rattle.exif_text.specs.Pad.{pad};
 
+use arrayvec::ArrayString;
+use exif_text::pad::write_padded;
 use std::fmt;
+use std::fmt::Write;
 
-/// The number of a directory in its chain, counted from 0.
+/// The number of a directory in its chain, counted from 0. The first is shown as `primary`, the
+/// second as `thumbnail`, others as `IFD2` and so on.
 #[derive(Clone, Copy, Debug, PartialEq, Eq, PartialOrd, Ord, Hash)]
 pub struct In(pub u16);
 
@@ -27,11 +34,18 @@ impl fmt::Display for In {
 
     ghost output = { λ ifd. Some (ifd_text ifd.0) };
 
+    ghost styled_output = { λ ifd spec. Some (pad (ifd_text ifd.0)
+        (unwrap_or (spec_width spec) 0) (unwrap_or (spec_align spec) Left)) };
+
     fn fmt<W: fmt::Write>(&self, f: &mut fmt::Formatter<W>) -> fmt::Result {
         match self.0 {
-            0 => f.write_str("primary"),
-            1 => f.write_str("thumbnail"),
-            number => write!(f, "IFD{number}"),
+            0 => write_padded(f, "primary", fmt::Alignment::Left),
+            1 => write_padded(f, "thumbnail", fmt::Alignment::Left),
+            number => {
+                let mut text = ArrayString::<8>::new();
+                write!(text, "IFD{number}")?;
+                write_padded(f, text.as_str(), fmt::Alignment::Left)
+            }
         }
     }
 }

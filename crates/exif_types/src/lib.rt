@@ -1,7 +1,10 @@
 //! Values, tags, fields and errors: the types that users of `exif` meet.
 #![tactic(auto)]
 
+pub mod datetime;
 pub mod decode;
+mod defaults;
+pub mod display;
 pub mod error;
 pub mod exif;
 pub mod field;
@@ -9,10 +12,14 @@ pub mod field_type;
 pub mod fields;
 pub mod ifd;
 mod index;
+pub mod laws;
 pub mod tag;
+pub mod unit;
 pub mod unsigned;
 pub mod value;
 
+pub use datetime::DateTime;
+pub use display::{Display, DisplayValue};
 pub use error::{Error, PartialResult};
 pub use exif::Exif;
 pub use exif_text::{Rational, SRational};
@@ -21,5 +28,9 @@ pub use field_type::FieldType;
 pub use fields::Fields;
 pub use ifd::In;
 pub use tag::{Context, Tag};
+pub use unit::{DisplayValueUnit, ProvideUnit};
 pub use unsigned::{UIntIter, UIntValue};
 pub use value::Value;
+
+#[cfg(test)]
+mod tests;

@@ -1,8 +1,21 @@
 //! Tags: a number, and the kind of directory that it stands in (Exif 2.32, 4.6.3).
 
-ghost use Rattle.std.specs.Prelude.{◌≡◌, Some};
+ghost use Rattle.std.specs.Prelude.{◌≡◌, Some, IfOk, IfErr, map, unwrap_or};
+ghost use Rattle.std.specs.Option.{option_map};
+ghost use Rattle.std.specs.Fmt.{spec_align, spec_width};
+ghost use Rattle.std.specs.declared.fmt.Alignment.TheVariants.{Left};
+ghost use Rattle.exif_table.specs.View.{piece_view, row_view};
+ghost use Rattle.exif_text.specs.Pad.{pad};
 
+mod constants;
+
+use crate::{Error, Value};
+use arrayvec::ArrayString;
+use exif_table::{Row, TextKind, UnitPiece, find_row};
+use exif_text::pad::write_padded;
+use std::alloc::Global;
 use std::fmt;
+use std::fmt::Write;
 
 /// The kind of directory that a tag belongs to.
 #[derive(Clone, Copy, Debug, PartialEq, Eq, PartialOrd, Ord, Hash)]
@@ -17,11 +30,42 @@ pub enum Context {
     Interop,
 }
 
-/// A tag: the context and the number.
+/// A tag: the context and the number. It is shown by its name, or as `Tag(Exif, 0)` where the
+/// standard names none.
 #[derive(Clone, Copy, Debug, PartialEq, Eq, PartialOrd, Ord, Hash)]
 pub struct Tag(pub Context, pub u16);
 
+impl Context {
+    ghost use Rattle.exif_types.specs.TagRows.{table_context};
+    ghost use Rattle.exif_types.specs.TagTexts.{context_name};
+
+    fn in_table(self) -> exif_table::Context
+        ensures { result ≡ table_context self }
+    {
+        match self {
+            Context::Tiff => exif_table::Context::Tiff,
+            Context::Exif => exif_table::Context::Exif,
+            Context::Gps => exif_table::Context::Gps,
+            Context::Interop => exif_table::Context::Interop,
+        }
+    }
+
+    fn name(self) -> &'static str
+        ensures { result.now ≡ context_name self }
+    {
+        match self {
+            Context::Tiff => "Tiff",
+            Context::Exif => "Exif",
+            Context::Gps => "Gps",
+            Context::Interop => "Interop",
+        }
+    }
+}
+
 impl Tag {
+    ghost use Rattle.exif_types.specs.TagRows.{description_of, kind_of, row_of_tag, unit_of};
+    ghost use Rattle.exif_types.specs.Defaults.{default_of};
+
     /// The kind of directory that the tag belongs to.
     pub fn context(self) -> Context
         ensures { result ≡ self.0 }
@@ -35,6 +79,56 @@ impl Tag {
     {
         self.1
     }
+
+    /// What the tag stands for, in a few words, where the standard names it.
+    pub fn description(&self) -> Option<&'static str>
+        ensures { option_map (λ text. text.now) result ≡ description_of self.now }
+    {
+        match self.row() {
+            Some(row) => Some(row.description),
+            None => None,
+        }
+    }
+
+    /// What stands for the value where the tag is absent: `None` where the standard gives nothing,
+    /// leaves it open or lets the rest of the data decide. The only error is want of memory.
+    pub fn default_value(&self, alloc: Global) -> Result<Option<Value>, Error>
+        ensures value { IfOk result (λ value. value ≡ default_of self.now) }
+        ensures memory { IfErr result (λ e. e ≡ Error.OutOfMemory) }
+    {
+        match self.row() {
+            Some(row) => Ok(Value::of_default(alloc, row.default)?),
+            None => Ok(None),
+        }
+    }
+
+    // How the tag's value is shown.
+    pub(crate) fn text_kind(self) -> TextKind
+        ensures { result ≡ kind_of self }
+    {
+        match self.row() {
+            Some(row) => row.kind,
+            None => TextKind::Plain,
+        }
+    }
+
+    // The pieces of the tag's value with its unit.
+    pub(crate) fn unit(self) -> &'static [UnitPiece<'static>]
+        ensures { map piece_view result.now ≡ unit_of self }
+    {
+        match self.row() {
+            Some(row) => row.unit,
+            None => &[],
+        }
+    }
+
+    // What the table says of the tag.
+    #[tactic(auto, unfolding(crate::specs::TagRows::row_of_tag))]
+    pub(crate) fn row(self) -> Option<&'static Row>
+        ensures { option_map (λ r. row_view r.now) result ≡ row_of_tag self }
+    {
+        find_row(self.0.in_table(), self.1)
+    }
 }
 
 impl fmt::Display for Tag {
@@ -42,14 +136,18 @@ impl fmt::Display for Tag {
 
     ghost output = { λ tag. Some (tag_text tag) };
 
+    ghost styled_output = { λ tag spec. Some (pad (tag_text tag)
+        (unwrap_or (spec_width spec) 0) (unwrap_or (spec_align spec) Left)) };
+
     fn fmt<W: fmt::Write>(&self, f: &mut fmt::Formatter<W>) -> fmt::Result {
-        let name = match self.0 {
-            Context::Tiff => "Tiff",
-            Context::Exif => "Exif",
-            Context::Gps => "Gps",
-            Context::Interop => "Interop",
-        };
-        let number = self.1;
-        write!(f, "Tag({name}, {number})")
+        match self.row() {
+            Some(row) => write_padded(f, row.name, fmt::Alignment::Left),
+            None => {
+                let (context, number) = (self.0.name(), self.1);
+                let mut text = ArrayString::<19>::new();
+                write!(text, "Tag({context}, {number})")?;
+                write_padded(f, text.as_str(), fmt::Alignment::Left)
+            }
+        }
     }
 }

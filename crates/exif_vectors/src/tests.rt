@@ -4,6 +4,7 @@ mod containers;
 mod devices;
 mod fields;
 mod limits;
+mod memory;
 mod partial;
 mod reports;
 mod support;

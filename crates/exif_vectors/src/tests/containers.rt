@@ -9,7 +9,7 @@ use std::alloc::Global;
 use std::io::ErrorKind;
 use std::test::Fail;
 
-const DESCRIPTION: &[u8] = b"Tag(Tiff, 270) primary \"Sample\"\n";
+const DESCRIPTION: &[u8] = b"ImageDescription primary \"Sample\"\n";
 
 const UNKNOWN: &str = "Unknown image format";
 

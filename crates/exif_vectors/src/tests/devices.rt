@@ -7,7 +7,7 @@ use exif_report::report;
 use std::io::ErrorKind;
 use std::test::Fail;
 
-const DESCRIPTION: &[u8] = b"Tag(Tiff, 270) primary \"Sample\"\n";
+const DESCRIPTION: &[u8] = b"ImageDescription primary \"Sample\"\n";
 
 const KINDS: [ErrorKind; 3] = [
     ErrorKind::Other,

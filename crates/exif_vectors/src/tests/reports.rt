@@ -6,14 +6,14 @@ use exif::Counted;
 use exif_report::{mode, show};
 use std::test::Fail;
 
-const EIGHT_WIDTHS: &str = "Tag(Tiff, 256) primary 20
-Tag(Tiff, 256) thumbnail 20
-Tag(Tiff, 256) IFD2 20
-Tag(Tiff, 256) IFD3 20
-Tag(Tiff, 256) IFD4 20
-Tag(Tiff, 256) IFD5 20
-Tag(Tiff, 256) IFD6 20
-Tag(Tiff, 256) IFD7 20
+const EIGHT_WIDTHS: &str = "ImageWidth primary 20 pixels
+ImageWidth thumbnail 20 pixels
+ImageWidth IFD2 20 pixels
+ImageWidth IFD3 20 pixels
+ImageWidth IFD4 20 pixels
+ImageWidth IFD5 20 pixels
+ImageWidth IFD6 20 pixels
+ImageWidth IFD7 20 pixels
 fault: Limit the IFD count to 8
 ";
 
@@ -36,17 +36,17 @@ Tag(Tiff, 65013) primary\x20
 #[test]
 fn whole_files(rt: HostRuntime) -> Result<(), Fail> {
     let alloc = rt.alloc();
-    let description = "Tag(Tiff, 270) primary \"Sample\"\n";
-    let shared = "Tag(Tiff, 256) primary 20
-Tag(Tiff, 256) primary 21
-Tag(Exif, 36864) primary 0x30323331
-Tag(Exif, 36864) primary 0x30323331
+    let description = "ImageDescription primary \"Sample\"\n";
+    let shared = "ImageWidth primary 20 pixels
+ImageWidth primary 21 pixels
+ExifVersion primary 2.31
+ExifVersion primary 2.31
 ";
     let elsewhere = "Tag(Exif, 34665) primary 7
 Tag(Gps, 40965) primary 7
 Tag(Gps, 34853) primary 9
 ";
-    let unknown = "Tag(Tiff, 256) primary unknown value (type=65535, count=1, offset=0x12)\n";
+    let unknown = "ImageWidth primary unknown value (type=65535, count=1, offset=0x12) pixels\n";
     for (bytes, text) in [
         (files::NOTHING, ""),
         (files::DESCRIBED_BIG, description),
@@ -69,14 +69,14 @@ Tag(Gps, 34853) primary 9
 #[test]
 fn faulty_files(rt: HostRuntime) -> Result<(), Fail> {
     let alloc = rt.alloc();
-    let wrong_next = "Tag(Exif, 36864) primary 0x00020302
+    let wrong_next = "ExifVersion primary 0x00020302
 Tag(Tiff, 65000) primary -19088744
 fault: Unexpected next IFD
 fault: Truncated IFD count
 ";
-    let cut = "Tag(Tiff, 256) primary 20\nfault: Truncated IFD\n";
-    let child = "Tag(Exif, 36864) primary 0x30323331\nfault: Unexpected next IFD\n";
-    let pointers = "Tag(Tiff, 256) primary 20\nfault: Invalid pointer\nfault: Invalid pointer\n";
+    let cut = "ImageWidth primary 20 pixels\nfault: Truncated IFD\n";
+    let child = "ExifVersion primary 2.31\nfault: Unexpected next IFD\n";
+    let pointers = "ImageWidth primary 20 pixels\nfault: Invalid pointer\nfault: Invalid pointer\n";
     for (bytes, first, faults, text) in [
         (files::CIRCLE, "Limit the IFD count to 8", 1, EIGHT_WIDTHS),
         (files::WRONG_NEXT, "Unexpected next IFD", 2, wrong_next),
@@ -110,7 +110,7 @@ fn shown(rt: &HostRuntime, bytes: &[u8], lenient: bool) -> (u8, Vec<u8>, Vec<u8>
 #[test]
 fn statuses(rt: HostRuntime) {
     let limit = "exif_show: Limit the IFD count to 8\n";
-    let description = "Tag(Tiff, 270) primary \"Sample\"\n";
+    let description = "ImageDescription primary \"Sample\"\n";
     for (bytes, lenient, status, out, err) in [
         (files::NOTHING, false, 0, "", ""),
         (files::DESCRIBED_BIG, false, 0, description, ""),

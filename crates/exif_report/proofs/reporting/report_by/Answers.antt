@@ -1,4 +1,4 @@
-use Rattle.std.proofs.Common.{◌∙◌, rules}
+use Rattle.std.proofs.Common.{rules}
 use Rattle.std.proofs.lemmas.Result.{err_from_is_err_and}
 use Rattle.exif.specs.Files.{file_answer}
 use Rattle.exif_report.proofs.Findings.{reports_whole, reports_front, reports_none}
@@ -13,11 +13,11 @@ pub returns-in_err-write_all-clause-reports : goal.returns-in_err-write_all-clau
 returns-in_err-write_all-clause-reports g c =
     let p = err_from_is_err_and c.from_residual-in_err-write_all.result c.from_residual-in_err-write_all.ensures.1 in
     rw (p.1, p.2) (reports_front (g.R.Source.left c.args.reader.now) (g.W.Sink.taken c.args.out.now) (g.W.Sink.taken c.write_all.new.out) (file_answer c.args.by.now.lenient c.args.by.now.limit)
-    c.in_ok-exif.exif c.in_ok-exif.errors c.as_slice.result.now c.as_slice-faults.result.now c.in_err-write_all.field-0.0 c.in_ok-exif.ensures.finds c.in_err-write_all.ensures.interrupted
-    (c.as_slice.ensures ∙ c.fields.ensures.fields) (search rules) c.in_err-write_all.ensures.front)
+    c.in_ok-exif.exif c.in_ok-exif.errors c.as_slice-faults.result.now c.in_err-write_all.field-0.0 c.in_ok-exif.ensures.finds c.in_err-write_all.ensures.interrupted
+    (search rules) c.in_err-write_all.ensures.front)
 
 pub returns-clause-reports : goal.returns-clause-reports
 returns-clause-reports g c =
     reports_whole (g.R.Source.left c.args.reader.now) (g.W.Sink.taken c.args.out.now) (g.W.Sink.taken c.write_all.new.out) (file_answer c.args.by.now.lenient c.args.by.now.limit)
-    c.in_ok-exif.exif c.in_ok-exif.errors c.as_slice.result.now c.as_slice-faults.result.now c.in_ok-exif.ensures.finds
-    (c.as_slice.ensures ∙ c.fields.ensures.fields) (search rules) c.in_ok-write_all.ensures.sent
+    c.in_ok-exif.exif c.in_ok-exif.errors c.as_slice-faults.result.now c.in_ok-exif.ensures.finds
+    (search rules) c.in_ok-write_all.ensures.sent

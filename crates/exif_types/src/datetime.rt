@@ -1,0 +1,134 @@
+//! Dates with their time of day (Exif 2.32, section 4.6.4, DateTime, and section 4.6.5).
+
+ghost use Rattle.std.specs.Prelude.{◌≡◌, Some};
+ghost use Rattle.exif_types.specs.Dates.{date_of, refusal_for, shown_date};
+ghost use Rattle.exif_types.specs.Refusals.{refusal_of};
+
+use crate::Error;
+use exif_text::offset::read_offset;
+use exif_text::subsec::read_subsec;
+use exif_text::{DateFault, datetime};
+use std::fmt;
+
+/// A date and a time of day. It is shown as `2016-05-04 03:02:01`, without fraction and offset, and
+/// takes no notice of a width.
+#[derive(Clone, Copy, Debug, PartialEq, Eq)]
+pub struct DateTime {
+    /// The year, as its digits are.
+    pub year: u16,
+    /// The month, 1 for January.
+    pub month: u8,
+    /// The day of the month.
+    pub day: u8,
+    /// The hour of the day.
+    pub hour: u8,
+    /// The minute of the hour.
+    pub minute: u8,
+    /// The second of the minute.
+    pub second: u8,
+    /// The part of the second in nanoseconds, where it is known.
+    pub nanosecond: Option<u32>,
+    /// The minutes ahead of UTC, where they are known.
+    pub offset: Option<i16>,
+}
+
+impl DateTime {
+    ghost use Rattle.exif_types.specs.Refusals.{Answers};
+    ghost use Rattle.exif_types.specs.Dates.{read_date, read_offset, read_subsec, was_read, with_offset, with_subsec};
+
+    /// Reads `2016:05:04 03:02:01`. Ranges are not checked, and more bytes are ignored. A date of
+    /// spaces, or of spaces between colons, is refused as `BlankValue`, another that is none as
+    /// `InvalidFormat`. It takes no memory.
+    pub fn from_ascii(bytes: &[u8]) -> Result<DateTime, Error>
+        ensures { Answers (λ date. date) result (read_date bytes.now) }
+    {
+        match datetime::DateTime::from_ascii(bytes) {
+            Ok(date) => Ok(own_date(date)),
+            Err(fault) => Err(refused(fault)),
+        }
+    }
+
+    /// Sets the fraction of the second that up to nine digits before a space spell, `None` where
+    /// there are no digits. More bytes are ignored. Bytes that are no digits are refused as
+    /// `InvalidFormat`. A refusal changes nothing. It takes no memory.
+    pub fn parse_subsec(&mut self, bytes: &[u8]) -> Result<(), Error>
+        ensures answer { Answers (λ done. done) result (was_read (read_subsec bytes.now)) }
+        ensures after { self.new ≡ with_subsec self.old (read_subsec bytes.now) }
+    {
+        match read_subsec(bytes) {
+            Ok(nanosecond) => {
+                self.nanosecond = nanosecond;
+                Ok(())
+            }
+            Err(fault) => Err(refused(fault)),
+        }
+    }
+
+    /// Sets the offset that `+hh:mm` or `-hh:mm` spells. More bytes are ignored. An offset of
+    /// spaces, or of spaces around a colon, is refused as `BlankValue`, another that is none as
+    /// `InvalidFormat`. A refusal changes nothing. It takes no memory.
+    pub fn parse_offset(&mut self, bytes: &[u8]) -> Result<(), Error>
+        ensures answer { Answers (λ done. done) result (was_read (read_offset bytes.now)) }
+        ensures after { self.new ≡ with_offset self.old (read_offset bytes.now) }
+    {
+        match read_offset(bytes) {
+            Ok(minutes) => {
+                self.offset = Some(minutes);
+                Ok(())
+            }
+            Err(fault) => Err(refused(fault)),
+        }
+    }
+}
+
+impl fmt::Display for DateTime {
+    ghost use Rattle.exif_types.specs.Dates.{date_text};
+
+    ghost output = { λ date. Some (date_text date) };
+
+    fn fmt<W: fmt::Write>(&self, f: &mut fmt::Formatter<W>) -> fmt::Result {
+        write!(f, "{}", shown_date(*self))
+    }
+}
+
+// The error that a fault is.
+fn refused(fault: DateFault) -> Error
+    ensures { refusal_of result ≡ Some (refusal_for fault) }
+{
+    match fault {
+        DateFault::BlankDate | DateFault::BlankOffset => Error::BlankValue(fault.message()),
+        _ => Error::InvalidFormat(fault.message()),
+    }
+}
+
+// A date as it was read.
+fn own_date(date: datetime::DateTime) -> DateTime
+    ensures { result ≡ date_of date }
+{
+    DateTime {
+        year: date.year,
+        month: date.month,
+        day: date.day,
+        hour: date.hour,
+        minute: date.minute,
+        second: date.second,
+        nanosecond: date.nanosecond,
+        offset: date.offset,
+    }
+}
+
+// A date as it is shown.
+fn shown_date(date: DateTime) -> datetime::DateTime
+    ensures { result ≡ shown_date date }
+{
+    datetime::DateTime {
+        year: date.year,
+        month: date.month,
+        day: date.day,
+        hour: date.hour,
+        minute: date.minute,
+        second: date.second,
+        nanosecond: date.nanosecond,
+        offset: date.offset,
+    }
+}

@@ -1,0 +1,72 @@
+//! Dates, their parts and their refusals.
+
+use crate::{DateTime, Error};
+use std::process::Abort;
+use std::test::Fail;
+
+fn assert_refused(
+    rt: &(impl Abort + AllocGlobal),
+    answer: Result<(), Error>,
+    blank: bool,
+    text: &str,
+) {
+    match answer {
+        Err(Error::BlankValue(message)) if blank => assert_eq!(rt; message, text),
+        Err(Error::InvalidFormat(message)) if !blank => assert_eq!(rt; message, text),
+        _ => panic!(rt; "another answer"),
+    }
+}
+
+#[test]
+fn a_date_is_read_and_shown(rt: HostRuntime) -> Result<(), Fail> {
+    let alloc = rt.alloc();
+    let mut date = DateTime::from_ascii(b"2016:05:04 03:02:01")?;
+    assert_eq!(rt;
+        format!(in alloc; "{date}|{date:30}|")?.as_str(),
+        "2016-05-04 03:02:01|2016-05-04 03:02:01|"
+    );
+    date.parse_subsec(b"9876543219")?;
+    assert_eq!(rt; date.nanosecond, Some(987654321));
+    date.parse_subsec(b"000987")?;
+    assert_eq!(rt; date.nanosecond, Some(987000));
+    date.parse_offset(b"-99:99")?;
+    assert_eq!(rt; date.offset, Some(-6039));
+    assert_refused(&rt, date.parse_offset(b"+01:2x"), false, "Not a number");
+    assert_refused(&rt, date.parse_subsec(b"12x"), false, "Not a number");
+    assert_eq!(rt; (date.nanosecond, date.offset), (Some(987000), Some(-6039)));
+    date.parse_subsec(b" ")?;
+    assert_eq!(rt; date.nanosecond, None);
+    assert_eq!(rt;
+        format!(in alloc; "{date:?}")?.as_str(),
+        "DateTime { year: 2016, month: 5, day: 4, hour: 3, minute: 2, second: 1, nanosecond: None, offset: Some(-6039) }"
+    );
+    Ok(())
+}
+
+#[test]
+fn refusals_of_dates(rt: HostRuntime) -> Result<(), Fail> {
+    for (text, blank, message) in [
+        ("                   ", true, "DateTime is blank"),
+        ("    :  :     :  :  ", true, "DateTime is blank"),
+        ("2016:05:04 03:02:0", false, "DateTime too short"),
+        ("2016:05:04T03:02:01", false, "Invalid DateTime delimiter"),
+        ("2016:05:04 03:02:0x", false, "Not a number"),
+    ] {
+        let answer = match DateTime::from_ascii(text.as_bytes()) {
+            Ok(_) => Ok(()),
+            Err(e) => Err(e),
+        };
+        assert_refused(&rt, answer, blank, message);
+    }
+    let mut date = DateTime::from_ascii(b"0000:00:00 00:00:00 and more")?;
+    for (text, blank, message) in [
+        ("      ", true, "OffsetTime is blank"),
+        ("   :  ", true, "OffsetTime is blank"),
+        ("+01:0", false, "OffsetTime too short"),
+        ("+01-00", false, "Invalid OffsetTime delimiter"),
+        ("?01:00", false, "Invalid OffsetTime sign"),
+    ] {
+        assert_refused(&rt, date.parse_offset(text.as_bytes()), blank, message);
+    }
+    Ok(())
+}

@@ -1,0 +1,203 @@
+//! The texts of values, alone and with their units.
+
+ghost use Rattle.std.specs.Prelude.{◌≡◌, IfOk};
+ghost use Rattle.exif_types.specs.Sound.{IsRead};
+
+use crate::{Context, Exif, Field, In, Rational, SRational, Tag, Value};
+use exif_base::Items;
+use std::alloc::{AllocError, Global};
+use std::process::Abort;
+use std::test::Fail;
+
+fn field(tag: Tag, value: Value) -> Field
+    ensures { result ≡ record { tag = tag; ifd_num = In.PRIMARY; value = value } }
+{
+    Field {
+        tag,
+        ifd_num: In::PRIMARY,
+        value,
+    }
+}
+
+fn fractions(alloc: Global, tag: Tag, pairs: &[(u32, u32)]) -> Result<Field, AllocError> {
+    let mut list = Vec::new(alloc);
+    for pair in pairs {
+        list.push(Rational::from(*pair))?;
+    }
+    Ok(field(tag, Value::Rational(Items::from_vec(list))))
+}
+
+fn signed(alloc: Global, tag: Tag, num: i32, denom: i32) -> Result<Field, AllocError> {
+    let list = Items::from_slice(alloc, &[SRational { num, denom }])?;
+    Ok(field(tag, Value::SRational(list)))
+}
+
+fn shorts(alloc: Global, tag: Tag, numbers: &[u16]) -> Result<Field, AllocError>
+    ensures { IfOk result (λ field. IsRead field) }
+{
+    Ok(field(tag, Value::Short(Items::from_slice(alloc, numbers)?)))
+}
+
+fn undefined(alloc: Global, tag: Tag, bytes: &[u8]) -> Result<Field, AllocError> {
+    let bytes = Items::from_slice(alloc, bytes)?;
+    Ok(field(tag, Value::Undefined(bytes, 0)))
+}
+
+fn text(alloc: Global, tag: Tag, bytes: &[u8]) -> Result<Field, AllocError> {
+    let mut texts = Vec::new(alloc);
+    texts.push(Items::from_slice(alloc, bytes)?)?;
+    Ok(field(tag, Value::Ascii(Items::from_vec(texts))))
+}
+
+// The text of the field without its unit.
+fn assert_value(
+    rt: &(impl Abort + AllocGlobal),
+    field: &Field,
+    text: &str,
+) -> Result<(), AllocError> {
+    let shown = field.display_value();
+    let value = field.value.display_as(field.tag);
+    let copy = value;
+    let alloc = rt.alloc();
+    assert_eq!(rt; format!(in alloc; "{shown}")?.as_str(), text);
+    assert_eq!(rt; format!(in alloc; "{value:60}")?.as_str(), text);
+    assert_eq!(rt; format!(in alloc; "{copy}")?.as_str(), text);
+    Ok(())
+}
+
+// The text of the field with its unit, where no other fields are known.
+fn assert_alone(
+    rt: &(impl Abort + AllocGlobal),
+    field: &Field,
+    text: &str,
+) -> Result<(), AllocError> {
+    let shown = field.display_value().with_unit(());
+    assert_eq!(rt; format!(in rt.alloc(); "{shown}")?.as_str(), text);
+    Ok(())
+}
+
+// The text of the field with its unit, where one other field is known.
+fn assert_beside(
+    rt: &(impl Abort + AllocGlobal),
+    field: &Field,
+    other: &Field,
+    text: &str,
+) -> Result<(), AllocError> {
+    let shown = field.display_value().with_unit(other);
+    assert_eq!(rt; format!(in rt.alloc(); "{shown}")?.as_str(), text);
+    Ok(())
+}
+
+#[test]
+fn values_by_their_tags(rt: HostRuntime) -> Result<(), AllocError> {
+    let alloc = rt.alloc();
+    let steep = SRational::from((10, -4)).decimal();
+    let whole = SRational::from((-2147483648, -1)).decimal();
+    let long = Rational::from((4294967295, 7)).decimal();
+    assert_eq!(rt;
+        format!(in alloc; "{steep} {whole} {long}")?.as_str(),
+        "-2.5 2147483648 613566756.428571428"
+    );
+    assert_value(&rt, &signed(alloc, Tag::BrightnessValue, 7, -1)?, "unknown")?;
+    assert_value(&rt, &signed(alloc, Tag::BrightnessValue, 0, 0)?, "0/0")?;
+    for (tag, bytes, shown) in [
+        (Tag::ExifVersion, b"0231", "2.31"),
+        (Tag::ExifVersion, b"0230", "2.3"),
+        (Tag::InteroperabilityVersion, b"0100", "1.00"),
+        (Tag::ComponentsConfiguration, b"\x01\x02\x03\0", "YCbCr_"),
+    ] {
+        assert_value(&rt, &undefined(alloc, tag, bytes)?, shown)?;
+    }
+    let lens = [(24, 1), (70, 1), (28, 10), (28, 10)];
+    let lens = fractions(alloc, Tag::LensSpecification, &lens)?;
+    assert_value(&rt, &lens, "24-70 mm, f/2.8-2.8")?;
+    let area = shorts(alloc, Tag::SubjectArea, &[1, 2, 3, 4])?;
+    assert_value(&rt, &area, "rectangle (x=1, y=2, w=3, h=4)")?;
+    let stamp = text(alloc, Tag::GPSDateStamp, b"2016:05:04")?;
+    assert_value(&rt, &stamp, "2016-05-04")?;
+    let blank = text(alloc, Tag::DateTime, b"                   ")?;
+    assert_value(&rt, &blank, "unknown")?;
+    let title = text(alloc, Tag::ImageDescription, b"a \"\\b\"\n")?;
+    assert_value(&rt, &title, "\"a \\\"\\\\b\\\"\\x0a\"")
+}
+
+#[test]
+fn values_with_units(rt: HostRuntime) -> Result<(), AllocError> {
+    let alloc = rt.alloc();
+    for (tag, pair, shown) in [
+        (Tag::ExposureTime, (1, 3), "1/3 s"),
+        (Tag::ExposureTime, (2, 3), "1/1.5 s"),
+        (Tag::ExposureTime, (0, 1), "0/1 s"),
+        (Tag::ExposureTime, (5, 0), "5/0 s"),
+        (Tag::FNumber, (28, 10), "f/2.8"),
+        (Tag::GPSSpeed, (5, 1), "5 km/h"),
+    ] {
+        assert_alone(&rt, &fractions(alloc, tag, &[pair])?, shown)?;
+    }
+    let bias = signed(alloc, Tag::ExposureBiasValue, -1, 3)?;
+    assert_alone(&rt, &bias, "-0.333333333 EV")?;
+    let bias = signed(alloc, Tag::ExposureBiasValue, -1, 2000000000)?;
+    assert_alone(&rt, &bias, "0 EV")?;
+    let stamp = fractions(alloc, Tag::GPSTimeStamp, &[(9, 1), (5, 1), (61, 2)])?;
+    assert_alone(&rt, &stamp, "09:05:30.5")?;
+    for (tag, number, shown) in [
+        (Tag::Orientation, 9, "[reserved orientation 9]"),
+        (
+            Tag::Flash,
+            25,
+            "fired, no return light detection function, auto",
+        ),
+        (Tag::FocalLengthIn35mmFilm, 24, "24 mm"),
+        (Tag::FocalLengthIn35mmFilm, 0, "unknown mm"),
+    ] {
+        assert_alone(&rt, &shorts(alloc, tag, &[number])?, shown)?;
+    }
+    let bits = Value::Float(Items::from_slice(alloc, &[0x40200000])?);
+    assert_alone(&rt, &field(Tag(Context::Tiff, 65000), bits), "0x40200000")
+}
+
+#[test]
+fn units_of_other_fields(rt: HostRuntime) -> Result<(), AllocError> {
+    let alloc = rt.alloc();
+    let resolution = fractions(alloc, Tag::XResolution, &[(72, 1)])?;
+    let mut unit = shorts(alloc, Tag::ResolutionUnit, &[3])?;
+    assert_beside(&rt, &resolution, &unit, "72 pixels per cm")?;
+    unit.ifd_num = In::THUMBNAIL;
+    assert_beside(&rt, &resolution, &unit, "72 pixels per inch")?;
+    let unit = text(alloc, Tag::ResolutionUnit, b"cm")?;
+    assert_beside(
+        &rt,
+        &resolution,
+        &unit,
+        "72 pixels per [reserved resolution unit \"cm\"]",
+    )?;
+    let latitude = fractions(alloc, Tag::GPSLatitude, &[(10, 1), (0, 1), (1, 10)])?;
+    assert_alone(
+        &rt,
+        &latitude,
+        "10 deg 0 min 0.1 sec [GPSLatitudeRef missing]",
+    )?;
+    let altitude = fractions(alloc, Tag::GPSAltitude, &[(1, 2)])?;
+    let below = Value::Byte(Items::from_slice(alloc, &[1])?);
+    let below = field(Tag::GPSAltitudeRef, below);
+    assert_beside(&rt, &altitude, &below, "0.5 meters below sea level")
+}
+
+#[test]
+fn units_of_the_fields_that_were_read(rt: HostRuntime) -> Result<(), Fail> {
+    let alloc = rt.alloc();
+    let mut fields = Vec::new(alloc);
+    fields.push(shorts(alloc, Tag::ResolutionUnit, &[2])?)?;
+    fields.push(shorts(alloc, Tag::ResolutionUnit, &[3])?)?;
+    let exif = Exif::from_parts(alloc, Vec::new(alloc), fields, false)?;
+    let mut resolution = fractions(alloc, Tag::YResolution, &[(300, 1)])?;
+    for (directory, shown) in [
+        (In::PRIMARY, "300 pixels per cm"),
+        (In::THUMBNAIL, "300 pixels per inch"),
+    ] {
+        resolution.ifd_num = directory;
+        let value = resolution.display_value().with_unit(&exif);
+        assert_eq!(rt; format!(in alloc; "{value}")?.as_str(), shown);
+    }
+    Ok(())
+}
