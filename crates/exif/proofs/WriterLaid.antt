@@ -14,6 +14,7 @@ use Rattle.exif.specs.declared.writer.plan.Source.{Source}
 use Rattle.exif.specs.declared.writer.plan.Source.TheVariants.{Known, PlacesOf, LengthsOf, PlaceOf}
 use Rattle.exif.specs.WriterSending.{lens, texts_of, block_place, context_place, settled, symbol_of, symbol, source_type, source_count, source_size, slot_text, element, value_place, entries_text, slots_text, values_text, blocks_text}
 use Rattle.exif.specs.WriterPlans.{plan_text, plans_text, sent_image}
+use Rattle.exif.specs.WriterDrafts.{places_of, IsPlan, ArePlans}
 use Rattle.exif_format.proofs.Images.Laid.{joined, length_header}
 use Rattle.exif.proofs.WriterMoved.{same_moved, places_length, lens_length}
 use Rattle.exif_base.specs.declared.endian.Order.{Order}
@@ -159,37 +160,7 @@ child_is order draft start places h place at values (slot ∷ slots) =
     directory_is order draft start places h place place at values 0 (slot ∷ slots) (omega arith)
     ∙ (λ i. replicate (none i) 0 ++ slots_text order places values 0 (slot ∷ slots))
 
--- the places of a draft, as a plan has them
-abbrev pub places_of : Draft → ℕ → ℕ → Places
-places_of draft start next = record {
-  start = start;
-  tiff = tiff_place draft start;
-  exif = exif_place draft start;
-  gps = gps_place draft start;
-  interop = interop_place draft start;
-  tiff_values = tiff_values draft start;
-  exif_values = exif_values draft start;
-  gps_values = gps_values draft start;
-  interop_values = interop_values draft start;
-  strips = strips_place draft start;
-  tiles = tiles_place draft start;
-  jpeg = jpeg_place draft start;
-  end = draft_end draft start;
-  next = next;
-}
-
--- the plan of a draft that begins at a place
-pub record IsPlan (draft : Draft) (start next : ℕ) (plan : Plan) : Type 0 where
-  pub places : plan.places ≡ places_of draft start next
-  pub tiff : map symbol plan.tiff.items ≡ draft.slots Tiff
-  pub exif : map symbol plan.exif.items ≡ draft.slots Exif
-  pub gps : map symbol plan.gps.items ≡ draft.slots Gps
-  pub interop : map symbol plan.interop.items ≡ draft.slots Interop
-  pub strips : texts_of plan.strips.now ≡ draft.blocks Strips
-  pub tiles : texts_of plan.tiles.now ≡ draft.blocks Tiles
-  pub jpeg : texts_of plan.jpeg.now ≡ draft.blocks Jpeg
-
-are_places : (draft : Draft) (start next : ℕ) → ArePlaces draft start (places_of draft start next)
+pub are_places : (draft : Draft) (start next : ℕ) → ArePlaces draft start (places_of draft start next)
 are_places draft start next = record {
   block = λ blocks. elim blocks as (λ b. block_place (places_of draft start next) b ≡ blocks_place draft start b) [ Strips ↦ refl | Tiles ↦ refl | Jpeg ↦ refl ];
   context = λ context. elim context as (λ c. context_place (places_of draft start next) c ≡ directory_place draft start c) [ Tiff ↦ refl | Exif ↦ refl | Gps ↦ refl | Interop ↦ refl ];
@@ -284,14 +255,6 @@ module _ (order : Order) (draft : Draft) (start next : ℕ) (plan : Plan) (is : 
 pub record IsSendable (draft : Draft) : Type 0 where
   pub some : 0 < length (draft.slots Tiff)
   pub known : (context : Context) → AllKnown (draft.slots context)
-
--- the plans of drafts that stand one behind the other
-abbrev pub ArePlans : ℕ → List Draft → List Plan → Type 0
-ArePlans start [] [] = Unit {0}
-ArePlans start [] (plan ∷ plans) = ⊥
-ArePlans start (draft ∷ drafts) [] = ⊥
-ArePlans start (draft ∷ drafts) (plan ∷ plans) =
-    IsPlan draft start (next_place (draft_end draft start) drafts) plan × ArePlans (draft_end draft start) drafts plans
 
 pub parts_are : (order : Order) (start : ℕ) (drafts : List Draft) (plans : List Plan) → AllByRecursion IsSendable drafts → ArePlans start drafts plans
     → laid start (parts_from order start drafts) ≡ plans_text order plans

@@ -6,6 +6,7 @@ pub mod Running
 pub mod StopErrors
 pub mod Stops
 pub mod WriterViews
+pub mod WriterDrafts
 pub mod WriterMeasure
 pub mod WriterPlans
 pub mod WriterRunning

@@ -1,6 +1,9 @@
 -- What a writer's borrowed fields and blocks hold.
 use Rattle.std.specs.Prelude.{ℕ, suc, ◌-◌, List, ◌++◌, length, replicate, map, Option}
+use Rattle.std.specs.Prelude.{Bool, true, false}
 use Rattle.std.specs.Option.{option_map}
+use Rattle.exif_base.specs.declared.endian.Order.{Order}
+use Rattle.exif_base.specs.declared.endian.Order.TheVariants.{Big, Little}
 use denote.Ref.{Bor}
 use Rattle.exif_types.specs.declared.field.Field.{Field}
 use Rattle.exif_format.specs.Groups.{Group, Entry, empty_group, entry_of}
@@ -11,8 +14,8 @@ entries_in fields = map (λ field. entry_of field.now) fields
 abbrev pub texts_in : Bor (List (Bor (List ℕ))) → List (List ℕ)
 texts_in texts = map (λ text. text.now) texts.now
 
-abbrev pub blocks_in : Option (Bor (List (Bor (List ℕ)))) → Option (List (List ℕ))
-blocks_in set = option_map (λ texts. map (λ text. text.now) texts.now) set
+abbrev pub set_in : Option (Bor (List (Bor (List ℕ)))) → Option (List (List ℕ))
+set_in set = option_map (λ texts. map (λ text. text.now) texts.now) set
 
 abbrev pub block_in : Option (Bor (List ℕ)) → Option (List ℕ)
 block_in block = option_map (λ text. text.now) block
@@ -20,3 +23,8 @@ block_in block = option_map (λ text. text.now) block
 -- the groups with new empty ones up to a number
 abbrev pub grown : ℕ → List Group → List Group
 grown ifd groups = groups ++ replicate (suc ifd - length groups) empty_group
+
+-- the byte order that a write is asked for
+abbrev pub written_order : Bool → Order
+written_order true = Little
+written_order false = Big

@@ -1,8 +1,9 @@
-//! Exif metadata: reading of TIFF data into fields and faults.
+//! Exif metadata: pictures read into fields and faults, and fields and blocks written as one TIFF image.
 #![tactic(auto)]
 
 mod bytes;
 mod directory;
+pub mod experimental;
 pub mod laws;
 mod parser;
 mod reader;

@@ -1,20 +1,40 @@
 //! Writers of TIFF data: the fields and blocks of each directory, as they are pushed and set.
 
-ghost use Rattle.std.specs.Prelude.{◌≡◌, ◌<◌, [], OnOk, OnErr, IfErr};
+ghost use Rattle.std.specs.Prelude.{◌≡◌, ◌<◌, ◌≤◌, [], length, None, Some, false, IfSome, OnOk, OnErr, IfErr, IsErrAnd};
+ghost use Rattle.std.specs.Io.KnownBytes.{Appends, Keeps};
+ghost use Rattle.exif_base.specs.Device.{count_after};
+ghost use Rattle.exif_base.specs.Sent.{SendsFront};
+ghost use Rattle.exif_types.specs.Refusals.{IsInterrupted, is_io, is_io_error, refusal_of};
 ghost use Rattle.exif_format.specs.Groups.{pushed, strips_set, tiles_set, jpeg_set};
-ghost use Rattle.exif.specs.WriterViews.{texts_in, grown};
+ghost use Rattle.exif_format.specs.Image.{image};
+ghost use Rattle.exif_format.specs.Layout.{LaidOut, BlocksStand};
+ghost use Rattle.exif_format.specs.Ranged.{HavePlainTexts};
+ghost use Rattle.exif_format.specs.ReadBack.{ReadsBack, ReadsFirstEight};
+ghost use Rattle.exif_format.specs.Rewriting.{RewritesSame, EqualByContents, OrdersAgree, LengthsAgree};
+ghost use Rattle.exif_format.specs.Refused.{write_fault};
+ghost use Rattle.exif_format.specs.WriteFaults.{write_refusal};
+ghost use Rattle.exif.specs.WriterViews.{texts_in, grown, written_order};
 
+mod counts;
 mod directory;
 mod forward;
 mod groups;
 mod image;
 mod item;
+mod make;
 mod measure;
+mod places;
 mod plan;
+mod planning;
 mod ranges;
+mod sizes;
 
+use exif_base::{Order, Sink};
+use exif_format::laws::writing::{images_are_canonical, images_are_laid_out, images_read_back};
 use exif_types::{Error, Field, In};
 use groups::{Ifd, is_own};
+use image::send_image;
+use planning::{plans, write_fault};
 use ranges::show_field_fits;
 use std::alloc::{AllocError, Global};
 use std::marker::Model;
@@ -36,6 +56,17 @@ impl<'a> Model for Writer<'a> {
     ghost view = { λ w. w.ifds.items };
 
     ghost invariant = { λ w. AreRanged w.ifds.items };
+}
+
+// The byte order that is asked for.
+fn order_of(little_endian: bool) -> Order
+    ensures { result ≡ written_order little_endian }
+{
+    if little_endian {
+        Order::Little
+    } else {
+        Order::Big
+    }
 }
 
 // Makes the directories up to a number, or none of them.
@@ -66,6 +97,13 @@ impl<'a> Writer<'a> {
             alloc,
             ifds: Vec::new(alloc),
         }
+    }
+
+    // The directories of the chain.
+    fn ifds(&self) -> &[Ifd<'a>]
+        ensures { result.now ≡ self.now }
+    {
+        self.ifds.as_slice()
     }
 
     /// Adds a field to the directory that its context and number name. A field that the writer
@@ -127,5 +165,60 @@ impl<'a> Writer<'a> {
         grow(self.alloc, &mut self.ifds, number)?;
         self.ifds[number].set_jpeg(jpeg);
         Ok(())
+    }
+
+    /// Sends the image of what was pushed and set as TIFF data, and flushes once. The writer keeps
+    /// its fields and blocks.
+    ///
+    /// It is refused where there is no directory, and else for the first directory of the chain that
+    /// has no entry, a directory of more than 65,535 entries or a value of an unknown type, and else
+    /// where the image is longer than 4,294,967,295 bytes. These refusals take no memory. After them
+    /// and after want of memory nothing was sent, and after an error of the sink exactly a beginning
+    /// of the image.
+    pub fn write<W: Sink>(&mut self, out: &mut W, little_endian: bool) -> Result<(), Error>
+        ensures same { self.new ≡ self.old }
+        ensures sent { OnOk result (Appends (W.taken out.old) (W.taken out.new) (image (written_order little_endian) self.old)) }
+        ensures accepted { OnOk result (write_fault self.old ≡ None) }
+        ensures refused { IfSome (write_fault self.old) (λ cause. IsErrAnd result (λ e. refusal_of e ≡ Some (write_refusal cause))) }
+        ensures interrupted { IfErr result (λ e. write_fault self.old ≡ None → IsInterrupted e) }
+        ensures kept { IfErr result (λ e. is_io_error e ≡ false → Keeps (W.taken out.old) (W.taken out.new)) }
+        ensures front { OnErr result (SendsFront (W.taken out.old) (W.taken out.new) (image (written_order little_endian) self.old)) }
+        ensures count { W.failures out.new ≡ count_after (is_io result) (W.failures out.old) }
+        ensures through { W.through out.new ≡ W.through out.old }
+        ensures laid_out { OnOk result (LaidOut (written_order little_endian) self.old) }
+        ensures blocks { OnOk result (BlocksStand (written_order little_endian) self.old) }
+        ensures read_back { OnOk result (HavePlainTexts self.old → length self.old ≤ 8 → ReadsBack (written_order little_endian) self.old) }
+        ensures first_eight { OnOk result (HavePlainTexts self.old → ReadsFirstEight (written_order little_endian) self.old) }
+        ensures rewriting { OnOk result (RewritesSame (written_order little_endian) self.old) }
+        ensures equality { OnOk result (HavePlainTexts self.old → length self.old ≤ 8 → EqualByContents (written_order little_endian) self.old) }
+        ensures lengths { OnOk result (LengthsAgree self.old) }
+        ensures orders { OnOk result (HavePlainTexts self.old → OrdersAgree self.old) }
+    {
+        if let Some(fault) = write_fault(self.ifds()) {
+            return Err(Error::from(fault));
+        }
+        let plans = plans(self.alloc, self.ifds())?;
+        send_image(out, order_of(little_endian), plans.as_slice())?;
+        self.show_laws(little_endian);
+        Ok(())
+    }
+
+    // What is known of the image. This does nothing: its contract shows it. The first line brings
+    // the writer's invariant.
+    fn show_laws(&self, little_endian: bool)
+        requires { write_fault self.now ≡ None }
+        ensures laid_out { LaidOut (written_order little_endian) self.now }
+        ensures blocks { BlocksStand (written_order little_endian) self.now }
+        ensures read_back { HavePlainTexts self.now → length self.now ≤ 8 → ReadsBack (written_order little_endian) self.now }
+        ensures first_eight { HavePlainTexts self.now → ReadsFirstEight (written_order little_endian) self.now }
+        ensures rewriting { RewritesSame (written_order little_endian) self.now }
+        ensures equality { HavePlainTexts self.now → length self.now ≤ 8 → EqualByContents (written_order little_endian) self.now }
+        ensures lengths { LengthsAgree self.now }
+        ensures orders { HavePlainTexts self.now → OrdersAgree self.now }
+    {
+        let _ = &self.ifds;
+        images_are_laid_out();
+        images_read_back();
+        images_are_canonical();
     }
 }

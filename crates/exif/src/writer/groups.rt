@@ -1,33 +1,37 @@
 //! What a writer holds of one directory of the chain.
 
 ghost use Rattle.std.specs.Prelude.{◌≡◌, OnOk, OnErr};
-ghost use Rattle.exif_format.specs.Groups.{empty_group, with_entry, with_strips, with_tiles, with_jpeg, entry_of, is_ignored};
-ghost use Rattle.exif.specs.WriterViews.{texts_in};
+ghost use Rattle.exif_format.specs.Groups.{empty_group, blocks_in, pushed_in, with_entry, with_strips, with_tiles, with_jpeg, entry_of, is_ignored};
+ghost use Rattle.exif.specs.WriterSending.{texts_of};
+ghost use Rattle.exif.specs.WriterViews.{entries_in, texts_in, set_in};
+ghost use Rattle.exif_format.specs.Slots.{block_list};
 
+use exif_format::BlockKind;
 use exif_types::{Context, Field, Tag};
 use std::alloc::{AllocError, Global};
 use std::marker::Model;
+use std::slice;
 
 /// The fields of a directory of the chain and of its children, in the order in which they were
 /// pushed, and its blocks where they are set.
 #[derive(Debug, Drop)]
 pub struct Ifd<'a> {
-    tiff: Vec<&'a Field>,
-    exif: Vec<&'a Field>,
-    gps: Vec<&'a Field>,
-    interop: Vec<&'a Field>,
-    strips: Option<&'a [&'a [u8]]>,
-    tiles: Option<&'a [&'a [u8]]>,
-    jpeg: Option<&'a [u8]>,
+    pub tiff: Vec<&'a Field>,
+    pub exif: Vec<&'a Field>,
+    pub gps: Vec<&'a Field>,
+    pub interop: Vec<&'a Field>,
+    pub strips: Option<&'a [&'a [u8]]>,
+    pub tiles: Option<&'a [&'a [u8]]>,
+    pub jpeg: Option<&'a [u8]>,
 }
 
 impl<'a> Model for Ifd<'a> {
     ghost use Rattle.exif_format.specs.Groups.{Group};
-    ghost use Rattle.exif.specs.WriterViews.{entries_in, blocks_in, block_in};
+    ghost use Rattle.exif.specs.WriterViews.{entries_in, set_in, block_in};
 
     ghost Value = { Group };
 
-    ghost view = { λ g. record { tiff = entries_in g.tiff.items; exif = entries_in g.exif.items; gps = entries_in g.gps.items; interop = entries_in g.interop.items; strips = blocks_in g.strips; tiles = blocks_in g.tiles; jpeg = block_in g.jpeg } };
+    ghost view = { λ g. record { tiff = entries_in g.tiff.items; exif = entries_in g.exif.items; gps = entries_in g.gps.items; interop = entries_in g.interop.items; strips = set_in g.strips; tiles = set_in g.tiles; jpeg = block_in g.jpeg } };
 }
 
 impl<'a> Ifd<'a> {
@@ -44,6 +48,36 @@ impl<'a> Ifd<'a> {
             tiles: None,
             jpeg: None,
         }
+    }
+
+    /// The fields that were pushed in a context.
+    pub fn fields(&self, context: Context) -> &[&'a Field]
+        ensures { entries_in result.now ≡ pushed_in self.now context }
+    {
+        match context {
+            Context::Tiff => self.tiff.as_slice(),
+            Context::Exif => self.exif.as_slice(),
+            Context::Gps => self.gps.as_slice(),
+            Context::Interop => self.interop.as_slice(),
+        }
+    }
+
+    /// The blocks of a kind, where they are set.
+    pub fn set(&self, kind: BlockKind) -> Option<&[&[u8]]>
+        ensures { set_in result ≡ blocks_in self.now kind }
+    {
+        match kind {
+            BlockKind::Strips => self.strips,
+            BlockKind::Tiles => self.tiles,
+            BlockKind::Jpeg => self.jpeg.as_ref().map(|jpeg| slice::from_ref(jpeg)),
+        }
+    }
+
+    /// The blocks of a kind, none where they are not set.
+    pub fn blocks(&self, kind: BlockKind) -> &[&[u8]]
+        ensures { texts_of result.now ≡ block_list (blocks_in self.now kind) }
+    {
+        self.set(kind).unwrap_or(&[])
     }
 
     /// Adds a field to the directory of its context.

@@ -2,6 +2,7 @@
 
 ghost use Rattle.std.specs.Prelude.{◌≡◌, map, OnOk};
 ghost use Rattle.exif.specs.WriterSending.{symbol};
+ghost use Rattle.exif_format.specs.Groups.{places_tag, lengths_tag};
 ghost use Rattle.exif_format.specs.Slots.{in_tag_order};
 
 use exif_format::BlockKind;
@@ -89,4 +90,26 @@ pub fn sort(slots: &mut Vec<Slot>) -> Result<(), AllocError>
     ensures { OnOk result (map symbol slots.new.items ≡ in_tag_order (map symbol slots.old.items)) }
 {
     slots.sort_by_key(|slot| slot.tag)
+}
+
+/// The tag under which the places of blocks stand.
+pub fn places_tag(kind: BlockKind) -> u16
+    ensures { result ≡ places_tag kind }
+{
+    match kind {
+        BlockKind::Strips => 0x111,
+        BlockKind::Tiles => 0x144,
+        BlockKind::Jpeg => 0x201,
+    }
+}
+
+/// The tag under which their lengths stand.
+pub fn lengths_tag(kind: BlockKind) -> u16
+    ensures { result ≡ lengths_tag kind }
+{
+    match kind {
+        BlockKind::Strips => 0x117,
+        BlockKind::Tiles => 0x145,
+        BlockKind::Jpeg => 0x202,
+    }
 }

@@ -73,7 +73,7 @@ last_high n (slot ∷ slots) last a e = go (fits slot) (last_out slots) refl ref
         pick true e = let s : slot ≡ last = cc in let t = ap (λ (z : Slot). z.tag) s in let low = a.0 in omega arith
         pick false e = let s : t ≡ last = cc in let u = ap (λ (z : Slot). z.tag) s in let low = ih t k in omega arith
 
-span_none : (slots : List Slot) → last_out slots ≡ None → span slots ≡ 0
+pub span_none : (slots : List Slot) → last_out slots ≡ None → span slots ≡ 0
 span_none [] e = refl
 span_none (slot ∷ slots) e = go (fits slot) (last_out slots) refl refl (span_none slots) e
   where

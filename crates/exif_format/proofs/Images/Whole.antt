@@ -63,7 +63,7 @@ accepted group h =
       ];
     }
 
-first_none : (group : Group) (groups : List Group) (cause : Option WriteFault) → group_fault group ≡ cause
+pub first_none : (group : Group) (groups : List Group) (cause : Option WriteFault) → group_fault group ≡ cause
     → (let r : Option WriteFault = elim cause [ Some c ↦ Some c | None ↦ first_group_fault groups ] in r) ≡ None → (cause ≡ None) × (first_group_fault groups ≡ None)
 first_none group groups None e h = (refl, h)
 first_none group groups (Some cause) e h = absurd cc
