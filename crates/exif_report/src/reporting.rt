@@ -18,7 +18,7 @@ use exif_base::send_all;
 use std::alloc::Global;
 
 /// Writes a line for each of the fields, which are those of `exif`.
-#[tactic(auto, using(exif_base::proofs::Loops::front_item, exif_base::proofs::Loops::front_between, exif_base::proofs::Loops::sent_item))]
+#[tactic(auto, using(crate::proofs::Sent::front_item, crate::proofs::Sent::front_between, crate::proofs::Sent::sent_item))]
 fn write_fields<W: Sink>(
     alloc: Global,
     exif: &Exif,
@@ -40,7 +40,7 @@ fn write_fields<W: Sink>(
 }
 
 /// Writes a line for each fault.
-#[tactic(auto, using(exif_base::proofs::Loops::front_item, exif_base::proofs::Loops::front_between, exif_base::proofs::Loops::sent_item))]
+#[tactic(auto, using(crate::proofs::Sent::front_item, crate::proofs::Sent::front_between, crate::proofs::Sent::sent_item))]
 fn write_errors<W: Sink>(alloc: Global, errors: &[Error], out: &mut W) -> Result<(), Error>
     requires { All IsInvalidFormat errors.now }
     ensures sent { OnOk result (Appends (W.taken out.old) (W.taken out.new) (flat_map error_line errors.now)) }
@@ -97,7 +97,7 @@ fn read<R: Source>(alloc: Global, by: &Reader, reader: &mut R) -> Result<(Exif, 
 }
 
 /// Writes a line for each field and for each fault, and flushes.
-#[tactic(auto, using(exif_base::proofs::Sent::appends_more, exif_base::proofs::Sent::front_whole, exif_base::proofs::Sent::front_second, exif_base::proofs::Sent::front_first))]
+#[tactic(auto, using(crate::proofs::Sent::appends_more, crate::proofs::Sent::front_second, crate::proofs::Sent::front_first))]
 fn write_all<W: Sink>(
     alloc: Global,
     exif: &Exif,
