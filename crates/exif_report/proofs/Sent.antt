@@ -42,7 +42,7 @@ around : {X : Type 0} (f : X → List ℕ) (xs : List X) (i : ℕ) (x d : X) →
     → flat_map f (take i xs) ++ (f x ++ flat_map f (drop (i + 1) xs)) ≡ flat_map f xs
 around f xs i x d h e =
     let members : xs ≡ take i xs ++ (x ∷ drop (i + 1) xs) =
-        sym (take-append-drop i xs) ∙ ap (λ r. take i xs ++ r) (drop_more xs i d h ∙ ap (λ y. y ∷ drop (i + 1) xs) (sym e)) in
+    sym (take-append-drop i xs) ∙ ap (λ r. take i xs ++ r) (drop_more xs i d h ∙ ap (λ y. y ∷ drop (i + 1) xs) (sym e)) in
     sym (ap (flat_map f) members ∙ flat_map-append f (take i xs) (x ∷ drop (i + 1) xs))
 
 -- a front of a member's text, after those of the members before it
@@ -59,7 +59,7 @@ front_between a b f xs i sent =
     let P : List ℕ → Type 0 = λ text. SendsFront a b text in
     let rest = flat_map f (drop i xs) in
     subst P (sym (flat_map-append f (take i xs) (drop i xs)) ∙ ap (flat_map f) (take-append-drop i xs))
-        (front_second a b b (flat_map f (take i xs)) rest sent (front_none b b rest (keeps_same b)))
+    (front_second a b b (flat_map f (take i xs)) rest sent (front_none b b rest (keeps_same b)))
 
 -- one member's text more
 pub sent_item : {X : Type 0} (a b c : Option (List ℕ)) (f : X → List ℕ) (xs : List X) (i : ℕ) (x d : X) → i < length xs → x ≡ get_or xs i d
@@ -68,5 +68,5 @@ sent_item a b c f xs i x d h e sent one =
     let P : List ℕ → Type 0 = λ text. Appends a c text in
     let more : take (i + 1) xs ≡ take i xs ++ (x ∷ []) = take_more xs i d h ∙ ap (λ y. take i xs ++ y ∷ []) (sym e) in
     let texts : flat_map f (take i xs) ++ f x ≡ flat_map f (take (i + 1) xs) =
-        ap (λ t. flat_map f (take i xs) ++ t) (sym (append-nil (f x))) ∙ sym (ap (flat_map f) more ∙ flat_map-append f (take i xs) (x ∷ [])) in
+    ap (λ t. flat_map f (take i xs) ++ t) (sym (append-nil (f x))) ∙ sym (ap (flat_map f) more ∙ flat_map-append f (take i xs) (x ∷ [])) in
     subst P texts (appends_more a b c (flat_map f (take i xs)) (f x) sent one)

@@ -91,6 +91,7 @@ fn read<R: Source>(alloc: Global, by: &Reader, reader: &mut R) -> Result<(Exif, 
     ensures finds { IfSome (R.left reader.old) (λ bytes. Finds (file_answer by.now.lenient by.now.limit bytes) result) }
     ensures invalid { IfOk result (λ found. All IsInvalidFormat found.1.items) }
     ensures count { R.failures reader.new ≡ count_after (is_io result) (R.failures reader.old) }
+    ensures same { R.through reader.new ≡ R.through reader.old }
 {
     let found = found_of(alloc, by.read_from_container(alloc, reader))?;
     Ok(found)
@@ -126,7 +127,8 @@ fn report_by<R: Source, W: Sink>(
 ) -> Result<u64, Error>
     ensures reports { IfSome (R.left reader.old) (λ bytes. Reports (file_answer by.now.lenient by.now.limit bytes) result (W.taken out.old) (W.taken out.new)) }
     ensures count { CountsBoth (R.failures reader.old) (R.failures reader.new) (W.failures out.old) (W.failures out.new) (is_io result) }
-    ensures same { W.through out.new ≡ W.through out.old }
+    ensures read_through { R.through reader.new ≡ R.through reader.old }
+    ensures written_through { W.through out.new ≡ W.through out.old }
 {
     let (exif, errors) = read(alloc, by, reader)?;
     let faults = errors.as_slice();
@@ -148,7 +150,8 @@ pub fn report<R: Source, W: Sink>(
 ) -> Result<u64, Error>
     ensures reports { IfSome (R.left reader.old) (λ bytes. Reports (file_answer lenient None bytes) result (W.taken out.old) (W.taken out.new)) }
     ensures count { CountsBoth (R.failures reader.old) (R.failures reader.new) (W.failures out.old) (W.failures out.new) (is_io result) }
-    ensures same { W.through out.new ≡ W.through out.old }
+    ensures read_through { R.through reader.new ≡ R.through reader.old }
+    ensures written_through { W.through out.new ≡ W.through out.old }
 {
     let mut by = Reader::new();
     by.continue_on_error(lenient);
@@ -166,7 +169,8 @@ pub fn report_limited<R: Source, W: Sink>(
 ) -> Result<u64, Error>
     ensures reports { IfSome (R.left reader.old) (λ bytes. Reports (file_answer lenient (Some limit) bytes) result (W.taken out.old) (W.taken out.new)) }
     ensures count { CountsBoth (R.failures reader.old) (R.failures reader.new) (W.failures out.old) (W.failures out.new) (is_io result) }
-    ensures same { W.through out.new ≡ W.through out.old }
+    ensures read_through { R.through reader.new ≡ R.through reader.old }
+    ensures written_through { W.through out.new ≡ W.through out.old }
 {
     let mut by = Reader::new();
     by.continue_on_error(lenient).limit_entries(limit);
