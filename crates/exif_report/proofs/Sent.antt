@@ -23,6 +23,12 @@ front_none None b text h = tt
 front_none (Some p) None text h = absurd h
 front_none (Some p) (Some q) text h = ([], text, refl, h ∙ sym (append-nil p))
 
+-- all of a text
+pub front_all : (a b : Option (List ℕ)) (text : List ℕ) → Appends a b text → SendsFront a b text
+front_all None b text h = tt
+front_all (Some p) None text h = absurd h
+front_all (Some p) (Some q) text h = (text, [], sym (append-nil text), h)
+
 -- a front of the first text
 pub front_first : (a b : Option (List ℕ)) (xs ys : List ℕ) → SendsFront a b xs → SendsFront a b (xs ++ ys)
 front_first None b xs ys h = tt
@@ -57,9 +63,8 @@ front_item a b c f xs i x d h e sent front =
 pub front_between : {X : Type 0} (a b : Option (List ℕ)) (f : X → List ℕ) (xs : List X) (i : ℕ) → Appends a b (flat_map f (take i xs)) → SendsFront a b (flat_map f xs)
 front_between a b f xs i sent =
     let P : List ℕ → Type 0 = λ text. SendsFront a b text in
-    let rest = flat_map f (drop i xs) in
     subst P (sym (flat_map-append f (take i xs) (drop i xs)) ∙ ap (flat_map f) (take-append-drop i xs))
-    (front_second a b b (flat_map f (take i xs)) rest sent (front_none b b rest (keeps_same b)))
+    (front_first a b (flat_map f (take i xs)) (flat_map f (drop i xs)) (front_all a b (flat_map f (take i xs)) sent))
 
 -- one member's text more
 pub sent_item : {X : Type 0} (a b c : Option (List ℕ)) (f : X → List ℕ) (xs : List X) (i : ℕ) (x d : X) → i < length xs → x ≡ get_or xs i d
