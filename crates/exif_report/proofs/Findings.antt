@@ -17,7 +17,7 @@ use Rattle.exif_format.specs.declared.fault.Fault.{Fault}
 use Rattle.exif.specs.Files.{ReadsContainer, IsRefusal}
 use Rattle.exif_report.specs.Lines.{field_line, fault_line, error_line}
 use Rattle.exif_report.specs.Reports.{Finds, Holds, HoldsAnswer, Reports, WritesWhole, IsRefusedAs, given_by, report_text, answer_text, fault_count}
-use Rattle.exif_report.proofs.Sent.{keeps_same, appends_more, front_none, front_second}
+use Rattle.exif_report.proofs.Sent.{keeps_same, appends_more, appends_kept, front_none, front_all}
 
 -- ---- what was read of a container
 
@@ -156,5 +156,4 @@ on_err (Err e) P p = p
 -- both texts were taken, and a call that takes nothing failed
 pub front_of_both : (a b c d : Option (List ℕ)) (xs ys : List ℕ) → Appends a b xs → Appends b c ys → Keeps c d → SendsFront a d (xs ++ ys)
 front_of_both a b c d xs ys first second none =
-    let P : List ℕ → Type 0 = λ text. SendsFront a d text in
-    subst P (append-nil (xs ++ ys)) (front_second a c d (xs ++ ys) [] (appends_more a b c xs ys first second) (front_none c d [] none))
+    front_all a d (xs ++ ys) (appends_kept a c d (xs ++ ys) (appends_more a b c xs ys first second) none)

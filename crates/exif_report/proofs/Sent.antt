@@ -17,6 +17,13 @@ appends_more (Some p) None c xs ys h k = absurd h
 appends_more (Some p) (Some q) None xs ys h k = absurd k
 appends_more (Some p) (Some q) (Some r) xs ys h k = k ∙ ap (λ t. t ++ ys) h ∙ append_assoc p xs ys
 
+-- a text, and then nothing
+pub appends_kept : (a b c : Option (List ℕ)) (text : List ℕ) → Appends a b text → Keeps b c → Appends a c text
+appends_kept None b c text h k = tt
+appends_kept (Some p) None c text h k = absurd h
+appends_kept (Some p) (Some q) None text h k = absurd k
+appends_kept (Some p) (Some q) (Some r) text h k = k ∙ h
+
 -- nothing
 pub front_none : (a b : Option (List ℕ)) (text : List ℕ) → Keeps a b → SendsFront a b text
 front_none None b text h = tt

@@ -1,7 +1,7 @@
 -- What the program does with its words and with its report.
 use Rattle.std.specs.Prelude.{◌≡◌, ℕ, Bool, true, false, ◌==◌, if◌then◌else◌, List, [], ◌∷◌, ◌++◌, codes, Option, Some, None, Result, Ok, Err, IfSome}
 use Rattle.std.specs.Str.{bytes_eq}
-use Rattle.std.specs.Io.KnownBytes.{Keeps}
+use Rattle.std.specs.Io.KnownBytes.{Appends, Keeps}
 use Rattle.exif_base.specs.Sent.{SendsFront}
 use Rattle.exif_types.specs.Failures.{Failure, error_text}
 use Rattle.exif_types.specs.Refusals.{Refusal}
@@ -24,11 +24,15 @@ status_of (Err e) = 1
 unfoldable pub said_line : List ℕ → List ℕ
 said_line text = codes "exif_show: " ++ (text ++ codes "\n")
 
--- a front of an error's line stands out, where its text is told
+-- an error's line was sent, where its text is told
+abbrev pub SaysWhole : Failure → Option (List ℕ) → Option (List ℕ) → Type 0
+SaysWhole e old new = IfSome (error_text e) (λ text. Appends old new (said_line text))
+
+-- a front of it stands out
 abbrev pub Says : Failure → Option (List ℕ) → Option (List ℕ) → Type 0
 Says e old new = IfSome (error_text e) (λ text. SendsFront old new (said_line text))
 
--- an error alone is said
+-- an error alone is said, as far as memory and the device allow
 abbrev pub SaysError : Result ℕ Failure → Option (List ℕ) → Option (List ℕ) → Type 0
 SaysError (Ok count) old new = Keeps old new
 SaysError (Err e) old new = Says e old new

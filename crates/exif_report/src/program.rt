@@ -1,18 +1,16 @@
 //! What the program does with its words and with its report.
 
-ghost use Rattle.std.specs.Prelude.{◌≡◌, ◌<◌, Bool, None, length, map, string_bytes, is_err, IfSome, OnErr, OnOk};
-ghost use Rattle.std.specs.Io.KnownBytes.{Appends};
+ghost use Rattle.std.specs.Prelude.{◌≡◌, ◌<◌, Bool, None, length, map, string_bytes, IfErr, IfSome, OnOk};
 ghost use Rattle.exif_base.specs.Device.{count_after};
-ghost use Rattle.exif_base.specs.Sent.{SendsFront};
+ghost use Rattle.exif_types.specs.Refusals.{is_io, IsInterrupted};
 ghost use Rattle.exif.specs.Files.{file_answer};
-ghost use Rattle.exif_report.specs.Program.{asked_by, Says, Shows};
+ghost use Rattle.exif_report.specs.Program.{asked_by, Says, SaysWhole, Shows};
 ghost use Rattle.exif_report.specs.Reports.{CountsBoth};
 
 use crate::reporting::report;
 use exif::{Error, Sink, Source};
 use exif_base::send_all;
 use std::alloc::Global;
-use std::io;
 
 /// What the words behind the program's name ask for: whether to pass over faults, and which word
 /// is the file's path. Nothing, where they are no such request.
@@ -48,32 +46,24 @@ pub fn show<R: Source, W: Sink, E: Sink>(
         Ok(0) => 0,
         Ok(_) => 3,
         Err(error) => {
-            say(alloc, err, &error);
+            // The status tells of the error, whether or not its line comes through.
+            let _ = say(alloc, err, &error);
             1
         }
     }
 }
 
-/// Sends an error's text, behind the program's name. A fault of `err` is passed over, and so is
-/// want of memory.
-pub fn say<E: Sink>(alloc: Global, err: &mut E, error: &Error)
-    ensures text { Says error.now (E.taken err.old) (E.taken err.new) }
-    ensures count { (failed : Bool) × (E.failures err.new ≡ count_after failed (E.failures err.old)) }
+/// Sends an error's text, behind the program's name, and flushes. Where memory or the device fails, a
+/// front of the line may stand out.
+pub fn say<E: Sink>(alloc: Global, err: &mut E, error: &Error) -> Result<(), Error>
+    ensures sent { OnOk result (SaysWhole error.now (E.taken err.old) (E.taken err.new)) }
+    ensures front { Says error.now (E.taken err.old) (E.taken err.new) }
+    ensures interrupted { IfErr result IsInterrupted }
+    ensures count { E.failures err.new ≡ count_after (is_io result) (E.failures err.old) }
     ensures same { E.through err.new ≡ E.through err.old }
 {
-    if let Ok(line) = format!(in alloc; "exif_show: {error}\n") {
-        let _ = send_whole(err, line.as_bytes());
-    }
-}
-
-// Sends the bytes, and flushes.
-fn send_whole<W: Sink>(sink: &mut W, bytes: &[u8]) -> io::Result<()>
-    ensures sent { OnOk result (Appends (W.taken sink.old) (W.taken sink.new) bytes.now) }
-    ensures front { OnErr result (SendsFront (W.taken sink.old) (W.taken sink.new) bytes.now) }
-    ensures count { W.failures sink.new ≡ count_after (is_err result) (W.failures sink.old) }
-    ensures same { W.through sink.new ≡ W.through sink.old }
-{
-    send_all(sink, bytes)?;
-    sink.flush()?;
+    let line = format!(in alloc; "exif_show: {error}\n")?;
+    send_all(err, line.as_bytes())?;
+    err.flush()?;
     Ok(())
 }
