@@ -136,9 +136,9 @@ fn report_by<R: Source, W: Sink>(
     Ok(faults.len() as u64)
 }
 
-/// Writes what the Exif data of a picture say (TIFF data, or a JPEG, HEIF or WebP file): one line a field, with its tag, its directory and its value. A
-/// lenient report passes over soft faults, and writes one line for each behind the fields.
-/// Answers how many faults were passed over.
+/// Writes what the Exif data of a picture say (TIFF data, or a JPEG, HEIF or WebP file): one line a
+/// field, with its tag, its directory and its value. A lenient report passes over soft faults, and
+/// writes one line for each behind the fields. Answers how many faults were passed over.
 ///
 /// Where the file is refused nothing is written. Where memory or a device fails, a front of the
 /// report may stand out.
