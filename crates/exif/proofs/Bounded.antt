@@ -10,9 +10,9 @@ use Rattle.exif_types.specs.Contents.{ExifContents}
 use Rattle.exif_types.specs.Failures.{Failure, bytes_of}
 use Rattle.exif_types.specs.declared.error.Error.TheVariants as error
 use Rattle.exif_types.specs.declared.field.Field.{Field}
-use Rattle.exif_format.specs.Answers.{Answer, Refused, Whole, Partial, answer_of, raw_answer, shown}
+use Rattle.exif_format.specs.Answers.{Answer, Refused, Whole, Partial, answer_of, raw_answer}
 use Rattle.exif_format.specs.Faults.{text_of}
-use Rattle.exif_format.specs.Trace.{Content, Node, content_of, fields_of, faults_of, limited, header, ordered_trace, trace}
+use Rattle.exif_format.specs.Trace.{Node, content_of, fields_of, faults_of, limited, header, ordered_trace, trace}
 use Rattle.exif_format.specs.Visits.{AreBytes}
 use Rattle.exif_format.specs.declared.fault.Fault.{Fault}
 use Rattle.exif_format.proofs.LimitBound.{limit_bounds}

@@ -1,5 +1,5 @@
 -- What a file answers: its container gives TIFF data, and these give fields and faults.
-use Rattle.std.specs.Prelude.{◌≡◌, ℕ, Bool, true, false, map, List, Option, Some, Result, Ok, Err, MatchOption}
+use Rattle.std.specs.Prelude.{◌≡◌, ℕ, Bool, true, false, map, List, Option, Result, Ok, Err, MatchOption}
 use Rattle.exif_types.specs.Contents.{ExifContents}
 use Rattle.exif_types.specs.Failures.{Failure, bytes_of}
 use Rattle.exif_types.specs.Refusals.{Refusal, refusal_of, IsInterrupted, ◌>>=◌}

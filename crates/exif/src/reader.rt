@@ -52,6 +52,7 @@ fn container_data<R: Source>(alloc: Global, source: &mut R) -> Result<Vec<u8>, E
     ensures gives { IfSome (R.left source.old) (λ bytes. Gives (λ v. v.items) result (container_answer bytes)) }
     ensures interrupted { IfErr result (λ e. MatchOption (refusal_of e) (IsInterrupted e) (λ _. ⊤)) }
     ensures count { R.failures source.new ≡ count_after (is_io result) (R.failures source.old) }
+    ensures same { R.through source.new ≡ R.through source.old }
 {
     match exif_attr_of_stream(alloc, source) {
         Err(Error::PartialResult(_partial)) => Err(Error::OutOfMemory),
@@ -112,6 +113,7 @@ impl Reader {
         ensures reads { IfSome (R.left source.old)
             (λ bytes. ReadsContainer (raw_answer self.now.lenient self.now.limit) (container_answer bytes) result) }
         ensures count { R.failures source.new ≡ count_after (is_io result) (R.failures source.old) }
+        ensures same { R.through source.new ≡ R.through source.old }
     {
         let bytes = container_data(alloc, source)?;
         let exif = self.read(alloc, bytes)?;

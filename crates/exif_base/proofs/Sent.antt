@@ -1,5 +1,5 @@
 -- One send after another.
-use Rattle.std.proofs.Common.{◌≡◌, ℕ, ◌+◌, ◌≤◌, length, arith, List, [], ◌++◌, take, drop, Option, None, Some, ap, sym, ◌∙◌, refl, append_assoc, append-nil}
+use Rattle.std.proofs.Common.{◌≡◌, ℕ, ◌+◌, ◌≤◌, length, arith, List, [], ◌++◌, take, drop, Option, None, Some, ap, sym, ◌∙◌, append_assoc, append-nil}
 use Rattle.std.proofs.lemmas.List.{take-append-drop, length-take-le, take-take}
 use Rattle.std.proofs.Math.Seq.{take-append-add}
 use Rattle.std.specs.Io.KnownBytes.{Appends, Keeps}
@@ -15,13 +15,6 @@ appends_more (Some p) (Some q) (Some r) xs ys h k = k ∙ ap (λ t. t ++ ys) h �
 pub appends_none : (a : Option (List ℕ)) → Appends a a []
 appends_none None = tt
 appends_none (Some p) = sym (append-nil p)
-
--- all of it, and then a call that takes nothing
-pub front_whole : (a b c : Option (List ℕ)) (xs ys : List ℕ) → Appends a b xs → Keeps b c → SendsFront a c (xs ++ ys)
-front_whole None b c xs ys h k = tt
-front_whole (Some p) None c xs ys h k = absurd h
-front_whole (Some p) (Some q) None xs ys h k = absurd k
-front_whole (Some p) (Some q) (Some r) xs ys h k = (xs, ys, refl, k ∙ h)
 
 -- the first text, and a front of the second
 pub front_second : (a b c : Option (List ℕ)) (xs ys : List ℕ) → Appends a b xs → SendsFront b c ys → SendsFront a c (xs ++ ys)

@@ -1,6 +1,6 @@
 //! Bytes that were read ahead, put before the rest of their reader.
 
-ghost use Rattle.std.specs.Prelude.{◌≡◌, ◌++◌, length, min, take, drop};
+ghost use Rattle.std.specs.Prelude.{◌≡◌, ◌∷◌, ◌++◌, length, min, take, drop};
 ghost use Rattle.std.specs.Io.KnownBytes.{prepend_known};
 
 use crate::device::Source;
@@ -33,7 +33,7 @@ impl<'a, R: Source> Source for Ahead<'a, R> {
 
     ghost failures = { λ a. R.failures (ahead_rest a) };
 
-    ghost through = { ahead_name };
+    ghost through = { λ a. ahead_name a ∷ R.through (ahead_rest a) };
 
     fn fetch(&mut self, buf: &mut [u8]) -> io::Result<usize> {
         if self.head.is_empty() {

@@ -1,6 +1,6 @@
 //! Where bytes come from and go to: readers and writers that count their failures.
 
-ghost use Rattle.std.specs.Prelude.{◌≡◌, ℕ, List, Option, length, is_err, true};
+ghost use Rattle.std.specs.Prelude.{◌≡◌, ℕ, List, [], Option, length, is_err, true};
 ghost use Rattle.std.specs.Io.{ReadsAtMost, WritesAtMost};
 ghost use Rattle.std.specs.Io.KnownBytes.{Keeps, ReadConsumes, WriteAppends};
 ghost use Rattle.exif_base.specs.Device.{count_after, put_failed};
@@ -17,8 +17,8 @@ pub trait Source {
     /// How many fetches failed, up to 2^64 - 1.
     ghost failures: { Self → ℕ };
 
-    /// The name of the reference that it reads through, if it does.
-    ghost through: { Self → ℕ };
+    /// The names of the references that it reads through, the outermost first.
+    ghost through: { Self → List ℕ };
 
     /// Puts the next bytes at the front of the buffer, and answers how many.
     ///
@@ -38,8 +38,8 @@ pub trait Sink {
     /// How many puts and flushes failed, up to 2^64 - 1.
     ghost failures: { Self → ℕ };
 
-    /// The name of the reference that it writes through, if it does.
-    ghost through: { Self → ℕ };
+    /// The names of the references that it writes through, the outermost first.
+    ghost through: { Self → List ℕ };
 
     /// Takes a front of the bytes, and answers how many. An error took none.
     fn put(&mut self, bytes: &[u8]) -> io::Result<usize>
@@ -95,7 +95,7 @@ impl<R: Read> Source for Counted<R> {
 
     ghost failures = { counted_failures };
 
-    ghost through = { λ _. 0 };
+    ghost through = { λ _. [] };
 
     fn fetch(&mut self, buf: &mut [u8]) -> io::Result<usize> {
         let result = self.inner.read(buf);
@@ -111,7 +111,7 @@ impl<W: Write> Sink for Counted<W> {
 
     ghost failures = { counted_failures };
 
-    ghost through = { λ _. 0 };
+    ghost through = { λ _. [] };
 
     fn put(&mut self, bytes: &[u8]) -> io::Result<usize> {
         let result = self.inner.write(bytes);

@@ -1,6 +1,6 @@
 //! Sources that may hold bytes ahead of what was taken, and pass over them fast.
 
-ghost use Rattle.std.specs.Prelude.{◌≡◌, ◌≢◌, ◌+◌, ◌-◌, ◌<◌, ◌≤◌, ℕ, length, min, take, drop, slice_index, is_err, OnOk};
+ghost use Rattle.std.specs.Prelude.{◌≡◌, ◌≢◌, ◌∷◌, ◌+◌, ◌-◌, ◌<◌, ◌≤◌, ℕ, length, min, take, drop, slice_index, is_err, OnOk};
 ghost use Rattle.std.specs.Io.KnownBytes.{IsAtEnd, Keeps, prepend_known};
 ghost use Rattle.exif_base.specs.Device.{count_after};
 ghost use Rattle.exif_base.specs.Scan.{PassesOthers};
@@ -48,7 +48,7 @@ impl<'a, R: Source> Source for Exact<'a, R> {
 
     ghost failures = { λ e. R.failures (exact_source e) };
 
-    ghost through = { exact_name };
+    ghost through = { λ e. exact_name e ∷ R.through (exact_source e) };
 
     fn fetch(&mut self, buf: &mut [u8]) -> io::Result<usize> {
         self.source.fetch(buf)
@@ -122,6 +122,7 @@ impl<'a, R: Source> Blocks<'a, R> {
         ensures end { OnOk result (self.new.at ≡ self.new.end → IsAtEnd (R.left (blocks_source self.new))) }
         ensures count { R.failures (blocks_source self.new) ≡ count_after (is_err result) (R.failures (blocks_source self.old)) }
         ensures same { blocks_name self.new ≡ blocks_name self.old }
+        ensures through { R.through (blocks_source self.new) ≡ R.through (blocks_source self.old) }
     {
         if self.at < self.end {
             return Ok(());
@@ -140,7 +141,7 @@ impl<'a, R: Source> Source for Blocks<'a, R> {
 
     ghost failures = { λ b. R.failures (blocks_source b) };
 
-    ghost through = { blocks_name };
+    ghost through = { λ b. blocks_name b ∷ R.through (blocks_source b) };
 
     fn fetch(&mut self, buf: &mut [u8]) -> io::Result<usize> {
         if self.at == self.end && buf.len() >= self.block.len() {

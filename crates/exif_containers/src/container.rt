@@ -66,6 +66,7 @@ pub fn format_of(head: &[u8]) -> Option<Format>
 fn heif_attr<R: Source>(alloc: Global, head: &[u8], source: &mut R) -> Result<Vec<u8>, Error>
     ensures gives { IfSome (R.left source.old) (λ rest. Gives (λ v. v.items) result (exif_of (head.now ++ rest))) }
     ensures count { R.failures source.new ≡ count_after (is_io result) (R.failures source.old) }
+    ensures same { R.through source.new ≡ R.through source.old }
 {
     let file = read_behind(alloc, head, source)?;
     let payload = exif_of_file(alloc, &file)?;
@@ -84,6 +85,7 @@ fn jpeg_attr<R: Source>(
     ensures gives { IfSome (R.left source.old)
         (λ rest. Gives (λ v. v.items) result (data_of (jpeg_answer (take LIMIT (take filled block.old ++ rest))))) }
     ensures count { R.failures source.new ≡ count_after (is_io result) (R.failures source.old) }
+    ensures same { R.through source.new ≡ R.through source.old }
 {
     let mut blocks = Blocks::new(block, filled, source);
     let payload = jpeg::exif_attr(alloc, &mut blocks)?;
@@ -102,6 +104,7 @@ fn webp_attr<R: Source>(
     ensures gives { IfSome (R.left source.old)
         (λ rest. Gives (λ v. v.items) result (data_of (webp_answer (take filled block.old ++ rest)))) }
     ensures count { R.failures source.new ≡ count_after (is_io result) (R.failures source.old) }
+    ensures same { R.through source.new ≡ R.through source.old }
 {
     let mut blocks = Blocks::new(block, filled, source);
     let payload = webp::get_exif_attr(alloc, &mut blocks)?;
@@ -122,6 +125,7 @@ fn attr_as<R: Source>(
     ensures gives { IfSome (R.left source.old)
         (λ rest. Gives (λ v. v.items) result (answer_as format (take filled block.old ++ rest))) }
     ensures count { R.failures source.new ≡ count_after (is_io result) (R.failures source.old) }
+    ensures same { R.through source.new ≡ R.through source.old }
 {
     match format {
         Some(Format::Tiff) => read_behind(alloc, &block[..filled], source),
@@ -156,6 +160,7 @@ fn attr_by_block<R: Source>(
     requires { HEAD ≤ length block.now }
     ensures gives { IfSome (R.left source.old) (λ bytes. Gives (λ v. v.items) result (container_answer bytes)) }
     ensures count { R.failures source.new ≡ count_after (is_io result) (R.failures source.old) }
+    ensures same { R.through source.new ≡ R.through source.old }
 {
     let filled = read_head(source, block)?;
     let format = format_of(&block[..filled]);
@@ -171,6 +176,7 @@ fn attr_by_block<R: Source>(
 pub fn exif_attr_of_stream<R: Source>(alloc: Global, source: &mut R) -> Result<Vec<u8>, Error>
     ensures gives { IfSome (R.left source.old) (λ bytes. Gives (λ v. v.items) result (container_answer bytes)) }
     ensures count { R.failures source.new ≡ count_after (is_io result) (R.failures source.old) }
+    ensures same { R.through source.new ≡ R.through source.old }
 {
     let mut block = vec![in alloc; 0u8; BLOCK]?;
     let payload = attr_by_block(alloc, &mut block, source)?;

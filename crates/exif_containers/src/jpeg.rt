@@ -167,6 +167,7 @@ pub fn get_exif_attr_from_jpeg<R: Source>(alloc: Global, source: &mut R) -> Resu
         (λ xs ys. (rest : List ℕ) × (jpeg_answer (take LIMIT xs) ≡ found v.items rest) × (ys ≡ rest ++ drop LIMIT xs))) }
     ensures refused { IfErr result (λ e. IfSome (R.left source.old) (λ xs. Fails e (jpeg_answer (take LIMIT xs)))) }
     ensures count { R.failures source.new ≡ count_after (is_io result) (R.failures source.old) }
+    ensures same { R.through source.new ≡ R.through source.old }
 {
     let mut exact = Exact::new(source);
     let payload = exif_attr(alloc, &mut exact)?;

@@ -7,7 +7,6 @@ use Rattle.std.specs.Global.{Global}
 use Rattle.std.specs.List.{flat_map}
 use Rattle.std.specs.Io.KnownBytes.{Appends, Keeps}
 use Rattle.exif_base.specs.Sent.{SendsFront}
-use Rattle.exif_base.proofs.Sent.{appends_more, front_whole}
 use Rattle.exif_types.specs.Contents.{ExifContents, PartialContents}
 use Rattle.exif_types.specs.Failures.{Failure, told_text, bytes_of}
 use Rattle.exif_types.specs.Refusals.{Refusal, refusal_of, IsInterrupted}
@@ -18,6 +17,7 @@ use Rattle.exif_format.specs.declared.fault.Fault.{Fault}
 use Rattle.exif.specs.Files.{ReadsContainer, IsRefusal}
 use Rattle.exif_report.specs.Lines.{field_line, fault_line, error_line}
 use Rattle.exif_report.specs.Reports.{Finds, Holds, HoldsAnswer, Reports, WritesWhole, IsRefusedAs, given_by, report_text, answer_text, fault_count}
+use Rattle.exif_report.proofs.Sent.{keeps_same, appends_more, appends_kept, front_none, front_all}
 
 -- ---- what was read of a container
 
@@ -104,14 +104,6 @@ found_is_whole (Partial fields faults) exif errors h fault e = cc
 
 -- ---- reports
 
-keeps_same : (a : Option (List ℕ)) → Keeps a a
-keeps_same None = tt
-keeps_same (Some bytes) = refl
-
-front_none : (a : Option (List ℕ)) (text : List ℕ) → SendsFront a a text
-front_none None text = tt
-front_none (Some bytes) text = ([], text, refl, sym (append-nil bytes))
-
 read_text : (exif : ExifContents) (errors faults : List Failure) → faults ≡ errors
     → flat_map (field_line exif.fields) exif.fields ++ flat_map error_line faults ≡ flat_map (field_line exif.fields) exif.fields ++ flat_map error_line errors
 read_text exif errors faults e = rw e refl
@@ -148,7 +140,7 @@ reports_front (Some bytes) old new answer exif errors faults e h i f front = inr
 
 read_none : (answer : Result Answer Refusal) (old : Option (List ℕ)) (e : Failure) → (IsRefusedAs answer e) ⊎ (IsInterrupted e) → Reports answer (Err e) old old
 read_none answer old e (inl refused) = inl (refused, keeps_same old)
-read_none answer old e (inr interrupted) = inr (interrupted, front_none old (report_text answer))
+read_none answer old e (inr interrupted) = inr (interrupted, front_none old old (report_text answer) (keeps_same old))
 
 -- nothing was read
 pub reports_none : (left old : Option (List ℕ)) (answer : List ℕ → Result Answer Refusal) (e : Failure)
@@ -164,5 +156,4 @@ on_err (Err e) P p = p
 -- both texts were taken, and a call that takes nothing failed
 pub front_of_both : (a b c d : Option (List ℕ)) (xs ys : List ℕ) → Appends a b xs → Appends b c ys → Keeps c d → SendsFront a d (xs ++ ys)
 front_of_both a b c d xs ys first second none =
-    let P : List ℕ → Type 0 = λ text. SendsFront a d text in
-    subst P (append-nil (xs ++ ys)) (front_whole a c d (xs ++ ys) [] (appends_more a b c xs ys first second) none)
+    front_all a d (xs ++ ys) (appends_kept a c d (xs ++ ys) (appends_more a b c xs ys first second) none)

@@ -1,6 +1,11 @@
 //! What the program does with its words and with its report.
 
-ghost use Rattle.std.specs.Prelude.{◌<◌, length, IfSome};
+ghost use Rattle.std.specs.Prelude.{◌≡◌, ◌<◌, Bool, None, length, map, string_bytes, IfErr, IfSome, OnOk};
+ghost use Rattle.exif_base.specs.Device.{count_after};
+ghost use Rattle.exif_types.specs.Refusals.{is_io, IsInterrupted};
+ghost use Rattle.exif.specs.Files.{file_answer};
+ghost use Rattle.exif_report.specs.Program.{asked_by, Says, SaysWhole, Shows};
+ghost use Rattle.exif_report.specs.Reports.{CountsBoth};
 
 use crate::reporting::report;
 use exif::{Error, Sink, Source};
@@ -10,7 +15,8 @@ use std::alloc::Global;
 /// What the words behind the program's name ask for: whether to pass over faults, and which word
 /// is the file's path. Nothing, where they are no such request.
 pub fn mode(words: &[String]) -> Option<(bool, usize)>
-    ensures { IfSome result (λ asked. asked.1 < length words.now) }
+    ensures asked { result ≡ asked_by (map string_bytes words.now) }
+    ensures path { IfSome result (λ asked. asked.1 < length words.now) }
 {
     match words {
         [file] if file.as_str() != "-c" => Some((false, 0)),
@@ -27,23 +33,37 @@ pub fn show<R: Source, W: Sink, E: Sink>(
     out: &mut W,
     err: &mut E,
     lenient: bool,
-) -> u8 {
+) -> u8
+    ensures shows { IfSome (R.left reader.old) (λ bytes. Shows (file_answer lenient None bytes) result
+        (W.taken out.old) (W.taken out.new) (E.taken err.old) (E.taken err.new)) }
+    ensures count { (io : Bool) × CountsBoth (R.failures reader.old) (R.failures reader.new) (W.failures out.old) (W.failures out.new) io }
+    ensures said { (failed : Bool) × (E.failures err.new ≡ count_after failed (E.failures err.old)) }
+    ensures read_through { R.through reader.new ≡ R.through reader.old }
+    ensures written_through { W.through out.new ≡ W.through out.old }
+    ensures said_through { E.through err.new ≡ E.through err.old }
+{
     match report(alloc, reader, out, lenient) {
         Ok(0) => 0,
         Ok(_) => 3,
         Err(error) => {
-            say(alloc, err, &error);
+            // The status tells of the error, whether or not its line comes through.
+            let _ = say(alloc, err, &error);
             1
         }
     }
 }
 
-/// Sends an error's text, behind the program's name. A fault of `err` is passed over, and so is
-/// want of memory.
-pub fn say<E: Sink>(alloc: Global, err: &mut E, error: &Error) {
-    if let Ok(text) = format!(in alloc; "exif_show: {error}\n") {
-        if send_all(err, text.as_bytes()).is_ok() {
-            let _ = err.flush();
-        }
-    }
+/// Sends an error's text, behind the program's name, and flushes. Where memory or the device fails, a
+/// front of the line may stand out.
+pub fn say<E: Sink>(alloc: Global, err: &mut E, error: &Error) -> Result<(), Error>
+    ensures sent { OnOk result (SaysWhole error.now (E.taken err.old) (E.taken err.new)) }
+    ensures front { Says error.now (E.taken err.old) (E.taken err.new) }
+    ensures interrupted { IfErr result IsInterrupted }
+    ensures count { E.failures err.new ≡ count_after (is_io result) (E.failures err.old) }
+    ensures same { E.through err.new ≡ E.through err.old }
+{
+    let line = format!(in alloc; "exif_show: {error}\n")?;
+    send_all(err, line.as_bytes())?;
+    err.flush()?;
+    Ok(())
 }

@@ -18,7 +18,7 @@ use exif_base::send_all;
 use std::alloc::Global;
 
 /// Writes a line for each of the fields, which are those of `exif`.
-#[tactic(auto, using(exif_base::proofs::Loops::front_item, exif_base::proofs::Loops::front_between, exif_base::proofs::Loops::sent_item))]
+#[tactic(auto, using(crate::proofs::Sent::front_item, crate::proofs::Sent::front_between, crate::proofs::Sent::sent_item))]
 fn write_fields<W: Sink>(
     alloc: Global,
     exif: &Exif,
@@ -40,7 +40,7 @@ fn write_fields<W: Sink>(
 }
 
 /// Writes a line for each fault.
-#[tactic(auto, using(exif_base::proofs::Loops::front_item, exif_base::proofs::Loops::front_between, exif_base::proofs::Loops::sent_item))]
+#[tactic(auto, using(crate::proofs::Sent::front_item, crate::proofs::Sent::front_between, crate::proofs::Sent::sent_item))]
 fn write_errors<W: Sink>(alloc: Global, errors: &[Error], out: &mut W) -> Result<(), Error>
     requires { All IsInvalidFormat errors.now }
     ensures sent { OnOk result (Appends (W.taken out.old) (W.taken out.new) (flat_map error_line errors.now)) }
@@ -91,13 +91,14 @@ fn read<R: Source>(alloc: Global, by: &Reader, reader: &mut R) -> Result<(Exif, 
     ensures finds { IfSome (R.left reader.old) (λ bytes. Finds (file_answer by.now.lenient by.now.limit bytes) result) }
     ensures invalid { IfOk result (λ found. All IsInvalidFormat found.1.items) }
     ensures count { R.failures reader.new ≡ count_after (is_io result) (R.failures reader.old) }
+    ensures same { R.through reader.new ≡ R.through reader.old }
 {
     let found = found_of(alloc, by.read_from_container(alloc, reader))?;
     Ok(found)
 }
 
 /// Writes a line for each field and for each fault, and flushes.
-#[tactic(auto, using(exif_base::proofs::Sent::appends_more, exif_base::proofs::Sent::front_whole, exif_base::proofs::Sent::front_second, exif_base::proofs::Sent::front_first))]
+#[tactic(auto, using(crate::proofs::Sent::appends_more, crate::proofs::Sent::front_second, crate::proofs::Sent::front_first))]
 fn write_all<W: Sink>(
     alloc: Global,
     exif: &Exif,
@@ -126,7 +127,8 @@ fn report_by<R: Source, W: Sink>(
 ) -> Result<u64, Error>
     ensures reports { IfSome (R.left reader.old) (λ bytes. Reports (file_answer by.now.lenient by.now.limit bytes) result (W.taken out.old) (W.taken out.new)) }
     ensures count { CountsBoth (R.failures reader.old) (R.failures reader.new) (W.failures out.old) (W.failures out.new) (is_io result) }
-    ensures same { W.through out.new ≡ W.through out.old }
+    ensures read_through { R.through reader.new ≡ R.through reader.old }
+    ensures written_through { W.through out.new ≡ W.through out.old }
 {
     let (exif, errors) = read(alloc, by, reader)?;
     let faults = errors.as_slice();
@@ -134,9 +136,9 @@ fn report_by<R: Source, W: Sink>(
     Ok(faults.len() as u64)
 }
 
-/// Writes what the Exif data of a picture say (TIFF data, or a JPEG, HEIF or WebP file): one line a field, with its tag, its directory and its value. A
-/// lenient report passes over soft faults, and writes one line for each behind the fields.
-/// Answers how many faults were passed over.
+/// Writes what the Exif data of a picture say (TIFF data, or a JPEG, HEIF or WebP file): one line a
+/// field, with its tag, its directory and its value. A lenient report passes over soft faults, and
+/// writes one line for each behind the fields. Answers how many faults were passed over.
 ///
 /// Where the file is refused nothing is written. Where memory or a device fails, a front of the
 /// report may stand out.
@@ -148,7 +150,8 @@ pub fn report<R: Source, W: Sink>(
 ) -> Result<u64, Error>
     ensures reports { IfSome (R.left reader.old) (λ bytes. Reports (file_answer lenient None bytes) result (W.taken out.old) (W.taken out.new)) }
     ensures count { CountsBoth (R.failures reader.old) (R.failures reader.new) (W.failures out.old) (W.failures out.new) (is_io result) }
-    ensures same { W.through out.new ≡ W.through out.old }
+    ensures read_through { R.through reader.new ≡ R.through reader.old }
+    ensures written_through { W.through out.new ≡ W.through out.old }
 {
     let mut by = Reader::new();
     by.continue_on_error(lenient);
@@ -166,7 +169,8 @@ pub fn report_limited<R: Source, W: Sink>(
 ) -> Result<u64, Error>
     ensures reports { IfSome (R.left reader.old) (λ bytes. Reports (file_answer lenient (Some limit) bytes) result (W.taken out.old) (W.taken out.new)) }
     ensures count { CountsBoth (R.failures reader.old) (R.failures reader.new) (W.failures out.old) (W.failures out.new) (is_io result) }
-    ensures same { W.through out.new ≡ W.through out.old }
+    ensures read_through { R.through reader.new ≡ R.through reader.old }
+    ensures written_through { W.through out.new ≡ W.through out.old }
 {
     let mut by = Reader::new();
     by.continue_on_error(lenient).limit_entries(limit);

@@ -21,7 +21,7 @@ fn main(rt: HostRuntime) -> io::Result<ExitCode> {
     let file = match File::open(&rt, words[place].as_str()) {
         Ok(file) => file,
         Err(cause) => {
-            say(rt.alloc(), &mut err, &Error::Io(cause));
+            let _ = say(rt.alloc(), &mut err, &Error::Io(cause));
             return Ok(ExitCode::from(1));
         }
     };

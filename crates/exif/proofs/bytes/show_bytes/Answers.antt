@@ -1,4 +1,4 @@
-use Rattle.std.proofs.Common.{arith, rules}
+use Rattle.std.proofs.Common.{rules}
 use Rattle.exif.proofs.bytes.show_bytes.Goals as goal
 
 pub returns : goal.returns

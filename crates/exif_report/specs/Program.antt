@@ -1,0 +1,42 @@
+-- What the program does with its words and with its report.
+use Rattle.std.specs.Prelude.{◌≡◌, ℕ, Bool, true, false, ◌==◌, if◌then◌else◌, List, [], ◌∷◌, ◌++◌, codes, Option, Some, None, Result, Ok, Err, IfSome}
+use Rattle.std.specs.Str.{bytes_eq}
+use Rattle.std.specs.Io.KnownBytes.{Appends, Keeps}
+use Rattle.exif_base.specs.Sent.{SendsFront}
+use Rattle.exif_types.specs.Failures.{Failure, error_text}
+use Rattle.exif_types.specs.Refusals.{Refusal}
+use Rattle.exif_format.specs.Answers.{Answer}
+use Rattle.exif_report.specs.Reports.{Reports}
+
+-- whether to pass over faults, and which word is the file's path
+abbrev pub asked_by : List (List ℕ) → Option (Bool × ℕ)
+asked_by [] = None
+asked_by (file ∷ []) = if bytes_eq file (codes "-c") then None else Some (false, 0)
+asked_by (flag ∷ (file ∷ [])) = if bytes_eq flag (codes "-c") then Some (true, 1) else None
+asked_by (a ∷ (b ∷ (c ∷ more))) = None
+
+-- the status of a report: 0 without faults, 3 with faults that were passed over, 1 with an error
+abbrev pub status_of : Result ℕ Failure → ℕ
+status_of (Ok count) = if count == 0 then 0 else 3
+status_of (Err e) = 1
+
+-- the line of an error
+unfoldable pub said_line : List ℕ → List ℕ
+said_line text = codes "exif_show: " ++ (text ++ codes "\n")
+
+-- an error's line was sent, where its text is told
+abbrev pub SaysWhole : Failure → Option (List ℕ) → Option (List ℕ) → Type 0
+SaysWhole e old new = IfSome (error_text e) (λ text. Appends old new (said_line text))
+
+-- a front of it stands out
+abbrev pub Says : Failure → Option (List ℕ) → Option (List ℕ) → Type 0
+Says e old new = IfSome (error_text e) (λ text. SendsFront old new (said_line text))
+
+-- an error alone is said, as far as memory and the device allow
+abbrev pub SaysError : Result ℕ Failure → Option (List ℕ) → Option (List ℕ) → Type 0
+SaysError (Ok count) old new = Keeps old new
+SaysError (Err e) old new = Says e old new
+
+-- the file's report, its status, and its error
+abbrev pub Shows : Result Answer Refusal → ℕ → Option (List ℕ) → Option (List ℕ) → Option (List ℕ) → Option (List ℕ) → Type 0
+Shows answer status out out' err err' = (found : Result ℕ Failure) × Reports answer found out out' × (status ≡ status_of found) × SaysError found err err'
