@@ -7,4 +7,5 @@ mod limits;
 mod memory;
 mod partial;
 mod reports;
+mod shortage;
 mod support;

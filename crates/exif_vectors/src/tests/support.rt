@@ -36,6 +36,18 @@ pub fn read(alloc: Global, reader: &Reader, bytes: &[u8]) -> Result<(Exif, Vec<S
     }
 }
 
+/// How many fields and how many faults an answer has, if it has fields.
+pub fn counts(answer: Result<Exif, Error>) -> Option<(usize, usize)> {
+    match answer {
+        Ok(exif) => Some((exif.fields().len(), 0)),
+        Err(Error::PartialResult(partial)) => {
+            let (exif, faults) = partial.into_inner();
+            Some((exif.fields().len(), faults.len()))
+        }
+        Err(_other) => None,
+    }
+}
+
 /// What a report answers, and what it wrote.
 pub fn reported(
     alloc: Global,
