@@ -22,6 +22,10 @@ pub const WRONG_NEXT: &[u8] =
 /// A value of a type that is not known.
 pub const UNKNOWN_TYPE: &[u8] = b"MM\0*\0\0\0\x08\0\x01\x01\0\xff\xff\0\0\0\x01\0\x14\0\0\0\0\0\0";
 
+/// A number, and a text that is longer than the number's line.
+pub const LONGER_LINE: &[u8] =
+    b"MM\0*\0\0\0\x08\0\x02\xfd\xe8\0\x03\0\0\0\x01\0\x01\0\0\x01\x0e\0\x02\0\0\0C\0\0\0&\0\0\0\0A text that is longer than the line before it has room for, by far\0";
+
 /// Two widths, and two pointers to one Exif directory.
 pub const SHARED_CHILD: &[u8] =
     b"MM\0*\0\0\0\x08\0\x04\x01\0\0\x03\0\0\0\x01\0\x14\0\0\x01\0\0\x03\0\0\0\x01\0\x15\0\0\x87i\0\x04\0\0\0\x01\0\0\0>\x87i\0\x04\0\0\0\x01\0\0\0>\0\0\0\0\0\x01\x90\0\0\x07\0\0\0\x040231\0\0\0\0";

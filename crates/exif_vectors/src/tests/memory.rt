@@ -1,7 +1,7 @@
 //! What is answered where memory is refused: all of it, or what is behind some request.
 
-use super::shortage::{Outcome, in_turn, take_most, take_rest};
-use super::support::counts;
+use super::shortage::{Greedy, Outcome, in_turn, take_most, take_rest};
+use super::support::{counts, shared_children};
 use crate::files;
 use exif::{Counted, Error, Field, In, Items, Rational, Reader, Tag, Value, parse_exif};
 use exif_report::report;
@@ -105,6 +105,32 @@ fn containers_want_memory(rt: HostRuntime) -> Result<(), Fail> {
     Ok(())
 }
 
+// What reading a container comes to, where so many fields and faults are to be read.
+fn reading_container(
+    alloc: Global,
+    reader: &Reader,
+    bytes: &[u8],
+    wanted: (usize, usize),
+) -> Outcome {
+    match reader.read_from_container(alloc, &mut Counted::new(bytes)) {
+        Err(Error::OutOfMemory) => Outcome::Wants,
+        answer => Outcome::answered(counts(answer) == Some(wanted)),
+    }
+}
+
+// The fields take more memory than the buffer of the bytes did, which is given back before.
+#[test]
+fn many_fields_want_memory(rt: HostRuntime) -> Result<(), Fail> {
+    let alloc = rt.alloc();
+    let data = shared_children(alloc, 3, 8)?;
+    let bytes = data.as_slice();
+    let mut reader = Reader::new();
+    reader.continue_on_error(true);
+    let wants = in_turn(&rt, || reading_container(alloc, &reader, bytes, (216, 1)))?;
+    assert!(rt; wants > 0);
+    Ok(())
+}
+
 // What a report comes to. Where it wants memory a beginning of the text is written, and else all.
 fn reporting(
     alloc: Global,
@@ -149,6 +175,29 @@ fault: Truncated IFD count
         let wants = in_turn(&rt, || reporting(alloc, bytes, lenient, text, faults))?;
         assert!(rt; wants > 0);
     }
+    Ok(())
+}
+
+// What a lenient report writes to a writer that leaves it no memory.
+fn reported_greedily(alloc: Global, bytes: &[u8]) -> Result<(Result<u64, Error>, Vec<u8>), Fail> {
+    let mut out = Counted::new(Greedy::new(alloc)?);
+    let most = take_most(alloc)?;
+    let answer = report(alloc, &mut Counted::new(bytes), &mut out, true);
+    drop(most);
+    Ok((answer, out.into_inner().written))
+}
+
+#[test]
+fn lines_want_memory(rt: HostRuntime) -> Result<(), Fail> {
+    let alloc = rt.alloc();
+    let fields = "ExifVersion primary 0x00020302\nTag(Tiff, 65000) primary -19088744\n";
+    let (answer, written) = reported_greedily(alloc, files::WRONG_NEXT)?;
+    assert!(rt; matches!(answer, Err(Error::OutOfMemory)));
+    assert_eq!(rt; written.as_slice(), fields.as_bytes());
+    let short = "Tag(Tiff, 65000) primary 1\n";
+    let (answer, written) = reported_greedily(alloc, files::LONGER_LINE)?;
+    assert!(rt; matches!(answer, Err(Error::OutOfMemory)));
+    assert_eq!(rt; written.as_slice(), short.as_bytes());
     Ok(())
 }
 

@@ -2,6 +2,8 @@
 
 use exif::Error;
 use std::alloc::{AllocError, Global};
+use std::io;
+use std::io::Write;
 use std::process::Abort;
 use std::test::Fail;
 
@@ -9,7 +11,7 @@ use std::test::Fail;
 pub type Blocks = Vec<Vec<u8>>;
 
 // How many steps of 16 bytes a call asks for at most.
-const MOST_STEPS: u16 = 2000;
+const MOST_STEPS: u16 = 4000;
 
 const MOST_BLOCKS: usize = 200_000;
 
@@ -46,16 +48,22 @@ pub fn take_most(alloc: Global) -> Result<Blocks, AllocError> {
     Ok(blocks)
 }
 
+// Takes what `take_most` left.
+fn take_small(alloc: Global, blocks: &mut Blocks) -> Result<(), AllocError> {
+    for kilobytes in (1..65u32).rev() {
+        take(alloc, blocks, 1024 * kilobytes as usize)?;
+    }
+    for sixteens in (1..65u32).rev() {
+        take(alloc, blocks, 16 * sixteens as usize)?;
+    }
+    Ok(())
+}
+
 /// Takes what `take_most` left, all but so many bytes in one piece.
 pub fn take_rest(alloc: Global, left: u16) -> Result<Blocks, AllocError> {
     let mut blocks = Vec::with_capacity(alloc, 1000)?;
     let piece: Vec<u8> = Vec::with_capacity(alloc, SPLIT + left as usize)?;
-    for kilobytes in (1..65u32).rev() {
-        take(alloc, &mut blocks, 1024 * kilobytes as usize)?;
-    }
-    for sixteens in (1..65u32).rev() {
-        take(alloc, &mut blocks, 16 * sixteens as usize)?;
-    }
+    take_small(alloc, &mut blocks)?;
     drop(piece);
     blocks.push(Vec::with_capacity(alloc, SPLIT)?)?;
     Ok(blocks)
@@ -112,4 +120,36 @@ pub fn in_turn<F: FnMut() -> Outcome + Drop>(
         }
     }
     panic!(rt; "memory was never enough");
+}
+
+/// A writer that takes what `take_most` left, whenever it is called.
+#[derive(Drop)]
+pub struct Greedy {
+    /// The bytes that were written.
+    pub written: Vec<u8>,
+    blocks: Blocks,
+    alloc: Global,
+}
+
+impl Greedy {
+    /// A writer with room for 256 bytes.
+    pub fn new(alloc: Global) -> Result<Greedy, AllocError> {
+        Ok(Greedy {
+            written: Vec::with_capacity(alloc, 256)?,
+            blocks: Vec::with_capacity(alloc, 1000)?,
+            alloc,
+        })
+    }
+}
+
+impl Write for Greedy {
+    fn write(&mut self, buf: &[u8]) -> io::Result<usize> {
+        take_small(self.alloc, &mut self.blocks)?;
+        self.written.extend_from_slice(buf)?;
+        Ok(buf.len())
+    }
+
+    fn flush(&mut self) -> io::Result<()> {
+        Ok(())
+    }
 }
