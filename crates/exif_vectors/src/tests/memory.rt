@@ -118,15 +118,33 @@ fn reading_container(
     }
 }
 
-// The fields take more memory than the buffer of the bytes did, which is given back before.
+// Sixty entries, each of which holds the same 600 bytes.
+fn same_bytes(alloc: Global) -> Result<Vec<u8>, Fail> {
+    let mut data = Vec::from_slice(alloc, b"MM\0*\0\0\0\x08\0\x3c")?;
+    for _ in 0..60u32 {
+        data.extend_from_slice(b"\xfd\xe8\0\x07\0\0\x02\x58\0\0\x02\xde")?;
+    }
+    data.extend_from_slice(b"\0\0\0\0")?;
+    for _ in 0..600u32 {
+        data.push(b'x')?;
+    }
+    Ok(data)
+}
+
+// The fields take more memory than the buffer of the bytes did, which is given back before, so that
+// memory is refused amid the walk.
 #[test]
 fn many_fields_want_memory(rt: HostRuntime) -> Result<(), Fail> {
     let alloc = rt.alloc();
-    let data = shared_children(alloc, 3, 8)?;
-    let bytes = data.as_slice();
     let mut reader = Reader::new();
     reader.continue_on_error(true);
+    let data = shared_children(alloc, 3, 8)?;
+    let bytes = data.as_slice();
     let wants = in_turn(&rt, || reading_container(alloc, &reader, bytes, (216, 1)))?;
+    assert!(rt; wants > 0);
+    let data = same_bytes(alloc)?;
+    let bytes = data.as_slice();
+    let wants = in_turn(&rt, || reading_container(alloc, &reader, bytes, (60, 0)))?;
     assert!(rt; wants > 0);
     Ok(())
 }
