@@ -22,6 +22,10 @@ pub const WRONG_NEXT: &[u8] =
 /// A value of a type that is not known.
 pub const UNKNOWN_TYPE: &[u8] = b"MM\0*\0\0\0\x08\0\x01\x01\0\xff\xff\0\0\0\x01\0\x14\0\0\0\0\0\0";
 
+/// A number, and a text that is longer than the number's line.
+pub const LONGER_LINE: &[u8] =
+    b"MM\0*\0\0\0\x08\0\x02\xfd\xe8\0\x03\0\0\0\x01\0\x01\0\0\x01\x0e\0\x02\0\0\0C\0\0\0&\0\0\0\0A text that is longer than the line before it has room for, by far\0";
+
 /// Two widths, and two pointers to one Exif directory.
 pub const SHARED_CHILD: &[u8] =
     b"MM\0*\0\0\0\x08\0\x04\x01\0\0\x03\0\0\0\x01\0\x14\0\0\x01\0\0\x03\0\0\0\x01\0\x15\0\0\x87i\0\x04\0\0\0\x01\0\0\0>\x87i\0\x04\0\0\0\x01\0\0\0>\0\0\0\0\0\x01\x90\0\0\x07\0\0\0\x040231\0\0\0\0";
@@ -50,6 +54,24 @@ pub const EVERY_TYPE_BIG: &[u8] =
 pub const EVERY_TYPE_LITTLE: &[u8] =
     b"II*\0\x08\0\0\0\x0e\0\xe8\xfd\x01\0\x03\0\0\0\x01\x02\xff\0\xe9\xfd\x02\0\x04\0\0\0a\0\0b\xea\xfd\x03\0\x03\0\0\0\xb6\0\0\0\xeb\xfd\x04\0\x02\0\0\0\xbc\0\0\0\xec\xfd\x05\0\x01\0\0\0\xc4\0\0\0\xed\xfd\x06\0\x02\0\0\0\xfe\x7f\0\0\xee\xfd\x07\0\x02\0\0\0\x0a\xff\0\0\xef\xfd\x08\0\x02\0\0\0\xfe\xff\xff\x7f\xf0\xfd\x09\0\x01\0\0\0\xfd\xff\xff\xff\xf1\xfd\x0a\0\x01\0\0\0\xcc\0\0\0\xf2\xfd\x0b\0\x01\0\0\0\0\0 @\xf3\xfd\x0c\0\x01\0\0\0\xd4\0\0\0\xf4\xfd\x0d\0\x02\0\0\0\x09\0\0\0\xf5\xfd\x02\0\0\0\0\0\0\0\0\0\0\0\0\0\x01\0\x02\0\xff\xff\x01\0\0\0\xff\xff\xff\xff\x01\0\0\0\x02\0\0\0\xff\xff\xff\xff\xfe\xff\xff\xff\0\0\0\0\0\0\x04@";
 
+/// A description, a version, a GPS version and an index, each in a directory of its own context,
+/// and a thumbnail of four bytes.
+pub const EVERY_DIRECTORY: &[u8] =
+    b"MM\0*\0\0\0\x08\0\x03\x01\x0e\0\x02\0\0\0\x07\0\0\0t\x87i\0\x04\0\0\0\x01\0\0\02\x88%\0\x04\0\0\0\x01\0\0\0P\0\0\0|\0\x02\x90\0\0\x07\0\0\0\x040231\xa0\x05\0\x04\0\0\0\x01\0\0\0b\0\0\0\0\0\x01\0\0\0\x01\0\0\0\x04\x02\x03\0\0\0\0\0\0\0\x01\0\x01\0\x02\0\0\0\x04ABC\0\0\0\0\0Sample\0\0\0\x02\x02\x01\0\x04\0\0\0\x01\0\0\0\x9a\x02\x02\0\x04\0\0\0\x01\0\0\0\x04\0\0\0\0JPEG";
+
+/// What a camera says of a picture, with a time by satellite.
+pub const CAMERA: &[u8] =
+    b"MM\0*\0\0\0\x08\0\x04\x01\x12\0\x03\0\0\0\x01\0\x06\0\0\x012\0\x02\0\0\0\x14\0\0\0\xc2\x87i\0\x04\0\0\0\x01\0\0\0>\x88%\0\x04\0\0\0\x01\0\0\0\xa4\0\0\0\0\0\x08\x82\x9a\0\x05\0\0\0\x01\0\0\0\xd6\x82\x9d\0\x05\0\0\0\x01\0\0\0\xde\x90\0\0\x07\0\0\0\x040230\x91\x01\0\x07\0\0\0\x04\x01\x02\x03\0\x92\x09\0\x03\0\0\0\x01\0\x19\0\0\x92\x14\0\x03\0\0\0\x04\0\0\0\xe6\xa3\0\0\x07\0\0\0\x01\x03\0\0\0\xa42\0\x05\0\0\0\x04\0\0\0\xee\0\0\0\0\0\x02\0\x07\0\x05\0\0\0\x03\0\0\x01\x0e\0\x1d\0\x02\0\0\0\x0b\0\0\x01&\0\0\0\02016:05:04 03:02:01\0\0\0\0\x01\0\0\0\x03\0\0\0\x1c\0\0\0\x0a\0\x01\0\x02\0\x03\0\x04\0\0\0\x18\0\0\0\x01\0\0\0F\0\0\0\x01\0\0\0\x1c\0\0\0\x0a\0\0\0\x1c\0\0\0\x0a\0\0\0\x09\0\0\0\x01\0\0\0\x05\0\0\0\x01\0\0\0=\0\0\0\x022016:05:04\0";
+
+/// Resolutions of an image and of its thumbnail, with two units for the first and none for the
+/// second.
+pub const RESOLUTIONS: &[u8] =
+    b"MM\0*\0\0\0\x08\0\x03\x01\x1a\0\x05\0\0\0\x01\0\0\0D\x01(\0\x03\0\0\0\x01\0\x02\0\0\x01(\0\x03\0\0\0\x01\0\x03\0\0\0\0\02\0\x01\x01\x1a\0\x05\0\0\0\x01\0\0\0L\0\0\0\0\0\0\0H\0\0\0\x01\0\0\0H\0\0\0\x01";
+
+/// Measures by satellite: no reference for the latitude, and a number as that of the longitude.
+pub const JOURNEY: &[u8] =
+    b"MM\0*\0\0\0\x08\0\x01\x88%\0\x04\0\0\0\x01\0\0\0\x1a\0\0\0\0\0\x0a\0\x02\0\x05\0\0\0\x03\0\0\0\x98\0\x03\0\x03\0\0\0\x01\0E\0\0\0\x04\0\x05\0\0\0\x03\0\0\0\xb0\0\x05\0\x01\0\0\0\x01\x01\0\0\0\0\x06\0\x05\0\0\0\x01\0\0\0\xc8\0\x0d\0\x05\0\0\0\x01\0\0\0\xd0\0\x0e\0\x02\0\0\0\x02M\0\0\0\0\x0f\0\x05\0\0\0\x01\0\0\0\xd8\0\x11\0\x05\0\0\0\x01\0\0\0\xe0\0\x1a\0\x05\0\0\0\x01\0\0\0\xe8\0\0\0\0\0\0\0\x0a\0\0\0\x01\0\0\0\0\0\0\0\x01\0\0\0\x01\0\0\0\x0a\0\0\0\x14\0\0\0\x01\0\0\0\x1e\0\0\0\x01\0\0\0\0\0\0\0\x01\0\0\0\x01\0\0\0\x02\0\0\0\x05\0\0\0\x01\0\0\0Z\0\0\0\x01\0\0\0-\0\0\0\x01\0\0\0\x03\0\0\0\x01";
+
 /// The image description in the first segment of a JPEG stream.
 pub const JPEG: &[u8] =
     b"\xff\xd8\xff\xe1\0)Exif\0\0MM\0*\0\0\0\x08\0\x01\x01\x0e\0\x02\0\0\0\x07\0\0\0\x1a\0\0\0\0Sample\0";
@@ -69,6 +91,9 @@ pub const HEIF_SHORT_DATA: &[u8] =
 /// A HEIF file whose Exif item lies behind its end.
 pub const HEIF_EMPTY_ITEM: &[u8] =
     b"\0\0\0\x14ftypmif1\0\0\0\0mif1\0\0\0Hmeta\0\0\0\0\0\0\0\x1ailoc\0\0\0\0@\0\0\x01\x1e\x1d\0\0\0\x01\0\0\x10\0\0\0\0\"iinf\0\0\0\0\0\x01\0\0\0\x14infe\x02\0\0\0\x1e\x1d\0\0Exif";
+
+/// A HEIF file that ends within its second box, which is not looked into.
+pub const HEIF_BOX_CUT: &[u8] = b"\0\0\0\x14ftypmif1\0\0\0\0mif1\0\0\0\xffXXXX";
 
 /// The first box of a HEIF file.
 pub const HEIF_BRANDS: &[u8] = b"\0\0\0\x14ftypmif1\0\0\0\0mif1";

@@ -1,12 +1,13 @@
 //! Exif data in JPEG, WebP and HEIF files, by way of the report and the reader.
 
-use super::support::{reported, text_of};
+use super::support::{counts, reported, text_of};
 use crate::devices::Slow;
 use crate::files;
 use exif::{Counted, Error, Exif, Reader, get_exif_attr_from_jpeg};
 use exif_report::report;
 use std::alloc::Global;
 use std::io::ErrorKind;
+use std::process::Abort;
 use std::test::Fail;
 
 const DESCRIPTION: &[u8] = b"ImageDescription primary \"Sample\"\n";
@@ -56,8 +57,12 @@ fn refusals_of_containers(rt: HostRuntime) -> Result<(), Fail> {
     for (bytes, text) in [
         (b"".as_slice(), UNKNOWN),
         (b"\x89PNG\x0d\x0a\x1a\x0a", UNKNOWN),
+        (b"\xff", UNKNOWN),
+        (b"MM*\0\0\0\0\x08", UNKNOWN),
+        (b"II*\0", "Truncated TIFF header"),
         (late.as_slice(), UNKNOWN),
         (in_time.as_slice(), "No Exif data found in HEIF"),
+        (files::HEIF_BOX_CUT, "No Exif data found in HEIF"),
         (files::HEIF_SHORT_DATA, "Truncated TIFF header"),
         (files::HEIF_EMPTY_ITEM, "ExifDataBlock too small"),
         (b"\xff\xd8\xff\xd9", "No Exif data found in JPEG"),
@@ -74,22 +79,43 @@ fn refusals_of_containers(rt: HostRuntime) -> Result<(), Fail> {
     Ok(())
 }
 
+// Reading fails with the error of the device, wherever it fails.
+fn fails_at_each_call(
+    rt: &(impl Abort + AllocGlobal),
+    reader: &Reader,
+    bytes: &[u8],
+    kind: ErrorKind,
+) {
+    for good_calls in 0..bytes.len() + 1 {
+        let mut slow = Counted::new(Slow::new(bytes, good_calls, kind));
+        match reader.read_from_container(rt.alloc(), &mut slow) {
+            Ok(_exif) => assert!(rt; false, "read after {good_calls} calls"),
+            Err(error) => assert!(rt; matches!(&error, Error::Io(e) if e.kind() == kind)),
+        }
+    }
+}
+
 #[test]
 fn a_reader_that_fails_is_no_broken_file(rt: HostRuntime) -> Result<(), Fail> {
-    let alloc = rt.alloc();
-    let reader = Reader::new();
-    for bytes in [files::JPEG, files::WEBP, files::HEIF] {
-        for kind in [ErrorKind::Interrupted, ErrorKind::UnexpectedEof] {
-            for good_calls in 0..bytes.len() + 1 {
-                let mut slow = Counted::new(Slow::new(bytes, good_calls, kind));
-                match reader.read_from_container(alloc, &mut slow) {
-                    Ok(_exif) => assert!(rt; false, "read after {good_calls} calls"),
-                    Err(error) => assert!(rt; matches!(&error, Error::Io(e) if e.kind() == kind)),
-                }
-            }
+    let mut reader = Reader::new();
+    reader.continue_on_error(true);
+    for (bytes, fields, faults) in [
+        (files::JPEG, 1, 0),
+        (files::WEBP, 1, 0),
+        (files::HEIF, 1, 0),
+        (files::DESCRIBED_LITTLE, 1, 0),
+        (files::WRONG_NEXT, 2, 2),
+    ] {
+        for kind in [
+            ErrorKind::Other,
+            ErrorKind::Interrupted,
+            ErrorKind::UnexpectedEof,
+        ] {
+            fails_at_each_call(&rt, &reader, bytes, kind);
+            let mut slow = Counted::new(Slow::new(bytes, bytes.len() + 9, kind));
+            let answer = reader.read_from_container(rt.alloc(), &mut slow);
+            assert_eq!(rt; counts(answer), Some((fields, faults)));
         }
-        let exif = reader.read_from_container(alloc, &mut Counted::new(bytes))?;
-        assert_eq!(rt; exif.fields().len(), 1);
     }
     Ok(())
 }

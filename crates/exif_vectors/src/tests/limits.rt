@@ -1,35 +1,14 @@
 //! The limit on visited entries, and how many entries there are to visit.
 
-use super::support::{read, refusal, reported};
+use super::support::{read, refusal, reported, shared_children};
 use crate::files;
 use exif::Reader;
-use std::alloc::Global;
 use std::process::Abort;
 use std::test::Fail;
 
 const LIMIT: &str = "Limit the IFD entry count";
 
 const CHAIN: &str = "Limit the IFD count to 8";
-
-// Three directories of so many entries side by side: pointers to the second, pointers to the
-// third, and numbers. The first names a next place.
-fn shared_children(alloc: Global, count: u16, next: u32) -> Result<Vec<u8>, Fail> {
-    let mut bytes = Vec::from_slice(alloc, b"MM\0\x2a\0\0\0\x08")?;
-    let entries = u32::from(count);
-    for (head, value, next) in [
-        (b"\x87\x69\0\x04\0\0\0\x01", 14 + 12 * entries, next),
-        (b"\xa0\x05\0\x04\0\0\0\x01", 20 + 24 * entries, 0),
-        (b"\0\x01\0\x03\0\0\0\x01", 0x0007_0000, 0),
-    ] {
-        bytes.extend_from_slice(&count.to_be_bytes())?;
-        for _ in 0..count {
-            bytes.extend_from_slice(head)?;
-            bytes.extend_from_slice(&value.to_be_bytes())?;
-        }
-        bytes.extend_from_slice(&next.to_be_bytes())?;
-    }
-    Ok(bytes)
-}
 
 // A lenient reader with a limit.
 fn limited(limit: u64) -> Reader {

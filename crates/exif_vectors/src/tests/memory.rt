@@ -1,105 +1,293 @@
-//! What is answered where memory is refused: all of it, or all but some blocks.
+//! What is answered where memory is refused: all of it, or what is behind some request.
 
+use super::shortage::{Greedy, Outcome, in_turn, take_most, take_rest};
+use super::support::{counts, shared_children};
 use crate::files;
-use exif::{Counted, Error, Exif, Reader, parse_exif};
+use exif::{Counted, Error, Field, In, Items, Rational, Reader, Tag, Value, parse_exif};
 use exif_report::report;
-use std::alloc::{AllocError, Global};
+use std::alloc::Global;
+use std::process::Abort;
 use std::test::Fail;
 
-const MOST_BLOCKS: usize = 200_000;
-
-// Takes all memory that there is, in blocks that no byte is written to: of 64 GB, and then of half
-// of that, down to 16 bytes.
-fn take_all(alloc: Global) -> Result<Vec<Vec<u8>>, AllocError> {
-    let mut blocks: Vec<Vec<u8>> = Vec::with_capacity(alloc, MOST_BLOCKS)?;
-    for halvings in 0..33u32 {
-        let size = 1usize << (36 - halvings);
-        for _ in 0..MOST_BLOCKS {
-            if blocks.len() >= MOST_BLOCKS {
-                break;
-            }
-            match Vec::with_capacity(alloc, size) {
-                Ok(block) => blocks.push(block)?,
-                Err(_refused) => break,
-            }
-        }
-    }
-    Ok(blocks)
-}
-
-// Whether the error is want of memory.
-fn is_want<T: Drop>(answer: &Result<T, Error>) -> bool {
-    matches!(answer, Err(Error::OutOfMemory))
-}
-
-// Whether the error is the refusal of a header that is not whole.
-fn is_cut_header<T: Drop>(answer: &Result<T, Error>) -> bool {
+// The text of a refusal of data.
+fn refusal<T: Drop>(answer: &Result<T, Error>) -> Option<&'static str> {
     match answer {
-        Err(Error::InvalidFormat(text)) => *text == "Truncated TIFF header",
-        _ => false,
+        Err(Error::InvalidFormat(text)) => Some(*text),
+        _ => None,
     }
+}
+
+// With all memory refused, the fault of these data's header comes.
+fn header_is_refused(
+    rt: &(impl Abort + AllocGlobal),
+    bytes: &[u8],
+    text: &str,
+) -> Result<(), Fail> {
+    let alloc = rt.alloc();
+    let data = Vec::from_slice(alloc, bytes)?;
+    let most = take_most(alloc)?;
+    let rest = take_rest(alloc, 0)?;
+    let parsed = parse_exif(alloc, bytes);
+    let read = Reader::new().read_raw(alloc, data);
+    drop(rest);
+    drop(most);
+    assert_eq!(rt; refusal(&parsed), Some(text));
+    assert_eq!(rt; refusal(&read), Some(text));
+    Ok(())
 }
 
 #[test]
 fn headers_are_refused_without_memory(rt: HostRuntime) -> Result<(), Fail> {
-    let alloc = rt.alloc();
-    let cut = Vec::from_slice(alloc, &files::NOTHING[..7])?;
-    let whole = Vec::from_slice(alloc, files::DESCRIBED_BIG)?;
-    let blocks = take_all(alloc)?;
-    let parsed = parse_exif(alloc, &files::NOTHING[..7]);
-    let wanted = parse_exif(alloc, files::DESCRIBED_BIG);
-    let read = Reader::new().read_raw(alloc, cut);
-    let unread = Reader::new().read_raw(alloc, whole);
-    drop(blocks);
-    assert!(rt; is_cut_header(&parsed));
-    assert!(rt; is_want(&wanted));
-    assert!(rt; is_cut_header(&read));
-    assert!(rt; is_want(&unread));
-    Ok(())
+    header_is_refused(&rt, &files::NOTHING[..7], "Truncated TIFF header")?;
+    header_is_refused(&rt, b"MI\0\x2a\0\0\0\x08", "Invalid TIFF byte order")?;
+    header_is_refused(&rt, b"II\0\x2a\x08\0\0\0", "Invalid forty two")
 }
 
-// How many fields were read, if any were.
-fn field_count(answer: &Result<Exif, Error>) -> Option<usize> {
-    match answer {
-        Ok(exif) => Some(exif.fields().len()),
-        Err(_error) => None,
+// What reading TIFF data comes to, where so many fields and faults are to be read.
+fn reading(alloc: Global, reader: &Reader, bytes: &[u8], wanted: (usize, usize)) -> Outcome {
+    let Ok(data) = Vec::from_slice(alloc, bytes) else {
+        return Outcome::Wants;
+    };
+    match reader.read_raw(alloc, data) {
+        Err(Error::OutOfMemory) => Outcome::Wants,
+        answer => Outcome::answered(counts(answer) == Some(wanted)),
     }
 }
 
 #[test]
 fn no_shorter_list_ever_comes(rt: HostRuntime) -> Result<(), Fail> {
     let alloc = rt.alloc();
-    let reader = Reader::new();
-    let mut whole = false;
-    for freed in 0..40usize {
-        let bytes = Vec::from_slice(alloc, files::SHARED_CHILD)?;
-        let mut blocks = take_all(alloc)?;
-        let kept = blocks.len().saturating_sub(freed * 8);
-        blocks.truncate(kept);
-        let answer = reader.read_raw(alloc, bytes);
-        drop(blocks);
-        if is_want(&answer) {
-            assert!(rt; !whole, "fewer were enough before");
-        } else {
-            assert_eq!(rt; field_count(&answer), Some(4));
-            whole = true;
-        }
+    for (bytes, lenient, wanted) in [
+        (files::SHARED_CHILD, false, (4, 0)),
+        (files::EVERY_TYPE_LITTLE, false, (14, 0)),
+        (files::WRONG_NEXT, true, (2, 2)),
+        (files::CIRCLE, true, (8, 1)),
+    ] {
+        let mut reader = Reader::new();
+        reader.continue_on_error(lenient);
+        assert!(rt; in_turn(&rt, || reading(alloc, &reader, bytes, wanted))? > 0);
     }
-    assert!(rt; whole);
     Ok(())
+}
+
+// What reading a file of the image description comes to.
+fn described(alloc: Global, reader: &Reader, bytes: &[u8], sample: &Value) -> Outcome {
+    match reader.read_from_container(alloc, &mut Counted::new(bytes)) {
+        Ok(exif) => match exif.get_field(Tag::ImageDescription, In::PRIMARY) {
+            Some(field) => { Outcome::answered(exif.fields().len() == 1 && field.value == *sample) }
+            None => Outcome::Wrong,
+        },
+        Err(error) => Outcome::refused(&error),
+    }
+}
+
+// A value of one text.
+fn one_text(alloc: Global, text: &[u8]) -> Result<Value, Fail> {
+    let mut texts = Vec::new(alloc);
+    texts.push(Items::from_slice(alloc, text)?)?;
+    Ok(Value::Ascii(Items::from_vec(texts)))
+}
+
+#[test]
+fn containers_want_memory(rt: HostRuntime) -> Result<(), Fail> {
+    let alloc = rt.alloc();
+    let sample = one_text(alloc, b"Sample")?;
+    let reader = Reader::new();
+    for bytes in [
+        files::JPEG,
+        files::WEBP,
+        files::HEIF,
+        files::DESCRIBED_BIG,
+        files::DESCRIBED_LITTLE,
+    ] {
+        assert!(rt; in_turn(&rt, || described(alloc, &reader, bytes, &sample))? > 0);
+    }
+    Ok(())
+}
+
+// What reading a container comes to, where so many fields and faults are to be read.
+fn reading_container(
+    alloc: Global,
+    reader: &Reader,
+    bytes: &[u8],
+    wanted: (usize, usize),
+) -> Outcome {
+    match reader.read_from_container(alloc, &mut Counted::new(bytes)) {
+        Err(Error::OutOfMemory) => Outcome::Wants,
+        answer => Outcome::answered(counts(answer) == Some(wanted)),
+    }
+}
+
+// Sixty entries, each of which holds the same 600 bytes.
+fn same_bytes(alloc: Global) -> Result<Vec<u8>, Fail> {
+    let mut data = Vec::from_slice(alloc, b"MM\0*\0\0\0\x08\0\x3c")?;
+    for _ in 0..60u32 {
+        data.extend_from_slice(b"\xfd\xe8\0\x07\0\0\x02\x58\0\0\x02\xde")?;
+    }
+    data.extend_from_slice(b"\0\0\0\0")?;
+    for _ in 0..600u32 {
+        data.push(b'x')?;
+    }
+    Ok(data)
+}
+
+// The fields take more memory than the buffer of the bytes did, which is given back before, so that
+// memory is refused amid the walk.
+#[test]
+fn many_fields_want_memory(rt: HostRuntime) -> Result<(), Fail> {
+    let alloc = rt.alloc();
+    let mut reader = Reader::new();
+    reader.continue_on_error(true);
+    let data = shared_children(alloc, 3, 8)?;
+    let bytes = data.as_slice();
+    let wants = in_turn(&rt, || reading_container(alloc, &reader, bytes, (216, 1)))?;
+    assert!(rt; wants > 0);
+    let data = same_bytes(alloc)?;
+    let bytes = data.as_slice();
+    let wants = in_turn(&rt, || reading_container(alloc, &reader, bytes, (60, 0)))?;
+    assert!(rt; wants > 0);
+    Ok(())
+}
+
+// What a report comes to. Where it wants memory a beginning of the text is written, and else all.
+fn reporting(
+    alloc: Global,
+    bytes: &[u8],
+    lenient: bool,
+    text: &[u8],
+    faults: Option<u64>,
+) -> Outcome {
+    let mut room = [0u8; 256];
+    let mut out = Counted::new(&mut room[..]);
+    let answer = report(alloc, &mut Counted::new(bytes), &mut out, lenient);
+    let length = 256usize.saturating_sub(out.into_inner().len());
+    let written = &room[..length];
+    match answer {
+        Err(Error::OutOfMemory) if text.starts_with(written) => Outcome::Wants,
+        Err(Error::OutOfMemory) => Outcome::Wrong,
+        answer => Outcome::answered(answer.ok() == faults && written == text),
+    }
 }
 
 #[test]
 fn reports_want_memory(rt: HostRuntime) -> Result<(), Fail> {
     let alloc = rt.alloc();
-    let mut room = [0u8; 64];
-    let blocks = take_all(alloc)?;
-    let mut out = Counted::new(&mut room[..]);
-    let mut source = Counted::new(files::DESCRIBED_BIG);
-    let answer = report(alloc, &mut source, &mut out, true);
-    let container = Reader::new().read_from_container(alloc, &mut Counted::new(files::JPEG));
-    drop(blocks);
-    assert!(rt; is_want(&answer));
-    assert!(rt; is_want(&container));
+    let shared = "ImageWidth primary 20 pixels
+ImageWidth primary 21 pixels
+ExifVersion primary 2.31
+ExifVersion primary 2.31
+";
+    let wrong_next = "ExifVersion primary 0x00020302
+Tag(Tiff, 65000) primary -19088744
+fault: Unexpected next IFD
+fault: Truncated IFD count
+";
+    let description = "ImageDescription primary \"Sample\"\n";
+    for (bytes, lenient, text, faults) in [
+        (files::SHARED_CHILD, false, shared, Some(0)),
+        (files::WRONG_NEXT, true, wrong_next, Some(2)),
+        (files::WRONG_NEXT, false, "", None),
+        (files::JPEG, true, description, Some(0)),
+    ] {
+        let text = text.as_bytes();
+        let wants = in_turn(&rt, || reporting(alloc, bytes, lenient, text, faults))?;
+        assert!(rt; wants > 0);
+    }
     Ok(())
+}
+
+// What a lenient report writes to a writer that leaves it no memory.
+fn reported_greedily(alloc: Global, bytes: &[u8]) -> Result<(Result<u64, Error>, Vec<u8>), Fail> {
+    let mut out = Counted::new(Greedy::new(alloc)?);
+    let most = take_most(alloc)?;
+    let answer = report(alloc, &mut Counted::new(bytes), &mut out, true);
+    drop(most);
+    Ok((answer, out.into_inner().written))
+}
+
+#[test]
+fn lines_want_memory(rt: HostRuntime) -> Result<(), Fail> {
+    let alloc = rt.alloc();
+    let fields = "ExifVersion primary 0x00020302\nTag(Tiff, 65000) primary -19088744\n";
+    let (answer, written) = reported_greedily(alloc, files::WRONG_NEXT)?;
+    assert!(rt; matches!(answer, Err(Error::OutOfMemory)));
+    assert_eq!(rt; written.as_slice(), fields.as_bytes());
+    let short = "Tag(Tiff, 65000) primary 1\n";
+    let (answer, written) = reported_greedily(alloc, files::LONGER_LINE)?;
+    assert!(rt; matches!(answer, Err(Error::OutOfMemory)));
+    assert_eq!(rt; written.as_slice(), short.as_bytes());
+    Ok(())
+}
+
+// What the copying of a value comes to.
+fn copying_value(alloc: Global, value: &Value) -> Outcome {
+    match value.clone(alloc) {
+        Ok(copy) => Outcome::answered(copy == *value),
+        Err(error) => Outcome::refused(&error),
+    }
+}
+
+// What the copying of a field comes to.
+fn copying_field(alloc: Global, field: &Field) -> Outcome {
+    match field.clone(alloc) {
+        Ok(copy) => Outcome::answered(copy == *field),
+        Err(error) => Outcome::refused(&error),
+    }
+}
+
+#[test]
+fn copies_want_memory(rt: HostRuntime) -> Result<(), Fail> {
+    let alloc = rt.alloc();
+    let data = Vec::from_slice(alloc, files::EVERY_TYPE_BIG)?;
+    let exif = Reader::new().read_raw(alloc, data)?;
+    assert_eq!(rt; exif.fields().len(), 14);
+    for field in exif.fields() {
+        // An unknown value and a list of no texts are copied without memory.
+        let number = field.tag.number();
+        let wants = in_turn(&rt, || copying_value(alloc, &field.value))?;
+        assert_eq!(rt; wants > 0, number < 65012, "at {number}");
+        let wants = in_turn(&rt, || copying_field(alloc, field))?;
+        assert_eq!(rt; wants > 0, number < 65012, "at {number}");
+    }
+    Ok(())
+}
+
+// What making the default of a tag comes to.
+fn defaulting(alloc: Global, tag: Tag, value: &Value) -> Outcome {
+    match tag.default_value(alloc) {
+        Ok(Some(found)) => Outcome::answered(found == *value),
+        Ok(None) => Outcome::Wrong,
+        Err(error) => Outcome::refused(&error),
+    }
+}
+
+// Each making of a tag's default wants memory, or gives this value.
+fn default_wants_memory(
+    rt: &(impl Abort + AllocGlobal),
+    tag: Tag,
+    value: &Value,
+) -> Result<(), Fail> {
+    let alloc = rt.alloc();
+    assert!(rt; in_turn(rt, || defaulting(alloc, tag, value))? > 0);
+    Ok(())
+}
+
+#[test]
+fn defaults_want_memory(rt: HostRuntime) -> Result<(), Fail> {
+    let alloc = rt.alloc();
+    let bits = Value::Short(Items::from_slice(alloc, &[8, 8, 8])?);
+    default_wants_memory(&rt, Tag::BitsPerSample, &bits)?;
+    let resolution = Value::Rational(Items::from_slice(alloc, &[Rational::from((72, 1))])?);
+    default_wants_memory(&rt, Tag::XResolution, &resolution)
+}
+
+#[test]
+fn defaults_of_bytes_want_memory(rt: HostRuntime) -> Result<(), Fail> {
+    let alloc = rt.alloc();
+    let source = Value::Undefined(Items::from_slice(alloc, &[3])?, 0);
+    default_wants_memory(&rt, Tag::FileSource, &source)?;
+    let altitude = Value::Byte(Items::from_slice(alloc, &[0])?);
+    default_wants_memory(&rt, Tag::GPSAltitudeRef, &altitude)?;
+    let speed = one_text(alloc, b"K")?;
+    default_wants_memory(&rt, Tag::GPSSpeedRef, &speed)
 }

@@ -36,6 +36,18 @@ pub fn read(alloc: Global, reader: &Reader, bytes: &[u8]) -> Result<(Exif, Vec<S
     }
 }
 
+/// How many fields and how many faults an answer has, if it has fields.
+pub fn counts(answer: Result<Exif, Error>) -> Option<(usize, usize)> {
+    match answer {
+        Ok(exif) => Some((exif.fields().len(), 0)),
+        Err(Error::PartialResult(partial)) => {
+            let (exif, faults) = partial.into_inner();
+            Some((exif.fields().len(), faults.len()))
+        }
+        Err(_other) => None,
+    }
+}
+
 /// What a report answers, and what it wrote.
 pub fn reported(
     alloc: Global,
@@ -50,4 +62,24 @@ pub fn reported(
         Some(limit) => report_limited(alloc, &mut reader, &mut out, lenient, limit),
     };
     (answer, out.into_inner())
+}
+
+/// Three directories of so many entries side by side: pointers to the second, pointers to the
+/// third, and numbers. The first names a next place.
+pub fn shared_children(alloc: Global, count: u16, next: u32) -> Result<Vec<u8>, Fail> {
+    let mut bytes = Vec::from_slice(alloc, b"MM\0\x2a\0\0\0\x08")?;
+    let entries = u32::from(count);
+    for (head, value, next) in [
+        (b"\x87\x69\0\x04\0\0\0\x01", 14 + 12 * entries, next),
+        (b"\xa0\x05\0\x04\0\0\0\x01", 20 + 24 * entries, 0),
+        (b"\0\x01\0\x03\0\0\0\x01", 0x0007_0000, 0),
+    ] {
+        bytes.extend_from_slice(&count.to_be_bytes())?;
+        for _ in 0..count {
+            bytes.extend_from_slice(head)?;
+            bytes.extend_from_slice(&value.to_be_bytes())?;
+        }
+        bytes.extend_from_slice(&next.to_be_bytes())?;
+    }
+    Ok(bytes)
 }
