@@ -4,5 +4,6 @@
 
 pub mod devices;
 pub mod files;
+pub mod images;
 #[cfg(test)]
 mod tests;

@@ -1,4 +1,4 @@
-//! Tests that cross crates: what is read of small files, and what is said of them.
+//! Tests that cross crates: what is read of small files, what is said of them, and what is written.
 
 mod containers;
 mod devices;
@@ -8,6 +8,12 @@ mod memory;
 mod names;
 mod partial;
 mod reports;
+mod rewriting;
 mod shortage;
 mod support;
 mod units;
+mod write_devices;
+mod write_memory;
+mod write_refusals;
+mod writing;
+mod written;

@@ -1,0 +1,177 @@
+//! Images that are read back, and written again.
+
+use super::support::{read, refusal};
+use super::written::{descriptions, image, is_image, push_all, writer_of};
+use crate::{files, images};
+use exif::experimental::Writer;
+use exif::{Context, Exif, Field, In, Reader, Tag, Value};
+use std::alloc::Global;
+use std::process::Abort;
+use std::test::Fail;
+
+// What a strict reader reads of an image.
+fn read_back(alloc: Global, bytes: &[u8]) -> Result<Exif, Fail> {
+    let bytes = Vec::from_slice(alloc, bytes)?;
+    Ok(Reader::new().read_raw(alloc, bytes)?)
+}
+
+// The field at a place of the list, if it has this tag in this directory.
+fn field_at(exif: &Exif, place: usize, tag: Tag, ifd_num: In) -> Option<&Field> {
+    let field = exif.fields().nth(place)?;
+    if field.tag == tag && field.ifd_num == ifd_num {
+        Some(field)
+    } else {
+        None
+    }
+}
+
+// Whether that field has one whole number, which is this.
+fn has_number(exif: &Exif, place: usize, tag: Tag, ifd_num: In, number: u32) -> bool {
+    match field_at(exif, place, tag, ifd_num) {
+        Some(field) => field.value.get_uint(0) == Some(number) && field.value.get_uint(1).is_none(),
+        None => false,
+    }
+}
+
+// Whether the version of Exif stands at a place of the list, and its bytes at a place of the image.
+fn has_version(exif: &Exif, place: usize, at: u32) -> bool {
+    match field_at(exif, place, Tag::ExifVersion, In::PRIMARY) {
+        Some(field) => match &field.value {
+            Value::Undefined(bytes, found) => bytes.as_slice() == b"0231".as_slice()
+                && *found == at,
+            _ => false,
+        },
+        None => false,
+    }
+}
+
+// Whether that field has one text, which is this.
+fn has_text(exif: &Exif, place: usize, tag: Tag, text: &[u8]) -> bool {
+    match field_at(exif, place, tag, In::PRIMARY) {
+        Some(field) => match &field.value {
+            Value::Ascii(texts) => texts.len() == 1 && texts.as_slice()[0].as_slice() == text,
+            _ => false,
+        },
+        None => false,
+    }
+}
+
+#[test]
+fn four_directories(rt: HostRuntime) -> Result<(), Fail> {
+    let alloc = rt.alloc();
+    let exif = read_back(alloc, images::FOUR_DIRECTORIES)?;
+    assert_eq!(rt; exif.fields().len(), 6);
+    assert!(rt; has_text(&exif, 0, Tag::ImageDescription, b"Sample"));
+    assert!(rt; has_version(&exif, 1, 0x3c));
+    assert!(rt; has_text(&exif, 2, Tag::InteroperabilityIndex, b"ABC"));
+    assert!(rt; field_at(&exif, 3, Tag::GPSVersionID, In::PRIMARY).is_some());
+    assert!(rt; has_number(&exif, 4, Tag::JPEGInterchangeFormat, In::THUMBNAIL, 154));
+    assert!(rt; has_number(&exif, 5, Tag::JPEGInterchangeFormatLength, In::THUMBNAIL, 4));
+    Ok(())
+}
+
+// A little-endian image has the length of the big-endian one, and says the same.
+fn both_orders(
+    rt: &(impl Abort + AllocGlobal),
+    big: &[u8],
+    writer: &mut Writer,
+) -> Result<(), Fail> {
+    let alloc = rt.alloc();
+    assert!(rt; is_image(alloc, writer, big)?);
+    let little = image(alloc, writer, true)?;
+    assert_eq!(rt; little.len(), big.len());
+    let first = read_back(alloc, big)?;
+    let second = read_back(alloc, little.as_slice())?;
+    assert!(rt; second.little_endian() && !first.little_endian());
+    assert!(rt; first.fields().eq(second.fields()));
+    Ok(())
+}
+
+#[test]
+fn a_thumbnail_in_both_orders(rt: HostRuntime) -> Result<(), Fail> {
+    let alloc = rt.alloc();
+    let exif = read_back(alloc, images::FOUR_DIRECTORIES)?;
+    let mut writer = writer_of(alloc, &exif)?;
+    writer.set_jpeg(b"JPEG", In::THUMBNAIL)?;
+    both_orders(&rt, images::FOUR_DIRECTORIES, &mut writer)
+}
+
+#[test]
+fn a_strip_in_both_orders(rt: HostRuntime) -> Result<(), Fail> {
+    let alloc = rt.alloc();
+    let exif = read_back(alloc, images::STRIP)?;
+    let mut writer = writer_of(alloc, &exif)?;
+    writer.set_strips(&[b"STRIP"], In::THUMBNAIL)?;
+    both_orders(&rt, images::STRIP, &mut writer)
+}
+
+// Whether that field has a list of whole numbers, and none in it.
+fn has_no_number(exif: &Exif, place: usize, tag: Tag) -> bool {
+    match field_at(exif, place, tag, In::PRIMARY) {
+        Some(field) => matches!(field.value, Value::Long(_)) && field.value.get_uint(0).is_none(),
+        None => false,
+    }
+}
+
+#[test]
+fn no_strips_in_both_orders(rt: HostRuntime) -> Result<(), Fail> {
+    let alloc = rt.alloc();
+    let exif = read_back(alloc, images::NO_STRIPS)?;
+    assert!(rt; has_no_number(&exif, 0, Tag::StripOffsets));
+    assert!(rt; has_no_number(&exif, 1, Tag::StripByteCounts));
+    let mut writer = writer_of(alloc, &exif)?;
+    writer.set_strips(&[], In::PRIMARY)?;
+    both_orders(&rt, images::NO_STRIPS, &mut writer)
+}
+
+#[test]
+fn a_number_of_another_directory(rt: HostRuntime) -> Result<(), Fail> {
+    let exif = read_back(rt.alloc(), images::STRIPS_NUMBER_IN_EXIF)?;
+    assert_eq!(rt; exif.fields().len(), 1);
+    assert!(rt; has_number(&exif, 0, Tag(Context::Exif, 0x111), In::PRIMARY, 5));
+    Ok(())
+}
+
+// Whether an image holds the equal fields in the order in which they were pushed.
+fn holds_equal_fields(alloc: Global, bytes: &[u8]) -> Result<bool, Fail> {
+    let exif = read_back(alloc, bytes)?;
+    Ok(
+        exif.fields().len() == 4
+            && has_number(&exif, 0, Tag::ImageWidth, In::PRIMARY, 20)
+            && has_number(&exif, 1, Tag::ImageWidth, In::PRIMARY, 21)
+            && has_version(&exif, 2, 0x3c)
+            && has_version(&exif, 3, 0x48),
+    )
+}
+
+#[test]
+fn equal_fields_keep_their_order(rt: HostRuntime) -> Result<(), Fail> {
+    let alloc = rt.alloc();
+    let shared = read_back(alloc, files::SHARED_CHILD)?;
+    let mut writer = writer_of(alloc, &shared)?;
+    for little_endian in [false, true] {
+        let bytes = image(alloc, &mut writer, little_endian)?;
+        assert_eq!(rt; bytes.len(), 80);
+        assert!(rt; holds_equal_fields(alloc, bytes.as_slice())?);
+    }
+    Ok(())
+}
+
+#[test]
+fn nine_directories(rt: HostRuntime) -> Result<(), Fail> {
+    let alloc = rt.alloc();
+    let fields = descriptions(alloc, &[b"p".as_slice(); 9])?;
+    let mut writer = Writer::new(alloc);
+    push_all(&mut writer, fields.as_slice())?;
+    let bytes = image(alloc, &mut writer, false)?;
+    assert_eq!(rt; bytes.len(), 170);
+    let strict = refusal(alloc, &Reader::new(), bytes.as_slice())?.ok_or("not refused")?;
+    assert_eq!(rt; strict.as_str(), "Limit the IFD count to 8");
+    let mut lenient = Reader::new();
+    lenient.continue_on_error(true);
+    let (exif, faults) = read(alloc, &lenient, bytes.as_slice())?;
+    assert_eq!(rt; exif.fields().len(), 8);
+    assert_eq!(rt; faults.len(), 1);
+    assert_eq!(rt; faults[0].as_str(), "Limit the IFD count to 8");
+    Ok(())
+}

@@ -1,0 +1,105 @@
+//! Writing to writers that take one byte a call, take none or fail.
+
+use super::written::{description, four_fields, image, push_all};
+use crate::devices::Drip;
+use crate::images;
+use exif::experimental::Writer;
+use exif::{Counted, Error, In};
+use std::alloc::Global;
+use std::io::ErrorKind;
+use std::process::Abort;
+use std::test::Fail;
+
+// The kind of a device's error, if that is the answer.
+fn kind_of(answer: &Result<(), Error>) -> Option<ErrorKind> {
+    match answer {
+        Err(Error::Io(cause)) => Some(cause.kind()),
+        _ => None,
+    }
+}
+
+// Whether a write to a writer of so many good calls answers an error of a kind, or none, and
+// these bytes were taken.
+fn leaves(
+    alloc: Global,
+    writer: &mut Writer,
+    little_endian: bool,
+    drip: (usize, Option<ErrorKind>),
+    wanted: (Option<ErrorKind>, &[u8]),
+) -> bool {
+    let mut out = Counted::new(Drip::new(alloc, drip.0, drip.1));
+    let answer = writer.write(&mut out, little_endian);
+    let is_answered = kind_of(&answer) == wanted.0 && answer.is_ok() == wanted.0.is_none();
+    let taken = out.into_inner().taken;
+    is_answered && taken.as_slice() == wanted.1
+}
+
+// Whatever call fails, a beginning of the image stands out; one call a byte and a flush are enough.
+fn fails_at_each_call(
+    rt: &(impl Abort + AllocGlobal),
+    writer: &mut Writer,
+    little_endian: bool,
+) -> Result<(), Fail> {
+    let alloc = rt.alloc();
+    let whole = image(alloc, writer, little_endian)?;
+    let bytes = whole.as_slice();
+    for (fault, kind) in [
+        (Some(ErrorKind::Other), ErrorKind::Other),
+        (Some(ErrorKind::Interrupted), ErrorKind::Interrupted),
+        (None, ErrorKind::WriteZero),
+    ] {
+        for good_calls in 0..bytes.len() {
+            let wanted = (Some(kind), &bytes[..good_calls]);
+            assert!(rt; leaves(alloc, writer, little_endian, (good_calls, fault), wanted));
+        }
+    }
+    let other = Some(ErrorKind::Other);
+    assert!(rt;
+        leaves(
+            alloc,
+            writer,
+            little_endian,
+            (bytes.len(), other),
+            (other, bytes)
+        )
+    );
+    assert!(rt;
+        leaves(
+            alloc,
+            writer,
+            little_endian,
+            (bytes.len() + 1, other),
+            (None, bytes)
+        )
+    );
+    Ok(())
+}
+
+#[test]
+fn four_directories(rt: HostRuntime) -> Result<(), Fail> {
+    let alloc = rt.alloc();
+    let fields = four_fields(alloc)?;
+    let mut writer = Writer::new(alloc);
+    push_all(&mut writer, fields.as_slice())?;
+    writer.set_jpeg(b"JPEG", In::THUMBNAIL)?;
+    let other = Some(ErrorKind::Other);
+    let fifty = (other, &images::FOUR_DIRECTORIES[..50]);
+    assert!(rt; leaves(alloc, &mut writer, false, (50, other), fifty));
+    // One call for each of the 158 bytes, and one for the flush.
+    let whole = (None, images::FOUR_DIRECTORIES);
+    assert!(rt; leaves(alloc, &mut writer, false, (159, other), whole));
+    fails_at_each_call(&rt, &mut writer, false)?;
+    fails_at_each_call(&rt, &mut writer, true)
+}
+
+#[test]
+fn strips(rt: HostRuntime) -> Result<(), Fail> {
+    let alloc = rt.alloc();
+    let tif = description(alloc, In::PRIMARY, b"tif")?;
+    let strips: [&[u8]; 3] = [b"STR", b"", b"IP"];
+    let mut writer = Writer::new(alloc);
+    writer.push_field(&tif)?;
+    writer.set_strips(&strips, In::THUMBNAIL)?;
+    fails_at_each_call(&rt, &mut writer, false)?;
+    fails_at_each_call(&rt, &mut writer, true)
+}

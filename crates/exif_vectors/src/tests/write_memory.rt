@@ -1,0 +1,118 @@
+//! What a writer does where memory is refused: all of it, or what is behind some request.
+
+use super::shortage::{Outcome, in_turn, take_most, take_rest};
+use super::written::{description, field, four_fields, is_image, push_all};
+use crate::{files, images};
+use exif::experimental::Writer;
+use exif::{Counted, Error, Field, In, Tag, Value};
+use std::process::Abort;
+use std::test::Fail;
+
+// What a write comes to that is to send these bytes. Where it wants memory, nothing was sent.
+fn writing(writer: &mut Writer, bytes: &[u8]) -> Outcome {
+    let mut room = [0u8; 256];
+    let mut out = Counted::new(&mut room[..]);
+    let answer = writer.write(&mut out, false);
+    let length = 256usize.saturating_sub(out.into_inner().len());
+    match answer {
+        Ok(()) => Outcome::answered(&room[..length] == bytes),
+        Err(Error::OutOfMemory) if length == 0 => Outcome::Wants,
+        Err(_error) => Outcome::Wrong,
+    }
+}
+
+#[test]
+fn writing_wants_memory(rt: HostRuntime) -> Result<(), Fail> {
+    let alloc = rt.alloc();
+    let fields = four_fields(alloc)?;
+    let mut writer = Writer::new(alloc);
+    push_all(&mut writer, fields.as_slice())?;
+    writer.set_jpeg(b"JPEG", In::THUMBNAIL)?;
+    let wants = in_turn(&rt, || writing(&mut writer, images::FOUR_DIRECTORIES))?;
+    assert!(rt; wants > 0);
+    Ok(())
+}
+
+// Changes the sixth directory in one of the four ways.
+fn change<'a>(writer: &mut Writer<'a>, field: &'a Field, way: u8) -> Result<(), Error> {
+    match way {
+        0 => writer.push_field(field),
+        1 => writer.set_strips(&[b"STRIP"], In(5)),
+        2 => writer.set_tiles(&[b"TILE"], In(5)),
+        _ => writer.set_jpeg(b"JPEG", In(5)),
+    }
+}
+
+// Each refused change leaves the writer as it was, until one is not refused. Gives how many were.
+fn refused_changes(rt: &(impl Abort + AllocGlobal), later: &Field, way: u8) -> Result<u16, Fail> {
+    let alloc = rt.alloc();
+    let field = description(alloc, In::PRIMARY, b"Sample")?;
+    let mut writer = Writer::new(alloc);
+    writer.push_field(&field)?;
+    let _most = take_most(alloc)?;
+    for step in 0..1000u16 {
+        let rest = take_rest(alloc, 16 * step)?;
+        let answer = change(&mut writer, later, way);
+        drop(rest);
+        match answer {
+            Ok(()) => return Ok(step),
+            Err(Error::OutOfMemory) => {}
+            Err(_error) => panic!(rt; "another error"),
+        }
+        assert!(rt; is_image(alloc, &mut writer, files::DESCRIBED_BIG)?);
+    }
+    panic!(rt; "memory was never enough");
+}
+
+#[test]
+fn refused_changes_leave_the_writer(rt: HostRuntime) -> Result<(), Fail> {
+    let later = description(rt.alloc(), In(5), b"later")?;
+    for way in 0..4u8 {
+        assert!(rt; refused_changes(&rt, &later, way)? > 0);
+    }
+    Ok(())
+}
+
+// The text of a refusal.
+fn reason(answer: &Result<(), Error>) -> Option<&'static str> {
+    match answer {
+        Err(Error::InvalidFormat(text)) => Some(*text),
+        Err(Error::NotSupported(text)) => Some(*text),
+        _ => None,
+    }
+}
+
+// Whether with all memory refused a write is refused for a reason.
+fn is_refused(
+    rt: &(impl Abort + AllocGlobal),
+    writer: &mut Writer,
+    text: &str,
+) -> Result<bool, Fail> {
+    let alloc = rt.alloc();
+    let mut room = [0u8; 8];
+    let most = take_most(alloc)?;
+    let rest = take_rest(alloc, 0)?;
+    let answer = writer.write(&mut Counted::new(&mut room[..]), false);
+    drop(rest);
+    drop(most);
+    Ok(reason(&answer) == Some(text))
+}
+
+#[test]
+fn refusals_take_no_memory(rt: HostRuntime) -> Result<(), Fail> {
+    let alloc = rt.alloc();
+    let unknown = field(Tag::ImageWidth, In::PRIMARY, Value::Unknown(65535, 1, 18));
+    let mut writer = Writer::new(alloc);
+    assert!(rt; is_refused(&rt, &mut writer, "At least one IFD must exist")?);
+    writer.push_field(&unknown)?;
+    assert!(rt; is_refused(&rt, &mut writer, "Cannot write unknown field types")?);
+    Ok(())
+}
+
+#[test]
+fn empty_directories_are_refused_without_memory(rt: HostRuntime) -> Result<(), Fail> {
+    let mut writer = Writer::new(rt.alloc());
+    writer.set_jpeg(b"JPEG", In::THUMBNAIL)?;
+    assert!(rt; is_refused(&rt, &mut writer, "IFD must not be empty")?);
+    Ok(())
+}
