@@ -1,8 +1,7 @@
 -- The cause of a list of groups, and the plans of its drafts, one group after another.
-use Rattle.std.proofs.Common.{◌≡◌, ℕ, zero, suc, ◌+◌, ◌<◌, ◌≤◌, ◌^◌, List, [], ◌∷◌, ◌++◌, length, map, take, drop, get_or, refl, sym, ap, subst, ◌∙◌, arith, append_assoc, Bool, true, false, Option, Some, None}
+use Rattle.std.proofs.Common.{◌≡◌, ℕ, zero, suc, ◌+◌, ◌<◌, ◌≤◌, ◌^◌, List, [], ◌∷◌, ◌++◌, length, map, take, drop, get_or, refl, sym, ap, subst, ◌∙◌, arith, append_assoc, true, false, Option, Some, None}
 use Rattle.std.specs.Prelude.{if◌then◌else◌, nat_lt, is_some, SomeIff, IsSome, ◌==◌}
 use Rattle.std.proofs.lemmas.Bool.{lt-ltb, le-ltb, eqb-true}
-use Rattle.std.proofs.Math.Nat.{le_trans}
 use Rattle.exif_format.specs.declared.write_fault.WriteFault.{WriteFault}
 use Rattle.exif_format.specs.declared.write_fault.WriteFault.TheVariants.{NoDirectory, OffsetTooLarge}
 use Rattle.exif.specs.WriterDrafts.{IsPlan, ArePlans}

@@ -21,9 +21,9 @@ use Rattle.exif_format.proofs.Images.Whole.{known_slots, not_refused}
 use Rattle.exif_format.proofs.Images.Words.{IsAccepted, IsKnown, AllKnown}
 use Rattle.exif.proofs.WriterLaid.{ArePlaces, are_places, size_is, IsSendable, image_is}
 use Rattle.exif.proofs.WriterMoved.{same_moved}
-use Rattle.exif.specs.WriterDrafts.{places_of, IsPlan, ArePlans}
+use Rattle.exif.specs.WriterDrafts.{IsPlan, ArePlans}
 use Rattle.exif.specs.WriterPlans.{IsReadyDirectory, IsReadyPlan, sent_image}
-use Rattle.exif.specs.WriterSending.{lens, sum_of, symbol, symbol_of, source_size, block_place, Settles, IsKnownSource, IsReady, values_end}
+use Rattle.exif.specs.WriterSending.{lens, sum_of, symbol, symbol_of, source_size, Settles, IsKnownSource, IsReady, values_end}
 use Rattle.exif.specs.declared.writer.plan.Places.{Places}
 use Rattle.exif.specs.declared.writer.plan.Plan.{Plan}
 use Rattle.exif.specs.declared.writer.plan.Slot.{Slot}

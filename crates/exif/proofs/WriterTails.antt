@@ -1,10 +1,9 @@
 -- What counts of entries tell of lists of slots.
-use Rattle.std.proofs.Common.{◌≡◌, ℕ, zero, suc, ◌+◌, ◌-◌, ◌%◌, ◌*◌, ◌<◌, ◌≤◌, ◌^◌, List, [], ◌∷◌, ◌++◌, length, map, take, drop, get_or, refl, sym, ap, subst, ◌∙◌, arith, append_assoc, ◌⊎◌, inl, inr, Bool, true, false, Option, Some, None}
-use Rattle.std.specs.Prelude.{if◌then◌else◌, nat_le, IfNone, IfSome}
-use Rattle.std.specs.List.{list_any, AllByRecursion}
+use Rattle.std.proofs.Common.{◌≡◌, ℕ, zero, suc, ◌+◌, ◌-◌, ◌%◌, ◌*◌, ◌<◌, ◌≤◌, ◌^◌, List, [], ◌∷◌, ◌++◌, length, map, take, drop, get_or, refl, sym, ap, subst, ◌∙◌, arith, append_assoc, ◌⊎◌, inl, inr, false, Option, Some, None}
+use Rattle.std.specs.Prelude.{nat_le, IfNone, IfSome}
+use Rattle.std.specs.List.{AllByRecursion}
 use Rattle.std.proofs.lemmas.Bool.{lt-leb, or_parts, or_from}
 use Rattle.std.proofs.lemmas.List.{take-append-drop, append-nil}
-use Rattle.std.proofs.lemmas.List.Folds.{list_any_at}
 use denote.Ref.{Bor}
 use Rattle.exif_types.specs.declared.field.Field.{Field}
 use Rattle.exif_format.proofs.Images.Exact as exact
@@ -22,7 +21,7 @@ use Rattle.exif_format.proofs.Images.Counting.{values_end_is}
 use Rattle.exif.proofs.WriterMeasured.{tells_small}
 use Rattle.exif_format.specs.Groups.{Group, Entry, pushed_in, entry_of, places_tag, lengths_tag, single}
 use Rattle.exif_format.specs.Encoding.{value_len}
-use Rattle.exif_format.specs.Measuring.{span, fits, last_out, end_from}
+use Rattle.exif_format.specs.Measuring.{span, last_out, end_from}
 use Rattle.exif_format.specs.Places.{even, after_values}
 use Rattle.exif_format.specs.Refused.{any_unknown, is_unknown}
 use Rattle.exif_format.specs.Slots.{Slot, PlacesOf, LengthsOf, PlaceOf, known, source_len, set_slots, block_slots, pointer_slots, exif_slots, gps_slots, interop_slots, tiff_unsorted, unsorted, slots_of}

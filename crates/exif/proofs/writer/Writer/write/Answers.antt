@@ -1,6 +1,4 @@
 use Rattle.std.proofs.Common.{◌≡◌, ◌∙◌, List, None, ap, map, subst, sym}
-use Rattle.std.specs.Io.KnownBytes.{Appends}
-use Rattle.exif_base.specs.Sent.{SendsFront}
 use Rattle.exif_format.specs.Groups.{Group}
 use Rattle.exif_format.specs.Refused.{write_fault}
 use Rattle.exif_format.specs.Slots.{draft_of}

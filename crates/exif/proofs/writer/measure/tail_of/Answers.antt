@@ -1,5 +1,4 @@
 use Rattle.std.proofs.Common.{◌∙◌, ◌+◌, arith, ap, refl, sym, take}
-use Rattle.exif.specs.WriterMeasure.{Tells}
 use Rattle.exif.proofs.WriterTails.{of_fields, of_more, span_front, known_len, known_at, over_alone, at_least}
 use Rattle.exif_format.specs.Encoding.{value_len}
 use Rattle.exif_format.specs.Groups.{entry_of}

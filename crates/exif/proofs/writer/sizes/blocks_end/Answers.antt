@@ -1,4 +1,4 @@
-use Rattle.std.proofs.Common.{◌≡◌, get_or, refl, rules, ap}
+use Rattle.std.proofs.Common.{get_or, refl, rules, ap}
 use Rattle.std.proofs.lemmas.List.{take_all}
 use Rattle.exif.specs.WriterSending.{sum_of}
 use Rattle.exif.proofs.WriterCounted.{end_is_sum, sum_more}

@@ -1,4 +1,4 @@
-use Rattle.std.proofs.Common.{arith, rules}
+use Rattle.std.proofs.Common.{rules}
 use Rattle.exif.proofs.WriterCounted.{count_low}
 use Rattle.exif.proofs.writer.sizes.items_size.Goals as goal
 

@@ -1,12 +1,10 @@
-use Rattle.std.proofs.Common.{arith, ap, map, ◌++◌, sym, ◌∙◌, subst}
+use Rattle.std.proofs.Common.{arith, ap, map, ◌++◌}
 use Rattle.exif_format.proofs.Images.Whole.{accepted}
 use Rattle.exif.proofs.WriterTails.{all_known, none_map, some_map, pushed_front, tiff_fronts, tiff_told, other_told}
-use Rattle.exif_types.specs.declared.tag.Context.TheVariants.{Tiff, Exif, Gps, Interop}
 use Rattle.exif_format.specs.declared.block_kind.BlockKind.TheVariants.{Strips}
 use Rattle.exif_format.specs.Measuring.{span}
-use Rattle.exif_format.specs.Refused.{any_unknown}
 use Rattle.exif_format.specs.Groups.{pushed_in}
-use Rattle.exif_format.specs.Slots.{known, block_slots, pointer_slots, interop_slots}
+use Rattle.exif_format.specs.Slots.{known, block_slots}
 use Rattle.exif.proofs.writer.groups.Ifd.tail.Goals as goal
 
 pub tail_of-requires : goal.tail_of-requires

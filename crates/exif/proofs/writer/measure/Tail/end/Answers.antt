@@ -1,4 +1,4 @@
-use Rattle.std.proofs.Common.{◌≡◌, ◌∙◌, arith, subst, sym, rules}
+use Rattle.std.proofs.Common.{rules}
 use Rattle.exif.proofs.WriterMeasured.{told_none, told_some}
 use Rattle.exif.proofs.writer.measure.Tail.end.Goals as goal
 

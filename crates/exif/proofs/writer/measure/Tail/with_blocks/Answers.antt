@@ -1,8 +1,5 @@
-use Rattle.std.proofs.Common.{◌≡◌, ◌≤◌, ◌^◌, List, [], ◌∷◌, ◌++◌, arith, sym}
-use Rattle.exif.specs.WriterMeasure.{Tells}
+use Rattle.std.proofs.Common.{[], ◌∷◌, ◌++◌, arith, sym}
 use Rattle.exif.proofs.WriterTails.{place_slot, length_slot, slot_len, over_many, span_first, pushed_two, none_map, some_map}
-use Rattle.exif_format.specs.Measuring.{span}
-use Rattle.exif_format.specs.Slots.{Slot}
 use Rattle.exif.proofs.writer.measure.Tail.with_blocks.Goals as goal
 
 pub returns-in_err-size-clause-over : goal.returns-in_err-size-clause-over
