@@ -2,5 +2,6 @@
 //! fails where its formatter does.
 
 mod dates;
+mod fixed;
 mod kinds;
 mod plain;

@@ -7,7 +7,7 @@ use exif_table::TextKind;
 use std::alloc::AllocError;
 use std::process::Abort;
 
-fn assert_text(
+pub fn assert_text(
     rt: &(impl Abort + AllocGlobal),
     kind: TextKind,
     contents: Contents<'_>,
@@ -20,7 +20,7 @@ fn assert_text(
     Ok(())
 }
 
-fn assert_fractions(
+pub fn assert_fractions(
     rt: &(impl Abort + AllocGlobal),
     kind: TextKind,
     pairs: &[(u32, u32)],
@@ -33,7 +33,7 @@ fn assert_fractions(
     assert_text(rt, kind, Contents::Rational(&fractions), text)
 }
 
-fn assert_shorts(
+pub fn assert_shorts(
     rt: &(impl Abort + AllocGlobal),
     kind: TextKind,
     cases: &[(&[u16], &str)],
@@ -44,7 +44,7 @@ fn assert_shorts(
     Ok(())
 }
 
-fn assert_texts(
+pub fn assert_texts(
     rt: &(impl Abort + AllocGlobal),
     kind: TextKind,
     cases: &[(&str, &str)],
@@ -55,7 +55,7 @@ fn assert_texts(
     Ok(())
 }
 
-fn assert_undefined(
+pub fn assert_undefined(
     rt: &(impl Abort + AllocGlobal),
     kind: TextKind,
     cases: &[(&str, &str)],
