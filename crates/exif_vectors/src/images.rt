@@ -1,11 +1,6 @@
 //! Images that a writer makes, written out by hand from TIFF 6.0, section 2, and Exif 2.32, 4.6.
 //! All are big endian.
 
-/// A description, the version of Exif, that of GPS and an index of interoperability, and a thumbnail
-/// in the second directory.
-pub const FOUR_DIRECTORIES: &[u8] =
-    b"MM\0*\0\0\0\x08\0\x03\x01\x0e\0\x02\0\0\0\x07\0\0\0t\x87i\0\x04\0\0\0\x01\0\0\x002\x88%\0\x04\0\0\0\x01\0\0\0P\0\0\0|\0\x02\x90\0\0\x07\0\0\0\x040231\xa0\x05\0\x04\0\0\0\x01\0\0\0b\0\0\0\0\0\x01\0\0\0\x01\0\0\0\x04\x02\x03\0\0\0\0\0\0\0\x01\0\x01\0\x02\0\0\0\x04ABC\0\0\0\0\0Sample\0\0\0\x02\x02\x01\0\x04\0\0\0\x01\0\0\0\x9a\x02\x02\0\x04\0\0\0\x01\0\0\0\x04\0\0\0\0JPEG";
-
 /// A description, and a strip in the second directory.
 pub const STRIP: &[u8] =
     b"MM\0*\0\0\0\x08\0\x01\x01\x0e\0\x02\0\0\0\x04tif\0\0\0\0\x1a\0\x02\x01\x11\0\x04\0\0\0\x01\0\0\x008\x01\x17\0\x04\0\0\0\x01\0\0\0\x05\0\0\0\0STRIP";

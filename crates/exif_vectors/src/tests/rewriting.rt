@@ -59,7 +59,7 @@ fn has_text(exif: &Exif, place: usize, tag: Tag, text: &[u8]) -> bool {
 #[test]
 fn four_directories(rt: HostRuntime) -> Result<(), Fail> {
     let alloc = rt.alloc();
-    let exif = read_back(alloc, images::FOUR_DIRECTORIES)?;
+    let exif = read_back(alloc, files::EVERY_DIRECTORY)?;
     assert_eq!(rt; exif.fields().len(), 6);
     assert!(rt; has_text(&exif, 0, Tag::ImageDescription, b"Sample"));
     assert!(rt; has_version(&exif, 1, 0x3c));
@@ -90,10 +90,10 @@ fn both_orders(
 #[test]
 fn a_thumbnail_in_both_orders(rt: HostRuntime) -> Result<(), Fail> {
     let alloc = rt.alloc();
-    let exif = read_back(alloc, images::FOUR_DIRECTORIES)?;
+    let exif = read_back(alloc, files::EVERY_DIRECTORY)?;
     let mut writer = writer_of(alloc, &exif)?;
     writer.set_jpeg(b"JPEG", In::THUMBNAIL)?;
-    both_orders(&rt, images::FOUR_DIRECTORIES, &mut writer)
+    both_orders(&rt, files::EVERY_DIRECTORY, &mut writer)
 }
 
 #[test]

@@ -2,7 +2,7 @@
 
 use super::written::{description, four_fields, image, push_all};
 use crate::devices::Drip;
-use crate::images;
+use crate::files;
 use exif::experimental::Writer;
 use exif::{Counted, Error, In};
 use std::alloc::Global;
@@ -83,10 +83,10 @@ fn four_directories(rt: HostRuntime) -> Result<(), Fail> {
     push_all(&mut writer, fields.as_slice())?;
     writer.set_jpeg(b"JPEG", In::THUMBNAIL)?;
     let other = Some(ErrorKind::Other);
-    let fifty = (other, &images::FOUR_DIRECTORIES[..50]);
+    let fifty = (other, &files::EVERY_DIRECTORY[..50]);
     assert!(rt; leaves(alloc, &mut writer, false, (50, other), fifty));
     // One call for each of the 158 bytes, and one for the flush.
-    let whole = (None, images::FOUR_DIRECTORIES);
+    let whole = (None, files::EVERY_DIRECTORY);
     assert!(rt; leaves(alloc, &mut writer, false, (159, other), whole));
     fails_at_each_call(&rt, &mut writer, false)?;
     fails_at_each_call(&rt, &mut writer, true)

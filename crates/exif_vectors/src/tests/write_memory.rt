@@ -2,7 +2,7 @@
 
 use super::shortage::{Outcome, in_turn, take_most, take_rest};
 use super::written::{description, field, four_fields, is_image, push_all};
-use crate::{files, images};
+use crate::files;
 use exif::experimental::Writer;
 use exif::{Counted, Error, Field, In, Tag, Value};
 use std::process::Abort;
@@ -28,7 +28,7 @@ fn writing_wants_memory(rt: HostRuntime) -> Result<(), Fail> {
     let mut writer = Writer::new(alloc);
     push_all(&mut writer, fields.as_slice())?;
     writer.set_jpeg(b"JPEG", In::THUMBNAIL)?;
-    let wants = in_turn(&rt, || writing(&mut writer, images::FOUR_DIRECTORIES))?;
+    let wants = in_turn(&rt, || writing(&mut writer, files::EVERY_DIRECTORY))?;
     assert!(rt; wants > 0);
     Ok(())
 }

@@ -29,8 +29,8 @@ fn four_directories(rt: HostRuntime) -> Result<(), Fail> {
     let mut writer = Writer::new(alloc);
     push_all(&mut writer, fields.as_slice())?;
     writer.set_jpeg(b"JPEG", In::THUMBNAIL)?;
-    assert_eq!(rt; images::FOUR_DIRECTORIES.len(), 158);
-    assert!(rt; is_image(alloc, &mut writer, images::FOUR_DIRECTORIES)?);
+    assert_eq!(rt; files::EVERY_DIRECTORY.len(), 158);
+    assert!(rt; is_image(alloc, &mut writer, files::EVERY_DIRECTORY)?);
     Ok(())
 }
 
