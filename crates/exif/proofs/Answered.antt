@@ -4,7 +4,7 @@ use Rattle.exif_base.specs.Orders.{number_of}
 use Rattle.exif_base.specs.Bytes.{Reading, number_at}
 use Rattle.exif_base.specs.declared.endian.Order.{Order}
 use Rattle.exif_format.specs.declared.fault.Fault.{Fault}
-use Rattle.exif_format.specs.Trace.{content_of, limited, header, ordered_trace, chain_nodes}
+use Rattle.exif_format.specs.Trace.{content_of, limited, cut, header, ordered_trace, chain_nodes}
 use Rattle.exif_format.specs.Answers.{Answer, Refused, answer_of, raw_answer}
 use Rattle.exif.specs.Running.{Progress, on_met, run, outcome}
 use Rattle.exif.specs.Results.{Says}
@@ -24,10 +24,10 @@ unfolding raw_answer
 raw_wrong lenient limit bytes fault e = rw (e, raw_answer) refl
 
 -- what running the chain comes to is the answer
-pub answered : (number : Reading) (bytes : List ℕ) (lenient : Bool) (limit : Option ℕ) (start : Progress) (x : Progress × Option Fault) → start ≡ record { lenient = lenient; left = limit; fields = []; faults = [] } → run (chain_nodes 8 number bytes 0 (number_at number 4 bytes 4)) start ≡ x → answer_of lenient (content_of (limited limit (ordered_trace number bytes))) ≡ outcome x
+pub answered : (number : Reading) (bytes : List ℕ) (lenient : Bool) (most : ℕ) (start : Progress) (x : Progress × Option Fault) → start ≡ record { lenient = lenient; left = most; fields = []; faults = [] } → run (chain_nodes 8 number bytes 0 (number_at number 4 bytes 4)) start ≡ x → answer_of lenient (content_of (cut most (ordered_trace number bytes))) ≡ outcome x
 unfolding ordered_trace
-answered number bytes lenient limit start x s e =
-    sym (outcome_run (chain_nodes 8 number bytes 0 (number_at number 4 bytes 4)) lenient limit)
+answered number bytes lenient most start x s e =
+    sym (outcome_run (chain_nodes 8 number bytes 0 (number_at number 4 bytes 4)) lenient most)
     ∙ (ap (λ (p : Progress). outcome (run (chain_nodes 8 number bytes 0 (number_at number 4 bytes 4)) p)) (sym s) ∙ ap (λ (y : Progress × Option Fault). outcome y) e)
 
 -- where noting a fault stops, it is a refusal

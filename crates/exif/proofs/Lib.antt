@@ -3,6 +3,7 @@ pub mod Bounded
 pub mod FollowSteps
 pub mod Outcomes
 pub mod RunSteps
+pub mod Turns
 pub mod WriterCounted
 pub mod WriterGrowth
 pub mod WriterRanges

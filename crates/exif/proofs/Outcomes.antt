@@ -1,14 +1,14 @@
 -- What running along a trace answers is what the trace says.
 use Rattle.std.proofs.Common.{◌≡◌, ℕ, zero, suc, Bool, true, false, List, [], ◌∷◌, ◌++◌, Option, Some, None, refl, sym, ap, ◌∙◌, append_assoc}
 use Rattle.std.proofs.lemmas.List.{append-nil}
-use Rattle.exif_format.specs.Trace.{Node, Visit, Found, Met, fields_of, faults_of, content_of, limited, cut}
+use Rattle.exif_format.specs.Trace.{Node, Visit, Found, Met, fields_of, faults_of, content_of, cut}
 use Rattle.exif_format.specs.Answers.{Answer, Refused, answer_of}
 use Rattle.exif.specs.Running.{Progress, on_met, run, outcome}
 use Rattle.exif_types.specs.declared.field.Field.{Field}
 use Rattle.exif_format.specs.declared.fault.Fault.{Fault}
 
 -- a parser with what it has read
-abbrev at_work : Bool → Option ℕ → List Field → List Fault → Progress
+abbrev at_work : Bool → ℕ → List Field → List Fault → Progress
 at_work lenient left fields faults = record { lenient = lenient; left = left; fields = fields; faults = faults }
 
 -- what was read before a trace, and what the trace adds
@@ -21,39 +21,22 @@ added_found lenient fields faults field nodes = rw append_assoc refl
 added_met : (lenient : Bool) (fields : List Field) (faults : List Fault) (fault : Fault) (nodes : List Node) → added lenient fields (faults ++ fault ∷ []) nodes ≡ added lenient fields faults (Met fault ∷ nodes)
 added_met lenient fields faults fault nodes = rw append_assoc refl
 
-pub outcome_lenient : (nodes : List Node) (left : Option ℕ) (fields : List Field) (faults : List Fault) → outcome (run nodes (at_work true left fields faults)) ≡ added true fields faults (limited left nodes)
-outcome_lenient [] None fields faults = rw (append-nil, append-nil) refl
-outcome_lenient [] (Some n) fields faults = rw (append-nil, append-nil) refl
-outcome_lenient (Visit ∷ nodes) None fields faults = outcome_lenient nodes None fields faults
-outcome_lenient (Visit ∷ nodes) (Some zero) fields faults = rw append-nil refl
-outcome_lenient (Visit ∷ nodes) (Some (suc n)) fields faults = outcome_lenient nodes (Some n) fields faults
-outcome_lenient (Found field ∷ nodes) None fields faults = outcome_lenient nodes None (fields ++ field ∷ []) faults ∙ added_found true fields faults field nodes
-outcome_lenient (Found field ∷ nodes) (Some n) fields faults = outcome_lenient nodes (Some n) (fields ++ field ∷ []) faults ∙ added_found true fields faults field (cut n nodes)
-outcome_lenient (Met fault ∷ nodes) None fields faults = outcome_lenient nodes None fields (faults ++ fault ∷ []) ∙ added_met true fields faults fault nodes
-outcome_lenient (Met fault ∷ nodes) (Some n) fields faults = outcome_lenient nodes (Some n) fields (faults ++ fault ∷ []) ∙ added_met true fields faults fault (cut n nodes)
+pub outcome_lenient : (nodes : List Node) (left : ℕ) (fields : List Field) (faults : List Fault) → outcome (run nodes (at_work true left fields faults)) ≡ added true fields faults (cut left nodes)
+outcome_lenient [] left fields faults = rw (append-nil, append-nil) refl
+outcome_lenient (Visit ∷ nodes) zero fields faults = rw append-nil refl
+outcome_lenient (Visit ∷ nodes) (suc n) fields faults = outcome_lenient nodes n fields faults
+outcome_lenient (Found field ∷ nodes) left fields faults = outcome_lenient nodes left (fields ++ field ∷ []) faults ∙ added_found true fields faults field (cut left nodes)
+outcome_lenient (Met fault ∷ nodes) left fields faults = outcome_lenient nodes left fields (faults ++ fault ∷ []) ∙ added_met true fields faults fault (cut left nodes)
 
--- a strict parser has met no fault
-pub strict_clean : (nodes : List Node) (left : Option ℕ) (fields : List Field) → (run nodes (at_work false left fields [])).0.faults ≡ []
-strict_clean [] left fields = refl
-strict_clean (Visit ∷ nodes) None fields = strict_clean nodes None fields
-strict_clean (Visit ∷ nodes) (Some zero) fields = refl
-strict_clean (Visit ∷ nodes) (Some (suc n)) fields = strict_clean nodes (Some n) fields
-strict_clean (Found field ∷ nodes) left fields = strict_clean nodes left (fields ++ field ∷ [])
-strict_clean (Met fault ∷ nodes) left fields = refl
+pub outcome_strict : (nodes : List Node) (left : ℕ) (fields : List Field) → outcome (run nodes (at_work false left fields [])) ≡ added false fields [] (cut left nodes)
+outcome_strict [] left fields = rw append-nil refl
+outcome_strict (Visit ∷ nodes) zero fields = refl
+outcome_strict (Visit ∷ nodes) (suc n) fields = outcome_strict nodes n fields
+outcome_strict (Found field ∷ nodes) left fields = outcome_strict nodes left (fields ++ field ∷ []) ∙ added_found false fields [] field (cut left nodes)
+outcome_strict (Met fault ∷ nodes) left fields = refl
 
-pub outcome_strict : (nodes : List Node) (left : Option ℕ) (fields : List Field) → outcome (run nodes (at_work false left fields [])) ≡ added false fields [] (limited left nodes)
-outcome_strict [] None fields = rw append-nil refl
-outcome_strict [] (Some n) fields = rw append-nil refl
-outcome_strict (Visit ∷ nodes) None fields = outcome_strict nodes None fields
-outcome_strict (Visit ∷ nodes) (Some zero) fields = refl
-outcome_strict (Visit ∷ nodes) (Some (suc n)) fields = outcome_strict nodes (Some n) fields
-outcome_strict (Found field ∷ nodes) None fields = outcome_strict nodes None (fields ++ field ∷ []) ∙ added_found false fields [] field nodes
-outcome_strict (Found field ∷ nodes) (Some n) fields = outcome_strict nodes (Some n) (fields ++ field ∷ []) ∙ added_found false fields [] field (cut n nodes)
-outcome_strict (Met fault ∷ nodes) None fields = refl
-outcome_strict (Met fault ∷ nodes) (Some n) fields = refl
-
--- from a parser that has read nothing, the answer is that of the limited trace
-pub outcome_run : (nodes : List Node) (lenient : Bool) (left : Option ℕ) → outcome (run nodes (at_work lenient left [] [])) ≡ answer_of lenient (content_of (limited left nodes))
+-- from a parser that has read nothing, the answer is that of the trace up to its limit
+pub outcome_run : (nodes : List Node) (lenient : Bool) (left : ℕ) → outcome (run nodes (at_work lenient left [] [])) ≡ answer_of lenient (content_of (cut left nodes))
 outcome_run nodes true left = outcome_lenient nodes left [] []
 outcome_run nodes false left = outcome_strict nodes left []
 
@@ -64,11 +47,11 @@ stopped p q fault e = let k : ◌≡◌ {A = Option Fault} (Some fault) None = a
 same_stop : (p q : Progress) (fault other : Fault) → ◌≡◌ {A = Progress × Option Fault} (p, Some fault) (q, Some other) → fault ≡ other
 same_stop p q fault other e = let k : ◌≡◌ {A = Option Fault} (Some fault) (Some other) = ap (λ (x : Progress × Option Fault). x.1) e in cc
 
-met_cases : (b : Bool) (left : Option ℕ) (fields : List Field) (faults : List Fault) (q : Progress) (fault : Fault) → on_met (at_work b left fields faults) fault ≡ (q, None) → outcome (at_work b left fields faults, Some fault) ≡ outcome (q, None)
+met_cases : (b : Bool) (left : ℕ) (fields : List Field) (faults : List Fault) (q : Progress) (fault : Fault) → on_met (at_work b left fields faults) fault ≡ (q, None) → outcome (at_work b left fields faults, Some fault) ≡ outcome (q, None)
 met_cases true left fields faults q fault e = ap (λ (x : Progress × Option Fault). outcome x) e
 met_cases false left fields faults q fault e = absurd (stopped (at_work false left fields faults) q fault e)
 
-refused_cases : (b : Bool) (left : Option ℕ) (fields : List Field) (faults : List Fault) (q : Progress) (fault other : Fault) → on_met (at_work b left fields faults) fault ≡ (q, Some other) → outcome (at_work b left fields faults, Some fault) ≡ Refused other
+refused_cases : (b : Bool) (left : ℕ) (fields : List Field) (faults : List Fault) (q : Progress) (fault other : Fault) → on_met (at_work b left fields faults) fault ≡ (q, Some other) → outcome (at_work b left fields faults, Some fault) ≡ Refused other
 refused_cases true left fields faults q fault other e = absurd (stopped q (at_work true left fields (faults ++ fault ∷ [])) other (sym e))
 refused_cases false left fields faults q fault other e = ap (λ f. Refused f) (same_stop (at_work false left fields faults) q fault other e)
 

@@ -6,16 +6,17 @@ use Rattle.exif_types.specs.declared.field.Field.{Field}
 use Rattle.exif_format.specs.declared.fault.Fault.{Fault}
 use Rattle.exif_format.specs.declared.fault.Fault.TheVariants.{TooManyEntries}
 
--- a parser: whether faults are noted and passed over, how many entries it may still visit, and what it has read
+-- a parser: whether faults are noted and passed over, how many entries it may still visit, and what it has read;
+-- each visit takes one of the entries that are left, so what is gone of them counts the parser's turns
 pub record Progress : Type 0 where
   pub lenient : Bool
-  pub left : Option ℕ
+  pub left : ℕ
   pub fields : List Field
   pub faults : List Fault
 
 -- one node, and the fault at which the parser stops there
 abbrev pub on_visit : Progress → Progress × Option Fault
-on_visit p = elim p.left [ None ↦ (p, None) | Some n ↦ elim n [ zero ↦ (p, Some TooManyEntries) | suc m ↦ (record p { left = Some m }, None) ] ]
+on_visit p = elim p.left [ zero ↦ (p, Some TooManyEntries) | suc n ↦ (record p { left = n }, None) ]
 
 abbrev pub on_found : Progress → Field → Progress × Option Fault
 on_found p field = (record p { fields = p.fields ++ field ∷ [] }, None)

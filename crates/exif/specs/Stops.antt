@@ -1,5 +1,6 @@
 -- What a parser's step says of its progress.
-use Rattle.std.specs.Prelude.{◌≡◌, Option, Some, None, Result, Ok, Err}
+use Rattle.std.specs.Prelude.{◌≡◌, ◌+◌, List, ◌++◌, Option, Some, None, Result, Ok, Err}
+use Rattle.exif_format.specs.Trace.{Node, visits_of}
 use Rattle.exif.specs.Running.{Progress}
 use Rattle.exif_format.specs.declared.fault.Fault.{Fault}
 use Rattle.exif.specs.declared.stop.Stop.{Stop}
@@ -10,3 +11,10 @@ abbrev pub Follows : Result (Unit {0}) Stop → Progress → Progress × Option 
 Follows (Ok _) new outcome = outcome ≡ (new, None)
 Follows (Err stop.Memory) new outcome = Unit {0}
 Follows (Err (stop.Fault fault)) new outcome = outcome ≡ (new, Some fault)
+
+-- as many turns were taken as the trace that was walked has visits: the whole trace, or what stands before the stop
+abbrev pub CountsTurns : Result (Unit {0}) Stop → Progress → Progress → List Node → Type 0
+CountsTurns (Ok _) old new nodes = new.left + visits_of nodes ≡ old.left
+CountsTurns (Err stop.Memory) old new nodes = Unit {0}
+CountsTurns (Err (stop.Fault fault)) old new nodes =
+    (walked rest : List Node) × (nodes ≡ walked ++ rest) × (new.left + visits_of walked ≡ old.left)

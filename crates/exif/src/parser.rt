@@ -3,7 +3,7 @@
 ghost use Rattle.std.specs.Prelude.{◌≡◌, ◌≤◌, ◌<◌, ◌+◌, ◌^◌, ◌-◌, length, []};
 ghost use Rattle.exif_format.specs.Trace.{directory_nodes, entry_nodes, pointer_nodes, chain_nodes, depth_of};
 ghost use Rattle.exif.specs.Running.{run, on_visit, on_found, on_met};
-ghost use Rattle.exif.specs.Stops.{Follows};
+ghost use Rattle.exif.specs.Stops.{Follows, CountsTurns};
 
 use crate::directory::{child_of, directory_end, entry_value, whole_entries};
 use crate::stop::Stop;
@@ -17,7 +17,7 @@ use std::marker::Model;
 #[derive(Drop)]
 pub struct Parser {
     lenient: bool,
-    left: Option<u64>,
+    left: u64,
     fields: Vec<Field>,
     faults: Vec<Fault>,
 }
@@ -32,7 +32,7 @@ impl Model for Parser {
 
 impl Parser {
     /// A parser that has read nothing.
-    pub fn new(alloc: Global, lenient: bool, left: Option<u64>) -> Parser
+    pub fn new(alloc: Global, lenient: bool, left: u64) -> Parser
         ensures { result ≡ record { lenient = lenient; left = left; fields = []; faults = [] } }
     {
         Parser {
@@ -61,14 +61,11 @@ impl Parser {
     fn visit(&mut self) -> Result<(), Stop>
         ensures { Follows result self.new (on_visit self.old) }
     {
-        match self.left {
-            None => Ok(()),
-            Some(0) => Err(Stop::Fault(Fault::TooManyEntries)),
-            Some(left) => {
-                self.left = Some(left - 1);
-                Ok(())
-            }
+        if self.left == 0 {
+            return Err(Stop::Fault(Fault::TooManyEntries));
         }
+        self.left -= 1;
+        Ok(())
     }
 
     // Keeps a field.
@@ -90,8 +87,24 @@ impl Parser {
         Ok(())
     }
 
-    /// Reads the chain of directories from a place on.
+    /// Reads the chain of directories from a place on, each entry in one turn.
+    #[tactic(auto, using(crate::proofs::Turns::counts_turns))]
     pub fn chain<E: Endian>(
+        &mut self,
+        alloc: Global,
+        bytes: &[u8],
+        limit: u16,
+        first: u32,
+    ) -> Result<(), Stop>
+        requires { length bytes.now < 2 ^ 32 }
+        ensures follows { Follows result self.new (run (chain_nodes limit E.number_of bytes.now 0 first) self.old) }
+        ensures turns { CountsTurns result self.old self.new (chain_nodes limit E.number_of bytes.now 0 first) }
+    {
+        self.directories::<E>(alloc, bytes, limit, first)
+    }
+
+    // Reads each directory of the chain with its end.
+    fn directories<E: Endian>(
         &mut self,
         alloc: Global,
         bytes: &[u8],

@@ -1,7 +1,7 @@
 //! TIFF data: the header, and the fields behind it (TIFF 6.0, section 2).
 
 ghost use Rattle.std.specs.Prelude.{◌≡◌, ◌≤◌, ◌<◌, ◌^◌, length, IfOk, OnOk, None, false};
-ghost use Rattle.exif_format.specs.Trace.{header, content_of, limited, ordered_trace};
+ghost use Rattle.exif_format.specs.Trace.{header, content_of, cut, ordered_trace};
 ghost use Rattle.exif_format.specs.Answers.{answer_of, raw_answer};
 ghost use Rattle.exif.specs.Bounds.{most_reports, FieldsAtMost};
 ghost use Rattle.exif.specs.Readings.{ParsesAs};
@@ -46,20 +46,20 @@ fn header(bytes: &[u8]) -> Result<Order, Fault>
     Ok(order)
 }
 
-// Reads data whose header is right.
+// Reads data whose header is right, up to a limit on the visited entries.
 fn parse_in<E: Endian>(
     alloc: Global,
     bytes: &[u8],
     lenient: bool,
-    limit: Option<u64>,
+    most: u64,
     little_endian: bool,
 ) -> Result<Parsed, Stop>
     requires header { 8 ≤ length bytes.now }
     requires small { length bytes.now < 2 ^ 32 }
-    ensures says { Says result (answer_of lenient (content_of (limited limit (ordered_trace E.number_of bytes.now)))) }
+    ensures says { Says result (answer_of lenient (content_of (cut most (ordered_trace E.number_of bytes.now)))) }
     ensures order { IfOk result (λ parsed. parsed.little_endian ≡ little_endian) }
 {
-    let mut parser = Parser::new(alloc, lenient, limit);
+    let mut parser = Parser::new(alloc, lenient, most);
     match parser.chain::<E>(alloc, bytes, 8, E::loadu32(bytes, 4)) {
         Ok(()) => {}
         Err(Stop::Fault(fault)) => parser.met(fault)?,
@@ -79,9 +79,11 @@ pub fn parse(alloc: Global, bytes: &[u8], lenient: bool, limit: Option<u64>) -> 
     ensures order { SaysOrder result bytes.now }
     ensures memory { WantsMemory result bytes.now }
 {
+    // No data have as many entries as this, so that it limits nothing.
+    let most = limit.unwrap_or(u64::MAX);
     match header(bytes) {
-        Ok(Order::Big) => parse_in::<BigEndian>(alloc, bytes, lenient, limit, false),
-        Ok(Order::Little) => parse_in::<LittleEndian>(alloc, bytes, lenient, limit, true),
+        Ok(Order::Big) => parse_in::<BigEndian>(alloc, bytes, lenient, most, false),
+        Ok(Order::Little) => parse_in::<LittleEndian>(alloc, bytes, lenient, most, true),
         Err(fault) => Err(Stop::Fault(fault)),
     }
 }

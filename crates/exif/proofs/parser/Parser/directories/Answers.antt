@@ -1,7 +1,7 @@
 use Rattle.std.proofs.Common.{sym, ◌∙◌}
 use Rattle.std.proofs.lemmas.Result.{err_from_is_err_and}
 use Rattle.exif.proofs.FollowSteps.{chain_on, chain_stop, chain_fault}
-use Rattle.exif.proofs.parser.Parser.chain.Goals as goal
+use Rattle.exif.proofs.parser.Parser.directories.Goals as goal
 
 pub returns-in_err-directory : goal.returns-in_err-directory
 returns-in_err-directory g c =

@@ -1,7 +1,7 @@
 use Rattle.std.proofs.Common.{◌≡◌, ◌-◌}
 use Rattle.exif_format.specs.Trace.{chain_nodes}
 use Rattle.exif.specs.Running.{run}
-use Rattle.exif.proofs.parser.Parser.chain.Given as goal
+use Rattle.exif.proofs.parser.Parser.directories.Given as goal
 
 -- the rest of the chain takes the parser where all of it does
 abbrev pub invariant-loop-number : goal.invariant-loop-number
