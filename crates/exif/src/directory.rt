@@ -6,7 +6,7 @@ ghost use Rattle.exif_format.specs.Trace.{entry_value, whole_entries, directory_
 
 use exif_base::Endian;
 use exif_format::Fault;
-use exif_types::{Context, FieldType, Value};
+use exif_types::{Context, FieldType, Value, decode_value};
 use std::alloc::{AllocError, Global};
 
 /// The value of the entry at a place, if it lies in the data.
@@ -33,7 +33,7 @@ pub fn entry_value<E: Endian>(
     if place as u64 + size > bytes.len() as u64 {
         return Ok(None);
     }
-    Ok(Some(Value::decode::<E>(alloc, field_type, count, bytes, place)?))
+    Ok(Some(decode_value::<E>(alloc, field_type, count, bytes, place)?))
 }
 
 /// How many entries of the directory at a place are whole.

@@ -16,7 +16,7 @@ use crate::tiff;
 use exif_base::Source;
 use exif_containers::exif_attr_of_stream;
 use exif_format::Fault;
-use exif_types::{Error, Exif, PartialResult};
+use exif_types::{Error, Exif, exif_from_parts, partial_from_parts};
 use std::alloc::{AllocError, Global};
 use std::marker::Model;
 
@@ -125,10 +125,10 @@ impl Reader {
     {
         let parsed = tiff::parse(alloc, bytes.as_slice(), self.lenient, self.limit)?;
         let errors = errors_of(alloc, parsed.faults.as_slice())?;
-        let exif = Exif::from_parts(alloc, bytes, parsed.fields, parsed.little_endian)?;
+        let exif = exif_from_parts(alloc, bytes, parsed.fields, parsed.little_endian)?;
         if errors.is_empty() {
             return Ok(exif);
         }
-        Err(Error::PartialResult(PartialResult::from_parts(exif, errors)))
+        Err(Error::PartialResult(partial_from_parts(exif, errors)))
     }
 }

@@ -15,6 +15,7 @@ ghost use Rattle.exif_report.specs.Reports.{Finds, Reports, CountsBoth, given_by
 use crate::lines::{set_error_line, set_field_line};
 use exif::{Error, Exif, Field, Reader, Sink, Source};
 use exif_base::send_all;
+use exif_types::fields_left;
 use std::alloc::Global;
 
 /// Writes a line for each of the fields, which are those of `exif`.
@@ -112,7 +113,7 @@ fn write_all<W: Sink>(
     ensures count { W.failures out.new ≡ count_after (is_io result) (W.failures out.old) }
     ensures same { W.through out.new ≡ W.through out.old }
 {
-    write_fields(alloc, exif, exif.fields().as_slice(), out)?;
+    write_fields(alloc, exif, fields_left(&exif.fields()), out)?;
     write_errors(alloc, errors, out)?;
     out.flush()?;
     Ok(())

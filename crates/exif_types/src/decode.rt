@@ -180,39 +180,37 @@ fn texts_of(alloc: Global, bytes: &[u8]) -> Result<Items<Items<u8>>, AllocError>
     Ok(Items::from_vec(found))
 }
 
-impl Value {
-    /// The value of a type that `count` items from a place on spell.
-    pub fn decode<E: Endian>(
-        alloc: Global,
-        field_type: FieldType,
-        count: u32,
-        bytes: &[u8],
-        place: u32,
-    ) -> Result<Value, AllocError>
-        requires { place + unit_length field_type * count ≤ length bytes.now }
-        ensures { IfOk result (λ v. v ≡ decode_as E.number_of field_type count bytes.now place) }
-    {
-        let at = place as usize;
-        let n = count as usize;
-        Ok(match field_type {
-            FieldType::Byte => Value::Byte(Items::from_slice(alloc, &bytes[at..at + n])?),
-            FieldType::Ascii => Value::Ascii(texts_of(alloc, &bytes[at..at + n])?),
-            FieldType::Short => Value::Short(decode_items::<u16, E>(alloc, bytes, at, n)?),
-            FieldType::Long => Value::Long(decode_items::<u32, E>(alloc, bytes, at, n)?),
-            FieldType::Rational => {
-                Value::Rational(decode_items::<Rational, E>(alloc, bytes, at, n)?)
-            }
-            FieldType::SByte => Value::SByte(decode_items::<i8, E>(alloc, bytes, at, n)?),
-            FieldType::Undefined => {
-                Value::Undefined(Items::from_slice(alloc, &bytes[at..at + n])?, place)
-            }
-            FieldType::SShort => Value::SShort(decode_items::<i16, E>(alloc, bytes, at, n)?),
-            FieldType::SLong => Value::SLong(decode_items::<i32, E>(alloc, bytes, at, n)?),
-            FieldType::SRational => {
-                Value::SRational(decode_items::<SRational, E>(alloc, bytes, at, n)?)
-            }
-            FieldType::Float => Value::Float(decode_items::<u32, E>(alloc, bytes, at, n)?),
-            FieldType::Double => Value::Double(decode_items::<u64, E>(alloc, bytes, at, n)?),
-        })
-    }
+/// The value of a type that `count` items from a place on spell.
+pub fn decode_value<E: Endian>(
+    alloc: Global,
+    field_type: FieldType,
+    count: u32,
+    bytes: &[u8],
+    place: u32,
+) -> Result<Value, AllocError>
+    requires { place + unit_length field_type * count ≤ length bytes.now }
+    ensures { IfOk result (λ v. v ≡ decode_as E.number_of field_type count bytes.now place) }
+{
+    let at = place as usize;
+    let n = count as usize;
+    Ok(match field_type {
+        FieldType::Byte => Value::Byte(Items::from_slice(alloc, &bytes[at..at + n])?),
+        FieldType::Ascii => Value::Ascii(texts_of(alloc, &bytes[at..at + n])?),
+        FieldType::Short => Value::Short(decode_items::<u16, E>(alloc, bytes, at, n)?),
+        FieldType::Long => Value::Long(decode_items::<u32, E>(alloc, bytes, at, n)?),
+        FieldType::Rational => {
+            Value::Rational(decode_items::<Rational, E>(alloc, bytes, at, n)?)
+        }
+        FieldType::SByte => Value::SByte(decode_items::<i8, E>(alloc, bytes, at, n)?),
+        FieldType::Undefined => {
+            Value::Undefined(Items::from_slice(alloc, &bytes[at..at + n])?, place)
+        }
+        FieldType::SShort => Value::SShort(decode_items::<i16, E>(alloc, bytes, at, n)?),
+        FieldType::SLong => Value::SLong(decode_items::<i32, E>(alloc, bytes, at, n)?),
+        FieldType::SRational => {
+            Value::SRational(decode_items::<SRational, E>(alloc, bytes, at, n)?)
+        }
+        FieldType::Float => Value::Float(decode_items::<u32, E>(alloc, bytes, at, n)?),
+        FieldType::Double => Value::Double(decode_items::<u64, E>(alloc, bytes, at, n)?),
+    })
 }

@@ -1,6 +1,7 @@
 //! Errors, and what was read where there were any.
 
 ghost use Rattle.std.specs.Prelude.{◌≡◌, All, map};
+ghost use Rattle.exif_types.specs.Failures.{told_text, IsInvalidFormat};
 
 use crate::Exif;
 use std::alloc::{AllocError, AllocFailed};
@@ -76,17 +77,17 @@ impl<Text> PartialResult<Text> {
     }
 }
 
+/// What was read, with faults that are all of the variant `InvalidFormat`.
+pub fn partial_from_parts<Text: Drop>(exif: Exif, errors: Vec<Error<Text>>) -> PartialResult<Text>
+    requires { All IsInvalidFormat errors.items }
+    ensures { result ≡ record { exif = exif; faults = map told_text errors.items } }
+{
+    PartialResult { exif, errors }
+}
+
 impl<Text: Drop> PartialResult<Text> {
     ghost use Rattle.std.specs.Prelude.{◌≡◌, All, map};
     ghost use Rattle.exif_types.specs.Failures.{told_text, IsInvalidFormat};
-
-    /// What was read, with faults that are all of the variant `InvalidFormat`.
-    pub fn from_parts(exif: Exif, errors: Vec<Error<Text>>) -> PartialResult<Text>
-        requires { All IsInvalidFormat errors.items }
-        ensures { result ≡ record { exif = exif; faults = map told_text errors.items } }
-    {
-        PartialResult { exif, errors }
-    }
 
     /// What was read, and the faults that were met, in their order.
     pub fn into_inner(self) -> (Exif, Vec<Error<Text>>)

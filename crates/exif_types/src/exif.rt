@@ -33,26 +33,26 @@ impl Model for Exif {
     ghost invariant = { λ a. All IsRead a.fields.items × Locates ⟦<FieldKey as Ord>⟧.cmp a.index a.fields.items };
 }
 
-impl Exif {
-    /// The data, the fields that were read of them, and whether they are little endian.
-    pub fn from_parts(
-        alloc: Global,
-        buf: Vec<u8>,
-        fields: Vec<Field>,
-        little_endian: bool,
-    ) -> Result<Exif, AllocError>
-        requires { All IsRead fields.items }
-        ensures { IfOk result (λ exif. exif ≡ record { buf = buf.items; fields = fields.items; little_endian = little_endian }) }
-    {
-        let index = FieldIndex::of(alloc, fields.as_slice())?;
-        Ok(Exif {
-            buf,
-            fields,
-            index,
-            little_endian,
-        })
-    }
+/// The data, the fields that were read of them, and whether they are little endian.
+pub fn exif_from_parts(
+    alloc: Global,
+    buf: Vec<u8>,
+    fields: Vec<Field>,
+    little_endian: bool,
+) -> Result<Exif, AllocError>
+    requires { All IsRead fields.items }
+    ensures { IfOk result (λ exif. exif ≡ record { buf = buf.items; fields = fields.items; little_endian = little_endian }) }
+{
+    let index = FieldIndex::of(alloc, fields.as_slice())?;
+    Ok(Exif {
+        buf,
+        fields,
+        index,
+        little_endian,
+    })
+}
 
+impl Exif {
     /// The TIFF data.
     pub fn buf(&self) -> &[u8]
         ensures { result.now ≡ self.now.buf }

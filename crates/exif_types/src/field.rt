@@ -32,8 +32,8 @@ impl Field {
         })
     }
 
-    /// Whether the field has this tag and this number.
-    pub fn is_named(&self, tag: Tag, ifd_num: In) -> bool
+    // Whether the field has this tag and this number.
+    pub(crate) fn is_named(&self, tag: Tag, ifd_num: In) -> bool
         ensures { result ≡ is_named tag ifd_num self.now }
     {
         self.tag == tag && self.ifd_num == ifd_num

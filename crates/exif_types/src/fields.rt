@@ -28,13 +28,13 @@ impl<'a> Fields<'a> {
     {
         Fields { left }
     }
+}
 
-    /// The fields that are left.
-    pub fn as_slice(&self) -> &'a [Field]
-        ensures { result.now ≡ self.now }
-    {
-        self.left
-    }
+/// The fields that are left.
+pub fn fields_left<'a>(fields: &Fields<'a>) -> &'a [Field]
+    ensures { result.now ≡ fields.now }
+{
+    fields.left
 }
 
 impl<'a> Iterator for Fields<'a> {

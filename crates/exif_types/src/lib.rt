@@ -19,13 +19,14 @@ pub mod unsigned;
 pub mod value;
 
 pub use datetime::DateTime;
+pub use decode::decode_value;
 pub use display::{Display, DisplayValue};
-pub use error::{Error, PartialResult};
-pub use exif::Exif;
+pub use error::{Error, PartialResult, partial_from_parts};
+pub use exif::{Exif, exif_from_parts};
 pub use exif_text::{Rational, SRational};
 pub use field::Field;
 pub use field_type::FieldType;
-pub use fields::Fields;
+pub use fields::{Fields, fields_left};
 pub use ifd::In;
 pub use tag::{Context, Tag};
 pub use unit::{DisplayValueUnit, ProvideUnit};

@@ -44,8 +44,8 @@ impl Value {
     ghost use Rattle.exif_text.specs.Contents.{contents_view};
     ghost use Rattle.exif_types.specs.PlainValues.{plain_of};
 
-    /// What the value holds, borrowed for printing.
-    pub fn contents(&self) -> Contents<'_>
+    // What the value holds, borrowed for printing.
+    pub(crate) fn contents(&self) -> Contents<'_>
         ensures { contents_view result ≡ plain_of self.now }
     {
         match self {

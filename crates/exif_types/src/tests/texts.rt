@@ -3,7 +3,7 @@
 ghost use Rattle.std.specs.Prelude.{◌≡◌, IfOk};
 ghost use Rattle.exif_types.specs.Sound.{IsRead};
 
-use crate::{Context, Exif, Field, In, Rational, SRational, Tag, Value};
+use crate::{Context, Field, In, Rational, SRational, Tag, Value, exif_from_parts};
 use exif_base::Items;
 use std::alloc::{AllocError, Global};
 use std::process::Abort;
@@ -189,7 +189,7 @@ fn units_of_the_fields_that_were_read(rt: HostRuntime) -> Result<(), Fail> {
     let mut fields = Vec::new(alloc);
     fields.push(shorts(alloc, Tag::ResolutionUnit, &[2])?)?;
     fields.push(shorts(alloc, Tag::ResolutionUnit, &[3])?)?;
-    let exif = Exif::from_parts(alloc, Vec::new(alloc), fields, false)?;
+    let exif = exif_from_parts(alloc, Vec::new(alloc), fields, false)?;
     let mut resolution = fractions(alloc, Tag::YResolution, &[(300, 1)])?;
     for (directory, shown) in [
         (In::PRIMARY, "300 pixels per cm"),
