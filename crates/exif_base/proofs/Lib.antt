@@ -1,4 +1,5 @@
 pub mod AtHand
 pub mod Head
+pub mod Overwritten
 pub mod Sent
 pub mod Told

@@ -1,0 +1,6 @@
+use Rattle.exif_base.proofs.Overwritten.{put_over}
+use Rattle.byteorder.specs.Endian.{little_bytes}
+use Rattle.exif_base.proofs.endian.LittleEndianEndian.writeu16.Goals as goal
+
+pub returns-clause-written : goal.returns-clause-written
+returns-clause-written c = put_over c.args.from 2 c.args.buf.now (little_bytes 2 c.args.num) c.write_u16.new.buf c.write_u16.ensures
