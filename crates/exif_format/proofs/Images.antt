@@ -22,3 +22,6 @@ pub mod Counting
 pub mod Room
 pub mod Laid
 pub mod Laws
+pub mod Members
+pub mod Pushed
+pub mod Scrubbed

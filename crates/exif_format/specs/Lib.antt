@@ -10,10 +10,12 @@ pub mod ImageExamples
 pub mod Layout
 pub mod Measuring
 pub mod Places
+pub mod Pushing
 pub mod Ranged
 pub mod ReadBack
 pub mod Refused
 pub mod Rewriting
+pub mod Scrubbing
 pub mod Slots
 pub mod Trace
 pub mod Visits

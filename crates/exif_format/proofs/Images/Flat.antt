@@ -8,13 +8,14 @@ use Rattle.std.proofs.lemmas.List.Concat.{flat_map-append}
 use Rattle.exif_types.specs.declared.value.Value.{Value}
 use Rattle.exif_types.specs.declared.value.Value.TheVariants.{Byte, Ascii, Short, Long, Rational, SByte, Undefined, SShort, SLong, SRational, Float, Double, Unknown}
 use Rattle.exif_format.specs.Encoding.{moved_to}
+use Rattle.exif_types.specs.Lookup.{context_eq}
 use Rattle.exif_types.specs.declared.tag.Context.{Context}
 use Rattle.exif_types.specs.declared.field.Field.{Field}
 use Rattle.exif_format.specs.Groups.{is_ignored}
 use Rattle.exif_format.specs.Slots.{Draft, Slot, Source, Known, PlacesOf, LengthsOf, PlaceOf, inserted, in_tag_order, source_len}
 use Rattle.exif_format.specs.Places.{written, directory_place, values_place, after_value, value_of, even}
 use Rattle.exif_format.specs.Flat.{entry_fields, directory_fields}
-use Rattle.exif_format.proofs.Images.Pushing.{added, same}
+use Rattle.exif_format.proofs.Images.Pushing.{added}
 
 pub moved_twice : (p q : ℕ) (value : Value) → moved_to p (moved_to q value) ≡ moved_to p value
 moved_twice p q (Byte xs) = refl
@@ -49,7 +50,7 @@ is_pushed context slot = not (is_ignored context slot.tag)
 abbrev pub share : Context → Context → (Context → List Slot) → Slot → List Slot
 share context here inner slot =
     elim slot.source [
-      | Known value ↦ if is_ignored here slot.tag then [] else (if same here context then slot ∷ [] else [])
+      | Known value ↦ if is_ignored here slot.tag then [] else (if context_eq here context then slot ∷ [] else [])
       | PlacesOf kind lengths ↦ []
       | LengthsOf kind lengths ↦ []
       | PlaceOf child ↦ inner child

@@ -4,6 +4,7 @@ use Rattle.std.specs.Prelude.{if◌then◌else◌, ◌==◌}
 use Rattle.std.specs.List.{flat_map}
 use Rattle.std.proofs.lemmas.Bool.{eqb-true, eqb-false}
 use Rattle.std.proofs.lemmas.List.{append-nil, append_assoc, map-append}
+use Rattle.exif_types.specs.Lookup.{context_eq}
 use Rattle.exif_types.specs.declared.tag.Context.{Context}
 use Rattle.exif_types.specs.declared.tag.Context.TheVariants.{Tiff, Exif, Gps, Interop}
 use Rattle.exif_types.specs.declared.field.Field.{Field}
@@ -47,14 +48,7 @@ changed_keeps see n m f groups h = go (n == m) refl
         ap (λ i. see (group_at (changed n f groups) i)) (sym k) ∙ ap see (changed_same n f groups) ∙ h (group_at groups n) ∙ ap (λ i. see (group_at groups i)) k
     go false e = ap see (changed_other n m f groups (eqb-false n m e))
 
-abbrev pub same : Context → Context → Bool
-same Tiff Tiff = true
-same Exif Exif = true
-same Gps Gps = true
-same Interop Interop = true
-same _ _ = false
-
-with_entry_in : (a b : Context) (entry : Entry) (group : Group) → pushed_in (with_entry a entry group) b ≡ pushed_in group b ++ (if same a b then entry ∷ [] else [])
+with_entry_in : (a b : Context) (entry : Entry) (group : Group) → pushed_in (with_entry a entry group) b ≡ pushed_in group b ++ (if context_eq a b then entry ∷ [] else [])
 with_entry_in Tiff Tiff entry group = refl
 with_entry_in Tiff Exif entry group = sym (append-nil group.exif)
 with_entry_in Tiff Gps entry group = sym (append-nil group.gps)
@@ -72,38 +66,55 @@ with_entry_in Interop Exif entry group = sym (append-nil group.exif)
 with_entry_in Interop Gps entry group = sym (append-nil group.gps)
 with_entry_in Interop Interop entry group = refl
 
+-- the entries that a push adds to a directory
+abbrev pub entries_added : ℕ → Context → Field → List Entry
+entries_added ifd context field =
+    if is_ignored field.tag.0 field.tag.1 then []
+    else (if field.ifd_num.0 == ifd then (if context_eq field.tag.0 context then entry_of field ∷ [] else []) else [])
+
+pub pushed_entries : (field : Field) (groups : List Group) (ifd : ℕ) (context : Context)
+    → pushed_in (group_at (pushed field groups) ifd) context ≡ pushed_in (group_at groups ifd) context ++ entries_added ifd context field
+pushed_entries field groups ifd context = go (is_ignored field.tag.0 field.tag.1) (field.ifd_num.0 == ifd) refl refl
+  where
+    go : (a b : Bool) → is_ignored field.tag.0 field.tag.1 ≡ a → (field.ifd_num.0 == ifd) ≡ b
+        → pushed_in (group_at (pushed field groups) ifd) context ≡ pushed_in (group_at groups ifd) context ++ entries_added ifd context field
+    go true b e f = rw e (sym (append-nil (pushed_in (group_at groups ifd) context)))
+    go false true e f =
+        let k : field.ifd_num.0 ≡ ifd = eqb-true field.ifd_num.0 ifd f in
+        let change : Group → Group = with_entry field.tag.0 (entry_of field) in
+        rw (e, f) (ap (λ i. pushed_in (group_at (changed field.ifd_num.0 change groups) i) context) (sym k)
+        ∙ ap (λ g. pushed_in g context) (changed_same field.ifd_num.0 change groups)
+        ∙ with_entry_in field.tag.0 context (entry_of field) (group_at groups field.ifd_num.0)
+        ∙ ap (λ i. pushed_in (group_at groups i) context ++ (if context_eq field.tag.0 context then entry_of field ∷ [] else [])) k)
+    go false false e f =
+        rw (e, f) (ap (λ g. pushed_in g context) (changed_other field.ifd_num.0 ifd (with_entry field.tag.0 (entry_of field)) groups (eqb-false field.ifd_num.0 ifd f))
+        ∙ sym (append-nil (pushed_in (group_at groups ifd) context)))
+
 -- the slots that a push adds to a directory
 abbrev pub added : ℕ → Context → Field → List Slot
 added ifd context field =
     if is_ignored field.tag.0 field.tag.1 then []
-    else (if field.ifd_num.0 == ifd then (if same field.tag.0 context then known (entry_of field) ∷ [] else []) else [])
+    else (if field.ifd_num.0 == ifd then (if context_eq field.tag.0 context then known (entry_of field) ∷ [] else []) else [])
 
 -- the slots that are pushed in a directory
 abbrev pub slots_in : List Group → ℕ → Context → List Slot
 slots_in groups ifd context = map known (pushed_in (group_at groups ifd) context)
 
-pushed_adds : (field : Field) (groups : List Group) (ifd : ℕ) (context : Context) → slots_in (pushed field groups) ifd context ≡ slots_in groups ifd context ++ added ifd context field
-pushed_adds field groups ifd context = go (is_ignored field.tag.0 field.tag.1) (field.ifd_num.0 == ifd) refl refl
+known_added : (ifd : ℕ) (context : Context) (field : Field) → map known (entries_added ifd context field) ≡ added ifd context field
+known_added ifd context field = cases (is_ignored field.tag.0 field.tag.1) (field.ifd_num.0 == ifd) (context_eq field.tag.0 context)
   where
-    here : (b : Bool) → map known (pushed_in (group_at groups field.ifd_num.0) context ++ (if b then entry_of field ∷ [] else []))
-        ≡ map known (pushed_in (group_at groups field.ifd_num.0) context) ++ (if b then known (entry_of field) ∷ [] else [])
-    here true = map-append known (pushed_in (group_at groups field.ifd_num.0) context) (entry_of field ∷ [])
-    here false = map-append known (pushed_in (group_at groups field.ifd_num.0) context) []
+    cases : (a b c : Bool) → map known (let r : List Entry = if a then [] else (if b then (if c then entry_of field ∷ [] else []) else []) in r)
+        ≡ (if a then [] else (if b then (if c then known (entry_of field) ∷ [] else []) else []))
+    cases true b c = refl
+    cases false true true = refl
+    cases false true false = refl
+    cases false false c = refl
 
-    go : (a b : Bool) → is_ignored field.tag.0 field.tag.1 ≡ a → (field.ifd_num.0 == ifd) ≡ b
-        → slots_in (pushed field groups) ifd context ≡ slots_in groups ifd context ++ added ifd context field
-    go true b e f = rw e (sym (append-nil (slots_in groups ifd context)))
-    go false true e f =
-        let k : field.ifd_num.0 ≡ ifd = eqb-true field.ifd_num.0 ifd f in
-        let change : Group → Group = with_entry field.tag.0 (entry_of field) in
-        rw (e, f) (ap (λ i. slots_in (changed field.ifd_num.0 change groups) i context) (sym k)
-        ∙ ap (λ g. map known (pushed_in g context)) (changed_same field.ifd_num.0 change groups)
-        ∙ ap (map known) (with_entry_in field.tag.0 context (entry_of field) (group_at groups field.ifd_num.0))
-        ∙ here (same field.tag.0 context)
-        ∙ ap (λ i. slots_in groups i context ++ (if same field.tag.0 context then known (entry_of field) ∷ [] else [])) k)
-    go false false e f =
-        rw (e, f) (ap (λ g. map known (pushed_in g context)) (changed_other field.ifd_num.0 ifd (with_entry field.tag.0 (entry_of field)) groups (eqb-false field.ifd_num.0 ifd f))
-        ∙ sym (append-nil (slots_in groups ifd context)))
+pushed_adds : (field : Field) (groups : List Group) (ifd : ℕ) (context : Context) → slots_in (pushed field groups) ifd context ≡ slots_in groups ifd context ++ added ifd context field
+pushed_adds field groups ifd context =
+    ap (map known) (pushed_entries field groups ifd context)
+    ∙ map-append known (pushed_in (group_at groups ifd) context) (entries_added ifd context field)
+    ∙ ap (λ r. slots_in groups ifd context ++ r) (known_added ifd context field)
 
 pub pushed_all_adds : (fields : List Field) (groups : List Group) (ifd : ℕ) (context : Context)
     → slots_in (pushed_all fields groups) ifd context ≡ slots_in groups ifd context ++ flat_map (added ifd context) fields

@@ -6,6 +6,7 @@ use Rattle.std.proofs.lemmas.Bool.{ne_eqb, ltb-true, ltb-false}
 use Rattle.std.proofs.lemmas.List.{append-nil, append_assoc}
 use Rattle.std.proofs.lemmas.List.Concat.{flat_map-append}
 use Rattle.exif_base.specs.declared.endian.Order.{Order}
+use Rattle.exif_types.specs.Lookup.{context_eq}
 use Rattle.exif_types.specs.declared.tag.Context.{Context}
 use Rattle.exif_types.specs.declared.tag.Context.TheVariants.{Tiff, Exif, Gps, Interop}
 use Rattle.exif_types.specs.declared.field.Field.{Field}
@@ -23,7 +24,7 @@ use Rattle.exif_format.specs.Rewriting.{pushed_all, set_if, blocks_set, all_bloc
 use Rattle.exif_format.proofs.Images.Standing.{all_append}
 use Rattle.exif_format.proofs.Images.Whole.{not_refused}
 use Rattle.exif_format.proofs.Images.Sorting.{sorted_again, filter-sorted}
-use Rattle.exif_format.proofs.Images.Pushing.{group_at, slots_in, added, same, pushed_all_adds, pushed_all_blocks, blocks_at, with_blocks, or_else, all_set_at, length-changed}
+use Rattle.exif_format.proofs.Images.Pushing.{group_at, slots_in, added, pushed_all_adds, pushed_all_blocks, blocks_at, with_blocks, or_else, all_set_at, length-changed}
 use Rattle.exif_format.proofs.Images.Flat.{is_pushed}
 use Rattle.exif_format.proofs.Images.Shares.{top_adds, places_ignored, lengths_ignored}
 
@@ -31,7 +32,7 @@ use Rattle.exif_format.proofs.Images.Shares.{top_adds, places_ignored, lengths_i
 added_elsewhere : (ifd : ℕ) (context : Context) (field : Field) → field.ifd_num.0 ≢ ifd → added ifd context field ≡ []
 added_elsewhere ifd context field h =
     elim (is_ignored field.tag.0 field.tag.1) as
-    (λ b. (if b then [] else (if field.ifd_num.0 == ifd then (if same field.tag.0 context then known (entry_of field) ∷ [] else []) else [])) ≡ []) [
+    (λ b. (if b then [] else (if field.ifd_num.0 == ifd then (if context_eq field.tag.0 context then known (entry_of field) ∷ [] else []) else [])) ≡ []) [
       | true ↦ refl
       | false ↦ rw (ne_eqb field.ifd_num.0 ifd h) refl
     ]
@@ -233,7 +234,7 @@ length-pushed field groups n h k =
       | false ↦ (let e = length-changed field.ifd_num.0 (with_entry field.tag.0 (entry_of field)) groups in omega arith)
     ]
 
-length-pushed_all : (fields : List Field) (groups : List Group) (n : ℕ) → AllByRecursion (λ field. field.ifd_num.0 < n) fields → length groups ≤ n → length (pushed_all fields groups) ≤ n
+pub length-pushed_all : (fields : List Field) (groups : List Group) (n : ℕ) → AllByRecursion (λ field. field.ifd_num.0 < n) fields → length groups ≤ n → length (pushed_all fields groups) ≤ n
 length-pushed_all [] groups n h k = k
 length-pushed_all (field ∷ fields) groups n h k = length-pushed_all fields (pushed field groups) n h.1 (length-pushed field groups n h.0 k)
 

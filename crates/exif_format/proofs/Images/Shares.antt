@@ -3,6 +3,7 @@ use Rattle.std.proofs.Common.{◌≡◌, ℕ, suc, List, [], ◌∷◌, ◌++◌
 use Rattle.std.specs.Prelude.{if◌then◌else◌, not}
 use Rattle.std.specs.List.{AllByRecursion, flat_map, filter}
 use Rattle.std.proofs.lemmas.List.{append-nil, append_assoc, length-append}
+use Rattle.exif_types.specs.Lookup.{context_eq}
 use Rattle.exif_types.specs.declared.tag.Context.{Context}
 use Rattle.exif_types.specs.declared.tag.Context.TheVariants.{Tiff, Exif, Gps, Interop}
 use Rattle.exif_format.specs.Groups.{Group, Entry, is_ignored, pushed_in, blocks_in, places_tag, lengths_tag}
@@ -12,7 +13,6 @@ use Rattle.exif_format.specs.declared.block_kind.BlockKind.TheVariants.{Strips, 
 use Rattle.exif_format.proofs.Images.Standing.{all_append}
 use Rattle.exif_format.proofs.Images.Slots.{all_known, all_slots, all_tiff, all_exif, all_gps, all_interop, pointer_to}
 use Rattle.exif_format.proofs.Images.Sorting.{length-sorted}
-use Rattle.exif_format.proofs.Images.Pushing.{same}
 use Rattle.exif_format.proofs.Images.Flat.{IsSettled, is_pushed, share, sum_of, sum_is, flat_nothing, flat_sorted, flat_filter, moved_twice}
 
 pub always : {X : Type 0} (P : X → Type 0) → ((x : X) → P x) → (l : List X) → AllByRecursion P l
@@ -42,7 +42,7 @@ settled group =
     (λ some. refl) (λ some. refl) (λ some. refl)
 
 own_known : (here : Context) (ignored : Bool) (slot : Slot)
-    → (if ignored then [] else (if same here here then slot ∷ [] else [])) ≡ cond (not ignored) (slot ∷ []) []
+    → (if ignored then [] else (if context_eq here here then slot ∷ [] else [])) ≡ cond (not ignored) (slot ∷ []) []
 own_known Tiff true slot = refl
 own_known Tiff false slot = refl
 own_known Exif true slot = refl
@@ -52,8 +52,8 @@ own_known Gps false slot = refl
 own_known Interop true slot = refl
 own_known Interop false slot = refl
 
-other_known : (here context : Context) (ignored : Bool) (slot : Slot) → same here context ≡ false
-    → (let r : List Slot = if ignored then [] else (if same here context then slot ∷ [] else []) in r) ≡ []
+other_known : (here context : Context) (ignored : Bool) (slot : Slot) → context_eq here context ≡ false
+    → (let r : List Slot = if ignored then [] else (if context_eq here context then slot ∷ [] else []) in r) ≡ []
 other_known here context true slot h = refl
 other_known here context false slot h = rw h refl
 
@@ -99,7 +99,7 @@ pick : {X Y : Type 0} → List X → List Y → List Y
 pick [] r = []
 pick (x ∷ l) r = r
 
-other_entries : (here context : Context) (inner : Context → List Slot) → same here context ≡ false → (entries : List Entry)
+other_entries : (here context : Context) (inner : Context → List Slot) → context_eq here context ≡ false → (entries : List Entry)
     → AllByRecursion (λ entry. share context here inner (known entry) ≡ []) entries
 other_entries here context inner h =
     always (λ entry. share context here inner (known entry) ≡ []) (λ entry. other_known here context (is_ignored here entry.tag) (known entry) h)
@@ -122,7 +122,7 @@ unfolding pick
 one_pointer f [] = refl
 one_pointer f (x ∷ l) = append-nil _
 
-other_tiff : (group : Group) (context : Context) (inner : Context → List Slot) → same Tiff context ≡ false
+other_tiff : (group : Group) (context : Context) (inner : Context → List Slot) → context_eq Tiff context ≡ false
     → flat_map (share context Tiff inner) (tiff_slots group) ≡ pick (exif_slots group) (inner Exif) ++ pick (gps_slots group) (inner Gps)
 unfolding tiff_slots
 other_tiff group context inner h =
@@ -135,7 +135,7 @@ other_tiff group context inner h =
     ∙ flat_sorted (share context Tiff inner) front (pointer_slots 0x8769 Exif (exif_slots group) ++ pointer_slots 0x8825 Gps (gps_slots group)) quiet
     ∙ two_pointers (share context Tiff inner) (exif_slots group) (gps_slots group)
 
-other_exif : (group : Group) (context : Context) (inner : Context → List Slot) → same Exif context ≡ false
+other_exif : (group : Group) (context : Context) (inner : Context → List Slot) → context_eq Exif context ≡ false
     → flat_map (share context Exif inner) (exif_slots group) ≡ pick (interop_slots group) (inner Interop)
 unfolding exif_slots
 other_exif group context inner h =
@@ -143,11 +143,11 @@ other_exif group context inner h =
     flat_sorted (share context Exif inner) (map known group.exif) (pointer_slots 0xa005 Interop (interop_slots group)) (all_known P group.exif (other_entries Exif context inner h group.exif))
     ∙ one_pointer (share context Exif inner) (interop_slots group)
 
-other_gps : (group : Group) (context : Context) (inner : Context → List Slot) → same Gps context ≡ false → flat_map (share context Gps inner) (gps_slots group) ≡ []
+other_gps : (group : Group) (context : Context) (inner : Context → List Slot) → context_eq Gps context ≡ false → flat_map (share context Gps inner) (gps_slots group) ≡ []
 other_gps group context inner h =
     flat_nothing (share context Gps inner) (gps_slots group) (all_gps (λ slot. share context Gps inner slot ≡ []) group (other_entries Gps context inner h group.gps))
 
-other_interop : (group : Group) (context : Context) (inner : Context → List Slot) → same Interop context ≡ false → flat_map (share context Interop inner) (interop_slots group) ≡ []
+other_interop : (group : Group) (context : Context) (inner : Context → List Slot) → context_eq Interop context ≡ false → flat_map (share context Interop inner) (interop_slots group) ≡ []
 other_interop group context inner h =
     flat_nothing (share context Interop inner) (interop_slots group) (all_interop (λ slot. share context Interop inner slot ≡ []) group (other_entries Interop context inner h group.interop))
 
@@ -188,13 +188,13 @@ module _ (group : Group) (start ifd : ℕ) where
   unfolding total
   total_is depth context here = sum_is (draft_of group) start ifd depth context here (settled group here)
 
-  total_interop : (depth : ℕ) (context : Context) → same Interop context ≡ false → total depth context Interop ≡ []
+  total_interop : (depth : ℕ) (context : Context) → context_eq Interop context ≡ false → total depth context Interop ≡ []
   total_interop depth context h = total_is depth context Interop ∙ other_interop group context _ h
 
-  total_gps : (depth : ℕ) (context : Context) → same Gps context ≡ false → total depth context Gps ≡ []
+  total_gps : (depth : ℕ) (context : Context) → context_eq Gps context ≡ false → total depth context Gps ≡ []
   total_gps depth context h = total_is depth context Gps ∙ other_gps group context _ h
 
-  total_exif : (depth : ℕ) (context : Context) → same Exif context ≡ false → same Interop context ≡ false → total (suc depth) context Exif ≡ []
+  total_exif : (depth : ℕ) (context : Context) → context_eq Exif context ≡ false → context_eq Interop context ≡ false → total (suc depth) context Exif ≡ []
   unfolding total
   total_exif depth context h k =
       total_is (suc depth) context Exif ∙ other_exif group context _ h ∙ pick_nothing (interop_slots group) _ (total_interop depth context k)
