@@ -1,15 +1,15 @@
 -- Strict and lenient reading of files.
 use Rattle.std.proofs.Common.{◌≡◌, ℕ, true, false, List, Option, Result, Ok, Err, ap, refl}
 use Rattle.exif_types.specs.Refusals.{Refusal, ◌>>=◌}
-use Rattle.exif_format.specs.Answers.{Answer, raw_answer, first_fault}
-use Rattle.exif_format.proofs.FirstFault.{strict_is_first_fault}
+use Rattle.exif_format.specs.Answers.{Answer, raw_answer, first_fault, StrictIsFirstFault}
 use Rattle.exif_containers.specs.Container.{container_answer}
 use Rattle.exif.specs.Files.{StrictIsFirstFaultOfFile}
 
-by_container : (limit : Option ℕ) (container : Result (List ℕ) Refusal)
+by_container : (limit : Option ℕ) → ((bytes : List ℕ) → StrictIsFirstFault limit bytes) → (container : Result (List ℕ) Refusal)
     → (container >>= λ bytes. Ok (raw_answer false limit bytes)) ≡ ((container >>= λ bytes. Ok (raw_answer true limit bytes)) >>= λ answer. Ok (first_fault answer))
-by_container limit (Err r) = refl
-by_container limit (Ok bytes) = ap (λ (answer : Answer). Ok answer) (strict_is_first_fault limit bytes)
+by_container limit data (Err r) = refl
+by_container limit data (Ok bytes) = ap (λ (answer : Answer). Ok answer) (data bytes)
 
-pub first_fault_of_file : (limit : Option ℕ) (bytes : List ℕ) → StrictIsFirstFaultOfFile limit bytes
-first_fault_of_file limit bytes = by_container limit (container_answer bytes)
+-- what holds of data holds of the files that hold them
+pub first_fault_of_file : (limit : Option ℕ) (bytes : List ℕ) → ((bytes : List ℕ) → StrictIsFirstFault limit bytes) → StrictIsFirstFaultOfFile limit bytes
+first_fault_of_file limit bytes data = by_container limit data (container_answer bytes)

@@ -1,24 +1,31 @@
 -- How much one reading can give.
-use Rattle.std.specs.Prelude.{ℕ, ◌+◌, ◌≤◌, List, length, ⊤, Option, Some, None, Result, Ok, Err, Vec, Bool}
+use Rattle.std.specs.Prelude.{ℕ, ◌+◌, ◌≤◌, min, List, length, ⊤, Option, Some, None, Result, Ok, Err, Vec, Bool}
 use Rattle.std.specs.Global.{Global}
 use Rattle.exif_types.specs.Contents.{ExifContents}
 use Rattle.exif_types.specs.Failures.{Failure}
 use Rattle.exif_types.specs.declared.error.Error.TheVariants as error
 use Rattle.exif_types.specs.declared.field.Field.{Field}
+use Rattle.exif_format.specs.Trace.{trace, limited, visits_of}
 use Rattle.exif_format.specs.Visits.{visits_at_most}
 
--- one more than the entries that may be visited: by the limit, or by the length of the data
-abbrev pub most_reports : Option ℕ → List ℕ → ℕ
-most_reports (Some n) bytes = n + 1
-most_reports None bytes = visits_at_most bytes + 1
+-- the most entries that may be visited: by the length of the data, and by the limit where there is one
+abbrev pub most_visits : Option ℕ → List ℕ → ℕ
+most_visits (Some n) bytes = min n (visits_at_most bytes)
+most_visits None bytes = visits_at_most bytes
 
--- the fields and the faults together are at most so many
-abbrev pub ReportsAtMost : ℕ → Result ExifContents Failure → Type 0
-ReportsAtMost k (Ok exif) = length exif.fields ≤ k
-ReportsAtMost k (Err (error.PartialResult partial)) = length partial.exif.fields + length partial.faults ≤ k
-ReportsAtMost k (Err e) = ⊤
+-- fields and faults that one reading of the data gives: no more than it visits entries, and one
+pub record IsBounded (limit : Option ℕ) (bytes : List ℕ) (reports : ℕ) : Type 0 where
+  pub by_visits : reports ≤ visits_of (limited limit (trace bytes)) + 1
+  pub by_length : reports ≤ most_visits limit bytes + 1
 
--- the fields are at most so many
-abbrev pub FieldsAtMost : ℕ → Result (Vec Field Global × Bool) Failure → Type 0
-FieldsAtMost k (Ok parsed) = length parsed.0.items ≤ k
-FieldsAtMost k (Err e) = ⊤
+-- so of what came back, whole or partial, by its own data
+abbrev pub ReportsAtMost : Option ℕ → Result ExifContents Failure → Type 0
+ReportsAtMost limit (Ok exif) = IsBounded limit exif.buf (length exif.fields)
+ReportsAtMost limit (Err (error.PartialResult partial)) =
+    IsBounded limit partial.exif.buf (length partial.exif.fields + length partial.faults)
+ReportsAtMost limit (Err e) = ⊤
+
+-- so of the fields of data that were parsed
+abbrev pub FieldsAtMost : List ℕ → Result (Vec Field Global × Bool) Failure → Type 0
+FieldsAtMost bytes (Ok parsed) = IsBounded None bytes (length parsed.0.items)
+FieldsAtMost bytes (Err e) = ⊤

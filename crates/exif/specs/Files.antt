@@ -1,5 +1,6 @@
 -- What a file answers: its container gives TIFF data, and these give fields and faults.
-use Rattle.std.specs.Prelude.{◌≡◌, ℕ, Bool, true, false, map, List, Option, Result, Ok, Err, MatchOption}
+use Rattle.std.specs.Prelude.{◌≡◌, ◌⊎◌, ℕ, Bool, true, false, map, List, Option, Result, Ok, Err, MatchOption}
+use Rattle.std.specs.List.{Contains}
 use Rattle.exif_types.specs.Contents.{ExifContents}
 use Rattle.exif_types.specs.Failures.{Failure, bytes_of}
 use Rattle.exif_types.specs.Refusals.{Refusal, refusal_of, IsInterrupted, ◌>>=◌}
@@ -7,8 +8,8 @@ use Rattle.exif_types.specs.declared.error.Error.TheVariants as error
 use Rattle.exif_format.specs.Faults.{text_of, refusal}
 use Rattle.exif_format.specs.Answers.{Answer, Refused, Whole, Partial, raw_answer, first_fault}
 use Rattle.exif_format.specs.declared.fault.Fault.{Fault}
-use Rattle.exif_containers.specs.Container.{container_answer}
-use Rattle.exif.specs.Readings.{HoldsData}
+use Rattle.exif_containers.specs.Container.{container_answer, container_refusals}
+use Rattle.exif.specs.Readings.{HoldsData, ReadsAs}
 
 -- the answer of a file, or the refusal of its container
 abbrev pub file_answer : Bool → Option ℕ → List ℕ → Result Answer Refusal
@@ -34,3 +35,17 @@ abbrev pub ReadsContainer : (List ℕ → Answer) → Result (List ℕ) Refusal 
 ReadsContainer answer (Ok bytes) result = ReadsUnlessInterrupted (answer bytes) bytes result
 ReadsContainer answer (Err r) (Ok exif) = ⊥
 ReadsContainer answer (Err r) (Err e) = MatchOption (refusal_of e) (IsInterrupted e) (λ refused. refused ≡ r)
+
+-- ---- what is said where a source tells no bytes, as that of a file
+
+-- some data are refused so
+abbrev pub IsDataRefusal : (List ℕ → Answer) → Refusal → Type 0
+IsDataRefusal answer r = (bytes : List ℕ) × IsRefusal (answer bytes) r
+
+-- what came back, whole or partial, is what its own data answer; an error is a refusal of a container or of some data, or an interruption
+abbrev pub AnswersOwnData : (List ℕ → Answer) → Result ExifContents Failure → Type 0
+AnswersOwnData answer (Ok exif) = ReadsAs (answer exif.buf) exif.buf (Ok exif)
+AnswersOwnData answer (Err (error.PartialResult partial)) =
+    ReadsAs (answer partial.exif.buf) partial.exif.buf (Err (error.PartialResult partial))
+AnswersOwnData answer (Err e) =
+    MatchOption (refusal_of e) (IsInterrupted e) (λ r. Contains container_refusals r ⊎ IsDataRefusal answer r)

@@ -1,14 +1,14 @@
 //! Readers of Exif metadata.
 
-ghost use Rattle.std.specs.Prelude.{◌≡◌, ⊤, All, map, IfOk, IfErr, IfSome, MatchOption, None, Some, false};
+ghost use Rattle.std.specs.Prelude.{◌≡◌, All, map, IfOk, IfSome, None, Some, false};
 ghost use Rattle.exif_base.specs.Device.{count_after};
 ghost use Rattle.exif_types.specs.Failures.{told_text, bytes_of, IsInvalidFormat};
-ghost use Rattle.exif_types.specs.Refusals.{Gives, IsInterrupted, is_io, refusal_of};
+ghost use Rattle.exif_types.specs.Refusals.{is_io};
 ghost use Rattle.exif_format.specs.Faults.{text_of};
 ghost use Rattle.exif_format.specs.Answers.{raw_answer};
 ghost use Rattle.exif_containers.specs.Container.{container_answer};
-ghost use Rattle.exif.specs.Bounds.{most_reports, ReportsAtMost};
-ghost use Rattle.exif.specs.Files.{ReadsContainer};
+ghost use Rattle.exif.specs.Bounds.{ReportsAtMost};
+ghost use Rattle.exif.specs.Files.{AnswersOwnData, ReadsContainer};
 ghost use Rattle.exif.specs.Readings.{ReadsAs};
 
 use crate::bytes::show_bytes;
@@ -16,6 +16,7 @@ use crate::tiff;
 use exif_base::Source;
 use exif_containers::exif_attr_of_stream;
 use exif_format::Fault;
+use exif_format::laws::{answers_show_what_was_read, reading_is_bounded};
 use exif_types::{Error, Exif, exif_from_parts, partial_from_parts};
 use std::alloc::{AllocError, Global};
 use std::marker::Model;
@@ -45,19 +46,6 @@ fn errors_of(alloc: Global, faults: &[Fault]) -> Result<Vec<Error>, AllocError>
         errors.push(Error::InvalidFormat(fault.message()))?;
     }
     Ok(errors)
-}
-
-// The TIFF data that a container holds.
-fn container_data<R: Source>(alloc: Global, source: &mut R) -> Result<Vec<u8>, Error>
-    ensures gives { IfSome (R.left source.old) (λ bytes. Gives (λ v. v.items) result (container_answer bytes)) }
-    ensures interrupted { IfErr result (λ e. MatchOption (refusal_of e) (IsInterrupted e) (λ _. ⊤)) }
-    ensures count { R.failures source.new ≡ count_after (is_io result) (R.failures source.old) }
-    ensures same { R.through source.new ≡ R.through source.old }
-{
-    match exif_attr_of_stream(alloc, source) {
-        Err(Error::PartialResult(_partial)) => Err(Error::OutOfMemory),
-        answer => answer,
-    }
 }
 
 impl Reader {
@@ -95,9 +83,10 @@ impl Reader {
     /// a `PartialResult`, all faults.
     pub fn read_raw(&self, alloc: Global, bytes: Vec<u8>) -> Result<Exif, Error>
         ensures reads { ReadsAs (raw_answer self.now.lenient self.now.limit bytes.items) bytes.items result }
-        ensures bounded { ReportsAtMost (most_reports self.now.limit bytes.items) result }
+        ensures bounded { ReportsAtMost self.now.limit result }
     {
         show_bytes(bytes.as_slice());
+        reading_is_bounded();
         self.read(alloc, bytes)
     }
 
@@ -105,6 +94,10 @@ impl Reader {
     /// bytes choose, whatever the cuts. Behind the container's data all is as `read_raw` has it; a
     /// refusal of the container is the answer in either mode. How far the source was read is left
     /// open.
+    ///
+    /// Whether or not the source tells its bytes, what comes back is what its own data (`buf`) answer,
+    /// and any other error is a named refusal of a container or of data, want of memory, or the
+    /// source's.
     pub fn read_from_container<R: Source>(
         &self,
         alloc: Global,
@@ -112,11 +105,13 @@ impl Reader {
     ) -> Result<Exif, Error>
         ensures reads { IfSome (R.left source.old)
             (λ bytes. ReadsContainer (raw_answer self.now.lenient self.now.limit) (container_answer bytes) result) }
+        ensures own { AnswersOwnData (raw_answer self.now.lenient self.now.limit) result }
+        ensures bounded { ReportsAtMost self.now.limit result }
         ensures count { R.failures source.new ≡ count_after (is_io result) (R.failures source.old) }
         ensures same { R.through source.new ≡ R.through source.old }
     {
-        let bytes = container_data(alloc, source)?;
-        let exif = self.read(alloc, bytes)?;
+        let bytes = exif_attr_of_stream(alloc, source)?;
+        let exif = self.read_raw(alloc, bytes)?;
         Ok(exif)
     }
 
@@ -125,6 +120,7 @@ impl Reader {
     {
         let parsed = tiff::parse(alloc, bytes.as_slice(), self.lenient, self.limit)?;
         let errors = errors_of(alloc, parsed.faults.as_slice())?;
+        answers_show_what_was_read();
         let exif = exif_from_parts(alloc, bytes, parsed.fields, parsed.little_endian)?;
         if errors.is_empty() {
             return Ok(exif);

@@ -3,7 +3,7 @@
 ghost use Rattle.std.specs.Prelude.{◌≡◌, ◌≤◌, ◌<◌, ◌^◌, length, IfOk, OnOk, None, false};
 ghost use Rattle.exif_format.specs.Trace.{header, content_of, cut, ordered_trace};
 ghost use Rattle.exif_format.specs.Answers.{answer_of, raw_answer};
-ghost use Rattle.exif.specs.Bounds.{most_reports, FieldsAtMost};
+ghost use Rattle.exif.specs.Bounds.{FieldsAtMost};
 ghost use Rattle.exif.specs.Readings.{ParsesAs};
 ghost use Rattle.exif.specs.Results.{Says, WantsMemory, SaysOrder};
 
@@ -12,6 +12,7 @@ use crate::parser::Parser;
 use crate::stop::Stop;
 use exif_base::{BigEndian, Endian, LittleEndian, Order};
 use exif_format::Fault;
+use exif_format::laws::{answers_show_what_was_read, reading_is_bounded};
 use exif_types::{Error, Field};
 use std::alloc::Global;
 
@@ -92,9 +93,10 @@ pub fn parse(alloc: Global, bytes: &[u8], lenient: bool, limit: Option<u64>) -> 
 /// is the error.
 pub fn parse_exif(alloc: Global, bytes: &[u8]) -> Result<(Vec<Field>, bool), Error>
     ensures parses { ParsesAs (raw_answer false None bytes.now) bytes.now result }
-    ensures bounded { FieldsAtMost (most_reports None bytes.now) result }
+    ensures bounded { FieldsAtMost bytes.now result }
 {
     show_bytes(bytes);
+    reading_is_bounded();
     parse_strictly(alloc, bytes)
 }
 
@@ -102,5 +104,6 @@ fn parse_strictly(alloc: Global, bytes: &[u8]) -> Result<(Vec<Field>, bool), Err
     ensures { ParsesAs (raw_answer false None bytes.now) bytes.now result }
 {
     let parsed = parse(alloc, bytes, false, None)?;
+    answers_show_what_was_read();
     Ok((parsed.fields, parsed.little_endian))
 }

@@ -12,6 +12,7 @@ pub mod Measuring
 pub mod Places
 pub mod Pushing
 pub mod Ranged
+pub mod ReadAnswers
 pub mod ReadBack
 pub mod Refused
 pub mod Rewriting
