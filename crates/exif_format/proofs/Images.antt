@@ -12,6 +12,7 @@ pub mod Fitting
 pub mod ReadBack
 pub mod Sorting
 pub mod Pushing
+pub mod Calls
 pub mod Flat
 pub mod Shares
 pub mod Rewritten

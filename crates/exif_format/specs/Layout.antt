@@ -1,5 +1,5 @@
 -- What is promised of where the parts and the blocks of an image stand.
-use Rattle.std.specs.Prelude.{ℕ, ◌+◌, ◌≤◌, ◌<◌, ◌==◌, ◌&&◌, ◌≡◌, Bool, true, false, List, [], ◌∷◌, length, map, get_or, Some}
+use Rattle.std.specs.Prelude.{ℕ, ◌+◌, ◌≤◌, ◌<◌, ◌==◌, ◌&&◌, ◌≡◌, Bool, true, false, List, [], ◌∷◌, length, map, get_or, slice_index, ◌⊎◌, Some}
 use Rattle.std.specs.List.{All, AllZip, filter}
 use Rattle.exif_base.specs.Bytes.{bytes_at}
 use Rattle.exif_base.specs.declared.endian.Order.{Order}
@@ -10,6 +10,7 @@ use Rattle.exif_types.specs.declared.field.Field.{Field}
 use Rattle.exif_format.specs.declared.block_kind.BlockKind.{BlockKind}
 use Rattle.exif_format.specs.Groups.{Group, empty_group, blocks_in, places_tag, lengths_tag}
 use Rattle.exif_format.specs.Slots.{draft_of}
+use Rattle.exif_format.specs.Places.{drafts_end}
 use Rattle.exif_format.specs.Image.{Part, parts, image}
 use Rattle.exif_format.specs.Flat.{field_of, flat}
 
@@ -23,10 +24,21 @@ abbrev pub Spans : ℕ → List Part → ℕ → Type 0
 Spans start [] end = start ≡ end
 Spans start (part ∷ parts) end = (start ≤ part.place) × (part.place ≤ start + 1) × Spans (part.place + length part.text) parts end
 
--- the parts stand side by side from the first byte to the last, but for single bytes between them
+-- a place that no byte of the part stands at
+abbrev pub IsOutside : ℕ → Part → Type 0
+IsOutside place part = (place < part.place) ⊎ (part.place + length part.text ≤ place)
+
+-- the parts stand side by side from the first byte to the last, but for single bytes between them, which are zero
 pub record LaidOut (order : Order) (groups : List Group) : Type 0 where
   pub span : Spans 0 (parts order (map draft_of groups)) (length (image order groups))
   pub stand : All (λ part. Stands (image order groups) part.place part.text) (parts order (map draft_of groups))
+  pub pads : (place : ℕ) → place < length (image order groups) → All (IsOutside place) (parts order (map draft_of groups))
+      → slice_index (image order groups) place ≡ 0
+
+-- an image is as long as the refusal of a too long one asks, and not too long
+pub record LengthIsEnd (order : Order) (groups : List Group) : Type 0 where
+  pub end : length (image order groups) ≡ drafts_end 8 (map draft_of groups)
+  pub small : length (image order groups) ≤ 4294967295
 
 -- whether a context is that of the directories in the chain
 abbrev pub is_tiff : Context → Bool

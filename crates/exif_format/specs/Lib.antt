@@ -1,4 +1,5 @@
 pub mod Answers
+pub mod Calls
 pub mod Counting
 pub mod Encoding
 pub mod Examples

@@ -3,7 +3,7 @@ use Rattle.std.specs.Prelude.{ℕ, suc, ◌≡◌, ◌↔◌, Bool, List, [], �
 use Rattle.exif_base.specs.declared.endian.Order.{Order}
 use Rattle.exif_base.specs.declared.endian.Order.TheVariants.{Big, Little}
 use Rattle.exif_types.specs.declared.field.Field.{Field}
-use Rattle.exif_format.specs.Answers.{raw_answer}
+use Rattle.exif_format.specs.Answers.{Whole, raw_answer}
 use Rattle.exif_format.specs.Groups.{Group, pushed, strips_set, tiles_set, jpeg_set}
 use Rattle.exif_format.specs.Image.{image}
 use Rattle.exif_format.specs.Flat.{flat}
@@ -36,6 +36,12 @@ rewritten groups = all_blocks_set 0 groups (pushed_all (flat groups) [])
 -- writing what an image holds gives the same image
 abbrev pub RewritesSame : Order → List Group → Type 0
 RewritesSame order groups = image order (rewritten groups) ≡ image order groups
+
+-- what is read of the image in one order, pushed into a new writer with the same blocks, gives the image in each order
+abbrev pub RewritesInEachOrder : Order → List Group → Type 0
+RewritesInEachOrder order groups =
+    (lenient : Bool) (fields : List Field) (other : Order) → raw_answer lenient None (image order groups) ≡ Whole fields
+    → image other (all_blocks_set 0 groups (pushed_all fields [])) ≡ image other groups
 
 -- the blocks of a directory
 pub record BlocksOf : Type 0 where

@@ -1,5 +1,5 @@
 -- The laws, from the words of the proofs to those of the definitions.
-use Rattle.std.proofs.Common.{◌≡◌, ◌∙◌, ℕ, List, [], ◌∷◌, Bool, true, false, None, map, refl, sym}
+use Rattle.std.proofs.Common.{◌≡◌, ◌∙◌, ℕ, List, [], ◌∷◌, Bool, true, false, None, map, refl, sym, ap, arith}
 use Rattle.std.proofs.lemmas.List.Elements.{All-head, All-tail}
 use Rattle.std.specs.Prelude.{◌≢◌}
 use Rattle.std.specs.List.{All, AllByRecursion}
@@ -20,12 +20,12 @@ use Rattle.exif_format.specs.Image.{parts, image}
 use Rattle.exif_format.specs.Flat.{flat}
 use Rattle.exif_format.specs.Refused.{write_fault}
 use Rattle.exif_format.specs.Ranged.{IsEntry, AreRanged, HavePlainTexts, AreReadable}
-use Rattle.exif_format.specs.Layout.{Stands, LaidOut, BlocksStand}
+use Rattle.exif_format.specs.Layout.{Stands, IsOutside, LaidOut, LengthIsEnd, BlocksStand}
 use Rattle.exif_format.specs.ReadBack.{ReadsBack, ReadsFirstEight, first_eight}
-use Rattle.exif_format.specs.Rewriting.{RewritesSame, EqualByContents, LengthsAgree, OrdersAgree}
+use Rattle.exif_format.specs.Rewriting.{RewritesSame, RewritesInEachOrder, pushed_all, all_blocks_set, EqualByContents, LengthsAgree, OrdersAgree}
 use Rattle.exif_format.proofs.Images.Words.{IsPlain, HasNoZero, AreGroups, HaveNoZero}
 use Rattle.exif_format.proofs.Images.Standing.{each_of, all_of}
-use Rattle.exif_format.proofs.Images.Whole.{not_refused, length-image, parts_span, parts_stand}
+use Rattle.exif_format.proofs.Images.Whole.{not_refused, length-image, parts_span, parts_stand, pads_zero}
 use Rattle.exif_format.proofs.Images.ReadBack.{Leaves, image_answer, image_leaves, read_back, faults_more}
 use Rattle.exif_format.proofs.Images.Rewritten.{rewrites_same}
 use Rattle.exif_format.proofs.Images.Contents.{Readable, blocks_stand, same_images, reads_front}
@@ -78,7 +78,15 @@ laid_out order groups h =
     record {
       span = rw (length-image order groups each) (parts_span order groups each);
       stand = all_of (λ part. Stands (image order groups) part.place part.text) (parts order (map draft_of groups)) (parts_stand order groups each);
+      pads = λ place within outside. pads_zero order groups each place (each_of (IsOutside place) (parts order (map draft_of groups)) outside);
     }
+
+pub length_is_end : (order : Order) (groups : List Group) → write_fault groups ≡ None → LengthIsEnd order groups
+length_is_end order groups h =
+    let accepted = not_refused groups h in
+    let small = accepted.small in
+    let end = length-image order groups accepted.each in
+    record { end = end; small = omega arith }
 
 pub blocks_named : (order : Order) (groups : List Group) → AreRanged groups → write_fault groups ≡ None → BlocksStand order groups
 blocks_named order groups ranged h = blocks_stand order groups (ranged_groups groups ranged) h
@@ -104,6 +112,12 @@ reads_first_eight order groups ranged plain h many =
 
 pub rewrites : (order : Order) (groups : List Group) → AreRanged groups → write_fault groups ≡ None → RewritesSame order groups
 rewrites order groups ranged h = rewrites_same order groups (ranged_groups groups ranged) h
+
+pub rewrites_in_each_order : (order : Order) (groups : List Group) → AreReadable groups → RewritesInEachOrder order groups
+rewrites_in_each_order order groups h lenient fields other read =
+    let same : Whole fields ≡ Whole (flat groups) = sym read ∙ reads_back order groups h lenient in
+    let exact : fields ≡ flat groups = cc in
+    ap (λ fs. image other (all_blocks_set 0 groups (pushed_all fs []))) exact ∙ rewrites other groups h.ranged h.written
 
 pub equal_by_contents : (order : Order) (groups : List Group) → AreReadable groups → EqualByContents order groups
 equal_by_contents order groups h others k = same_images order groups others (readable groups h) (readable others k)

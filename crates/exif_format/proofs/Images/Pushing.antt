@@ -16,13 +16,13 @@ use Rattle.exif_format.specs.Rewriting.{pushed_all, set_if, blocks_set, all_bloc
 abbrev pub group_at : List Group → ℕ → Group
 group_at groups ifd = get_or groups ifd empty_group
 
-changed_same : (n : ℕ) (f : Group → Group) (groups : List Group) → group_at (changed n f groups) n ≡ f (group_at groups n)
+pub changed_same : (n : ℕ) (f : Group → Group) (groups : List Group) → group_at (changed n f groups) n ≡ f (group_at groups n)
 changed_same zero f [] = refl
 changed_same zero f (group ∷ groups) = refl
 changed_same (suc n) f [] = changed_same n f []
 changed_same (suc n) f (group ∷ groups) = changed_same n f groups
 
-changed_other : (n m : ℕ) (f : Group → Group) (groups : List Group) → n ≢ m → group_at (changed n f groups) m ≡ group_at groups m
+pub changed_other : (n m : ℕ) (f : Group → Group) (groups : List Group) → n ≢ m → group_at (changed n f groups) m ≡ group_at groups m
 changed_other zero zero f groups h = absurd (h refl)
 changed_other zero (suc m) f [] h = refl
 changed_other zero (suc m) f (group ∷ groups) h = refl
@@ -38,7 +38,7 @@ length-changed (suc n) f [] = let e = length-changed n f [] in omega arith
 length-changed (suc n) f (group ∷ groups) = let e = length-changed n f groups in omega arith
 
 -- a function of a group that a change keeps
-changed_keeps : {X : Type 0} (see : Group → X) (n m : ℕ) (f : Group → Group) (groups : List Group) → ((group : Group) → see (f group) ≡ see group)
+pub changed_keeps : {X : Type 0} (see : Group → X) (n m : ℕ) (f : Group → Group) (groups : List Group) → ((group : Group) → see (f group) ≡ see group)
     → see (group_at (changed n f groups) m) ≡ see (group_at groups m)
 changed_keeps see n m f groups h = go (n == m) refl
   where
@@ -134,7 +134,7 @@ with_entry_blocks Exif entry group = refl
 with_entry_blocks Gps entry group = refl
 with_entry_blocks Interop entry group = refl
 
-pushed_blocks : (field : Field) (groups : List Group) (ifd : ℕ) → blocks_at (group_at (pushed field groups) ifd) ≡ blocks_at (group_at groups ifd)
+pub pushed_blocks : (field : Field) (groups : List Group) (ifd : ℕ) → blocks_at (group_at (pushed field groups) ifd) ≡ blocks_at (group_at groups ifd)
 pushed_blocks field groups ifd =
     elim (is_ignored field.tag.0 field.tag.1) as (λ b. blocks_at (group_at (if b then groups else changed field.ifd_num.0 (with_entry field.tag.0 (entry_of field)) groups) ifd) ≡ blocks_at (group_at groups ifd)) [
       | true ↦ refl

@@ -1,6 +1,8 @@
 -- Texts that stand in bytes, and parts side by side.
-use Rattle.std.proofs.Common.{◌≡◌, ℕ, ◌+◌, ◌-◌, ◌<◌, ◌^◌, List, [], ◌∷◌, ◌++◌, length, take, drop, replicate, refl, sym, ap, ◌∙◌, arith}
-use Rattle.std.proofs.lemmas.List.{append_assoc, length-append, length-replicate, take-append-drop, length-take-le, drop_at, take_at}
+use Rattle.std.proofs.Math.Seq.{get_or-append_right}
+use Rattle.std.specs.Prelude.{slice_index}
+use Rattle.std.proofs.Common.{◌≤◌, ⊎_elim, subst, ◌≡◌, ℕ, ◌+◌, ◌-◌, ◌<◌, ◌^◌, List, [], ◌∷◌, ◌++◌, length, take, drop, replicate, refl, sym, ap, ◌∙◌, arith}
+use Rattle.std.proofs.lemmas.List.{append_assoc, length-append, length-replicate, take-append-drop, length-take-le, drop_at, take_at, get_or_append_left, get_or-replicate}
 use Rattle.std.proofs.lemmas.List.Elements.{All-nil, All-cons, All-head, All-tail}
 use Rattle.std.specs.List.{All, AllByRecursion}
 use Rattle.byteorder.specs.Numbers.{length-bytes_high_first, length-bytes_low_first, big_number-reads_back, little_number-reads_back}
@@ -10,7 +12,7 @@ use Rattle.exif_base.specs.Orders.{number_of}
 use Rattle.exif_base.specs.Bytes.{number_at}
 use Rattle.exif_format.specs.Encoding.{spelled}
 use Rattle.exif_format.specs.Image.{Part, laid}
-use Rattle.exif_format.specs.Layout.{Stands, Spans}
+use Rattle.exif_format.specs.Layout.{Stands, Spans, IsOutside}
 use Rattle.exif_format.proofs.Images.Words.{AllStand}
 
 pub stands_of : (bytes front text back : List ℕ) (place : ℕ) → bytes ≡ front ++ (text ++ back) → length front ≡ place → Stands bytes place text
@@ -89,6 +91,24 @@ laid_stand bytes front start end (p ∷ ps) s e h =
           (at_front ∙ sym (append_assoc (front ++ zeros) p.text rest))
           (length-append (front ++ zeros) p.text ∙ ap (λ n. n + length p.text) front_len),
     )
+
+-- what no part stands at is zero
+pub laid_zero : (start end i : ℕ) (ps : List Part) → Spans start ps end → AllByRecursion (IsOutside (start + i)) ps → slice_index (laid start ps) i ≡ 0
+laid_zero start end i [] s h = refl
+laid_zero start end i (p ∷ ps) s h =
+    let low = s.0 in
+    let gap : List ℕ = replicate (p.place - start) 0 in
+    let rest : List ℕ = laid (p.place + length p.text) ps in
+    let gap_len : length gap ≡ p.place - start = length-replicate (p.place - start) 0 in
+    ⊎_elim
+    (λ before. let k : i < p.place - start = omega arith in
+    get_or_append_left gap (p.text ++ rest) 0 i (omega arith) ∙ get_or-replicate (p.place - start) i 0 0 k)
+    (λ behind. let text_len : length p.text ≤ i - length gap = omega arith in
+    let next : start + i ≡ p.place + length p.text + (i - length gap - length p.text) = omega arith in
+    get_or-append_right gap (p.text ++ rest) i 0 (omega arith)
+    ∙ get_or-append_right p.text rest (i - length gap) 0 text_len
+    ∙ laid_zero (p.place + length p.text) end (i - length gap - length p.text) ps s.2 (subst (λ (n : ℕ). AllByRecursion (IsOutside n) ps) next h.1))
+    h.0
 
 pub all_left : {X : Type 0} (P : X → Type 0) (xs ys : List X) → AllByRecursion P (xs ++ ys) → AllByRecursion P xs
 all_left P [] ys h = tt

@@ -1,6 +1,6 @@
 -- What an image that is written is: its parts stand side by side, each at its place.
-use Rattle.std.proofs.Common.{◌≡◌, ℕ, ◌<◌, ◌≤◌, List, [], ◌∷◌, length, refl, arith, Bool, true, false, map, Option, Some, None}
-use Rattle.std.specs.Prelude.{if◌then◌else◌, ◌==◌, nat_lt, ◌||◌}
+use Rattle.std.proofs.Common.{◌≡◌, ℕ, ◌+◌, ◌<◌, ◌≤◌, List, [], ◌∷◌, length, refl, subst, arith, Bool, true, false, map, Option, Some, None}
+use Rattle.std.specs.Prelude.{if◌then◌else◌, ◌==◌, nat_lt, ◌||◌, slice_index}
 use Rattle.std.proofs.lemmas.Bool.{eqb-false, ltb-false}
 use Rattle.std.specs.List.{AllByRecursion, list_any}
 use Rattle.exif_base.specs.declared.endian.Order.{Order}
@@ -18,9 +18,9 @@ use Rattle.exif_format.specs.Image.{parts_from, parts, image}
 use Rattle.exif_format.specs.Refused.{contexts, write_fault, first_group_fault, group_fault, any_over, any_unknown, is_unknown}
 use Rattle.exif_format.specs.declared.write_fault.WriteFault.{WriteFault}
 use Rattle.exif_format.specs.declared.write_fault.WriteFault.TheVariants.{EmptyDirectory, TooManyFields, UnknownType, OffsetTooLarge}
-use Rattle.exif_format.specs.Layout.{Spans}
+use Rattle.exif_format.specs.Layout.{Spans, IsOutside}
 use Rattle.exif_format.proofs.Images.Words.{AllStand, AllKnown, IsKnown, IsAccepted}
-use Rattle.exif_format.proofs.Images.Standing.{spans_append, laid_stand, length-laid}
+use Rattle.exif_format.proofs.Images.Standing.{spans_append, laid_stand, laid_zero, length-laid}
 use Rattle.exif_format.proofs.Images.Places.{draft_spans}
 use Rattle.exif_format.proofs.Images.Slots.{all_slots}
 
@@ -145,3 +145,11 @@ pub parts_stand : (order : Order) (groups : List Group) → AllByRecursion IsAcc
 unfolding image
 parts_stand order groups h =
     laid_stand (image order groups) [] 0 (drafts_end 8 (map draft_of groups)) (parts order (map draft_of groups)) (parts_span order groups h) refl refl
+
+-- what no part of an image stands at is zero
+pub pads_zero : (order : Order) (groups : List Group) → AllByRecursion IsAccepted groups → (place : ℕ) → AllByRecursion (IsOutside place) (parts order (map draft_of groups)) → slice_index (image order groups) place ≡ 0
+unfolding image
+pads_zero order groups h place outside =
+    let e : place ≡ 0 + place = omega arith in
+    laid_zero 0 (drafts_end 8 (map draft_of groups)) place (parts order (map draft_of groups)) (parts_span order groups h)
+    (subst (λ (n : ℕ). AllByRecursion (IsOutside n) (parts order (map draft_of groups))) e outside)

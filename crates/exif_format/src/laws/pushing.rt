@@ -3,6 +3,7 @@
 ghost use Rattle.std.specs.Prelude.{ℕ, List};
 ghost use Rattle.exif_types.specs.declared.field.Field.{Field};
 ghost use Rattle.exif_format.specs.Groups.{Group};
+ghost use Rattle.exif_format.specs.Calls.{Call, IsMadeOf};
 ghost use Rattle.exif_format.specs.Pushing.{PushesPlainTexts, PushesRanged, PushesFew, PushesNoBlocks, SetsNothing, HasPushedAndBlocks, HasPushedAlone};
 
 /// Pushing fields keeps groups plain and in range where the fields are such, makes no directory
@@ -20,4 +21,11 @@ pub fn pushing_keeps()
 pub fn images_hold_what_was_pushed()
     ensures groups { (groups : List Group) → HasPushedAndBlocks groups }
     ensures alone { (fields : List Field) → HasPushedAlone fields }
+{}
+
+/// The groups that calls make in a new writer: for each number below one more than the greatest
+/// that is used, what was pushed under it and is not ignored, by contexts in push order, and the
+/// blocks of each kind that were set last.
+pub fn calls_make_groups()
+    ensures { (calls : List Call) → IsMadeOf calls }
 {}

@@ -5,14 +5,16 @@ ghost use Rattle.exif_base.specs.declared.endian.Order.{Order};
 ghost use Rattle.exif_format.specs.Groups.{Group};
 ghost use Rattle.exif_format.specs.Ranged.{AreRanged, HavePlainTexts, AreReadable};
 ghost use Rattle.exif_format.specs.Refused.{write_fault};
-ghost use Rattle.exif_format.specs.Layout.{LaidOut, BlocksStand};
+ghost use Rattle.exif_format.specs.Layout.{LaidOut, LengthIsEnd, BlocksStand};
 ghost use Rattle.exif_format.specs.ReadBack.{ReadsBack, ReadsFirstEight};
-ghost use Rattle.exif_format.specs.Rewriting.{RewritesSame, EqualByContents, OrdersAgree, LengthsAgree};
+ghost use Rattle.exif_format.specs.Rewriting.{RewritesSame, RewritesInEachOrder, EqualByContents, OrdersAgree, LengthsAgree};
 
 /// The parts of an image stand side by side from its first byte to its last, but for single zero
-/// bytes between them, and each strip, tile and thumbnail stands where its two fields say.
+/// bytes between them, it ends where its last part ends and within 4,294,967,295 bytes, and each
+/// strip, tile and thumbnail stands where its two fields say.
 pub fn images_are_laid_out()
     ensures parts { (order : Order) (groups : List Group) → write_fault groups ≡ None → LaidOut order groups }
+    ensures ends { (order : Order) (groups : List Group) → write_fault groups ≡ None → LengthIsEnd order groups }
     ensures blocks { (order : Order) (groups : List Group) → AreRanged groups → write_fault groups ≡ None → BlocksStand order groups }
 {}
 
@@ -23,10 +25,11 @@ pub fn images_read_back()
     ensures eight { (order : Order) (groups : List Group) → AreRanged groups → HavePlainTexts groups → write_fault groups ≡ None → ReadsFirstEight order groups }
 {}
 
-/// Writing what was read gives the same image again, images are equal exactly where their fields
+/// Writing what was read gives the same image again, in each byte order, images are equal exactly where their fields
 /// and blocks are, and images in the two byte orders have one length and say the same.
 pub fn images_are_canonical()
     ensures rewriting { (order : Order) (groups : List Group) → AreRanged groups → write_fault groups ≡ None → RewritesSame order groups }
+    ensures each_order { (order : Order) (groups : List Group) → AreReadable groups → RewritesInEachOrder order groups }
     ensures equality { (order : Order) (groups : List Group) → AreReadable groups → EqualByContents order groups }
     ensures lengths { (groups : List Group) → write_fault groups ≡ None → LengthsAgree groups }
     ensures orders { (groups : List Group) → AreRanged groups → HavePlainTexts groups → write_fault groups ≡ None → OrdersAgree groups }

@@ -1,8 +1,11 @@
-use Rattle.exif_format.proofs.Images.Laws.{rewrites, equal_by_contents, lengths_agree, orders_agree}
+use Rattle.exif_format.proofs.Images.Laws.{rewrites, rewrites_in_each_order, equal_by_contents, lengths_agree, orders_agree}
 use Rattle.exif_format.proofs.laws.writing.images_are_canonical.Goals as goal
 
 pub returns-clause-rewriting : goal.returns-clause-rewriting
 returns-clause-rewriting c = rewrites
+
+pub returns-clause-each_order : goal.returns-clause-each_order
+returns-clause-each_order c = rewrites_in_each_order
 
 pub returns-clause-equality : goal.returns-clause-equality
 returns-clause-equality c = equal_by_contents
