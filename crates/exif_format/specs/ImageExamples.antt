@@ -1,7 +1,8 @@
 -- Worked examples: the definitions compute the images of small groups, and for which nothing is written.
-use Rattle.std.specs.Prelude.{Some, None, negsuc, pos, ℕ, ◌≡◌, refl, List, [], ◌∷◌, length, replicate, codes, true, false}
+use Rattle.std.specs.Prelude.{Some, None, negsuc, pos, ℕ, ◌≡◌, refl, List, [], ◌∷◌, length, map, replicate, codes, true, false}
+use Rattle.std.specs.List.{range_with_len}
 use Rattle.exif_base.specs.declared.endian.Order.TheVariants.{Big, Little}
-use Rattle.exif_types.specs.declared.value.Value.TheVariants.{Byte, Ascii, Short, Long, SByte, Undefined, SLong, Unknown}
+use Rattle.exif_types.specs.declared.value.Value.TheVariants.{Byte, Ascii, Short, Long, Rational, SByte, Undefined, SLong, Unknown}
 use Rattle.exif_types.specs.declared.tag.Context.TheVariants.{Tiff, Exif, Gps, Interop}
 use Rattle.exif_types.specs.declared.field.Field.{Field}
 use Rattle.exif_format.specs.declared.fault.Fault.TheVariants.{TooManyDirectories}
@@ -15,6 +16,8 @@ use Rattle.exif_format.specs.Image.{image, draft_parts}
 use Rattle.exif_format.specs.Flat.{field_of, flat}
 use Rattle.exif_format.specs.Refused.{write_fault, group_fault}
 use Rattle.exif_format.specs.Rewriting.{rewritten}
+use Rattle.exif_format.specs.Calls.{Call, Push, SetJpeg, made, directories, group_made}
+use Rattle.exif_format.specs.Scrubbing.{scrubbed}
 
 abbrev description : ℕ → List ℕ → Field
 description ifd text = field_of Tiff 0x10e ifd (Ascii (text ∷ []))
@@ -183,3 +186,110 @@ empty_before_unknown = refl
 many_written : write_fault (record empty_group { tiff = replicate 65536 (entry_of (field_of Tiff 0x100 0 (Unknown 65535 1 18))) } ∷ []) ≡ Some TooManyFields
 unfolding write_fault group_fault tiff_slots exif_slots gps_slots interop_slots tiff_place exif_place gps_place interop_place tiff_values exif_values gps_values interop_values strips_place tiles_place jpeg_place draft_end
 many_written = refl
+
+-- strips and a thumbnail in one directory, the thumbnail at an odd place
+abbrev two_kinds : List Group
+two_kinds = jpeg_set (codes "J") 0 (strips_set (codes "AB" ∷ codes "C" ∷ []) 0 [])
+
+abbrev two_kinds_bytes : List ℕ
+two_kinds_bytes =
+    77 ∷ 77 ∷ 0 ∷ 42 ∷ 0 ∷ 0 ∷ 0 ∷ 8
+    ∷ 0 ∷ 4
+    ∷ 1 ∷ 17 ∷ 0 ∷ 4 ∷ 0 ∷ 0 ∷ 0 ∷ 2 ∷ 0 ∷ 0 ∷ 0 ∷ 62
+    ∷ 1 ∷ 23 ∷ 0 ∷ 4 ∷ 0 ∷ 0 ∷ 0 ∷ 2 ∷ 0 ∷ 0 ∷ 0 ∷ 70
+    ∷ 2 ∷ 1 ∷ 0 ∷ 4 ∷ 0 ∷ 0 ∷ 0 ∷ 1 ∷ 0 ∷ 0 ∷ 0 ∷ 81
+    ∷ 2 ∷ 2 ∷ 0 ∷ 4 ∷ 0 ∷ 0 ∷ 0 ∷ 1 ∷ 0 ∷ 0 ∷ 0 ∷ 1
+    ∷ 0 ∷ 0 ∷ 0 ∷ 0
+    ∷ 0 ∷ 0 ∷ 0 ∷ 78 ∷ 0 ∷ 0 ∷ 0 ∷ 80
+    ∷ 0 ∷ 0 ∷ 0 ∷ 2 ∷ 0 ∷ 0 ∷ 0 ∷ 1
+    ∷ 65 ∷ 66 ∷ 67 ∷ 74 ∷ []
+
+two_kinds_big : image Big two_kinds ≡ two_kinds_bytes
+unfolding image draft_parts tiff_slots exif_slots gps_slots interop_slots tiff_place exif_place gps_place interop_place tiff_values exif_values gps_values interop_values strips_place tiles_place jpeg_place draft_end
+two_kinds_big = refl
+
+two_kinds_read : raw_answer true None (image Big two_kinds) ≡ Whole (field_of Tiff 0x111 0 (Long (78 ∷ 80 ∷ [])) ∷ field_of Tiff 0x117 0 (Long (2 ∷ 1 ∷ []))
+    ∷ field_of Tiff 0x201 0 (Long (81 ∷ [])) ∷ field_of Tiff 0x202 0 (Long (1 ∷ [])) ∷ [])
+unfolding raw_answer ordered_trace image draft_parts tiff_slots exif_slots gps_slots interop_slots tiff_place exif_place gps_place interop_place tiff_values exif_values gps_values interop_values strips_place tiles_place jpeg_place draft_end
+two_kinds_read = refl
+
+two_kinds_again : image Little (rewritten two_kinds) ≡ image Little two_kinds
+unfolding flat image draft_parts tiff_slots exif_slots gps_slots interop_slots tiff_place exif_place gps_place interop_place tiff_values exif_values gps_values interop_values strips_place tiles_place jpeg_place draft_end
+two_kinds_again = refl
+
+-- long values in each child directory, with pads behind those of odd lengths
+abbrev long_values : List Group
+long_values = pushed (field_of Interop 0x1000 0 (Ascii (codes "ABCDE" ∷ [])))
+    (pushed (field_of Gps 0x1d 0 (Ascii (codes "2026" ∷ [])))
+    (pushed (field_of Exif 0xa20e 0 (Rational (record { num = 1; denom = 60 } ∷ [])))
+    (pushed (field_of Exif 0x9286 0 (Undefined (codes "12345") 0)) [])))
+
+abbrev long_values_bytes : List ℕ
+long_values_bytes =
+    73 ∷ 73 ∷ 42 ∷ 0 ∷ 8 ∷ 0 ∷ 0 ∷ 0
+    ∷ 2 ∷ 0
+    ∷ 105 ∷ 135 ∷ 4 ∷ 0 ∷ 1 ∷ 0 ∷ 0 ∷ 0 ∷ 38 ∷ 0 ∷ 0 ∷ 0
+    ∷ 37 ∷ 136 ∷ 4 ∷ 0 ∷ 1 ∷ 0 ∷ 0 ∷ 0 ∷ 80 ∷ 0 ∷ 0 ∷ 0
+    ∷ 0 ∷ 0 ∷ 0 ∷ 0
+    ∷ 3 ∷ 0
+    ∷ 134 ∷ 146 ∷ 7 ∷ 0 ∷ 5 ∷ 0 ∷ 0 ∷ 0 ∷ 116 ∷ 0 ∷ 0 ∷ 0
+    ∷ 5 ∷ 160 ∷ 4 ∷ 0 ∷ 1 ∷ 0 ∷ 0 ∷ 0 ∷ 98 ∷ 0 ∷ 0 ∷ 0
+    ∷ 14 ∷ 162 ∷ 5 ∷ 0 ∷ 1 ∷ 0 ∷ 0 ∷ 0 ∷ 122 ∷ 0 ∷ 0 ∷ 0
+    ∷ 0 ∷ 0 ∷ 0 ∷ 0
+    ∷ 1 ∷ 0
+    ∷ 29 ∷ 0 ∷ 2 ∷ 0 ∷ 5 ∷ 0 ∷ 0 ∷ 0 ∷ 130 ∷ 0 ∷ 0 ∷ 0
+    ∷ 0 ∷ 0 ∷ 0 ∷ 0
+    ∷ 1 ∷ 0
+    ∷ 0 ∷ 16 ∷ 2 ∷ 0 ∷ 6 ∷ 0 ∷ 0 ∷ 0 ∷ 136 ∷ 0 ∷ 0 ∷ 0
+    ∷ 0 ∷ 0 ∷ 0 ∷ 0
+    ∷ 49 ∷ 50 ∷ 51 ∷ 52 ∷ 53 ∷ 0
+    ∷ 1 ∷ 0 ∷ 0 ∷ 0 ∷ 60 ∷ 0 ∷ 0 ∷ 0
+    ∷ 50 ∷ 48 ∷ 50 ∷ 54 ∷ 0 ∷ 0
+    ∷ 65 ∷ 66 ∷ 67 ∷ 68 ∷ 69 ∷ 0 ∷ []
+
+long_values_little : image Little long_values ≡ long_values_bytes
+unfolding image draft_parts tiff_slots exif_slots gps_slots interop_slots tiff_place exif_place gps_place interop_place tiff_values exif_values gps_values interop_values strips_place tiles_place jpeg_place draft_end
+long_values_little = refl
+
+long_values_read : raw_answer false None (image Little long_values) ≡ Whole (field_of Exif 0x9286 0 (Undefined (codes "12345") 116) ∷ field_of Interop 0x1000 0 (Ascii (codes "ABCDE" ∷ []))
+    ∷ field_of Exif 0xa20e 0 (Rational (record { num = 1; denom = 60 } ∷ [])) ∷ field_of Gps 0x1d 0 (Ascii (codes "2026" ∷ [])) ∷ [])
+unfolding raw_answer ordered_trace image draft_parts tiff_slots exif_slots gps_slots interop_slots tiff_place exif_place gps_place interop_place tiff_values exif_values gps_values interop_values strips_place tiles_place jpeg_place draft_end
+long_values_read = refl
+
+long_values_again : image Big (rewritten long_values) ≡ image Big long_values
+unfolding flat image draft_parts tiff_slots exif_slots gps_slots interop_slots tiff_place exif_place gps_place interop_place tiff_values exif_values gps_values interop_values strips_place tiles_place jpeg_place draft_end
+long_values_again = refl
+
+-- calls: of two thumbnails the last one counts, and an ignored push makes no directory
+abbrev five_calls : List Call
+five_calls =
+    SetJpeg (codes "OLD") 1 ∷ Push (field_of Tiff 0x111 7 (Short (5 ∷ []))) ∷ Push (description 0 (codes "Sample"))
+    ∷ SetJpeg (codes "NEW") 1 ∷ Push (field_of Gps 0 0 (Byte (2 ∷ 3 ∷ 0 ∷ 0 ∷ []))) ∷ []
+
+abbrev five_calls_groups : List Group
+five_calls_groups =
+    record empty_group { tiff = entry_of (description 0 (codes "Sample")) ∷ []; gps = entry_of (field_of Gps 0 0 (Byte (2 ∷ 3 ∷ 0 ∷ 0 ∷ []))) ∷ [] }
+    ∷ record empty_group { jpeg = Some (codes "NEW") } ∷ []
+
+five_calls_made : made five_calls ≡ five_calls_groups
+five_calls_made = refl
+
+five_calls_closed : map (group_made five_calls) (range_with_len 0 (directories five_calls)) ≡ five_calls_groups
+five_calls_closed = refl
+
+-- scrubbing takes out where a picture was taken, and values of unknown types
+abbrev a_picture : List Field
+a_picture = field_of Exif 0x9000 0 (Undefined (codes "0231") 99) ∷ field_of Gps 0 0 (Byte (2 ∷ 3 ∷ 0 ∷ 0 ∷ []))
+    ∷ field_of Tiff 0x100 0 (Unknown 65535 1 18) ∷ description 0 (codes "Sample") ∷ []
+
+a_picture_written : write_fault (scrubbed a_picture) ≡ None
+unfolding write_fault group_fault tiff_slots exif_slots gps_slots interop_slots tiff_place exif_place gps_place interop_place tiff_values exif_values gps_values interop_values strips_place tiles_place jpeg_place draft_end
+a_picture_written = refl
+
+a_picture_flat : flat (scrubbed a_picture) ≡ description 0 (codes "Sample") ∷ field_of Exif 0x9000 0 (Undefined (codes "0231") 48) ∷ []
+unfolding flat tiff_slots exif_slots gps_slots interop_slots tiff_place exif_place gps_place interop_place tiff_values exif_values gps_values interop_values strips_place tiles_place jpeg_place draft_end
+a_picture_flat = refl
+
+a_picture_again : image Big (scrubbed (flat (scrubbed a_picture))) ≡ image Big (scrubbed a_picture)
+unfolding flat image draft_parts tiff_slots exif_slots gps_slots interop_slots tiff_place exif_place gps_place interop_place tiff_values exif_values gps_values interop_values strips_place tiles_place jpeg_place draft_end
+a_picture_again = refl
