@@ -2,6 +2,7 @@ pub mod Answered
 pub mod Bounded
 pub mod FollowSteps
 pub mod Outcomes
+pub mod Owned
 pub mod RunSteps
 pub mod Turns
 pub mod WriterCounted
@@ -10,6 +11,7 @@ pub mod WriterRanges
 pub mod WriterReady
 pub mod WriterLaid
 pub mod WriterLoops
+pub mod WriterMarks
 pub mod WriterMeasured
 pub mod WriterMoved
 pub mod WriterOrder
@@ -18,5 +20,6 @@ pub mod WriterPlanned
 pub mod WriterRunning
 pub mod WriterSent
 pub mod WriterSizes
+pub mod WriterSpelled
 pub mod WriterTails
 pub mod FileLaws

@@ -49,3 +49,7 @@ AnswersOwnData answer (Err (error.PartialResult partial)) =
     ReadsAs (answer partial.exif.buf) partial.exif.buf (Err (error.PartialResult partial))
 AnswersOwnData answer (Err e) =
     MatchOption (refusal_of e) (IsInterrupted e) (λ r. Contains container_refusals r ⊎ IsDataRefusal answer r)
+
+-- an image is its own container, so that it is read through a file as well
+abbrev pub ContainsItself : List ℕ → Type 0
+ContainsItself image = container_answer image ≡ Ok image

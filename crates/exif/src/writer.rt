@@ -7,12 +7,13 @@ ghost use Rattle.exif_base.specs.Sent.{SendsFront};
 ghost use Rattle.exif_types.specs.Refusals.{IsInterrupted, is_io, is_io_error, refusal_of};
 ghost use Rattle.exif_format.specs.Groups.{pushed, strips_set, tiles_set, jpeg_set};
 ghost use Rattle.exif_format.specs.Image.{image};
-ghost use Rattle.exif_format.specs.Layout.{LaidOut, BlocksStand};
-ghost use Rattle.exif_format.specs.Ranged.{HavePlainTexts};
+ghost use Rattle.exif_format.specs.Layout.{LaidOut, LengthIsEnd, BlocksStand};
+ghost use Rattle.exif_format.specs.Ranged.{AreRanged, HavePlainTexts};
 ghost use Rattle.exif_format.specs.ReadBack.{ReadsBack, ReadsFirstEight};
-ghost use Rattle.exif_format.specs.Rewriting.{RewritesSame, EqualByContents, OrdersAgree, LengthsAgree};
+ghost use Rattle.exif_format.specs.Rewriting.{RewritesSame, RewritesInEachOrder, EqualByContents, OrdersAgree, LengthsAgree};
 ghost use Rattle.exif_format.specs.Refused.{write_fault};
 ghost use Rattle.exif_format.specs.WriteFaults.{write_refusal};
+ghost use Rattle.exif.specs.Files.{ContainsItself};
 ghost use Rattle.exif.specs.WriterViews.{texts_in, grown, written_order};
 
 mod counts;
@@ -30,6 +31,7 @@ mod ranges;
 mod sizes;
 
 use exif_base::{Order, Sink};
+use exif_containers::laws::tiff_data_stand_alone;
 use exif_format::laws::writing::{images_are_canonical, images_are_laid_out, images_read_back};
 use exif_types::{Error, Field, In};
 use groups::{Ifd, is_own};
@@ -185,15 +187,21 @@ impl<'a> Writer<'a> {
         ensures front { OnErr result (SendsFront (W.taken out.old) (W.taken out.new) (image (written_order little_endian) self.old)) }
         ensures count { W.failures out.new ≡ count_after (is_io result) (W.failures out.old) }
         ensures through { W.through out.new ≡ W.through out.old }
+        ensures ranged { AreRanged self.old }
         ensures laid_out { OnOk result (LaidOut (written_order little_endian) self.old) }
+        ensures length { OnOk result (LengthIsEnd (written_order little_endian) self.old) }
+        ensures contained { OnOk result (ContainsItself (image (written_order little_endian) self.old)) }
         ensures blocks { OnOk result (BlocksStand (written_order little_endian) self.old) }
         ensures read_back { OnOk result (HavePlainTexts self.old → length self.old ≤ 8 → ReadsBack (written_order little_endian) self.old) }
         ensures first_eight { OnOk result (HavePlainTexts self.old → ReadsFirstEight (written_order little_endian) self.old) }
         ensures rewriting { OnOk result (RewritesSame (written_order little_endian) self.old) }
+        ensures each_order { OnOk result (HavePlainTexts self.old → length self.old ≤ 8
+            → RewritesInEachOrder (written_order little_endian) self.old) }
         ensures equality { OnOk result (HavePlainTexts self.old → length self.old ≤ 8 → EqualByContents (written_order little_endian) self.old) }
         ensures lengths { OnOk result (LengthsAgree self.old) }
         ensures orders { OnOk result (HavePlainTexts self.old → OrdersAgree self.old) }
     {
+        self.show_ranged();
         if let Some(fault) = write_fault(self.ifds()) {
             return Err(Error::from(fault));
         }
@@ -203,15 +211,26 @@ impl<'a> Writer<'a> {
         Ok(())
     }
 
+    // The numbers of the groups fit their types, which is the writer's invariant. This does nothing.
+    fn show_ranged(&self)
+        ensures { AreRanged self.now }
+    {
+        let _ = &self.ifds;
+    }
+
     // What is known of the image. This does nothing: its contract shows it. The first line brings
     // the writer's invariant.
     fn show_laws(&self, little_endian: bool)
         requires { write_fault self.now ≡ None }
         ensures laid_out { LaidOut (written_order little_endian) self.now }
+        ensures length { LengthIsEnd (written_order little_endian) self.now }
+        ensures contained { ContainsItself (image (written_order little_endian) self.now) }
         ensures blocks { BlocksStand (written_order little_endian) self.now }
         ensures read_back { HavePlainTexts self.now → length self.now ≤ 8 → ReadsBack (written_order little_endian) self.now }
         ensures first_eight { HavePlainTexts self.now → ReadsFirstEight (written_order little_endian) self.now }
         ensures rewriting { RewritesSame (written_order little_endian) self.now }
+        ensures each_order { HavePlainTexts self.now → length self.now ≤ 8
+            → RewritesInEachOrder (written_order little_endian) self.now }
         ensures equality { HavePlainTexts self.now → length self.now ≤ 8 → EqualByContents (written_order little_endian) self.now }
         ensures lengths { LengthsAgree self.now }
         ensures orders { HavePlainTexts self.now → OrdersAgree self.now }
@@ -220,5 +239,6 @@ impl<'a> Writer<'a> {
         images_are_laid_out();
         images_read_back();
         images_are_canonical();
+        tiff_data_stand_alone();
     }
 }

@@ -1,10 +1,12 @@
 use Rattle.std.proofs.Common.{List, subst}
 use Rattle.exif_format.specs.Groups.{Group}
+use Rattle.exif_format.specs.Image.{image}
 use Rattle.exif_format.specs.Ranged.{AreRanged}
 use Rattle.exif.specs.WriterViews.{written_order}
+use Rattle.exif.proofs.WriterMarks.{begins_image}
 use Rattle.exif.proofs.writer.Writer.show_laws.Goals as goal
 
-ranged : (c : goal.After-images_are_canonical) → AreRanged c.args.self.now
+ranged : (c : goal.After-tiff_data_stand_alone) → AreRanged c.args.self.now
 ranged c = let P : List Group → Type 0 = AreRanged in subst P c.self.view_is c.self.invariant
 
 pub returns-clause-blocks : goal.returns-clause-blocks
@@ -26,3 +28,11 @@ returns-clause-equality c = λ plain few.
 
 pub returns-clause-orders : goal.returns-clause-orders
 returns-clause-orders c = λ plain. c.images_are_canonical.ensures.orders c.args.self.now (ranged c) plain c.requires
+
+pub returns-clause-each_order : goal.returns-clause-each_order
+returns-clause-each_order c = λ plain few.
+    c.images_are_canonical.ensures.each_order (written_order c.args.little_endian) c.args.self.now (record { ranged = ranged c; plain = plain; few = few; written = c.requires })
+
+pub returns-clause-contained : goal.returns-clause-contained
+returns-clause-contained c =
+    c.tiff_data_stand_alone.ensures (image (written_order c.args.little_endian) c.args.self.now) (begins_image (written_order c.args.little_endian) c.args.self.now)
