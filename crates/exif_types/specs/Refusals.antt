@@ -104,9 +104,9 @@ Takes view (Err e) rest read = Refuses e read
 
 -- ---- what a call that takes memory says: the same, unless memory ran out or a device failed
 
--- an error is the answer's refusal, or none
+-- an error is the answer's refusal, or an interruption
 abbrev pub Fails : {Y : Type 0} → Failure → Result Y Refusal → Type 0
-Fails e answer = MatchOption (refusal_of e) (Unit {0}) (λ r. answer ≡ Err r)
+Fails e answer = MatchOption (refusal_of e) (IsInterrupted e) (λ r. answer ≡ Err r)
 
 -- a result, seen by view, is the answer
 abbrev pub Gives : {X Y : Type 0} → (X → Y) → Result X Failure → Result Y Refusal → Type 0
