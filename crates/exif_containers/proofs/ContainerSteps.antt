@@ -1,11 +1,12 @@
 -- A stream's head, and what follows it.
-use Rattle.std.proofs.Common.{◌≡◌, ◌⊎◌, inl, inr, ℕ, ◌<◌, ◌≤◌, min, List, [], ◌++◌, length, take, Option, None, Some, Result, IfSome, ap, ◌∙◌, arith, append-nil}
+use Rattle.std.proofs.Common.{◌≡◌, true, ◌||◌, eqb, codes, ◌⊎◌, inl, inr, ℕ, ◌<◌, ◌≤◌, min, List, [], ◌++◌, length, take, Option, None, Some, Result, IfSome, refl, ap, ◌∙◌, arith, append-nil}
 use Rattle.std.proofs.lemmas.Bool.{cases_lt}
-use Rattle.std.proofs.lemmas.List.{take_at, take_all, length-take-le}
+use Rattle.std.proofs.lemmas.List.{take_at, take_all, take-take, length-take-le}
+use Rattle.std.specs.Cmp.Lexicographic.{pointwise}
 use Rattle.std.specs.Io.KnownBytes.{Consumes, IsAtEnd}
 use Rattle.exif_types.specs.Refusals.{Refusal}
 use Rattle.exif_containers.specs.declared.container.Format.{Format}
-use Rattle.exif_containers.specs.Container.{answer_as, format_in, container_answer}
+use Rattle.exif_containers.specs.Container.{TiffIsWhole, answer_as, begins_tiff, format_in, container_answer}
 
 -- the head of a stream is its first 4096 bytes, or all where there are fewer
 head-first : (head rest : List ℕ) → length head ≤ 4096 → (length head < 4096 → rest ≡ []) → take 4096 (head ++ rest) ≡ head
@@ -27,3 +28,11 @@ container_holds P n block format (Some xs) None h bound most room end f g = absu
 container_holds P n block format (Some xs) (Some ys) h bound most room end f g =
     let len : length (take n block) ≡ n = length-take-le n block bound in
     rw (h, head-first (take n block) ys (omega arith) (λ lt. end (omega arith)), ← f) g
+
+-- the head of TIFF data begins as they do
+pub tiff_is_whole : (bytes : List ℕ) → TiffIsWhole bytes
+unfolding container_answer format_in answer_as
+tiff_is_whole bytes h = rw same refl
+  where
+    same : begins_tiff (take 4096 bytes) ≡ true
+    same = ap (λ t. pointwise eqb t (codes "MM\0*") || pointwise eqb t (codes "II*\0")) (take-take 4 4096 bytes (omega arith)) ∙ h

@@ -1,18 +1,18 @@
 -- The steps of the JPEG reader, one after another.
-use Rattle.std.proofs.Common.{◌≡◌, ℕ, ◌+◌, ◌-◌, ◌*◌, ◌<◌, ◌≤◌, Bool, true, false, cond, eqb, not, ◌&&◌, List, [], ◌∷◌, ◌++◌, length, take, drop, Option, None, Some, IfSome, MatchOption, Err, unwrap_or, ◌≢◌, ap, sym, ◌∙◌, refl, arith, codes, append_assoc, length-append}
+use Rattle.std.proofs.Common.{◌≡◌, ℕ, ◌+◌, ◌-◌, ◌*◌, ◌<◌, ◌≤◌, ◌⊎◌, inl, inr, Bool, true, false, cond, eqb, not, ◌&&◌, List, [], ◌∷◌, ◌++◌, length, take, drop, Option, None, Some, IfSome, MatchOption, Err, unwrap_or, ◌≢◌, ap, sym, ◌∙◌, refl, arith, codes, append_assoc, length-append}
 use Rattle.std.specs.Cmp.Lexicographic.{pointwise}
-use Rattle.std.proofs.lemmas.List.{take_at, drop_at, take-append-drop}
+use Rattle.std.proofs.lemmas.List.{take_at, drop_at, take-append-drop, take-take, length-take-le}
 use Rattle.std.proofs.Math.Bool.{and-true}
 use Rattle.exif_base.specs.Told.{WhereTold}
 use Rattle.exif_containers.specs.Within.{Moves}
 use Rattle.std.specs.Option.{option_map}
-use Rattle.std.proofs.lemmas.Bool.{eq-eqb, ne_eqb}
+use Rattle.std.proofs.lemmas.Bool.{eq-eqb, ne_eqb, cases_lt}
 use Rattle.exif_types.specs.Failures.{Failure}
-use Rattle.exif_types.specs.Refusals.{Refusal, refusal_of, Fails}
-use Rattle.exif_containers.specs.Answer.{Answer, found, refused, IsShort}
-use Rattle.exif_containers.specs.Jpeg.{answer_at_code, not_jpeg, unexpected_soi, no_exif_in_jpeg, broken_jpeg, JpegUnit, stands_alone, unit_from_code, unit_answer, code_onwards, answer_from, jpeg_answer, exif_payload, first_answer, with_units, units_of}
-use Rattle.exif_containers.proofs.JpegUnits.{unit-segment, unit-alone, unit_answer_segment, answer-at_code, answer-no_code, answer_alone}
-use Rattle.exif_containers.proofs.Within.{moves_then, moves_fact, moves_weaker}
+use Rattle.exif_types.specs.Refusals.{Refusal, refusal_of, IsInterrupted, Fails}
+use Rattle.exif_containers.specs.Answer.{Answer, found, refused, IsCollected, IsShort}
+use Rattle.exif_containers.specs.Jpeg.{answer_at_code, begins_exif, not_jpeg, unexpected_soi, no_exif_in_jpeg, broken_jpeg, JpegUnit, stands_alone, unit_from_code, unit_answer, code_onwards, answer_from, jpeg_answer, exif_payload, first_answer, with_units, units_of}
+use Rattle.exif_containers.proofs.JpegUnits.{unit-segment, unit-alone, unit_answer_segment, answer-at_code, answer-short, answer-no_code, answer_alone}
+use Rattle.exif_containers.proofs.Within.{moves_then, moves_then_fact, moves_fact, moves_weaker}
 
 -- bytes that begin with six, which are the identifier or not
 payload-six : (id rest : List ℕ) → length id ≡ 6 → exif_payload (id ++ rest) ≡ cond (pointwise eqb id (codes "Exif\0\0")) (Some rest) None
@@ -98,29 +98,61 @@ fails_short : (e : Failure) (a : Option (List ℕ)) (l : ℕ) (P : List ℕ → 
 fails_short e None l P f s h = tt
 fails_short e (Some xs) l P f s h = go (refusal_of e) h
   where
-    go : (r : Option Refusal) → IfSome r (λ r. (r ≡ broken_jpeg) × P (take l xs)) → MatchOption r (Unit {0}) (λ r. f (take l xs) ≡ Err r)
-    go None h = tt
+    go : (r : Option Refusal) → MatchOption r (IsInterrupted e) (λ r. (r ≡ broken_jpeg) × P (take l xs)) → MatchOption r (IsInterrupted e) (λ r. f (take l xs) ≡ Err r)
+    go None h = h
     go (Some r) h = s (take l xs) h.1 ∙ ap (λ t. refused t) (sym h.0)
 
--- a step, and a failure at what follows
-fails_after : (e : Failure) (a b : Option (List ℕ)) (l m : ℕ) (P : List ℕ → List ℕ → Type 0) (f g : List ℕ → Answer)
+-- a step, and what holds of the answer of what follows
+holds_after : (Q : Answer → Type 0) (a b : Option (List ℕ)) (l m : ℕ) (P : List ℕ → List ℕ → Type 0) (f g : List ℕ → Answer)
     → ((x y : List ℕ) → P x y → f x ≡ g y) → Moves a l b m P
-    → IfSome b (λ ys. Fails e (g (take m ys))) → IfSome a (λ xs. Fails e (f (take l xs)))
-fails_after e None b l m P f g s h k = tt
-fails_after e (Some xs) None l m P f g s h k = absurd h
-fails_after e (Some xs) (Some ys) l m P f g s h k = rw (s (take l xs) (take m ys) h.0) k
+    → IfSome b (λ ys. Q (g (take m ys))) → IfSome a (λ xs. Q (f (take l xs)))
+holds_after Q None b l m P f g s h k = tt
+holds_after Q (Some xs) None l m P f g s h k = absurd h
+holds_after Q (Some xs) (Some ys) l m P f g s h k = rw (s (take l xs) (take m ys) h.0) k
 
 -- a refusal for want of a code
 pub short_refuses : (e : Failure) (a : Option (List ℕ)) (l : ℕ) → IsShort broken_jpeg e a (λ xs. code_onwards (take l xs) ≡ [])
     → IfSome a (λ xs. Fails e (answer_from (take l xs)))
 short_refuses e a l = fails_short e a l (λ xs. code_onwards xs ≡ []) answer_from answer-no_code
 
--- a code, and a refusal of what follows
-pub segment_refuses : (e : Failure) (a b : Option (List ℕ)) (l m code : ℕ)
-    → Moves a l b m (λ xs ys. code_onwards xs ≡ code ∷ ys) → IfSome b (λ ys. Fails e (answer_at_code code (take m ys)))
-    → IfSome a (λ xs. Fails e (answer_from (take l xs)))
-segment_refuses e a b l m code =
-    fails_after e a b l m (λ xs ys. code_onwards xs ≡ code ∷ ys) answer_from (answer_at_code code) (λ x y p. answer-at_code x y code p)
+-- a code, and what holds of the answer of what follows
+pub segment_holds : (Q : Answer → Type 0) (a b : Option (List ℕ)) (l m code : ℕ)
+    → Moves a l b m (λ xs ys. code_onwards xs ≡ code ∷ ys) → IfSome b (λ ys. Q (answer_at_code code (take m ys)))
+    → IfSome a (λ xs. Q (answer_from (take l xs)))
+segment_holds Q a b l m code =
+    holds_after Q a b l m (λ xs ys. code_onwards xs ≡ code ∷ ys) answer_from (answer_at_code code) (λ x y p. answer-at_code x y code p)
+
+-- the payload of a segment with the identifier of Exif is collected, whole or cut
+collected-exif : (high low : ℕ) (ys : List ℕ) → 8 ≤ 256 * high + low → begins_exif ys ≡ true → IsCollected broken_jpeg (answer_at_code 225 (high ∷ low ∷ ys))
+collected-exif high low ys room is = by (cases_lt (length ys) (256 * high + low - 2))
+  where
+    n : ℕ
+    n = 256 * high + low - 2
+
+    same : (n : ℕ) → 6 ≤ n → begins_exif (take n ys) ≡ true
+    same n le = ap (λ t. pointwise eqb t (codes "Exif\0\0")) (take-take 6 n ys le) ∙ is
+
+    whole : (n : ℕ) → n ≡ 256 * high + low - 2 → n ≤ length ys → answer_at_code 225 (high ∷ low ∷ ys) ≡ found (drop 6 (take n ys)) (drop n ys)
+    whole n e le =
+        let len : length (take n ys) ≡ n = length-take-le n ys le in
+        ap (λ t. answer_at_code 225 (high ∷ low ∷ t)) (sym (take-append-drop n ys))
+        ∙ ap (λ o. first_answer (with_units o units_of)) (unit-segment 225 high low (take n ys) (drop n ys) refl (omega arith))
+        ∙ ap (λ o. unwrap_or o (answer_from (drop n ys)))
+        (unit_answer_segment 225 high low (take n ys) (drop n ys) refl (omega arith)
+        ∙ ap (λ t. option_map (λ p. found p (drop n ys)) (cond t (Some (drop 6 (take n ys))) None)) (same n (omega arith)))
+
+    by : (length ys < 256 * high + low - 2) ⊎ (256 * high + low - 2 ≤ length ys) → IsCollected broken_jpeg (answer_at_code 225 (high ∷ low ∷ ys))
+    by (inl lt) = rw (answer-short 225 (high ∷ low ∷ ys) refl (omega arith)) refl
+    by (inr le) = rw (whole (256 * high + low - 2) refl le) tt
+
+pub segment_collects : (a b : Option (List ℕ)) (l m code size : ℕ) → code ≡ 225
+    → Moves a l b m (λ xs ys. (high low : ℕ) × (xs ≡ high ∷ low ∷ ys) × (size ≡ 256 * high + low))
+    → IfSome b (λ ys. (6 ≤ size - 2) × (begins_exif (take m ys) ≡ true))
+    → IfSome a (λ xs. IsCollected broken_jpeg (answer_at_code code (take l xs)))
+segment_collects a b l m code size is =
+    moves_then_fact a b l m (λ xs ys. (high low : ℕ) × (xs ≡ high ∷ low ∷ ys) × (size ≡ 256 * high + low))
+    (λ ys. (6 ≤ size - 2) × (begins_exif ys ≡ true)) (λ xs. IsCollected broken_jpeg (answer_at_code code xs))
+    (λ x y p q. rw (is, p.2) (collected-exif p.0 p.1 y (let e = p.3 in let f = q.0 in omega arith) q.1))
 
 pub unit_soi : (a b : Option (List ℕ)) (l m code : ℕ) → Moves a l b m (λ xs ys. code_onwards xs ≡ code ∷ ys) → code ≡ 216
     → IfSome a (λ xs. answer_from (take l xs) ≡ refused (unexpected_soi))
@@ -198,9 +230,9 @@ jpeg_passed a b c l m n signature two e =
     moves_then a b c l m n (λ xs ys. xs ≡ signature ++ ys) (λ xs ys. answer_from xs ≡ answer_from ys) (λ xs ys. jpeg_answer xs ≡ answer_from ys)
     (λ x y z p q. ap jpeg_answer p ∙ jpeg-two signature y two ∙ choose_yes _ _ _ e ∙ q)
 
-pub jpeg_refuses : (e : Failure) (a b : Option (List ℕ)) (l m : ℕ) → Moves a l b m (λ xs ys. jpeg_answer xs ≡ answer_from ys)
-    → IfSome b (λ ys. Fails e (answer_from (take m ys))) → IfSome a (λ xs. Fails e (jpeg_answer (take l xs)))
-jpeg_refuses e a b l m = fails_after e a b l m (λ xs ys. jpeg_answer xs ≡ answer_from ys) jpeg_answer answer_from (λ x y p. p)
+pub jpeg_holds : (Q : Answer → Type 0) (a b : Option (List ℕ)) (l m : ℕ) → Moves a l b m (λ xs ys. jpeg_answer xs ≡ answer_from ys)
+    → IfSome b (λ ys. Q (answer_from (take m ys))) → IfSome a (λ xs. Q (jpeg_answer (take l xs)))
+jpeg_holds Q a b l m = holds_after Q a b l m (λ xs ys. jpeg_answer xs ≡ answer_from ys) jpeg_answer answer_from (λ x y p. p)
 
 pub jpeg_found : (payload : List ℕ) (a b c : Option (List ℕ)) (l m n : ℕ)
     → Moves a l b m (λ xs ys. jpeg_answer xs ≡ answer_from ys) → Moves b m c n (λ xs ys. answer_from xs ≡ found payload ys)

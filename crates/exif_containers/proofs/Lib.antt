@@ -4,10 +4,12 @@ pub mod Children
 pub mod ContainerSteps
 pub mod FileBoxes
 pub mod Filling
+pub mod HeifNamed
 pub mod JpegCalls
 pub mod JpegMoves
 pub mod JpegTrees
 pub mod JpegUnits
+pub mod Naming
 pub mod Refusing
 pub mod Times
 pub mod WebpChunks

@@ -1,7 +1,7 @@
 -- A refusal inside a definition is a refusal of the definition.
 use Rattle.std.proofs.Common.{◌≡◌, false, refl, Option, None, Some, Result, Err, MatchOption, ap, ◌∙◌}
 use Rattle.exif_types.specs.Failures.{Failure}
-use Rattle.exif_types.specs.Refusals.{Refusal, refusal_of, is_io_error, Refuses, Fails}
+use Rattle.exif_types.specs.Refusals.{Refusal, refusal_of, is_io_error, IsInterrupted, Refuses, Fails}
 use Rattle.exif_types.specs.declared.error.Error.TheVariants as error
 
 -- a definition hands a refusal of its part on
@@ -17,23 +17,23 @@ pub refuses_along : {A B : Type 0} (e : Failure) (f : Result A Refusal → Resul
     → Refuses e part → Refuses e (f part)
 refuses_along e f part k h = refuses_with (refusal_of e) f part k h
 
-fails_with : {A B : Type 0} (o : Option Refusal) (f : Result A Refusal → Result B Refusal) (part : Result A Refusal) → Keeps f
-    → MatchOption o (Unit {0}) (λ r. part ≡ Err r) → MatchOption o (Unit {0}) (λ r. f part ≡ Err r)
-fails_with (Some r) f part k h = ap f h ∙ k r
-fails_with None f part k h = tt
+fails_with : {A B : Type 0} (o : Option Refusal) (I : Type 0) (f : Result A Refusal → Result B Refusal) (part : Result A Refusal) → Keeps f
+    → MatchOption o I (λ r. part ≡ Err r) → MatchOption o I (λ r. f part ≡ Err r)
+fails_with (Some r) I f part k h = ap f h ∙ k r
+fails_with None I f part k h = h
 
 pub fails_along : {A B : Type 0} (e : Failure) (f : Result A Refusal → Result B Refusal) (part : Result A Refusal) → Keeps f
     → Fails e part → Fails e (f part)
-fails_along e f part k h = fails_with (refusal_of e) f part k h
+fails_along e f part k h = fails_with (refusal_of e) (IsInterrupted e) f part k h
 
 -- a refusal that owes no memory is one
-refusal_with : {A : Type 0} (o : Option Refusal) (part : Result A Refusal)
-    → MatchOption o ⊥ (λ r. part ≡ Err r) → MatchOption o (Unit {0}) (λ r. part ≡ Err r)
-refusal_with (Some r) part h = h
-refusal_with None part h = absurd h
+refusal_with : {A : Type 0} (o : Option Refusal) (I : Type 0) (part : Result A Refusal)
+    → MatchOption o ⊥ (λ r. part ≡ Err r) → MatchOption o I (λ r. part ≡ Err r)
+refusal_with (Some r) I part h = h
+refusal_with None I part h = absurd h
 
 pub refusal_fails : {A : Type 0} (e : Failure) (part : Result A Refusal) → Refuses e part → Fails e part
-refusal_fails e part h = refusal_with (refusal_of e) part h
+refusal_fails e part h = refusal_with (refusal_of e) (IsInterrupted e) part h
 
 -- a refusal is no device's error
 refusal_told : (e : Failure) → MatchOption (refusal_of e) ⊥ (λ r. Unit {0}) → is_io_error e ≡ false

@@ -10,8 +10,9 @@ use Rattle.byteorder.specs.Numbers.{little_from-append}
 use Rattle.exif_base.specs.Told.{WhereTold}
 use Rattle.exif_types.specs.Failures.{Failure}
 use Rattle.exif_types.specs.Refusals.{Refusal, Fails}
-use Rattle.exif_containers.specs.Answer.{found, refused}
+use Rattle.exif_containers.specs.Answer.{Answer, found, refused, IsCollected}
 use Rattle.exif_containers.proofs.Refusing.{fails_along}
+use Rattle.exif_containers.specs.WebpSteps.{IsPayload}
 use Rattle.exif_containers.specs.Webp.{Chunk, exif, other, broken_webp, not_webp, invalid_file_size, overflowing, no_exif_in_webp, padded, exif_chunk, other_chunk, chunk_body, chunk_at, follow, answer_within, body_answer, begins_webp, sized_answer, webp_answer}
 
 pub begins_webp-append : (header ys : List ℕ) → length header ≡ 12 → begins_webp (header ++ ys) ≡ begins_webp header
@@ -148,6 +149,18 @@ pub webp_fails : (e : Failure) (a b : Option (List ℕ)) (room : ℕ) → WhereT
 webp_fails e None b room h k = tt
 webp_fails e (Some xs) None room h k = absurd h
 webp_fails e (Some xs) (Some ys) room h k = rw h (fails_body e room ys k)
+
+-- a chunk whose payload is collected
+payload-collected : (c : Result Chunk Refusal) (next : ℕ → List ℕ → Answer) → IsPayload c → IsCollected broken_webp (follow c next)
+payload-collected (Ok (exif payload rest)) next h = tt
+payload-collected (Ok (other room bytes)) next h = absurd h
+payload-collected (Err r) next h = h
+
+pub webp_collects : (a b : Option (List ℕ)) (room : ℕ) → WhereTold a b (λ xs ys. webp_answer xs ≡ body_answer room ys)
+    → IfSome b (λ ys. IsPayload (chunk_at room ys)) → IfSome a (λ xs. IsCollected broken_webp (webp_answer xs))
+webp_collects None b room h k = tt
+webp_collects (Some xs) None room h k = absurd h
+webp_collects (Some xs) (Some ys) room h k = rw h (payload-collected (chunk_at room ys) (answer_within (length ys)) k)
 
 pub webp_used_up : (a b : Option (List ℕ)) (room : ℕ) → room ≡ 0 → WhereTold a b (λ xs ys. webp_answer xs ≡ body_answer room ys) → IfSome a (λ xs. webp_answer xs ≡ refused no_exif_in_webp)
 webp_used_up None b room z h = tt

@@ -1,6 +1,6 @@
 -- What a stream gives, as the first 4096 bytes say which container it is (TIFF 6.0, section 2; ITU-T
 -- T.81, B.1.1; ISO/IEC 14496-12:2015, 4.3; WebP Container Specification, "WebP File Header").
-use Rattle.std.specs.Prelude.{ℕ, ◌-◌, ◌^◌, List, take, codes, Bool, ◌||◌, if◌then◌else◌, Option, None, Some, Result, Ok, Err}
+use Rattle.std.specs.Prelude.{◌≡◌, ℕ, ◌-◌, ◌^◌, List, ◌∷◌, ◌++◌, take, codes, Bool, true, ◌||◌, if◌then◌else◌, Option, None, Some, Result, Ok, Err}
 use Rattle.std.specs.Str.{bytes_eq}
 use Rattle.exif_types.specs.Refusals.{Refusal, invalid_format, ◌>>=◌}
 use Rattle.exif_containers.specs.declared.container.Format.{Format}
@@ -8,11 +8,16 @@ use Rattle.exif_containers.specs.declared.container.Format.TheVariants.{Tiff, Jp
 use Rattle.exif_containers.specs.Answer.{Answer}
 use Rattle.exif_containers.specs.Heif.{exif_of}
 use Rattle.exif_containers.specs.HeifFile.{begins_heif}
-use Rattle.exif_containers.specs.Jpeg.{begins_jpeg, jpeg_answer}
-use Rattle.exif_containers.specs.Webp.{begins_webp, webp_answer}
+use Rattle.exif_containers.specs.HeifRefusals.{heif_refusals}
+use Rattle.exif_containers.specs.Jpeg.{begins_jpeg, jpeg_answer, jpeg_refusals}
+use Rattle.exif_containers.specs.Webp.{begins_webp, webp_answer, webp_refusals}
 
 abbrev pub unknown_format : Refusal
 unknown_format = invalid_format (codes "Unknown image format")
+
+-- all refusals of a container
+abbrev pub container_refusals : List Refusal
+container_refusals = unknown_format ∷ (jpeg_refusals ++ (heif_refusals ++ webp_refusals))
 
 -- whether bytes begin as TIFF data do, in either byte order
 abbrev pub begins_tiff : List ℕ → Bool
@@ -41,3 +46,7 @@ answer_as None bytes = Err unknown_format
 -- the first 4096 bytes, or all if there are fewer, choose
 unfoldable pub container_answer : List ℕ → Result (List ℕ) Refusal
 container_answer bytes = answer_as (format_in (take 4096 bytes)) bytes
+
+-- TIFF data are their own container
+abbrev pub TiffIsWhole : List ℕ → Type 0
+TiffIsWhole bytes = begins_tiff bytes ≡ true → container_answer bytes ≡ Ok bytes

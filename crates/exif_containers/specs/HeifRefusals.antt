@@ -1,5 +1,5 @@
 -- Why the Exif data of a HEIF file are refused.
-use Rattle.std.specs.Prelude.{codes}
+use Rattle.std.specs.Prelude.{List, [], ◌∷◌, codes}
 use Rattle.exif_types.specs.Refusals.{Refusal, invalid_format, not_found, not_supported}
 
 abbrev pub broken_file : Refusal
@@ -79,3 +79,13 @@ block_too_small = invalid_format (codes "ExifDataBlock too small")
 
 abbrev pub invalid_header_offset : Refusal
 invalid_header_offset = invalid_format (codes "Invalid Exif header offset")
+
+-- all of them
+abbrev pub heif_refusals : List Refusal
+heif_refusals =
+    broken_file ∷ invalid_size ∷ seek_too_large ∷ no_brand ∷ meta_before_ftyp
+    ∷ too_small ∷ unsupported_meta ∷ unsupported_infe ∷ unsupported_iloc ∷ external_data
+    ∷ invalid_base_size ∷ invalid_index_size ∷ invalid_offset_size ∷ invalid_length_size ∷ no_matching_item
+    ∷ no_iloc ∷ no_exif ∷ invalid_offset ∷ no_idat ∷ invalid_length
+    ∷ out_of_idat ∷ by_item_offset ∷ invalid_method ∷ data_too_large ∷ block_too_small
+    ∷ invalid_header_offset ∷ []

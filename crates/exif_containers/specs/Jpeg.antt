@@ -20,6 +20,10 @@ invalid_length = invalid_format (codes "Invalid segment length")
 abbrev pub no_exif_in_jpeg : Refusal
 no_exif_in_jpeg = not_found (codes "JPEG")
 
+-- all refusals of a JPEG stream
+abbrev pub jpeg_refusals : List Refusal
+jpeg_refusals = broken_jpeg ∷ not_jpeg ∷ unexpected_soi ∷ invalid_length ∷ no_exif_in_jpeg ∷ []
+
 -- a unit from its code on: the code, the body behind it, and all that follows
 pub record JpegUnit : Type 0 where
   pub code : ℕ
@@ -66,9 +70,13 @@ unit_from_code (code ∷ bytes) = unit_with_body code bytes (body_len code bytes
 abbrev pub first_unit : List ℕ → Option JpegUnit
 first_unit bytes = unit_from_code (code_onwards bytes)
 
+-- whether bytes begin with the identifier of Exif
+abbrev pub begins_exif : List ℕ → Bool
+begins_exif bytes = bytes_eq (take 6 bytes) (codes "Exif\0\0")
+
 -- what follows the identifier of Exif, where the bytes begin with that
 abbrev pub exif_payload : List ℕ → Option (List ℕ)
-exif_payload bytes = if bytes_eq (take 6 bytes) (codes "Exif\0\0") then Some (drop 6 bytes) else None
+exif_payload bytes = if begins_exif bytes then Some (drop 6 bytes) else None
 
 -- what a unit answers, where it does
 abbrev pub unit_answer : JpegUnit → Option Answer

@@ -1,6 +1,6 @@
 -- A WebP file as a list of chunks, and what it answers (WebP Container Specification, "RIFF File
 -- Format", "WebP File Header", "Metadata").
-use Rattle.std.specs.Prelude.{ℕ, zero, suc, ◌+◌, ◌-◌, ◌%◌, List, length, take, drop, codes, nat_lt, Bool, ◌&&◌, ◌==◌, if◌then◌else◌, Result, Ok, Err}
+use Rattle.std.specs.Prelude.{ℕ, zero, suc, ◌+◌, ◌-◌, ◌%◌, List, [], ◌∷◌, length, take, drop, codes, nat_lt, Bool, ◌&&◌, ◌==◌, if◌then◌else◌, Result, Ok, Err}
 use Rattle.std.specs.Str.{bytes_eq}
 use Rattle.byteorder.specs.Endian.{little_number}
 use Rattle.exif_types.specs.Refusals.{Refusal, invalid_format, not_found}
@@ -20,6 +20,10 @@ overflowing = invalid_format (codes "Chunk overflowing parent")
 
 abbrev pub no_exif_in_webp : Refusal
 no_exif_in_webp = not_found (codes "WebP")
+
+-- all refusals of a WebP file
+abbrev pub webp_refusals : List Refusal
+webp_refusals = broken_webp ∷ not_webp ∷ invalid_file_size ∷ overflowing ∷ no_exif_in_webp ∷ []
 
 -- a chunk at a place of the body: the payload of `EXIF` and all that follows, or another one, with
 -- the room that is left behind it and the bytes there

@@ -1,13 +1,15 @@
 //! The Exif data of a stream, whatever container it is.
 
-ghost use Rattle.std.specs.Prelude.{◌≡◌, ◌<◌, ◌≤◌, ◌++◌, length, min, take, is_err, None, IfOk, IfErr, IfSome};
+ghost use Rattle.std.specs.Prelude.{◌≡◌, ◌<◌, ◌≤◌, ◌++◌, length, min, take, is_err, IfOk, IfErr, IfSome};
 ghost use Rattle.std.specs.Io.KnownBytes.{Consumes, IsAtEnd};
 ghost use Rattle.exif_base.specs.Device.{count_after};
-ghost use Rattle.exif_types.specs.Refusals.{Gives, is_io, refusal_of};
-ghost use Rattle.exif_containers.specs.Container.{answer_as, begins_tiff, container_answer, data_of, format_in};
+ghost use Rattle.exif_types.specs.Refusals.{Gives, is_io};
+ghost use Rattle.exif_containers.specs.Answer.{IsNamed};
+ghost use Rattle.exif_containers.specs.Container.{answer_as, begins_tiff, container_answer, container_refusals, data_of, format_in};
 ghost use Rattle.exif_containers.specs.Heif.{exif_of};
-ghost use Rattle.exif_containers.specs.Jpeg.{jpeg_answer};
-ghost use Rattle.exif_containers.specs.Webp.{webp_answer};
+ghost use Rattle.exif_containers.specs.HeifRefusals.{heif_refusals};
+ghost use Rattle.exif_containers.specs.Jpeg.{jpeg_answer, jpeg_refusals};
+ghost use Rattle.exif_containers.specs.Webp.{webp_answer, webp_refusals};
 
 use crate::isobmff::{exif_of_file, is_heif};
 use crate::jpeg::{self, LIMIT, is_jpeg};
@@ -65,6 +67,7 @@ pub fn format_of(head: &[u8]) -> Option<Format>
 // The data of a file in memory, of which these bytes were read.
 fn heif_attr<R: Source>(alloc: Global, head: &[u8], source: &mut R) -> Result<Vec<u8>, Error>
     ensures gives { IfSome (R.left source.old) (λ rest. Gives (λ v. v.items) result (exif_of (head.now ++ rest))) }
+    ensures named { IfErr result (IsNamed heif_refusals) }
     ensures count { R.failures source.new ≡ count_after (is_io result) (R.failures source.old) }
     ensures same { R.through source.new ≡ R.through source.old }
 {
@@ -84,6 +87,7 @@ fn jpeg_attr<R: Source>(
     requires some { 0 < length block.now }
     ensures gives { IfSome (R.left source.old)
         (λ rest. Gives (λ v. v.items) result (data_of (jpeg_answer (take LIMIT (take filled block.old ++ rest))))) }
+    ensures named { IfErr result (IsNamed jpeg_refusals) }
     ensures count { R.failures source.new ≡ count_after (is_io result) (R.failures source.old) }
     ensures same { R.through source.new ≡ R.through source.old }
 {
@@ -103,6 +107,7 @@ fn webp_attr<R: Source>(
     requires some { 0 < length block.now }
     ensures gives { IfSome (R.left source.old)
         (λ rest. Gives (λ v. v.items) result (data_of (webp_answer (take filled block.old ++ rest)))) }
+    ensures named { IfErr result (IsNamed webp_refusals) }
     ensures count { R.failures source.new ≡ count_after (is_io result) (R.failures source.old) }
     ensures same { R.through source.new ≡ R.through source.old }
 {
@@ -124,6 +129,7 @@ fn attr_as<R: Source>(
     requires some { 0 < length block.now }
     ensures gives { IfSome (R.left source.old)
         (λ rest. Gives (λ v. v.items) result (answer_as format (take filled block.old ++ rest))) }
+    ensures named { IfErr result (IsNamed container_refusals) }
     ensures count { R.failures source.new ≡ count_after (is_io result) (R.failures source.old) }
     ensures same { R.through source.new ≡ R.through source.old }
 {
@@ -159,6 +165,7 @@ fn attr_by_block<R: Source>(
 ) -> Result<Vec<u8>, Error>
     requires { HEAD ≤ length block.now }
     ensures gives { IfSome (R.left source.old) (λ bytes. Gives (λ v. v.items) result (container_answer bytes)) }
+    ensures named { IfErr result (IsNamed container_refusals) }
     ensures count { R.failures source.new ≡ count_after (is_io result) (R.failures source.old) }
     ensures same { R.through source.new ≡ R.through source.old }
 {
@@ -175,6 +182,7 @@ fn attr_by_block<R: Source>(
 /// open.
 pub fn exif_attr_of_stream<R: Source>(alloc: Global, source: &mut R) -> Result<Vec<u8>, Error>
     ensures gives { IfSome (R.left source.old) (λ bytes. Gives (λ v. v.items) result (container_answer bytes)) }
+    ensures named { IfErr result (IsNamed container_refusals) }
     ensures count { R.failures source.new ≡ count_after (is_io result) (R.failures source.old) }
     ensures same { R.through source.new ≡ R.through source.old }
 {

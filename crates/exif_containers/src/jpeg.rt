@@ -1,13 +1,14 @@
 //! The Exif segment of a JPEG stream (ITU-T T.81, B.1.1; Exif 2.32, 4.7.2).
 
-ghost use Rattle.std.specs.Prelude.{◌≡◌, ◌<◌, ◌≤◌, ◌++◌, ◌∷◌, List, ℕ, Some, false, take, drop, length, OnOk, IfOk, IfErr, IfSome, MatchOption};
+ghost use Rattle.std.specs.Prelude.{◌≡◌, ◌<◌, ◌≤◌, ◌++◌, ◌∷◌, List, ℕ, Some, true, false, take, drop, length, OnOk, IfOk, IfErr, IfSome, MatchOption};
 ghost use Rattle.std.specs.Option.{option_map};
 ghost use Rattle.exif_base.specs.Device.{count_after};
 ghost use Rattle.exif_base.specs.Told.{WhereTold};
 ghost use Rattle.exif_types.specs.Refusals.{Fails, is_io};
-ghost use Rattle.exif_containers.specs.Answer.{IsShort, found};
+ghost use Rattle.exif_types.specs.declared.error.Error.TheVariants.{OutOfMemory};
+ghost use Rattle.exif_containers.specs.Answer.{IsCollected, IsNamed, IsShort, found};
 ghost use Rattle.exif_containers.specs.Within.{Moves};
-ghost use Rattle.exif_containers.specs.Jpeg.{JpegUnit, answer_at_code, answer_from, begins_jpeg, broken_jpeg, exif_payload as payload_of, jpeg_answer, stands_alone, unit_answer, unit_from_code};
+ghost use Rattle.exif_containers.specs.Jpeg.{JpegUnit, answer_at_code, answer_from, begins_exif, begins_jpeg, broken_jpeg, exif_payload as payload_of, jpeg_answer, jpeg_refusals, stands_alone, unit_answer, unit_from_code};
 
 mod limited;
 
@@ -57,6 +58,8 @@ fn exif_payload<R: Source>(
         × (payload_of body ≡ option_map (λ v. v.items) payload))) }
     ensures spent { OnOk result (budget.new ≤ budget.old) }
     ensures short { IfErr result (λ e. IsShort broken_jpeg e (R.left source.old) (λ xs. length (take budget.old xs) < len)) }
+    ensures memory { IfErr result (λ e. e ≡ OutOfMemory → IfSome (R.left source.old)
+        (λ xs. (6 ≤ len) × (begins_exif (take budget.old xs) ≡ true))) }
     ensures count { R.failures source.new ≡ count_after (is_io result) (R.failures source.old) }
     ensures same { R.through source.new ≡ R.through source.old }
 {
@@ -94,6 +97,9 @@ fn segment<R: Source>(
         × (unit_answer u ≡ option_map (λ v. found v.items ys) payload))) }
     ensures spent { OnOk result (budget.new ≤ budget.old) }
     ensures refused { IfErr result (λ e. IfSome (R.left source.old) (λ xs. Fails e (answer_at_code code (take budget.old xs)))) }
+    ensures named { IfErr result (IsNamed jpeg_refusals) }
+    ensures memory { IfErr result (λ e. e ≡ OutOfMemory → IfSome (R.left source.old)
+        (λ xs. IsCollected broken_jpeg (answer_at_code code (take budget.old xs)))) }
     ensures count { R.failures source.new ≡ count_after (is_io result) (R.failures source.old) }
     ensures same { R.through source.new ≡ R.through source.old }
 {
@@ -119,6 +125,9 @@ fn next_unit<R: Scan>(
         (λ xs ys. MatchOption payload (answer_from xs ≡ answer_from ys) (λ v. answer_from xs ≡ found v.items ys))) }
     ensures spent { OnOk result (budget.new < budget.old) }
     ensures refused { IfErr result (λ e. IfSome (R.left source.old) (λ xs. Fails e (answer_from (take budget.old xs)))) }
+    ensures named { IfErr result (IsNamed jpeg_refusals) }
+    ensures memory { IfErr result (λ e. e ≡ OutOfMemory → IfSome (R.left source.old)
+        (λ xs. IsCollected broken_jpeg (answer_from (take budget.old xs)))) }
     ensures count { R.failures source.new ≡ count_after (is_io result) (R.failures source.old) }
     ensures same { R.through source.new ≡ R.through source.old }
 {
@@ -138,11 +147,15 @@ fn next_unit<R: Scan>(
 ///
 /// What follows their segment is left in the source. Refusals: `Not a JPEG file`, `Unexpected SOI`,
 /// `Invalid segment length`, NotFound `JPEG` at the end of the image, and `Broken JPEG file` where the
-/// bytes end before an answer, or after `LIMIT` bytes. What is skipped takes no memory.
+/// bytes end before an answer, or after `LIMIT` bytes. What is skipped takes no memory: the want of it is
+/// told only where a payload is collected.
 pub fn exif_attr<R: Scan>(alloc: Global, source: &mut R) -> Result<Vec<u8>, Error>
     ensures found { IfOk result (λ v. WhereTold (R.left source.old) (R.left source.new)
         (λ xs ys. (rest : List ℕ) × (jpeg_answer (take LIMIT xs) ≡ found v.items rest) × (ys ≡ rest ++ drop LIMIT xs))) }
     ensures refused { IfErr result (λ e. IfSome (R.left source.old) (λ xs. Fails e (jpeg_answer (take LIMIT xs)))) }
+    ensures named { IfErr result (IsNamed jpeg_refusals) }
+    ensures memory { IfErr result (λ e. e ≡ OutOfMemory → IfSome (R.left source.old)
+        (λ xs. IsCollected broken_jpeg (jpeg_answer (take LIMIT xs)))) }
     ensures count { R.failures source.new ≡ count_after (is_io result) (R.failures source.old) }
     ensures same { R.through source.new ≡ R.through source.old }
 {
@@ -161,11 +174,15 @@ pub fn exif_attr<R: Scan>(alloc: Global, source: &mut R) -> Result<Vec<u8>, Erro
 
 /// The Exif bytes of a JPEG stream. What follows their segment is left unread.
 ///
-/// The answers are those of `jpeg::exif_attr`. After an error, how far the source was read is left open.
+/// The answers are those of `jpeg::exif_attr`, and what is skipped takes no memory either. After an error,
+/// how far the source was read is left open.
 pub fn get_exif_attr_from_jpeg<R: Source>(alloc: Global, source: &mut R) -> Result<Vec<u8>, Error>
     ensures found { IfOk result (λ v. WhereTold (R.left source.old) (R.left source.new)
         (λ xs ys. (rest : List ℕ) × (jpeg_answer (take LIMIT xs) ≡ found v.items rest) × (ys ≡ rest ++ drop LIMIT xs))) }
     ensures refused { IfErr result (λ e. IfSome (R.left source.old) (λ xs. Fails e (jpeg_answer (take LIMIT xs)))) }
+    ensures named { IfErr result (IsNamed jpeg_refusals) }
+    ensures memory { IfErr result (λ e. e ≡ OutOfMemory → IfSome (R.left source.old)
+        (λ xs. IsCollected broken_jpeg (jpeg_answer (take LIMIT xs)))) }
     ensures count { R.failures source.new ≡ count_after (is_io result) (R.failures source.old) }
     ensures same { R.through source.new ≡ R.through source.old }
 {

@@ -3,6 +3,7 @@
 ghost use Rattle.std.specs.Prelude.{ℕ, List};
 ghost use Rattle.exif_containers.specs.BoxGrammar.{BoxIsRead, BoxTree, CountedAreRead, IsABox, IsAParent, Parent, ParentIsRead};
 ghost use Rattle.exif_containers.specs.Boxes.{Part};
+ghost use Rattle.exif_containers.specs.Container.{TiffIsWhole};
 ghost use Rattle.exif_containers.specs.JpegGrammar.{IsAStream, Stream, StreamIsAnswered};
 ghost use Rattle.exif_containers.specs.WebpGrammar.{FileIsAnswered, IsAFile, WebpFile};
 
@@ -30,4 +31,9 @@ pub fn boxes_are_read()
 pub fn parents_are_boxes()
     ensures read { (p : Parent) → ParentIsRead p }
     ensures every { (bytes : List ℕ) → IsAParent bytes }
+{}
+
+/// Bytes that begin as TIFF data do are their own container: all of them are answered.
+pub fn tiff_data_stand_alone()
+    ensures whole { (bytes : List ℕ) → TiffIsWhole bytes }
 {}

@@ -1,9 +1,9 @@
 //! What the containers share above the reads of their bytes.
 
-ghost use Rattle.std.specs.Prelude.{◌≡◌, ◌++◌, None, IfOk, OnOk, IfErr, IfSome};
+ghost use Rattle.std.specs.Prelude.{◌≡◌, ◌++◌, IfOk, OnOk, IfErr, IfSome};
 ghost use Rattle.std.specs.Io.KnownBytes.{IsAtEnd};
 ghost use Rattle.exif_base.specs.Device.{count_after};
-ghost use Rattle.exif_types.specs.Refusals.{invalid_format, is_io, refusal_of};
+ghost use Rattle.exif_types.specs.Refusals.{IsInterrupted, invalid_format, is_io};
 ghost use Rattle.exif_containers.specs.Answer.{IsErrorOf};
 
 use exif_base::{ReadFault, Source, read_to_end};
@@ -27,7 +27,7 @@ pub fn error_of(fault: ReadFault, broken: &'static str) -> Error
 pub fn read_behind<R: Source>(alloc: Global, head: &[u8], source: &mut R) -> Result<Vec<u8>, Error>
     ensures taken { IfOk result (λ v. IfSome (R.left source.old) (λ rest. v.items ≡ head.now ++ rest)) }
     ensures at_end { OnOk result (IsAtEnd (R.left source.new)) }
-    ensures no_refusal { IfErr result (λ e. refusal_of e ≡ None) }
+    ensures interrupted { IfErr result IsInterrupted }
     ensures count { R.failures source.new ≡ count_after (is_io result) (R.failures source.old) }
     ensures same { R.through source.new ≡ R.through source.old }
 {
@@ -43,7 +43,7 @@ pub fn read_behind<R: Source>(alloc: Global, head: &[u8], source: &mut R) -> Res
 pub fn read_all<R: Source>(alloc: Global, source: &mut R) -> Result<Vec<u8>, Error>
     ensures taken { IfOk result (λ v. IfSome (R.left source.old) (λ bytes. v.items ≡ bytes)) }
     ensures at_end { OnOk result (IsAtEnd (R.left source.new)) }
-    ensures no_refusal { IfErr result (λ e. refusal_of e ≡ None) }
+    ensures interrupted { IfErr result IsInterrupted }
     ensures count { R.failures source.new ≡ count_after (is_io result) (R.failures source.old) }
     ensures same { R.through source.new ≡ R.through source.old }
 {

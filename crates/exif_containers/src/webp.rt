@@ -7,9 +7,9 @@ ghost use Rattle.exif_base.specs.Device.{count_after};
 ghost use Rattle.exif_base.specs.Told.{Skips, WhereTold};
 ghost use Rattle.exif_types.specs.Refusals.{Fails, is_io};
 ghost use Rattle.exif_types.specs.declared.error.Error.TheVariants.{OutOfMemory};
-ghost use Rattle.exif_containers.specs.Answer.{IsErrorOf, IsShort, found};
-ghost use Rattle.exif_containers.specs.Webp.{begins_webp, body_answer, broken_webp, chunk_at, chunk_body, padded, webp_answer};
-ghost use Rattle.exif_containers.specs.WebpSteps.{LeavesAtMost, chunk_of};
+ghost use Rattle.exif_containers.specs.Answer.{IsCollected, IsErrorOf, IsNamed, IsShort, found};
+ghost use Rattle.exif_containers.specs.Webp.{begins_webp, body_answer, broken_webp, chunk_at, chunk_body, padded, webp_answer, webp_refusals};
+ghost use Rattle.exif_containers.specs.WebpSteps.{IsPayload, LeavesAtMost, chunk_of};
 
 use crate::util::error_of;
 use exif_base::{
@@ -90,6 +90,9 @@ fn body<R: Source>(
     ensures chunk { IfOk result (λ step. WhereTold (R.left source.old) (R.left source.new)
         (λ xs ys. chunk_body name size room xs ≡ Ok (chunk_of step ys))) }
     ensures refused { IfErr result (λ e. IfSome (R.left source.old) (λ xs. Fails e (chunk_body name size room xs))) }
+    ensures named { IfErr result (IsNamed webp_refusals) }
+    ensures memory { IfErr result (λ e. e ≡ OutOfMemory → IfSome (R.left source.old)
+        (λ xs. IsPayload (chunk_body name size room xs))) }
     ensures fewer { IfOk result (LeavesAtMost room) }
     ensures count { R.failures source.new ≡ count_after (is_io result) (R.failures source.old) }
     ensures same { R.through source.new ≡ R.through source.old }
@@ -134,6 +137,7 @@ fn room_of_body<R: Source>(source: &mut R) -> Result<u64, Error>
     ensures room { IfOk result (λ room. WhereTold (R.left source.old) (R.left source.new)
         (λ xs ys. webp_answer xs ≡ body_answer room ys)) }
     ensures refused { IfErr result (λ e. IfSome (R.left source.old) (λ xs. Fails e (webp_answer xs))) }
+    ensures named { IfErr result (IsNamed webp_refusals) }
     ensures no_memory { result ≢ Err OutOfMemory }
     ensures count { R.failures source.new ≡ count_after (is_io result) (R.failures source.old) }
     ensures same { R.through source.new ≡ R.through source.old }
@@ -156,6 +160,9 @@ fn next_chunk<R: Source>(alloc: Global, source: &mut R, room: u64) -> Result<Ste
     ensures chunk { IfOk result (λ step. WhereTold (R.left source.old) (R.left source.new)
         (λ xs ys. chunk_at room xs ≡ Ok (chunk_of step ys))) }
     ensures refused { IfErr result (λ e. IfSome (R.left source.old) (λ xs. Fails e (chunk_at room xs))) }
+    ensures named { IfErr result (IsNamed webp_refusals) }
+    ensures memory { IfErr result (λ e. e ≡ OutOfMemory → IfSome (R.left source.old)
+        (λ xs. IsPayload (chunk_at room xs))) }
     ensures fewer { IfOk result (LeavesAtMost (room - 8)) }
     ensures room { OnOk result (8 ≤ room) }
     ensures count { R.failures source.new ≡ count_after (is_io result) (R.failures source.old) }
@@ -173,11 +180,15 @@ fn next_chunk<R: Source>(alloc: Global, source: &mut R, room: u64) -> Result<Ste
 ///
 /// Refusals: `Not a WebP file`, `Invalid header file size`, `Chunk overflowing parent`, NotFound `WebP`
 /// where the file's body is used up, and `Broken WebP file` where the bytes end before. What is skipped
-/// takes no memory. After an error, how far the source was read is left open.
+/// takes no memory: the want of it is told only where a payload is collected. After an error, how far the
+/// source was read is left open.
 pub fn get_exif_attr<R: Source>(alloc: Global, source: &mut R) -> Result<Vec<u8>, Error>
     ensures found { IfOk result (λ v. WhereTold (R.left source.old) (R.left source.new)
         (λ xs ys. webp_answer xs ≡ found v.items ys)) }
     ensures refused { IfErr result (λ e. IfSome (R.left source.old) (λ xs. Fails e (webp_answer xs))) }
+    ensures named { IfErr result (IsNamed webp_refusals) }
+    ensures memory { IfErr result (λ e. e ≡ OutOfMemory → IfSome (R.left source.old)
+        (λ xs. IsCollected broken_webp (webp_answer xs))) }
     ensures count { R.failures source.new ≡ count_after (is_io result) (R.failures source.old) }
     ensures same { R.through source.new ≡ R.through source.old }
 {

@@ -1,9 +1,11 @@
 //! The Exif data of a HEIF file.
 
-ghost use Rattle.std.specs.Prelude.{◌≡◌, false, IfSome};
+ghost use Rattle.std.specs.Prelude.{◌≡◌, false, IfErr, IfSome};
 ghost use Rattle.exif_base.specs.Device.{count_after};
 ghost use Rattle.exif_types.specs.Refusals.{Gives, is_io};
+ghost use Rattle.exif_containers.specs.Answer.{IsNamed};
 ghost use Rattle.exif_containers.specs.Heif.{exif_block, exif_of};
+ghost use Rattle.exif_containers.specs.HeifRefusals.{heif_refusals};
 
 use crate::isobmff::BoxSplitter;
 use crate::isobmff::extents::{after_header, item_bytes};
@@ -48,10 +50,11 @@ pub fn exif_of_file(alloc: Global, file: &[u8]) -> Result<Vec<u8>, Error>
 
 /// The Exif data of a file, which is taken into memory whole.
 ///
-/// Places in the file count from where the source stood. After an error, how far the source was read is
-/// left open.
+/// Places in the file count from where the source stood. Refusals are those of `exif_of_file`. After an
+/// error, how far the source was read is left open.
 pub fn get_exif_attr<R: Source>(alloc: Global, source: &mut R) -> Result<Vec<u8>, Error>
     ensures gives { IfSome (R.left source.old) (λ file. Gives (λ v. v.items) result (exif_of file)) }
+    ensures named { IfErr result (IsNamed heif_refusals) }
     ensures count { R.failures source.new ≡ count_after (is_io result) (R.failures source.old) }
     ensures same { R.through source.new ≡ R.through source.old }
 {

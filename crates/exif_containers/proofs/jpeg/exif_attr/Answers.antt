@@ -1,7 +1,9 @@
-use Rattle.std.proofs.Common.{rules}
+use Rattle.std.proofs.Common.{rules, arith, refl}
 use Rattle.std.proofs.lemmas.Result.{err_from_is_err_and}
+use Rattle.exif_containers.specs.Answer.{IsCollected}
+use Rattle.exif_containers.specs.Jpeg.{broken_jpeg}
 use Rattle.exif_containers.specs.declared.jpeg.TheConstants.{LIMIT}
-use Rattle.exif_containers.proofs.JpegMoves.{jpeg_short, jpeg_other, jpeg_found}
+use Rattle.exif_containers.proofs.JpegMoves.{jpeg_short, jpeg_other, jpeg_found, jpeg_holds}
 use Rattle.exif_containers.proofs.jpeg.exif_attr.Goals as goal
 
 pub returns-in_err-fill-clause-refused : goal.returns-in_err-fill-clause-refused
@@ -17,3 +19,11 @@ pub returns-in-Some-clause-found : goal.returns-in-Some-clause-found
 returns-in-Some-clause-found g c =
     jpeg_found c.in-Some.payload.items (g.R.Source.left c.args.source.now) (g.R.Source.left c.loop-payload.source) (g.R.Source.left c.next_unit.new.source) LIMIT c.loop-payload.budget c.next_unit.new.budget
     c.loop-payload.invariant.passed (rw c.in-Some.is at c.in_ok-payload.ensures.taken)
+
+pub returns-then-ne-clause-named : goal.returns-then-ne-clause-named
+returns-then-ne-clause-named g c = (1, omega arith, refl)
+
+pub returns-in_err-payload-clause-memory : goal.returns-in_err-payload-clause-memory
+returns-in_err-payload-clause-memory g c =
+    let p = err_from_is_err_and c.from_residual-in_err-payload.result c.from_residual-in_err-payload.ensures.1 in
+    rw (p.1, p.2) (λ h. jpeg_holds (IsCollected broken_jpeg) (g.R.Source.left c.args.source.now) (g.R.Source.left c.loop-payload.source) LIMIT c.loop-payload.budget c.loop-payload.invariant.passed (c.in_err-payload.ensures.memory h))

@@ -1,6 +1,9 @@
-use Rattle.std.proofs.Common.{rules}
+use Rattle.std.proofs.Common.{rules, arith, refl}
 use Rattle.std.proofs.lemmas.Result.{err_from_is_err_and}
-use Rattle.exif_containers.proofs.JpegMoves.{unit_soi, unit_eoi, unit_none, unit_segment, short_refuses, segment_refuses}
+use Rattle.exif_types.specs.Refusals.{Fails}
+use Rattle.exif_containers.specs.Answer.{IsCollected}
+use Rattle.exif_containers.specs.Jpeg.{broken_jpeg}
+use Rattle.exif_containers.proofs.JpegMoves.{unit_soi, unit_eoi, unit_none, unit_segment, short_refuses, segment_holds}
 use Rattle.exif_containers.proofs.jpeg.next_unit.Goals as goal
 
 pub returns-in-216-clause-refused : goal.returns-in-216-clause-refused
@@ -27,4 +30,16 @@ pub returns-in_err-payload-in_default-2-clause-refused :
     goal.returns-in_err-payload-in_default-2-clause-refused
 returns-in_err-payload-in_default-2-clause-refused g c =
     let p = err_from_is_err_and c.from_residual-in_err-payload-in_default-2.result c.from_residual-in_err-payload-in_default-2.ensures.1 in
-    rw (p.1, p.2) (segment_refuses _ (g.R.Source.left c.args.source.now) _ c.args.budget.now _ c.in_ok-code.code c.in_ok-code.ensures.taken c.in_err-payload-in_default-2.ensures.refused)
+    rw (p.1, p.2) (segment_holds (Fails c.in_err-payload-in_default-2.field-0.0) (g.R.Source.left c.args.source.now) _ c.args.budget.now _ c.in_ok-code.code c.in_ok-code.ensures.taken c.in_err-payload-in_default-2.ensures.refused)
+
+pub returns-in_err-payload-in_default-2-clause-memory :
+    goal.returns-in_err-payload-in_default-2-clause-memory
+returns-in_err-payload-in_default-2-clause-memory g c =
+    let p = err_from_is_err_and c.from_residual-in_err-payload-in_default-2.result c.from_residual-in_err-payload-in_default-2.ensures.1 in
+    rw (p.1, p.2) (λ h. segment_holds (IsCollected broken_jpeg) (g.R.Source.left c.args.source.now) _ c.args.budget.now _ c.in_ok-code.code c.in_ok-code.ensures.taken (c.in_err-payload-in_default-2.ensures.memory h))
+
+pub returns-in-216-clause-named : goal.returns-in-216-clause-named
+returns-in-216-clause-named g c = (2, omega arith, refl)
+
+pub returns-in-217-clause-named : goal.returns-in-217-clause-named
+returns-in-217-clause-named g c = (4, omega arith, refl)

@@ -1,4 +1,4 @@
-use Rattle.std.proofs.Common.{rules}
+use Rattle.std.proofs.Common.{rules, arith, refl}
 use Rattle.exif_containers.proofs.WebpChunks.{webp_other, webp_small, webp_body}
 use Rattle.exif_containers.proofs.webp.room_of_body.Goals as goal
 
@@ -13,3 +13,9 @@ returns-then-size-lt4-clause-refused g c =
 pub returns-clause-room : goal.returns-clause-room
 returns-clause-room g c = rw c.from.ensures
     (webp_body _ _ c.fill.new.buf c.loadu32-size.result (search rules) (search rules) c.loadu32-size.ensures c.if-size-lt4.false c.in_ok-fill.ensures.taken)
+
+pub returns-then-not-is_webp-clause-named : goal.returns-then-not-is_webp-clause-named
+returns-then-not-is_webp-clause-named g c = (1, omega arith, refl)
+
+pub returns-then-size-lt4-clause-named : goal.returns-then-size-lt4-clause-named
+returns-then-size-lt4-clause-named g c = (2, omega arith, refl)
