@@ -1,5 +1,5 @@
 -- One reading gives no more than its entries.
-use Rattle.std.proofs.Common.{◌≡◌, ◌≤◌, ◌+◌, ℕ, Bool, true, false, List, [], ◌∷◌, length, map, Option, Some, None, Result, Ok, Err, sym, ap, ◌∙◌, subst, add-zero}
+use Rattle.std.proofs.Common.{◌≡◌, ◌≤◌, ◌+◌, ℕ, Bool, true, false, List, [], ◌∷◌, length, map, Option, Some, None, Result, Ok, Err, sym, ap, ◌∙◌, subst, add-zero, arith}
 use Rattle.std.proofs.lemmas.List.{length-map}
 use Rattle.std.specs.Prelude.{Vec, ⊤}
 use Rattle.std.specs.Borrow.{Bor}
@@ -13,9 +13,17 @@ use Rattle.exif_types.specs.declared.field.Field.{Field}
 use Rattle.exif_format.specs.Answers.{Answer, Refused, Whole, Partial, answer_of, raw_answer}
 use Rattle.exif_format.specs.Faults.{text_of}
 use Rattle.exif_format.specs.Trace.{Node, content_of, fields_of, faults_of, limited, header, ordered_trace, trace}
+use Rattle.exif_format.specs.Visits.{AreBytes, VisitsAreBounded, ReportsAreBoundedUnder, LimitAndLengthBoundReports}
 use Rattle.exif_format.specs.declared.fault.Fault.{Fault}
 use Rattle.exif.specs.Bounds.{IsBounded, ReportsAtMost, FieldsAtMost}
 use Rattle.exif.specs.Readings.{ReadsAs, ParsesAs}
+
+-- what holds of each reading's number of fields and faults
+pub is_bounded : (limit : Option ℕ) (bytes : List ℕ) → AreBytes bytes → ((bytes : List ℕ) → VisitsAreBounded bytes)
+    → ((limit : Option ℕ) (bytes : List ℕ) → ReportsAreBoundedUnder limit bytes) → ((n : ℕ) (bytes : List ℕ) → LimitAndLengthBoundReports n bytes)
+    → IsBounded limit bytes (length (fields_of (limited limit (trace bytes))) + length (faults_of (limited limit (trace bytes))))
+is_bounded (Some n) bytes a visits any_limit least = record { by_visits = any_limit (Some n) bytes; by_length = omega (arith, least n bytes a) }
+is_bounded None bytes a visits any_limit least = record { by_visits = any_limit None bytes; by_length = omega (arith, any_limit None bytes, visits bytes a) }
 
 -- what holds of the number of an answer's fields and faults
 abbrev OfReports : (ℕ → Type 0) → Answer → Type 0

@@ -7,9 +7,9 @@ use Rattle.exif.specs.Files.{StrictIsFirstFaultOfFile}
 
 by_container : (limit : Option ℕ) → ((bytes : List ℕ) → StrictIsFirstFault limit bytes) → (container : Result (List ℕ) Refusal)
     → (container >>= λ bytes. Ok (raw_answer false limit bytes)) ≡ ((container >>= λ bytes. Ok (raw_answer true limit bytes)) >>= λ answer. Ok (first_fault answer))
-by_container limit data (Err r) = refl
-by_container limit data (Ok bytes) = ap (λ (answer : Answer). Ok answer) (data bytes)
+by_container limit holds (Err r) = refl
+by_container limit holds (Ok bytes) = ap (λ (answer : Answer). Ok answer) (holds bytes)
 
 -- what holds of data holds of the files that hold them
 pub first_fault_of_file : (limit : Option ℕ) (bytes : List ℕ) → ((bytes : List ℕ) → StrictIsFirstFault limit bytes) → StrictIsFirstFaultOfFile limit bytes
-first_fault_of_file limit bytes data = by_container limit data (container_answer bytes)
+first_fault_of_file limit bytes data = by_container limit holds (container_answer bytes)

@@ -5,6 +5,7 @@ pub mod Outcomes
 pub mod Owned
 pub mod RunSteps
 pub mod Turns
+pub mod Unlimited
 pub mod WriterCounted
 pub mod WriterGrowth
 pub mod WriterRanges
@@ -20,6 +21,5 @@ pub mod WriterPlanned
 pub mod WriterRunning
 pub mod WriterSent
 pub mod WriterSizes
-pub mod WriterSpelled
 pub mod WriterTails
 pub mod FileLaws

@@ -1,6 +1,6 @@
 //! TIFF data: the header, and the fields behind it (TIFF 6.0, section 2).
 
-ghost use Rattle.std.specs.Prelude.{◌≡◌, ◌≤◌, ◌<◌, ◌^◌, length, IfOk, OnOk, None, false};
+ghost use Rattle.std.specs.Prelude.{◌≡◌, ◌≤◌, ◌<◌, ◌^◌, length, IfOk, OnOk, None, Some, false};
 ghost use Rattle.exif_format.specs.Trace.{header, content_of, cut, ordered_trace};
 ghost use Rattle.exif_format.specs.Answers.{answer_of, raw_answer};
 ghost use Rattle.exif.specs.Bounds.{FieldsAtMost};
@@ -12,7 +12,9 @@ use crate::parser::Parser;
 use crate::stop::Stop;
 use exif_base::{BigEndian, Endian, LittleEndian, Order};
 use exif_format::Fault;
-use exif_format::laws::{answers_show_what_was_read, reading_is_bounded};
+use exif_format::laws::{
+    answers_show_what_was_read, limits_cut_readings, reading_is_bounded,
+};
 use exif_types::{Error, Field};
 use std::alloc::Global;
 
@@ -74,19 +76,30 @@ fn parse_in<E: Endian>(
     })
 }
 
-/// Reads TIFF data, strictly or leniently, and up to a limit on the visited entries.
-pub fn parse(alloc: Global, bytes: &[u8], lenient: bool, limit: Option<u64>) -> Result<Parsed, Stop>
-    ensures says { Says result (raw_answer lenient limit bytes.now) }
+// Reads TIFF data, up to so many visited entries.
+fn parse_within(alloc: Global, bytes: &[u8], lenient: bool, most: u64) -> Result<Parsed, Stop>
+    ensures says { Says result (raw_answer lenient (Some most) bytes.now) }
     ensures order { SaysOrder result bytes.now }
     ensures memory { WantsMemory result bytes.now }
 {
-    // No data have as many entries as this, so that it limits nothing.
-    let most = limit.unwrap_or(u64::MAX);
     match header(bytes) {
         Ok(Order::Big) => parse_in::<BigEndian>(alloc, bytes, lenient, most, false),
         Ok(Order::Little) => parse_in::<LittleEndian>(alloc, bytes, lenient, most, true),
         Err(fault) => Err(Stop::Fault(fault)),
     }
+}
+
+/// Reads TIFF data, strictly or leniently, and up to a limit on the visited entries. No data have as
+/// many entries as a limit can say, so that the greatest one limits nothing.
+pub fn parse(alloc: Global, bytes: &[u8], lenient: bool, limit: Option<u64>) -> Result<Parsed, Stop>
+    ensures says { Says result (raw_answer lenient limit bytes.now) }
+    ensures order { SaysOrder result bytes.now }
+    ensures memory { WantsMemory result bytes.now }
+{
+    show_bytes(bytes);
+    reading_is_bounded();
+    limits_cut_readings();
+    parse_within(alloc, bytes, lenient, limit.unwrap_or(u64::MAX))
 }
 
 /// Reads TIFF data strictly: the fields, and whether the data are little endian. The first fault

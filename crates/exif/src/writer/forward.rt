@@ -10,7 +10,6 @@ use exif_base::{BigEndian, Endian, LittleEndian, Order, Sink, send_all};
 use std::io;
 
 // The 2 bytes that spell a number.
-#[tactic(auto, using(crate::proofs::WriterSpelled::spelled_alone))]
 fn spelled_u16(order: Order, x: u16) -> [u8; 2]
     ensures { result ≡ spelled order 2 x }
 {
@@ -23,7 +22,6 @@ fn spelled_u16(order: Order, x: u16) -> [u8; 2]
 }
 
 // The 4 bytes that spell a number.
-#[tactic(auto, using(crate::proofs::WriterSpelled::spelled_alone))]
 fn spelled_u32(order: Order, x: u32) -> [u8; 4]
     ensures { result ≡ spelled order 4 x }
 {
@@ -36,7 +34,6 @@ fn spelled_u32(order: Order, x: u32) -> [u8; 4]
 }
 
 // The 8 bytes that spell a number.
-#[tactic(auto, using(crate::proofs::WriterSpelled::spelled_alone))]
 fn spelled_u64(order: Order, x: u64) -> [u8; 8]
     ensures { result ≡ spelled order 8 x }
 {

@@ -1,12 +1,12 @@
-use Rattle.std.proofs.Common.{sym, ◌∙◌}
-use Rattle.exif.proofs.Answered.{raw_right, raw_wrong}
+use Rattle.std.proofs.Common.{sym, subst}
+use Rattle.exif_format.specs.Answers.{Answer}
+use Rattle.exif.specs.Results.{Says}
+use Rattle.exif.proofs.Unlimited.{unlimited}
 use Rattle.exif.proofs.tiff.parse.Goals as goal
 
-pub returns-in-Ok-Big-clause-says : goal.returns-in-Ok-Big-clause-says
-returns-in-Ok-Big-clause-says c = rw (raw_right c.args.lenient c.args.limit c.args.bytes.now _ (sym c.header.ensures.value ∙ c.in-Ok-Big.is), c.in-Ok-Big.field-0-is) c.parse_in.ensures.says
-
-pub returns-in-Ok-Little-clause-says : goal.returns-in-Ok-Little-clause-says
-returns-in-Ok-Little-clause-says c = rw (raw_right c.args.lenient c.args.limit c.args.bytes.now _ (sym c.header.ensures.value ∙ c.in-Ok-Little.is), c.in-Ok-Little.field-0-is) c.parse_in-in-Ok-Little.ensures.says
-
-pub returns-in-Err-clause-says : goal.returns-in-Err-clause-says
-returns-in-Err-clause-says c = raw_wrong c.args.lenient c.args.limit c.args.bytes.now c.in-Err.fault (sym c.header.ensures.value ∙ c.in-Err.is)
+pub returns-clause-says : goal.returns-clause-says
+returns-clause-says c =
+    let P : Answer → Type 0 = λ answer. Says c.parse_within.result answer in
+    subst P (sym (unlimited c.args.lenient c.args.limit c.args.bytes.now c.unwrap_or.result c.unwrap_or.ensures
+    (c.reading_is_bounded.ensures.visits c.args.bytes.now c.show_bytes.ensures) (λ n. c.limits_cut_readings.ensures.unchanged n c.args.bytes.now)))
+    c.parse_within.ensures.says

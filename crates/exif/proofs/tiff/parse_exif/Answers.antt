@@ -1,5 +1,10 @@
-use Rattle.exif.proofs.Bounded.{parses_at_most}
+use Rattle.std.proofs.Common.{None}
+use Rattle.exif.proofs.Bounded.{is_bounded, parses_bounded}
 use Rattle.exif.proofs.tiff.parse_exif.Goals as goal
 
 pub returns-clause-bounded : goal.returns-clause-bounded
-returns-clause-bounded c = parses_at_most c.args.bytes.now c.parse_strictly.result c.show_bytes.ensures c.parse_strictly.ensures
+returns-clause-bounded c =
+    let laws = c.reading_is_bounded.ensures in
+    parses_bounded c.args.bytes.now c.parse_strictly.result
+    (is_bounded None c.args.bytes.now c.show_bytes.ensures laws.visits laws.any_limit laws.least)
+    c.parse_strictly.ensures

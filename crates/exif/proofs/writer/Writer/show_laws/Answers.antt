@@ -35,4 +35,4 @@ returns-clause-each_order c = λ plain few.
 
 pub returns-clause-contained : goal.returns-clause-contained
 returns-clause-contained c =
-    c.tiff_data_stand_alone.ensures (image (written_order c.args.little_endian) c.args.self.now) (begins_image (written_order c.args.little_endian) c.args.self.now)
+    c.tiff_data_stand_alone.ensures.whole (image (written_order c.args.little_endian) c.args.self.now) (begins_image (written_order c.args.little_endian) c.args.self.now)
