@@ -12,7 +12,9 @@ use Rattle.exif_types.specs.declared.tag.Context.TheVariants.{Tiff}
 use Rattle.exif_format.specs.declared.fault.Fault.{Fault}
 use Rattle.exif_format.specs.declared.fault.Fault.TheVariants.{UnexpectedNext, TooManyDirectories}
 use Rattle.exif_format.specs.Trace.{Node, Visit, Found, Met, Directory, visits_of, fields_of, faults_of, cut, trace, ordered_trace, header, chain_nodes, chain_after, directory_nodes, directory_end, entry_nodes, entry_places, entry_value, valued_nodes, tagged_nodes, pointer_nodes, child_end, child_of}
-use Rattle.exif_format.specs.Visits.{LimitBoundsReports}
+use Rattle.exif_format.specs.Visits.{ReportsAreBoundedUnder, LimitBoundsReports, LimitAndLengthBoundReports}
+use Rattle.exif_format.proofs.VisitBound.{visits_bounded}
+use Rattle.exif_format.proofs.Limits.{visits_limited}
 use Rattle.exif_format.proofs.ReportBound.{Reports, directory_reports, entry_reports, trace_reports}
 
 -- after v visits and r fields and faults, there are no more of these than visits before each further visit
@@ -110,18 +112,25 @@ unfolding ordered_trace
 by_header (Err fault) bytes = record { paid = tt }
 by_header (Ok order) bytes = chain_paid 8 (number_of order) bytes 0 (number_at (number_of order) 4 bytes 4)
 
--- a paid trace, cut before the visit after the first n
-cut_bound : (n v r : ℕ) (nodes : List Node) → PaidFrom v r nodes → r + (length (fields_of nodes) + length (faults_of nodes)) ≤ v + visits_of nodes + 1
-    → r + (length (fields_of (cut n nodes)) + length (faults_of (cut n nodes))) ≤ v + n + 1
-cut_bound n v r [] p all = omega arith
-cut_bound zero v r (Visit ∷ nodes) p all = omega (arith, p.0)
-cut_bound (suc n) v r (Visit ∷ nodes) p all = omega (arith, cut_bound n (v + 1) r nodes p.1 (omega arith))
-cut_bound n v r (Found field ∷ nodes) p all = omega (arith, cut_bound n v (r + 1) nodes p (omega arith))
-cut_bound n v r (Met fault ∷ nodes) p all = omega (arith, cut_bound n v (r + 1) nodes p (omega arith))
+-- a paid trace has no more fields and faults than visits and one, also where it is cut
+cut_reports : (n v r : ℕ) (nodes : List Node) → PaidFrom v r nodes → r + (length (fields_of nodes) + length (faults_of nodes)) ≤ v + visits_of nodes + 1
+    → r + (length (fields_of (cut n nodes)) + length (faults_of (cut n nodes))) ≤ v + visits_of (cut n nodes) + 1
+cut_reports n v r [] p all = all
+cut_reports zero v r (Visit ∷ nodes) p all = omega (arith, p.0)
+cut_reports (suc n) v r (Visit ∷ nodes) p all = omega (arith, cut_reports n (v + 1) r nodes p.1 (omega arith))
+cut_reports n v r (Found field ∷ nodes) p all = omega (arith, cut_reports n v (r + 1) nodes p (omega arith))
+cut_reports n v r (Met fault ∷ nodes) p all = omega (arith, cut_reports n v (r + 1) nodes p (omega arith))
+
+trace_paid : (bytes : List ℕ) → PaidFrom 0 0 (trace bytes)
+unfolding trace
+trace_paid bytes = (by_header (header bytes) bytes).paid
+
+pub reports_bounded_under : (limit : Option ℕ) (bytes : List ℕ) → ReportsAreBoundedUnder limit bytes
+reports_bounded_under None bytes = (trace_reports bytes).bound
+reports_bounded_under (Some n) bytes = omega (arith, cut_reports n 0 0 (trace bytes) (trace_paid bytes) (omega (arith, (trace_reports bytes).bound)))
 
 pub limit_bounds : (n : ℕ) (bytes : List ℕ) → LimitBoundsReports n bytes
-unfolding trace
-limit_bounds n bytes =
-    let all = trace_reports bytes in
-    let paid = (by_header (header bytes) bytes).paid in
-    omega (arith, cut_bound n 0 0 (trace bytes) paid (omega (arith, all.bound)))
+limit_bounds n bytes = omega (arith, reports_bounded_under (Some n) bytes, visits_limited n (trace bytes))
+
+pub limit_and_length_bound : (n : ℕ) (bytes : List ℕ) → LimitAndLengthBoundReports n bytes
+limit_and_length_bound n bytes h = omega (arith, reports_bounded_under (Some n) bytes, visits_limited n (trace bytes), visits_bounded bytes h)

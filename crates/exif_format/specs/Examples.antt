@@ -1,12 +1,13 @@
 -- Worked examples: the definitions compute what small files hold.
-use Rattle.std.specs.Prelude.{Some, take, negsuc, ℕ, ◌≡◌, refl, List, [], ◌∷◌, Ok, Err, codes}
+use Rattle.std.specs.Prelude.{true, false, None, Some, take, negsuc, ℕ, ◌≡◌, refl, List, [], ◌∷◌, Ok, Err, codes}
 use Rattle.exif_types.specs.Texts.{texts}
 use Rattle.exif_types.specs.Lookup.{last_named}
 use Rattle.exif_format.specs.Trace.{Visit, Found, Met, trace, ordered_trace, header, fields_of, faults_of, visits_of, cut}
+use Rattle.exif_format.specs.Answers.{Refused, Whole, Partial, raw_answer}
 use Rattle.exif_types.specs.declared.value.Value.TheVariants as value
 use Rattle.exif_types.specs.declared.tag.Context.TheVariants.{Tiff, Exif}
 use Rattle.exif_types.specs.declared.field.Field.{Field}
-use Rattle.exif_format.specs.declared.fault.Fault.TheVariants.{TruncatedHeader, TruncatedDirectory, TruncatedValue, InvalidPointer, TooManyDirectories, UnexpectedNext, TruncatedCount, TooManyEntries}
+use Rattle.exif_format.specs.declared.fault.Fault.TheVariants.{TruncatedHeader, InvalidByteOrder, InvalidFortyTwo, TruncatedNextOffset, TruncatedDirectory, TruncatedValue, InvalidPointer, TooManyDirectories, UnexpectedNext, TruncatedCount, TooManyEntries}
 use Rattle.exif_base.specs.declared.endian.Order.TheVariants.{Big}
 
 texts_a : texts (65 ∷ []) ≡ (65 ∷ []) ∷ []
@@ -132,7 +133,10 @@ unfolding trace ordered_trace
 cut_value = refl
 
 -- a pointer that is signed, and one without a number
-wrong_pointers : trace (77 ∷ 77 ∷ 0 ∷ 42 ∷ 0 ∷ 0 ∷ 0 ∷ 8 ∷ 0 ∷ 2 ∷ 135 ∷ 105 ∷ 0 ∷ 9 ∷ 0 ∷ 0 ∷ 0 ∷ 1 ∷ 0 ∷ 0 ∷ 0 ∷ 26 ∷ 135 ∷ 105 ∷ 0 ∷ 4 ∷ 0 ∷ 0 ∷ 0 ∷ 0 ∷ 0 ∷ 0 ∷ 0 ∷ 26 ∷ 0 ∷ 0 ∷ 0 ∷ 0 ∷ []) ≡ Visit ∷ Met InvalidPointer ∷ Visit ∷ Met InvalidPointer ∷ []
+abbrev wrong_pointers_data : List ℕ
+wrong_pointers_data = 77 ∷ 77 ∷ 0 ∷ 42 ∷ 0 ∷ 0 ∷ 0 ∷ 8 ∷ 0 ∷ 2 ∷ 135 ∷ 105 ∷ 0 ∷ 9 ∷ 0 ∷ 0 ∷ 0 ∷ 1 ∷ 0 ∷ 0 ∷ 0 ∷ 26 ∷ 135 ∷ 105 ∷ 0 ∷ 4 ∷ 0 ∷ 0 ∷ 0 ∷ 0 ∷ 0 ∷ 0 ∷ 0 ∷ 26 ∷ 0 ∷ 0 ∷ 0 ∷ 0 ∷ []
+
+wrong_pointers : trace wrong_pointers_data ≡ Visit ∷ Met InvalidPointer ∷ Visit ∷ Met InvalidPointer ∷ []
 unfolding trace ordered_trace
 wrong_pointers = refl
 
@@ -145,3 +149,53 @@ next_of_child = refl
 cut_directory : trace (77 ∷ 77 ∷ 0 ∷ 42 ∷ 0 ∷ 0 ∷ 0 ∷ 8 ∷ 0 ∷ 2 ∷ 1 ∷ 0 ∷ 0 ∷ 3 ∷ 0 ∷ 0 ∷ 0 ∷ 1 ∷ 0 ∷ 20 ∷ 0 ∷ 0 ∷ 1 ∷ 1 ∷ 0 ∷ 3 ∷ 0 ∷ 0 ∷ 0 ∷ 1 ∷ 0 ∷ 21 ∷ 0 ∷ []) ≡ Visit ∷ Found (width 0 20) ∷ Met TruncatedDirectory ∷ []
 unfolding trace ordered_trace
 cut_directory = refl
+
+-- neither byte order, the number 42 in the wrong order, and another number
+wrong_order : header (77 ∷ 73 ∷ 0 ∷ 42 ∷ 0 ∷ 0 ∷ 0 ∷ 0 ∷ []) ≡ Err InvalidByteOrder
+wrong_order = refl
+
+swapped_mark : header (73 ∷ 73 ∷ 0 ∷ 42 ∷ 8 ∷ 0 ∷ 0 ∷ 0 ∷ []) ≡ Err InvalidFortyTwo
+swapped_mark = refl
+
+wrong_mark : header (77 ∷ 77 ∷ 0 ∷ 43 ∷ 0 ∷ 8 ∷ 0 ∷ 0 ∷ []) ≡ Err InvalidFortyTwo
+wrong_mark = refl
+
+-- a hard fault in both modes
+short_lenient : raw_answer true None (take 7 empty_data) ≡ Refused TruncatedHeader
+unfolding raw_answer
+short_lenient = refl
+
+short_strict : raw_answer false None (take 7 empty_data) ≡ Refused TruncatedHeader
+unfolding raw_answer
+short_strict = refl
+
+-- a directory whose count lacks a byte, and one whose next place lacks one
+cut_count : trace (77 ∷ 77 ∷ 0 ∷ 42 ∷ 0 ∷ 0 ∷ 0 ∷ 8 ∷ 0 ∷ []) ≡ Met TruncatedCount ∷ []
+unfolding trace ordered_trace
+cut_count = refl
+
+cut_next : trace (take 25 circle) ≡ Visit ∷ Found (width 0 20) ∷ Met TruncatedNextOffset ∷ []
+unfolding trace ordered_trace
+cut_next = refl
+
+-- a limit of six entries lets all of six be read, and one of five does not
+shared_child_within : raw_answer false (Some 6) shared_child ≡ Whole (width 0 20 ∷ width 0 21 ∷ exif_version ∷ exif_version ∷ [])
+unfolding raw_answer ordered_trace
+shared_child_within = refl
+
+shared_child_lenient : raw_answer true (Some 5) shared_child ≡ Partial (width 0 20 ∷ width 0 21 ∷ exif_version ∷ []) (TooManyEntries ∷ [])
+unfolding raw_answer ordered_trace
+shared_child_lenient = refl
+
+shared_child_strict : raw_answer false (Some 5) shared_child ≡ Refused TooManyEntries
+unfolding raw_answer ordered_trace
+shared_child_strict = refl
+
+-- a fault before the limit is strict reading's answer
+pointer_then_limit : raw_answer true (Some 1) wrong_pointers_data ≡ Partial [] (InvalidPointer ∷ TooManyEntries ∷ [])
+unfolding raw_answer ordered_trace
+pointer_then_limit = refl
+
+pointer_before_limit : raw_answer false (Some 1) wrong_pointers_data ≡ Refused InvalidPointer
+unfolding raw_answer ordered_trace
+pointer_before_limit = refl

@@ -9,6 +9,7 @@ pub mod Groups
 pub mod Image
 pub mod ImageExamples
 pub mod Layout
+pub mod Limits
 pub mod Measuring
 pub mod Places
 pub mod Pushing
@@ -19,6 +20,7 @@ pub mod Refused
 pub mod Rewriting
 pub mod Scrubbing
 pub mod Slots
+pub mod SoftFaults
 pub mod Trace
 pub mod Visits
 pub mod WriteFaults

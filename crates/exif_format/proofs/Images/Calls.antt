@@ -1,5 +1,5 @@
 -- What calls make of groups, in closed form.
-use Rattle.std.proofs.Common.{◌≡◌, ◌∙◌, ℕ, zero, suc, ◌+◌, ◌<◌, max, List, [], ◌∷◌, ◌++◌, length, map, refl, sym, ap, subst, arith, Bool, true, false, cond, Option, Some, None}
+use Rattle.std.proofs.Common.{◌≡◌, ◌∙◌, ℕ, suc, ◌+◌, ◌<◌, max, List, [], ◌∷◌, ◌++◌, length, map, refl, sym, ap, arith, Bool, true, false, cond, Option, Some, None}
 use Rattle.std.specs.Prelude.{if◌then◌else◌, ◌==◌, ◌&&◌, not}
 use Rattle.std.specs.List.{filter, filter_map, cons_option, last_or, range_with_len}
 use Rattle.std.proofs.lemmas.Bool.{eqb-true, eqb-false}
@@ -8,7 +8,7 @@ use Rattle.exif_types.specs.Lookup.{context_eq}
 use Rattle.exif_types.specs.declared.tag.Context.{Context}
 use Rattle.exif_types.specs.declared.tag.Context.TheVariants.{Tiff, Exif, Gps, Interop}
 use Rattle.exif_types.specs.declared.field.Field.{Field}
-use Rattle.exif_format.specs.Groups.{Group, Entry, entry_of, is_ignored, pushed, pushed_in, changed, with_entry, with_strips, with_tiles, with_jpeg}
+use Rattle.exif_format.specs.Groups.{Group, entry_of, is_ignored, pushed, pushed_in, changed, with_entry, with_strips, with_tiles, with_jpeg}
 use Rattle.exif_format.specs.Rewriting.{BlocksOf}
 use Rattle.exif_format.specs.Calls.{Call, Push, SetStrips, SetTiles, SetJpeg, after_call, after_calls, made, field_pushed, goes_into, entries_in, strips_in, tiles_in, jpeg_in, directories_of, directories, group_made, IsMadeOf}
 use Rattle.exif_format.proofs.Images.Pushing.{group_at, changed_same, changed_other, changed_keeps, length-changed, entries_added, pushed_entries, pushed_blocks, or_else}

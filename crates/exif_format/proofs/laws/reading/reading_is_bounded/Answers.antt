@@ -1,4 +1,4 @@
-use Rattle.exif_format.proofs.LimitBound.{limit_bounds}
+use Rattle.exif_format.proofs.LimitBound.{reports_bounded_under, limit_bounds, limit_and_length_bound}
 use Rattle.exif_format.proofs.VisitBound.{visits_bounded}
 use Rattle.exif_format.proofs.ReportBound.{reports_bounded}
 use Rattle.exif_format.proofs.laws.reading.reading_is_bounded.Goals as goal
@@ -9,5 +9,11 @@ returns-clause-visits c = visits_bounded
 pub returns-clause-reports : goal.returns-clause-reports
 returns-clause-reports c = reports_bounded
 
+pub returns-clause-any_limit : goal.returns-clause-any_limit
+returns-clause-any_limit c = reports_bounded_under
+
 pub returns-clause-limited : goal.returns-clause-limited
 returns-clause-limited c = limit_bounds
+
+pub returns-clause-least : goal.returns-clause-least
+returns-clause-least c = limit_and_length_bound
