@@ -25,4 +25,5 @@ pub mod Laid
 pub mod Laws
 pub mod Members
 pub mod Pushed
+pub mod Held
 pub mod Scrubbed

@@ -42,9 +42,13 @@ abbrev pub goes_into : ℕ → Context → Field → Bool
 goes_into ifd context field =
     not (is_ignored field.tag.0 field.tag.1) && ((field.ifd_num.0 == ifd) && context_eq field.tag.0 context)
 
--- the entries of that directory: what was pushed into it, in push order
+-- the entries of that directory: what is pushed into it, in push order
+abbrev pub entries_into : ℕ → Context → List Field → List Entry
+entries_into ifd context fields = map entry_of (filter (goes_into ifd context) fields)
+
+-- those that calls push
 abbrev pub entries_in : List Call → ℕ → Context → List Entry
-entries_in calls ifd context = map entry_of (filter (goes_into ifd context) (filter_map field_pushed calls))
+entries_in calls ifd context = entries_into ifd context (filter_map field_pushed calls)
 
 -- the strips, the tiles and the JPEG that a call sets in a directory
 abbrev pub strips_in : ℕ → Call → Option (List (List ℕ))

@@ -1,16 +1,19 @@
 -- What is promised of the groups that pushing fields makes, and of the fields that their image has.
-use Rattle.std.specs.Prelude.{ℕ, ◌^◌, ◌<◌, ◌≤◌, ◌≡◌, ◌⊎◌, List, [], length, get_or, Some, None}
+use Rattle.std.specs.Prelude.{ℕ, ◌^◌, ◌<◌, ◌≤◌, ◌≡◌, ◌⊎◌, List, [], length, map, get_or, Some, None}
 use Rattle.std.specs.List.{All, Contains}
 use Rattle.exif_types.specs.Sound.{HasPlainTexts}
 use Rattle.exif_types.specs.declared.value.Value.TheVariants.{Long}
+use Rattle.exif_types.specs.declared.tag.Context.{Context}
 use Rattle.exif_types.specs.declared.tag.Context.TheVariants.{Tiff}
 use Rattle.exif_types.specs.declared.field.Field.{Field}
 use Rattle.exif_format.specs.declared.block_kind.BlockKind.{BlockKind}
+use Rattle.exif_format.specs.Calls.{entries_into}
 use Rattle.exif_format.specs.Encoding.{moved_to}
 use Rattle.exif_format.specs.Flat.{field_of, flat}
 use Rattle.exif_format.specs.Groups.{Group, Entry, empty_group, blocks_in, pushed_in, places_tag, lengths_tag}
 use Rattle.exif_format.specs.Ranged.{IsRanged, AreRanged, HavePlainTexts}
 use Rattle.exif_format.specs.Rewriting.{pushed_all, all_blocks_set}
+use Rattle.exif_format.specs.Slots.{Slot, known, in_tag_order}
 
 -- pushed fields with plain texts leave plain groups plain
 abbrev pub PushesPlainTexts : List Field → List Group → Type 0
@@ -73,3 +76,13 @@ pub record IsMoved (fields : List Field) (field : Field) : Type 0 where
 -- the image of pushed fields has no others
 abbrev pub HasPushedAlone : List Field → Type 0
 HasPushedAlone fields = All (IsMoved fields) (flat (pushed_all fields []))
+
+-- what fields push into a directory, as it is written in their order: an old place of an undefined value says nothing
+abbrev pub slots_into : ℕ → Context → List Field → List Slot
+slots_into ifd context fields = map known (entries_into ifd context fields)
+
+-- each directory of the image holds what was pushed into it, in tag order, equal tags in push order
+abbrev pub HoldsInTagOrder : List Field → Type 0
+HoldsInTagOrder fields =
+    (ifd : ℕ) (context : Context)
+    → slots_into ifd context (flat (pushed_all fields [])) ≡ in_tag_order (slots_into ifd context fields)

@@ -1,5 +1,5 @@
 -- Scrubbing: fields written again without the place where a picture was taken and without values of unknown types.
-use Rattle.std.specs.Prelude.{◌≡◌, ◌&&◌, not, Bool, true, false, List, [], None}
+use Rattle.std.specs.Prelude.{◌≡◌, ◌&&◌, ◌≤◌, not, Bool, true, false, List, [], length, None}
 use Rattle.std.specs.List.{All, filter}
 use Rattle.exif_base.specs.declared.endian.Order.{Order}
 use Rattle.exif_types.specs.Sound.{IsRead}
@@ -9,10 +9,10 @@ use Rattle.exif_types.specs.declared.field.Field.{Field}
 use Rattle.exif_format.specs.Flat.{flat}
 use Rattle.exif_format.specs.Groups.{Group}
 use Rattle.exif_format.specs.Image.{image}
-use Rattle.exif_format.specs.Ranged.{AreRanged, AreReadable}
+use Rattle.exif_format.specs.Ranged.{AreRanged, HavePlainTexts, AreReadable}
 use Rattle.exif_format.specs.ReadBack.{ReadsBack}
 use Rattle.exif_format.specs.Refused.{is_unknown, write_fault}
-use Rattle.exif_format.specs.Rewriting.{pushed_all}
+use Rattle.exif_format.specs.Rewriting.{pushed_all, RewritesSame}
 
 -- whether a context is that of the directory that says where a picture was taken (Exif 2.32, 4.6.6)
 abbrev pub is_gps : Context → Bool
@@ -33,16 +33,30 @@ kept fields = filter is_kept fields
 abbrev pub scrubbed : List Field → List Group
 scrubbed fields = pushed_all (kept fields) []
 
--- what scrubbing promises of fields that were read
-pub record IsScrubbed (fields : List Field) : Type 0 where
-  pub readable : AreReadable (scrubbed fields)
-  pub reads_back : (order : Order) → ReadsBack order (scrubbed fields)
+-- what scrubbing leaves of fields that were read: texts and directories that are read back, and only what it keeps
+pub record LeavesKept (fields : List Field) : Type 0 where
+  pub plain : HavePlainTexts (scrubbed fields)
+  pub few : length (scrubbed fields) ≤ 8
   pub without_gps : All (λ field. is_gps field.tag.0 ≡ false) (flat (scrubbed fields))
   pub without_unknown : All (λ field. is_unknown field.value ≡ false) (flat (scrubbed fields))
   pub all_kept : kept (flat (scrubbed fields)) ≡ flat (scrubbed fields)
-  pub once : (order : Order) → image order (scrubbed (flat (scrubbed fields))) ≡ image order (scrubbed fields)
+
+abbrev pub ScrubsToKept : List Field → Type 0
+ScrubsToKept fields = All IsRead fields → LeavesKept fields
+
+-- where writing what was read gives the same image, scrubbing twice is scrubbing once
+abbrev pub ScrubsOnce : Order → List Field → Type 0
+ScrubsOnce order fields =
+    RewritesSame order (scrubbed fields)
+    → image order (scrubbed (flat (scrubbed fields))) ≡ image order (scrubbed fields)
+
+-- what scrubbing promises of the image: it is read as what is kept, and scrubbed again it is the same
+pub record IsScrubbed (order : Order) (fields : List Field) : Type 0 where
+  pub readable : AreReadable (scrubbed fields)
+  pub reads_back : ReadsBack order (scrubbed fields)
+  pub once : image order (scrubbed (flat (scrubbed fields))) ≡ image order (scrubbed fields)
 
 -- so where the scrubbed groups are such as a writer holds, and are not refused
-abbrev pub Scrubs : List Field → Type 0
-Scrubs fields =
-    All IsRead fields → AreRanged (scrubbed fields) → write_fault (scrubbed fields) ≡ None → IsScrubbed fields
+abbrev pub Scrubs : Order → List Field → Type 0
+Scrubs order fields =
+    All IsRead fields → AreRanged (scrubbed fields) → write_fault (scrubbed fields) ≡ None → IsScrubbed order fields

@@ -10,12 +10,12 @@ use Rattle.exif_types.specs.declared.tag.Context.TheVariants.{Tiff, Exif, Gps, I
 use Rattle.exif_types.specs.declared.field.Field.{Field}
 use Rattle.exif_format.specs.Groups.{Group, entry_of, is_ignored, pushed, pushed_in, changed, with_entry, with_strips, with_tiles, with_jpeg}
 use Rattle.exif_format.specs.Rewriting.{BlocksOf}
-use Rattle.exif_format.specs.Calls.{Call, Push, SetStrips, SetTiles, SetJpeg, after_call, after_calls, made, field_pushed, goes_into, entries_in, strips_in, tiles_in, jpeg_in, directories_of, directories, group_made, IsMadeOf}
+use Rattle.exif_format.specs.Calls.{Call, Push, SetStrips, SetTiles, SetJpeg, after_call, after_calls, made, field_pushed, goes_into, entries_in, entries_into, strips_in, tiles_in, jpeg_in, directories_of, directories, group_made, IsMadeOf}
 use Rattle.exif_format.proofs.Images.Pushing.{group_at, changed_same, changed_other, changed_keeps, length-changed, entries_added, pushed_entries, pushed_blocks, or_else}
 
 -- the entries that a call adds, and those of more calls behind it
-fields_behind : (ifd : ℕ) (context : Context) (field : Field) (fields : List Field)
-    → map entry_of (filter (goes_into ifd context) (field ∷ fields)) ≡ entries_added ifd context field ++ map entry_of (filter (goes_into ifd context) fields)
+pub fields_behind : (ifd : ℕ) (context : Context) (field : Field) (fields : List Field)
+    → entries_into ifd context (field ∷ fields) ≡ entries_added ifd context field ++ entries_into ifd context fields
 fields_behind ifd context field fields = cases (is_ignored field.tag.0 field.tag.1) (field.ifd_num.0 == ifd) (context_eq field.tag.0 context)
   where
     cases : (a b c : Bool) → map entry_of (cond (not a && (b && c)) (field ∷ filter (goes_into ifd context) fields) (filter (goes_into ifd context) fields))

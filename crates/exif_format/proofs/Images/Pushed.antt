@@ -20,6 +20,7 @@ use Rattle.exif_format.specs.Pushing.{IsFieldRanged, PushesPlainTexts, PushesRan
 use Rattle.exif_format.proofs.Images.Standing.{all_append, each_of, all_of}
 use Rattle.exif_format.proofs.Images.Pushing.{group_at, entries_added, pushed_entries, pushed_all_blocks, blocks_at}
 use Rattle.exif_format.proofs.Images.Rewritten.{length-pushed_all}
+use Rattle.exif_format.proofs.Images.Shares.{always}
 use Rattle.exif_format.proofs.Images.Members.{flat_has}
 
 -- what holds of the group under each number holds of each member
@@ -85,6 +86,14 @@ entries_to Q groups h =
 pub weaker : {X : Type 0} (P Q : X → Type 0) → ((x : X) → P x → Q x) → (xs : List X) → AllByRecursion P xs → AllByRecursion Q xs
 weaker P Q f [] h = tt
 weaker P Q f (x ∷ xs) h = (f x h.0, weaker P Q f xs h.1)
+
+-- no entry of a directory that pushes make has a tag of the writer's own
+pub always_pushed : (fields : List Field) (m : ℕ) (context : Context) → AllByRecursion (λ entry. is_ignored context entry.tag ≡ false) (pushed_in (group_at (pushed_all fields []) m) context)
+always_pushed fields =
+    let Q : ℕ → Context → Entry → Type 0 = λ m context entry. is_ignored context entry.tag ≡ false in
+    pushed_all_have Q fields []
+    (always (λ field. is_ignored field.tag.0 field.tag.1 ≡ false → is_ignored field.tag.0 field.tag.1 ≡ false) (λ field e. e) fields)
+    (empty_have Q)
 
 pub pushes_plain : (fields : List Field) (groups : List Group) → PushesPlainTexts fields groups
 pushes_plain fields groups plain h =

@@ -100,7 +100,7 @@ added ifd context field =
 abbrev pub slots_in : List Group → ℕ → Context → List Slot
 slots_in groups ifd context = map known (pushed_in (group_at groups ifd) context)
 
-known_added : (ifd : ℕ) (context : Context) (field : Field) → map known (entries_added ifd context field) ≡ added ifd context field
+pub known_added : (ifd : ℕ) (context : Context) (field : Field) → map known (entries_added ifd context field) ≡ added ifd context field
 known_added ifd context field = cases (is_ignored field.tag.0 field.tag.1) (field.ifd_num.0 == ifd) (context_eq field.tag.0 context)
   where
     cases : (a b c : Bool) → map known (let r : List Entry = if a then [] else (if b then (if c then entry_of field ∷ [] else []) else []) in r)

@@ -29,7 +29,7 @@ use Rattle.exif_format.proofs.Images.Flat.{is_pushed}
 use Rattle.exif_format.proofs.Images.Shares.{top_adds, places_ignored, lengths_ignored}
 
 -- fields of another number add nothing
-added_elsewhere : (ifd : ℕ) (context : Context) (field : Field) → field.ifd_num.0 ≢ ifd → added ifd context field ≡ []
+pub added_elsewhere : (ifd : ℕ) (context : Context) (field : Field) → field.ifd_num.0 ≢ ifd → added ifd context field ≡ []
 added_elsewhere ifd context field h =
     elim (is_ignored field.tag.0 field.tag.1) as
     (λ b. (if b then [] else (if field.ifd_num.0 == ifd then (if context_eq field.tag.0 context then known (entry_of field) ∷ [] else []) else [])) ≡ []) [
@@ -75,7 +75,7 @@ later_add_nothing (group ∷ groups) ifd n start context h =
     ++ later_add_nothing groups ifd (suc n) (draft_end (draft_of group) start) context (omega arith) i)
 
 -- what the flat fields add to a directory
-flat_adds : (groups : List Group) (n m start : ℕ) (context : Context) → m < length groups
+pub flat_adds : (groups : List Group) (n m start : ℕ) (context : Context) → m < length groups
     → flat_map (added (n + m) context) (flat_from n start (map draft_of groups)) ≡ filter (is_pushed context) (slots_of (group_at groups m) context)
 flat_adds [] n m start context h = absurd (omega arith)
 flat_adds (group ∷ groups) n zero start context h =
@@ -97,9 +97,17 @@ filter-append test (x ∷ xs) ys =
       | false ↦ filter-append test xs ys
     ]
 
-pushed_pass : (context : Context) (entries : List Entry) → AllByRecursion (IsEntry context) entries → filter (is_pushed context) (map known entries) ≡ map known entries
+-- entries with tags that are none of the writer's own
+abbrev pub NoneIgnored : Context → List Entry → Type 0
+NoneIgnored context entries = AllByRecursion (λ entry. is_ignored context entry.tag ≡ false) entries
+
+none_ignored : (context : Context) (entries : List Entry) → AllByRecursion (IsEntry context) entries → NoneIgnored context entries
+none_ignored context [] h = tt
+none_ignored context (entry ∷ entries) h = (h.0.pushed, none_ignored context entries h.1)
+
+pushed_pass : (context : Context) (entries : List Entry) → NoneIgnored context entries → filter (is_pushed context) (map known entries) ≡ map known entries
 pushed_pass context [] h = refl
-pushed_pass context (entry ∷ entries) h = rw h.0.pushed (ap (λ r. known entry ∷ r) (pushed_pass context entries h.1))
+pushed_pass context (entry ∷ entries) h = rw h.0 (ap (λ r. known entry ∷ r) (pushed_pass context entries h.1))
 
 blocks_fail : (kind : BlockKind) (texts : Option (List (List ℕ))) → filter (is_pushed Tiff) (set_slots kind texts) ≡ []
 blocks_fail kind None = refl
@@ -111,7 +119,7 @@ pointer_fails context tag child [] h = refl
 pointer_fails context tag child (x ∷ l) h = rw h refl
 
 -- the pushed entries of a directory, in tag order
-pushed_sorted : (group : Group) (context : Context) → AllByRecursion (IsEntry context) (pushed_in group context)
+pub pushed_sorted : (group : Group) (context : Context) → NoneIgnored context (pushed_in group context)
     → filter (is_pushed context) (slots_of group context) ≡ in_tag_order (map known (pushed_in group context))
 unfolding tiff_slots exif_slots gps_slots interop_slots
 pushed_sorted group Tiff h =
@@ -224,7 +232,7 @@ rewritten_at groups m h entries =
           ∙ (λ i. record { strips = or_nothing (group_at groups m).strips None refl i; tiles = or_nothing (group_at groups m).tiles None refl i; jpeg = or_nothing (group_at groups m).jpeg None refl i });
       slots = λ context. ap (λ g. map known (pushed_in g context)) at ∙ ap (map known) (with_blocks_in (group_at groups m) (group_at made m) context)
           ∙ pushed_all_adds (flat groups) [] m context ∙ ap (λ r. r ++ flat_map (added m context) (flat groups)) (nothing_in m context)
-          ∙ adds context ∙ pushed_sorted (group_at groups m) context (entries context);
+          ∙ adds context ∙ pushed_sorted (group_at groups m) context (none_ignored context (pushed_in (group_at groups m) context) (entries context));
     }
 
 length-pushed : (field : Field) (groups : List Group) (n : ℕ) → field.ifd_num.0 < n → length groups ≤ n → length (pushed field groups) ≤ n
@@ -258,14 +266,14 @@ all_numbered_below : (n ifd : ℕ) (fields : List Field) → ifd < n → AllNumb
 all_numbered_below n ifd [] h a = tt
 all_numbered_below n ifd (field ∷ fields) h a = (let e = a.0 in omega arith, all_numbered_below n ifd fields h a.1)
 
-flat_below : (groups : List Group) (ifd start n : ℕ) → ifd + length groups ≤ n → AllByRecursion (λ field. field.ifd_num.0 < n) (flat_from ifd start (map draft_of groups))
+pub flat_below : (groups : List Group) (ifd start n : ℕ) → ifd + length groups ≤ n → AllByRecursion (λ field. field.ifd_num.0 < n) (flat_from ifd start (map draft_of groups))
 flat_below [] ifd start n h = tt
 flat_below (group ∷ groups) ifd start n h =
     all_append (λ field. field.ifd_num.0 < n) _ _
     (all_numbered_below n ifd (directory_fields (draft_of group) start ifd 3 Tiff) (omega arith) (fields_numbered (draft_of group) start ifd 3 Tiff))
     (flat_below groups (suc ifd) (draft_end (draft_of group) start) n (omega arith))
 
-past_end : (groups : List Group) (m : ℕ) → length groups ≤ m → group_at groups m ≡ empty_group
+pub past_end : (groups : List Group) (m : ℕ) → length groups ≤ m → group_at groups m ≡ empty_group
 past_end [] m h = refl
 past_end (group ∷ groups) zero h = absurd (omega arith)
 past_end (group ∷ groups) (suc m) h = past_end groups m (omega arith)

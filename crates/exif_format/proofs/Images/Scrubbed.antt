@@ -1,7 +1,7 @@
 -- Scrubbing what was read.
 use Rattle.std.proofs.Common.{◌≡◌, ◌∙◌, ℕ, ◌<◌, List, [], ◌∷◌, refl, sym, ap, arith, Bool, true, false}
 use Rattle.std.specs.Prelude.{◌&&◌, not}
-use Rattle.std.specs.List.{All, AllByRecursion, filter}
+use Rattle.std.specs.List.{AllByRecursion, filter}
 use Rattle.std.proofs.lemmas.List.Elements.{All-filter, All-contains, filter_passes}
 use Rattle.exif_types.specs.Sound.{HasPlainTexts, IsRead}
 use Rattle.exif_types.specs.declared.value.Value.{Value}
@@ -15,7 +15,8 @@ use Rattle.exif_format.specs.Ranged.{AreReadable}
 use Rattle.exif_format.specs.Refused.{is_unknown}
 use Rattle.exif_format.specs.Rewriting.{pushed_all}
 use Rattle.exif_format.specs.Pushing.{IsMoved, HaveNoBlocks}
-use Rattle.exif_format.specs.Scrubbing.{is_gps, is_kept, kept, scrubbed, Scrubs}
+use Rattle.exif_format.specs.Scrubbing.{is_gps, is_kept, kept, scrubbed, ScrubsToKept, ScrubsOnce, Scrubs}
+use Rattle.exif_base.specs.declared.endian.Order.{Order}
 use Rattle.exif_format.proofs.Images.Standing.{each_of, all_of}
 use Rattle.exif_format.proofs.Images.Pushed.{weaker, pushes_plain, pushes_few, pushes_no_blocks, sets_nothing, has_pushed_alone}
 use Rattle.exif_format.proofs.Images.Laws.{reads_back, rewrites}
@@ -54,30 +55,43 @@ moved_kept fields field m =
     let same : is_kept (record m.from { value = moved_to m.place m.from.value }) ≡ is_kept m.from = ap (λ b. not (is_gps m.from.tag.0) && not b) (unknown_moved m.place m.from.value) in
     ap is_kept m.moved ∙ same ∙ passes
 
-pub scrubs : (fields : List Field) → Scrubs fields
-scrubs fields read ranged written =
+-- so each field of the image
+each_kept : (fields : List Field) → AllByRecursion (λ field. is_kept field ≡ true) (flat (scrubbed fields))
+each_kept fields =
+    weaker (IsMoved (kept fields)) (λ field. is_kept field ≡ true) (moved_kept fields) (flat (scrubbed fields))
+    (each_of (IsMoved (kept fields)) (flat (scrubbed fields)) (has_pushed_alone (kept fields)))
+
+pub scrubs_to_kept : (fields : List Field) → ScrubsToKept fields
+scrubs_to_kept fields read =
+    let stay = each_kept fields in
+    let each = each_of IsRead (kept fields) (All-filter is_kept IsRead fields read) in
+    record {
+      plain = pushes_plain (kept fields) []
+          (all_of (λ field. HasPlainTexts field.value) (kept fields) (weaker IsRead (λ field. HasPlainTexts field.value) (λ field h. h.plain) (kept fields) each))
+          (λ k d h. absurd (omega arith));
+      few = pushes_few 8 (kept fields) []
+          (all_of (λ field. field.ifd_num.0 < 8) (kept fields) (weaker IsRead (λ field. field.ifd_num.0 < 8) (λ field h. h.number) (kept fields) each)) (omega arith);
+      without_gps = all_of (λ field. is_gps field.tag.0 ≡ false) (flat (scrubbed fields))
+          (weaker (λ field. is_kept field ≡ true) (λ field. is_gps field.tag.0 ≡ false) (λ field h. (both (is_gps field.tag.0) (is_unknown field.value) h).0) (flat (scrubbed fields)) stay);
+      without_unknown = all_of (λ field. is_unknown field.value ≡ false) (flat (scrubbed fields))
+          (weaker (λ field. is_kept field ≡ true) (λ field. is_unknown field.value ≡ false) (λ field h. (both (is_gps field.tag.0) (is_unknown field.value) h).1) (flat (scrubbed fields)) stay);
+      all_kept = all_pass is_kept (flat (scrubbed fields)) stay;
+    }
+
+pub scrubs_once : (order : Order) (fields : List Field) → ScrubsOnce order fields
+scrubs_once order fields same =
     let groups : List Group = scrubbed fields in
-    let kept_read : All IsRead (kept fields) = All-filter is_kept IsRead fields read in
-    let each = each_of IsRead (kept fields) kept_read in
-    let ready : AreReadable groups = record {
-      ranged = ranged;
-      plain = pushes_plain (kept fields) [] (all_of (λ field. HasPlainTexts field.value) (kept fields) (weaker IsRead (λ field. HasPlainTexts field.value) (λ field h. h.plain) (kept fields) each)) (λ k d h. absurd (omega arith));
-      few = pushes_few 8 (kept fields) [] (all_of (λ field. field.ifd_num.0 < 8) (kept fields) (weaker IsRead (λ field. field.ifd_num.0 < 8) (λ field h. h.number) (kept fields) each)) (omega arith);
-      written = written;
-    } in
-    let moved = each_of (IsMoved (kept fields)) (flat groups) (has_pushed_alone (kept fields)) in
-    let stay = weaker (IsMoved (kept fields)) (λ field. is_kept field ≡ true) (moved_kept fields) (flat groups) moved in
-    let all : kept (flat groups) ≡ flat groups = all_pass is_kept (flat groups) stay in
     let bare : HaveNoBlocks groups = pushes_no_blocks (kept fields) [] (λ k d h. absurd (omega arith)) in
+    ap (λ fs. image order (pushed_all fs [])) (all_pass is_kept (flat groups) (each_kept fields))
+    ∙ ap (image order) (sym (sets_nothing groups (pushed_all (flat groups) []) bare))
+    ∙ same
+
+pub scrubs : (order : Order) (fields : List Field) → Scrubs order fields
+scrubs order fields read ranged written =
+    let left = scrubs_to_kept fields read in
+    let ready : AreReadable (scrubbed fields) = record { ranged = ranged; plain = left.plain; few = left.few; written = written } in
     record {
       readable = ready;
-      reads_back = λ order. reads_back order groups ready;
-      without_gps = all_of (λ field. is_gps field.tag.0 ≡ false) (flat groups)
-          (weaker (λ field. is_kept field ≡ true) (λ field. is_gps field.tag.0 ≡ false) (λ field h. (both (is_gps field.tag.0) (is_unknown field.value) h).0) (flat groups) stay);
-      without_unknown = all_of (λ field. is_unknown field.value ≡ false) (flat groups)
-          (weaker (λ field. is_kept field ≡ true) (λ field. is_unknown field.value ≡ false) (λ field h. (both (is_gps field.tag.0) (is_unknown field.value) h).1) (flat groups) stay);
-      all_kept = all;
-      once = λ order. ap (λ fs. image order (pushed_all fs [])) all
-          ∙ ap (image order) (sym (sets_nothing groups (pushed_all (flat groups) []) bare))
-          ∙ rewrites order groups ranged written;
+      reads_back = reads_back order (scrubbed fields) ready;
+      once = scrubs_once order fields (rewrites order (scrubbed fields) ranged written);
     }

@@ -4,7 +4,7 @@ ghost use Rattle.std.specs.Prelude.{ℕ, List};
 ghost use Rattle.exif_types.specs.declared.field.Field.{Field};
 ghost use Rattle.exif_format.specs.Groups.{Group};
 ghost use Rattle.exif_format.specs.Calls.{Call, IsMadeOf};
-ghost use Rattle.exif_format.specs.Pushing.{PushesPlainTexts, PushesRanged, PushesFew, PushesNoBlocks, SetsNothing, HasPushedAndBlocks, HasPushedAlone};
+ghost use Rattle.exif_format.specs.Pushing.{PushesPlainTexts, PushesRanged, PushesFew, PushesNoBlocks, SetsNothing, HasPushedAndBlocks, HasPushedAlone, HoldsInTagOrder};
 
 /// Pushing fields keeps groups plain and in range where the fields are such, makes no directory
 /// past the greatest number, and sets no blocks.
@@ -17,10 +17,12 @@ pub fn pushing_keeps()
 {}
 
 /// Each field of an image is a pushed entry of its directory or names blocks that were set, and
-/// after pushes alone it is one of the pushed fields. An undefined value has its new place.
+/// after pushes alone it is one of the pushed fields. An undefined value has its new place. Each
+/// directory holds what was pushed into it, in tag order, equal tags in push order.
 pub fn images_hold_what_was_pushed()
     ensures groups { (groups : List Group) → HasPushedAndBlocks groups }
     ensures alone { (fields : List Field) → HasPushedAlone fields }
+    ensures sorted { (fields : List Field) → HoldsInTagOrder fields }
 {}
 
 /// The groups that calls make in a new writer: for each number below one more than the greatest
