@@ -12,4 +12,4 @@ by_container limit holds (Ok bytes) = ap (λ (answer : Answer). Ok answer) (hold
 
 -- what holds of data holds of the files that hold them
 pub first_fault_of_file : (limit : Option ℕ) (bytes : List ℕ) → ((bytes : List ℕ) → StrictIsFirstFault limit bytes) → StrictIsFirstFaultOfFile limit bytes
-first_fault_of_file limit bytes data = by_container limit holds (container_answer bytes)
+first_fault_of_file limit bytes holds = by_container limit holds (container_answer bytes)
