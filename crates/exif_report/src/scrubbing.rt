@@ -8,7 +8,7 @@ ghost use Rattle.exif_types.specs.Refusals.{IsInterrupted, is_io, is_io_error, r
 ghost use Rattle.exif_format.specs.Image.{image};
 ghost use Rattle.exif_format.specs.Refused.{write_fault};
 ghost use Rattle.exif_format.specs.Rewriting.{pushed_all};
-ghost use Rattle.exif_format.specs.Scrubbing.{is_kept, kept, scrubbed, IsScrubbed};
+ghost use Rattle.exif_format.specs.Scrubbing.{is_kept, kept, scrubbed, IsScrubbed, LeavesKept};
 ghost use Rattle.exif_format.specs.WriteFaults.{write_refusal};
 ghost use Rattle.exif.specs.WriterViews.{written_order};
 
@@ -52,7 +52,8 @@ pub fn scrub<W: Sink>(
 ) -> Result<(), Error>
     ensures sent { OnOk result (Appends (W.taken out.old) (W.taken out.new)
         (image (written_order little_endian) (scrubbed exif.now.fields))) }
-    ensures scrubbed { OnOk result (IsScrubbed exif.now.fields) }
+    ensures scrubbed { OnOk result (IsScrubbed (written_order little_endian) exif.now.fields) }
+    ensures leaves { LeavesKept exif.now.fields }
     ensures accepted { OnOk result (write_fault (scrubbed exif.now.fields) ≡ None) }
     ensures refused { IfSome (write_fault (scrubbed exif.now.fields))
         (λ cause. IsErrAnd result (λ e. (refusal_of e ≡ Some (write_refusal cause)) ⊎ (e ≡ Error.OutOfMemory))) }
@@ -64,10 +65,10 @@ pub fn scrub<W: Sink>(
     ensures count { W.failures out.new ≡ count_after (is_io result) (W.failures out.old) }
     ensures through { W.through out.new ≡ W.through out.old }
 {
-    let mut writer = Writer::new(alloc);
-    push_kept(&mut writer, exif)?;
-    writer.write(out, little_endian)?;
+    // The fields were read, which the law wants to know.
     let _ = exif.fields();
     scrubbing_twice_is_once();
-    Ok(())
+    let mut writer = Writer::new(alloc);
+    push_kept(&mut writer, exif)?;
+    writer.write(out, little_endian)
 }
