@@ -4,7 +4,7 @@ use Rattle.std.proofs.lemmas.List.{append-nil, length-map}
 use Rattle.std.specs.Prelude.{Vec, OnErr, IfSome}
 use Rattle.std.specs.Borrow.{Bor}
 use Rattle.std.specs.Global.{Global}
-use Rattle.std.specs.List.{flat_map}
+use Rattle.std.specs.List.{flat_map, Contains}
 use Rattle.std.specs.Io.KnownBytes.{Appends, Keeps}
 use Rattle.exif_base.specs.Sent.{SendsFront}
 use Rattle.exif_types.specs.Contents.{ExifContents, PartialContents}
@@ -14,9 +14,10 @@ use Rattle.exif_types.specs.declared.error.Error.TheVariants as error
 use Rattle.exif_format.specs.Answers.{Answer, Refused, Whole, Partial}
 use Rattle.exif_format.specs.Faults.{text_of}
 use Rattle.exif_format.specs.declared.fault.Fault.{Fault}
-use Rattle.exif.specs.Files.{ReadsContainer, IsRefusal}
+use Rattle.exif_containers.specs.Container.{container_refusals}
+use Rattle.exif.specs.Files.{AnswersOwnData, ReadsContainer, IsRefusal, IsDataRefusal}
 use Rattle.exif_report.specs.Lines.{field_line, fault_line, error_line}
-use Rattle.exif_report.specs.Reports.{Finds, Holds, HoldsAnswer, Reports, WritesWhole, IsRefusedAs, given_by, report_text, answer_text, fault_count}
+use Rattle.exif_report.specs.Reports.{Finds, FindsOwn, Holds, HoldsAnswer, Reports, ReportsSome, WritesWhole, IsRefusedAs, IsNamedRefusal, given_by, report_text, answer_text, fault_count}
 use Rattle.exif_report.proofs.Sent.{keeps_same, appends_more, appends_kept, front_none, front_all}
 
 -- ---- what was read of a container
@@ -147,6 +148,51 @@ pub reports_none : (left old : Option (List ℕ)) (answer : List ℕ → Result 
     → IfSome left (λ bytes. Finds (answer bytes) (Err e)) → IfSome left (λ bytes. Reports (answer bytes) (Err e) old old)
 reports_none None old answer e h = tt
 reports_none (Some bytes) old answer e h = read_none (answer bytes) old e h
+
+-- ---- where the source tells no bytes
+
+-- all the fields are those of their own data
+pub own_whole : (answer : List ℕ → Answer) (exif : ExifContents) (errors : List Failure) → errors ≡ [] → AnswersOwnData answer (Ok exif) → Holds (answer exif.buf) exif errors
+own_whole answer exif errors none h = rw (h.0) (refl, none)
+
+-- so the fields and the faults of a partial result
+pub own_partial : (answer : List ℕ → Answer) (partial : PartialContents (Bor (List ℕ))) (exif : ExifContents) (errors : List Failure)
+    → AnswersOwnData answer (Err (error.PartialResult partial)) → exif ≡ partial.exif → map told_text errors ≡ partial.faults → Holds (answer exif.buf) exif errors
+own_partial answer partial exif errors h same told =
+    let P : ExifContents → Type 0 = λ contents. Holds (answer contents.buf) contents errors in
+    subst P (sym same) (rw (h.1) (refl, ap (map bytes_of) told ∙ h.2))
+
+own_error : (answer : List ℕ → Answer) (e : Failure) → MatchOption (refusal_of e) (IsInterrupted e) (λ r. Contains container_refusals r ⊎ IsDataRefusal answer r) → FindsOwn answer (Err e)
+own_error answer e h = by_refusal e (refusal_of e) (λ r. Contains container_refusals r ⊎ IsDataRefusal answer r) (IsNamedRefusal answer e) refl (λ r is p. (r, is, p)) h
+
+-- an error that is no partial result
+pub own_other : (answer : List ℕ → Answer) (e : Failure) → ((partial : PartialContents (Bor (List ℕ))) → e ≡ error.PartialResult partial → ⊥) → AnswersOwnData answer (Err e) → FindsOwn answer (Err e)
+own_other answer (error.PartialResult x) differs h = absurd (differs x refl)
+own_other answer error.OutOfMemory differs h = own_error answer error.OutOfMemory h
+own_other answer (error.InvalidFormat x) differs h = own_error answer (error.InvalidFormat x) h
+own_other answer (error.Io x) differs h = own_error answer (error.Io x) h
+own_other answer (error.NotFound x) differs h = own_error answer (error.NotFound x) h
+own_other answer (error.BlankValue x) differs h = own_error answer (error.BlankValue x) h
+own_other answer (error.TooBig x) differs h = own_error answer (error.TooBig x) h
+own_other answer (error.NotSupported x) differs h = own_error answer (error.NotSupported x) h
+own_other answer (error.UnexpectedValue x) differs h = own_error answer (error.UnexpectedValue x) h
+
+-- all that was found was written
+pub some_whole : (old new : Option (List ℕ)) (answer : List ℕ → Answer) (exif : ExifContents) (errors : Vec Failure Global) (faults : List Failure)
+    → FindsOwn answer (Ok (exif, errors)) → faults ≡ errors.items
+    → Appends old new (flat_map (field_line exif.fields) exif.fields ++ flat_map error_line faults) → ReportsSome answer (Ok (length faults)) old new
+some_whole old new answer exif errors faults h f sent = (exif.buf, whole_of (Ok (answer exif.buf)) old new exif errors.items faults h f sent)
+
+-- the writing was interrupted
+pub some_front : (old new : Option (List ℕ)) (answer : List ℕ → Answer) (exif : ExifContents) (errors : Vec Failure Global) (faults : List Failure) (e : Failure)
+    → FindsOwn answer (Ok (exif, errors)) → IsInterrupted e → faults ≡ errors.items
+    → SendsFront old new (flat_map (field_line exif.fields) exif.fields ++ flat_map error_line faults) → ReportsSome answer (Err e) old new
+some_front old new answer exif errors faults e h i f front = inr (i, (exif.buf, front_of (Ok (answer exif.buf)) old new exif errors.items faults h f front))
+
+-- nothing was read
+pub some_none : (old : Option (List ℕ)) (answer : List ℕ → Answer) (e : Failure) → FindsOwn answer (Err e) → ReportsSome answer (Err e) old old
+some_none old answer e (inl refused) = inl (refused, keeps_same old)
+some_none old answer e (inr interrupted) = inr (interrupted, ([], front_none old old (answer_text (answer [])) (keeps_same old)))
 
 -- what holds, holds of an error
 pub on_err : {T E : Type 0} (r : Result T E) (P : Type 0) → P → OnErr r P

@@ -1,12 +1,13 @@
 -- What the program does with its words and with its report.
-use Rattle.std.specs.Prelude.{◌≡◌, ℕ, Bool, true, false, ◌==◌, if◌then◌else◌, List, [], ◌∷◌, ◌++◌, codes, Option, Some, None, Result, Ok, Err, IfSome}
+use Rattle.std.specs.Prelude.{◌≡◌, ◌<◌, ℕ, Bool, true, false, ◌==◌, if◌then◌else◌, List, [], ◌∷◌, ◌++◌, codes, Option, Some, None, Result, Ok, Err, IfSome}
 use Rattle.std.specs.Str.{bytes_eq}
 use Rattle.std.specs.Io.KnownBytes.{Appends, Keeps}
 use Rattle.exif_base.specs.Sent.{SendsFront}
 use Rattle.exif_types.specs.Failures.{Failure, error_text}
-use Rattle.exif_types.specs.Refusals.{Refusal}
-use Rattle.exif_format.specs.Answers.{Answer}
-use Rattle.exif_report.specs.Reports.{Reports}
+use Rattle.exif_types.specs.Refusals.{is_io}
+use Rattle.exif_format.specs.Answers.{raw_answer}
+use Rattle.exif.specs.Files.{file_answer}
+use Rattle.exif_report.specs.Reports.{Reports, ReportsSome, CountsBoth}
 
 -- whether to pass over faults, and which word is the file's path
 abbrev pub asked_by : List (List ℕ) → Option (Bool × ℕ)
@@ -37,6 +38,12 @@ abbrev pub SaysError : Result ℕ Failure → Option (List ℕ) → Option (List
 SaysError (Ok count) old new = Keeps old new
 SaysError (Err e) old new = Says e old new
 
--- the file's report, its status, and its error
-abbrev pub Shows : Result Answer Refusal → ℕ → Option (List ℕ) → Option (List ℕ) → Option (List ℕ) → Option (List ℕ) → Type 0
-Shows answer status out out' err err' = (found : Result ℕ Failure) × Reports answer found out out' × (status ≡ status_of found) × SaysError found err err'
+-- a file's report, the status that tells of it, its error's line, and the counts of both devices
+pub record Shows (left : Option (List ℕ)) (lenient : Bool) (status : ℕ) (out out' err err' : Option (List ℕ)) (read read' written written' : ℕ) : Type 0 where
+  pub found : Result ℕ Failure
+  pub reports : IfSome left (λ bytes. Reports (file_answer lenient None bytes) found out out')
+  pub some : ReportsSome (raw_answer lenient None) found out out'
+  pub told : status ≡ status_of found
+  pub said : SaysError found err err'
+  pub counts : CountsBoth read read' written written' (is_io found)
+  pub quiet : read < read' → Keeps out out'

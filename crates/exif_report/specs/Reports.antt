@@ -1,7 +1,7 @@
 -- What a report says of an answer.
 use Rattle.std.specs.Prelude.{◌≡◌, ℕ, Bool, ◌||◌, List, [], ◌++◌, length, map, ◌⊎◌, Option, Some, Result, Ok, Err, Vec}
 use Rattle.std.specs.Global.{Global}
-use Rattle.std.specs.List.{flat_map}
+use Rattle.std.specs.List.{flat_map, Contains}
 use Rattle.std.specs.Io.KnownBytes.{Appends, Keeps}
 use Rattle.exif_base.specs.Device.{count_after}
 use Rattle.exif_base.specs.Sent.{SendsFront}
@@ -11,7 +11,8 @@ use Rattle.exif_types.specs.Refusals.{Refusal, refusal_of, IsInterrupted, ◌>>=
 use Rattle.exif_format.specs.Answers.{Answer, Refused, Whole, Partial}
 use Rattle.exif_format.specs.Faults.{text_of}
 use Rattle.exif_format.specs.declared.fault.Fault.{Fault}
-use Rattle.exif.specs.Files.{IsRefusal}
+use Rattle.exif_containers.specs.Container.{container_refusals}
+use Rattle.exif.specs.Files.{IsRefusal, IsDataRefusal}
 use Rattle.exif_report.specs.Lines.{field_line, fault_line}
 
 -- a line for each field, and then one for each fault
@@ -69,3 +70,21 @@ WritesWhole (Err r) count old new = ⊥
 abbrev pub Reports : Result Answer Refusal → Result ℕ Failure → Option (List ℕ) → Option (List ℕ) → Type 0
 Reports answer (Ok count) old new = WritesWhole answer count old new
 Reports answer (Err e) old new = (IsRefusedAs answer e × Keeps old new) ⊎ (IsInterrupted e × SendsFront old new (report_text answer))
+
+-- ---- what is said where the source tells no bytes, as that of a file
+
+-- a container or some data are refused with this error
+abbrev pub IsNamedRefusal : (List ℕ → Answer) → Failure → Type 0
+IsNamedRefusal answer e = (r : Refusal) × (refusal_of e ≡ Some r) × (Contains container_refusals r ⊎ IsDataRefusal answer r)
+
+-- the fields and the faults are those of the data that came with them; an error is a named refusal, or none of the bytes'
+abbrev pub FindsOwn : (List ℕ → Answer) → Result (ExifContents × Vec Failure Global) Failure → Type 0
+FindsOwn answer (Ok found) = Holds (answer found.0.buf) found.0 found.1.items
+FindsOwn answer (Err e) = IsNamedRefusal answer e ⊎ IsInterrupted e
+
+-- the text of some data's answer was written; a refusal writes nothing, and an interruption leaves a front of such a text
+abbrev pub ReportsSome : (List ℕ → Answer) → Result ℕ Failure → Option (List ℕ) → Option (List ℕ) → Type 0
+ReportsSome answer (Ok count) old new = (bytes : List ℕ) × WritesWhole (Ok (answer bytes)) count old new
+ReportsSome answer (Err e) old new =
+    (IsNamedRefusal answer e × Keeps old new)
+    ⊎ (IsInterrupted e × ((bytes : List ℕ) × SendsFront old new (answer_text (answer bytes))))

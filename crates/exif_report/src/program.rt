@@ -1,11 +1,9 @@
 //! What the program does with its words and with its report.
 
-ghost use Rattle.std.specs.Prelude.{◌≡◌, ◌<◌, Bool, None, length, map, string_bytes, IfErr, IfSome, OnOk};
+ghost use Rattle.std.specs.Prelude.{◌≡◌, ◌<◌, Bool, length, map, string_bytes, IfErr, IfSome, OnOk};
 ghost use Rattle.exif_base.specs.Device.{count_after};
 ghost use Rattle.exif_types.specs.Refusals.{is_io, IsInterrupted};
-ghost use Rattle.exif.specs.Files.{file_answer};
 ghost use Rattle.exif_report.specs.Program.{asked_by, Says, SaysWhole, Shows};
-ghost use Rattle.exif_report.specs.Reports.{CountsBoth};
 
 use crate::reporting::report;
 use exif::{Error, Sink, Source};
@@ -34,9 +32,9 @@ pub fn show<R: Source, W: Sink, E: Sink>(
     err: &mut E,
     lenient: bool,
 ) -> u8
-    ensures shows { IfSome (R.left reader.old) (λ bytes. Shows (file_answer lenient None bytes) result
-        (W.taken out.old) (W.taken out.new) (E.taken err.old) (E.taken err.new)) }
-    ensures count { (io : Bool) × CountsBoth (R.failures reader.old) (R.failures reader.new) (W.failures out.old) (W.failures out.new) io }
+    ensures shows { Shows (R.left reader.old) lenient result
+        (W.taken out.old) (W.taken out.new) (E.taken err.old) (E.taken err.new)
+        (R.failures reader.old) (R.failures reader.new) (W.failures out.old) (W.failures out.new) }
     ensures said { (failed : Bool) × (E.failures err.new ≡ count_after failed (E.failures err.old)) }
     ensures read_through { R.through reader.new ≡ R.through reader.old }
     ensures written_through { W.through out.new ≡ W.through out.old }

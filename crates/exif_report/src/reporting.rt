@@ -1,16 +1,16 @@
 //! The report of a file: a line for each field, and one for each fault that was passed over.
 
-ghost use Rattle.std.specs.Prelude.{◌≡◌, ◌++◌, All, ℕ, List, OnOk, OnErr, IfOk, IfErr, IfSome, None, Some, Result, Ok, Err};
+ghost use Rattle.std.specs.Prelude.{◌≡◌, ◌<◌, ◌++◌, All, ℕ, List, OnOk, OnErr, IfOk, IfErr, IfSome, None, Some, Result, Ok, Err};
 ghost use Rattle.std.specs.List.{flat_map};
-ghost use Rattle.std.specs.Io.KnownBytes.{Appends};
+ghost use Rattle.std.specs.Io.KnownBytes.{Appends, Keeps};
 ghost use Rattle.exif_base.specs.Device.{count_after};
 ghost use Rattle.exif_base.specs.Sent.{SendsFront};
 ghost use Rattle.exif_types.specs.Failures.{IsInvalidFormat};
 ghost use Rattle.exif_types.specs.Refusals.{Refusal, is_io, is_io_error, IsInterrupted};
-ghost use Rattle.exif_format.specs.Answers.{Answer};
-ghost use Rattle.exif.specs.Files.{ReadsContainer, file_answer};
+ghost use Rattle.exif_format.specs.Answers.{Answer, raw_answer};
+ghost use Rattle.exif.specs.Files.{AnswersOwnData, ReadsContainer, file_answer};
 ghost use Rattle.exif_report.specs.Lines.{field_line, error_line};
-ghost use Rattle.exif_report.specs.Reports.{Finds, Reports, CountsBoth, given_by};
+ghost use Rattle.exif_report.specs.Reports.{Finds, FindsOwn, Reports, ReportsSome, CountsBoth, given_by};
 
 use crate::lines::{set_error_line, set_field_line};
 use exif::{Error, Exif, Field, Reader, Sink, Source};
@@ -62,6 +62,7 @@ fn write_errors<W: Sink>(alloc: Global, errors: &[Error], out: &mut W) -> Result
 fn passed_over(error: Error) -> Result<(Exif, Vec<Error>), Error>
     ensures finds { (expected : List ℕ → Answer) (container : Result (List ℕ) Refusal)
         → ReadsContainer expected container (Err error.entry) → Finds (given_by expected container) result }
+    ensures own { (expected : List ℕ → Answer) → AnswersOwnData expected (Err error.entry) → FindsOwn expected result }
     ensures invalid { IfOk result (λ found. All IsInvalidFormat found.1.items) }
     ensures io { is_io result ≡ is_io_error error.entry }
 {
@@ -78,6 +79,7 @@ fn passed_over(error: Error) -> Result<(Exif, Vec<Error>), Error>
 fn found_of(alloc: Global, answer: Result<Exif, Error>) -> Result<(Exif, Vec<Error>), Error>
     ensures finds { (expected : List ℕ → Answer) (container : Result (List ℕ) Refusal)
         → ReadsContainer expected container answer.entry → Finds (given_by expected container) result }
+    ensures own { (expected : List ℕ → Answer) → AnswersOwnData expected answer.entry → FindsOwn expected result }
     ensures invalid { IfOk result (λ found. All IsInvalidFormat found.1.items) }
     ensures io { is_io result ≡ is_io answer.entry }
 {
@@ -90,6 +92,7 @@ fn found_of(alloc: Global, answer: Result<Exif, Error>) -> Result<(Exif, Vec<Err
 /// What is read of a file: the fields, and the faults that were passed over.
 fn read<R: Source>(alloc: Global, by: &Reader, reader: &mut R) -> Result<(Exif, Vec<Error>), Error>
     ensures finds { IfSome (R.left reader.old) (λ bytes. Finds (file_answer by.now.lenient by.now.limit bytes) result) }
+    ensures own { FindsOwn (raw_answer by.now.lenient by.now.limit) result }
     ensures invalid { IfOk result (λ found. All IsInvalidFormat found.1.items) }
     ensures count { R.failures reader.new ≡ count_after (is_io result) (R.failures reader.old) }
     ensures same { R.through reader.new ≡ R.through reader.old }
@@ -126,7 +129,10 @@ fn report_by<R: Source, W: Sink>(
     reader: &mut R,
     out: &mut W,
 ) -> Result<u64, Error>
-    ensures reports { IfSome (R.left reader.old) (λ bytes. Reports (file_answer by.now.lenient by.now.limit bytes) result (W.taken out.old) (W.taken out.new)) }
+    ensures reports { IfSome (R.left reader.old)
+        (λ bytes. Reports (file_answer by.now.lenient by.now.limit bytes) result (W.taken out.old) (W.taken out.new)) }
+    ensures some { ReportsSome (raw_answer by.now.lenient by.now.limit) result (W.taken out.old) (W.taken out.new) }
+    ensures quiet { R.failures reader.old < R.failures reader.new → Keeps (W.taken out.old) (W.taken out.new) }
     ensures count { CountsBoth (R.failures reader.old) (R.failures reader.new) (W.failures out.old) (W.failures out.new) (is_io result) }
     ensures read_through { R.through reader.new ≡ R.through reader.old }
     ensures written_through { W.through out.new ≡ W.through out.old }
@@ -141,15 +147,19 @@ fn report_by<R: Source, W: Sink>(
 /// field, with its tag, its directory and its value. A lenient report passes over soft faults, and
 /// writes one line for each behind the fields. Answers how many faults were passed over.
 ///
-/// Where the file is refused nothing is written. Where memory or a device fails, a front of the
-/// report may stand out.
+/// Where the file is refused or the reader fails nothing is written. Where memory or the writer fails,
+/// a front of the report may stand out. So it is too where a reader does not tell its bytes, as that of
+/// a file: what is written is the report of the data that were read.
 pub fn report<R: Source, W: Sink>(
     alloc: Global,
     reader: &mut R,
     out: &mut W,
     lenient: bool,
 ) -> Result<u64, Error>
-    ensures reports { IfSome (R.left reader.old) (λ bytes. Reports (file_answer lenient None bytes) result (W.taken out.old) (W.taken out.new)) }
+    ensures reports { IfSome (R.left reader.old)
+        (λ bytes. Reports (file_answer lenient None bytes) result (W.taken out.old) (W.taken out.new)) }
+    ensures some { ReportsSome (raw_answer lenient None) result (W.taken out.old) (W.taken out.new) }
+    ensures quiet { R.failures reader.old < R.failures reader.new → Keeps (W.taken out.old) (W.taken out.new) }
     ensures count { CountsBoth (R.failures reader.old) (R.failures reader.new) (W.failures out.old) (W.failures out.new) (is_io result) }
     ensures read_through { R.through reader.new ≡ R.through reader.old }
     ensures written_through { W.through out.new ≡ W.through out.old }
@@ -168,7 +178,10 @@ pub fn report_limited<R: Source, W: Sink>(
     lenient: bool,
     limit: u64,
 ) -> Result<u64, Error>
-    ensures reports { IfSome (R.left reader.old) (λ bytes. Reports (file_answer lenient (Some limit) bytes) result (W.taken out.old) (W.taken out.new)) }
+    ensures reports { IfSome (R.left reader.old)
+        (λ bytes. Reports (file_answer lenient (Some limit) bytes) result (W.taken out.old) (W.taken out.new)) }
+    ensures some { ReportsSome (raw_answer lenient (Some limit)) result (W.taken out.old) (W.taken out.new) }
+    ensures quiet { R.failures reader.old < R.failures reader.new → Keeps (W.taken out.old) (W.taken out.new) }
     ensures count { CountsBoth (R.failures reader.old) (R.failures reader.new) (W.failures out.old) (W.failures out.new) (is_io result) }
     ensures read_through { R.through reader.new ≡ R.through reader.old }
     ensures written_through { W.through out.new ≡ W.through out.old }
