@@ -1,14 +1,15 @@
 -- The answer of a JPEG stream is that of its tree, and all bytes have a tree.
-use Rattle.std.proofs.Common.{◌≡◌, ◌≢◌, ℕ, zero, suc, ◌+◌, ◌-◌, ◌*◌, ◌<◌, ◌≤◌, max, ◌⊎◌, inl, inr, Bool, true, false, cond, eqb, ltb, leb, ◌&&◌, List, [], ◌∷◌, ◌++◌, length, take, drop, replicate, Option, None, Some, Result, Ok, Err, unwrap_or, ap, sym, ◌∙◌, refl, arith, append_assoc}
+use Rattle.std.proofs.Common.{◌≡◌, ◌≢◌, ℕ, zero, suc, ◌+◌, ◌-◌, ◌*◌, ◌<◌, ◌≤◌, max, ◌⊎◌, inl, inr, Bool, true, false, cond, eqb, ltb, leb, ◌&&◌, List, [], ◌∷◌, ◌++◌, length, take, drop, replicate, codes, subst, Option, None, Some, Result, Ok, Err, unwrap_or, ap, sym, ◌∙◌, refl, arith, append_assoc}
 use Rattle.std.specs.List.{All, flat_map}
 use Rattle.std.specs.Option.{option_map}
-use Rattle.std.proofs.lemmas.Bool.{ne_eqb, eqb-true, eqb-false, leb-true}
+use Rattle.std.proofs.lemmas.Bool.{ne_eqb, eqb-true, eqb-false, leb-true, le-ltb}
 use Rattle.std.proofs.lemmas.List.{take-append-drop, length-take-le}
+use Rattle.std.proofs.lemmas.Slice.Eq.{bytes_eq-Decides}
 use Rattle.std.proofs.lemmas.List.Elements.{All-nil, All-cons, All-head, All-tail}
 use Rattle.exif_types.specs.Refusals.{Refusal}
 use Rattle.exif_containers.specs.Answer.{Answer, found, refused}
-use Rattle.exif_containers.specs.Jpeg.{JpegUnit, broken_jpeg, not_jpeg, unexpected_soi, invalid_length, no_exif_in_jpeg, two_bytes, from_mark, after_marks, stands_alone, exif_payload, unit_with_body, unit_from_code, first_unit, unit_answer, with_units, units_of, first_answer, answer_from, jpeg_answer}
-use Rattle.exif_containers.specs.JpegGrammar.{Brought, nothing, sized, UnitTree, print_brought, print_unit, IsBrought, IsUnit, unit_says, IsSilent, HasNoUnit, Ending, speaking, cut, print_ending, IsEnding, answer_said, ending_answer, Stream, short, foreign, units, StreamIsAnswered, IsAStream}
+use Rattle.exif_containers.specs.Jpeg.{JpegUnit, broken_jpeg, not_jpeg, unexpected_soi, invalid_length, no_exif_in_jpeg, two_bytes, from_mark, after_marks, stands_alone, begins_exif, exif_payload, unit_with_body, unit_from_code, first_unit, unit_answer, with_units, units_of, first_answer, answer_from, jpeg_answer}
+use Rattle.exif_containers.specs.JpegGrammar.{Brought, nothing, sized, exif, exif_id, HasNoId, UnitTree, print_brought, print_unit, IsBrought, IsUnit, unit_says, IsSilent, HasNoUnit, Ending, speaking, cut, print_ending, IsEnding, answer_said, ending_answer, Stream, short, foreign, units, StreamIsAnswered, IsAStream}
 use Rattle.exif_containers.proofs.Within.{from_mark-others}
 use Rattle.exif_containers.proofs.JpegUnits.{unit-alone, unit-segment, answer-first_unit, rest-first_unit}
 
@@ -22,6 +23,7 @@ from_code-brought : (code : ℕ) (b : Brought) (rest : List ℕ) → IsBrought c
     → unit_from_code (code ∷ (print_brought b ++ rest)) ≡ Some (record { code = code; body = print_brought b; rest = rest })
 from_code-brought code nothing rest h = unit-alone code rest h
 from_code-brought code (sized high low content) rest h = unit-segment code high low content rest h.0 (omega (arith, h.1))
+from_code-brought code (exif high low payload) rest h = unit-segment code high low (exif_id ++ payload) rest (ap stands_alone h.0) (omega (arith, h.1))
 
 first_unit-print : (u : UnitTree) (rest : List ℕ) → IsUnit u
     → first_unit (print_unit u ++ rest) ≡ Some (record { code = u.code; body = print_brought u.brought; rest = rest })
@@ -97,6 +99,41 @@ with_body-some code len bytes v = by (leb len (length bytes)) refl
     by true is e = (leb-true len (length bytes) is, cc)
     by false is e = absurd (cc)
 
+-- the identifier stands in front, or it does not
+id-there : (content : List ℕ) → begins_exif content ≡ true → exif_id ++ drop 6 content ≡ content
+id-there content e = ap (λ t. t ++ drop 6 content) (sym ((bytes_eq-Decides (take 6 content) (codes "Exif\0\0")).0 e)) ∙ take-append-drop 6 content
+
+id-absent : (content : List ℕ) → begins_exif content ≡ false → HasNoId content
+id-absent content e payload h = let k : true ≡ false = sym (ap begins_exif h) ∙ e in cc
+
+absent-id : (content : List ℕ) → HasNoId content → exif_payload content ≡ None
+absent-id content h = by (begins_exif content) refl
+  where
+    by : (t : Bool) → begins_exif content ≡ t → cond t (Some (drop 6 content)) None ≡ None
+    by true e = absurd (h (drop 6 content) (sym (id-there content e)))
+    by false e = refl
+
+content-brings : (code h l : ℕ) (content bytes : List ℕ) (v : JpegUnit) → stands_alone code ≡ false → length content ≡ 256 * h + l - 2
+    → bytes ≡ h ∷ l ∷ (content ++ v.rest) → v.code ≡ code → v.body ≡ h ∷ l ∷ content → Brings code bytes v
+content-brings code h l content bytes v alone len whole code_is body_is = by (eqb code 225) (begins_exif content) refl refl
+  where
+    plain : (code ≡ 225 → HasNoId content) → Brings code bytes v
+    plain absent = record { brought = sized h l content; is = (alone, len, absent); whole = whole; code_is = code_is; body_is = body_is }
+
+    by : (t u : Bool) → eqb code 225 ≡ t → begins_exif content ≡ u → Brings code bytes v
+    by true true p q =
+        let same = id-there content q in
+        let six : length (exif_id ++ drop 6 content) ≡ length content = ap (λ (t : List ℕ). length t) same in
+        record {
+          brought = exif h l (drop 6 content);
+          is = (eqb-true code 225 p, omega arith);
+          whole = whole ∙ ap (λ t. h ∷ l ∷ (t ++ v.rest)) (sym same);
+          code_is = code_is;
+          body_is = body_is ∙ ap (λ t. h ∷ l ∷ t) (sym same);
+        }
+    by true false p q = plain (λ c. id-absent content q)
+    by false u p q = plain (λ c. absurd (eqb-false code 225 p c))
+
 sized-brings : (code : ℕ) (bytes : List ℕ) (v : JpegUnit) → stands_alone code ≡ false → unit_with_body code bytes (max 2 (two_bytes bytes)) ≡ Some v → Brings code bytes v
 sized-brings code [] v alone e = let s = with_body-some code 2 [] v e in absurd (omega (arith, s.0))
 sized-brings code (h ∷ []) v alone e = let s = with_body-some code 2 (h ∷ []) v e in absurd (omega (arith, s.0))
@@ -105,13 +142,9 @@ sized-brings code (h ∷ l ∷ bytes) v alone e =
     let len : max 2 (256 * h + l) ≡ suc (suc k) = omega arith in
     let s = with_body-some code (suc (suc k)) (h ∷ l ∷ bytes) v (ap (unit_with_body code (h ∷ l ∷ bytes)) (sym len) ∙ e) in
     let room : k ≤ length bytes = omega (arith, s.0) in
-    record {
-      brought = sized h l (take k bytes);
-      is = (alone, length-take-le k bytes room);
-      whole = ap (λ t. h ∷ l ∷ t) (sym (take-append-drop k bytes)) ∙ ap (λ (w : JpegUnit). h ∷ l ∷ (take k bytes ++ w.rest)) (sym s.1);
-      code_is = ap (λ (w : JpegUnit). w.code) s.1;
-      body_is = ap (λ (w : JpegUnit). w.body) s.1;
-    }
+    content-brings code h l (take k bytes) (h ∷ l ∷ bytes) v alone (length-take-le k bytes room)
+    (ap (λ t. h ∷ l ∷ t) (sym (take-append-drop k bytes)) ∙ ap (λ (w : JpegUnit). h ∷ l ∷ (take k bytes ++ w.rest)) (sym s.1))
+    (ap (λ (w : JpegUnit). w.code) s.1) (ap (λ (w : JpegUnit). w.body) s.1)
 
 from_code-brings : (code : ℕ) (bytes : List ℕ) (v : JpegUnit) → unit_from_code (code ∷ bytes) ≡ Some v → Brings code bytes v
 from_code-brings code bytes v = by (stands_alone code) refl
@@ -179,19 +212,26 @@ alone-says true eoi rest = refl
 alone-says false true rest = refl
 alone-says false false rest = refl
 
-payload-says : (payload : Option (List ℕ)) (rest : List ℕ)
-    → option_map (λ p. found p rest) payload ≡ answer_of rest (option_map (λ p. Ok p) payload)
-payload-says None rest = refl
-payload-says (Some p) rest = refl
+sized-says : (soi eoi small : Bool) (rest : List ℕ)
+    → cond soi (Some (refused unexpected_soi)) (cond eoi (Some (refused no_exif_in_jpeg)) (cond small (Some (refused invalid_length)) None))
+    ≡ answer_of rest (cond soi (Some (Err unexpected_soi)) (cond eoi (Some (Err no_exif_in_jpeg)) (cond small (Some (Err invalid_length)) None)))
+sized-says true eoi small rest = refl
+sized-says false true small rest = refl
+sized-says false false true rest = refl
+sized-says false false false rest = refl
 
-sized-says : (soi eoi small exif : Bool) (payload : Option (List ℕ)) (rest : List ℕ)
-    → cond soi (Some (refused unexpected_soi)) (cond eoi (Some (refused no_exif_in_jpeg)) (cond small (Some (refused invalid_length)) (cond exif (option_map (λ p. found p rest) payload) None)))
-    ≡ answer_of rest (cond soi (Some (Err unexpected_soi)) (cond eoi (Some (Err no_exif_in_jpeg)) (cond small (Some (Err invalid_length)) (cond exif (option_map (λ p. Ok p) payload) None))))
-sized-says true eoi small exif payload rest = refl
-sized-says false true small exif payload rest = refl
-sized-says false false true exif payload rest = refl
-sized-says false false false true payload rest = payload-says payload rest
-sized-says false false false false payload rest = refl
+plain-answers : (code : ℕ) (content rest : List ℕ) → (code ≡ 225 → HasNoId content)
+    → cond (eqb code 225) (option_map (λ p. found p rest) (exif_payload content)) None ≡ None
+plain-answers code content rest h = by (eqb code 225) refl
+  where
+    by : (t : Bool) → eqb code 225 ≡ t → cond t (option_map (λ p. found p rest) (exif_payload content)) None ≡ None
+    by true e = ap (λ o. option_map (λ p. found p rest) o) (absent-id content (h (eqb-true code 225 e)))
+    by false e = refl
+
+exif-answers : (high low : ℕ) (payload rest : List ℕ) → 256 * high + low ≡ 8 + length payload
+    → unit_answer (record { code = 225; body = high ∷ low ∷ (exif_id ++ payload); rest = rest }) ≡ Some (found payload rest)
+exif-answers high low payload rest e =
+    ap (λ t. cond t (Some (refused invalid_length)) (Some (found payload rest))) (le-ltb (256 * high + low) 2 (omega arith))
 
 unit_answer-says : (passed : List ℕ) (fill code : ℕ) (b : Brought) (rest : List ℕ) → IsBrought code b
     → unit_answer (record { code = code; body = print_brought b; rest = rest })
@@ -205,7 +245,13 @@ unit_answer-says passed fill code nothing rest h =
 unit_answer-says passed fill code (sized high low content) rest h =
     ap (λ t. cond (eqb code 216) (Some (refused unexpected_soi)) (cond (eqb code 217) (Some (refused no_exif_in_jpeg)) (cond t None
     (cond (ltb (256 * high + low) 2) (Some (refused invalid_length)) (cond (eqb code 225) (option_map (λ payload. found payload rest) (exif_payload content)) None))))) h.0
-    ∙ sized-says (eqb code 216) (eqb code 217) (ltb (256 * high + low) 2) (eqb code 225) (exif_payload content) rest
+    ∙ ap (λ o. cond (eqb code 216) (Some (refused unexpected_soi)) (cond (eqb code 217) (Some (refused no_exif_in_jpeg)) (cond (ltb (256 * high + low) 2) (Some (refused invalid_length)) o)))
+    (plain-answers code content rest h.2)
+    ∙ sized-says (eqb code 216) (eqb code 217) (ltb (256 * high + low) 2) rest
+unit_answer-says passed fill code (exif high low payload) rest h =
+    let P : ℕ → Type 0 = λ c. unit_answer (record { code = c; body = high ∷ low ∷ (exif_id ++ payload); rest = rest })
+        ≡ answer_of rest (unit_says (record { passed = passed; fill = fill; code = c; brought = exif high low payload })) in
+    subst P (sym h.0) (exif-answers high low payload rest h.1)
 
 -- the answer of a unit and what follows it
 answer-unit : (u : UnitTree) (rest : List ℕ) → IsUnit u → answer_from (print_unit u ++ rest) ≡ unwrap_or (answer_of rest (unit_says u)) (answer_from rest)

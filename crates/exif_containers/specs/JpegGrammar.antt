@@ -1,16 +1,21 @@
 -- JPEG streams as the standard writes them (ITU-T T.81, B.1.1; Exif 2.32, 4.7.2): trees, their
 -- bytes, and what makes them valid.
-use Rattle.std.specs.Prelude.{◌≡◌, ◌≢◌, ℕ, ◌+◌, ◌-◌, ◌*◌, ◌<◌, List, [], ◌∷◌, ◌++◌, length, replicate, nat_lt, true, false, ◌==◌, if◌then◌else◌, Option, None, Some, Result, Ok, Err}
+use Rattle.std.specs.Prelude.{◌≡◌, ◌≢◌, ℕ, ◌+◌, ◌-◌, ◌*◌, ◌<◌, List, [], ◌∷◌, ◌++◌, length, replicate, codes, nat_lt, true, false, ◌==◌, if◌then◌else◌, Option, None, Some, Result, Ok, Err}
 use Rattle.std.specs.List.{All, flat_map}
-use Rattle.std.specs.Option.{option_map}
 use Rattle.exif_types.specs.Refusals.{Refusal}
 use Rattle.exif_containers.specs.Answer.{Answer, found, refused}
-use Rattle.exif_containers.specs.Jpeg.{broken_jpeg, not_jpeg, unexpected_soi, invalid_length, no_exif_in_jpeg, stands_alone, exif_payload, jpeg_answer}
+use Rattle.exif_containers.specs.Jpeg.{broken_jpeg, not_jpeg, unexpected_soi, invalid_length, no_exif_in_jpeg, stands_alone, jpeg_answer}
 
--- what a code brings: nothing, or the two bytes of a length and what that counts besides them
+-- what a code brings: nothing; the two bytes of a length and what that counts besides them; or such a
+-- length, the identifier of Exif and the Exif data
 pub data Brought : Type 0 where
   nothing : Brought
   sized : ℕ → ℕ → List ℕ → Brought
+  exif : ℕ → ℕ → List ℕ → Brought
+
+-- `Exif` and two zeros
+abbrev pub exif_id : List ℕ
+exif_id = codes "Exif\0\0"
 
 -- a unit: bytes that are no ff, an ff and so many more of them, a code, and what it brings
 pub record UnitTree : Type 0 where
@@ -22,15 +27,23 @@ pub record UnitTree : Type 0 where
 abbrev pub print_brought : Brought → List ℕ
 print_brought nothing = []
 print_brought (sized high low content) = high ∷ low ∷ content
+print_brought (exif high low payload) = high ∷ low ∷ (exif_id ++ payload)
 
 -- the bytes of a unit
 abbrev pub print_unit : UnitTree → List ℕ
 print_unit u = u.passed ++ (255 ∷ (replicate u.fill 255 ++ (u.code ∷ print_brought u.brought)))
 
--- codes that stand alone bring nothing; a length counts its own two bytes
+-- the identifier of Exif does not stand in front
+abbrev pub HasNoId : List ℕ → Type 0
+HasNoId content = (payload : List ℕ) → content ≡ exif_id ++ payload → ⊥
+
+-- codes that stand alone bring nothing; a length counts its own two bytes; code e1 brings Exif data where
+-- the identifier stands
 abbrev pub IsBrought : ℕ → Brought → Type 0
 IsBrought code nothing = stands_alone code ≡ true
-IsBrought code (sized high low content) = (stands_alone code ≡ false) × (length content ≡ 256 * high + low - 2)
+IsBrought code (sized high low content) =
+    (stands_alone code ≡ false) × (length content ≡ 256 * high + low - 2) × (code ≡ 225 → HasNoId content)
+IsBrought code (exif high low payload) = (code ≡ 225) × (256 * high + low ≡ 8 + length payload)
 
 pub record IsUnit (u : UnitTree) : Type 0 where
   pub passed : All (λ b. b ≢ 255) u.passed
@@ -40,9 +53,8 @@ pub record IsUnit (u : UnitTree) : Type 0 where
 -- what the bytes of a code say: the Exif data, a refusal or nothing
 abbrev pub brought_says : ℕ → Brought → Option (Result (List ℕ) Refusal)
 brought_says code nothing = None
-brought_says code (sized high low content) =
-    if nat_lt (256 * high + low) 2 then Some (Err invalid_length) else
-    if code == 225 then option_map (λ payload. Ok payload) (exif_payload content) else None
+brought_says code (sized high low content) = if nat_lt (256 * high + low) 2 then Some (Err invalid_length) else None
+brought_says code (exif high low payload) = Some (Ok payload)
 
 -- what a unit says
 abbrev pub unit_says : UnitTree → Option (Result (List ℕ) Refusal)
