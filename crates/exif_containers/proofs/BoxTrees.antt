@@ -11,12 +11,12 @@ use Rattle.exif_containers.specs.declared.isobmff.splitter.Header.{Header}
 use Rattle.exif_containers.specs.HeifRefusals.{too_small, invalid_size}
 use Rattle.exif_containers.specs.Kinds.{kind_of}
 use Rattle.exif_containers.specs.Boxes.{Part, ended, before, and_then, whole_part, bytes_at, box_size, header_len, header_at, box_at, boxes, all_boxes, children}
-use Rattle.exif_containers.specs.BoxGrammar.{BoxHeader, sized, large, to_end, print_header, type_of, said_size, IsHeader, BoxTree, print_box, IsBox, box_part, AreBoxes, NoBox, cut, cut_large, too_long, too_short, print_no_box, IsNoBox, no_box_refusal, Parent, filled, broken, BoxIsRead, IsABox, CountedAreRead, ParentIsRead, IsAParent}
+use Rattle.exif_containers.specs.BoxGrammar.{BoxHeader, sized, large, to_end, print_header, type_of, said_size, IsHeader, BoxTree, print_box, IsBox, box_part, AreBoxes, NoBox, cut, cut_large, too_long, too_short, print_no_box, IsNoBox, no_box_refusal, Parent, filled, broken, BoxIsRead, IsABox, CountedAreRead, Counted, all, cut_off, too_few, CountIsRead, IsACount, ParentIsRead, IsAParent}
 use Rattle.exif_containers.proofs.Filling.{all_boxes_end, all_boxes_more, box_shorter, ok_same, after}
 
 -- ---- what the definition makes of the front of a text
 
-abbrev head_of : List ℕ → Header × List ℕ
+abbrev pub head_of : List ℕ → Header × List ℕ
 head_of text = (record { kind = kind_of (take 4 (drop 4 text)); len = box_size text - header_len text }, drop (header_len text) text)
 
 abbrev with_body : Kind → List ℕ × List ℕ → Front Part
@@ -25,7 +25,7 @@ with_body kind body = Ok (whole_part kind body.0, body.1)
 abbrev after_head : Header × List ℕ → Front Part
 after_head header = bytes_at header.0.len header.1 >>= with_body header.0.kind
 
-head-read : (text : List ℕ) → header_len text ≤ box_size text → header_at text ≡ Ok (head_of text)
+pub head-read : (text : List ℕ) → header_len text ≤ box_size text → header_at text ≡ Ok (head_of text)
 unfolding header_at
 head-read text h = ap (λ t. cond t (Err invalid_size) (Ok (head_of text))) (le-ltb (box_size text) (header_len text) h)
 
@@ -59,7 +59,7 @@ box-over text h k l =
     ∙ ap (λ t. cond t (Err too_small) (Ok (take (box_size text - header_len text) (drop (header_len text) text), drop (box_size text - header_len text) (drop (header_len text) text))) >>= with_body (kind_of (take 4 (drop 4 text))))
     (lt-ltb (length (drop (header_len text) text)) (box_size text - header_len text) (omega (arith, length-drop (header_len text) text)))
 
-bytes-there : (body rest : List ℕ) → bytes_at (length body) (body ++ rest) ≡ Ok (body, rest)
+pub bytes-there : (body rest : List ℕ) → bytes_at (length body) (body ++ rest) ≡ Ok (body, rest)
 bytes-there body rest =
     ap (λ t. cond t (Err too_small) (Ok (take (length body) (body ++ rest), drop (length body) (body ++ rest)))) (le-ltb (length (body ++ rest)) (length body) (omega (arith, length-append body rest)))
     ∙ ap (λ t. ok_pair t (drop (length body) (body ++ rest))) (take_at body rest (length body) refl)
@@ -81,17 +81,17 @@ box-read text body rest h e s =
 
 -- ---- headers
 
-record Reads (h : BoxHeader) (text more : List ℕ) : Type 0 where
-  len : header_len text ≡ length (print_header h)
-  size : box_size text ≡ said_size h (length text)
-  kind : take 4 (drop 4 text) ≡ type_of h
-  behind : drop (header_len text) text ≡ more
+pub record Reads (h : BoxHeader) (text more : List ℕ) : Type 0 where
+  pub len : header_len text ≡ length (print_header h)
+  pub size : box_size text ≡ said_size h (length text)
+  pub kind : take 4 (drop 4 text) ≡ type_of h
+  pub behind : drop (header_len text) text ≡ more
 
 -- a header of two texts of 4 bytes
 abbrev size_by : ℕ → List ℕ → ℕ
 size_by n text = cond (eqb n 0) (length text) (cond (eqb n 1) (big_number 8 (drop 8 text)) n)
 
-two-number : (size type more : List ℕ) → length size ≡ 4 → big_number 4 (size ++ (type ++ more)) ≡ big_number 4 size
+pub two-number : (size type more : List ℕ) → length size ≡ 4 → big_number 4 (size ++ (type ++ more)) ≡ big_number 4 size
 two-number size type more h = big_from-append 4 size (type ++ more) (omega arith)
 
 two-kind : (size type more : List ℕ) → length size ≡ 4 → length type ≡ 4 → take 4 (drop 4 (size ++ (type ++ more))) ≡ type
@@ -129,7 +129,7 @@ large-reads one type size more ol tl sl e =
       behind = ap (λ m. drop m text) sixteen ∙ sym (drop-drop 8 8 text) ∙ ap (drop 8) there ∙ drop_at size more 8 sl;
     }
 
-header-reads : (h : BoxHeader) (more : List ℕ) → IsHeader h → Reads h (print_header h ++ more) more
+pub header-reads : (h : BoxHeader) (more : List ℕ) → IsHeader h → Reads h (print_header h ++ more) more
 header-reads (sized size type) more h =
     let ne : big_number 4 size ≢ 1 = λ e. omega (arith, h.2) in
     subst (λ t. Reads (sized size type) t more) (sym (append_assoc size type more))
@@ -260,16 +260,16 @@ header-of text long h = by-zero (eqb (big_number 4 text) 0) refl
     by-zero false e = by-one (eqb (big_number 4 text) 1) refl (eqb-false (big_number 4 text) 0 e)
 
 -- a box, and the bytes behind it
-record Boxed (text : List ℕ) : Type 0 where
-  tree : BoxTree
-  rest : List ℕ
-  is : IsBox tree rest
-  whole : print_box tree ++ rest ≡ text
+pub record Boxed (text : List ℕ) : Type 0 where
+  pub tree : BoxTree
+  pub rest : List ℕ
+  pub is : IsBox tree rest
+  pub whole : print_box tree ++ rest ≡ text
 
-record Unboxed (text : List ℕ) : Type 0 where
-  end : NoBox
-  is : IsNoBox end
-  whole : print_no_box end ≡ text
+pub record Unboxed (text : List ℕ) : Type 0 where
+  pub end : NoBox
+  pub is : IsNoBox end
+  pub whole : print_no_box end ≡ text
 
 boxed-at : (head : BoxHeader) (more : List ℕ) → IsHeader head → length (print_header head) ≤ said_size head (length (print_header head ++ more))
     → said_size head (length (print_header head ++ more)) ≤ length (print_header head ++ more) → Boxed (print_header head ++ more)
@@ -298,7 +298,7 @@ at-header head more is = by-least (ltb (said_size head (length (print_header hea
     by-least true e = inl (record { end = too_short head more; is = (is, ltb-true (said_size head (length (print_header head ++ more))) (length (print_header head)) e); whole = refl })
     by-least false e = by-most (ltb (length (print_header head ++ more)) (said_size head (length (print_header head ++ more)))) refl (ltb-false (said_size head (length (print_header head ++ more))) (length (print_header head)) e)
 
-place : (text : List ℕ) → 0 < length text → Unboxed text ⊎ Boxed text
+pub place : (text : List ℕ) → 0 < length text → Unboxed text ⊎ Boxed text
 place text some = by-eight (ltb (length text) 8) refl
   where
     cut-header : (t : Bool) → eqb (big_number 4 text) 1 ≡ t → 8 ≤ length text → length text < cond t 16 8 → Unboxed text
@@ -363,7 +363,7 @@ counted_are_read (b ∷ bs) rest h =
     ∙ counted_more b (length bs) (print_box b ++ (flat_map print_box bs ++ rest)) (flat_map print_box bs ++ rest) (box_is_read b (flat_map print_box bs ++ rest) h.0)
     ∙ ap (before (box_part b)) (counted_are_read bs rest h.1)
 
-header-some : (h : BoxHeader) → IsHeader h → 8 ≤ length (print_header h)
+pub header-some : (h : BoxHeader) → IsHeader h → 8 ≤ length (print_header h)
 header-some (sized size type) h = omega (arith, h.0, h.1, length-append size type)
 header-some (large one type size) h = omega (arith, h.0, h.1, length-append one (type ++ size), length-append type size)
 header-some (to_end size type) h = omega (arith, h.0, h.1, length-append size type)
@@ -382,7 +382,7 @@ children-boxes (b ∷ bs) rest fault h e =
     ∙ children-more b (flat_map print_box bs ++ rest) h.0
     ∙ ap (before (box_part b)) (children-boxes bs rest fault h.1 e)
 
-no_box-some : (end : NoBox) → IsNoBox end → 0 < length (print_no_box end)
+pub no_box-some : (end : NoBox) → IsNoBox end → 0 < length (print_no_box end)
 no_box-some (cut bytes) h = h.0
 no_box-some (cut_large one type bytes) h = omega (arith, h.0, length-append one (type ++ bytes))
 no_box-some (too_long head bytes) h = let some = header-some head h.0 in omega (arith, length-append (print_header head) bytes)
@@ -408,7 +408,7 @@ parent-boxed text b (broken bs end, is, whole) = (
   append_assoc (print_box b.tree) (flat_map print_box bs) (print_no_box end) ∙ ap (λ r. print_box b.tree ++ r) whole ∙ b.whole,
 )
 
-boxed-shorter : (text : List ℕ) (b : Boxed text) → length b.rest < length text
+pub boxed-shorter : (text : List ℕ) (b : Boxed text) → length b.rest < length text
 boxed-shorter text b =
     let some = header-some b.tree.header b.is.0 in
     let total : length (print_box b.tree ++ b.rest) ≡ length text = ap (λ (t : List ℕ). length t) b.whole in
@@ -425,3 +425,57 @@ parent-within (suc n) (b ∷ text) h = first n (b ∷ text) h (place (b ∷ text
 
 pub is_a_parent : (bytes : List ℕ) → IsAParent bytes
 is_a_parent bytes = parent-within (suc (length bytes)) bytes (omega arith)
+
+-- ---- boxes that are counted
+
+counted-boxes : (bs : List BoxTree) (rest : List ℕ) (fault : Option Refusal) (n k : ℕ) → n ≡ length bs + k → AreBoxes bs rest
+    → boxes k rest ≡ record { whole = []; fault = fault } → boxes n (flat_map print_box bs ++ rest) ≡ record { whole = map box_part bs; fault = fault }
+counted-boxes [] rest fault n k e h end = let same : n ≡ k = omega arith in rw same end
+counted-boxes (b ∷ bs) rest fault n k e h end =
+    let same : n ≡ suc (length bs + k) = omega arith in
+    ap (λ m. boxes m (flat_map print_box (b ∷ bs) ++ rest)) same
+    ∙ ap (boxes (suc (length bs + k))) (append_assoc (print_box b) (flat_map print_box bs) rest)
+    ∙ counted_more b (length bs + k) (print_box b ++ (flat_map print_box bs ++ rest)) (flat_map print_box bs ++ rest) (box_is_read b (flat_map print_box bs ++ rest) h.0)
+    ∙ ap (before (box_part b)) (counted-boxes bs rest fault (length bs + k) k refl h.1 end)
+
+no-count : (rest : List ℕ) → boxes 0 rest ≡ record { whole = []; fault = None }
+unfolding boxes
+no-count rest = refl
+
+one-refused : (k : ℕ) (text : List ℕ) (r : Refusal) → box_at text ≡ Err r → boxes (suc k) text ≡ record { whole = []; fault = Some r }
+unfolding boxes
+one-refused k text r e = ap (λ b. and_then b (boxes k)) e
+
+pub count_is_read : (n : ℕ) (c : Counted) → CountIsRead n c
+count_is_read n (all bs rest) h = counted-boxes bs rest None n 0 (omega (arith, h.0)) h.1 (no-count rest)
+count_is_read n (cut_off bs end) h =
+    counted-boxes bs (print_no_box end) (Some (no_box_refusal end)) n (suc (n - length bs - 1)) (omega (arith, h.0)) h.1
+    (one-refused (n - length bs - 1) (print_no_box end) (no_box_refusal end) (no_box_is_refused end h.2))
+count_is_read n (too_few bs) h =
+    counted-boxes bs [] (Some too_small) n (suc (n - length bs - 1)) (omega (arith, h.0)) h.1 (one-refused (n - length bs - 1) [] too_small (box-cut [] (omega arith)))
+
+count-boxed : (n : ℕ) (text : List ℕ) (b : Boxed text) → IsACount n b.rest → IsACount (suc n) text
+count-boxed n text b (all bs rest, is, whole) = (
+  all (b.tree ∷ bs) rest,
+  (ap suc is.0, (subst (λ r. IsBox b.tree r) (sym whole) b.is, is.1)),
+  append_assoc (print_box b.tree) (flat_map print_box bs) rest ∙ ap (λ r. print_box b.tree ++ r) whole ∙ b.whole,
+)
+count-boxed n text b (cut_off bs end, is, whole) = (
+  cut_off (b.tree ∷ bs) end,
+  (omega (arith, is.0), (subst (λ r. IsBox b.tree r) (sym whole) b.is, is.1), is.2),
+  append_assoc (print_box b.tree) (flat_map print_box bs) (print_no_box end) ∙ ap (λ r. print_box b.tree ++ r) whole ∙ b.whole,
+)
+count-boxed n text b (too_few bs, is, whole) = (
+  too_few (b.tree ∷ bs),
+  (omega (arith, is.0), (subst (λ r. IsBox b.tree r) (sym whole) b.is, is.1)),
+  append_assoc (print_box b.tree) (flat_map print_box bs) [] ∙ ap (λ r. print_box b.tree ++ r) whole ∙ b.whole,
+)
+
+pub is_a_count : (n : ℕ) (bytes : List ℕ) → IsACount n bytes
+is_a_count zero bytes = (all [] bytes, (refl, tt), refl)
+is_a_count (suc n) [] = (too_few [], (omega arith, tt), refl)
+is_a_count (suc n) (b ∷ bytes) = first (place (b ∷ bytes) (omega arith)) (is_a_count n)
+  where
+    first : Unboxed (b ∷ bytes) ⊎ Boxed (b ∷ bytes) → ((rest : List ℕ) → IsACount n rest) → IsACount (suc n) (b ∷ bytes)
+    first (inl u) ih = (cut_off [] u.end, (omega arith, tt, u.is), u.whole)
+    first (inr t) ih = count-boxed n (b ∷ bytes) t (ih t.rest)

@@ -3,8 +3,10 @@ pub mod Boxes
 pub mod Children
 pub mod ContainerSteps
 pub mod FileBoxes
+pub mod FileTrees
 pub mod Filling
 pub mod HeifNamed
+pub mod ItemTrees
 pub mod JpegCalls
 pub mod JpegMoves
 pub mod JpegTrees

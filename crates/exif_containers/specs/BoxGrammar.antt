@@ -100,6 +100,28 @@ abbrev pub parent_parts : Parent → Parts
 parent_parts (filled bs) = record { whole = map box_part bs; fault = None }
 parent_parts (broken bs end) = record { whole = map box_part bs; fault = Some (no_box_refusal end) }
 
+-- boxes that are counted: all of them, and then any bytes; or fewer, and then bytes that begin no box, or
+-- no more bytes
+pub data Counted : Type 0 where
+  all : List BoxTree → List ℕ → Counted
+  cut_off : List BoxTree → NoBox → Counted
+  too_few : List BoxTree → Counted
+
+abbrev pub print_counted : Counted → List ℕ
+print_counted (all bs rest) = flat_map print_box bs ++ rest
+print_counted (cut_off bs end) = flat_map print_box bs ++ print_no_box end
+print_counted (too_few bs) = flat_map print_box bs ++ []
+
+abbrev pub IsCounted : ℕ → Counted → Type 0
+IsCounted n (all bs rest) = (length bs ≡ n) × AreBoxes bs rest
+IsCounted n (cut_off bs end) = (length bs < n) × AreBoxes bs (print_no_box end) × IsNoBox end
+IsCounted n (too_few bs) = (length bs < n) × AreBoxes bs []
+
+abbrev pub counted_parts : Counted → Parts
+counted_parts (all bs rest) = record { whole = map box_part bs; fault = None }
+counted_parts (cut_off bs end) = record { whole = map box_part bs; fault = Some (no_box_refusal end) }
+counted_parts (too_few bs) = record { whole = map box_part bs; fault = Some too_small }
+
 -- a box is read as its tree says, and the bytes behind it are left
 abbrev pub BoxIsRead : BoxTree → List ℕ → Type 0
 BoxIsRead b rest = IsBox b rest → box_at (print_box b ++ rest) ≡ Ok (box_part b, rest)
@@ -111,6 +133,14 @@ IsABox text p rest = box_at text ≡ Ok (p, rest) → (b : BoxTree) × IsBox b r
 -- as many boxes as are counted are read, whatever follows them
 abbrev pub CountedAreRead : List BoxTree → List ℕ → Type 0
 CountedAreRead bs rest = AreBoxes bs rest → boxes (length bs) (flat_map print_box bs ++ rest) ≡ record { whole = map box_part bs; fault = None }
+
+-- a count of boxes is read as its tree says
+abbrev pub CountIsRead : ℕ → Counted → Type 0
+CountIsRead n c = IsCounted n c → boxes n (print_counted c) ≡ counted_parts c
+
+-- all bytes are those of a valid tree for any count
+abbrev pub IsACount : ℕ → List ℕ → Type 0
+IsACount n bytes = (c : Counted) × IsCounted n c × (print_counted c ≡ bytes)
 
 -- what stands in a box is read as its tree says
 abbrev pub ParentIsRead : Parent → Type 0

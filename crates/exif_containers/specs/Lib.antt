@@ -3,9 +3,11 @@ pub mod BoxGrammar
 pub mod Boxes
 pub mod Container
 pub mod FileBoxView
+pub mod FileGrammar
 pub mod Heif
 pub mod HeifFile
 pub mod HeifRefusals
+pub mod ItemGrammar
 pub mod Items
 pub mod Jpeg
 pub mod JpegGrammar

@@ -1,9 +1,11 @@
 //! Laws of the containers: what is answered by computing is what the trees of the grammars say.
 
 ghost use Rattle.std.specs.Prelude.{ℕ, List};
-ghost use Rattle.exif_containers.specs.BoxGrammar.{BoxIsRead, BoxTree, CountedAreRead, IsABox, IsAParent, Parent, ParentIsRead};
+ghost use Rattle.exif_containers.specs.BoxGrammar.{BoxIsRead, BoxTree, CountIsRead, Counted, CountedAreRead, IsABox, IsACount, IsAParent, Parent, ParentIsRead};
 ghost use Rattle.exif_containers.specs.Boxes.{Part};
 ghost use Rattle.exif_containers.specs.Container.{TiffIsWhole};
+ghost use Rattle.exif_containers.specs.FileGrammar.{FileBoxesAreRead, FrontTree, IsAFront, MetaIsFound};
+ghost use Rattle.exif_containers.specs.ItemGrammar.{BlockIsRead, BlockTree, EntryIsRead, EntryTree, InfoIsRead, InfoTree, IsABlock, IsAnEntry, IsAnInfo};
 ghost use Rattle.exif_containers.specs.JpegGrammar.{IsAStream, Stream, StreamIsAnswered};
 ghost use Rattle.exif_containers.specs.WebpGrammar.{FileIsAnswered, IsAFile, WebpFile};
 
@@ -27,6 +29,12 @@ pub fn boxes_are_read()
     ensures counted { (bs : List BoxTree) (rest : List ℕ) → CountedAreRead bs rest }
 {}
 
+/// A count of boxes is read as its tree says, and all bytes are those of such a tree for any count.
+pub fn counts_are_boxes()
+    ensures read { (n : ℕ) (c : Counted) → CountIsRead n c }
+    ensures every { (n : ℕ) (bytes : List ℕ) → IsACount n bytes }
+{}
+
 /// What stands in a box is read as the tree of its boxes says, and all bytes are those of such a tree.
 pub fn parents_are_boxes()
     ensures read { (p : Parent) → ParentIsRead p }
@@ -36,4 +44,35 @@ pub fn parents_are_boxes()
 /// Bytes that begin as TIFF data do are their own container: all of them are answered.
 pub fn tiff_data_stand_alone()
     ensures whole { (bytes : List ℕ) → TiffIsWhole bytes }
+{}
+
+/// An entry of `iinf` is read as its tree says, and all bytes are those of such a tree.
+pub fn entries_are_read()
+    ensures read { (e : EntryTree) → EntryIsRead e }
+    ensures every { (bytes : List ℕ) → IsAnEntry bytes }
+{}
+
+/// An `iinf` is read as its tree says, and all bytes are those of such a tree.
+pub fn item_infos_are_read()
+    ensures read { (t : InfoTree) → InfoIsRead t }
+    ensures every { (bytes : List ℕ) → IsAnInfo bytes }
+{}
+
+/// The bytes of the Exif item are read as their tree says, and all bytes are those of such a tree.
+pub fn exif_items_are_read()
+    ensures read { (t : BlockTree) → BlockIsRead t }
+    ensures every { (bytes : List ℕ) → IsABlock bytes }
+{}
+
+/// The boxes of a file are read as the tree of its boxes says, the last one as far as it stands there. All
+/// bytes are those of such a tree, as `parents_are_boxes` says.
+pub fn file_boxes_are_read()
+    ensures read { (p : Parent) → FileBoxesAreRead p }
+{}
+
+/// The `meta` of a file is found as the tree of the boxes up to it says, or refused as what ends them says,
+/// and all bytes are those of such a tree.
+pub fn files_up_to_meta()
+    ensures found { (t : FrontTree) → MetaIsFound t }
+    ensures every { (bytes : List ℕ) → IsAFront bytes }
 {}
