@@ -1,20 +1,22 @@
 //! Texts with spaces around them, up to a width.
 
 ghost use Rattle.std.specs.Prelude.{◌≡◌, unwrap_or};
-ghost use Rattle.std.specs.Fmt.{WritesStyledOnOk, formatter_spec, spec_align, spec_width};
+ghost use Rattle.std.specs.Fmt.{WritesOnOk, WritesStyledOnOk, formatter_spec, spec_align, spec_width};
 ghost use Rattle.exif_text.specs.Pad.{pad, places_before};
 
 use std::fmt;
 use std::fmt::Alignment;
 
 /// Writes `text` with spaces around it, up to the width that `f` asks for, on the side that `f`
-/// names, else on `side`. Fill, zeros, sign and precision of `f` are ignored.
+/// names, else on `side`. Fill, zeros, sign and precision of `f` are ignored. Where `f` asks for
+/// nothing, it is the text alone.
 pub fn write_padded<W: fmt::Write>(
     f: &mut fmt::Formatter<W>,
     text: &str,
     side: Alignment,
 ) -> fmt::Result
-    ensures { WritesStyledOnOk W.write_str_gives f.old result
+    ensures writes { WritesOnOk W.write_str_gives f.old result text.now f.new }
+    ensures styled { WritesStyledOnOk W.write_str_gives f.old result
         (pad text.now (unwrap_or (spec_width (formatter_spec f.old)) 0)
         (unwrap_or (spec_align (formatter_spec f.old)) side)) f.new }
 {

@@ -8,8 +8,8 @@ ghost use Rattle.exif_text.specs.Pad.{pad};
 use crate::decimal::Decimal;
 use crate::pad::write_padded;
 use arrayvec::ArrayString;
+use itoa::Buffer;
 use std::fmt;
-use std::fmt::Write;
 
 /// A fraction without sign. Its text is `num/denom`, on the right of its width.
 #[derive(Clone, Copy, PartialEq, Eq)]
@@ -31,6 +31,7 @@ pub struct SRational {
 
 impl Rational {
     ghost use Rattle.exif_text.specs.Decimal.{rational_decimal, shown_decimal};
+    ghost use Rattle.exif_text.specs.Rational.{rational_text};
 
     /// The fraction as a decimal, cut after nine places.
     pub fn decimal(&self) -> Decimal
@@ -38,10 +39,24 @@ impl Rational {
     {
         Decimal::new(false, self.num, self.denom)
     }
+
+    // The two numbers, each of at most ten digits, around a slash.
+    fn text(self) -> ArrayString<21>
+        ensures { result.bytes ≡ rational_text self }
+    {
+        let Rational { num, denom } = self;
+        let mut digits = Buffer::new();
+        let mut text = ArrayString::new();
+        text.push_str(digits.format(num));
+        text.push_str("/");
+        text.push_str(digits.format(denom));
+        text
+    }
 }
 
 impl SRational {
     ghost use Rattle.exif_text.specs.Decimal.{shown_decimal, srational_decimal};
+    ghost use Rattle.exif_text.specs.Rational.{srational_text};
 
     /// The fraction as a decimal, cut after nine places. Over 0 it keeps the sign of `num`.
     pub fn decimal(&self) -> Decimal
@@ -52,6 +67,19 @@ impl SRational {
             self.num.unsigned_abs(),
             self.denom.unsigned_abs(),
         )
+    }
+
+    // The two numbers, each of at most ten digits and a sign, around a slash.
+    fn text(self) -> ArrayString<23>
+        ensures { result.bytes ≡ srational_text self }
+    {
+        let SRational { num, denom } = self;
+        let mut digits = Buffer::new();
+        let mut text = ArrayString::new();
+        text.push_str(digits.format(num));
+        text.push_str("/");
+        text.push_str(digits.format(denom));
+        text
     }
 }
 
@@ -86,10 +114,7 @@ impl fmt::Display for Rational {
         (unwrap_or (spec_width spec) 0) (unwrap_or (spec_align spec) Right)) };
 
     fn fmt<W: fmt::Write>(&self, f: &mut fmt::Formatter<W>) -> fmt::Result {
-        let Rational { num, denom } = *self;
-        let mut text = ArrayString::<21>::new();
-        write!(text, "{num}/{denom}")?;
-        write_padded(f, text.as_str(), fmt::Alignment::Right)
+        write_padded(f, self.text().as_str(), fmt::Alignment::Right)
     }
 }
 
@@ -102,10 +127,7 @@ impl fmt::Display for SRational {
         (unwrap_or (spec_width spec) 0) (unwrap_or (spec_align spec) Right)) };
 
     fn fmt<W: fmt::Write>(&self, f: &mut fmt::Formatter<W>) -> fmt::Result {
-        let SRational { num, denom } = *self;
-        let mut text = ArrayString::<23>::new();
-        write!(text, "{num}/{denom}")?;
-        write_padded(f, text.as_str(), fmt::Alignment::Right)
+        write_padded(f, self.text().as_str(), fmt::Alignment::Right)
     }
 }
 

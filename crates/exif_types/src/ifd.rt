@@ -7,8 +7,8 @@ ghost use Rattle.exif_text.specs.Pad.{pad};
 
 use arrayvec::ArrayString;
 use exif_text::pad::write_padded;
+use itoa::Buffer;
 use std::fmt;
-use std::fmt::Write;
 
 /// The number of a directory in its chain, counted from 0. The first is shown as `primary`, the
 /// second as `thumbnail`, others as `IFD2` and so on.
@@ -16,6 +16,8 @@ use std::fmt::Write;
 pub struct In(pub u16);
 
 impl In {
+    ghost use Rattle.exif_types.specs.IfdTexts.{ifd_text};
+
     /// The first directory: the image itself.
     pub const PRIMARY: In = In(0);
     /// The second directory: its thumbnail.
@@ -26,6 +28,22 @@ impl In {
         ensures { result ≡ self.0 }
     {
         self.0
+    }
+
+    // The name of one of the first two, else `IFD` and the number, of at most five digits.
+    fn text(self) -> ArrayString<9>
+        ensures { result.bytes ≡ ifd_text self.0 }
+    {
+        let mut text = ArrayString::new();
+        match self.0 {
+            0 => text.push_str("primary"),
+            1 => text.push_str("thumbnail"),
+            number => {
+                text.push_str("IFD");
+                text.push_str(Buffer::new().format(number));
+            }
+        }
+        text
     }
 }
 
@@ -38,14 +56,6 @@ impl fmt::Display for In {
         (unwrap_or (spec_width spec) 0) (unwrap_or (spec_align spec) Left)) };
 
     fn fmt<W: fmt::Write>(&self, f: &mut fmt::Formatter<W>) -> fmt::Result {
-        match self.0 {
-            0 => write_padded(f, "primary", fmt::Alignment::Left),
-            1 => write_padded(f, "thumbnail", fmt::Alignment::Left),
-            number => {
-                let mut text = ArrayString::<8>::new();
-                write!(text, "IFD{number}")?;
-                write_padded(f, text.as_str(), fmt::Alignment::Left)
-            }
-        }
+        write_padded(f, self.text().as_str(), fmt::Alignment::Left)
     }
 }

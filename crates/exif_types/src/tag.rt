@@ -1,6 +1,6 @@
 //! Tags: a number, and the kind of directory that it stands in (Exif 2.32, 4.6.3).
 
-ghost use Rattle.std.specs.Prelude.{◌≡◌, Some, IfOk, IfErr, map, unwrap_or};
+ghost use Rattle.std.specs.Prelude.{◌≡◌, ◌≤◌, length, Some, IfOk, IfErr, map, unwrap_or};
 ghost use Rattle.std.specs.Option.{option_map};
 ghost use Rattle.std.specs.Fmt.{spec_align, spec_width};
 ghost use Rattle.std.specs.declared.fmt.Alignment.TheVariants.{Left};
@@ -13,9 +13,9 @@ use crate::{Error, Value};
 use arrayvec::ArrayString;
 use exif_table::{Row, TextKind, UnitPiece, find_row};
 use exif_text::pad::write_padded;
+use itoa::Buffer;
 use std::alloc::Global;
 use std::fmt;
-use std::fmt::Write;
 
 /// The kind of directory that a tag belongs to.
 #[derive(Clone, Copy, Debug, PartialEq, Eq, PartialOrd, Ord, Hash)]
@@ -51,7 +51,8 @@ impl Context {
     }
 
     fn name(self) -> &'static str
-        ensures { result.now ≡ context_name self }
+        ensures name { result.now ≡ context_name self }
+        ensures short { length result.now ≤ 7 }
     {
         match self {
             Context::Tiff => "Tiff",
@@ -65,6 +66,7 @@ impl Context {
 impl Tag {
     ghost use Rattle.exif_types.specs.TagRows.{description_of, kind_of, row_of_tag, unit_of};
     ghost use Rattle.exif_types.specs.Defaults.{default_of};
+    ghost use Rattle.exif_types.specs.TagTexts.{numbered_text};
 
     /// The kind of directory that the tag belongs to.
     pub fn context(self) -> Context
@@ -129,6 +131,19 @@ impl Tag {
     {
         find_row(self.0.in_table(), self.1)
     }
+
+    // The context and the number; `Tag(Interop, 65535)` is the longest.
+    fn numbered_text(self) -> ArrayString<19>
+        ensures { result.bytes ≡ numbered_text self }
+    {
+        let mut text = ArrayString::new();
+        text.push_str("Tag(");
+        text.push_str(self.0.name());
+        text.push_str(", ");
+        text.push_str(Buffer::new().format(self.1));
+        text.push_str(")");
+        text
+    }
 }
 
 impl fmt::Display for Tag {
@@ -142,12 +157,7 @@ impl fmt::Display for Tag {
     fn fmt<W: fmt::Write>(&self, f: &mut fmt::Formatter<W>) -> fmt::Result {
         match self.row() {
             Some(row) => write_padded(f, row.name, fmt::Alignment::Left),
-            None => {
-                let (context, number) = (self.0.name(), self.1);
-                let mut text = ArrayString::<19>::new();
-                write!(text, "Tag({context}, {number})")?;
-                write_padded(f, text.as_str(), fmt::Alignment::Left)
-            }
+            None => write_padded(f, self.numbered_text().as_str(), fmt::Alignment::Left),
         }
     }
 }
