@@ -27,3 +27,4 @@ pub mod Members
 pub mod Pushed
 pub mod Held
 pub mod Scrubbed
+pub mod Witness

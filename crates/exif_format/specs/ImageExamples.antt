@@ -9,7 +9,7 @@ use Rattle.exif_format.specs.declared.fault.Fault.TheVariants.{TooManyDirectorie
 use Rattle.exif_format.specs.declared.write_fault.WriteFault.TheVariants.{NoDirectory, EmptyDirectory, TooManyFields, UnknownType}
 use Rattle.exif_format.specs.Trace.{ordered_trace}
 use Rattle.exif_format.specs.Answers.{Refused, Whole, Partial, raw_answer}
-use Rattle.exif_format.specs.Groups.{Group, empty_group, entry_of, pushed, strips_set, jpeg_set}
+use Rattle.exif_format.specs.Groups.{Group, empty_group, entry_of, pushed, strips_set, tiles_set, jpeg_set}
 use Rattle.exif_format.specs.Slots.{tiff_slots, exif_slots, gps_slots, interop_slots}
 use Rattle.exif_format.specs.Places.{tiff_place, exif_place, gps_place, interop_place, tiff_values, exif_values, gps_values, interop_values, strips_place, tiles_place, jpeg_place, draft_end}
 use Rattle.exif_format.specs.Image.{image, draft_parts}
@@ -187,16 +187,16 @@ many_written : write_fault (record empty_group { tiff = replicate 65536 (entry_o
 unfolding write_fault group_fault tiff_slots exif_slots gps_slots interop_slots tiff_place exif_place gps_place interop_place tiff_values exif_values gps_values interop_values strips_place tiles_place jpeg_place draft_end
 many_written = refl
 
--- strips and a thumbnail in one directory, the thumbnail at an odd place
+-- tiles and a thumbnail in one directory, the thumbnail at an odd place
 abbrev two_kinds : List Group
-two_kinds = jpeg_set (codes "J") 0 (strips_set (codes "AB" ∷ codes "C" ∷ []) 0 [])
+two_kinds = jpeg_set (codes "J") 0 (tiles_set (codes "AB" ∷ codes "C" ∷ []) 0 [])
 
 abbrev two_kinds_bytes : List ℕ
 two_kinds_bytes =
     77 ∷ 77 ∷ 0 ∷ 42 ∷ 0 ∷ 0 ∷ 0 ∷ 8
     ∷ 0 ∷ 4
-    ∷ 1 ∷ 17 ∷ 0 ∷ 4 ∷ 0 ∷ 0 ∷ 0 ∷ 2 ∷ 0 ∷ 0 ∷ 0 ∷ 62
-    ∷ 1 ∷ 23 ∷ 0 ∷ 4 ∷ 0 ∷ 0 ∷ 0 ∷ 2 ∷ 0 ∷ 0 ∷ 0 ∷ 70
+    ∷ 1 ∷ 68 ∷ 0 ∷ 4 ∷ 0 ∷ 0 ∷ 0 ∷ 2 ∷ 0 ∷ 0 ∷ 0 ∷ 62
+    ∷ 1 ∷ 69 ∷ 0 ∷ 4 ∷ 0 ∷ 0 ∷ 0 ∷ 2 ∷ 0 ∷ 0 ∷ 0 ∷ 70
     ∷ 2 ∷ 1 ∷ 0 ∷ 4 ∷ 0 ∷ 0 ∷ 0 ∷ 1 ∷ 0 ∷ 0 ∷ 0 ∷ 81
     ∷ 2 ∷ 2 ∷ 0 ∷ 4 ∷ 0 ∷ 0 ∷ 0 ∷ 1 ∷ 0 ∷ 0 ∷ 0 ∷ 1
     ∷ 0 ∷ 0 ∷ 0 ∷ 0
@@ -208,7 +208,7 @@ two_kinds_big : image Big two_kinds ≡ two_kinds_bytes
 unfolding image draft_parts tiff_slots exif_slots gps_slots interop_slots tiff_place exif_place gps_place interop_place tiff_values exif_values gps_values interop_values strips_place tiles_place jpeg_place draft_end
 two_kinds_big = refl
 
-two_kinds_read : raw_answer true None (image Big two_kinds) ≡ Whole (field_of Tiff 0x111 0 (Long (78 ∷ 80 ∷ [])) ∷ field_of Tiff 0x117 0 (Long (2 ∷ 1 ∷ []))
+two_kinds_read : raw_answer true None (image Big two_kinds) ≡ Whole (field_of Tiff 0x144 0 (Long (78 ∷ 80 ∷ [])) ∷ field_of Tiff 0x145 0 (Long (2 ∷ 1 ∷ []))
     ∷ field_of Tiff 0x201 0 (Long (81 ∷ [])) ∷ field_of Tiff 0x202 0 (Long (1 ∷ [])) ∷ [])
 unfolding raw_answer ordered_trace image draft_parts tiff_slots exif_slots gps_slots interop_slots tiff_place exif_place gps_place interop_place tiff_values exif_values gps_values interop_values strips_place tiles_place jpeg_place draft_end
 two_kinds_read = refl
@@ -278,11 +278,11 @@ five_calls_closed : map (group_made five_calls) (range_with_len 0 (directories f
 five_calls_closed = refl
 
 -- scrubbing takes out where a picture was taken, and values of unknown types
-abbrev a_picture : List Field
+abbrev pub a_picture : List Field
 a_picture = field_of Exif 0x9000 0 (Undefined (codes "0231") 99) ∷ field_of Gps 0 0 (Byte (2 ∷ 3 ∷ 0 ∷ 0 ∷ []))
     ∷ field_of Tiff 0x100 0 (Unknown 65535 1 18) ∷ description 0 (codes "Sample") ∷ []
 
-a_picture_written : write_fault (scrubbed a_picture) ≡ None
+pub a_picture_written : write_fault (scrubbed a_picture) ≡ None
 unfolding write_fault group_fault tiff_slots exif_slots gps_slots interop_slots tiff_place exif_place gps_place interop_place tiff_values exif_values gps_values interop_values strips_place tiles_place jpeg_place draft_end
 a_picture_written = refl
 

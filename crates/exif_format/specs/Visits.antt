@@ -1,6 +1,6 @@
 -- How many entries a reading may visit.
 use Rattle.std.specs.Prelude.{ℕ, ◌+◌, ◌*◌, ◌/◌, ◌<◌, ◌≤◌, min, List, length, slice_index, Option}
-use Rattle.exif_format.specs.Trace.{trace, visits_of, fields_of, faults_of, cut, limited}
+use Rattle.exif_format.specs.Trace.{Node, trace, visits_of, fields_of, faults_of, cut, limited}
 
 -- the most entries that one directory of the data can have whole
 abbrev pub entries_at_most : List ℕ → ℕ
@@ -17,22 +17,22 @@ AreBytes bytes = (i : ℕ) → slice_index bytes i < 256
 abbrev pub VisitsAreBounded : List ℕ → Type 0
 VisitsAreBounded bytes = AreBytes bytes → visits_of (trace bytes) ≤ visits_at_most bytes
 
+-- how many fields and faults nodes hold
+abbrev pub reports_of : List Node → ℕ
+reports_of nodes = length (fields_of nodes) + length (faults_of nodes)
+
 -- each field and fault, but for one, has an entry of its own
 abbrev pub ReportsAreBounded : List ℕ → Type 0
-ReportsAreBounded bytes = length (fields_of (trace bytes)) + length (faults_of (trace bytes)) ≤ visits_of (trace bytes) + 1
+ReportsAreBounded bytes = reports_of (trace bytes) ≤ visits_of (trace bytes) + 1
 
 -- so under any limit
 abbrev pub ReportsAreBoundedUnder : Option ℕ → List ℕ → Type 0
-ReportsAreBoundedUnder limit bytes =
-    length (fields_of (limited limit (trace bytes))) + length (faults_of (limited limit (trace bytes)))
-    ≤ visits_of (limited limit (trace bytes)) + 1
+ReportsAreBoundedUnder limit bytes = reports_of (limited limit (trace bytes)) ≤ visits_of (limited limit (trace bytes)) + 1
 
 -- with a limit, the fields and the faults together are at most one more than it
 abbrev pub LimitBoundsReports : ℕ → List ℕ → Type 0
-LimitBoundsReports n bytes = length (fields_of (cut n (trace bytes))) + length (faults_of (cut n (trace bytes))) ≤ n + 1
+LimitBoundsReports n bytes = reports_of (cut n (trace bytes)) ≤ n + 1
 
 -- and one more than what the length of the data allows
 abbrev pub LimitAndLengthBoundReports : ℕ → List ℕ → Type 0
-LimitAndLengthBoundReports n bytes =
-    AreBytes bytes
-    → length (fields_of (cut n (trace bytes))) + length (faults_of (cut n (trace bytes))) ≤ min (n + 1) (visits_at_most bytes + 1)
+LimitAndLengthBoundReports n bytes = AreBytes bytes → reports_of (cut n (trace bytes)) ≤ min (n + 1) (visits_at_most bytes + 1)

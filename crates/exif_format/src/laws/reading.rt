@@ -44,7 +44,8 @@ pub fn faults_are_hard_or_soft()
     ensures soft { (bytes : List ℕ) → FaultsAreSoft bytes }
     ensures limited { (limit : Option ℕ) (bytes : List ℕ) → FaultsAreSoftUnder limit bytes }
     ensures passed { (limit : Option ℕ) (bytes : List ℕ) → PassesSoftFaults limit bytes }
-    ensures refused { (lenient : Bool) (limit : Option ℕ) (bytes : List ℕ) → RefusesHardOrSoft lenient limit bytes }
+    ensures refused { (lenient : Bool) (limit : Option ℕ) (bytes : List ℕ)
+        → RefusesHardOrSoft lenient limit bytes }
     ensures hard { (bytes : List ℕ) → HeaderFaultsAreHard bytes }
     ensures too_large { (bytes : List ℕ) → TooLargeIsExact bytes }
 {}
