@@ -1,4 +1,5 @@
 pub mod ItemSteps
 pub mod KeyOrder
+pub mod LastNamed
 pub mod Locating
 pub mod TextLemmas

@@ -15,6 +15,7 @@ pub mod PlainValues
 pub mod Rationals
 pub mod Refusals
 pub mod Sound
+pub mod TagOrder
 pub mod TagRows
 pub mod TagTexts
 pub mod Texts

@@ -1,5 +1,5 @@
 -- Looking for a field by its tag and its directory.
-use Rattle.std.specs.Prelude.{◌==◌, ◌&&◌, Bool, true, false, List, Option, find, reverse}
+use Rattle.std.specs.Prelude.{◌≡◌, ◌==◌, ◌&&◌, Bool, true, false, List, ◌∷◌, ◌++◌, All, Option, find, reverse}
 use Rattle.exif_types.specs.declared.tag.Context.{Context}
 use Rattle.exif_types.specs.declared.tag.Context.TheVariants.{Tiff, Exif, Gps, Interop}
 use Rattle.exif_types.specs.declared.tag.Tag.{Tag}
@@ -25,3 +25,16 @@ is_named tag ifd_num field = tag_eq field.tag tag && (field.ifd_num.0 == ifd_num
 -- the last field with a tag and a directory
 abbrev pub last_named : List Field → Tag → In → Option Field
 last_named fields tag ifd_num = find (is_named tag ifd_num) (reverse fields)
+
+-- a field has this tag, in this directory
+abbrev pub HasName : Tag → In → Field → Type 0
+HasName tag ifd_num field = (field.tag ≡ tag) × (field.ifd_num ≡ ifd_num)
+
+-- none of the fields has this tag in this directory
+abbrev pub NoneNamed : Tag → In → List Field → Type 0
+NoneNamed tag ifd_num fields = All (λ field. ¬ (HasName tag ifd_num field)) fields
+
+-- the field has the tag and the directory, and none behind it has them
+abbrev pub IsLastNamed : Tag → In → List Field → Field → Type 0
+IsLastNamed tag ifd_num fields field =
+    (before : List Field) × (behind : List Field) × (fields ≡ before ++ field ∷ behind) × HasName tag ifd_num field × NoneNamed tag ifd_num behind

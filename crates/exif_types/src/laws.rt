@@ -1,14 +1,20 @@
-//! What holds of equality, order and hashing of tags and of directories.
+//! What holds of equality, order and hashing of tags and of directories, of look-ups, and of unsigned
+//! numbers by index.
 
-ghost use Rattle.std.specs.Prelude.{◌≡◌, ◌↔◌, IsTrue};
+ghost use Rattle.std.specs.Prelude.{◌≡◌, ◌↔◌, IsTrue, IfSome, IfNone, slice_get};
 ghost use Rattle.std.specs.List.{fold};
+ghost use Rattle.std.specs.Option.{option_and_then, option_copied};
+ghost use Rattle.std.specs.Ordering.{nat_cmp};
 ghost use Rattle.std.specs.declared.cmp.Ordering.TheVariants.{Equal};
+ghost use Rattle.exif_types.specs.Lookup.{IsLastNamed, NoneNamed};
+ghost use Rattle.exif_types.specs.TagOrder.{context_order, tag_order};
 
-use crate::{Context, In, Tag};
+use crate::{Context, Exif, Field, Fields, In, Tag, UIntIter, Value};
 use std::cmp::Ordering;
 use std::hash::{Hash, Hasher};
 
 /// Contexts are equal where `==` says so and where their order says so, and equal ones hash alike.
+/// Their order is Tiff, Exif, Gps, Interop.
 pub fn contexts_agree<H: Hasher>(
     a: Context,
     b: Context,
@@ -18,6 +24,7 @@ pub fn contexts_agree<H: Hasher>(
     ensures equality { IsTrue result.0 ↔ (a ≡ b) }
     ensures order { (result.1 ≡ Equal) ↔ (a ≡ b) }
     ensures compared { result.1 ≡ ⟦<Context as Ord>⟧.cmp a b }
+    ensures ranked { result.1 ≡ context_order a b }
     ensures first { first.new ≡ fold H.write first.old (⟦<Context as Hash>⟧.hash_input a) }
     ensures second { second.new ≡ fold H.write second.old (⟦<Context as Hash>⟧.hash_input b) }
     ensures hash { a ≡ b → first.old ≡ second.old → first.new ≡ second.new }
@@ -28,10 +35,12 @@ pub fn contexts_agree<H: Hasher>(
 }
 
 /// Tags are equal where `==` says so and where their order says so, and equal ones hash alike.
+/// Their contexts are compared first, and then their numbers.
 pub fn tags_agree<H: Hasher>(a: Tag, b: Tag, first: &mut H, second: &mut H) -> (bool, Ordering)
     ensures equality { IsTrue result.0 ↔ (a ≡ b) }
     ensures order { (result.1 ≡ Equal) ↔ (a ≡ b) }
     ensures compared { result.1 ≡ ⟦<Tag as Ord>⟧.cmp a b }
+    ensures ranked { result.1 ≡ tag_order a b }
     ensures first { first.new ≡ fold H.write first.old (⟦<Tag as Hash>⟧.hash_input a) }
     ensures second { second.new ≡ fold H.write second.old (⟦<Tag as Hash>⟧.hash_input b) }
     ensures hash { a ≡ b → first.old ≡ second.old → first.new ≡ second.new }
@@ -42,11 +51,12 @@ pub fn tags_agree<H: Hasher>(a: Tag, b: Tag, first: &mut H, second: &mut H) -> (
 }
 
 /// Directories are equal where `==` says so and where their order says so, and equal ones hash
-/// alike.
+/// alike. Their order is that of their numbers.
 pub fn directories_agree<H: Hasher>(a: In, b: In, first: &mut H, second: &mut H) -> (bool, Ordering)
     ensures equality { IsTrue result.0 ↔ (a ≡ b) }
     ensures order { (result.1 ≡ Equal) ↔ (a ≡ b) }
     ensures compared { result.1 ≡ ⟦<In as Ord>⟧.cmp a b }
+    ensures ranked { result.1 ≡ nat_cmp a.0 b.0 }
     ensures first { first.new ≡ fold H.write first.old (⟦<In as Hash>⟧.hash_input a) }
     ensures second { second.new ≡ fold H.write second.old (⟦<In as Hash>⟧.hash_input b) }
     ensures hash { a ≡ b → first.old ≡ second.old → first.new ≡ second.new }
@@ -54,4 +64,20 @@ pub fn directories_agree<H: Hasher>(a: In, b: In, first: &mut H, second: &mut H)
     a.hash(first);
     b.hash(second);
     (a == b, a.cmp(&b))
+}
+
+/// `get_field` gives the last of `fields()` with its tag and directory: none behind it has them, and
+/// where it gives nothing none has them at all.
+pub fn get_field_gives_the_last(exif: &Exif, tag: Tag, ifd_num: In) -> (Fields<'_>, Option<&Field>)
+    ensures last { IfSome (option_copied result.1) (IsLastNamed tag ifd_num result.0) }
+    ensures none { IfNone result.1 (NoneNamed tag ifd_num result.0) }
+{
+    (exif.fields(), exif.get_field(tag, ifd_num))
+}
+
+/// `get_uint` gives the item of `iter_uint` at its index, and nothing where there is none.
+pub fn get_uint_gives_the_item(value: &Value, index: usize) -> (Option<UIntIter<'_>>, Option<u32>)
+    ensures { result.1 ≡ option_and_then (λ items. slice_get items index) result.0 }
+{
+    (value.iter_uint(), value.get_uint(index))
 }

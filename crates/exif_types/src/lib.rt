@@ -23,7 +23,7 @@ pub use decode::decode_value;
 pub use display::{Display, DisplayValue};
 pub use error::{Error, PartialResult, partial_from_parts};
 pub use exif::{Exif, exif_from_parts};
-pub use exif_text::{Rational, SRational};
+pub use exif_text::{Decimal, Rational, SRational};
 pub use field::Field;
 pub use field_type::FieldType;
 pub use fields::{Fields, fields_left};

@@ -1,5 +1,7 @@
 //! The names and texts of tags and values, and dates.
 
 mod dates;
+mod debug;
+mod laws;
 mod tags;
 mod texts;

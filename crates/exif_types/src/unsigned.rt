@@ -1,8 +1,9 @@
 //! The unsigned whole numbers of a value.
 
-ghost use Rattle.std.specs.Prelude.{◌≡◌, length, slice_get, codes};
+ghost use Rattle.std.specs.Prelude.{◌≡◌, length, slice_get, codes, Some, IfSome};
 ghost use Rattle.std.specs.Option.{option_map};
-ghost use Rattle.std.specs.Iterator.{YieldsFirst, item_count};
+ghost use Rattle.std.specs.Iterator.{YieldsFirst, UpTo, at_most, item_count};
+ghost use Rattle.std.specs.Iterator.SizeHint.{IsWithinCount};
 ghost use Rattle.exif_types.specs.Numbers.{numbers_of, number_in, numbers_in, first_and_rest, split_first};
 ghost use Rattle.exif_types.specs.Refusals.{Answers, unexpected_value, or_refuse};
 
@@ -163,7 +164,11 @@ impl Iterator for UIntIter<'_> {
         Some(first)
     }
 
-    fn size_hint(&self) -> (usize, Option<usize>) {
+    fn size_hint(&self) -> (usize, Option<usize>)
+        ensures lower { IsWithinCount result.0 (at_most (length self.now)) }
+        ensures upper { IfSome result.1 (UpTo (at_most (length self.now))) }
+        ensures exact { result ≡ (length self.now, Some (length self.now)) }
+    {
         let count = self.left.len();
         (count, Some(count))
     }

@@ -1,7 +1,7 @@
 //! Fractions, quoted and plain texts.
 
 use crate::contents::Contents;
-use crate::laws::{is_same_rational, is_same_srational, quoted_tells_bytes};
+use crate::laws::{is_same_rational, is_same_srational};
 use crate::plain::PlainText;
 use crate::quoted::Quoted;
 use crate::rational::{Rational, SRational};
@@ -84,7 +84,6 @@ fn quoted_texts(rt: HostRuntime) -> Result<(), AllocError> {
         format!(in alloc; "{quoted}")?.as_str(),
         "\"\\x00\\x1f ~\\x7f\\xff\""
     );
-    quoted_tells_bytes(b"a", b"b");
     Ok(())
 }
 

@@ -223,6 +223,11 @@ fn tags_and_directories_are_padded(rt: HostRuntime) -> Result<(), AllocError> {
         "      10/20"
     );
     assert_eq!(rt; format!(in alloc; "{unknown:?}")?.as_str(), "Tag(Exif, 0)");
+    let longest = Tag(Context::Interop, 65535);
+    assert_eq!(rt;
+        format!(in alloc; "{longest}|{longest:20}|")?.as_str(),
+        "Tag(Interop, 65535)|Tag(Interop, 65535) |"
+    );
     Ok(())
 }
 

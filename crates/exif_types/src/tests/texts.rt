@@ -61,6 +61,8 @@ fn assert_value(
     let alloc = rt.alloc();
     assert_eq!(rt; format!(in alloc; "{shown}")?.as_str(), text);
     assert_eq!(rt; format!(in alloc; "{value:60}")?.as_str(), text);
+    assert_eq!(rt; format!(in alloc; "{shown:60}")?.as_str(), text);
+    assert_eq!(rt; format!(in alloc; "{shown:>60}")?.as_str(), text);
     assert_eq!(rt; format!(in alloc; "{copy}")?.as_str(), text);
     Ok(())
 }
@@ -72,7 +74,10 @@ fn assert_alone(
     text: &str,
 ) -> Result<(), AllocError> {
     let shown = field.display_value().with_unit(());
-    assert_eq!(rt; format!(in rt.alloc(); "{shown}")?.as_str(), text);
+    let alloc = rt.alloc();
+    assert_eq!(rt; format!(in alloc; "{shown}")?.as_str(), text);
+    assert_eq!(rt; format!(in alloc; "{shown:60}")?.as_str(), text);
+    assert_eq!(rt; format!(in alloc; "{shown:>60}")?.as_str(), text);
     Ok(())
 }
 

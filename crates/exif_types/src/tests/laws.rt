@@ -1,0 +1,35 @@
+//! The laws at values of each kind: what their functions answer.
+
+use crate::laws::{
+    contexts_agree, directories_agree, get_field_gives_the_last, get_uint_gives_the_item,
+    tags_agree,
+};
+use crate::{Context, In, Tag, Value, exif_from_parts};
+use exif_base::Items;
+use std::alloc::AllocError;
+use std::cmp::Ordering;
+use std::hash::{DefaultHasher, Hasher};
+
+#[test]
+fn contexts_tags_and_directories(rt: HostRuntime) {
+    let (mut first, mut second) = (DefaultHasher::new(), DefaultHasher::new());
+    let kinds = contexts_agree(Context::Exif, Context::Gps, &mut first, &mut second);
+    assert_eq!(rt; kinds, (false, Ordering::Less));
+    let tags = tags_agree(Tag::Make, Tag::Make, &mut first, &mut second);
+    assert_eq!(rt; tags, (true, Ordering::Equal));
+    let places = directories_agree(In::THUMBNAIL, In::PRIMARY, &mut first, &mut second);
+    assert_eq!(rt; places, (false, Ordering::Greater));
+    assert_ne!(rt; first.finish(), second.finish());
+}
+
+#[test]
+fn look_ups_and_numbers(rt: HostRuntime) -> Result<(), AllocError> {
+    let alloc = rt.alloc();
+    let exif = exif_from_parts(alloc, Vec::new(alloc), Vec::new(alloc), true)?;
+    let (fields, found) = get_field_gives_the_last(&exif, Tag::Make, In::PRIMARY);
+    assert!(rt; fields.count() == 0 && found.is_none());
+    let value = Value::Short(Items::from_slice(alloc, &[3, 5])?);
+    let (items, number) = get_uint_gives_the_item(&value, 1);
+    assert!(rt; items.is_some() && number == Some(5));
+    Ok(())
+}
