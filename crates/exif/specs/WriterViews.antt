@@ -1,6 +1,8 @@
 -- What a writer's borrowed fields and blocks hold.
 use Rattle.std.specs.Prelude.{ℕ, suc, ◌-◌, List, ◌++◌, length, replicate, map, Option}
-use Rattle.std.specs.Prelude.{Bool, true, false}
+use Rattle.std.specs.Prelude.{◌≡◌, Some, Bool, true, false}
+use Rattle.std.specs.Io.KnownBytes.{Appends}
+use Rattle.exif_format.specs.Image.{image}
 use Rattle.std.specs.Option.{option_map}
 use Rattle.exif_base.specs.declared.endian.Order.{Order}
 use Rattle.exif_base.specs.declared.endian.Order.TheVariants.{Big, Little}
@@ -28,3 +30,9 @@ grown ifd groups = groups ++ replicate (suc ifd - length groups) empty_group
 abbrev pub written_order : Bool → Order
 written_order true = Little
 written_order false = Big
+
+-- two writes in this order that both sent the image sent the same bytes
+abbrev pub WritesAgree : Order → List Group → Type 0
+WritesAgree order groups =
+    (old more old' more' : List ℕ) → Appends (Some old) (Some (old ++ more)) (image order groups)
+    → Appends (Some old') (Some (old' ++ more')) (image order groups) → more ≡ more'
