@@ -6,6 +6,7 @@ use Rattle.exif_types.specs.declared.tag.Context.{Context}
 use Rattle.exif_types.specs.declared.tag.Context.TheVariants.{Tiff, Exif, Gps, Interop}
 use Rattle.exif_types.specs.declared.field.Field.{Field}
 use Rattle.exif_format.specs.Groups.{Group, Entry, entry_of, is_ignored, pushed, strips_set, tiles_set, jpeg_set}
+use Rattle.exif_format.specs.Rewriting.{pushed_all}
 
 -- a call that a writer accepted
 pub data Call : Type 0 where
@@ -96,3 +97,7 @@ group_made calls ifd = record {
 -- the calls make a group for each number below that of the directories
 abbrev pub IsMadeOf : List Call → Type 0
 IsMadeOf calls = made calls ≡ map (group_made calls) (range_with_len 0 (directories calls))
+
+-- pushes alone make what they make as calls
+abbrev pub PushesAreCalls : List Field → List Group → Type 0
+PushesAreCalls fields groups = after_calls (map Push fields) groups ≡ pushed_all fields groups

@@ -10,7 +10,7 @@ use Rattle.exif_types.specs.declared.tag.Context.TheVariants.{Tiff, Exif, Gps, I
 use Rattle.exif_types.specs.declared.field.Field.{Field}
 use Rattle.exif_format.specs.Groups.{Group, entry_of, is_ignored, pushed, pushed_in, changed, with_entry, with_strips, with_tiles, with_jpeg}
 use Rattle.exif_format.specs.Rewriting.{BlocksOf}
-use Rattle.exif_format.specs.Calls.{Call, Push, SetStrips, SetTiles, SetJpeg, after_call, after_calls, made, field_pushed, goes_into, entries_in, entries_into, strips_in, tiles_in, jpeg_in, directories_of, directories, group_made, IsMadeOf}
+use Rattle.exif_format.specs.Calls.{Call, Push, SetStrips, SetTiles, SetJpeg, after_call, after_calls, made, field_pushed, goes_into, entries_in, entries_into, strips_in, tiles_in, jpeg_in, directories_of, directories, group_made, IsMadeOf, PushesAreCalls}
 use Rattle.exif_format.proofs.Images.Pushing.{group_at, changed_same, changed_other, changed_keeps, length-changed, entries_added, pushed_entries, pushed_blocks, or_else}
 
 -- the entries that a call adds, and those of more calls behind it
@@ -152,3 +152,7 @@ is_made_of calls =
     let n : length (made calls) ≡ directories calls = (let e = length-after calls [] in omega arith) in
     tabulated (group_made calls) 0 (made calls) (λ m k. let e : m ≡ 0 + m = omega arith in made_at calls m ∙ ap (group_made calls) e)
     ∙ ap (λ k. map (group_made calls) (range_with_len 0 k)) n
+
+pub pushes_are_calls : (fields : List Field) (groups : List Group) → PushesAreCalls fields groups
+pushes_are_calls [] groups = refl
+pushes_are_calls (field ∷ fields) groups = pushes_are_calls fields (pushed field groups)

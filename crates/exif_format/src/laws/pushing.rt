@@ -3,7 +3,7 @@
 ghost use Rattle.std.specs.Prelude.{ℕ, List};
 ghost use Rattle.exif_types.specs.declared.field.Field.{Field};
 ghost use Rattle.exif_format.specs.Groups.{Group};
-ghost use Rattle.exif_format.specs.Calls.{Call, IsMadeOf};
+ghost use Rattle.exif_format.specs.Calls.{Call, IsMadeOf, PushesAreCalls};
 ghost use Rattle.exif_format.specs.Pushing.{PushesPlainTexts, PushesRanged, PushesFew, PushesNoBlocks, SetsNothing, HasPushedAndBlocks, HasPushedAlone, HoldsInTagOrder};
 
 /// Pushing fields keeps groups plain and in range where the fields are such, makes no directory
@@ -27,7 +27,8 @@ pub fn images_hold_what_was_pushed()
 
 /// The groups that calls make in a new writer: for each number below one more than the greatest
 /// that is used, what was pushed under it and is not ignored, by contexts in push order, and the
-/// blocks of each kind that were set last.
+/// blocks of each kind that were set last. Fields pushed one after the other are such calls.
 pub fn calls_make_groups()
-    ensures { (calls : List Call) → IsMadeOf calls }
+    ensures made { (calls : List Call) → IsMadeOf calls }
+    ensures pushes { (fields : List Field) (groups : List Group) → PushesAreCalls fields groups }
 {}
