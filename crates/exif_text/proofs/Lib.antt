@@ -1,3 +1,4 @@
+mod DigitLemmas
 mod FractionLemmas
 mod PadLemmas
 mod QuotedLemmas

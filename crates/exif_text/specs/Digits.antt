@@ -1,5 +1,19 @@
--- Numbers that ASCII digits spell at places of a text.
-use Rattle.std.specs.Prelude.{ℕ, ◌+◌, ◌-◌, ◌*◌, ◌&&◌, nat_le, Bool, List, slice_index}
+-- Numbers that ASCII digits spell, also at places of a text.
+use Rattle.std.specs.Prelude.{ℕ, ◌+◌, ◌-◌, ◌*◌, ◌&&◌, nat_le, if◌then◌else◌, Bool, List, [], ◌∷◌, slice_index, Result, Ok, Err}
+use Rattle.std.specs.List.{list_all}
+use Rattle.std.specs.Char.{is_ascii_digit}
+use Rattle.std.specs.Str.Parse.{digits_value}
+use Rattle.exif_text.specs.declared.datetime.DateFault.{DateFault}
+use Rattle.exif_text.specs.declared.datetime.DateFault.TheVariants.{NotANumber}
+
+-- the number that a digit is
+abbrev pub digit_in : ℕ → Result ℕ DateFault
+digit_in byte = if is_ascii_digit byte then Ok (byte - 48) else Err NotANumber
+
+-- the number that digits spell, where there are digits alone and at least one
+abbrev pub number_in : List ℕ → Result ℕ DateFault
+number_in [] = Err NotANumber
+number_in (d ∷ ds) = if list_all is_ascii_digit (d ∷ ds) then Ok (digits_value 10 (d ∷ ds)) else Err NotANumber
 
 -- the digit at a place, as a number
 abbrev pub digit_at : List ℕ → ℕ → ℕ
