@@ -12,6 +12,7 @@ pub mod JpegMoves
 pub mod JpegTrees
 pub mod JpegUnits
 pub mod Naming
+pub mod PlaceTrees
 pub mod Refusing
 pub mod Times
 pub mod WebpChunks

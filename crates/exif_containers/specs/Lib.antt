@@ -12,6 +12,7 @@ pub mod Items
 pub mod Jpeg
 pub mod JpegGrammar
 pub mod Kinds
+pub mod PlaceGrammar
 pub mod Places
 pub mod TablesView
 pub mod Webp

@@ -1,12 +1,15 @@
 //! Laws of the containers: what is answered by computing is what the trees of the grammars say.
 
-ghost use Rattle.std.specs.Prelude.{ℕ, List};
+ghost use Rattle.std.specs.Prelude.{ℕ, List, Result};
+ghost use Rattle.exif_types.specs.Refusals.{Refusal};
+ghost use Rattle.exif_containers.specs.declared.isobmff.locations.Extent.{Extent};
 ghost use Rattle.exif_containers.specs.BoxGrammar.{BoxIsRead, BoxTree, CountIsRead, Counted, CountedAreRead, IsABox, IsACount, IsAParent, Parent, ParentIsRead};
 ghost use Rattle.exif_containers.specs.Boxes.{Part};
 ghost use Rattle.exif_containers.specs.Container.{TiffIsWhole};
 ghost use Rattle.exif_containers.specs.FileGrammar.{FileBoxesAreRead, FrontTree, IsAFront, MetaIsFound};
 ghost use Rattle.exif_containers.specs.ItemGrammar.{BlockIsRead, BlockTree, EntryIsRead, EntryTree, InfoIsRead, InfoTree, IsABlock, IsAnEntry, IsAnInfo};
 ghost use Rattle.exif_containers.specs.JpegGrammar.{IsAStream, Stream, StreamIsAnswered};
+ghost use Rattle.exif_containers.specs.PlaceGrammar.{IsAnItem, ItemIsJoined};
 ghost use Rattle.exif_containers.specs.WebpGrammar.{FileIsAnswered, IsAFile, WebpFile};
 
 /// A JPEG stream is answered as the tree of its units says, and all bytes are those of such a tree.
@@ -75,4 +78,12 @@ pub fn file_boxes_are_read()
 pub fn files_up_to_meta()
     ensures found { (t : FrontTree) → MetaIsFound t }
     ensures every { (bytes : List ℕ) → IsAFront bytes }
+{}
+
+/// An item is the texts of its extents, one after the other, where they are at most 65,535 bytes together.
+pub fn items_are_joined()
+    ensures joined { (bytes_of : Extent → Result (List ℕ) Refusal) (es : List Extent) (texts : List (List ℕ))
+        → ItemIsJoined bytes_of es texts }
+    ensures only { (bytes_of : Extent → Result (List ℕ) Refusal) (es : List Extent) (item : List ℕ)
+        → IsAnItem bytes_of es item }
 {}
