@@ -58,10 +58,10 @@ full_short bytes h = ap (λ t. head_or t bytes) (lt-ltb (length bytes) 4 h)
 
 -- bytes that begin with a full box's front
 pub record Fronted (bytes : List ℕ) : Type 0 where
-  head : FullHead
-  rest : List ℕ
-  is : IsFull head
-  whole : print_full head rest ≡ bytes
+  pub head : FullHead
+  pub rest : List ℕ
+  pub is : IsFull head
+  pub whole : print_full head rest ≡ bytes
 
 pub fronted : (bytes : List ℕ) → 4 ≤ length bytes → Fronted bytes
 fronted [] h = absurd (omega arith)

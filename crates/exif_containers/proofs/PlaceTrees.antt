@@ -18,7 +18,7 @@ use Rattle.exif_containers.specs.ItemGrammar.{FullHead, print_full, IsFull}
 use Rattle.exif_containers.specs.Places.{Place, sizes, item_width, sized_at, extent_at, method_at, item_head_at, location_at, locations, gathered}
 use Rattle.exif_containers.specs.PlaceGrammar.{IsSize, ExtentTree, print_extent, IsExtent, extent_of, PlaceTree, print_place, number_len, method_len, method_said, IsWanted, IsPlace, place_of, place_said, PlacesTree, print_places, ArePacked, sizes_in, ArePlaces, places_said, PlacesAreRead, IsAPlaces, AreTexts, joined_texts, ItemIsJoined, IsAnItem}
 use Rattle.exif_containers.proofs.Filling.{bind_ok, ok_same, after}
-use Rattle.exif_containers.proofs.ItemTrees.{then_ok, bytes_read, number_read, full_read, Fronted, fronted, full_short}
+use Rattle.exif_containers.proofs.ItemTrees.{then_ok, then_err, bytes_read, number_read, full_read, Fronted, fronted, full_short}
 
 -- ---- an item is its extents' texts joined
 
@@ -265,3 +265,390 @@ passed-of s (suc n) text rest bytes h e =
           ∙ ap (λ t. take s.offset (drop s.index bytes) ++ t) (take-append-drop s.len (drop s.offset (drop s.index bytes)))
           ∙ take-append-drop s.offset (drop s.index bytes)) ∙ take-append-drop s.index bytes) ∙ e;
     }
+
+-- ---- what stands in front of an item's extents
+
+method-read : (version : ℕ) (method rest : List ℕ) → length method ≡ method_len version → method_at version (method ++ rest) ≡ Ok (method_said version method, rest)
+method-read version method rest e = by (eqb version 0) method e
+  where
+    by : (t : Bool) (method : List ℕ) → length method ≡ cond t 0 2
+        → cond {A = Front ℕ} t (Ok (0, method ++ rest)) (bytes_at 2 (method ++ rest) >>= λ b. Ok (slice_index b.0 1 % 16, b.1)) ≡ Ok (cond t 0 (slice_index method 1 % 16), rest)
+    by true [] e = refl
+    by true (b ∷ method) e = absurd (omega arith)
+    by false method e = then_ok (bytes_at 2 (method ++ rest)) (method, rest) _ (bytes_read 2 method rest e)
+
+method-only : (version : ℕ) (text : List ℕ) (x : ℕ × List ℕ) → method_at version text ≡ Ok x
+    → (m : List ℕ) × (length m ≡ method_len version) × (method_said version m ≡ x.0) × (m ++ x.1 ≡ text)
+method-only version text x e = by (eqb version 0) e
+  where
+    by : (t : Bool) → cond {A = Front ℕ} t (Ok (0, text)) (bytes_at 2 text >>= λ b. Ok (slice_index b.0 1 % 16, b.1)) ≡ Ok x
+        → (m : List ℕ) × (length m ≡ cond t 0 2) × (cond t 0 (slice_index m 1 % 16) ≡ x.0) × (m ++ x.1 ≡ text)
+    by true e =
+        let same : (0, text) ≡ x = ok_same e in
+        ([], refl, ap (λ (y : ℕ × List ℕ). y.0) same, sym (ap (λ (y : ℕ × List ℕ). y.1) same))
+    by false e =
+        let b = bind_ok (bytes_at 2 text) _ x e in
+        let t = bytes-taken 2 text b.0 b.1 in
+        let same : (slice_index b.0.0 1 % 16, b.0.1) ≡ x = ok_same b.2 in
+        (b.0.0, t.0, ap (λ (y : ℕ × List ℕ). y.0) same, ap (λ r. b.0.0 ++ r) (sym (ap (λ (y : ℕ × List ℕ). y.1) same)) ∙ t.1)
+
+in-file : (m r : ℕ) → (m ≡ 0 → r ≡ 0) → (eqb m 0 && not (eqb r 0)) ≡ false
+in-file m r h = by (eqb m 0) (eqb r 0) refl refl
+  where
+    by : (a b : Bool) → eqb m 0 ≡ a → eqb r 0 ≡ b → (a && not b) ≡ false
+    by true true p q = refl
+    by true false p q = absurd (eqb-false r 0 q (h (eqb-true m 0 p)))
+    by false b p q = refl
+
+file-in : (m r : ℕ) → (eqb m 0 && not (eqb r 0)) ≡ false → m ≡ 0 → r ≡ 0
+file-in m r h z = by (eqb r 0) refl
+  where
+    by : (b : Bool) → eqb r 0 ≡ b → r ≡ 0
+    by true q = eqb-true r 0 q
+    by false q = let k : true ≡ false = sym (ap (λ t. t && not (eqb r 0)) (eq-eqb m 0 z) ∙ ap not q) ∙ h in absurd cc
+
+abbrev head_said : ℕ → PlaceTree → ItemHead
+head_said version p = record {
+  number = big_number (length p.number) p.number;
+  method = method_said version p.method;
+  base = big_number (length p.base) p.base;
+  count = big_number 2 p.count;
+}
+
+head-read : (wanted version : ℕ) (s : Sizes) (p : PlaceTree) (rest : List ℕ) → IsPlace wanted version s p
+    → item_head_at version s (p.number ++ (p.method ++ (p.reference ++ (p.base ++ (p.count ++ rest))))) ≡ Ok (head_said version p, rest)
+unfolding item_head_at
+head-read wanted version s p rest is =
+    then_ok (number_at (item_width version) (p.number ++ (p.method ++ (p.reference ++ (p.base ++ (p.count ++ rest)))))) (big_number (length p.number) p.number, p.method ++ (p.reference ++ (p.base ++ (p.count ++ rest)))) _
+    (ap (λ n. number_at n (p.number ++ (p.method ++ (p.reference ++ (p.base ++ (p.count ++ rest)))))) (sym is.number)
+    ∙ number_read (length p.number) p.number (p.method ++ (p.reference ++ (p.base ++ (p.count ++ rest)))) refl)
+    ∙ then_ok (method_at version (p.method ++ (p.reference ++ (p.base ++ (p.count ++ rest))))) (method_said version p.method, p.reference ++ (p.base ++ (p.count ++ rest))) _ (method-read version p.method (p.reference ++ (p.base ++ (p.count ++ rest))) is.method)
+    ∙ then_ok (number_at 2 (p.reference ++ (p.base ++ (p.count ++ rest)))) (big_number 2 p.reference, p.base ++ (p.count ++ rest)) _ (number_read 2 p.reference (p.base ++ (p.count ++ rest)) is.reference)
+    ∙ then_ok (cond (eqb (method_said version p.method) 0 && not (eqb (big_number 2 p.reference) 0)) (Err external_data) (sized_at invalid_base_size s.base (p.base ++ (p.count ++ rest)))) (big_number (length p.base) p.base, p.count ++ rest) _
+    (ap (λ t. cond t (Err external_data) (sized_at invalid_base_size s.base (p.base ++ (p.count ++ rest)))) (in-file (method_said version p.method) (big_number 2 p.reference) is.in_file)
+    ∙ sized-read invalid_base_size s.base p.base (p.count ++ rest) is.base_size is.base)
+    ∙ then_ok (number_at 2 (p.count ++ rest)) (big_number 2 p.count, rest) _ (number_read 2 p.count rest is.count)
+
+record Headed (version : ℕ) (s : Sizes) (text : List ℕ) (x : ItemHead × List ℕ) : Type 0 where
+  number : List ℕ
+  method : List ℕ
+  reference : List ℕ
+  base : List ℕ
+  count : List ℕ
+  number_len : length number ≡ item_width version
+  method_is : length method ≡ method_len version
+  reference_len : length reference ≡ 2
+  in_file : method_said version method ≡ 0 → big_number 2 reference ≡ 0
+  base_len : length base ≡ s.base
+  base_size : IsSize s.base
+  count_len : length count ≡ 2
+  value : head_said version (record { number = number; method = method; reference = reference; base = base; count = count; extents = [] }) ≡ x.0
+  whole : number ++ (method ++ (reference ++ (base ++ (count ++ x.1)))) ≡ text
+
+head-only : (version : ℕ) (s : Sizes) (text : List ℕ) (x : ItemHead × List ℕ) → item_head_at version s text ≡ Ok x → Headed version s text x
+unfolding item_head_at
+head-only version s text x e =
+    let n = bind_ok (number_at (item_width version) text) _ x e in
+    let m = bind_ok (method_at version n.0.1) _ x n.2 in
+    let r = bind_ok (number_at 2 m.0.1) _ x m.2 in
+    let b = bind_ok (cond (eqb m.0.0 0 && not (eqb r.0.0 0)) (Err external_data) (sized_at invalid_base_size s.base r.0.1)) _ x r.2 in
+    let c = bind_ok (number_at 2 b.0.1) _ x b.2 in
+    let u = unless-ok (eqb m.0.0 0 && not (eqb r.0.0 0)) external_data (sized_at invalid_base_size s.base r.0.1) b.0 b.1 in
+    let nt = number-taken (item_width version) text n.0 n.1 in
+    let mt = method-only version n.0.1 m.0 m.1 in
+    let rt = number-taken 2 m.0.1 r.0 r.1 in
+    let bt = sized-taken invalid_base_size s.base r.0.1 b.0 u.1 in
+    let ct = number-taken 2 b.0.1 c.0 c.1 in
+    let rv : big_number 2 rt.bytes ≡ r.0.0 = ap (λ k. big_number k rt.bytes) (sym rt.len) ∙ rt.value in
+    let cv : big_number 2 ct.bytes ≡ c.0.0 = ap (λ k. big_number k ct.bytes) (sym ct.len) ∙ ct.value in
+    let same : (record { number = n.0.0; method = m.0.0; base = b.0.0; count = c.0.0 }, c.0.1) ≡ x = ok_same c.2 in
+    record {
+      number = nt.bytes;
+      method = mt.0;
+      reference = rt.bytes;
+      base = bt.1.bytes;
+      count = ct.bytes;
+      number_len = nt.len;
+      method_is = mt.1;
+      reference_len = rt.len;
+      in_file = λ z. rv ∙ file-in m.0.0 r.0.0 u.0 (sym mt.2 ∙ z);
+      base_len = bt.1.len;
+      base_size = bt.0;
+      count_len = ct.len;
+      value = ap (λ k. made k (method_said version mt.0) (big_number (length bt.1.bytes) bt.1.bytes) (big_number 2 ct.bytes)) nt.value
+          ∙ ap (λ k. made n.0.0 k (big_number (length bt.1.bytes) bt.1.bytes) (big_number 2 ct.bytes)) mt.2
+          ∙ ap (λ k. made n.0.0 m.0.0 k (big_number 2 ct.bytes)) bt.1.value
+          ∙ ap (λ k. made n.0.0 m.0.0 b.0.0 k) cv
+          ∙ ap (λ (y : ItemHead × List ℕ). y.0) same;
+      whole = ap (λ t. nt.bytes ++ (mt.0 ++ (rt.bytes ++ (bt.1.bytes ++ (ct.bytes ++ t))))) (sym (ap (λ (y : ItemHead × List ℕ). y.1) same))
+          ∙ ap (λ t. nt.bytes ++ (mt.0 ++ (rt.bytes ++ (bt.1.bytes ++ t)))) ct.whole
+          ∙ ap (λ t. nt.bytes ++ (mt.0 ++ (rt.bytes ++ t))) bt.1.whole
+          ∙ ap (λ t. nt.bytes ++ (mt.0 ++ t)) rt.whole
+          ∙ ap (λ t. nt.bytes ++ t) mt.3 ∙ nt.whole;
+    }
+  where
+    made : ℕ → ℕ → ℕ → ℕ → ItemHead
+    made number method base count = record { number = number; method = method; base = base; count = count }
+
+-- ---- an item
+
+all-sized : (s : Sizes) (es : List ExtentTree) → All (IsExtent s) es → (0 < length es → AreSizes s) → All (λ e. IsExtent s e × AreSizes s) es
+all-sized s [] h k = All-nil (λ e. IsExtent s e × AreSizes s)
+all-sized s (e ∷ es) h k =
+    let sizes = k (omega arith) in
+    All-cons (λ e. IsExtent s e × AreSizes s) e es (All-head (IsExtent s) e es h, sizes) (all-sized s es (All-tail (IsExtent s) e es h) (λ lt. sizes))
+
+all-extents : (s : Sizes) (es : List ExtentTree) → All (λ e. IsExtent s e × AreSizes s) es → All (IsExtent s) es × (0 < length es → AreSizes s)
+all-extents s [] h = (All-nil (IsExtent s), λ lt. absurd (omega arith))
+all-extents s (e ∷ es) h =
+    let one = All-head (λ e. IsExtent s e × AreSizes s) e es h in
+    (All-cons (IsExtent s) e es one.0 (all-extents s es (All-tail (λ e. IsExtent s e × AreSizes s) e es h)).0, λ lt. one.1)
+
+abbrev places_if : Bool → Place → List Place
+places_if t p = cond t (p ∷ []) []
+
+abbrev located : ℕ → Sizes → ItemHead × List ℕ → Bool → Front (List Place)
+located wanted s h t =
+    cond t (times h.0.count (extent_at s) h.1 >>= λ extents. Ok (record { method = h.0.method; base = h.0.base; extents = extents.0 } ∷ [], extents.1))
+    (pass_at ((s.index + s.offset + s.len) * h.0.count) h.1 >>= λ passed. Ok ([], passed.1))
+
+location-headed : (wanted version : ℕ) (s : Sizes) (text : List ℕ) → location_at wanted version s text ≡ (item_head_at version s text >>= λ h. located wanted s h (eqb h.0.number wanted))
+unfolding location_at
+location-headed wanted version s text = refl
+
+pass-read : (n : ℕ) (bytes rest : List ℕ) → length bytes ≡ n → pass_at n (bytes ++ rest) ≡ Ok (tt, rest)
+pass-read n bytes rest e =
+    ap (λ t. passed t (drop n (bytes ++ rest))) (le-ltb (length (bytes ++ rest)) n (omega (arith, length-append bytes rest)))
+    ∙ ap (λ r. passed false r) (drop_at bytes rest n e)
+  where
+    passed : Bool → List ℕ → Front (Unit {0})
+    passed t rest = cond t (Err too_small) (Ok (tt, rest))
+
+place-behind : (p : PlaceTree) (rest : List ℕ)
+    → print_place p ++ rest ≡ p.number ++ (p.method ++ (p.reference ++ (p.base ++ (p.count ++ (flat_map print_extent p.extents ++ rest)))))
+place-behind p rest =
+    append_assoc p.number (p.method ++ (p.reference ++ (p.base ++ (p.count ++ flat_map print_extent p.extents)))) rest
+    ∙ ap (λ t. p.number ++ t) (append_assoc p.method (p.reference ++ (p.base ++ (p.count ++ flat_map print_extent p.extents))) rest)
+    ∙ ap (λ t. p.number ++ (p.method ++ t)) (append_assoc p.reference (p.base ++ (p.count ++ flat_map print_extent p.extents)) rest)
+    ∙ ap (λ t. p.number ++ (p.method ++ (p.reference ++ t))) (append_assoc p.base (p.count ++ flat_map print_extent p.extents) rest)
+    ∙ ap (λ t. p.number ++ (p.method ++ (p.reference ++ (p.base ++ t)))) (append_assoc p.count (flat_map print_extent p.extents) rest)
+
+located-read : (wanted version : ℕ) (s : Sizes) (p : PlaceTree) (rest : List ℕ) (t : Bool) → IsPlace wanted version s p
+    → eqb (big_number (length p.number) p.number) wanted ≡ t
+    → located wanted s (head_said version p, flat_map print_extent p.extents ++ rest) t ≡ Ok (places_if t (place_of version p), rest)
+located-read wanted version s p rest true is e =
+    let sized = is.sized (eqb-true (big_number (length p.number) p.number) wanted e) in
+    then_ok (times (big_number 2 p.count) (extent_at s) (flat_map print_extent p.extents ++ rest)) (map extent_of p.extents, rest) _
+    (ap (λ n. times n (extent_at s) (flat_map print_extent p.extents ++ rest)) is.counted
+    ∙ times-read (extent_at s) print_extent extent_of (λ e. IsExtent s e × AreSizes s) (λ x r k. extent-read s k.1 x r k.0) p.extents rest (all-sized s p.extents is.extents sized))
+located-read wanted version s p rest false is e =
+    then_ok (pass_at ((s.index + s.offset + s.len) * big_number 2 p.count) (flat_map print_extent p.extents ++ rest)) (tt, rest) _
+    (pass-read ((s.index + s.offset + s.len) * big_number 2 p.count) (flat_map print_extent p.extents) rest
+    (extents-len s p.extents is.extents ∙ ap (λ n. (s.index + s.offset + s.len) * n) (sym is.counted)))
+
+location-read : (wanted version : ℕ) (s : Sizes) (p : PlaceTree) (rest : List ℕ) → IsPlace wanted version s p
+    → location_at wanted version s (print_place p ++ rest) ≡ Ok (place_said wanted version p, rest)
+location-read wanted version s p rest is =
+    ap (location_at wanted version s) (place-behind p rest)
+    ∙ location-headed wanted version s (p.number ++ (p.method ++ (p.reference ++ (p.base ++ (p.count ++ (flat_map print_extent p.extents ++ rest))))))
+    ∙ then_ok (item_head_at version s (p.number ++ (p.method ++ (p.reference ++ (p.base ++ (p.count ++ (flat_map print_extent p.extents ++ rest))))))) (head_said version p, flat_map print_extent p.extents ++ rest)
+    (λ h. located wanted s h (eqb h.0.number wanted)) (head-read wanted version s p (flat_map print_extent p.extents ++ rest) is)
+    ∙ located-read wanted version s p rest (eqb (big_number (length p.number) p.number) wanted) is refl
+
+-- the extents of an item that was read or passed over
+record Located (wanted version : ℕ) (s : Sizes) (text : List ℕ) (x : List Place × List ℕ) : Type 0 where
+  tree : PlaceTree
+  is : IsPlace wanted version s tree
+  said : place_said wanted version tree ≡ x.0
+  whole : print_place tree ++ x.1 ≡ text
+
+abbrev with_extents : {version : ℕ} {s : Sizes} {text : List ℕ} {y : ItemHead × List ℕ} → Headed version s text y → List ExtentTree → PlaceTree
+with_extents h es = record { number = h.number; method = h.method; reference = h.reference; base = h.base; count = h.count; extents = es }
+
+located-by : (wanted version : ℕ) (s : Sizes) (text : List ℕ) (y : ItemHead × List ℕ) (h : Headed version s text y) (x : List Place × List ℕ) (es : List ExtentTree)
+    → y.0.count ≡ length es → All (IsExtent s) es → (y.0.number ≡ wanted → 0 < length es → AreSizes s) → flat_map print_extent es ++ x.1 ≡ y.1
+    → place_said wanted version (with_extents h es) ≡ x.0 → Located wanted version s text x
+located-by wanted version s text y h x es count are sized whole said = record {
+  tree = with_extents h es;
+  is = record {
+    number = h.number_len;
+    method = h.method_is;
+    reference = h.reference_len;
+    in_file = h.in_file;
+    base = h.base_len;
+    base_size = h.base_size;
+    count = h.count_len;
+    counted = ap (λ (i : ItemHead). i.count) h.value ∙ count;
+    extents = are;
+    sized = λ e. sized (sym (ap (λ (i : ItemHead). i.number) h.value) ∙ e);
+  };
+  said = said;
+  whole = place-behind (with_extents h es) x.1
+      ∙ ap (λ t. h.number ++ (h.method ++ (h.reference ++ (h.base ++ (h.count ++ t))))) whole ∙ h.whole;
+}
+
+pass-only : (n : ℕ) (text : List ℕ) (x : Unit {0} × List ℕ) → pass_at n text ≡ Ok x → (bytes : List ℕ) × (length bytes ≡ n) × (bytes ++ x.1 ≡ text)
+pass-only n text x e =
+    let u = unless-ok (ltb (length text) n) too_small (Ok (tt, drop n text)) x e in
+    let room = ltb-false (length text) n u.0 in
+    let same : (tt, drop n text) ≡ x = ok_same u.1 in
+    (take n text, length-take-le n text room, ap (λ r. take n text ++ r) (sym (ap (λ (y : Unit {0} × List ℕ). y.1) same)) ∙ take-append-drop n text)
+
+located-only : (wanted version : ℕ) (s : Sizes) (text : List ℕ) (y : ItemHead × List ℕ) (h : Headed version s text y) (x : List Place × List ℕ) (t : Bool)
+    → eqb y.0.number wanted ≡ t → located wanted s y t ≡ Ok x → Located wanted version s text x
+located-only wanted version s text y h x true q e =
+    let b = bind_ok (times y.0.count (extent_at s) y.1) _ x e in
+    let ts = times-only (extent_at s) print_extent extent_of (λ e. IsExtent s e × AreSizes s) (extent-only s) y.0.count y.1 b.0 b.1 in
+    let all = all-extents s ts.trees ts.are in
+    let same : (record { method = y.0.method; base = y.0.base; extents = b.0.0 } ∷ [], b.0.1) ≡ x = ok_same b.2 in
+    let here : eqb (big_number (length h.number) h.number) wanted ≡ true = ap (λ (i : ItemHead). eqb i.number wanted) h.value ∙ q in
+    located-by wanted version s text y h x ts.trees (sym ts.count) all.0 (λ e. all.1)
+    (ap (λ r. flat_map print_extent ts.trees ++ r) (sym (ap (λ (z : List Place × List ℕ). z.1) same)) ∙ ts.whole)
+    (ap (λ t. places_if t (place_of version (with_extents h ts.trees))) here
+    ∙ ap (λ (i : ItemHead). made i.method i.base (map extent_of ts.trees)) h.value
+    ∙ ap (λ es. made y.0.method y.0.base es) ts.vals
+    ∙ ap (λ (z : List Place × List ℕ). z.0) same)
+  where
+    made : ℕ → ℕ → List Extent → List Place
+    made method base extents = record { method = method; base = base; extents = extents } ∷ []
+located-only wanted version s text y h x false q e =
+    let b = bind_ok (pass_at ((s.index + s.offset + s.len) * y.0.count) y.1) _ x e in
+    let p = pass-only ((s.index + s.offset + s.len) * y.0.count) y.1 b.0 b.1 in
+    let ps = passed-of s y.0.count y.1 b.0.1 p.0 p.1 p.2 in
+    let same : ([], b.0.1) ≡ x = ok_same b.2 in
+    let here : eqb (big_number (length h.number) h.number) wanted ≡ false = ap (λ (i : ItemHead). eqb i.number wanted) h.value ∙ q in
+    located-by wanted version s text y h x ps.extents (sym ps.count) ps.are (λ e. absurd (eqb-false y.0.number wanted q e))
+    (ap (λ r. flat_map print_extent ps.extents ++ r) (sym (ap (λ (z : List Place × List ℕ). z.1) same)) ∙ ps.whole)
+    (ap (λ t. places_if t (place_of version (with_extents h ps.extents))) here ∙ ap (λ (z : List Place × List ℕ). z.0) same)
+
+location-only : (wanted version : ℕ) (s : Sizes) (text : List ℕ) (x : List Place × List ℕ) → location_at wanted version s text ≡ Ok x
+    → (p : PlaceTree) × IsPlace wanted version s p × (place_said wanted version p ≡ x.0) × (print_place p ++ x.1 ≡ text)
+location-only wanted version s text x e =
+    let b = bind_ok (item_head_at version s text) (λ h. located wanted s h (eqb h.0.number wanted)) x (sym (location-headed wanted version s text) ∙ e) in
+    let l = located-only wanted version s text b.0 (head-only version s text b.0 b.1) x (eqb b.0.0.number wanted) refl b.2 in
+    (l.tree, l.is, l.said, l.whole)
+
+-- ---- an `iloc`
+
+packed-sizes : (version n : ℕ) (s : Sizes) → n ≡ 4096 * s.offset + 256 * s.len + 16 * s.base + s.index → s.len < 16 → s.base < 16 → s.index < 16 → sizes version n ≡ sizes_in version s
+packed-sizes version n s e l b i =
+    ap (λ k. made k (n / 256 % 16) (n / 16 % 16) (n % 16)) first
+    ∙ ap (λ k. made s.offset k (n / 16 % 16) (n % 16)) second
+    ∙ ap (λ k. made s.offset s.len k (n % 16)) third
+    ∙ ap (λ k. made s.offset s.len s.base k) last
+  where
+    made : ℕ → ℕ → ℕ → ℕ → Sizes
+    made offset len base index = record { offset = offset; len = len; base = base; index = cond (eqb version 0) 0 index }
+
+    first : n / 4096 ≡ s.offset
+    first = omega arith
+
+    second : n / 256 % 16 ≡ s.len
+    second = omega arith
+
+    third : n / 16 % 16 ≡ s.base
+    third = omega arith
+
+    last : n % 16 ≡ s.index
+    last = omega arith
+
+joined-map : {X A : Type 0} (f : X → List A) (xs : List X) → flat_map (λ ys. ys) (map f xs) ≡ flat_map f xs
+joined-map f [] = refl
+joined-map f (x ∷ xs) = ap (λ ys. f x ++ ys) (joined-map f xs)
+
+abbrev counted : ℕ → ℕ → ℕ × List ℕ → Result (List Place) Refusal
+counted wanted version packed =
+    cond (ltb 2 version) (Err unsupported_iloc) (number_at (item_width version) packed.1)
+    >>= λ count. times_joined count.0 (location_at wanted version (sizes version packed.0)) count.1
+
+locations-headed : (wanted : ℕ) (body : List ℕ) → locations wanted body ≡ (version_at body >>= λ v. number_at 2 v.1 >>= λ packed. counted wanted v.0 packed)
+unfolding locations
+locations-headed wanted body = refl
+
+pub places_are_read : (wanted : ℕ) (t : PlacesTree) → PlacesAreRead wanted t
+places_are_read wanted t is =
+    let v = t.head.version in
+    let s = sizes_in t.head.version t.sizes in
+    let items = flat_map print_place t.places ++ t.rest in
+    locations-headed wanted (print_places t)
+    ∙ then_ok (version_at (print_places t)) (t.head.version, t.packed ++ (t.count ++ (flat_map print_place t.places ++ t.rest))) (λ v. number_at 2 v.1 >>= λ packed. counted wanted v.0 packed)
+    (full_read t.head (t.packed ++ (t.count ++ (flat_map print_place t.places ++ t.rest))) is.head)
+    ∙ then_ok (number_at 2 (t.packed ++ (t.count ++ (flat_map print_place t.places ++ t.rest)))) (big_number 2 t.packed, t.count ++ (flat_map print_place t.places ++ t.rest)) (λ packed. counted wanted t.head.version packed)
+    (number_read 2 t.packed (t.count ++ (flat_map print_place t.places ++ t.rest)) is.packed.two)
+    ∙ then_ok (cond (ltb 2 t.head.version) (Err unsupported_iloc) (number_at (item_width t.head.version) (t.count ++ (flat_map print_place t.places ++ t.rest)))) (big_number (length t.count) t.count, flat_map print_place t.places ++ t.rest)
+    (λ count. times_joined count.0 (location_at wanted t.head.version (sizes t.head.version (big_number 2 t.packed))) count.1)
+    (ap (λ b. cond b (Err unsupported_iloc) (number_at (item_width t.head.version) (t.count ++ (flat_map print_place t.places ++ t.rest)))) (le-ltb 2 t.head.version is.version)
+    ∙ ap (λ n. number_at n (t.count ++ (flat_map print_place t.places ++ t.rest))) (sym is.count)
+    ∙ number_read (length t.count) t.count (flat_map print_place t.places ++ t.rest) refl)
+    ∙ ap (λ n. times_joined n (location_at wanted t.head.version (sizes t.head.version (big_number 2 t.packed))) (flat_map print_place t.places ++ t.rest)) is.counted
+    ∙ ap (λ (z : Sizes). times_joined (length t.places) (location_at wanted t.head.version z) (flat_map print_place t.places ++ t.rest))
+    (packed-sizes t.head.version (big_number 2 t.packed) t.sizes is.packed.spelt is.packed.len is.packed.base is.packed.index)
+    ∙ then_ok (times (length t.places) (location_at wanted t.head.version (sizes_in t.head.version t.sizes)) (flat_map print_place t.places ++ t.rest)) (map (place_said wanted t.head.version) t.places, t.rest)
+    (λ found. all_of found.0)
+    (times-read (location_at wanted t.head.version (sizes_in t.head.version t.sizes)) print_place (place_said wanted t.head.version) (IsPlace wanted t.head.version (sizes_in t.head.version t.sizes))
+    (λ p r k. location-read wanted t.head.version (sizes_in t.head.version t.sizes) p r k) t.places t.rest is.places)
+    ∙ ap (λ ps. ok ps) (joined-map (place_said wanted t.head.version) t.places)
+  where
+    ok : List Place → Result (List Place) Refusal
+    ok ps = Ok ps
+
+    all_of : List (List Place) → Result (List Place) Refusal
+    all_of found = Ok (flat_map (λ xs. xs) found)
+
+abbrev four_bits : ℕ → Sizes
+four_bits n = record { offset = n / 4096; len = n / 256 % 16; base = n / 16 % 16; index = n % 16 }
+
+spelt-again : (n : ℕ) → n ≡ 4096 * (n / 4096) + 256 * (n / 256 % 16) + 16 * (n / 16 % 16) + n % 16
+spelt-again n = omega arith
+
+under-sixteen : (n : ℕ) → n % 16 < 16
+under-sixteen n = omega arith
+
+places-fronted : (wanted : ℕ) (body : List ℕ) (f : Fronted body) (places : List Place) → locations wanted body ≡ Ok places
+    → (t : PlacesTree) × ArePlaces wanted t × (places_said wanted t ≡ places) × (print_places t ≡ body)
+places-fronted wanted body f places e =
+    let version = f.head.version in
+    let there : (number_at 2 f.rest >>= λ packed. counted wanted f.head.version packed) ≡ Ok places =
+    sym (then_ok (version_at (print_full f.head f.rest)) (f.head.version, f.rest) (λ v. number_at 2 v.1 >>= λ packed. counted wanted v.0 packed) (full_read f.head f.rest f.is))
+        ∙ sym (locations-headed wanted (print_full f.head f.rest)) ∙ ap (locations wanted) f.whole ∙ e in
+    let p = bind_ok (number_at 2 f.rest) (λ packed. counted wanted f.head.version packed) places there in
+    let c = bind_ok (cond (ltb 2 f.head.version) (Err unsupported_iloc) (number_at (item_width f.head.version) p.0.1))
+    (λ count. times_joined count.0 (location_at wanted f.head.version (sizes f.head.version p.0.0)) count.1) places p.2 in
+    let u = unless-ok (ltb 2 f.head.version) unsupported_iloc (number_at (item_width f.head.version) p.0.1) c.0 c.1 in
+    let m = bind_ok (times c.0.0 (location_at wanted f.head.version (sizes f.head.version p.0.0)) c.0.1) all_of places c.2 in
+    let pt = number-taken 2 f.rest p.0 p.1 in
+    let ct = number-taken (item_width f.head.version) p.0.1 c.0 u.1 in
+    let ts = times-only (location_at wanted f.head.version (sizes f.head.version p.0.0)) print_place (place_said wanted f.head.version) (IsPlace wanted f.head.version (sizes f.head.version p.0.0))
+    (λ text x k. location-only wanted f.head.version (sizes f.head.version p.0.0) text x k) c.0.0 c.0.1 m.0 m.1 in (
+      record { head = f.head; packed = pt.bytes; sizes = four_bits p.0.0; count = ct.bytes; places = ts.trees; rest = m.0.1 },
+      record {
+        head = f.is;
+        version = ltb-false 2 f.head.version u.0;
+        packed = record {
+          two = pt.len;
+          spelt = ap (λ k. big_number k pt.bytes) (sym pt.len) ∙ pt.value ∙ spelt-again p.0.0;
+          len = under-sixteen (p.0.0 / 256);
+          base = under-sixteen (p.0.0 / 16);
+          index = under-sixteen p.0.0;
+        };
+        count = ct.len;
+        counted = ct.value ∙ sym ts.count;
+        places = ts.are;
+      },
+      sym (joined-map (place_said wanted f.head.version) ts.trees) ∙ ap (λ ps. flat_map (λ ys. ys) ps) ts.vals ∙ ok_same m.2,
+      ap (λ t. print_full f.head (pt.bytes ++ (ct.bytes ++ t))) ts.whole
+          ∙ ap (λ t. print_full f.head (pt.bytes ++ t)) ct.whole ∙ ap (λ t. print_full f.head t) pt.whole ∙ f.whole,
+    )
+  where
+    all_of : List (List Place) × List ℕ → Result (List Place) Refusal
+    all_of found = Ok (flat_map (λ xs. xs) found.0)
+
+pub is_a_places : (wanted : ℕ) (body : List ℕ) (places : List Place) → IsAPlaces wanted body places
+is_a_places wanted body places e = by (cases_lt (length body) 4)
+  where
+    by : (length body < 4) ⊎ (4 ≤ length body) → (t : PlacesTree) × ArePlaces wanted t × (places_said wanted t ≡ places) × (print_places t ≡ body)
+    by (inl lt) =
+        let none : Result (List Place) Refusal = Err too_small in
+        let k : none ≡ Ok places =
+        sym (then_err (version_at body) too_small (λ v. number_at 2 v.1 >>= λ packed. counted wanted v.0 packed) (full_short body lt)) ∙ sym (locations-headed wanted body) ∙ e in absurd cc
+    by (inr le) = places-fronted wanted body (fronted body le) places e

@@ -9,7 +9,8 @@ ghost use Rattle.exif_containers.specs.Container.{TiffIsWhole};
 ghost use Rattle.exif_containers.specs.FileGrammar.{FileBoxesAreRead, FrontTree, IsAFront, MetaIsFound};
 ghost use Rattle.exif_containers.specs.ItemGrammar.{BlockIsRead, BlockTree, EntryIsRead, EntryTree, InfoIsRead, InfoTree, IsABlock, IsAnEntry, IsAnInfo};
 ghost use Rattle.exif_containers.specs.JpegGrammar.{IsAStream, Stream, StreamIsAnswered};
-ghost use Rattle.exif_containers.specs.PlaceGrammar.{IsAnItem, ItemIsJoined};
+ghost use Rattle.exif_containers.specs.PlaceGrammar.{IsAPlaces, IsAnItem, ItemIsJoined, PlacesAreRead, PlacesTree};
+ghost use Rattle.exif_containers.specs.Places.{Place};
 ghost use Rattle.exif_containers.specs.WebpGrammar.{FileIsAnswered, IsAFile, WebpFile};
 
 /// A JPEG stream is answered as the tree of its units says, and all bytes are those of such a tree.
@@ -78,6 +79,13 @@ pub fn file_boxes_are_read()
 pub fn files_up_to_meta()
     ensures found { (t : FrontTree) → MetaIsFound t }
     ensures every { (bytes : List ℕ) → IsAFront bytes }
+{}
+
+/// An `iloc` gives the places of the wanted item that the tree of its items and extents says, and one that
+/// is read is that of such a tree.
+pub fn item_locations_are_read()
+    ensures read { (wanted : ℕ) (t : PlacesTree) → PlacesAreRead wanted t }
+    ensures only { (wanted : ℕ) (body : List ℕ) (places : List Place) → IsAPlaces wanted body places }
 {}
 
 /// An item is the texts of its extents, one after the other, where they are at most 65,535 bytes together.
