@@ -5,12 +5,13 @@ use Rattle.std.proofs.lemmas.List.{take_at, drop_at, take-append-drop, take-take
 use Rattle.std.proofs.Math.Bool.{and-true}
 use Rattle.exif_base.specs.Told.{WhereTold}
 use Rattle.exif_containers.specs.Within.{Moves}
+use Rattle.std.specs.List.{Contains}
 use Rattle.std.specs.Option.{option_map}
 use Rattle.std.proofs.lemmas.Bool.{eq-eqb, ne_eqb, cases_lt}
 use Rattle.exif_types.specs.Failures.{Failure}
 use Rattle.exif_types.specs.Refusals.{Refusal, refusal_of, IsInterrupted, Fails}
 use Rattle.exif_containers.specs.Answer.{Answer, found, refused, IsCollected, IsShort}
-use Rattle.exif_containers.specs.Jpeg.{answer_at_code, begins_exif, not_jpeg, unexpected_soi, no_exif_in_jpeg, broken_jpeg, JpegUnit, stands_alone, unit_from_code, unit_answer, code_onwards, answer_from, jpeg_answer, exif_payload, first_answer, with_units, units_of}
+use Rattle.exif_containers.specs.Jpeg.{jpeg_refusals, answer_at_code, begins_exif, invalid_length, not_jpeg, unexpected_soi, no_exif_in_jpeg, broken_jpeg, JpegUnit, stands_alone, unit_from_code, unit_answer, code_onwards, answer_from, jpeg_answer, exif_payload, first_answer, with_units, units_of}
 use Rattle.exif_containers.proofs.JpegUnits.{unit-segment, unit-alone, unit_answer_segment, answer-at_code, answer-short, answer-no_code, answer_alone}
 use Rattle.exif_containers.proofs.Within.{moves_then, moves_then_fact, moves_fact, moves_weaker}
 
@@ -144,6 +145,10 @@ collected-exif high low ys room is = by (cases_lt (length ys) (256 * high + low 
     by : (length ys < 256 * high + low - 2) ⊎ (256 * high + low - 2 ≤ length ys) → IsCollected broken_jpeg (answer_at_code 225 (high ∷ low ∷ ys))
     by (inl lt) = rw (answer-short 225 (high ∷ low ∷ ys) refl (omega arith)) refl
     by (inr le) = rw (whole (256 * high + low - 2) refl le) tt
+
+-- a length that is too short is a named refusal
+pub bad_length_named : Contains jpeg_refusals invalid_length
+bad_length_named = (3, omega arith, refl)
 
 pub segment_collects : (a b : Option (List ℕ)) (l m code size : ℕ) → code ≡ 225
     → Moves a l b m (λ xs ys. (high low : ℕ) × (xs ≡ high ∷ low ∷ ys) × (size ≡ 256 * high + low))

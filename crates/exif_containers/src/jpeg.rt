@@ -85,6 +85,7 @@ fn has_no_body(code: u8) -> bool
 }
 
 // What follows a code that has a body.
+#[tactic(auto, using(crate::proofs::JpegMoves::bad_length_named))]
 fn segment<R: Source>(
     alloc: Global,
     source: &mut R,
