@@ -20,6 +20,10 @@ use exif_types::Error;
 use std::alloc::Global;
 use std::io;
 
+// How TIFF data begin, the highest byte of a number first and the lowest first (TIFF 6.0, section 2).
+const TIFF_BE_SIG: [u8; 4] = [0x4d, 0x4d, 0x00, 0x2a];
+const TIFF_LE_SIG: [u8; 4] = [0x49, 0x49, 0x2a, 0x00];
+
 // How many bytes choose the container.
 const HEAD: usize = 4096;
 
@@ -43,7 +47,7 @@ pub enum Format {
 pub fn is_tiff(bytes: &[u8]) -> bool
     ensures { result ≡ begins_tiff bytes.now }
 {
-    bytes.len() >= 4 && (bytes[..4] == b"MM\0*"[..] || bytes[..4] == b"II*\0"[..])
+    bytes.len() >= 4 && (bytes[..4] == TIFF_BE_SIG[..] || bytes[..4] == TIFF_LE_SIG[..])
 }
 
 /// The container that begins with these bytes.
