@@ -15,7 +15,8 @@ pub trait Endian {
     ghost bytes_of: { ℕ → ℕ → List ℕ };
 
     // The bytes that spell a number are read as it.
-    ghost reads_back: { (n x : ℕ) (rest : List ℕ) → x < 256 ^ n → number_of n (bytes_of n x ++ rest) ≡ x };
+    ghost reads_back: { (n x : ℕ) (rest : List ℕ) → x < 256 ^ n
+        → number_of n (bytes_of n x ++ rest) ≡ x };
 
     /// The 16-bit number whose bytes begin at `from`.
     fn loadu16(buf: &[u8], from: usize) -> u16

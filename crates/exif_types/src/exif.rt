@@ -41,7 +41,8 @@ pub fn exif_from_parts(
     little_endian: bool,
 ) -> Result<Exif, AllocError>
     requires { All IsRead fields.items }
-    ensures { IfOk result (λ exif. exif ≡ record { buf = buf.items; fields = fields.items; little_endian = little_endian }) }
+    ensures { IfOk result (λ exif. exif
+        ≡ record { buf = buf.items; fields = fields.items; little_endian = little_endian }) }
 {
     let index = FieldIndex::of(alloc, fields.as_slice())?;
     Ok(Exif {
