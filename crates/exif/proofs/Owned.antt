@@ -1,10 +1,9 @@
 -- What a reading says of data, it says of the data that it hands on.
 use Rattle.std.proofs.Common.{◌≡◌, ◌⊎◌, inl, inr, ℕ, List, Some, Result, Ok, Err, sym, subst}
-use Rattle.std.specs.Borrow.{Bor}
 use Rattle.std.specs.List.{Contains}
-use Rattle.exif_types.specs.Contents.{ExifContents, PartialContents}
+use Rattle.exif_types.specs.Contents.{ExifContents}
 use Rattle.exif_types.specs.Failures.{Failure}
-use Rattle.exif_types.specs.Refusals.{Refusal, refusal_of}
+use Rattle.exif_types.specs.Refusals.{Refusal}
 use Rattle.exif_types.specs.declared.error.Error.TheVariants as error
 use Rattle.exif_format.specs.Answers.{Answer, Refused}
 use Rattle.exif_format.specs.Faults.{refusal}
@@ -12,7 +11,7 @@ use Rattle.exif_format.specs.declared.fault.Fault.{Fault}
 use Rattle.exif_containers.specs.Answer.{IsNamed}
 use Rattle.exif_containers.specs.Container.{container_refusals}
 use Rattle.exif.specs.Files.{AnswersOwnData, IsDataRefusal}
-use Rattle.exif.specs.Readings.{ReadsAs, RefusedAs}
+use Rattle.exif.specs.Readings.{ReadsAs}
 
 -- a refusal of data is one
 data_refusal : (answer : List ℕ → Answer) (bytes : List ℕ) (r : Refusal) (fault : Fault) → answer bytes ≡ Refused fault → Some r ≡ Some (refusal fault) → Contains container_refusals r ⊎ IsDataRefusal answer r

@@ -1,6 +1,6 @@
 -- The greatest limit limits nothing.
-use Rattle.std.proofs.Common.{◌≡◌, ◌≤◌, ◌+◌, ◌*◌, ◌∙◌, ℕ, Bool, List, Option, Some, None, ap, sym, arith, unwrap_or}
-use Rattle.std.proofs.Math.Nat.{mul-le-mul_left, mul-le-mul_right}
+use Rattle.std.proofs.Common.{◌≡◌, ◌≤◌, ◌+◌, ◌*◌, ℕ, Bool, List, Option, Some, None, ap, sym, arith, unwrap_or}
+use Rattle.std.proofs.Math.Nat.{mul-le-mul_right}
 use Rattle.exif_format.specs.Answers.{raw_answer}
 use Rattle.exif_format.specs.Trace.{trace, visits_of}
 use Rattle.exif_format.specs.Visits.{visits_at_most, entries_at_most}

@@ -14,8 +14,8 @@ mod writer;
 pub use exif_base::{Counted, Items, Sink, Source};
 pub use exif_containers::get_exif_attr_from_jpeg;
 pub use exif_types::{
-    Context, DateTime, Decimal, Display, DisplayValue, DisplayValueUnit, Error, Exif, Field, Fields, In,
-    PartialResult, ProvideUnit, Rational, SRational, Tag, UIntIter, UIntValue, Value,
+    Context, DateTime, Decimal, Display, DisplayValue, DisplayValueUnit, Error, Exif, Field,
+    Fields, In, PartialResult, ProvideUnit, Rational, SRational, Tag, UIntIter, UIntValue, Value,
 };
 pub use reader::Reader;
 pub use tiff::parse_exif;

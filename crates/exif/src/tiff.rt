@@ -12,9 +12,7 @@ use crate::parser::Parser;
 use crate::stop::Stop;
 use exif_base::{BigEndian, Endian, LittleEndian, Order};
 use exif_format::Fault;
-use exif_format::laws::{
-    answers_show_what_was_read, limits_cut_readings, reading_is_bounded,
-};
+use exif_format::laws::{answers_show_what_was_read, limits_cut_readings, reading_is_bounded};
 use exif_types::{Error, Field};
 use std::alloc::Global;
 
