@@ -22,8 +22,8 @@ pub fn strict_gives_the_first_fault_of_a_file()
     strict_gives_the_first_fault();
 }
 
-/// Two writes of the same groups in one byte order that both come through send equal bytes, whatever
-/// was sent before.
+/// Two writes of the same groups in one byte order that both come through send equal bytes,
+/// whatever was sent before.
 pub fn writes_send_equal_bytes()
     ensures { (order : Order) (groups : List Group) → WritesAgree order groups }
 {}

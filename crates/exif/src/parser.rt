@@ -97,8 +97,10 @@ impl Parser {
         first: u32,
     ) -> Result<(), Stop>
         requires { length bytes.now < 2 ^ 32 }
-        ensures follows { Follows result self.new (run (chain_nodes limit E.number_of bytes.now 0 first) self.old) }
-        ensures turns { CountsTurns result self.old self.new (chain_nodes limit E.number_of bytes.now 0 first) }
+        ensures follows { Follows result self.new
+            (run (chain_nodes limit E.number_of bytes.now 0 first) self.old) }
+        ensures turns { CountsTurns result self.old self.new
+            (chain_nodes limit E.number_of bytes.now 0 first) }
     {
         self.directories::<E>(alloc, bytes, limit, first)
     }
@@ -112,7 +114,8 @@ impl Parser {
         first: u32,
     ) -> Result<(), Stop>
         requires { length bytes.now < 2 ^ 32 }
-        ensures { Follows result self.new (run (chain_nodes limit E.number_of bytes.now 0 first) self.old) }
+        ensures { Follows result self.new
+            (run (chain_nodes limit E.number_of bytes.now 0 first) self.old) }
     {
         let mut place = first;
         for number in 0..limit {
@@ -142,7 +145,9 @@ impl Parser {
         place: u32,
     ) -> Result<(), Stop>
         requires { length bytes.now < 2 ^ 32 }
-        ensures { Follows result self.new (run (directory_nodes (depth_of context) E.number_of bytes.now ifd_num.0 context place) self.old) }
+        ensures { Follows result self.new
+            (run (directory_nodes (depth_of context) E.number_of bytes.now ifd_num.0 context place)
+            self.old) }
     {
         let mut at = place as usize + 2;
         for _ in 0..whole_entries::<E>(bytes, place) {
@@ -164,7 +169,9 @@ impl Parser {
     ) -> Result<(), Stop>
         requires small { length bytes.now < 2 ^ 32 }
         requires whole { at + 12 ≤ length bytes.now }
-        ensures { Follows result self.new (run (entry_nodes (directory_nodes (depth_of context - 1) E.number_of bytes.now ifd_num.0) E.number_of bytes.now context ifd_num.0 at) self.old) }
+        ensures { Follows result self.new
+            (run (entry_nodes (directory_nodes (depth_of context - 1) E.number_of bytes.now ifd_num.0)
+            E.number_of bytes.now context ifd_num.0 at) self.old) }
     {
         self.visit()?;
         let Some(value) = entry_value::<E>(alloc, bytes, at)? else {
@@ -192,7 +199,9 @@ impl Parser {
         place: Option<u32>,
     ) -> Result<(), Stop>
         requires { length bytes.now < 2 ^ 32 }
-        ensures { Follows result self.new (run (pointer_nodes (directory_nodes (depth_of child) E.number_of bytes.now ifd_num.0) E.number_of bytes.now child place) self.old) }
+        ensures { Follows result self.new
+            (run (pointer_nodes (directory_nodes (depth_of child) E.number_of bytes.now ifd_num.0)
+            E.number_of bytes.now child place) self.old) }
     {
         let Some(place) = place else {
             return self.met(Fault::InvalidPointer);

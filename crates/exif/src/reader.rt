@@ -38,7 +38,8 @@ impl Model for Reader {
 
 // The errors of these faults.
 fn errors_of(alloc: Global, faults: &[Fault]) -> Result<Vec<Error>, AllocError>
-    ensures texts { IfOk result (λ errors. map bytes_of (map told_text errors.items) ≡ map text_of faults.now) }
+    ensures texts { IfOk result
+        (λ errors. map bytes_of (map told_text errors.items) ≡ map text_of faults.now) }
     ensures invalid { IfOk result (λ errors. All IsInvalidFormat errors.items) }
 {
     let mut errors = Vec::with_capacity(alloc, faults.len())?;
@@ -82,7 +83,8 @@ impl Reader {
     /// Behind them, strict reading answers the first fault, and lenient reading all fields and, in
     /// a `PartialResult`, all faults.
     pub fn read_raw(&self, alloc: Global, bytes: Vec<u8>) -> Result<Exif, Error>
-        ensures reads { ReadsAs (raw_answer self.now.lenient self.now.limit bytes.items) bytes.items result }
+        ensures reads { ReadsAs
+            (raw_answer self.now.lenient self.now.limit bytes.items) bytes.items result }
         ensures bounded { ReportsAtMost self.now.limit result }
     {
         show_bytes(bytes.as_slice());
@@ -95,16 +97,17 @@ impl Reader {
     /// refusal of the container is the answer in either mode. How far the source was read is left
     /// open.
     ///
-    /// Whether or not the source tells its bytes, what comes back is what its own data (`buf`) answer,
-    /// and any other error is a named refusal of a container or of data, want of memory, or the
-    /// source's.
+    /// Whether or not the source tells its bytes, what comes back is what its own data (`buf`)
+    /// answer, and any other error is a named refusal of a container or of data, want of memory,
+    /// or the source's.
     pub fn read_from_container<R: Source>(
         &self,
         alloc: Global,
         source: &mut R,
     ) -> Result<Exif, Error>
         ensures reads { IfSome (R.left source.old)
-            (λ bytes. ReadsContainer (raw_answer self.now.lenient self.now.limit) (container_answer bytes) result) }
+            (λ bytes. ReadsContainer (raw_answer self.now.lenient self.now.limit)
+            (container_answer bytes) result) }
         ensures own { AnswersOwnData (raw_answer self.now.lenient self.now.limit) result }
         ensures bounded { ReportsAtMost self.now.limit result }
         ensures count { R.failures source.new ≡ count_after (is_io result) (R.failures source.old) }
@@ -116,7 +119,8 @@ impl Reader {
     }
 
     fn read(&self, alloc: Global, bytes: Vec<u8>) -> Result<Exif, Error>
-        ensures { ReadsAs (raw_answer self.now.lenient self.now.limit bytes.items) bytes.items result }
+        ensures { ReadsAs
+            (raw_answer self.now.lenient self.now.limit bytes.items) bytes.items result }
     {
         let parsed = tiff::parse(alloc, bytes.as_slice(), self.lenient, self.limit)?;
         let errors = errors_of(alloc, parsed.faults.as_slice())?;

@@ -57,7 +57,8 @@ fn parse_in<E: Endian>(
 ) -> Result<Parsed, Stop>
     requires header { 8 ≤ length bytes.now }
     requires small { length bytes.now < 2 ^ 32 }
-    ensures says { Says result (answer_of lenient (content_of (cut most (ordered_trace E.number_of bytes.now)))) }
+    ensures says { Says result
+        (answer_of lenient (content_of (cut most (ordered_trace E.number_of bytes.now)))) }
     ensures order { IfOk result (λ parsed. parsed.little_endian ≡ little_endian) }
 {
     let mut parser = Parser::new(alloc, lenient, most);
@@ -87,8 +88,8 @@ fn parse_within(alloc: Global, bytes: &[u8], lenient: bool, most: u64) -> Result
     }
 }
 
-/// Reads TIFF data, strictly or leniently, and up to a limit on the visited entries. No data have as
-/// many entries as a limit can say, so that the greatest one limits nothing.
+/// Reads TIFF data, strictly or leniently, and up to a limit on the visited entries. No data have
+/// as many entries as a limit can say, so that the greatest one limits nothing.
 pub fn parse(alloc: Global, bytes: &[u8], lenient: bool, limit: Option<u64>) -> Result<Parsed, Stop>
     ensures says { Says result (raw_answer lenient limit bytes.now) }
     ensures order { SaysOrder result bytes.now }

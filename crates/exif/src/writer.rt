@@ -133,7 +133,8 @@ impl<'a> Writer<'a> {
     /// Sets the strips of a directory, in place of any that were set. The only error is want of
     /// memory, and it leaves the writer as it was.
     pub fn set_strips(&mut self, strips: &'a [&'a [u8]], ifd_num: In) -> Result<(), Error>
-        ensures set { OnOk result (self.new ≡ strips_set (texts_in strips.entry) ifd_num.0 self.old) }
+        ensures set { OnOk result
+            (self.new ≡ strips_set (texts_in strips.entry) ifd_num.0 self.old) }
         ensures kept { OnErr result (self.new ≡ self.old) }
         ensures memory { IfErr result (λ e. e ≡ Error.OutOfMemory) }
     {
@@ -172,32 +173,44 @@ impl<'a> Writer<'a> {
     /// Sends the image of what was pushed and set as TIFF data, and flushes once. The writer keeps
     /// its fields and blocks.
     ///
-    /// It is refused where there is no directory, and else for the first directory of the chain that
-    /// has no entry, a directory of more than 65,535 entries or a value of an unknown type, and else
-    /// where the image is longer than 4,294,967,295 bytes. These refusals take no memory. After them
-    /// and after want of memory nothing was sent, and after an error of the sink exactly a beginning
-    /// of the image.
+    /// It is refused where there is no directory, and else for the first directory of the chain
+    /// that has no entry, a directory of more than 65,535 entries or a value of an unknown type,
+    /// and else where the image is longer than 4,294,967,295 bytes. These refusals take no
+    /// memory. After them and after want of memory nothing was sent, and after an error of the
+    /// sink exactly a beginning of the image.
     pub fn write<W: Sink>(&mut self, out: &mut W, little_endian: bool) -> Result<(), Error>
         ensures same { self.new ≡ self.old }
-        ensures sent { OnOk result (Appends (W.taken out.old) (W.taken out.new) (image (written_order little_endian) self.old)) }
+        ensures sent { OnOk result
+            (Appends (W.taken out.old) (W.taken out.new)
+            (image (written_order little_endian) self.old)) }
         ensures accepted { OnOk result (write_fault self.old ≡ None) }
-        ensures refused { IfSome (write_fault self.old) (λ cause. IsErrAnd result (λ e. refusal_of e ≡ Some (write_refusal cause))) }
+        ensures refused { IfSome (write_fault self.old)
+            (λ cause. IsErrAnd result (λ e. refusal_of e ≡ Some (write_refusal cause))) }
         ensures interrupted { IfErr result (λ e. write_fault self.old ≡ None → IsInterrupted e) }
-        ensures kept { IfErr result (λ e. is_io_error e ≡ false → Keeps (W.taken out.old) (W.taken out.new)) }
-        ensures front { OnErr result (SendsFront (W.taken out.old) (W.taken out.new) (image (written_order little_endian) self.old)) }
+        ensures kept { IfErr result
+            (λ e. is_io_error e ≡ false → Keeps (W.taken out.old) (W.taken out.new)) }
+        ensures front { OnErr result
+            (SendsFront (W.taken out.old) (W.taken out.new)
+            (image (written_order little_endian) self.old)) }
         ensures count { W.failures out.new ≡ count_after (is_io result) (W.failures out.old) }
         ensures through { W.through out.new ≡ W.through out.old }
         ensures ranged { AreRanged self.old }
         ensures laid_out { OnOk result (LaidOut (written_order little_endian) self.old) }
         ensures length { OnOk result (LengthIsEnd (written_order little_endian) self.old) }
-        ensures contained { OnOk result (ContainsItself (image (written_order little_endian) self.old)) }
+        ensures contained { OnOk result
+            (ContainsItself (image (written_order little_endian) self.old)) }
         ensures blocks { OnOk result (BlocksStand (written_order little_endian) self.old) }
-        ensures read_back { OnOk result (HavePlainTexts self.old → length self.old ≤ 8 → ReadsBack (written_order little_endian) self.old) }
-        ensures first_eight { OnOk result (HavePlainTexts self.old → ReadsFirstEight (written_order little_endian) self.old) }
+        ensures read_back { OnOk result
+            (HavePlainTexts self.old → length self.old ≤ 8
+            → ReadsBack (written_order little_endian) self.old) }
+        ensures first_eight { OnOk result
+            (HavePlainTexts self.old → ReadsFirstEight (written_order little_endian) self.old) }
         ensures rewriting { OnOk result (RewritesSame (written_order little_endian) self.old) }
         ensures each_order { OnOk result (HavePlainTexts self.old → length self.old ≤ 8
             → RewritesInEachOrder (written_order little_endian) self.old) }
-        ensures equality { OnOk result (HavePlainTexts self.old → length self.old ≤ 8 → EqualByContents (written_order little_endian) self.old) }
+        ensures equality { OnOk result
+            (HavePlainTexts self.old → length self.old ≤ 8
+            → EqualByContents (written_order little_endian) self.old) }
         ensures lengths { OnOk result (LengthsAgree self.old) }
         ensures orders { OnOk result (HavePlainTexts self.old → OrdersAgree self.old) }
     {
@@ -211,7 +224,8 @@ impl<'a> Writer<'a> {
         Ok(())
     }
 
-    // The numbers of the groups fit their types, which is the writer's invariant. This does nothing.
+    // The numbers of the groups fit their types, which is the writer's invariant. This does
+    // nothing.
     fn show_ranged(&self)
         ensures { AreRanged self.now }
     {
@@ -226,12 +240,15 @@ impl<'a> Writer<'a> {
         ensures length { LengthIsEnd (written_order little_endian) self.now }
         ensures contained { ContainsItself (image (written_order little_endian) self.now) }
         ensures blocks { BlocksStand (written_order little_endian) self.now }
-        ensures read_back { HavePlainTexts self.now → length self.now ≤ 8 → ReadsBack (written_order little_endian) self.now }
-        ensures first_eight { HavePlainTexts self.now → ReadsFirstEight (written_order little_endian) self.now }
+        ensures read_back { HavePlainTexts self.now → length self.now ≤ 8
+            → ReadsBack (written_order little_endian) self.now }
+        ensures first_eight { HavePlainTexts self.now
+            → ReadsFirstEight (written_order little_endian) self.now }
         ensures rewriting { RewritesSame (written_order little_endian) self.now }
         ensures each_order { HavePlainTexts self.now → length self.now ≤ 8
             → RewritesInEachOrder (written_order little_endian) self.now }
-        ensures equality { HavePlainTexts self.now → length self.now ≤ 8 → EqualByContents (written_order little_endian) self.now }
+        ensures equality { HavePlainTexts self.now → length self.now ≤ 8
+            → EqualByContents (written_order little_endian) self.now }
         ensures lengths { LengthsAgree self.now }
         ensures orders { HavePlainTexts self.now → OrdersAgree self.now }
     {

@@ -157,8 +157,8 @@ other-kind : (h : BoxHeader) → IsOther h → (same_kind FileType (kind_of (typ
 other-kind h is =
     let name = type_of h in
     let P : Bool → Bool → Type 0 = λ a b.
-        (same_kind FileType (kind_by a b (bytes_eq (type_of h) (codes "idat")) (bytes_eq (type_of h) (codes "iinf")) (bytes_eq (type_of h) (codes "infe")) (bytes_eq (type_of h) (codes "iloc"))) ≡ false)
-        × (kind_by a b (bytes_eq (type_of h) (codes "idat")) (bytes_eq (type_of h) (codes "iinf")) (bytes_eq (type_of h) (codes "infe")) (bytes_eq (type_of h) (codes "iloc")) ≡ Meta → ⊥) in
+    (same_kind FileType (kind_by a b (bytes_eq (type_of h) (codes "idat")) (bytes_eq (type_of h) (codes "iinf")) (bytes_eq (type_of h) (codes "infe")) (bytes_eq (type_of h) (codes "iloc"))) ≡ false)
+    × (kind_by a b (bytes_eq (type_of h) (codes "idat")) (bytes_eq (type_of h) (codes "iinf")) (bytes_eq (type_of h) (codes "infe")) (bytes_eq (type_of h) (codes "iloc")) ≡ Meta → ⊥) in
     subst (λ a. P a (bytes_eq (type_of h) (codes "meta"))) (sym (is-not (type_of h) (codes "ftyp") is.0))
     (subst (P false) (sym (is-not (type_of h) (codes "meta") is.1))
     (none (bytes_eq (type_of h) (codes "idat")) (bytes_eq (type_of h) (codes "iinf")) (bytes_eq (type_of h) (codes "infe")) (bytes_eq (type_of h) (codes "iloc"))))

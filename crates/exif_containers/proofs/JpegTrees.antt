@@ -250,7 +250,7 @@ unit_answer-says passed fill code (sized high low content) rest h =
     ∙ sized-says (eqb code 216) (eqb code 217) (ltb (256 * high + low) 2) rest
 unit_answer-says passed fill code (exif high low payload) rest h =
     let P : ℕ → Type 0 = λ c. unit_answer (record { code = c; body = high ∷ low ∷ (exif_id ++ payload); rest = rest })
-        ≡ answer_of rest (unit_says (record { passed = passed; fill = fill; code = c; brought = exif high low payload })) in
+    ≡ answer_of rest (unit_says (record { passed = passed; fill = fill; code = c; brought = exif high low payload })) in
     subst P (sym h.0) (exif-answers high low payload rest h.1)
 
 -- the answer of a unit and what follows it

@@ -610,7 +610,7 @@ places-fronted wanted body f places e =
     let version = f.head.version in
     let there : (number_at 2 f.rest >>= λ packed. counted wanted f.head.version packed) ≡ Ok places =
     sym (then_ok (version_at (print_full f.head f.rest)) (f.head.version, f.rest) (λ v. number_at 2 v.1 >>= λ packed. counted wanted v.0 packed) (full_read f.head f.rest f.is))
-        ∙ sym (locations-headed wanted (print_full f.head f.rest)) ∙ ap (locations wanted) f.whole ∙ e in
+    ∙ sym (locations-headed wanted (print_full f.head f.rest)) ∙ ap (locations wanted) f.whole ∙ e in
     let p = bind_ok (number_at 2 f.rest) (λ packed. counted wanted f.head.version packed) places there in
     let c = bind_ok (cond (ltb 2 f.head.version) (Err unsupported_iloc) (number_at (item_width f.head.version) p.0.1))
     (λ count. times_joined count.0 (location_at wanted f.head.version (sizes f.head.version p.0.0)) count.1) places p.2 in

@@ -20,8 +20,9 @@ use exif_types::Error;
 use std::alloc::Global;
 use std::io;
 
-// How TIFF data begin, the highest byte of a number first and the lowest first (TIFF 6.0, section 2).
+// How TIFF data begin in each byte order (TIFF 6.0, section 2).
 const TIFF_BE_SIG: [u8; 4] = [0x4d, 0x4d, 0x00, 0x2a];
+
 const TIFF_LE_SIG: [u8; 4] = [0x49, 0x49, 0x2a, 0x00];
 
 // How many bytes choose the container.
@@ -70,7 +71,8 @@ pub fn format_of(head: &[u8]) -> Option<Format>
 
 // The data of a file in memory, of which these bytes were read.
 fn heif_attr<R: Source>(alloc: Global, head: &[u8], source: &mut R) -> Result<Vec<u8>, Error>
-    ensures gives { IfSome (R.left source.old) (λ rest. Gives (λ v. v.items) result (exif_of (head.now ++ rest))) }
+    ensures gives { IfSome (R.left source.old)
+        (λ rest. Gives (λ v. v.items) result (exif_of (head.now ++ rest))) }
     ensures named { IfErr result (IsNamed heif_refusals) }
     ensures count { R.failures source.new ≡ count_after (is_io result) (R.failures source.old) }
     ensures same { R.through source.new ≡ R.through source.old }
@@ -90,7 +92,8 @@ fn jpeg_attr<R: Source>(
     requires filled { filled ≤ length block.now }
     requires some { 0 < length block.now }
     ensures gives { IfSome (R.left source.old)
-        (λ rest. Gives (λ v. v.items) result (data_of (jpeg_answer (take LIMIT (take filled block.old ++ rest))))) }
+        (λ rest. Gives (λ v. v.items) result
+        (data_of (jpeg_answer (take LIMIT (take filled block.old ++ rest))))) }
     ensures named { IfErr result (IsNamed jpeg_refusals) }
     ensures count { R.failures source.new ≡ count_after (is_io result) (R.failures source.old) }
     ensures same { R.through source.new ≡ R.through source.old }
@@ -110,7 +113,8 @@ fn webp_attr<R: Source>(
     requires filled { filled ≤ length block.now }
     requires some { 0 < length block.now }
     ensures gives { IfSome (R.left source.old)
-        (λ rest. Gives (λ v. v.items) result (data_of (webp_answer (take filled block.old ++ rest)))) }
+        (λ rest. Gives (λ v. v.items) result
+        (data_of (webp_answer (take filled block.old ++ rest)))) }
     ensures named { IfErr result (IsNamed webp_refusals) }
     ensures count { R.failures source.new ≡ count_after (is_io result) (R.failures source.old) }
     ensures same { R.through source.new ≡ R.through source.old }
@@ -148,7 +152,8 @@ fn attr_as<R: Source>(
 
 // Fills the front of the block with the head of the stream, or all of it.
 fn read_head<R: Source>(source: &mut R, block: &mut [u8]) -> io::Result<usize>
-    ensures taken { IfOk result (λ n. Consumes (R.left source.old) (R.left source.new) (take n block.new)) }
+    ensures taken { IfOk result
+        (λ n. Consumes (R.left source.old) (R.left source.new) (take n block.new)) }
     ensures bound { IfOk result (λ n. n ≤ length block.new) }
     ensures len { length block.new ≡ length block.old }
     ensures end { IfOk result (λ n. n < min HEAD (length block.new) → IsAtEnd (R.left source.new)) }
@@ -168,7 +173,8 @@ fn attr_by_block<R: Source>(
     source: &mut R,
 ) -> Result<Vec<u8>, Error>
     requires { HEAD ≤ length block.now }
-    ensures gives { IfSome (R.left source.old) (λ bytes. Gives (λ v. v.items) result (container_answer bytes)) }
+    ensures gives { IfSome (R.left source.old)
+        (λ bytes. Gives (λ v. v.items) result (container_answer bytes)) }
     ensures named { IfErr result (IsNamed container_refusals) }
     ensures count { R.failures source.new ≡ count_after (is_io result) (R.failures source.old) }
     ensures same { R.through source.new ≡ R.through source.old }
@@ -179,13 +185,15 @@ fn attr_by_block<R: Source>(
     Ok(payload)
 }
 
-/// The Exif data of a stream: all bytes of TIFF data, or what a JPEG stream, a HEIF file or a WebP file
-/// holds. The first 4096 bytes choose, or all if there are fewer, whatever the source's cuts.
+/// The Exif data of a stream: all bytes of TIFF data, or what a JPEG stream, a HEIF file or a
+/// WebP file holds. The first 4096 bytes choose, or all if there are fewer, whatever the source's
+/// cuts.
 ///
-/// Refusals are those of the containers, and `Unknown image format`. How far the source was read is left
-/// open.
+/// Refusals are those of the containers, and `Unknown image format`. How far the source was read
+/// is left open.
 pub fn exif_attr_of_stream<R: Source>(alloc: Global, source: &mut R) -> Result<Vec<u8>, Error>
-    ensures gives { IfSome (R.left source.old) (λ bytes. Gives (λ v. v.items) result (container_answer bytes)) }
+    ensures gives { IfSome (R.left source.old)
+        (λ bytes. Gives (λ v. v.items) result (container_answer bytes)) }
     ensures named { IfErr result (IsNamed container_refusals) }
     ensures count { R.failures source.new ≡ count_after (is_io result) (R.failures source.old) }
     ensures same { R.through source.new ≡ R.through source.old }

@@ -1,5 +1,5 @@
-//! What the program `exif_show` says of a file: its report, and what goes where; and fields written again
-//! without the place where a picture was taken.
+//! What the program `exif_show` says of a file: its report, and what goes where; and fields
+//! written again without the place where a picture was taken.
 #![tactic(auto)]
 
 pub mod lines;

@@ -35,7 +35,8 @@ pub fn show<R: Source, W: Sink, E: Sink>(
     ensures shows { Shows (R.left reader.old) lenient result
         (W.taken out.old) (W.taken out.new) (E.taken err.old) (E.taken err.new)
         (R.failures reader.old) (R.failures reader.new) (W.failures out.old) (W.failures out.new) }
-    ensures said { (failed : Bool) × (E.failures err.new ≡ count_after failed (E.failures err.old)) }
+    ensures said { (failed : Bool) ×
+        (E.failures err.new ≡ count_after failed (E.failures err.old)) }
     ensures read_through { R.through reader.new ≡ R.through reader.old }
     ensures written_through { W.through out.new ≡ W.through out.old }
     ensures said_through { E.through err.new ≡ E.through err.old }
@@ -51,8 +52,8 @@ pub fn show<R: Source, W: Sink, E: Sink>(
     }
 }
 
-/// Sends an error's text, behind the program's name, and flushes. Where memory or the device fails, a
-/// front of the line may stand out.
+/// Sends an error's text, behind the program's name, and flushes. Where memory or the device
+/// fails, a front of the line may stand out.
 pub fn say<E: Sink>(alloc: Global, err: &mut E, error: &Error) -> Result<(), Error>
     ensures sent { OnOk result (SaysWhole error.now (E.taken err.old) (E.taken err.new)) }
     ensures front { Says error.now (E.taken err.old) (E.taken err.new) }

@@ -26,8 +26,12 @@ fn write_fields<W: Sink>(
     fields: &[Field],
     out: &mut W,
 ) -> Result<(), Error>
-    ensures sent { OnOk result (Appends (W.taken out.old) (W.taken out.new) (flat_map (field_line exif.now.fields) fields.now)) }
-    ensures front { OnErr result (SendsFront (W.taken out.old) (W.taken out.new) (flat_map (field_line exif.now.fields) fields.now)) }
+    ensures sent { OnOk result
+        (Appends (W.taken out.old) (W.taken out.new)
+        (flat_map (field_line exif.now.fields) fields.now)) }
+    ensures front { OnErr result
+        (SendsFront (W.taken out.old) (W.taken out.new)
+        (flat_map (field_line exif.now.fields) fields.now)) }
     ensures interrupted { IfErr result IsInterrupted }
     ensures count { W.failures out.new ≡ count_after (is_io result) (W.failures out.old) }
     ensures same { W.through out.new ≡ W.through out.old }
@@ -44,8 +48,10 @@ fn write_fields<W: Sink>(
 #[tactic(auto, using(crate::proofs::Sent::front_item, crate::proofs::Sent::front_between, crate::proofs::Sent::sent_item))]
 fn write_errors<W: Sink>(alloc: Global, errors: &[Error], out: &mut W) -> Result<(), Error>
     requires { All IsInvalidFormat errors.now }
-    ensures sent { OnOk result (Appends (W.taken out.old) (W.taken out.new) (flat_map error_line errors.now)) }
-    ensures front { OnErr result (SendsFront (W.taken out.old) (W.taken out.new) (flat_map error_line errors.now)) }
+    ensures sent { OnOk result
+        (Appends (W.taken out.old) (W.taken out.new) (flat_map error_line errors.now)) }
+    ensures front { OnErr result
+        (SendsFront (W.taken out.old) (W.taken out.new) (flat_map error_line errors.now)) }
     ensures interrupted { IfErr result IsInterrupted }
     ensures count { W.failures out.new ≡ count_after (is_io result) (W.failures out.old) }
     ensures same { W.through out.new ≡ W.through out.old }
@@ -61,8 +67,10 @@ fn write_errors<W: Sink>(alloc: Global, errors: &[Error], out: &mut W) -> Result
 /// The fields and the faults of a partial result. Any other error stays what it is.
 fn passed_over(error: Error) -> Result<(Exif, Vec<Error>), Error>
     ensures finds { (expected : List ℕ → Answer) (container : Result (List ℕ) Refusal)
-        → ReadsContainer expected container (Err error.entry) → Finds (given_by expected container) result }
-    ensures own { (expected : List ℕ → Answer) → AnswersOwnData expected (Err error.entry) → FindsOwn expected result }
+        → ReadsContainer expected container (Err error.entry)
+        → Finds (given_by expected container) result }
+    ensures own { (expected : List ℕ → Answer) → AnswersOwnData expected (Err error.entry)
+        → FindsOwn expected result }
     ensures invalid { IfOk result (λ found. All IsInvalidFormat found.1.items) }
     ensures io { is_io result ≡ is_io_error error.entry }
 {
@@ -78,8 +86,10 @@ fn passed_over(error: Error) -> Result<(Exif, Vec<Error>), Error>
 /// The fields that were read, and the faults that were passed over.
 fn found_of(alloc: Global, answer: Result<Exif, Error>) -> Result<(Exif, Vec<Error>), Error>
     ensures finds { (expected : List ℕ → Answer) (container : Result (List ℕ) Refusal)
-        → ReadsContainer expected container answer.entry → Finds (given_by expected container) result }
-    ensures own { (expected : List ℕ → Answer) → AnswersOwnData expected answer.entry → FindsOwn expected result }
+        → ReadsContainer expected container answer.entry
+        → Finds (given_by expected container) result }
+    ensures own { (expected : List ℕ → Answer) → AnswersOwnData expected answer.entry
+        → FindsOwn expected result }
     ensures invalid { IfOk result (λ found. All IsInvalidFormat found.1.items) }
     ensures io { is_io result ≡ is_io answer.entry }
 {
@@ -91,7 +101,8 @@ fn found_of(alloc: Global, answer: Result<Exif, Error>) -> Result<(Exif, Vec<Err
 
 /// What is read of a file: the fields, and the faults that were passed over.
 fn read<R: Source>(alloc: Global, by: &Reader, reader: &mut R) -> Result<(Exif, Vec<Error>), Error>
-    ensures finds { IfSome (R.left reader.old) (λ bytes. Finds (file_answer by.now.lenient by.now.limit bytes) result) }
+    ensures finds { IfSome (R.left reader.old)
+        (λ bytes. Finds (file_answer by.now.lenient by.now.limit bytes) result) }
     ensures own { FindsOwn (raw_answer by.now.lenient by.now.limit) result }
     ensures invalid { IfOk result (λ found. All IsInvalidFormat found.1.items) }
     ensures count { R.failures reader.new ≡ count_after (is_io result) (R.failures reader.old) }
@@ -110,8 +121,12 @@ fn write_all<W: Sink>(
     out: &mut W,
 ) -> Result<(), Error>
     requires { All IsInvalidFormat errors.now }
-    ensures sent { OnOk result (Appends (W.taken out.old) (W.taken out.new) (flat_map (field_line exif.now.fields) exif.now.fields ++ flat_map error_line errors.now)) }
-    ensures front { OnErr result (SendsFront (W.taken out.old) (W.taken out.new) (flat_map (field_line exif.now.fields) exif.now.fields ++ flat_map error_line errors.now)) }
+    ensures sent { OnOk result
+        (Appends (W.taken out.old) (W.taken out.new)
+        (flat_map (field_line exif.now.fields) exif.now.fields ++ flat_map error_line errors.now)) }
+    ensures front { OnErr result
+        (SendsFront (W.taken out.old) (W.taken out.new)
+        (flat_map (field_line exif.now.fields) exif.now.fields ++ flat_map error_line errors.now)) }
     ensures interrupted { IfErr result IsInterrupted }
     ensures count { W.failures out.new ≡ count_after (is_io result) (W.failures out.old) }
     ensures same { W.through out.new ≡ W.through out.old }
@@ -130,10 +145,14 @@ fn report_by<R: Source, W: Sink>(
     out: &mut W,
 ) -> Result<u64, Error>
     ensures reports { IfSome (R.left reader.old)
-        (λ bytes. Reports (file_answer by.now.lenient by.now.limit bytes) result (W.taken out.old) (W.taken out.new)) }
-    ensures some { ReportsSome (raw_answer by.now.lenient by.now.limit) result (W.taken out.old) (W.taken out.new) }
-    ensures quiet { R.failures reader.old < R.failures reader.new → Keeps (W.taken out.old) (W.taken out.new) }
-    ensures count { CountsBoth (R.failures reader.old) (R.failures reader.new) (W.failures out.old) (W.failures out.new) (is_io result) }
+        (λ bytes. Reports (file_answer by.now.lenient by.now.limit bytes) result (W.taken out.old)
+        (W.taken out.new)) }
+    ensures some { ReportsSome (raw_answer by.now.lenient by.now.limit) result (W.taken out.old)
+        (W.taken out.new) }
+    ensures quiet { R.failures reader.old < R.failures reader.new → Keeps (W.taken out.old)
+        (W.taken out.new) }
+    ensures count { CountsBoth (R.failures reader.old) (R.failures reader.new) (W.failures out.old)
+        (W.failures out.new) (is_io result) }
     ensures read_through { R.through reader.new ≡ R.through reader.old }
     ensures written_through { W.through out.new ≡ W.through out.old }
 {
@@ -147,9 +166,9 @@ fn report_by<R: Source, W: Sink>(
 /// field, with its tag, its directory and its value. A lenient report passes over soft faults, and
 /// writes one line for each behind the fields. Answers how many faults were passed over.
 ///
-/// Where the file is refused or the reader fails nothing is written. Where memory or the writer fails,
-/// a front of the report may stand out. So it is too where a reader does not tell its bytes, as that of
-/// a file: what is written is the report of the data that were read.
+/// Where the file is refused or the reader fails nothing is written. Where memory or the writer
+/// fails, a front of the report may stand out. So it is too where a reader does not tell its
+/// bytes, as that of a file: what is written is the report of the data that were read.
 pub fn report<R: Source, W: Sink>(
     alloc: Global,
     reader: &mut R,
@@ -157,10 +176,14 @@ pub fn report<R: Source, W: Sink>(
     lenient: bool,
 ) -> Result<u64, Error>
     ensures reports { IfSome (R.left reader.old)
-        (λ bytes. Reports (file_answer lenient None bytes) result (W.taken out.old) (W.taken out.new)) }
-    ensures some { ReportsSome (raw_answer lenient None) result (W.taken out.old) (W.taken out.new) }
-    ensures quiet { R.failures reader.old < R.failures reader.new → Keeps (W.taken out.old) (W.taken out.new) }
-    ensures count { CountsBoth (R.failures reader.old) (R.failures reader.new) (W.failures out.old) (W.failures out.new) (is_io result) }
+        (λ bytes. Reports (file_answer lenient None bytes) result (W.taken out.old)
+        (W.taken out.new)) }
+    ensures some { ReportsSome (raw_answer lenient None) result (W.taken out.old)
+        (W.taken out.new) }
+    ensures quiet { R.failures reader.old < R.failures reader.new → Keeps (W.taken out.old)
+        (W.taken out.new) }
+    ensures count { CountsBoth (R.failures reader.old) (R.failures reader.new) (W.failures out.old)
+        (W.failures out.new) (is_io result) }
     ensures read_through { R.through reader.new ≡ R.through reader.old }
     ensures written_through { W.through out.new ≡ W.through out.old }
 {
@@ -179,10 +202,14 @@ pub fn report_limited<R: Source, W: Sink>(
     limit: u64,
 ) -> Result<u64, Error>
     ensures reports { IfSome (R.left reader.old)
-        (λ bytes. Reports (file_answer lenient (Some limit) bytes) result (W.taken out.old) (W.taken out.new)) }
-    ensures some { ReportsSome (raw_answer lenient (Some limit)) result (W.taken out.old) (W.taken out.new) }
-    ensures quiet { R.failures reader.old < R.failures reader.new → Keeps (W.taken out.old) (W.taken out.new) }
-    ensures count { CountsBoth (R.failures reader.old) (R.failures reader.new) (W.failures out.old) (W.failures out.new) (is_io result) }
+        (λ bytes. Reports (file_answer lenient (Some limit) bytes) result (W.taken out.old)
+        (W.taken out.new)) }
+    ensures some { ReportsSome (raw_answer lenient (Some limit)) result (W.taken out.old)
+        (W.taken out.new) }
+    ensures quiet { R.failures reader.old < R.failures reader.new → Keeps (W.taken out.old)
+        (W.taken out.new) }
+    ensures count { CountsBoth (R.failures reader.old) (R.failures reader.new) (W.failures out.old)
+        (W.failures out.new) (is_io result) }
     ensures read_through { R.through reader.new ≡ R.through reader.old }
     ensures written_through { W.through out.new ≡ W.through out.old }
 {

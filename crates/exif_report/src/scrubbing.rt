@@ -37,10 +37,10 @@ fn push_kept<'a>(writer: &mut Writer<'a>, exif: &'a Exif) -> Result<(), Error>
     Ok(())
 }
 
-/// Writes what was read again as TIFF data, but for the fields that say where a picture was taken (those
-/// of the context `Gps`) and those of unknown types. Thumbnails, strips and tiles are not written.
-/// What was sent is read, in both modes and without a fault, as exactly the fields that are kept, and
-/// scrubbing it again gives the same bytes.
+/// Writes what was read again as TIFF data, but for the fields that say where a picture was taken
+/// (those of the context `Gps`) and those of unknown types. Thumbnails, strips and tiles are not
+/// written. What was sent is read, in both modes and without a fault, as exactly the fields that
+/// are kept, and scrubbing it again gives the same bytes.
 ///
 /// The refusals are those of `Writer::write` for these fields: after them and after want of memory
 /// nothing was sent, and after an error of the sink exactly a beginning of the image.
@@ -56,10 +56,12 @@ pub fn scrub<W: Sink>(
     ensures leaves { LeavesKept exif.now.fields }
     ensures accepted { OnOk result (write_fault (scrubbed exif.now.fields) ≡ None) }
     ensures refused { IfSome (write_fault (scrubbed exif.now.fields))
-        (λ cause. IsErrAnd result (λ e. (refusal_of e ≡ Some (write_refusal cause)) ⊎ (e ≡ Error.OutOfMemory))) }
+        (λ cause. IsErrAnd result
+        (λ e. (refusal_of e ≡ Some (write_refusal cause)) ⊎ (e ≡ Error.OutOfMemory))) }
     ensures interrupted { IfErr result
         (λ e. write_fault (scrubbed exif.now.fields) ≡ None → IsInterrupted e) }
-    ensures kept { IfErr result (λ e. is_io_error e ≡ false → Keeps (W.taken out.old) (W.taken out.new)) }
+    ensures kept { IfErr result
+        (λ e. is_io_error e ≡ false → Keeps (W.taken out.old) (W.taken out.new)) }
     ensures front { OnErr result (SendsFront (W.taken out.old) (W.taken out.new)
         (image (written_order little_endian) (scrubbed exif.now.fields))) }
     ensures count { W.failures out.new ≡ count_after (is_io result) (W.failures out.old) }

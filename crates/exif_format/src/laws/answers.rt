@@ -3,9 +3,10 @@
 ghost use Rattle.std.specs.Prelude.{ℕ, Bool, List, Option};
 ghost use Rattle.exif_format.specs.ReadAnswers.{ShowsReadFields, ShowsNoFault};
 
-/// Fields that are read have texts without zero bytes and are of one of the first eight directories,
-/// and strict reading shows fields only where there is no fault.
+/// Fields that are read have texts without zero bytes and are of one of the first eight
+/// directories, and strict reading shows fields only where there is no fault.
 pub fn answers_show_what_was_read()
-    ensures fields { (lenient : Bool) (limit : Option ℕ) (bytes : List ℕ) → ShowsReadFields lenient limit bytes }
+    ensures fields { (lenient : Bool) (limit : Option ℕ) (bytes : List ℕ)
+        → ShowsReadFields lenient limit bytes }
     ensures strict { (limit : Option ℕ) (bytes : List ℕ) → ShowsNoFault limit bytes }
 {}
