@@ -1,19 +1,19 @@
 -- Item information and the Exif item are read as their trees say, and all bytes have a tree.
-use Rattle.std.proofs.Common.{◌≡◌, ◌≢◌, ◌⊎◌, inl, inr, slice_index, ℕ, zero, suc, ◌+◌, ◌-◌, ◌<◌, ◌≤◌, Bool, true, false, cond, eqb, ltb, List, [], ◌∷◌, ◌++◌, length, take, drop, codes, Option, Some, None, Result, Ok, Err, ap, sym, ◌∙◌, refl, arith, length-append, length-drop}
+use Rattle.std.proofs.Common.{◌≡◌, ◌≢◌, ◌⊎◌, inl, inr, slice_index, ℕ, ◌+◌, ◌-◌, ◌<◌, ◌≤◌, Bool, true, false, cond, eqb, ltb, List, [], ◌∷◌, ◌++◌, length, take, drop, codes, Some, None, Result, Ok, Err, ap, sym, ◌∙◌, refl, arith, length-append, length-drop}
 use Rattle.std.specs.Str.{bytes_eq}
 use Rattle.std.proofs.lemmas.Slice.Eq.{bytes_eq-Decides}
 use Rattle.std.proofs.lemmas.Bool.{cases_lt, ne_eqb, eqb-true, eqb-false, lt-ltb, le-ltb}
-use Rattle.std.proofs.lemmas.List.{take_at, drop_at, take-append-drop, length-take-le, drop-drop}
+use Rattle.std.proofs.lemmas.List.{drop_at, take-append-drop, length-take-le, drop-drop}
 use Rattle.byteorder.specs.Endian.{big_number}
-use Rattle.byteorder.specs.Numbers.{big_from-append, big_from-take}
+use Rattle.byteorder.specs.Numbers.{big_from-append}
 use Rattle.exif_types.specs.Refusals.{Refusal, ◌>>=◌, or_refuse, Front}
 use Rattle.exif_containers.specs.declared.isobmff.kind.Kind.TheVariants.{ItemInfoEntry}
 use Rattle.exif_containers.specs.HeifRefusals.{too_small, unsupported_infe, block_too_small, invalid_header_offset}
 use Rattle.exif_containers.specs.Boxes.{bytes_at, number_at, version_at, boxes, read_each}
-use Rattle.exif_containers.specs.BoxGrammar.{Counted, print_counted, IsCounted, counted_parts}
+use Rattle.exif_containers.specs.BoxGrammar.{print_counted}
 use Rattle.exif_containers.specs.Items.{entry_width, exif_number, exif_numbers}
 use Rattle.exif_containers.specs.Heif.{after_header}
-use Rattle.exif_containers.specs.ItemGrammar.{FullHead, print_full, IsFull, EntryTree, exif, other, unsupported, cut_head, cut_entry, HasNumber, IsEntry, EntryIsRead, IsAnEntry, InfoTree, info, cut_count, HasCount, InfoIsRead, IsAnInfo, BlockTree, block, short, over, BlockIsRead, IsABlock}
+use Rattle.exif_containers.specs.ItemGrammar.{FullHead, print_full, IsFull, EntryTree, exif, other, unsupported, cut_head, cut_entry, HasNumber, EntryIsRead, IsAnEntry, InfoTree, info, cut_count, HasCount, InfoIsRead, IsAnInfo, BlockTree, block, short, over, BlockIsRead, IsABlock}
 use Rattle.exif_containers.proofs.BoxTrees.{bytes-there, count_is_read, is_a_count}
 
 -- ---- steps

@@ -1,9 +1,9 @@
 -- Item locations are read as their trees say, what is read is the print of a tree, and an item is its
 -- extents' texts joined.
-use Rattle.std.proofs.Common.{◌≡◌, ◌≢◌, ◌⊎◌, inl, inr, subst, ℕ, zero, suc, ◌+◌, ◌-◌, ◌*◌, ◌/◌, ◌%◌, ◌<◌, ◌≤◌, Bool, true, false, cond, ◌||◌, ◌&&◌, not, eqb, ltb, List, [], ◌∷◌, ◌++◌, length, map, take, drop, slice_index, Option, None, Some, Result, Ok, Err, ap, sym, ◌∙◌, refl, arith, append_assoc, append-nil, length-append, length-drop}
+use Rattle.std.proofs.Common.{◌≡◌, ◌⊎◌, inl, inr, subst, ℕ, zero, suc, ◌+◌, ◌*◌, ◌/◌, ◌%◌, ◌<◌, ◌≤◌, Bool, true, false, cond, ◌||◌, ◌&&◌, not, eqb, ltb, List, [], ◌∷◌, ◌++◌, length, map, take, drop, slice_index, Result, Ok, Err, ap, sym, ◌∙◌, refl, arith, append_assoc, append-nil, length-append, length-drop}
 use Rattle.std.specs.List.{All, flat_map}
 use Rattle.std.proofs.Math.Nat.{mul-suc}
-use Rattle.std.proofs.lemmas.Bool.{cases_lt, eq-eqb, ne_eqb, eqb-true, eqb-false, lt-ltb, le-ltb, ltb-false}
+use Rattle.std.proofs.lemmas.Bool.{cases_lt, eq-eqb, eqb-true, eqb-false, le-ltb, ltb-false}
 use Rattle.std.proofs.lemmas.List.{drop_at, take-append-drop, length-take-le}
 use Rattle.std.proofs.lemmas.List.Elements.{All-nil, All-cons, All-head, All-tail}
 use Rattle.byteorder.specs.Endian.{big_number}
@@ -14,10 +14,10 @@ use Rattle.exif_containers.specs.declared.isobmff.locations.ItemHead.{ItemHead}
 use Rattle.exif_containers.specs.declared.isobmff.locations.Sizes.{Sizes}
 use Rattle.exif_containers.specs.HeifRefusals.{too_small, external_data, invalid_base_size, invalid_index_size, invalid_offset_size, invalid_length_size, unsupported_iloc, data_too_large}
 use Rattle.exif_containers.specs.Boxes.{bytes_at, pass_at, number_at, version_at, times, times_joined}
-use Rattle.exif_containers.specs.ItemGrammar.{FullHead, print_full, IsFull}
+use Rattle.exif_containers.specs.ItemGrammar.{print_full}
 use Rattle.exif_containers.specs.Places.{Place, sizes, item_width, sized_at, extent_at, method_at, item_head_at, location_at, locations, gathered}
-use Rattle.exif_containers.specs.PlaceGrammar.{IsSize, ExtentTree, print_extent, IsExtent, extent_of, PlaceTree, print_place, number_len, method_len, method_said, IsWanted, IsPlace, place_of, place_said, PlacesTree, print_places, ArePacked, sizes_in, ArePlaces, places_said, PlacesAreRead, IsAPlaces, AreTexts, joined_texts, ItemIsJoined, IsAnItem}
-use Rattle.exif_containers.proofs.Filling.{bind_ok, ok_same, after}
+use Rattle.exif_containers.specs.PlaceGrammar.{IsSize, ExtentTree, print_extent, IsExtent, extent_of, PlaceTree, print_place, method_len, method_said, IsPlace, place_of, place_said, PlacesTree, print_places, sizes_in, ArePlaces, places_said, PlacesAreRead, IsAPlaces, AreTexts, joined_texts, ItemIsJoined, IsAnItem}
+use Rattle.exif_containers.proofs.Filling.{bind_ok, ok_same}
 use Rattle.exif_containers.proofs.ItemTrees.{then_ok, then_err, bytes_read, number_read, full_read, Fronted, fronted, full_short}
 
 -- ---- an item is its extents' texts joined

@@ -1,14 +1,13 @@
 -- The boxes of a HEIF file up to its `meta`, as their standards write them (ISO/IEC 14496-12:2015, 4.2, 4.3,
 -- 8.11.1; ISO/IEC 23008-12:2017, B.4): trees, their bytes, and what makes them valid.
-use Rattle.std.specs.Prelude.{◌≡◌, ◌≢◌, ℕ, ◌-◌, ◌<◌, ◌≤◌, ◌^◌, ◌||◌, nat_le, if◌then◌else◌, Bool, true, false, List, [], ◌∷◌, ◌++◌, length, map, codes, Some, None, Result, Ok, Err, ⊤}
-use Rattle.std.specs.List.{flat_map, list_any}
-use Rattle.std.specs.Str.{bytes_eq}
+use Rattle.std.specs.Prelude.{◌≡◌, ◌≢◌, ◌⊎◌, ℕ, ◌-◌, ◌<◌, ◌≤◌, ◌^◌, nat_le, if◌then◌else◌, Bool, true, false, List, [], ◌∷◌, ◌++◌, length, map, codes, None, Result, Ok, Err, ⊤}
+use Rattle.std.specs.List.{All, flat_map, list_any}
 use Rattle.exif_types.specs.Refusals.{Refusal}
-use Rattle.exif_containers.specs.HeifRefusals.{broken_file, invalid_size, seek_too_large, meta_before_ftyp, no_exif}
+use Rattle.exif_containers.specs.HeifRefusals.{broken_file, too_small, invalid_size, no_brand, seek_too_large, meta_before_ftyp, no_exif}
 use Rattle.exif_containers.specs.Kinds.{kind_of}
-use Rattle.exif_containers.specs.Boxes.{Part, Parts, ended}
+use Rattle.exif_containers.specs.Boxes.{Parts, ended}
 use Rattle.exif_containers.specs.HeifFile.{brand_checked, file_boxes, meta_body}
-use Rattle.exif_containers.specs.BoxGrammar.{BoxHeader, print_header, type_of, said_size, IsHeader, BoxTree, print_box, IsBox, box_part, AreBoxes, NoBox, cut, cut_large, too_long, too_short, print_no_box, IsNoBox, Parent, filled, broken, print_parent, IsParent}
+use Rattle.exif_containers.specs.BoxGrammar.{BoxHeader, print_header, type_of, said_size, BoxTree, print_box, IsBox, box_part, NoBox, cut, cut_large, too_long, too_short, print_no_box, IsNoBox, Parent, filled, broken, print_parent, IsParent}
 
 -- ---- all boxes of a file: the last may be longer than the file
 
@@ -31,6 +30,52 @@ file_parts (broken bs end) = record { whole = map box_part bs ++ (end_parts end)
 abbrev pub FileBoxesAreRead : Parent → Type 0
 FileBoxesAreRead p = IsParent p → file_boxes (print_parent p) ≡ file_parts p
 
+-- ---- what an `ftyp` lists: eight bytes, and then brands of four bytes
+
+-- brands, one of HEIF, and any bytes; brands that are none of HEIF, and fewer than four bytes; or fewer than
+-- eight bytes
+pub data BrandsTree : Type 0 where
+  known : List ℕ → List (List ℕ) → List ℕ → List ℕ → BrandsTree
+  unknown : List ℕ → List (List ℕ) → List ℕ → BrandsTree
+  short : List ℕ → BrandsTree
+
+abbrev pub print_list : List (List ℕ) → List ℕ
+print_list brands = flat_map (λ brand. brand) brands
+
+abbrev pub print_brands : BrandsTree → List ℕ
+print_brands (known front brands brand rest) = front ++ (print_list brands ++ (brand ++ rest))
+print_brands (unknown front brands rest) = front ++ (print_list brands ++ rest)
+print_brands (short bytes) = bytes
+
+abbrev pub IsHeifBrand : List ℕ → Type 0
+IsHeifBrand brand = (brand ≡ codes "mif1") ⊎ (brand ≡ codes "msf1")
+
+pub record IsForeign (brand : List ℕ) : Type 0 where
+  pub four : length brand ≡ 4
+  pub foreign : IsHeifBrand brand → ⊥
+
+abbrev pub AreBrands : BrandsTree → Type 0
+AreBrands (known front brands brand rest) = (length front ≡ 8) × All IsForeign brands × IsHeifBrand brand
+AreBrands (unknown front brands rest) = (length front ≡ 8) × All IsForeign brands × (length rest < 4)
+AreBrands (short bytes) = length bytes < 8
+
+abbrev pub brands_say : BrandsTree → Result (Unit {0}) Refusal
+brands_say (known front brands brand rest) = Ok tt
+brands_say (unknown front brands rest) = Err no_brand
+brands_say (short bytes) = Err too_small
+
+-- the tree of these bytes says this
+abbrev pub BrandsSay : List ℕ → Result (Unit {0}) Refusal → Type 0
+BrandsSay bytes said = (t : BrandsTree) × AreBrands t × (print_brands t ≡ bytes) × (brands_say t ≡ said)
+
+-- the brands of a valid tree are checked as it says
+abbrev pub BrandsAreChecked : BrandsTree → Type 0
+BrandsAreChecked t = AreBrands t → brand_checked (print_brands t) ≡ brands_say t
+
+-- all bytes are those of a valid tree
+abbrev pub IsABrands : List ℕ → Type 0
+IsABrands bytes = (t : BrandsTree) × AreBrands t × (print_brands t ≡ bytes)
+
 -- ---- the boxes up to `meta`
 
 abbrev pub IsMeta : BoxHeader → Type 0
@@ -52,7 +97,7 @@ passed_box (ftyp b) = b
 passed_box (other b) = b
 
 abbrev pub IsPassed : Passed → Type 0
-IsPassed (ftyp b) = IsFtyp b.header × (brand_checked b.body ≡ Ok tt)
+IsPassed (ftyp b) = IsFtyp b.header × BrandsSay b.body (Ok tt)
 IsPassed (other b) = IsOther b.header × (length b.body < 2 ^ 63)
 
 abbrev pub is_ftyp : Passed → Bool
@@ -70,7 +115,7 @@ ArePassed (p ∷ ps) rest = IsBox (passed_box p) (flat_map print_passed ps ++ re
 -- bytes behind it; one that is longer than the file; bytes that begin no box; or no more bytes
 pub data FileEnd : Type 0 where
   meta : BoxTree → List ℕ → FileEnd
-  no_brand : BoxTree → Refusal → List ℕ → FileEnd
+  wrong_ftyp : BoxTree → Refusal → List ℕ → FileEnd
   large : BoxTree → List ℕ → FileEnd
   cut_meta : BoxHeader → List ℕ → FileEnd
   cut_ftyp : BoxHeader → List ℕ → FileEnd
@@ -80,7 +125,7 @@ pub data FileEnd : Type 0 where
 
 abbrev pub print_file_end : FileEnd → List ℕ
 print_file_end (meta b rest) = print_box b ++ rest
-print_file_end (no_brand b r rest) = print_box b ++ rest
+print_file_end (wrong_ftyp b r rest) = print_box b ++ rest
 print_file_end (large b rest) = print_box b ++ rest
 print_file_end (cut_meta h bytes) = print_header h ++ bytes
 print_file_end (cut_ftyp h bytes) = print_header h ++ bytes
@@ -103,7 +148,7 @@ headless_refusal (too_short h bytes) = invalid_size
 
 abbrev pub IsFileEnd : FileEnd → Type 0
 IsFileEnd (meta b rest) = IsBox b rest × IsMeta b.header
-IsFileEnd (no_brand b r rest) = IsBox b rest × IsFtyp b.header × (brand_checked b.body ≡ Err r)
+IsFileEnd (wrong_ftyp b r rest) = IsBox b rest × IsFtyp b.header × BrandsSay b.body (Err r)
 IsFileEnd (large b rest) = IsBox b rest × IsOther b.header × (2 ^ 63 ≤ length b.body)
 IsFileEnd (cut_meta h bytes) = IsNoBox (too_long h bytes) × IsMeta h
 IsFileEnd (cut_ftyp h bytes) = IsNoBox (too_long h bytes) × IsFtyp h
@@ -114,7 +159,7 @@ IsFileEnd no_meta = ⊤
 -- what it says, where an `ftyp` stands before it or not
 abbrev pub end_says : Bool → FileEnd → Result (List ℕ) Refusal
 end_says seen (meta b rest) = if seen then Ok b.body else Err meta_before_ftyp
-end_says seen (no_brand b r rest) = Err r
+end_says seen (wrong_ftyp b r rest) = Err r
 end_says seen (large b rest) = Err seek_too_large
 end_says seen (cut_meta h bytes) = if seen then Err broken_file else Err meta_before_ftyp
 end_says seen (cut_ftyp h bytes) = Err broken_file

@@ -6,7 +6,7 @@ ghost use Rattle.exif_containers.specs.declared.isobmff.locations.Extent.{Extent
 ghost use Rattle.exif_containers.specs.BoxGrammar.{BoxIsRead, BoxTree, CountIsRead, Counted, CountedAreRead, IsABox, IsACount, IsAParent, Parent, ParentIsRead};
 ghost use Rattle.exif_containers.specs.Boxes.{Part};
 ghost use Rattle.exif_containers.specs.Container.{TiffIsWhole};
-ghost use Rattle.exif_containers.specs.FileGrammar.{FileBoxesAreRead, FrontTree, IsAFront, MetaIsFound};
+ghost use Rattle.exif_containers.specs.FileGrammar.{BrandsAreChecked, BrandsTree, FileBoxesAreRead, FrontTree, IsABrands, IsAFront, MetaIsFound};
 ghost use Rattle.exif_containers.specs.ItemGrammar.{BlockIsRead, BlockTree, EntryIsRead, EntryTree, InfoIsRead, InfoTree, IsABlock, IsAnEntry, IsAnInfo};
 ghost use Rattle.exif_containers.specs.JpegGrammar.{IsAStream, Stream, StreamIsAnswered};
 ghost use Rattle.exif_containers.specs.PlaceGrammar.{IsAPlaces, IsAnItem, ItemIsJoined, PlacesAreRead, PlacesTree};
@@ -72,6 +72,12 @@ pub fn exif_items_are_read()
 /// bytes are those of such a tree, as `parents_are_boxes` says.
 pub fn file_boxes_are_read()
     ensures read { (p : Parent) → FileBoxesAreRead p }
+{}
+
+/// The brands of an `ftyp` are checked as their tree says, and all bytes are those of such a tree.
+pub fn brands_are_checked()
+    ensures checked { (t : BrandsTree) → BrandsAreChecked t }
+    ensures every { (bytes : List ℕ) → IsABrands bytes }
 {}
 
 /// The `meta` of a file is found as the tree of the boxes up to it says, or refused as what ends them says,
