@@ -11,7 +11,7 @@ use Rattle.exif_containers.specs.declared.isobmff.splitter.Header.{Header}
 use Rattle.exif_containers.specs.HeifRefusals.{too_small, invalid_size}
 use Rattle.exif_containers.specs.Kinds.{kind_of}
 use Rattle.exif_containers.specs.Boxes.{Part, ended, before, and_then, whole_part, bytes_at, box_size, header_len, header_at, box_at, boxes, all_boxes, children}
-use Rattle.exif_containers.specs.BoxGrammar.{BoxHeader, sized, large, to_end, print_header, type_of, said_size, IsHeader, BoxTree, print_box, IsBox, box_part, AreBoxes, NoBox, cut, cut_large, too_long, too_short, print_no_box, IsNoBox, no_box_refusal, Parent, filled, broken, BoxIsRead, IsABox, CountedAreRead, Counted, all, cut_off, too_few, CountIsRead, IsACount, ParentIsRead, IsAParent}
+use Rattle.exif_containers.specs.BoxGrammar.{BoxHeader, sized, large, to_end, print_header, type_of, said_size, IsHeader, BoxTree, print_box, IsBox, box_part, AreBoxes, NoBox, cut, cut_large, too_long, too_short, print_no_box, IsNoBox, no_box_refusal, Parent, filled, broken, BoxIsRead, IsABox, CountedAreRead, ParentIsRead, IsAParent}
 use Rattle.exif_containers.proofs.Filling.{all_boxes_end, all_boxes_more, box_shorter, ok_same, after}
 
 -- ---- what the definition makes of the front of a text
@@ -34,7 +34,7 @@ unfolding box_at
 box-headed text h = ap (λ t. cond t (header_at text >>= after_head) (Err too_small)) (le-leb (header_len text) (length text) h)
 
 -- no whole header
-box-cut : (text : List ℕ) → length text < header_len text → box_at text ≡ Err too_small
+pub box-cut : (text : List ℕ) → length text < header_len text → box_at text ≡ Err too_small
 unfolding box_at
 box-cut text h = ap (λ t. cond t (header_at text >>= after_head) (Err too_small)) (not_le (header_len text) (length text) h)
   where
@@ -164,7 +164,7 @@ box_is_read b rest h =
     let e : print_box b ++ rest ≡ print_header b.header ++ (b.body ++ rest) = append_assoc (print_header b.header) b.body rest in
     ap box_at e ∙ box_is_read_at b.header b.body rest h.0 (ap (λ (t : List ℕ). said_size b.header (length t)) (sym e) ∙ h.1)
 
-no_box_is_refused : (end : NoBox) → IsNoBox end → box_at (print_no_box end) ≡ Err (no_box_refusal end)
+pub no_box_is_refused : (end : NoBox) → IsNoBox end → box_at (print_no_box end) ≡ Err (no_box_refusal end)
 no_box_is_refused (cut bytes) h = box-cut bytes (let k = least (eqb (big_number 4 bytes) 1) in omega (arith, h.1))
   where
     least : (t : Bool) → 8 ≤ cond t 16 8
@@ -351,7 +351,7 @@ is_a_box (b ∷ text) p rest e = of (place (b ∷ text) (omega arith))
 
 -- ---- boxes one after the other
 
-counted_more : (b : BoxTree) (n : ℕ) (text rest : List ℕ) → box_at text ≡ Ok (box_part b, rest) → boxes (suc n) text ≡ before (box_part b) (boxes n rest)
+pub counted_more : (b : BoxTree) (n : ℕ) (text rest : List ℕ) → box_at text ≡ Ok (box_part b, rest) → boxes (suc n) text ≡ before (box_part b) (boxes n rest)
 unfolding boxes
 counted_more b n text rest e = ap (λ r. and_then r (boxes n)) e
 
@@ -425,57 +425,3 @@ parent-within (suc n) (b ∷ text) h = first n (b ∷ text) h (place (b ∷ text
 
 pub is_a_parent : (bytes : List ℕ) → IsAParent bytes
 is_a_parent bytes = parent-within (suc (length bytes)) bytes (omega arith)
-
--- ---- boxes that are counted
-
-counted-boxes : (bs : List BoxTree) (rest : List ℕ) (fault : Option Refusal) (n k : ℕ) → n ≡ length bs + k → AreBoxes bs rest
-    → boxes k rest ≡ record { whole = []; fault = fault } → boxes n (flat_map print_box bs ++ rest) ≡ record { whole = map box_part bs; fault = fault }
-counted-boxes [] rest fault n k e h end = let same : n ≡ k = omega arith in rw same end
-counted-boxes (b ∷ bs) rest fault n k e h end =
-    let same : n ≡ suc (length bs + k) = omega arith in
-    ap (λ m. boxes m (flat_map print_box (b ∷ bs) ++ rest)) same
-    ∙ ap (boxes (suc (length bs + k))) (append_assoc (print_box b) (flat_map print_box bs) rest)
-    ∙ counted_more b (length bs + k) (print_box b ++ (flat_map print_box bs ++ rest)) (flat_map print_box bs ++ rest) (box_is_read b (flat_map print_box bs ++ rest) h.0)
-    ∙ ap (before (box_part b)) (counted-boxes bs rest fault (length bs + k) k refl h.1 end)
-
-no-count : (rest : List ℕ) → boxes 0 rest ≡ record { whole = []; fault = None }
-unfolding boxes
-no-count rest = refl
-
-one-refused : (k : ℕ) (text : List ℕ) (r : Refusal) → box_at text ≡ Err r → boxes (suc k) text ≡ record { whole = []; fault = Some r }
-unfolding boxes
-one-refused k text r e = ap (λ b. and_then b (boxes k)) e
-
-pub count_is_read : (n : ℕ) (c : Counted) → CountIsRead n c
-count_is_read n (all bs rest) h = counted-boxes bs rest None n 0 (omega (arith, h.0)) h.1 (no-count rest)
-count_is_read n (cut_off bs end) h =
-    counted-boxes bs (print_no_box end) (Some (no_box_refusal end)) n (suc (n - length bs - 1)) (omega (arith, h.0)) h.1
-    (one-refused (n - length bs - 1) (print_no_box end) (no_box_refusal end) (no_box_is_refused end h.2))
-count_is_read n (too_few bs) h =
-    counted-boxes bs [] (Some too_small) n (suc (n - length bs - 1)) (omega (arith, h.0)) h.1 (one-refused (n - length bs - 1) [] too_small (box-cut [] (omega arith)))
-
-count-boxed : (n : ℕ) (text : List ℕ) (b : Boxed text) → IsACount n b.rest → IsACount (suc n) text
-count-boxed n text b (all bs rest, is, whole) = (
-  all (b.tree ∷ bs) rest,
-  (ap suc is.0, (subst (λ r. IsBox b.tree r) (sym whole) b.is, is.1)),
-  append_assoc (print_box b.tree) (flat_map print_box bs) rest ∙ ap (λ r. print_box b.tree ++ r) whole ∙ b.whole,
-)
-count-boxed n text b (cut_off bs end, is, whole) = (
-  cut_off (b.tree ∷ bs) end,
-  (omega (arith, is.0), (subst (λ r. IsBox b.tree r) (sym whole) b.is, is.1), is.2),
-  append_assoc (print_box b.tree) (flat_map print_box bs) (print_no_box end) ∙ ap (λ r. print_box b.tree ++ r) whole ∙ b.whole,
-)
-count-boxed n text b (too_few bs, is, whole) = (
-  too_few (b.tree ∷ bs),
-  (omega (arith, is.0), (subst (λ r. IsBox b.tree r) (sym whole) b.is, is.1)),
-  append_assoc (print_box b.tree) (flat_map print_box bs) [] ∙ ap (λ r. print_box b.tree ++ r) whole ∙ b.whole,
-)
-
-pub is_a_count : (n : ℕ) (bytes : List ℕ) → IsACount n bytes
-is_a_count zero bytes = (all [] bytes, (refl, tt), refl)
-is_a_count (suc n) [] = (too_few [], (omega arith, tt), refl)
-is_a_count (suc n) (b ∷ bytes) = first (place (b ∷ bytes) (omega arith)) (is_a_count n)
-  where
-    first : Unboxed (b ∷ bytes) ⊎ Boxed (b ∷ bytes) → ((rest : List ℕ) → IsACount n rest) → IsACount (suc n) (b ∷ bytes)
-    first (inl u) ih = (cut_off [] u.end, (omega arith, tt, u.is), u.whole)
-    first (inr t) ih = count-boxed n (b ∷ bytes) t (ih t.rest)

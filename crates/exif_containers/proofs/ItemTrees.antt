@@ -1,12 +1,12 @@
 -- Item information and the Exif item are read as their trees say, and all bytes have a tree.
-use Rattle.std.proofs.Common.{◌≡◌, ◌≢◌, ◌⊎◌, inl, inr, slice_index, ℕ, ◌+◌, ◌-◌, ◌<◌, ◌≤◌, Bool, true, false, cond, eqb, ltb, List, [], ◌∷◌, ◌++◌, length, take, drop, codes, Some, None, Result, Ok, Err, ap, sym, ◌∙◌, refl, arith, length-append, length-drop}
+use Rattle.std.proofs.Common.{◌≡◌, ◌≢◌, ◌⊎◌, inl, inr, ℕ, ◌+◌, ◌-◌, ◌<◌, ◌≤◌, Bool, true, false, cond, eqb, ltb, List, [], ◌∷◌, ◌++◌, length, take, drop, codes, Some, None, Result, Ok, Err, ap, sym, ◌∙◌, refl, arith, length-append, length-drop}
 use Rattle.std.specs.Str.{bytes_eq}
 use Rattle.std.proofs.lemmas.Slice.Eq.{bytes_eq-Decides}
 use Rattle.std.proofs.lemmas.Bool.{cases_lt, ne_eqb, eqb-true, eqb-false, lt-ltb, le-ltb}
 use Rattle.std.proofs.lemmas.List.{drop_at, take-append-drop, length-take-le, drop-drop}
 use Rattle.byteorder.specs.Endian.{big_number}
 use Rattle.byteorder.specs.Numbers.{big_from-append}
-use Rattle.exif_types.specs.Refusals.{Refusal, ◌>>=◌, or_refuse, Front}
+use Rattle.exif_types.specs.Refusals.{Refusal, ◌>>=◌, or_refuse}
 use Rattle.exif_containers.specs.declared.isobmff.kind.Kind.TheVariants.{ItemInfoEntry}
 use Rattle.exif_containers.specs.HeifRefusals.{too_small, unsupported_infe, block_too_small, invalid_header_offset}
 use Rattle.exif_containers.specs.Boxes.{bytes_at, number_at, version_at, boxes, read_each}
@@ -14,63 +14,8 @@ use Rattle.exif_containers.specs.BoxGrammar.{print_counted}
 use Rattle.exif_containers.specs.Items.{entry_width, exif_number, exif_numbers}
 use Rattle.exif_containers.specs.Heif.{after_header}
 use Rattle.exif_containers.specs.ItemGrammar.{FullHead, print_full, IsFull, EntryTree, exif, other, unsupported, cut_head, cut_entry, HasNumber, EntryIsRead, IsAnEntry, InfoTree, info, cut_count, HasCount, InfoIsRead, IsAnInfo, BlockTree, block, short, over, BlockIsRead, IsABlock}
-use Rattle.exif_containers.proofs.BoxTrees.{bytes-there, count_is_read, is_a_count}
-
--- ---- steps
-
-pub then_ok : {A B : Type 0} (x : Result A Refusal) (a : A) (f : A → Result B Refusal) → x ≡ Ok a → (x >>= f) ≡ f a
-then_ok x a f e = ap (λ r. r >>= f) e
-
-pub then_err : {A B : Type 0} (x : Result A Refusal) (r : Refusal) (f : A → Result B Refusal) → x ≡ Err r → (x >>= f) ≡ Err r
-then_err x r f e = ap (λ y. y >>= f) e
-
-pub bytes_read : (n : ℕ) (bytes rest : List ℕ) → length bytes ≡ n → bytes_at n (bytes ++ rest) ≡ Ok (bytes, rest)
-bytes_read n bytes rest e = ap (λ m. bytes_at m (bytes ++ rest)) (sym e) ∙ bytes-there bytes rest
-
-pub bytes_short : (n : ℕ) (bytes : List ℕ) → length bytes < n → bytes_at n bytes ≡ Err too_small
-bytes_short n bytes h = ap (λ t. cond t (Err too_small) (Ok (take n bytes, drop n bytes))) (lt-ltb (length bytes) n h)
-
-pub number_short : (n : ℕ) (bytes : List ℕ) → length bytes < n → number_at n bytes ≡ Err too_small
-number_short n bytes h = ap (λ t. cond t (Err too_small) (Ok (big_number n bytes, drop n bytes))) (lt-ltb (length bytes) n h)
-
-pub number_read : (n : ℕ) (bytes rest : List ℕ) → length bytes ≡ n → number_at n (bytes ++ rest) ≡ Ok (big_number n bytes, rest)
-number_read n bytes rest e =
-    ap (λ t. cond t (Err too_small) (Ok (big_number n (bytes ++ rest), drop n (bytes ++ rest)))) (le-ltb (length (bytes ++ rest)) n (omega (arith, length-append bytes rest)))
-    ∙ ap (λ t. ok_pair t (drop n (bytes ++ rest))) (big_from-append n bytes rest (omega arith))
-    ∙ ap (λ t. ok_pair (big_number n bytes) t) (drop_at bytes rest n e)
-  where
-    ok_pair : ℕ → List ℕ → Front ℕ
-    ok_pair a b = Ok (a, b)
-
-pub full_read : (h : FullHead) (rest : List ℕ) → IsFull h → version_at (print_full h rest) ≡ Ok (h.version, rest)
-full_read h rest e =
-    ap (λ t. cond t (Err too_small) (Ok (h.version, drop 3 (h.flags ++ rest)))) (le-ltb (length (print_full h rest)) 4 (omega (arith, length-append h.flags rest)))
-    ∙ ap (λ t. ok_pair h.version t) (drop_at h.flags rest 3 e)
-  where
-    ok_pair : ℕ → List ℕ → Front ℕ
-    ok_pair a b = Ok (a, b)
-
-pub full_short : (bytes : List ℕ) → length bytes < 4 → version_at bytes ≡ Err too_small
-full_short bytes h = ap (λ t. head_or t bytes) (lt-ltb (length bytes) 4 h)
-  where
-    head_or : Bool → List ℕ → Front ℕ
-    head_or t bytes = cond t (Err too_small) (Ok (slice_index bytes 0, drop 4 bytes))
-
--- bytes that begin with a full box's front
-pub record Fronted (bytes : List ℕ) : Type 0 where
-  pub head : FullHead
-  pub rest : List ℕ
-  pub is : IsFull head
-  pub whole : print_full head rest ≡ bytes
-
-pub fronted : (bytes : List ℕ) → 4 ≤ length bytes → Fronted bytes
-fronted [] h = absurd (omega arith)
-fronted (v ∷ bytes) h = record {
-  head = record { version = v; flags = take 3 bytes };
-  rest = drop 3 bytes;
-  is = length-take-le 3 bytes (omega arith);
-  whole = ap (λ t. v ∷ t) (take-append-drop 3 bytes);
-}
+use Rattle.exif_containers.proofs.CountTrees.{count_is_read, is_a_count}
+use Rattle.exif_containers.proofs.ReadSteps.{then_ok, then_err, bytes_read, bytes_short, number_short, number_read, full_read, full_short, Fronted, fronted}
 
 -- ---- an entry
 

@@ -1,11 +1,14 @@
 pub mod BoxTrees
 pub mod Boxes
+pub mod BrandTrees
 pub mod Children
 pub mod ContainerSteps
+pub mod CountTrees
 pub mod FileBoxes
 pub mod FileTrees
 pub mod Filling
 pub mod HeifNamed
+pub mod ItemTexts
 pub mod ItemTrees
 pub mod JpegCalls
 pub mod JpegMoves
@@ -13,6 +16,7 @@ pub mod JpegTrees
 pub mod JpegUnits
 pub mod Naming
 pub mod PlaceTrees
+pub mod ReadSteps
 pub mod Refusing
 pub mod Times
 pub mod WebpChunks
