@@ -3,7 +3,7 @@ use Rattle.std.proofs.Common.{◌≡◌, ◌≢◌, ◌⊎◌, inl, inr, subst, 
 use Rattle.std.specs.List.{flat_map, list_any}
 use Rattle.std.specs.Str.{bytes_eq}
 use Rattle.std.proofs.lemmas.Slice.Eq.{bytes_eq-Decides}
-use Rattle.std.proofs.lemmas.Bool.{cases_lt, lt-ltb, le-ltb, le-leb, leb-true}
+use Rattle.std.proofs.lemmas.Bool.{cases_lt, lt-ltb, le-ltb, le-leb, leb-true, lt-leb}
 use Rattle.std.proofs.lemmas.List.{take_at, drop_at, take_all, drop_all}
 use Rattle.byteorder.specs.Endian.{big_number}
 use Rattle.exif_types.specs.Refusals.{Refusal, ◌>>=◌, Front}
@@ -192,19 +192,12 @@ whole-there body = ap (λ t. cond t (Err broken_file) (Ok body)) (le-ltb (length
 whole-cut : (len : ℕ) (body : List ℕ) → length body < len → whole len body ≡ Err broken_file
 whole-cut len body h = ap (λ t. cond t (Err broken_file) (Ok body)) (lt-ltb (length body) len h)
 
-below : (a b : ℕ) → b < a → leb a b ≡ false
-below a b h = by (leb a b) refl
-  where
-    by : (t : Bool) → leb a b ≡ t → t ≡ false
-    by true e = absurd (let k = leb-true a b e in omega arith)
-    by false e = refl
-
 passed-ok : (p : Passed) (seen : Bool) → IsPassed p → passed seen (kind_of (type_of (passed_box p).header)) (length (passed_box p).body) (passed_box p).body ≡ Ok (is_ftyp p || seen)
 passed-ok (ftyp b) seen h =
     passed-ftyp b.header (length b.body) b.body seen h.0 ∙ ap (λ r. seen_if (r >>= brand_checked) true) (whole-there b.body) ∙ ap (λ r. seen_if r true) (said-checked b.body (Ok tt) h.1)
 passed-ok (other b) seen h =
     passed-other b.header (length b.body) b.body seen h.0
-    ∙ ap (λ t. seen_if (cond t (Err seek_too_large) (Ok tt)) seen) (below (2 ^ 63) (length b.body) h.1)
+    ∙ ap (λ t. seen_if (cond t (Err seek_too_large) (Ok tt)) seen) (lt-leb (2 ^ 63) (length b.body) h.1)
 
 passed-no_meta : (p : Passed) → IsPassed p → kind_of (type_of (passed_box p).header) ≡ Meta → ⊥
 passed-no_meta (ftyp b) h = ftyp-no_meta b.header h.0

@@ -4,6 +4,7 @@ pub mod BrandTrees
 pub mod Children
 pub mod ContainerSteps
 pub mod CountTrees
+pub mod ExtentTexts
 pub mod FileBoxes
 pub mod FileTrees
 pub mod Filling

@@ -1,13 +1,15 @@
 -- Item locations, and an item as its extents, as the standard writes them (ISO/IEC 14496-12:2015, 8.11.3):
 -- trees, their bytes, and what makes them valid.
-use Rattle.std.specs.Prelude.{◌≡◌, ◌⊎◌, ℕ, ◌+◌, ◌*◌, ◌%◌, ◌<◌, ◌≤◌, ◌==◌, if◌then◌else◌, List, [], ◌∷◌, ◌++◌, length, map, slice_index, Result, Ok, ⊤}
+use Rattle.std.specs.Prelude.{◌≡◌, ◌⊎◌, ℕ, ◌+◌, ◌*◌, ◌%◌, ◌^◌, ◌<◌, ◌≤◌, ◌==◌, if◌then◌else◌, List, [], ◌∷◌, ◌++◌, length, map, slice_index, Result, Ok, ⊤}
 use Rattle.std.specs.List.{All, flat_map}
 use Rattle.byteorder.specs.Endian.{big_number}
 use Rattle.exif_types.specs.Refusals.{Refusal}
+use Rattle.exif_containers.specs.declared.isobmff.extents.Within.{Within}
+use Rattle.exif_containers.specs.declared.isobmff.extents.Within.TheVariants.{File, ItemDataBox}
 use Rattle.exif_containers.specs.declared.isobmff.locations.Extent.{Extent}
 use Rattle.exif_containers.specs.declared.isobmff.locations.Sizes.{Sizes}
 use Rattle.exif_containers.specs.ItemGrammar.{FullHead, print_full, IsFull}
-use Rattle.exif_containers.specs.Places.{Place, locations, gathered}
+use Rattle.exif_containers.specs.Places.{Place, locations, extent_bytes, gathered}
 
 -- a field of 0, 4 or 8 bytes
 abbrev pub IsSize : ℕ → Type 0
@@ -123,6 +125,46 @@ PlacesAreRead wanted t = ArePlaces wanted t → locations wanted (print_places t
 abbrev pub IsAPlaces : ℕ → List ℕ → List Place → Type 0
 IsAPlaces wanted body places =
     locations wanted body ≡ Ok places → (t : PlacesTree) × ArePlaces wanted t × (places_said wanted t ≡ places) × (print_places t ≡ body)
+
+-- ---- the text of an extent
+
+-- a text stands behind so many bytes, with any bytes behind it
+pub record StandsAt (bytes : List ℕ) (from : ℕ) (text : List ℕ) : Type 0 where
+  pub front : List ℕ
+  pub behind : List ℕ
+  pub place : length front ≡ from
+  pub whole : front ++ (text ++ behind) ≡ bytes
+
+-- a text is all that stands behind so many bytes
+pub record RunsToEnd (bytes : List ℕ) (from : ℕ) (text : List ℕ) : Type 0 where
+  pub front : List ℕ
+  pub place : length front ≡ from
+  pub whole : front ++ text ≡ bytes
+
+-- in the file: length 0 runs to the end, and is empty past it
+abbrev pub IsFileText : List ℕ → ℕ → ℕ → List ℕ → Type 0
+IsFileText file from len text =
+    ((len ≡ 0) × (RunsToEnd file from text ⊎ ((length file < from) × (text ≡ []))))
+    ⊎ ((0 < len) × (length text ≡ len) × StandsAt file from text)
+
+-- in `idat`: length 0 runs to the end, which it may not begin past
+abbrev pub IsIdatText : List ℕ → ℕ → ℕ → List ℕ → Type 0
+IsIdatText idat from len text =
+    ((len ≡ 0) × RunsToEnd idat from text) ⊎ ((0 < len) × (length text ≡ len) × StandsAt idat from text)
+
+-- places have 64 bits
+abbrev pub IsText : Within → List ℕ → ℕ → Extent → List ℕ → Type 0
+IsText File bytes base e text = (base + e.offset < 2 ^ 64) × IsFileText bytes (base + e.offset) e.len text
+IsText ItemDataBox bytes base e text =
+    (base + e.offset + e.len < 2 ^ 64) × IsIdatText bytes (base + e.offset) e.len text
+
+-- an extent is read as the text that stands there
+abbrev pub TextIsRead : Within → List ℕ → ℕ → Extent → List ℕ → Type 0
+TextIsRead within bytes base e text = IsText within bytes base e text → extent_bytes within bytes base e ≡ Ok text
+
+-- what is read of an extent stands there
+abbrev pub IsAText : Within → List ℕ → ℕ → Extent → List ℕ → Type 0
+IsAText within bytes base e text = extent_bytes within bytes base e ≡ Ok text → IsText within bytes base e text
 
 -- ---- an item: the texts of its extents, one after the other
 

@@ -2,6 +2,7 @@
 
 ghost use Rattle.std.specs.Prelude.{ℕ, List, Result};
 ghost use Rattle.exif_types.specs.Refusals.{Refusal};
+ghost use Rattle.exif_containers.specs.declared.isobmff.extents.Within.{Within};
 ghost use Rattle.exif_containers.specs.declared.isobmff.locations.Extent.{Extent};
 ghost use Rattle.exif_containers.specs.BoxGrammar.{BoxIsRead, BoxTree, CountIsRead, Counted, CountedAreRead, IsABox, IsACount, IsAParent, Parent, ParentIsRead};
 ghost use Rattle.exif_containers.specs.Boxes.{Part};
@@ -9,7 +10,7 @@ ghost use Rattle.exif_containers.specs.Container.{TiffIsWhole};
 ghost use Rattle.exif_containers.specs.FileGrammar.{BrandsAreChecked, BrandsTree, FileBoxesAreRead, FrontTree, IsABrands, IsAFront, MetaIsFound};
 ghost use Rattle.exif_containers.specs.ItemGrammar.{BlockIsRead, BlockTree, EntryIsRead, EntryTree, InfoIsRead, InfoTree, IsABlock, IsAnEntry, IsAnInfo};
 ghost use Rattle.exif_containers.specs.JpegGrammar.{IsAStream, Stream, StreamIsAnswered};
-ghost use Rattle.exif_containers.specs.PlaceGrammar.{IsAPlaces, IsAnItem, ItemIsJoined, PlacesAreRead, PlacesTree};
+ghost use Rattle.exif_containers.specs.PlaceGrammar.{IsAPlaces, IsAText, IsAnItem, ItemIsJoined, PlacesAreRead, PlacesTree, TextIsRead};
 ghost use Rattle.exif_containers.specs.Places.{Place};
 ghost use Rattle.exif_containers.specs.WebpGrammar.{FileIsAnswered, IsAFile, WebpFile};
 
@@ -92,6 +93,15 @@ pub fn files_up_to_meta()
 pub fn item_locations_are_read()
     ensures read { (wanted : ℕ) (t : PlacesTree) → PlacesAreRead wanted t }
     ensures only { (wanted : ℕ) (body : List ℕ) (places : List Place) → IsAPlaces wanted body places }
+{}
+
+/// An extent is read as the text that stands at its place, in the file or beside the items, and what is
+/// read of it stands there.
+pub fn extents_are_texts()
+    ensures read { (within : Within) (bytes : List ℕ) (base : ℕ) (e : Extent) (text : List ℕ)
+        → TextIsRead within bytes base e text }
+    ensures only { (within : Within) (bytes : List ℕ) (base : ℕ) (e : Extent) (text : List ℕ)
+        → IsAText within bytes base e text }
 {}
 
 /// An item is the texts of its extents, one after the other, where they are at most 65,535 bytes together.
