@@ -70,7 +70,7 @@ fn exif_payload<R: Source>(
     let mut id = [0u8; 6];
     fill(source, budget, &mut id)?;
     if id != EXIF_ID {
-        skip(source, budget, len - 6)?;
+        let _passed = skip(source, budget, len - 6)?;
         return Ok(None);
     }
     let payload = collect(alloc, source, budget, len - 6)?;

@@ -4,7 +4,7 @@ use Rattle.exif_containers.proofs.jpeg.exif_payload.Goals as goal
 
 pub returns-then-ne-clause-taken : goal.returns-then-ne-clause-taken
 returns-then-ne-clause-taken g c =
-    payload_skipped _ _ _ _ _ _ _ c.fill.new.buf (search rules) (search rules) c.if-ne.ensures c.in_ok-fill.ensures.taken c.in_ok-skip-2.ensures.taken
+    payload_skipped _ _ _ _ _ _ _ c.fill.new.buf (search rules) (search rules) c.if-ne.ensures c.in_ok-fill.ensures.taken c.in_ok-_passed.ensures.taken
 
 pub returns-clause-taken : goal.returns-clause-taken
 returns-clause-taken g c =
