@@ -16,6 +16,7 @@ pub mod JpegMoves
 pub mod JpegTrees
 pub mod JpegUnits
 pub mod Naming
+pub mod LocationTrees
 pub mod PlaceTrees
 pub mod ReadSteps
 pub mod Refusing
