@@ -1,4 +1,4 @@
-//! Devices that give or take one byte a call, and fail after some good calls.
+//! Devices that give or take one byte a call, and fail after some good calls; and one that only counts.
 
 use std::alloc::Global;
 use std::io;
@@ -82,6 +82,34 @@ impl Write for Drip {
 
     fn flush(&mut self) -> io::Result<()> {
         self.call()?;
+        Ok(())
+    }
+}
+
+/// A writer that takes each slice whole and keeps none of it.
+#[derive(Drop)]
+pub struct Counting {
+    /// How many bytes were taken.
+    pub bytes: u64,
+    /// How many calls took them.
+    pub calls: u64,
+}
+
+impl Counting {
+    /// A writer that was not called yet.
+    pub fn new() -> Counting {
+        Counting { bytes: 0, calls: 0 }
+    }
+}
+
+impl Write for Counting {
+    fn write(&mut self, buf: &[u8]) -> io::Result<usize> {
+        self.bytes = self.bytes.wrapping_add(buf.len() as u64);
+        self.calls = self.calls.wrapping_add(1);
+        Ok(buf.len())
+    }
+
+    fn flush(&mut self) -> io::Result<()> {
         Ok(())
     }
 }

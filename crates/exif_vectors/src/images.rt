@@ -1,5 +1,5 @@
 //! Images that a writer makes, written out by hand from TIFF 6.0, section 2, and Exif 2.32, 4.6.
-//! All are big endian.
+//! All are big endian but those that say otherwise.
 
 /// A description, and a strip in the second directory.
 pub const STRIP: &[u8] =
@@ -28,3 +28,15 @@ pub const VERSION: &[u8] =
 /// The number of strips' places, in the Exif directory where it means nothing.
 pub const STRIPS_NUMBER_IN_EXIF: &[u8] =
     b"MM\0*\0\0\0\x08\0\x01\x87i\0\x04\0\0\0\x01\0\0\0\x1a\0\0\0\0\0\x01\x01\x11\0\x03\0\0\0\x01\0\x05\0\0\0\0\0\0";
+
+/// A description, a version and an index, each in a directory of its own context.
+pub const SCRUBBED_BIG: &[u8] =
+    b"MM\0*\0\0\0\x08\0\x02\x01\x0e\0\x02\0\0\0\x07\0\0\0\x56\x87\x69\0\x04\0\0\0\x01\0\0\0\x26\0\0\0\0\0\x02\x90\0\0\x07\0\0\0\x040231\xa0\x05\0\x04\0\0\0\x01\0\0\0\x44\0\0\0\0\0\x01\0\x01\0\x02\0\0\0\x04ABC\0\0\0\0\0Sample\0";
+
+/// The same in little endian.
+pub const SCRUBBED_LITTLE: &[u8] =
+    b"II*\0\x08\0\0\0\x02\0\x0e\x01\x02\0\x07\0\0\0\x56\0\0\0\x69\x87\x04\0\x01\0\0\0\x26\0\0\0\0\0\0\0\x02\0\0\x90\x07\0\x04\0\0\x000231\x05\xa0\x04\0\x01\0\0\0\x44\0\0\0\0\0\0\0\x01\0\x01\0\x02\0\x04\0\0\0ABC\0\0\0\0\0Sample\0";
+
+/// A description, and a strip in the second directory, in little endian.
+pub const STRIP_LITTLE: &[u8] =
+    b"II*\0\x08\0\0\0\x01\0\x0e\x01\x02\0\x04\0\0\0tif\0\x1a\0\0\0\x02\0\x11\x01\x04\0\x01\0\0\0\x38\0\0\0\x17\x01\x04\0\x01\0\0\0\x05\0\0\0\0\0\0\0STRIP";

@@ -3,12 +3,14 @@
 mod containers;
 mod devices;
 mod fields;
+mod found;
 mod limits;
 mod memory;
 mod names;
 mod partial;
 mod reports;
 mod rewriting;
+mod scrubbing;
 mod shortage;
 mod support;
 mod units;

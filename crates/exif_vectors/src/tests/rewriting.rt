@@ -1,10 +1,11 @@
 //! Images that are read back, and written again.
 
+use super::found::{is_bytes, is_no_number, is_number, is_text, is_version};
 use super::support::{read, refusal};
 use super::written::{descriptions, image, is_image, push_all, writer_of};
 use crate::{files, images};
 use exif::experimental::Writer;
-use exif::{Context, Exif, Field, In, Reader, Tag, Value};
+use exif::{Context, Exif, In, Reader, Tag};
 use std::alloc::Global;
 use std::process::Abort;
 use std::test::Fail;
@@ -15,58 +16,31 @@ fn read_back(alloc: Global, bytes: &[u8]) -> Result<Exif, Fail> {
     Ok(Reader::new().read_raw(alloc, bytes)?)
 }
 
-// The field at a place of the list, if it has this tag in this directory.
-fn field_at(exif: &Exif, place: usize, tag: Tag, ifd_num: In) -> Option<&Field> {
-    let field = exif.fields().nth(place)?;
-    if field.tag == tag && field.ifd_num == ifd_num {
-        Some(field)
-    } else {
-        None
-    }
-}
-
-// Whether that field has one whole number, which is this.
-fn has_number(exif: &Exif, place: usize, tag: Tag, ifd_num: In, number: u32) -> bool {
-    match field_at(exif, place, tag, ifd_num) {
-        Some(field) => field.value.get_uint(0) == Some(number) && field.value.get_uint(1).is_none(),
-        None => false,
-    }
-}
-
-// Whether the version of Exif stands at a place of the list, and its bytes at a place of the image.
-fn has_version(exif: &Exif, place: usize, at: u32) -> bool {
-    match field_at(exif, place, Tag::ExifVersion, In::PRIMARY) {
-        Some(field) => match &field.value {
-            Value::Undefined(bytes, found) => bytes.as_slice() == b"0231".as_slice()
-                && *found == at,
-            _ => false,
-        },
-        None => false,
-    }
-}
-
-// Whether that field has one text, which is this.
-fn has_text(exif: &Exif, place: usize, tag: Tag, text: &[u8]) -> bool {
-    match field_at(exif, place, tag, In::PRIMARY) {
-        Some(field) => match &field.value {
-            Value::Ascii(texts) => texts.len() == 1 && texts.as_slice()[0].as_slice() == text,
-            _ => false,
-        },
-        None => false,
-    }
-}
-
 #[test]
 fn four_directories(rt: HostRuntime) -> Result<(), Fail> {
     let alloc = rt.alloc();
     let exif = read_back(alloc, files::EVERY_DIRECTORY)?;
     assert_eq!(rt; exif.fields().len(), 6);
-    assert!(rt; has_text(&exif, 0, Tag::ImageDescription, b"Sample"));
-    assert!(rt; has_version(&exif, 1, 0x3c));
-    assert!(rt; has_text(&exif, 2, Tag::InteroperabilityIndex, b"ABC"));
-    assert!(rt; field_at(&exif, 3, Tag::GPSVersionID, In::PRIMARY).is_some());
-    assert!(rt; has_number(&exif, 4, Tag::JPEGInterchangeFormat, In::THUMBNAIL, 154));
-    assert!(rt; has_number(&exif, 5, Tag::JPEGInterchangeFormatLength, In::THUMBNAIL, 4));
+    assert!(rt; is_text(exif.fields().next(), Tag::ImageDescription, b"Sample"));
+    assert!(rt; is_version(exif.fields().nth(1), 0x3c));
+    assert!(rt; is_text(exif.fields().nth(2), Tag::InteroperabilityIndex, b"ABC"));
+    assert!(rt; is_bytes(exif.fields().nth(3), Tag::GPSVersionID, b"\x02\x03\0\0"));
+    assert!(rt;
+        is_number(
+            exif.fields().nth(4),
+            Tag::JPEGInterchangeFormat,
+            In::THUMBNAIL,
+            154
+        )
+    );
+    assert!(rt;
+        is_number(
+            exif.fields().nth(5),
+            Tag::JPEGInterchangeFormatLength,
+            In::THUMBNAIL,
+            4
+        )
+    );
     Ok(())
 }
 
@@ -105,20 +79,12 @@ fn a_strip_in_both_orders(rt: HostRuntime) -> Result<(), Fail> {
     both_orders(&rt, images::STRIP, &mut writer)
 }
 
-// Whether that field has a list of whole numbers, and none in it.
-fn has_no_number(exif: &Exif, place: usize, tag: Tag) -> bool {
-    match field_at(exif, place, tag, In::PRIMARY) {
-        Some(field) => matches!(field.value, Value::Long(_)) && field.value.get_uint(0).is_none(),
-        None => false,
-    }
-}
-
 #[test]
 fn no_strips_in_both_orders(rt: HostRuntime) -> Result<(), Fail> {
     let alloc = rt.alloc();
     let exif = read_back(alloc, images::NO_STRIPS)?;
-    assert!(rt; has_no_number(&exif, 0, Tag::StripOffsets));
-    assert!(rt; has_no_number(&exif, 1, Tag::StripByteCounts));
+    assert!(rt; is_no_number(exif.fields().next(), Tag::StripOffsets));
+    assert!(rt; is_no_number(exif.fields().nth(1), Tag::StripByteCounts));
     let mut writer = writer_of(alloc, &exif)?;
     writer.set_strips(&[], In::PRIMARY)?;
     both_orders(&rt, images::NO_STRIPS, &mut writer)
@@ -128,7 +94,14 @@ fn no_strips_in_both_orders(rt: HostRuntime) -> Result<(), Fail> {
 fn a_number_of_another_directory(rt: HostRuntime) -> Result<(), Fail> {
     let exif = read_back(rt.alloc(), images::STRIPS_NUMBER_IN_EXIF)?;
     assert_eq!(rt; exif.fields().len(), 1);
-    assert!(rt; has_number(&exif, 0, Tag(Context::Exif, 0x111), In::PRIMARY, 5));
+    assert!(rt;
+        is_number(
+            exif.fields().next(),
+            Tag(Context::Exif, 0x111),
+            In::PRIMARY,
+            5
+        )
+    );
     Ok(())
 }
 
@@ -137,10 +110,10 @@ fn holds_equal_fields(alloc: Global, bytes: &[u8]) -> Result<bool, Fail> {
     let exif = read_back(alloc, bytes)?;
     Ok(
         exif.fields().len() == 4
-            && has_number(&exif, 0, Tag::ImageWidth, In::PRIMARY, 20)
-            && has_number(&exif, 1, Tag::ImageWidth, In::PRIMARY, 21)
-            && has_version(&exif, 2, 0x3c)
-            && has_version(&exif, 3, 0x48),
+            && is_number(exif.fields().next(), Tag::ImageWidth, In::PRIMARY, 20)
+            && is_number(exif.fields().nth(1), Tag::ImageWidth, In::PRIMARY, 21)
+            && is_version(exif.fields().nth(2), 0x3c)
+            && is_version(exif.fields().nth(3), 0x48),
     )
 }
 

@@ -36,6 +36,13 @@ pub fn read(alloc: Global, reader: &Reader, bytes: &[u8]) -> Result<(Exif, Vec<S
     }
 }
 
+/// What a lenient reader reads, and the texts of the faults that it passes over.
+pub fn read_leniently(alloc: Global, bytes: &[u8]) -> Result<(Exif, Vec<String>), Fail> {
+    let mut reader = Reader::new();
+    reader.continue_on_error(true);
+    read(alloc, &reader, bytes)
+}
+
 /// How many fields and how many faults an answer has, if it has fields.
 pub fn counts(answer: Result<Exif, Error>) -> Option<(usize, usize)> {
     match answer {

@@ -2,36 +2,16 @@
 
 use super::support::text_of;
 use super::written::{description, field, image, text, writer_of};
+use crate::devices::Counting;
 use crate::files;
 use exif::experimental::Writer;
 use exif::{Counted, Field, In, Reader, Tag, Value};
 use std::alloc::{AllocError, Global};
-use std::io;
-use std::io::Write;
 use std::test::Fail;
-
-// Counts bytes and calls, and takes each slice whole.
-#[derive(Drop)]
-struct Counting {
-    bytes: u64,
-    calls: u64,
-}
-
-impl Write for Counting {
-    fn write(&mut self, buf: &[u8]) -> io::Result<usize> {
-        self.bytes = self.bytes.wrapping_add(buf.len() as u64);
-        self.calls = self.calls.wrapping_add(1);
-        Ok(buf.len())
-    }
-
-    fn flush(&mut self) -> io::Result<()> {
-        Ok(())
-    }
-}
 
 // Whether nothing is sent, for a reason.
 fn is_refused(alloc: Global, writer: &mut Writer, reason: &str) -> Result<bool, Fail> {
-    let mut out = Counted::new(Counting { bytes: 0, calls: 0 });
+    let mut out = Counted::new(Counting::new());
     let answer = writer.write(&mut out, false);
     let sent = out.into_inner();
     match answer {
@@ -177,7 +157,7 @@ fn the_longest_image(rt: HostRuntime) -> Result<(), Fail> {
     let strips = strips(alloc, &block, 1_015_769)?;
     let mut writer = Writer::new(alloc);
     writer.set_strips(strips.as_slice(), In::PRIMARY)?;
-    let mut out = Counted::new(Counting { bytes: 0, calls: 0 });
+    let mut out = Counted::new(Counting::new());
     writer.write(&mut out, false)?;
     assert_eq!(rt; out.into_inner().bytes, 4_294_967_295);
     Ok(())
