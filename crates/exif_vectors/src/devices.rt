@@ -1,4 +1,5 @@
-//! Devices that give or take one byte a call, and fail after some good calls; and one that only counts.
+//! Devices that give or take one byte a call, and fail after some good calls; and one that only
+//! counts.
 
 use std::alloc::Global;
 use std::io;

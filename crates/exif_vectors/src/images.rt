@@ -40,3 +40,16 @@ pub const SCRUBBED_LITTLE: &[u8] =
 /// A description, and a strip in the second directory, in little endian.
 pub const STRIP_LITTLE: &[u8] =
     b"II*\0\x08\0\0\0\x01\0\x0e\x01\x02\0\x04\0\0\0tif\0\x1a\0\0\0\x02\0\x11\x01\x04\0\x01\0\0\0\x38\0\0\0\x17\x01\x04\0\x01\0\0\0\x05\0\0\0\0\0\0\0STRIP";
+
+/// A description, and three strips in the second directory, the second of them empty.
+pub const THREE_STRIPS_BIG: &[u8] =
+    b"MM\0*\0\0\0\x08\0\x01\x01\x0e\0\x02\0\0\0\x04tif\0\0\0\0\x1a\0\x02\x01\x11\0\x04\0\0\0\x03\0\0\x008\x01\x17\0\x04\0\0\0\x03\0\0\0D\0\0\0\0\0\0\0P\0\0\0S\0\0\0S\0\0\0\x03\0\0\0\0\0\0\0\x02STRIP";
+
+/// The same in little endian.
+pub const THREE_STRIPS_LITTLE: &[u8] =
+    b"II*\0\x08\0\0\0\x01\0\x0e\x01\x02\0\x04\0\0\0tif\0\x1a\0\0\0\x02\0\x11\x01\x04\0\x03\0\0\x008\0\0\0\x17\x01\x04\0\x03\0\0\0D\0\0\0\0\0\0\0P\0\0\0S\0\0\0S\0\0\0\x03\0\0\0\0\0\0\0\x02\0\0\0STRIP";
+
+/// A description, a version, a GPS version and an index, each in a directory of its own context,
+/// and a thumbnail of four bytes, in little endian.
+pub const EVERY_DIRECTORY_LITTLE: &[u8] =
+    b"II*\0\x08\0\0\0\x03\0\x0e\x01\x02\0\x07\0\0\0t\0\0\0i\x87\x04\0\x01\0\0\x002\0\0\0%\x88\x04\0\x01\0\0\0P\0\0\0|\0\0\0\x02\0\0\x90\x07\0\x04\0\0\x000231\x05\xa0\x04\0\x01\0\0\0b\0\0\0\0\0\0\0\x01\0\0\0\x01\0\x04\0\0\0\x02\x03\0\0\0\0\0\0\x01\0\x01\0\x02\0\x04\0\0\0ABC\0\0\0\0\0Sample\0\0\x02\0\x01\x02\x04\0\x01\0\0\0\x9a\0\0\0\x02\x02\x04\0\x01\0\0\0\x04\0\0\0\0\0\0\0JPEG";

@@ -1,9 +1,10 @@
 //! Exif data in JPEG, WebP and HEIF files, by way of the report and the reader.
 
-use super::support::{counts, reported, text_of};
+use super::found::is_text;
+use super::support::{KINDS, reported, text_of};
 use crate::devices::Slow;
 use crate::files;
-use exif::{Counted, Error, Exif, Reader, get_exif_attr_from_jpeg};
+use exif::{Counted, Error, Exif, Items, Reader, Tag, Value, get_exif_attr_from_jpeg};
 use exif_report::report;
 use std::alloc::Global;
 use std::io::ErrorKind;
@@ -97,25 +98,66 @@ fn fails_at_each_call(
 
 #[test]
 fn a_reader_that_fails_is_no_broken_file(rt: HostRuntime) -> Result<(), Fail> {
+    let alloc = rt.alloc();
     let mut reader = Reader::new();
     reader.continue_on_error(true);
-    for (bytes, fields, faults) in [
-        (files::JPEG, 1, 0),
-        (files::WEBP, 1, 0),
-        (files::HEIF, 1, 0),
-        (files::DESCRIBED_LITTLE, 1, 0),
-        (files::WRONG_NEXT, 2, 2),
+    for bytes in [
+        files::JPEG,
+        files::WEBP,
+        files::HEIF,
+        files::DESCRIBED_BIG,
+        files::DESCRIBED_LITTLE,
     ] {
-        for kind in [
-            ErrorKind::Other,
-            ErrorKind::Interrupted,
-            ErrorKind::UnexpectedEof,
-        ] {
+        for kind in KINDS {
             fails_at_each_call(&rt, &reader, bytes, kind);
             let mut slow = Counted::new(Slow::new(bytes, bytes.len() + 9, kind));
-            let answer = reader.read_from_container(rt.alloc(), &mut slow);
-            assert_eq!(rt; counts(answer), Some((fields, faults)));
+            let exif = reader.read_from_container(alloc, &mut slow)?;
+            assert_eq!(rt; exif.fields().len(), 1);
+            assert!(rt; is_text(exif.fields().next(), Tag::ImageDescription, b"Sample"));
         }
+    }
+    Ok(())
+}
+
+// The fields of an answer, and how many faults were passed over.
+fn distilled(answer: Result<Exif, Error>) -> Result<(Exif, usize), Error> {
+    let mut count = 0;
+    match answer {
+        Ok(exif) => Ok((exif, 0)),
+        Err(error) => {
+            let exif = error.distill_partial_result(|faults: Vec<Error>| count = faults.len())?;
+            Ok((exif, count))
+        }
+    }
+}
+
+// Whether these are the two fields of the file with a wrong next place.
+fn are_fields_of_wrong_next(alloc: Global, exif: &Exif) -> Result<bool, Fail> {
+    let version = Value::Undefined(Items::from_slice(alloc, b"\0\x02\x03\x02")?, 0x30);
+    let number = Value::SLong(Items::from_slice(alloc, &[-19088744])?);
+    let is_version = exif
+        .fields()
+        .next()
+        .is_some_and(|field| field.value == version);
+    let is_number = exif
+        .fields()
+        .nth(1)
+        .is_some_and(|field| field.value == number);
+    Ok(is_version && is_number && exif.fields().len() == 2)
+}
+
+#[test]
+fn a_reader_that_fails_is_no_fault_of_a_directory(rt: HostRuntime) -> Result<(), Fail> {
+    let alloc = rt.alloc();
+    let bytes = files::WRONG_NEXT;
+    let mut reader = Reader::new();
+    reader.continue_on_error(true);
+    for kind in KINDS {
+        fails_at_each_call(&rt, &reader, bytes, kind);
+        let mut slow = Counted::new(Slow::new(bytes, bytes.len() + 9, kind));
+        let (exif, faults) = distilled(reader.read_from_container(alloc, &mut slow))?;
+        assert_eq!(rt; faults, 2);
+        assert!(rt; are_fields_of_wrong_next(alloc, &exif)?);
     }
     Ok(())
 }

@@ -1,30 +1,14 @@
 //! Reports from readers that give one byte a call or fail, and to such writers.
 
+use super::support::{KINDS, kind_of};
 use crate::devices::{Drip, Slow};
 use crate::files;
-use exif::{Counted, Error};
+use exif::Counted;
 use exif_report::{report, show};
 use std::io::ErrorKind;
 use std::test::Fail;
 
 const DESCRIPTION: &[u8] = b"ImageDescription primary \"Sample\"\n";
-
-const KINDS: [ErrorKind; 3] = [
-    ErrorKind::Other,
-    ErrorKind::Interrupted,
-    ErrorKind::UnexpectedEof,
-];
-
-// The kind of a device's error, if that is the answer.
-fn kind_of(answer: Result<u64, Error>) -> Option<ErrorKind> {
-    match answer {
-        Ok(_count) => None,
-        Err(error) => match error {
-            Error::Io(cause) => Some(cause.kind()),
-            _other => None,
-        },
-    }
-}
 
 #[test]
 fn readers(rt: HostRuntime) -> Result<(), Fail> {
@@ -35,7 +19,7 @@ fn readers(rt: HostRuntime) -> Result<(), Fail> {
             let mut reader = Counted::new(Slow::new(bytes, good_calls, kind));
             let mut out = Counted::new(Vec::new(alloc));
             let answer = report(alloc, &mut reader, &mut out, true);
-            assert_eq!(rt; kind_of(answer), Some(kind), "after {good_calls} calls");
+            assert_eq!(rt; kind_of(&answer), Some(kind), "after {good_calls} calls");
             assert!(rt; out.into_inner().is_empty());
         }
     }
@@ -59,7 +43,7 @@ fn writers(rt: HostRuntime) -> Result<(), Fail> {
                 &mut out,
                 false,
             );
-            assert_eq!(rt; kind_of(answer), Some(kind), "after {good_calls} calls");
+            assert_eq!(rt; kind_of(&answer), Some(kind), "after {good_calls} calls");
             let taken = out.into_inner().taken;
             assert_eq!(rt;
                 Some(taken.as_slice()),
@@ -74,7 +58,7 @@ fn writers(rt: HostRuntime) -> Result<(), Fail> {
         &mut out,
         false,
     );
-    assert_eq!(rt; kind_of(answer), Some(ErrorKind::WriteZero));
+    assert_eq!(rt; kind_of(&answer), Some(ErrorKind::WriteZero));
     let mut out = Counted::new(Drip::new(alloc, calls, Some(ErrorKind::Other)));
     let answer = report(
         alloc,

@@ -1,21 +1,15 @@
-//! What is answered where memory is refused: all of it, or what is behind some request.
+//! What is answered where memory is refused: all of it, or what is behind some request. `shortage`
+//! says which allocator these tests need.
 
 use super::shortage::{Greedy, Outcome, in_turn, take_most, take_rest};
-use super::support::{counts, shared_children};
+use super::support::{counts, kind_of, reason, shared_children};
 use crate::files;
 use exif::{Counted, Error, Field, In, Items, Rational, Reader, Tag, Value, parse_exif};
 use exif_report::report;
 use std::alloc::Global;
+use std::io::ErrorKind;
 use std::process::Abort;
 use std::test::Fail;
-
-// The text of a refusal of data.
-fn refusal<T: Drop>(answer: &Result<T, Error>) -> Option<&'static str> {
-    match answer {
-        Err(Error::InvalidFormat(text)) => Some(*text),
-        _ => None,
-    }
-}
 
 // With all memory refused, the fault of these data's header comes.
 fn header_is_refused(
@@ -31,8 +25,8 @@ fn header_is_refused(
     let read = Reader::new().read_raw(alloc, data);
     drop(rest);
     drop(most);
-    assert_eq!(rt; refusal(&parsed), Some(text));
-    assert_eq!(rt; refusal(&read), Some(text));
+    assert_eq!(rt; reason(&parsed), Some(text));
+    assert_eq!(rt; reason(&read), Some(text));
     Ok(())
 }
 
@@ -196,9 +190,13 @@ fault: Truncated IFD count
     Ok(())
 }
 
-// What a lenient report writes to a writer that leaves it no memory.
-fn reported_greedily(alloc: Global, bytes: &[u8]) -> Result<(Result<u64, Error>, Vec<u8>), Fail> {
-    let mut out = Counted::new(Greedy::new(alloc)?);
+// What a lenient report writes to a writer of so much room that leaves it no memory.
+fn reported_greedily(
+    alloc: Global,
+    bytes: &[u8],
+    room: usize,
+) -> Result<(Result<u64, Error>, Vec<u8>), Fail> {
+    let mut out = Counted::new(Greedy::new(alloc, room)?);
     let most = take_most(alloc)?;
     let answer = report(alloc, &mut Counted::new(bytes), &mut out, true);
     drop(most);
@@ -209,13 +207,24 @@ fn reported_greedily(alloc: Global, bytes: &[u8]) -> Result<(Result<u64, Error>,
 fn lines_want_memory(rt: HostRuntime) -> Result<(), Fail> {
     let alloc = rt.alloc();
     let fields = "ExifVersion primary 0x00020302\nTag(Tiff, 65000) primary -19088744\n";
-    let (answer, written) = reported_greedily(alloc, files::WRONG_NEXT)?;
+    let (answer, written) = reported_greedily(alloc, files::WRONG_NEXT, 256)?;
     assert!(rt; matches!(answer, Err(Error::OutOfMemory)));
     assert_eq!(rt; written.as_slice(), fields.as_bytes());
     let short = "Tag(Tiff, 65000) primary 1\n";
-    let (answer, written) = reported_greedily(alloc, files::LONGER_LINE)?;
+    let (answer, written) = reported_greedily(alloc, files::LONGER_LINE, 256)?;
     assert!(rt; matches!(answer, Err(Error::OutOfMemory)));
     assert_eq!(rt; written.as_slice(), short.as_bytes());
+    Ok(())
+}
+
+#[test]
+fn a_writer_over_memory_fails_where_its_memory_does(rt: HostRuntime) -> Result<(), Fail> {
+    let first = "ExifVersion primary 0x00020302\n";
+    for (room, text) in [(0, ""), (first.len(), first)] {
+        let (answer, written) = reported_greedily(rt.alloc(), files::WRONG_NEXT, room)?;
+        assert_eq!(rt; kind_of(&answer), Some(ErrorKind::OutOfMemory));
+        assert_eq!(rt; written.as_slice(), text.as_bytes());
+    }
     Ok(())
 }
 

@@ -154,7 +154,7 @@ fn nothing_is_sent_of_what_is_refused(rt: HostRuntime) -> Result<(), Fail> {
     Ok(())
 }
 
-// Whether to a writer of so many good calls these bytes go out, and an error of a kind comes or none.
+// Whether to this writer these bytes go out, and an error of a kind comes or none.
 fn leaves(
     alloc: Global,
     exif: &Exif,

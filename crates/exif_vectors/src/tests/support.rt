@@ -3,7 +3,33 @@
 use exif::{Counted, Error, Exif, Reader};
 use exif_report::{report, report_limited};
 use std::alloc::Global;
+use std::io::ErrorKind;
 use std::test::Fail;
+
+/// The kinds of errors that devices fail with.
+pub const KINDS: [ErrorKind; 3] = [
+    ErrorKind::Other,
+    ErrorKind::Interrupted,
+    ErrorKind::UnexpectedEof,
+];
+
+/// The kind of a device's error, if that is the answer.
+pub fn kind_of<T: Drop>(answer: &Result<T, Error>) -> Option<ErrorKind> {
+    match answer {
+        Err(Error::Io(cause)) => Some(cause.kind()),
+        _ => None,
+    }
+}
+
+/// The message of a refusal, if that is the answer. This takes no memory.
+pub fn reason<T: Drop>(answer: &Result<T, Error>) -> Option<&'static str> {
+    match answer {
+        Err(Error::InvalidFormat(text)) => Some(*text),
+        Err(Error::NotFound(what)) => Some(*what),
+        Err(Error::NotSupported(text)) => Some(*text),
+        _ => None,
+    }
+}
 
 /// How an error is shown.
 pub fn text_of(alloc: Global, error: &Error) -> Result<String, Fail> {

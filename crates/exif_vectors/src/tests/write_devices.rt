@@ -1,22 +1,15 @@
 //! Writing to writers that take one byte a call, take none or fail.
 
-use super::written::{description, four_fields, image, push_all};
+use super::support::kind_of;
+use super::written::{description, four_fields, push_all};
 use crate::devices::Drip;
-use crate::files;
+use crate::{files, images};
 use exif::experimental::Writer;
-use exif::{Counted, Error, In};
+use exif::{Counted, In};
 use std::alloc::Global;
 use std::io::ErrorKind;
 use std::process::Abort;
 use std::test::Fail;
-
-// The kind of a device's error, if that is the answer.
-fn kind_of(answer: &Result<(), Error>) -> Option<ErrorKind> {
-    match answer {
-        Err(Error::Io(cause)) => Some(cause.kind()),
-        _ => None,
-    }
-}
 
 // Whether a write to a writer of so many good calls answers an error of a kind, or none, and
 // these bytes were taken.
@@ -39,10 +32,9 @@ fn fails_at_each_call(
     rt: &(impl Abort + AllocGlobal),
     writer: &mut Writer,
     little_endian: bool,
-) -> Result<(), Fail> {
+    bytes: &[u8],
+) {
     let alloc = rt.alloc();
-    let whole = image(alloc, writer, little_endian)?;
-    let bytes = whole.as_slice();
     for (fault, kind) in [
         (Some(ErrorKind::Other), ErrorKind::Other),
         (Some(ErrorKind::Interrupted), ErrorKind::Interrupted),
@@ -53,26 +45,28 @@ fn fails_at_each_call(
             assert!(rt; leaves(alloc, writer, little_endian, (good_calls, fault), wanted));
         }
     }
+    // The last call is the flush.
     let other = Some(ErrorKind::Other);
+    let unflushed = (other, bytes);
     assert!(rt;
         leaves(
             alloc,
             writer,
             little_endian,
             (bytes.len(), other),
-            (other, bytes)
+            unflushed
         )
     );
+    let whole = (None, bytes);
     assert!(rt;
         leaves(
             alloc,
             writer,
             little_endian,
             (bytes.len() + 1, other),
-            (None, bytes)
+            whole
         )
     );
-    Ok(())
 }
 
 #[test]
@@ -88,18 +82,32 @@ fn four_directories(rt: HostRuntime) -> Result<(), Fail> {
     // One call for each of the 158 bytes, and one for the flush.
     let whole = (None, files::EVERY_DIRECTORY);
     assert!(rt; leaves(alloc, &mut writer, false, (159, other), whole));
-    fails_at_each_call(&rt, &mut writer, false)?;
-    fails_at_each_call(&rt, &mut writer, true)
+    fails_at_each_call(&rt, &mut writer, false, files::EVERY_DIRECTORY);
+    fails_at_each_call(&rt, &mut writer, true, images::EVERY_DIRECTORY_LITTLE);
+    Ok(())
 }
 
 #[test]
-fn strips(rt: HostRuntime) -> Result<(), Fail> {
+fn one_strip(rt: HostRuntime) -> Result<(), Fail> {
+    let alloc = rt.alloc();
+    let tif = description(alloc, In::PRIMARY, b"tif")?;
+    let mut writer = Writer::new(alloc);
+    writer.push_field(&tif)?;
+    writer.set_strips(&[b"STRIP"], In::THUMBNAIL)?;
+    fails_at_each_call(&rt, &mut writer, false, images::STRIP);
+    fails_at_each_call(&rt, &mut writer, true, images::STRIP_LITTLE);
+    Ok(())
+}
+
+#[test]
+fn three_strips(rt: HostRuntime) -> Result<(), Fail> {
     let alloc = rt.alloc();
     let tif = description(alloc, In::PRIMARY, b"tif")?;
     let strips: [&[u8]; 3] = [b"STR", b"", b"IP"];
     let mut writer = Writer::new(alloc);
     writer.push_field(&tif)?;
     writer.set_strips(&strips, In::THUMBNAIL)?;
-    fails_at_each_call(&rt, &mut writer, false)?;
-    fails_at_each_call(&rt, &mut writer, true)
+    fails_at_each_call(&rt, &mut writer, false, images::THREE_STRIPS_BIG);
+    fails_at_each_call(&rt, &mut writer, true, images::THREE_STRIPS_LITTLE);
+    Ok(())
 }

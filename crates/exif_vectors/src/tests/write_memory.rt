@@ -1,10 +1,15 @@
 //! What a writer does where memory is refused: all of it, or what is behind some request.
+//! `shortage` says which allocator these tests need.
 
 use super::shortage::{Outcome, in_turn, take_most, take_rest};
+use super::support::{kind_of, reason};
 use super::written::{description, field, four_fields, is_image, push_all};
-use crate::files;
+use crate::{files, images};
 use exif::experimental::Writer;
-use exif::{Counted, Error, Field, In, Tag, Value};
+use exif::{Counted, Error, Exif, Field, In, Reader, Tag, Value};
+use exif_report::scrub;
+use std::alloc::Global;
+use std::io::ErrorKind;
 use std::process::Abort;
 use std::test::Fail;
 
@@ -29,6 +34,29 @@ fn writing_wants_memory(rt: HostRuntime) -> Result<(), Fail> {
     push_all(&mut writer, fields.as_slice())?;
     writer.set_jpeg(b"JPEG", In::THUMBNAIL)?;
     let wants = in_turn(&rt, || writing(&mut writer, files::EVERY_DIRECTORY))?;
+    assert!(rt; wants > 0);
+    Ok(())
+}
+
+// What scrubbing comes to that is to send these bytes. Where it wants memory, nothing was sent.
+fn scrubbing(alloc: Global, exif: &Exif, bytes: &[u8]) -> Outcome {
+    let mut room = [0u8; 256];
+    let mut out = Counted::new(&mut room[..]);
+    let answer = scrub(alloc, exif, &mut out, false);
+    let length = 256usize.saturating_sub(out.into_inner().len());
+    match answer {
+        Ok(()) => Outcome::answered(&room[..length] == bytes),
+        Err(Error::OutOfMemory) if length == 0 => Outcome::Wants,
+        Err(_error) => Outcome::Wrong,
+    }
+}
+
+#[test]
+fn scrubbing_wants_memory(rt: HostRuntime) -> Result<(), Fail> {
+    let alloc = rt.alloc();
+    let data = Vec::from_slice(alloc, files::EVERY_DIRECTORY)?;
+    let exif = Reader::new().read_raw(alloc, data)?;
+    let wants = in_turn(&rt, || scrubbing(alloc, &exif, images::SCRUBBED_BIG))?;
     assert!(rt; wants > 0);
     Ok(())
 }
@@ -73,15 +101,6 @@ fn refused_changes_leave_the_writer(rt: HostRuntime) -> Result<(), Fail> {
     Ok(())
 }
 
-// The text of a refusal.
-fn reason(answer: &Result<(), Error>) -> Option<&'static str> {
-    match answer {
-        Err(Error::InvalidFormat(text)) => Some(*text),
-        Err(Error::NotSupported(text)) => Some(*text),
-        _ => None,
-    }
-}
-
 // Whether with all memory refused a write is refused for a reason.
 fn is_refused(
     rt: &(impl Abort + AllocGlobal),
@@ -114,5 +133,28 @@ fn empty_directories_are_refused_without_memory(rt: HostRuntime) -> Result<(), F
     let mut writer = Writer::new(rt.alloc());
     writer.set_jpeg(b"JPEG", In::THUMBNAIL)?;
     assert!(rt; is_refused(&rt, &mut writer, "IFD must not be empty")?);
+    Ok(())
+}
+
+// The directory of a strip of 40,000 bytes.
+const LONG_STRIP: &[u8] =
+    b"MM\0*\0\0\0\x08\0\x02\x01\x11\0\x04\0\0\0\x01\0\0\0\x26\x01\x17\0\x04\0\0\0\x01\0\0\x9c\x40\0\0\0\0";
+
+#[test]
+fn a_writer_over_memory_fails_where_its_memory_does(rt: HostRuntime) -> Result<(), Fail> {
+    let alloc = rt.alloc();
+    let mut strip = Vec::new(alloc);
+    strip.resize(40_000, b' ')?;
+    let strips: [&[u8]; 1] = [strip.as_slice()];
+    let mut writer = Writer::new(alloc);
+    writer.set_strips(&strips, In::PRIMARY)?;
+    let mut out = Counted::new(Vec::new(alloc));
+    let most = take_most(alloc)?;
+    let rest = take_rest(alloc, 8192)?;
+    let answer = writer.write(&mut out, false);
+    drop(rest);
+    drop(most);
+    assert_eq!(rt; kind_of(&answer), Some(ErrorKind::OutOfMemory));
+    assert_eq!(rt; out.into_inner().as_slice(), LONG_STRIP);
     Ok(())
 }
