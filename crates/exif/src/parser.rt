@@ -170,7 +170,8 @@ impl Parser {
         requires small { length bytes.now < 2 ^ 32 }
         requires whole { at + 12 ≤ length bytes.now }
         ensures { Follows result self.new
-            (run (entry_nodes (directory_nodes (depth_of context - 1) E.number_of bytes.now ifd_num.0)
+            (run (entry_nodes
+            (directory_nodes (depth_of context - 1) E.number_of bytes.now ifd_num.0)
             E.number_of bytes.now context ifd_num.0 at) self.old) }
     {
         self.visit()?;

@@ -168,8 +168,12 @@ IsAText within bytes base e text = extent_bytes within bytes base e ≡ Ok text 
 
 -- ---- an item: the texts of its extents, one after the other
 
+-- what each extent gives: its bytes, or a refusal
+abbrev pub ExtentBytes : Type 0
+ExtentBytes = Extent → Result (List ℕ) Refusal
+
 -- each extent is this text
-abbrev pub AreTexts : (Extent → Result (List ℕ) Refusal) → List Extent → List (List ℕ) → Type 0
+abbrev pub AreTexts : ExtentBytes → List Extent → List (List ℕ) → Type 0
 AreTexts bytes_of [] [] = ⊤
 AreTexts bytes_of (e ∷ es) (text ∷ texts) = (bytes_of e ≡ Ok text) × AreTexts bytes_of es texts
 AreTexts bytes_of es texts = ⊥
@@ -178,10 +182,10 @@ abbrev pub joined_texts : List (List ℕ) → List ℕ
 joined_texts texts = flat_map (λ text. text) texts
 
 -- texts of at most 65,535 bytes together are the item
-abbrev pub ItemIsJoined : (Extent → Result (List ℕ) Refusal) → List Extent → List (List ℕ) → Type 0
+abbrev pub ItemIsJoined : ExtentBytes → List Extent → List (List ℕ) → Type 0
 ItemIsJoined bytes_of es texts = AreTexts bytes_of es texts → length (joined_texts texts) ≤ 65535 → gathered bytes_of [] es ≡ Ok (joined_texts texts)
 
 -- an item that is read is its extents' texts
-abbrev pub IsAnItem : (Extent → Result (List ℕ) Refusal) → List Extent → List ℕ → Type 0
+abbrev pub IsAnItem : ExtentBytes → List Extent → List ℕ → Type 0
 IsAnItem bytes_of es item =
     gathered bytes_of [] es ≡ Ok item → (texts : List (List ℕ)) × AreTexts bytes_of es texts × (length (joined_texts texts) ≤ 65535) × (joined_texts texts ≡ item)

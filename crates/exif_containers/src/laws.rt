@@ -1,7 +1,6 @@
 //! Laws of the containers: what is answered by computing is what the trees of the grammars say.
 
-ghost use Rattle.std.specs.Prelude.{ℕ, List, Result};
-ghost use Rattle.exif_types.specs.Refusals.{Refusal};
+ghost use Rattle.std.specs.Prelude.{ℕ, List};
 ghost use Rattle.exif_containers.specs.declared.isobmff.extents.Within.{Within};
 ghost use Rattle.exif_containers.specs.declared.isobmff.locations.Extent.{Extent};
 ghost use Rattle.exif_containers.specs.BoxGrammar.{BoxIsRead, BoxTree, CountIsRead, Counted, CountedAreRead, IsABox, IsACount, IsAParent, Parent, ParentIsRead};
@@ -10,7 +9,7 @@ ghost use Rattle.exif_containers.specs.Container.{TiffIsWhole};
 ghost use Rattle.exif_containers.specs.FileGrammar.{BrandsAreChecked, BrandsTree, FileBoxesAreRead, FrontTree, IsABrands, IsAFront, MetaIsFound};
 ghost use Rattle.exif_containers.specs.ItemGrammar.{BlockIsRead, BlockTree, EntryIsRead, EntryTree, InfoIsRead, InfoTree, IsABlock, IsAnEntry, IsAnInfo};
 ghost use Rattle.exif_containers.specs.JpegGrammar.{IsAStream, Stream, StreamIsAnswered};
-ghost use Rattle.exif_containers.specs.PlaceGrammar.{IsAPlaces, IsAText, IsAnItem, ItemIsJoined, PlacesAreRead, PlacesTree, TextIsRead};
+ghost use Rattle.exif_containers.specs.PlaceGrammar.{ExtentBytes, IsAPlaces, IsAText, IsAnItem, ItemIsJoined, PlacesAreRead, PlacesTree, TextIsRead};
 ghost use Rattle.exif_containers.specs.Places.{Place};
 ghost use Rattle.exif_containers.specs.WebpGrammar.{FileIsAnswered, IsAFile, WebpFile};
 
@@ -92,7 +91,8 @@ pub fn files_up_to_meta()
 /// is read is that of such a tree.
 pub fn item_locations_are_read()
     ensures read { (wanted : ℕ) (t : PlacesTree) → PlacesAreRead wanted t }
-    ensures only { (wanted : ℕ) (body : List ℕ) (places : List Place) → IsAPlaces wanted body places }
+    ensures only { (wanted : ℕ) (body : List ℕ) (places : List Place)
+        → IsAPlaces wanted body places }
 {}
 
 /// An extent is read as the text that stands at its place, in the file or beside the items, and what is
@@ -106,8 +106,8 @@ pub fn extents_are_texts()
 
 /// An item is the texts of its extents, one after the other, where they are at most 65,535 bytes together.
 pub fn items_are_joined()
-    ensures joined { (bytes_of : Extent → Result (List ℕ) Refusal) (es : List Extent) (texts : List (List ℕ))
+    ensures joined { (bytes_of : ExtentBytes) (es : List Extent) (texts : List (List ℕ))
         → ItemIsJoined bytes_of es texts }
-    ensures only { (bytes_of : Extent → Result (List ℕ) Refusal) (es : List Extent) (item : List ℕ)
+    ensures only { (bytes_of : ExtentBytes) (es : List Extent) (item : List ℕ)
         → IsAnItem bytes_of es item }
 {}

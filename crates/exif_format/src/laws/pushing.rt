@@ -11,8 +11,10 @@ ghost use Rattle.exif_format.specs.Pushing.{PushesPlainTexts, PushesRanged, Push
 pub fn pushing_keeps()
     ensures plain { (fields : List Field) (groups : List Group) → PushesPlainTexts fields groups }
     ensures ranged { (fields : List Field) (groups : List Group) → PushesRanged fields groups }
-    ensures few { (n : ℕ) (fields : List Field) (groups : List Group) → PushesFew n fields groups }
-    ensures no_blocks { (fields : List Field) (groups : List Group) → PushesNoBlocks fields groups }
+    ensures few { (n : ℕ) (fields : List Field) (groups : List Group)
+        → PushesFew n fields groups }
+    ensures no_blocks { (fields : List Field) (groups : List Group)
+        → PushesNoBlocks fields groups }
     ensures nothing_set { (from groups : List Group) → SetsNothing from groups }
 {}
 

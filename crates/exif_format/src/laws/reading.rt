@@ -18,7 +18,8 @@ pub fn strict_gives_the_first_fault()
 pub fn reading_is_bounded()
     ensures visits { (bytes : List ℕ) → VisitsAreBounded bytes }
     ensures reports { (bytes : List ℕ) → ReportsAreBounded bytes }
-    ensures any_limit { (limit : Option ℕ) (bytes : List ℕ) → ReportsAreBoundedUnder limit bytes }
+    ensures any_limit { (limit : Option ℕ) (bytes : List ℕ)
+        → ReportsAreBoundedUnder limit bytes }
     ensures limited { (n : ℕ) (bytes : List ℕ) → LimitBoundsReports n bytes }
     ensures least { (n : ℕ) (bytes : List ℕ) → LimitAndLengthBoundReports n bytes }
 {}
