@@ -1,3 +1,3 @@
 //! What may still change from one version to the next.
 
-pub use crate::writer::Writer;
+pub use exif_writer::Writer;

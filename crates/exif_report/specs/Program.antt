@@ -5,8 +5,8 @@ use Rattle.std.specs.Io.KnownBytes.{Appends, Keeps}
 use Rattle.exif_base.specs.Sent.{SendsFront}
 use Rattle.exif_types.specs.Failures.{Failure, error_text}
 use Rattle.exif_types.specs.Refusals.{is_io}
-use Rattle.exif_format.specs.Answers.{raw_answer}
-use Rattle.exif.specs.Files.{file_answer}
+use Rattle.exif_tiff.specs.Answers.{raw_answer}
+use Rattle.exif_reader.specs.Files.{file_answer}
 use Rattle.exif_report.specs.Reports.{Reports, ReportsSome, CountsBoth}
 
 -- whether to pass over faults, and which word is the file's path

@@ -8,11 +8,11 @@ use Rattle.exif_base.specs.Sent.{SendsFront}
 use Rattle.exif_types.specs.Contents.{ExifContents}
 use Rattle.exif_types.specs.Failures.{Failure, told_text, bytes_of}
 use Rattle.exif_types.specs.Refusals.{Refusal, refusal_of, IsInterrupted, ◌>>=◌}
-use Rattle.exif_format.specs.Answers.{Answer, Refused, Whole, Partial}
-use Rattle.exif_format.specs.Faults.{text_of}
-use Rattle.exif_format.specs.declared.fault.Fault.{Fault}
+use Rattle.exif_tiff.specs.Answers.{Answer, Refused, Whole, Partial}
+use Rattle.exif_tiff.specs.Faults.{text_of}
+use Rattle.exif_tiff.specs.declared.fault.Fault.{Fault}
 use Rattle.exif_containers.specs.Container.{container_refusals}
-use Rattle.exif.specs.Files.{IsRefusal, IsDataRefusal}
+use Rattle.exif_reader.specs.Files.{IsRefusal, IsDataRefusal}
 use Rattle.exif_report.specs.Lines.{field_line, fault_line}
 
 -- a line for each field, and then one for each fault

@@ -7,8 +7,8 @@ ghost use Rattle.exif_base.specs.Device.{count_after};
 ghost use Rattle.exif_base.specs.Sent.{SendsFront};
 ghost use Rattle.exif_types.specs.Failures.{IsInvalidFormat};
 ghost use Rattle.exif_types.specs.Refusals.{Refusal, is_io, is_io_error, IsInterrupted};
-ghost use Rattle.exif_format.specs.Answers.{Answer, raw_answer};
-ghost use Rattle.exif.specs.Files.{AnswersOwnData, ReadsContainer, file_answer};
+ghost use Rattle.exif_tiff.specs.Answers.{Answer, raw_answer};
+ghost use Rattle.exif_reader.specs.Files.{AnswersOwnData, ReadsContainer, file_answer};
 ghost use Rattle.exif_report.specs.Lines.{field_line, error_line};
 ghost use Rattle.exif_report.specs.Reports.{Finds, FindsOwn, Reports, ReportsSome, CountsBoth, given_by};
 

@@ -5,16 +5,16 @@ ghost use Rattle.std.specs.Io.KnownBytes.{Appends, Keeps};
 ghost use Rattle.exif_base.specs.Device.{count_after};
 ghost use Rattle.exif_base.specs.Sent.{SendsFront};
 ghost use Rattle.exif_types.specs.Refusals.{IsInterrupted, is_io, is_io_error, refusal_of};
-ghost use Rattle.exif_format.specs.Image.{image};
-ghost use Rattle.exif_format.specs.Refused.{write_fault};
-ghost use Rattle.exif_format.specs.Rewriting.{pushed_all};
-ghost use Rattle.exif_format.specs.Scrubbing.{is_kept, kept, scrubbed, IsScrubbed, LeavesKept};
-ghost use Rattle.exif_format.specs.WriteFaults.{write_refusal};
-ghost use Rattle.exif.specs.WriterViews.{written_order};
+ghost use Rattle.exif_writer.specs.Image.{image};
+ghost use Rattle.exif_writer.specs.Refused.{write_fault};
+ghost use Rattle.exif_writer.specs.Rewriting.{pushed_all};
+ghost use Rattle.exif_writer.specs.Scrubbing.{is_kept, kept, scrubbed, IsScrubbed, LeavesKept};
+ghost use Rattle.exif_writer.specs.WriteFaults.{write_refusal};
+ghost use Rattle.exif_writer.specs.Views.{written_order};
 
 use exif::experimental::Writer;
+use exif::laws::scrubbing_twice_is_once;
 use exif::{Context, Error, Exif, Field, Sink, Value};
-use exif_format::laws::scrubbing_twice_is_once;
 use std::alloc::Global;
 
 // Whether a field is written again: its type is known, and it says nothing of the place.

@@ -1,5 +1,5 @@
 use Rattle.std.proofs.lemmas.Result.{err_from_is_err_and}
-use Rattle.exif_format.specs.Answers.{raw_answer}
+use Rattle.exif_tiff.specs.Answers.{raw_answer}
 use Rattle.exif_report.proofs.reporting.read.Goals as goal
 
 pub returns-in_err-found-clause-own : goal.returns-in_err-found-clause-own

@@ -1,7 +1,7 @@
 use Rattle.std.proofs.Common.{rules}
 use Rattle.std.proofs.lemmas.Result.{err_from_is_err_and}
-use Rattle.exif.specs.Files.{file_answer}
-use Rattle.exif_format.specs.Answers.{raw_answer}
+use Rattle.exif_reader.specs.Files.{file_answer}
+use Rattle.exif_tiff.specs.Answers.{raw_answer}
 use Rattle.exif_report.proofs.Findings.{reports_whole, reports_front, reports_none, some_whole, some_front, some_none}
 use Rattle.exif_report.proofs.reporting.report_by.Goals as goal
 

@@ -1,11 +1,11 @@
 use Rattle.std.proofs.Common.{◌≡◌, ◌∙◌, List, None, Result, Ok, Err, OnOk, ap, subst}
 use Rattle.exif_types.specs.Failures.{Failure}
-use Rattle.exif_format.specs.Groups.{Group}
-use Rattle.exif_format.specs.Ranged.{AreRanged}
-use Rattle.exif_format.specs.Refused.{write_fault}
-use Rattle.exif_format.specs.Rewriting.{pushed_all}
-use Rattle.exif_format.specs.Scrubbing.{kept, scrubbed, IsScrubbed}
-use Rattle.exif.specs.WriterViews.{written_order}
+use Rattle.exif_writer.specs.Groups.{Group}
+use Rattle.exif_writer.specs.Ranged.{AreRanged}
+use Rattle.exif_writer.specs.Refused.{write_fault}
+use Rattle.exif_writer.specs.Rewriting.{pushed_all}
+use Rattle.exif_writer.specs.Scrubbing.{kept, scrubbed, IsScrubbed}
+use Rattle.exif_writer.specs.Views.{written_order}
 use Rattle.exif_report.proofs.Findings.{on_err}
 use Rattle.exif_report.proofs.Sent.{keeps_same, front_none}
 use Rattle.exif_report.proofs.scrubbing.scrub.Goals as goal

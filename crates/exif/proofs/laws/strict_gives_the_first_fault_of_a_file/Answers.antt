@@ -1,5 +1,0 @@
-use Rattle.exif.proofs.FileLaws.{first_fault_of_file}
-use Rattle.exif.proofs.laws.strict_gives_the_first_fault_of_a_file.Goals as goal
-
-pub returns : goal.returns
-returns c limit bytes = first_fault_of_file limit bytes (c.strict_gives_the_first_fault.ensures limit)

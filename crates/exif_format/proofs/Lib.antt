@@ -1,9 +1,0 @@
-pub mod AnswerFields
-pub mod FirstFault
-pub mod Images
-pub mod LimitBound
-pub mod Limits
-pub mod ReadFields
-pub mod ReportBound
-pub mod SoftFaults
-pub mod VisitBound

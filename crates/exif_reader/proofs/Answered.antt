@@ -1,0 +1,36 @@
+-- A parser's answer is that of the definitions.
+use Rattle.std.proofs.Common.{◌≡◌, ℕ, Bool, List, [], Option, Some, Ok, Err, refl, sym, ap, ◌∙◌}
+use Rattle.exif_base.specs.Orders.{number_of}
+use Rattle.exif_base.specs.Bytes.{Reading, number_at}
+use Rattle.exif_base.specs.declared.endian.Order.{Order}
+use Rattle.exif_tiff.specs.declared.fault.Fault.{Fault}
+use Rattle.exif_tiff.specs.Trace.{content_of, limited, cut, header, ordered_trace, chain_nodes}
+use Rattle.exif_tiff.specs.Answers.{Answer, Refused, answer_of, raw_answer}
+use Rattle.exif_reader.specs.Running.{Progress, on_met, run, outcome}
+use Rattle.exif_reader.specs.Results.{Says}
+use Rattle.exif_reader.specs.Stops.{Follows}
+use Rattle.exif_reader.specs.declared.stop.Stop.{Stop}
+use Rattle.exif_reader.specs.declared.stop.Stop.TheVariants as stop
+use Rattle.exif_reader.proofs.Outcomes.{outcome_run, met_refused}
+
+-- a header that is right leads to the directories
+pub raw_right : (lenient : Bool) (limit : Option ℕ) (bytes : List ℕ) (order : Order) → header bytes ≡ Ok order → raw_answer lenient limit bytes ≡ answer_of lenient (content_of (limited limit (ordered_trace (number_of order) bytes)))
+unfolding raw_answer
+raw_right lenient limit bytes order e = rw (e, raw_answer) refl
+
+-- a wrong one is refused
+pub raw_wrong : (lenient : Bool) (limit : Option ℕ) (bytes : List ℕ) (fault : Fault) → header bytes ≡ Err fault → raw_answer lenient limit bytes ≡ Refused fault
+unfolding raw_answer
+raw_wrong lenient limit bytes fault e = rw (e, raw_answer) refl
+
+-- what running the chain comes to is the answer
+pub answered : (number : Reading) (bytes : List ℕ) (lenient : Bool) (most : ℕ) (start : Progress) (x : Progress × Option Fault) → start ≡ record { lenient = lenient; left = most; fields = []; faults = [] } → run (chain_nodes 8 number bytes 0 (number_at number 4 bytes 4)) start ≡ x → answer_of lenient (content_of (cut most (ordered_trace number bytes))) ≡ outcome x
+unfolding ordered_trace
+answered number bytes lenient most start x s e =
+    sym (outcome_run (chain_nodes 8 number bytes 0 (number_at number 4 bytes 4)) lenient most)
+    ∙ (ap (λ (p : Progress). outcome (run (chain_nodes 8 number bytes 0 (number_at number 4 bytes 4)) p)) (sym s) ∙ ap (λ (y : Progress × Option Fault). outcome y) e)
+
+-- where noting a fault stops, it is a refusal
+pub says_stop : (e : Stop) (p q : Progress) (fault : Fault) (answer : Answer) → answer ≡ outcome (p, Some fault) → Follows (Err e) q (on_met p fault) → Says (Err e) answer
+says_stop stop.Memory p q fault answer a f = tt
+says_stop (stop.Fault other) p q fault answer a f = a ∙ met_refused p q fault other f

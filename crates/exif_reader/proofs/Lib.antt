@@ -1,0 +1,9 @@
+pub mod Answered
+pub mod Bounded
+pub mod FileLaws
+pub mod FollowSteps
+pub mod Outcomes
+pub mod Owned
+pub mod RunSteps
+pub mod Turns
+pub mod Unlimited

@@ -1,0 +1,29 @@
+use Rattle.std.proofs.Common.{◌∙◌, Some, None, ◌≡◌}
+use Rattle.std.proofs.lemmas.Result.{err_from_is_err_and}
+use Rattle.exif_tiff.specs.Trace.{content_of, cut, ordered_trace}
+use Rattle.exif_tiff.specs.Answers.{answer_of}
+use Rattle.exif_reader.specs.Running.{outcome}
+use Rattle.exif_reader.proofs.Answered.{answered, says_stop}
+use Rattle.exif_reader.proofs.Outcomes.{met_noted}
+use Rattle.exif_reader.proofs.tiff.parse_in.Goals as goal
+use Rattle.exif_reader.proofs.tiff.parse_in.Goals.{in-Ok, in-Err-Fault+in_ok-met-in-Err-Fault}
+
+pub returns-in_err-met-in-Err-Fault-clause-says : goal.returns-in_err-met-in-Err-Fault-clause-says
+returns-in_err-met-in-Err-Fault-clause-says g c =
+    let p = err_from_is_err_and c.from_residual.result c.from_residual.ensures.1 in
+    rw (p.1, p.2) (says_stop c.in_err-met-in-Err-Fault.field-0.0 c.chain.new.self c.met.new.self c.in-Err-Fault.fault (answer_of c.args.lenient (content_of (cut c.args.most (ordered_trace g.E.Endian.number_of c.args.bytes.now))))
+    (answered g.E.Endian.number_of c.args.bytes.now c.args.lenient c.args.most c.new-parser.result (c.chain.new.self, Some c.in-Err-Fault.fault) c.new-parser.ensures (rw c.loadu32.ensures at (rw c.in-Err-Fault.field-0-is at c.in-Err-Fault.ensures.follows)))
+    c.in_err-met-in-Err-Fault.ensures)
+
+pub returns-clause-says : goal.returns-clause-says
+returns-clause-says g c =
+    let answer = answer_of c.args.lenient (content_of (cut c.args.most (ordered_trace g.E.Endian.number_of c.args.bytes.now))) in
+    let parser : answer ≡ outcome (c.match-chain.parser, None) = elim c.match-chain.branch [
+      | in-Ok w ↦
+          rw w.parser-is (answered g.E.Endian.number_of c.args.bytes.now c.args.lenient c.args.most c.new-parser.result (c.chain.new.self, None) c.new-parser.ensures (rw c.loadu32.ensures at w.in-Ok.ensures.follows))
+      | in-Err-Fault+in_ok-met-in-Err-Fault w ↦
+          rw w.parser-is
+          (answered g.E.Endian.number_of c.args.bytes.now c.args.lenient c.args.most c.new-parser.result (c.chain.new.self, Some w.in-Err-Fault.fault) c.new-parser.ensures (rw c.loadu32.ensures at (rw w.in-Err-Fault.field-0-is at w.in-Err-Fault.ensures.follows))
+          ∙ met_noted c.chain.new.self w.met.new.self w.in-Err-Fault.fault w.in_ok-met-in-Err-Fault.ensures)
+    ] in
+    rw (c.into_parts-fields.ensures.fields, c.into_parts-fields.ensures.faults) parser

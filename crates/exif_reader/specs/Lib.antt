@@ -1,0 +1,7 @@
+pub mod Bounds
+pub mod Files
+pub mod Readings
+pub mod Results
+pub mod Running
+pub mod StopErrors
+pub mod Stops

@@ -1,0 +1,24 @@
+-- How a result of the code says an answer.
+use Rattle.std.specs.Prelude.{◌≡◌, ℕ, if◌then◌else◌, List, Result, Ok, Err, IsOk}
+use Rattle.exif_base.specs.declared.endian.Order.TheVariants.{Big, Little}
+use Rattle.exif_tiff.specs.Trace.{header}
+use Rattle.exif_tiff.specs.Answers.{Answer, Refused, shown}
+use Rattle.exif_reader.specs.declared.stop.Stop.{Stop}
+use Rattle.exif_reader.specs.declared.stop.Stop.TheVariants as stop
+use Rattle.exif_reader.specs.declared.tiff.Parsed.{Parsed}
+
+-- the parsed data or a fault say the answer; want of memory says nothing
+abbrev pub Says : Result Parsed Stop → Answer → Type 0
+Says (Ok parsed) answer = answer ≡ shown parsed.fields.items parsed.faults.items
+Says (Err (stop.Fault fault)) answer = answer ≡ Refused fault
+Says (Err stop.Memory) answer = Unit {0}
+
+-- memory is wanted only behind a right header
+abbrev pub WantsMemory : Result Parsed Stop → List ℕ → Type 0
+WantsMemory (Err stop.Memory) bytes = IsOk (header bytes)
+WantsMemory _ bytes = Unit {0}
+
+-- the order of the data
+abbrev pub SaysOrder : Result Parsed Stop → List ℕ → Type 0
+SaysOrder (Ok parsed) bytes = header bytes ≡ Ok (if parsed.little_endian then Little else Big)
+SaysOrder _ bytes = Unit {0}

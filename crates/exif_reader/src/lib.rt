@@ -1,0 +1,14 @@
+//! Pictures read into fields and faults: the header, the walk of the directories, and files of each
+//! container.
+#![tactic(auto)]
+
+mod bytes;
+mod directory;
+pub mod laws;
+mod parser;
+mod reader;
+mod stop;
+mod tiff;
+
+pub use reader::Reader;
+pub use tiff::parse_exif;

@@ -1,0 +1,217 @@
+//! The parser of directories: one pass over the data, strict or lenient.
+
+ghost use Rattle.std.specs.Prelude.{◌≡◌, ◌≤◌, ◌<◌, ◌+◌, ◌^◌, ◌-◌, length, []};
+ghost use Rattle.exif_tiff.specs.Trace.{directory_nodes, entry_nodes, pointer_nodes, chain_nodes, depth_of};
+ghost use Rattle.exif_reader.specs.Running.{run, on_visit, on_found, on_met};
+ghost use Rattle.exif_reader.specs.Stops.{Follows, CountsTurns};
+
+use crate::directory::{child_of, directory_end, entry_value, whole_entries};
+use crate::stop::Stop;
+use exif_base::Endian;
+use exif_tiff::Fault;
+use exif_types::{Context, Field, In, Tag};
+use std::alloc::Global;
+use std::marker::Model;
+
+/// A parser of directories, with what it has read, and how many entries it may still visit.
+#[derive(Drop)]
+pub struct Parser {
+    lenient: bool,
+    left: u64,
+    fields: Vec<Field>,
+    faults: Vec<Fault>,
+}
+
+impl Model for Parser {
+    ghost use Rattle.exif_reader.specs.Running.{Progress};
+
+    ghost Value = { Progress };
+
+    ghost view = { λ p. record { lenient = p.lenient; left = p.left; fields = p.fields.items; faults = p.faults.items } };
+}
+
+impl Parser {
+    /// A parser that has read nothing.
+    pub fn new(alloc: Global, lenient: bool, left: u64) -> Parser
+        ensures { result ≡ record { lenient = lenient; left = left; fields = []; faults = [] } }
+    {
+        Parser {
+            lenient,
+            left,
+            fields: Vec::new(alloc),
+            faults: Vec::new(alloc),
+        }
+    }
+
+    /// The fields and the faults, in their order.
+    pub fn into_parts(self) -> (Vec<Field>, Vec<Fault>)
+        ensures fields { result.0.items ≡ self.fields }
+        ensures faults { result.1.items ≡ self.faults }
+    {
+        let Parser {
+            lenient: _,
+            left: _,
+            fields,
+            faults,
+        } = self;
+        (fields, faults)
+    }
+
+    // Counts an entry.
+    fn visit(&mut self) -> Result<(), Stop>
+        ensures { Follows result self.new (on_visit self.old) }
+    {
+        if self.left == 0 {
+            return Err(Stop::Fault(Fault::TooManyEntries));
+        }
+        self.left -= 1;
+        Ok(())
+    }
+
+    // Keeps a field.
+    fn found(&mut self, field: Field) -> Result<(), Stop>
+        ensures { Follows result self.new (on_found self.old field) }
+    {
+        self.fields.push(field)?;
+        Ok(())
+    }
+
+    /// Notes a fault, or stops at it where the parser is strict.
+    pub fn met(&mut self, fault: Fault) -> Result<(), Stop>
+        ensures { Follows result self.new (on_met self.old fault) }
+    {
+        if !self.lenient {
+            return Err(Stop::Fault(fault));
+        }
+        self.faults.push(fault)?;
+        Ok(())
+    }
+
+    /// Reads the chain of directories from a place on, each entry in one turn.
+    #[tactic(auto, using(crate::proofs::Turns::counts_turns))]
+    pub fn chain<E: Endian>(
+        &mut self,
+        alloc: Global,
+        bytes: &[u8],
+        limit: u16,
+        first: u32,
+    ) -> Result<(), Stop>
+        requires { length bytes.now < 2 ^ 32 }
+        ensures follows { Follows result self.new
+            (run (chain_nodes limit E.number_of bytes.now 0 first) self.old) }
+        ensures turns { CountsTurns result self.old self.new
+            (chain_nodes limit E.number_of bytes.now 0 first) }
+    {
+        self.directories::<E>(alloc, bytes, limit, first)
+    }
+
+    // Reads each directory of the chain with its end.
+    fn directories<E: Endian>(
+        &mut self,
+        alloc: Global,
+        bytes: &[u8],
+        limit: u16,
+        first: u32,
+    ) -> Result<(), Stop>
+        requires { length bytes.now < 2 ^ 32 }
+        ensures { Follows result self.new
+            (run (chain_nodes limit E.number_of bytes.now 0 first) self.old) }
+    {
+        let mut place = first;
+        for number in 0..limit {
+            if place == 0 {
+                return Ok(());
+            }
+            self.directory::<E>(alloc, bytes, Context::Tiff, In(number), place)?;
+            match directory_end::<E>(bytes, place) {
+                Ok(next) => place = next,
+                Err(fault) => return self.met(fault),
+            }
+        }
+        if place == 0 {
+            return Ok(());
+        }
+        self.met(Fault::TooManyDirectories)
+    }
+
+    // Reads the directory at a place with its children.
+    #[cycle(nodes)]
+    fn directory<E: Endian>(
+        &mut self,
+        alloc: Global,
+        bytes: &[u8],
+        context: Context,
+        ifd_num: In,
+        place: u32,
+    ) -> Result<(), Stop>
+        requires { length bytes.now < 2 ^ 32 }
+        ensures { Follows result self.new
+            (run (directory_nodes (depth_of context) E.number_of bytes.now ifd_num.0 context place)
+            self.old) }
+    {
+        let mut at = place as usize + 2;
+        for _ in 0..whole_entries::<E>(bytes, place) {
+            self.entry::<E>(alloc, bytes, context, ifd_num, at)?;
+            at += 12;
+        }
+        Ok(())
+    }
+
+    // Reads the entry at a place.
+    #[cycle(nodes)]
+    fn entry<E: Endian>(
+        &mut self,
+        alloc: Global,
+        bytes: &[u8],
+        context: Context,
+        ifd_num: In,
+        at: usize,
+    ) -> Result<(), Stop>
+        requires small { length bytes.now < 2 ^ 32 }
+        requires whole { at + 12 ≤ length bytes.now }
+        ensures { Follows result self.new
+            (run (entry_nodes
+            (directory_nodes (depth_of context - 1) E.number_of bytes.now ifd_num.0)
+            E.number_of bytes.now context ifd_num.0 at) self.old) }
+    {
+        self.visit()?;
+        let Some(value) = entry_value::<E>(alloc, bytes, at)? else {
+            return self.met(Fault::TruncatedValue);
+        };
+        let number = E::loadu16(bytes, at);
+        match child_of(context, number) {
+            Some(child) => self.pointer::<E>(alloc, bytes, child, ifd_num, value.get_uint(0)),
+            None => self.found(Field {
+                tag: Tag(context, number),
+                ifd_num,
+                value,
+            }),
+        }
+    }
+
+    // Reads the child that a pointer names.
+    #[cycle(nodes)]
+    fn pointer<E: Endian>(
+        &mut self,
+        alloc: Global,
+        bytes: &[u8],
+        child: Context,
+        ifd_num: In,
+        place: Option<u32>,
+    ) -> Result<(), Stop>
+        requires { length bytes.now < 2 ^ 32 }
+        ensures { Follows result self.new
+            (run (pointer_nodes (directory_nodes (depth_of child) E.number_of bytes.now ifd_num.0)
+            E.number_of bytes.now child place) self.old) }
+    {
+        let Some(place) = place else {
+            return self.met(Fault::InvalidPointer);
+        };
+        self.directory::<E>(alloc, bytes, child, ifd_num, place)?;
+        match directory_end::<E>(bytes, place) {
+            Ok(0) => Ok(()),
+            Ok(_) => self.met(Fault::UnexpectedNext),
+            Err(fault) => self.met(fault),
+        }
+    }
+}

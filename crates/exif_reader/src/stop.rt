@@ -1,0 +1,44 @@
+//! Why a parser stops.
+
+ghost use Rattle.std.specs.Prelude.{◌≡◌};
+ghost use Rattle.exif_reader.specs.declared.stop.Stop.TheVariants.{Memory};
+
+use exif_tiff::Fault;
+use exif_types::Error;
+use std::alloc::{AllocError, AllocFailed};
+
+/// Why a parser stops: there is no memory, or a fault ends the reading.
+#[derive(Clone, Copy, Debug)]
+pub enum Stop {
+    Memory,
+    Fault(Fault),
+}
+
+impl From<AllocError> for Stop {
+    ghost from_gives = { λ _ e. e ≡ Memory };
+
+    fn from(_e: AllocError) -> Stop {
+        Stop::Memory
+    }
+}
+
+impl<T: Drop> From<AllocFailed<T>> for Stop {
+    ghost from_gives = { λ _ e. e ≡ Memory };
+
+    fn from(_e: AllocFailed<T>) -> Stop {
+        Stop::Memory
+    }
+}
+
+impl From<Stop> for Error {
+    ghost use Rattle.exif_reader.specs.StopErrors.{Becomes};
+
+    ghost from_gives = { Becomes };
+
+    fn from(stop: Stop) -> Error {
+        match stop {
+            Stop::Memory => Error::OutOfMemory,
+            Stop::Fault(fault) => Error::from(fault),
+        }
+    }
+}

@@ -1,0 +1,9 @@
+pub mod AnswerFields
+pub mod FirstFault
+pub mod LimitBound
+pub mod Limits
+pub mod Members
+pub mod ReadFields
+pub mod ReportBound
+pub mod SoftFaults
+pub mod VisitBound

@@ -1,0 +1,180 @@
+-- The directories of TIFF data, as a list of what stands in them from first to last (TIFF 6.0, section 2; Exif 2.32, 4.6.3).
+use Rattle.std.specs.Prelude.{ℕ, zero, suc, ◌+◌, ◌-◌, ◌*◌, ◌/◌, ◌^◌, ◌==◌, ◌&&◌, true, false, if◌then◌else◌, nat_lt, nat_le, min, List, [], ◌∷◌, ◌++◌, length, slice_index, Option, Some, None, Result, Ok, Err}
+use Rattle.std.specs.List.{flat_map}
+use Rattle.exif_base.specs.Bytes.{Reading, number_at, spaced}
+use Rattle.exif_base.specs.Orders.{number_of}
+use Rattle.exif_types.specs.FieldTypes.{type_of, known_length}
+use Rattle.exif_types.specs.Decode.{decode}
+use Rattle.exif_types.specs.Numbers.{number_in}
+use Rattle.exif_types.specs.declared.value.Value.{Value}
+use Rattle.exif_types.specs.declared.tag.Context.{Context}
+use Rattle.exif_types.specs.declared.tag.Context.TheVariants.{Tiff, Exif, Gps, Interop}
+use Rattle.exif_types.specs.declared.field.Field.{Field}
+use Rattle.exif_tiff.specs.declared.fault.Fault.{Fault}
+use Rattle.exif_tiff.specs.declared.fault.Fault.TheVariants.{DataTooLarge, TruncatedHeader, InvalidByteOrder, InvalidFortyTwo, TruncatedCount, TruncatedDirectory, TruncatedNextOffset, TruncatedValue, InvalidPointer, UnexpectedNext, TooManyDirectories, TooManyEntries}
+use Rattle.exif_base.specs.declared.endian.Order.{Order}
+use Rattle.exif_base.specs.declared.endian.Order.TheVariants.{Big, Little}
+
+-- what stands in a trace: an entry is visited, a field is found, a fault is met
+pub data Node : Type 0 where
+  Visit : Node
+  Found : Field → Node
+  Met : Fault → Node
+
+-- what the entry at e holds, if its value lies in the data
+abbrev pub entry_value : Reading → List ℕ → ℕ → Option Value
+entry_value number bytes e =
+    let type = number_at number 2 bytes (e + 2) in
+    let count = number_at number 4 bytes (e + 4) in
+    let size = known_length (type_of type) * count in
+    let place = number_at number 4 bytes (e + 8) in
+    if nat_le size 4 then Some (decode number type count bytes (e + 8)) else
+    (if nat_le (place + size) (length bytes) then Some (decode number type count bytes place) else None)
+
+-- how many entries of the directory at p are whole
+abbrev pub whole_entries : Reading → List ℕ → ℕ → ℕ
+whole_entries number bytes p = min (number_at number 2 bytes p) ((length bytes - p - 2) / 12)
+
+-- where they stand
+abbrev pub entry_places : Reading → List ℕ → ℕ → List ℕ
+entry_places number bytes p = spaced (p + 2) 12 (whole_entries number bytes p)
+
+-- how the directory at p ends: with the place of the next one, or a fault
+abbrev pub directory_end : Reading → List ℕ → ℕ → Result ℕ Fault
+directory_end number bytes p =
+    let count = number_at number 2 bytes p in
+    if nat_lt (length bytes) (p + 2) then Err TruncatedCount else
+    (if nat_lt ((length bytes - p - 2) / 12) count then Err TruncatedDirectory else
+    (if nat_lt (length bytes) (p + 2 + 12 * count + 4) then Err TruncatedNextOffset else
+    Ok (number_at number 4 bytes (p + 2 + 12 * count))))
+
+-- the context of the directory that a tag points to
+abbrev pub child_of : Context → ℕ → Option Context
+child_of Tiff n = if n == 0x8769 then Some Exif else (if n == 0x8825 then Some Gps else None)
+child_of Exif n = if n == 0xa005 then Some Interop else None
+child_of Gps n = None
+child_of Interop n = None
+
+-- a child must be the last of its chain
+abbrev pub child_end : Result ℕ Fault → List Node
+child_end (Err fault) = Met fault ∷ []
+child_end (Ok next) = if next == 0 then [] else Met UnexpectedNext ∷ []
+
+-- what the directory of context c at place p holds
+abbrev pub Directory : Type 0
+Directory = Context → ℕ → List Node
+
+-- a pointer to q, if it names a place
+abbrev pub pointer_nodes : Directory → Reading → List ℕ → Context → Option ℕ → List Node
+pointer_nodes child number bytes c None = Met InvalidPointer ∷ []
+pointer_nodes child number bytes c (Some q) = child c q ++ child_end (directory_end number bytes q)
+
+-- a tag n with a value: a field, or a pointer where the tag has a child
+abbrev pub tagged_nodes : Directory → Reading → List ℕ → Context → ℕ → ℕ → Value → Option Context → List Node
+tagged_nodes child number bytes c k n v None =
+    Found (record { tag = record { 0 = c; 1 = n }; ifd_num = record { 0 = k }; value = v }) ∷ []
+tagged_nodes child number bytes c k n v (Some d) = pointer_nodes child number bytes d (number_in v 0)
+
+-- a tag n with its value, if that lies in the data
+abbrev pub valued_nodes : Directory → Reading → List ℕ → Context → ℕ → ℕ → Option Value → List Node
+valued_nodes child number bytes c k n None = Met TruncatedValue ∷ []
+valued_nodes child number bytes c k n (Some v) = tagged_nodes child number bytes c k n v (child_of c n)
+
+-- the entry at e of a directory of context c and number k
+abbrev pub entry_nodes : Directory → Reading → List ℕ → Context → ℕ → ℕ → List Node
+entry_nodes child number bytes c k e =
+    Visit ∷ valued_nodes child number bytes c k (number_at number 2 bytes e) (entry_value number bytes e)
+
+-- the directory at p, with its children down to a depth
+abbrev pub directory_nodes : ℕ → Reading → List ℕ → ℕ → Directory
+directory_nodes zero number bytes k c p = []
+directory_nodes (suc depth) number bytes k c p =
+    flat_map (entry_nodes (directory_nodes depth number bytes k) number bytes c k) (entry_places number bytes p)
+
+-- how deep directories of a context nest: Tiff, Exif, Interop or Tiff, Gps
+abbrev pub depth_of : Context → ℕ
+depth_of Tiff = 3
+depth_of Exif = 2
+depth_of Gps = 2
+depth_of Interop = 1
+
+-- what comes after a directory of a chain: a fault, or the rest of the chain
+abbrev pub chain_after : (ℕ → List Node) → Result ℕ Fault → List Node
+chain_after rest (Err fault) = Met fault ∷ []
+chain_after rest (Ok next) = rest next
+
+-- the chain from directory k at p on, for at most so many directories
+abbrev pub chain_nodes : ℕ → Reading → List ℕ → ℕ → ℕ → List Node
+chain_nodes zero number bytes k p = if p == 0 then [] else Met TooManyDirectories ∷ []
+chain_nodes (suc left) number bytes k p =
+    elim (p == 0) [
+      | true ↦ []
+      | false ↦ directory_nodes (depth_of Tiff) number bytes k Tiff p
+          ++ chain_after (chain_nodes left number bytes (k + 1)) (directory_end number bytes p)
+    ]
+
+-- the order that the data begin with, or what is wrong with their header
+abbrev pub order_of : List ℕ → Option Order
+order_of bytes =
+    if (slice_index bytes 0 == 0x4d) && (slice_index bytes 1 == 0x4d) then Some Big else
+    (if (slice_index bytes 0 == 0x49) && (slice_index bytes 1 == 0x49) then Some Little else None)
+
+abbrev pub header : List ℕ → Result Order Fault
+header bytes =
+    if nat_lt (2 ^ 32 - 1) (length bytes) then Err DataTooLarge else
+    (if nat_lt (length bytes) 8 then Err TruncatedHeader else
+    elim (order_of bytes) [
+      | None ↦ Err InvalidByteOrder
+      | Some order ↦ if number_at (number_of order) 2 bytes 2 == 42 then Ok order else Err InvalidFortyTwo
+    ])
+
+-- what stands in data with this order
+unfoldable pub ordered_trace : Reading → List ℕ → List Node
+ordered_trace number bytes = chain_nodes 8 number bytes 0 (number_at number 4 bytes 4)
+
+-- what stands in the data: nothing behind a wrong header
+unfoldable pub trace : List ℕ → List Node
+trace bytes = elim (header bytes) [ Ok order ↦ ordered_trace (number_of order) bytes | Err fault ↦ [] ]
+
+abbrev pub fields_of : List Node → List Field
+fields_of [] = []
+fields_of (Visit ∷ nodes) = fields_of nodes
+fields_of (Found field ∷ nodes) = field ∷ fields_of nodes
+fields_of (Met fault ∷ nodes) = fields_of nodes
+
+abbrev pub faults_of : List Node → List Fault
+faults_of [] = []
+faults_of (Visit ∷ nodes) = faults_of nodes
+faults_of (Found field ∷ nodes) = faults_of nodes
+faults_of (Met fault ∷ nodes) = fault ∷ faults_of nodes
+
+abbrev pub visits_of : List Node → ℕ
+visits_of [] = 0
+visits_of (Visit ∷ nodes) = visits_of nodes + 1
+visits_of (Found field ∷ nodes) = visits_of nodes
+visits_of (Met fault ∷ nodes) = visits_of nodes
+
+-- what was read: the fields and the faults, in order
+pub record Content : Type 0 where
+  pub fields : List Field
+  pub faults : List Fault
+
+abbrev pub content_of : List Node → Content
+content_of nodes = record { fields = fields_of nodes; faults = faults_of nodes }
+
+-- strict reading: all the fields, or the first fault
+abbrev pub strict_answer : Content → Result (List Field) Fault
+strict_answer content = elim content.faults [ [] ↦ Ok content.fields | fault ∷ faults ↦ Err fault ]
+
+-- the trace up to the entry after the first n, and the fault that ends it there
+abbrev pub cut : ℕ → List Node → List Node
+cut n [] = []
+cut zero (Visit ∷ nodes) = Met TooManyEntries ∷ []
+cut (suc n) (Visit ∷ nodes) = Visit ∷ cut n nodes
+cut n (Found field ∷ nodes) = Found field ∷ cut n nodes
+cut n (Met fault ∷ nodes) = Met fault ∷ cut n nodes
+
+-- the trace under a limit on the entries, if there is one
+abbrev pub limited : Option ℕ → List Node → List Node
+limited None nodes = nodes
+limited (Some n) nodes = cut n nodes

@@ -1,0 +1,9 @@
+//! Laws of TIFF data. They hold for all bytes, and speak of the definitions alone.
+
+pub mod answers;
+pub mod reading;
+
+pub use answers::answers_show_what_was_read;
+pub use reading::{
+    faults_are_hard_or_soft, limits_cut_readings, reading_is_bounded, strict_gives_the_first_fault,
+};

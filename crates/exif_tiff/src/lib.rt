@@ -1,0 +1,7 @@
+//! What TIFF data say: the definitions of reading, and the laws between them.
+#![tactic(auto)]
+
+pub mod fault;
+pub mod laws;
+
+pub use fault::Fault;

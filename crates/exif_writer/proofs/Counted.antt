@@ -1,0 +1,74 @@
+-- What is counted and measured of groups, and when numbers of 32 bits hold it.
+use Rattle.std.proofs.Common.{◌≡◌, ℕ, zero, suc, ◌+◌, ◌*◌, ◌<◌, ◌≤◌, List, [], ◌∷◌, length, take, get_or, refl, sym, ap, ◌∙◌, arith, Bool, true, false, Some, None}
+use Rattle.std.specs.Prelude.{if◌then◌else◌, nat_lt, ◌||◌, ◌==◌}
+use Rattle.std.proofs.lemmas.Bool.{ne_eqb}
+use Rattle.std.specs.List.{list_any}
+use denote.Ref.{Bor}
+use Rattle.exif_types.specs.declared.field.Field.{Field}
+use Rattle.exif_types.specs.declared.tag.Context.TheVariants.{Tiff, Exif, Gps, Interop}
+use Rattle.exif_writer.specs.declared.write_fault.WriteFault.TheVariants.{EmptyDirectory, TooManyFields, UnknownType}
+use Rattle.exif_writer.specs.Groups.{Group, pushed_in}
+use Rattle.exif_writer.specs.Counting.{entry_count, tiff_count}
+use Rattle.exif_writer.specs.Refused.{group_fault, any_unknown, any_over, contexts, is_unknown}
+use Rattle.exif_writer.proofs.Images.Counting.{count_is}
+use Rattle.exif_writer.specs.Views.{entries_in}
+use Rattle.exif_writer.specs.Sending.{sum_of, texts_of}
+use Rattle.exif_writer.specs.Places.{after_blocks}
+use Rattle.exif_writer.proofs.Running.{up_to, sum_append}
+
+-- a product is no less than its second factor
+pub count_low : (unit count : ℕ) → 1 ≤ unit → count ≤ unit * count
+count_low zero count h = absurd (omega arith)
+count_low (suc n) count h = omega arith
+
+-- where blocks end
+pub end_is_sum : (place : ℕ) (texts : List (Bor (List ℕ))) → after_blocks place (texts_of texts) ≡ place + sum_of texts
+end_is_sum place [] = omega arith
+end_is_sum place (text ∷ texts) = let e = end_is_sum (place + length text.now) texts in omega arith
+
+pub sum_more : (texts : List (Bor (List ℕ))) (i : ℕ) (x d : Bor (List ℕ)) → i < length texts → x ≡ get_or texts i d
+    → sum_of (take (i + 1) texts) ≡ sum_of (take i texts) + length x.now
+sum_more texts i x d h e =
+    let k : sum_of (take (i + 1) texts) ≡ sum_of (take i texts) + (length x.now + 0) = ap sum_of (up_to texts i x d h e) ∙ sum_append (take i texts) (x ∷ []) in
+    omega arith
+
+-- pushed fields with a value of an unknown type
+pub unknown_in : (fields : List (Bor Field)) → list_any (λ field. is_unknown field.now.value) fields ≡ any_unknown (entries_in fields)
+unknown_in [] = refl
+unknown_in (field ∷ fields) = ap (λ b. is_unknown field.now.value || b) (unknown_in fields)
+
+over_is : (group : Group) → list_any (λ context. nat_lt 65535 (entry_count group context)) contexts ≡ any_over group
+over_is group = λ i.
+    nat_lt 65535 ((sym (count_is group Tiff)) i) || (nat_lt 65535 ((sym (count_is group Exif)) i) || (nat_lt 65535 ((sym (count_is group Gps)) i) || (nat_lt 65535 ((sym (count_is group Interop)) i) || false)))
+
+-- the cause of a group, from its counts
+module _ (group : Group) where
+  is_over : Bool
+  is_over = list_any (λ context. nat_lt 65535 (entry_count group context)) contexts
+
+  has_unknown : Bool
+  has_unknown = list_any (λ context. any_unknown (pushed_in group context)) contexts
+
+  fault_is : (a b c : Bool) → (tiff_count group == 0) ≡ a → is_over ≡ b → has_unknown ≡ c
+      → (if a then Some EmptyDirectory else (if b then Some TooManyFields else (if c then Some UnknownType else None))) ≡ group_fault group
+  unfolding group_fault is_over has_unknown
+  fault_is a b c h k l =
+      (λ i. if (sym h) i then Some EmptyDirectory else (if (sym k) i then Some TooManyFields else (if (sym l) i then Some UnknownType else None)))
+      ∙ (λ i. if (sym (count_is group Tiff)) i == 0 then Some EmptyDirectory
+      else (if over_is group i then Some TooManyFields else (if list_any (λ context. any_unknown (pushed_in group context)) contexts then Some UnknownType else None)))
+
+  pub fault_empty : (n : ℕ) → n ≡ tiff_count group → n ≡ 0 → Some EmptyDirectory ≡ group_fault group
+  fault_empty n e z = fault_is true is_over has_unknown (ap (λ m. m == 0) (sym e ∙ z)) refl refl
+
+  some_count : (n : ℕ) → 0 < n → n == 0 ≡ false
+  some_count n h = ne_eqb n 0 (λ none. absurd (omega arith))
+
+  pub fault_over : (n : ℕ) → n ≡ tiff_count group → 0 < n → list_any (λ context. nat_lt 65535 (entry_count group context)) contexts ≡ true
+      → Some TooManyFields ≡ group_fault group
+  unfolding is_over
+  fault_over n e h over = fault_is false true has_unknown (ap (λ m. m == 0) (sym e) ∙ some_count n h) over refl
+
+  pub fault_of_types : (n : ℕ) (c : Bool) → n ≡ tiff_count group → 0 < n → list_any (λ context. nat_lt 65535 (entry_count group context)) contexts ≡ false
+      → list_any (λ context. any_unknown (pushed_in group context)) contexts ≡ c → (if c then Some UnknownType else None) ≡ group_fault group
+  unfolding is_over has_unknown
+  fault_of_types n c e h over unknown = fault_is false false c (ap (λ m. m == 0) (sym e) ∙ some_count n h) over unknown

@@ -1,0 +1,17 @@
+pub mod Counted
+pub mod Growth
+pub mod Images
+pub mod Laid
+pub mod Loops
+pub mod Marks
+pub mod Measured
+pub mod Moved
+pub mod Order
+pub mod Placed
+pub mod Planned
+pub mod RangeSteps
+pub mod Ready
+pub mod Running
+pub mod Sent
+pub mod SizeSteps
+pub mod Tails

@@ -1,0 +1,70 @@
+-- Sizes of values.
+use Rattle.std.proofs.Common.{◌≡◌, ℕ, zero, suc, ◌+◌, ◌*◌, ◌<◌, ◌≤◌, List, [], ◌∷◌, ◌++◌, length, take, drop, get_or, arith, refl, sym, ap, subst, ◌∙◌, false, true}
+use Rattle.std.specs.Prelude.{if◌then◌else◌, nat_le}
+use Rattle.exif_writer.specs.declared.plan.Places.{Places}
+use Rattle.exif_writer.specs.declared.plan.Slot.{Slot}
+use Rattle.exif_writer.proofs.Loops.{around}
+use Rattle.exif_writer.proofs.Running.{state-append}
+use Rattle.std.specs.List.{AllByRecursion}
+use Rattle.exif_writer.specs.declared.plan.Source.{Source}
+use Rattle.exif_writer.specs.declared.plan.Source.TheVariants.{Known, PlacesOf, LengthsOf, PlaceOf}
+use Rattle.exif_writer.specs.Sending.{source_count, source_size, IsKnownSource, slots_text, entries_text, after_slot, values_end}
+use Rattle.exif_base.specs.declared.endian.Order.{Order}
+use Rattle.exif_writer.specs.Encoding.{spelled, count_of, type_number}
+use Rattle.exif_types.specs.declared.value.Value.{Value}
+use Rattle.exif_types.specs.declared.value.Value.TheVariants.{Byte, Ascii, Short, Long, Rational, SByte, Undefined, SShort, SLong, SRational, Float, Double, Unknown}
+use Rattle.exif_writer.specs.Sending.{unit}
+use Rattle.exif_writer.specs.Refused.{is_unknown}
+use Rattle.exif_writer.specs.Places.{even}
+
+-- a value of a known type has no more members than bytes
+value_within : (value : Value) → is_unknown value ≡ false → count_of value ≤ unit (type_number value) * count_of value
+value_within (Byte xs) h = omega arith
+value_within (Ascii xs) h = omega arith
+value_within (Short xs) h = omega arith
+value_within (Long xs) h = omega arith
+value_within (Rational xs) h = omega arith
+value_within (SByte xs) h = omega arith
+value_within (Undefined xs old) h = omega arith
+value_within (SShort xs) h = omega arith
+value_within (SLong xs) h = omega arith
+value_within (SRational xs) h = omega arith
+value_within (Float xs) h = omega arith
+value_within (Double xs) h = omega arith
+value_within (Unknown type count old) h = absurd cc
+
+pub count_within : (source : Source) → IsKnownSource source → source_count source ≤ source_size source
+count_within (Known value) h = value_within value.now h
+count_within (PlacesOf blocks texts) h = omega arith
+count_within (LengthsOf kind texts) h = omega arith
+count_within (PlaceOf context) h = omega arith
+
+-- a directory that has entries
+pub slots_text_some : (order : Order) (places : Places) (values next : ℕ) (slots : List Slot) → 0 < length slots
+    → slots_text order places values next slots ≡ spelled order 2 (length slots) ++ (entries_text order places values slots ++ spelled order 4 next)
+slots_text_some order places values next [] h = absurd (omega arith)
+slots_text_some order places values next (slot ∷ slots) h = refl
+
+-- what holds of all holds of one
+pub all_at : {X : Type 0} (P : X → Type 0) (xs : List X) (i : ℕ) (x d : X) → AllByRecursion P xs → i < length xs → x ≡ get_or xs i d → P x
+all_at P [] i x d a h e = absurd (omega arith)
+all_at P (y ∷ xs) zero x d a h e = subst P (sym e) a.0
+all_at P (y ∷ xs) (suc i) x d a h e = all_at P xs i x d a.1 (omega arith) e
+
+-- places only grow
+pub slot_low : (place : ℕ) (slot : Slot) → place ≤ after_slot place slot
+slot_low place slot = elim (nat_le (source_size slot.source) 4) as (λ b. place ≤ (if b then place else even place + source_size slot.source)) [ true ↦ omega arith | false ↦ omega arith ]
+
+pub slots_low : (place : ℕ) (slots : List Slot) → place ≤ values_end place slots
+slots_low place [] = omega arith
+slots_low place (slot ∷ slots) = let a = slot_low place slot in let b = slots_low (after_slot place slot) slots in omega arith
+
+-- the end of a slot's value isn't behind that of all
+pub slot_within : (values place : ℕ) (slots : List Slot) (i : ℕ) (x d : Slot) → i < length slots → x ≡ get_or slots i d → place ≡ values_end values (take i slots)
+    → after_slot place x ≤ values_end values slots
+slot_within values place slots i x d h e k =
+    let split : values_end values slots ≡ values_end (after_slot (values_end values (take i slots)) x) (drop (i + 1) slots) =
+    ap (values_end values) (around slots i x d h e) ∙ state-append after_slot values (take i slots) (x ∷ drop (i + 1) slots) in
+    let low = slots_low (after_slot (values_end values (take i slots)) x) (drop (i + 1) slots) in
+    let same : after_slot place x ≡ after_slot (values_end values (take i slots)) x = ap (λ p. after_slot p x) k in
+    omega arith

@@ -1,0 +1,11 @@
+use Rattle.exif_writer.proofs.Images.Laws.{laid_out, length_is_end, blocks_named}
+use Rattle.exif_writer.proofs.laws.writing.images_are_laid_out.Goals as goal
+
+pub returns-clause-parts : goal.returns-clause-parts
+returns-clause-parts c = laid_out
+
+pub returns-clause-ends : goal.returns-clause-ends
+returns-clause-ends c = length_is_end
+
+pub returns-clause-blocks : goal.returns-clause-blocks
+returns-clause-blocks c = blocks_named

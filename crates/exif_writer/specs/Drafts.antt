@@ -1,0 +1,47 @@
+-- The plans of drafts: where everything of a draft stands, its entries and its blocks.
+use Rattle.std.specs.Prelude.{ℕ, ◌≡◌, List, [], ◌∷◌, map}
+use Rattle.exif_types.specs.declared.tag.Context.TheVariants.{Tiff, Exif, Gps, Interop}
+use Rattle.exif_writer.specs.declared.block_kind.BlockKind.TheVariants.{Strips, Tiles, Jpeg}
+use Rattle.exif_writer.specs.Slots.{Draft}
+use Rattle.exif_writer.specs.Places.{tiff_place, exif_place, gps_place, interop_place, tiff_values, exif_values, gps_values, interop_values, strips_place, tiles_place, jpeg_place, draft_end, next_place}
+use Rattle.exif_writer.specs.declared.plan.Places.{Places}
+use Rattle.exif_writer.specs.declared.plan.Plan.{Plan}
+use Rattle.exif_writer.specs.Sending.{symbol, texts_of}
+
+-- the places of a draft, as a plan has them
+abbrev pub places_of : Draft → ℕ → ℕ → Places
+places_of draft start next = record {
+  start = start;
+  tiff = tiff_place draft start;
+  exif = exif_place draft start;
+  gps = gps_place draft start;
+  interop = interop_place draft start;
+  tiff_values = tiff_values draft start;
+  exif_values = exif_values draft start;
+  gps_values = gps_values draft start;
+  interop_values = interop_values draft start;
+  strips = strips_place draft start;
+  tiles = tiles_place draft start;
+  jpeg = jpeg_place draft start;
+  end = draft_end draft start;
+  next = next;
+}
+
+-- the plan of a draft that begins at a place
+pub record IsPlan (draft : Draft) (start next : ℕ) (plan : Plan) : Type 0 where
+  pub places : plan.places ≡ places_of draft start next
+  pub tiff : map symbol plan.tiff.items ≡ draft.slots Tiff
+  pub exif : map symbol plan.exif.items ≡ draft.slots Exif
+  pub gps : map symbol plan.gps.items ≡ draft.slots Gps
+  pub interop : map symbol plan.interop.items ≡ draft.slots Interop
+  pub strips : texts_of plan.strips.now ≡ draft.blocks Strips
+  pub tiles : texts_of plan.tiles.now ≡ draft.blocks Tiles
+  pub jpeg : texts_of plan.jpeg.now ≡ draft.blocks Jpeg
+
+-- the plans of drafts that stand one behind the other
+abbrev pub ArePlans : ℕ → List Draft → List Plan → Type 0
+ArePlans start [] [] = Unit {0}
+ArePlans start [] (plan ∷ plans) = ⊥
+ArePlans start (draft ∷ drafts) [] = ⊥
+ArePlans start (draft ∷ drafts) (plan ∷ plans) =
+    IsPlan draft start (next_place (draft_end draft start) drafts) plan × ArePlans (draft_end draft start) drafts plans

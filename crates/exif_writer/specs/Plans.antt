@@ -1,0 +1,48 @@
+-- The bytes that are sent of plans.
+use Rattle.std.specs.Prelude.{ℕ, ◌≤◌, ◌%◌, List, ◌++◌, length, replicate}
+use Rattle.std.specs.List.{AllByRecursion, flat_map}
+use Rattle.exif_writer.specs.declared.plan.Places.{Places}
+use Rattle.exif_writer.specs.declared.plan.Slot.{Slot}
+use Rattle.exif_writer.specs.declared.plan.Plan.{Plan}
+use Rattle.exif_writer.specs.Sending.{IsReady, values_end, slots_text, values_text, blocks_text}
+use Rattle.exif_base.specs.declared.endian.Order.{Order}
+use Rattle.exif_writer.specs.Image.{header_text}
+
+-- a directory that can be sent, whose values stand from a place on
+pub record IsReadyDirectory (places : Places) (values : ℕ) (slots : List Slot) : Type 0 where
+  pub few : length slots ≤ 65535
+  pub ready : AllByRecursion (IsReady places) slots
+  pub room : values_end values slots ≤ 4294967295
+
+pub record IsReadyPlan (plan : Plan) : Type 0 where
+  pub tiff : IsReadyDirectory plan.places plan.places.tiff_values plan.tiff.items
+  pub exif : IsReadyDirectory plan.places plan.places.exif_values plan.exif.items
+  pub gps : IsReadyDirectory plan.places plan.places.gps_values plan.gps.items
+  pub interop : IsReadyDirectory plan.places plan.places.interop_values plan.interop.items
+
+abbrev pub directories_text : Order → Plan → List ℕ
+directories_text order plan =
+    replicate (plan.places.start % 2) 0
+    ++ (slots_text order plan.places plan.places.tiff_values plan.places.next plan.tiff.items
+    ++ (slots_text order plan.places plan.places.exif_values 0 plan.exif.items
+    ++ (slots_text order plan.places plan.places.gps_values 0 plan.gps.items
+    ++ slots_text order plan.places plan.places.interop_values 0 plan.interop.items)))
+
+abbrev pub plan_values_text : Order → Plan → List ℕ
+plan_values_text order plan =
+    values_text order plan.places plan.places.tiff_values plan.tiff.items
+    ++ (values_text order plan.places plan.places.exif_values plan.exif.items
+    ++ (values_text order plan.places plan.places.gps_values plan.gps.items
+    ++ values_text order plan.places plan.places.interop_values plan.interop.items))
+
+abbrev pub plan_blocks_text : Plan → List ℕ
+plan_blocks_text plan = blocks_text plan.strips.now ++ (blocks_text plan.tiles.now ++ blocks_text plan.jpeg.now)
+
+abbrev pub plan_text : Order → Plan → List ℕ
+plan_text order plan = directories_text order plan ++ (plan_values_text order plan ++ plan_blocks_text plan)
+
+abbrev pub plans_text : Order → List Plan → List ℕ
+plans_text order plans = flat_map (plan_text order) plans
+
+abbrev pub sent_image : Order → List Plan → List ℕ
+sent_image order plans = header_text order ++ plans_text order plans

@@ -1,0 +1,376 @@
+//! Entries and the values that don't fit into them, sent at the places of a plan.
+
+ghost use Rattle.std.specs.Prelude.{◌≡◌, ◌+◌, ◌*◌, ◌++◌, ◌^◌, ◌<◌, ◌≤◌, length, map, false, OnOk, OnErr, is_err};
+ghost use Rattle.std.specs.List.{flat_map, AllByRecursion};
+ghost use Rattle.std.specs.Io.KnownBytes.{Appends};
+ghost use Rattle.exif_writer.specs.Sending.{block_place, context_place, lens, sum_of, settled, Settles, IsKnownSource, source_type, source_count, source_size, element, slot_text, IsReady, value_place, after_slot, values_end, entries_text, slots_text, value_text, values_text, blocks_text};
+ghost use Rattle.exif_writer.specs.Encoding.{spelled, encode, count_of, type_number, value_len, ended};
+ghost use Rattle.exif_writer.specs.Sending.{unit};
+ghost use Rattle.exif_writer.specs.Places.{even, after_value, places_from};
+ghost use Rattle.exif_writer.specs.Image.{entry_text};
+ghost use Rattle.exif_writer.specs.Refused.{is_unknown};
+ghost use Rattle.exif_base.specs.Device.{count_after};
+ghost use Rattle.exif_base.specs.Sent.{SendsFront};
+
+use crate::block_kind::BlockKind;
+use crate::forward::{send_u16, send_u32, send_zeros};
+use crate::item::send_value;
+use crate::plan::{Places, Slot, Source};
+use exif_base::{Items, Order, Sink, send_all};
+use exif_types::{Context, Value};
+use std::io;
+
+impl Places {
+    // Where the blocks of a kind begin.
+    fn block(&self, kind: BlockKind) -> u32
+        ensures { result ≡ block_place self.now kind }
+    {
+        match kind {
+            BlockKind::Strips => self.strips,
+            BlockKind::Tiles => self.tiles,
+            BlockKind::Jpeg => self.jpeg,
+        }
+    }
+
+    // Where the directory of a context stands.
+    fn context(&self, context: Context) -> u32
+        ensures { result ≡ context_place self.now context }
+    {
+        match context {
+            Context::Tiff => self.tiff,
+            Context::Exif => self.exif,
+            Context::Gps => self.gps,
+            Context::Interop => self.interop,
+        }
+    }
+}
+
+// Sends the places of texts that stand one behind the other.
+fn send_places<W: Sink>(out: &mut W, order: Order, first: u32, texts: &[&[u8]]) -> io::Result<()>
+    requires { first + sum_of texts.now ≤ 4294967295 }
+    ensures sent { OnOk result (Appends (W.taken out.old) (W.taken out.new) (flat_map (spelled order 4) (places_from first (lens texts.now)))) }
+    ensures front { OnErr result (SendsFront (W.taken out.old) (W.taken out.new) (flat_map (spelled order 4) (places_from first (lens texts.now)))) }
+    ensures count { W.failures out.new ≡ count_after (is_err result) (W.failures out.old) }
+    ensures same { W.through out.new ≡ W.through out.old }
+{
+    let mut place = first;
+    for text in texts {
+        send_u32(out, order, place)?;
+        place += text.len() as u32;
+    }
+    Ok(())
+}
+
+// Sends the lengths of texts.
+fn send_lengths<W: Sink>(out: &mut W, order: Order, texts: &[&[u8]]) -> io::Result<()>
+    requires { sum_of texts.now ≤ 4294967295 }
+    ensures sent { OnOk result (Appends (W.taken out.old) (W.taken out.new) (flat_map (spelled order 4) (lens texts.now))) }
+    ensures front { OnErr result (SendsFront (W.taken out.old) (W.taken out.new) (flat_map (spelled order 4) (lens texts.now))) }
+    ensures count { W.failures out.new ≡ count_after (is_err result) (W.failures out.old) }
+    ensures same { W.through out.new ≡ W.through out.old }
+{
+    for text in texts {
+        send_u32(out, order, text.len() as u32)?;
+    }
+    Ok(())
+}
+
+#[tactic(auto, using(crate::proofs::Moved::encode_moved))]
+impl<'a> Source<'a> {
+    // Sends the bytes of the value.
+    fn send<W: Sink>(&self, out: &mut W, order: Order, places: &Places) -> io::Result<()>
+        requires { Settles places.now self.now }
+        ensures sent { OnOk result (Appends (W.taken out.old) (W.taken out.new) (encode order (settled places.now self.now))) }
+        ensures front { OnErr result (SendsFront (W.taken out.old) (W.taken out.new) (encode order (settled places.now self.now))) }
+        ensures count { W.failures out.new ≡ count_after (is_err result) (W.failures out.old) }
+        ensures same { W.through out.new ≡ W.through out.old }
+    {
+        match self {
+            Source::Known(value) => send_value(out, order, value),
+            Source::PlacesOf(kind, texts) => send_places(out, order, places.block(*kind), texts),
+            Source::LengthsOf(_, texts) => send_lengths(out, order, texts),
+            Source::PlaceOf(context) => send_u32(out, order, places.context(*context)),
+        }
+    }
+}
+
+// How many items a value has, the zero behind each text counted.
+fn count(value: &Value) -> usize
+    requires { count_of value.now ≤ 4294967295 }
+    ensures { result ≡ count_of value.now }
+{
+    match value {
+        Value::Byte(items) | Value::Undefined(items, _) => items.as_slice().len(),
+        Value::Ascii(texts) => texts_len(texts),
+        Value::Short(items) => items.as_slice().len(),
+        Value::Long(items) | Value::Float(items) => items.as_slice().len(),
+        Value::Rational(items) => items.as_slice().len(),
+        Value::SByte(items) => items.as_slice().len(),
+        Value::SShort(items) => items.as_slice().len(),
+        Value::SLong(items) => items.as_slice().len(),
+        Value::SRational(items) => items.as_slice().len(),
+        Value::Double(items) => items.as_slice().len(),
+        Value::Unknown(_, count, _) => *count as usize,
+    }
+}
+
+// How long texts are, with a zero behind each.
+fn texts_len(texts: &Items<Items<u8>>) -> usize
+    requires { length (flat_map ended texts.now) ≤ 4294967295 }
+    ensures { result ≡ length (flat_map ended texts.now) }
+{
+    let mut len = 0;
+    for text in texts.as_slice() {
+        len += text.as_slice().len() + 1;
+    }
+    len
+}
+
+// A value's type, by its number, and how many bytes an item takes.
+fn kind(value: &Value) -> (u16, usize)
+    ensures number { result.0 ≡ type_number value.now }
+    ensures unit { is_unknown value.now ≡ false → result.1 ≡ unit (type_number value.now) }
+{
+    match value {
+        Value::Byte(_) => (1, 1),
+        Value::Ascii(_) => (2, 1),
+        Value::Short(_) => (3, 2),
+        Value::Long(_) => (4, 4),
+        Value::Rational(_) => (5, 8),
+        Value::SByte(_) => (6, 1),
+        Value::Undefined(_, _) => (7, 1),
+        Value::SShort(_) => (8, 2),
+        Value::SLong(_) => (9, 4),
+        Value::SRational(_) => (10, 8),
+        Value::Float(_) => (11, 4),
+        Value::Double(_) => (12, 8),
+        Value::Unknown(kind, _, _) => (*kind, 1),
+    }
+}
+
+#[tactic(auto, using(crate::proofs::SizeSteps::count_within))]
+impl<'a> Source<'a> {
+    // The number of the value's type, and how many bytes an item takes.
+    fn kind(&self) -> (u16, usize)
+        ensures number { result.0 ≡ source_type self.now }
+        ensures unit { IsKnownSource self.now → result.1 ≡ unit (source_type self.now) }
+    {
+        match self {
+            Source::Known(value) => kind(value),
+            Source::PlacesOf(_, _) => (4, 4),
+            Source::LengthsOf(_, _) => (4, 4),
+            Source::PlaceOf(_) => (4, 4),
+        }
+    }
+
+    // How many items the value has.
+    fn count(&self) -> usize
+        requires { source_count self.now ≤ 4294967295 }
+        ensures { result ≡ source_count self.now }
+    {
+        match self {
+            Source::Known(value) => count(value),
+            Source::PlacesOf(_, texts) => texts.len(),
+            Source::LengthsOf(_, texts) => texts.len(),
+            Source::PlaceOf(_) => 1,
+        }
+    }
+
+    // How many bytes the value takes.
+    fn size(&self) -> usize
+        requires known { IsKnownSource self.now }
+        requires room { source_size self.now ≤ 4294967295 }
+        ensures { result ≡ source_size self.now }
+    {
+        let (_, unit) = self.kind();
+        unit * self.count()
+    }
+}
+
+#[tactic(auto, using(crate::proofs::Sent::appends_more, crate::proofs::Sent::front_second, crate::proofs::Sent::front_first, crate::proofs::SizeSteps::count_within))]
+impl<'a> Slot<'a> {
+    // Sends the last four bytes of the entry, whose value stands at a place where it doesn't fit into them.
+    fn send_element<W: Sink>(
+        &self,
+        out: &mut W,
+        order: Order,
+        places: &Places,
+        place: u32,
+    ) -> io::Result<()>
+        requires settles { Settles places.now self.now.source }
+        requires known { IsKnownSource self.now.source }
+        requires room { source_size self.now.source ≤ 4294967295 }
+        ensures sent { OnOk result (Appends (W.taken out.old) (W.taken out.new) (element order places.now self.now.source place)) }
+        ensures front { OnErr result (SendsFront (W.taken out.old) (W.taken out.new) (element order places.now self.now.source place)) }
+        ensures count { W.failures out.new ≡ count_after (is_err result) (W.failures out.old) }
+        ensures same { W.through out.new ≡ W.through out.old }
+    {
+        let size = self.source.size();
+        if size <= 4 {
+            self.source.send(out, order, places)?;
+            send_zeros(out, 4 - size)
+        } else {
+            send_u32(out, order, place)
+        }
+    }
+
+    // Sends the entry.
+    fn send<W: Sink>(
+        &self,
+        out: &mut W,
+        order: Order,
+        places: &Places,
+        place: u32,
+    ) -> io::Result<()>
+        requires settles { Settles places.now self.now.source }
+        requires known { IsKnownSource self.now.source }
+        requires room { source_size self.now.source ≤ 4294967295 }
+        ensures sent { OnOk result (Appends (W.taken out.old) (W.taken out.new) (slot_text order places.now self.now place)) }
+        ensures front { OnErr result (SendsFront (W.taken out.old) (W.taken out.new) (slot_text order places.now self.now place)) }
+        ensures count { W.failures out.new ≡ count_after (is_err result) (W.failures out.old) }
+        ensures same { W.through out.new ≡ W.through out.old }
+    {
+        let (kind, _) = self.source.kind();
+        let count = self.source.count();
+        send_u16(out, order, self.tag)?;
+        send_u16(out, order, kind)?;
+        send_u32(out, order, count as u32)?;
+        self.send_element(out, order, places, place)
+    }
+
+    // Sends the value, if it isn't in its entry, behind a zero where the place is odd.
+    fn send_value<W: Sink>(
+        &self,
+        out: &mut W,
+        order: Order,
+        places: &Places,
+        place: u32,
+    ) -> io::Result<()>
+        requires { IsReady places.now self.now }
+        ensures sent { OnOk result (Appends (W.taken out.old) (W.taken out.new) (value_text order places.now place self.now)) }
+        ensures front { OnErr result (SendsFront (W.taken out.old) (W.taken out.new) (value_text order places.now place self.now)) }
+        ensures count { W.failures out.new ≡ count_after (is_err result) (W.failures out.old) }
+        ensures same { W.through out.new ≡ W.through out.old }
+    {
+        if self.source.size() <= 4 {
+            return Ok(());
+        }
+        send_zeros(out, (place % 2) as usize)?;
+        self.source.send(out, order, places)
+    }
+
+    // Where the value stands that may stand at a place, if it isn't in its entry.
+    fn value_place(&self, place: u32) -> u32
+        requires known { IsKnownSource self.now.source }
+        requires room { source_size self.now.source ≤ 4294967295 }
+        requires end { after_slot place self.now ≤ 4294967295 }
+        ensures { result ≡ value_place place (source_size self.now.source) }
+    {
+        if self.source.size() <= 4 {
+            place
+        } else {
+            place + place % 2
+        }
+    }
+
+    // Where the next value may stand.
+    fn after(&self, place: u32) -> u32
+        requires known { IsKnownSource self.now.source }
+        requires room { source_size self.now.source ≤ 4294967295 }
+        requires end { after_slot place self.now ≤ 4294967295 }
+        ensures { result ≡ after_slot place self.now }
+    {
+        let size = self.source.size();
+        if size <= 4 {
+            place
+        } else {
+            place + place % 2 + size as u32
+        }
+    }
+}
+
+// Sends the entries of a directory, whose values stand from a place on.
+fn send_entries<W: Sink>(
+    out: &mut W,
+    order: Order,
+    places: &Places,
+    slots: &[Slot],
+    values: u32,
+) -> io::Result<()>
+    requires ready { AllByRecursion (IsReady places.now) slots.now }
+    requires room { values_end values slots.now ≤ 4294967295 }
+    ensures sent { OnOk result (Appends (W.taken out.old) (W.taken out.new) (entries_text order places.now values slots.now)) }
+    ensures front { OnErr result (SendsFront (W.taken out.old) (W.taken out.new) (entries_text order places.now values slots.now)) }
+    ensures count { W.failures out.new ≡ count_after (is_err result) (W.failures out.old) }
+    ensures same { W.through out.new ≡ W.through out.old }
+{
+    let mut place = values;
+    for slot in slots {
+        slot.send(out, order, places, slot.value_place(place))?;
+        place = slot.after(place);
+    }
+    Ok(())
+}
+
+// Sends a directory, if it has entries.
+#[tactic(auto, using(crate::proofs::Sent::appends_more, crate::proofs::Sent::appends_none, crate::proofs::Sent::front_second, crate::proofs::Sent::front_first, crate::proofs::SizeSteps::slots_text_some))]
+pub fn send_directory<W: Sink>(
+    out: &mut W,
+    order: Order,
+    places: &Places,
+    slots: &[Slot],
+    values: u32,
+    next: u32,
+) -> io::Result<()>
+    requires few { length slots.now ≤ 65535 }
+    requires ready { AllByRecursion (IsReady places.now) slots.now }
+    requires room { values_end values slots.now ≤ 4294967295 }
+    ensures sent { OnOk result (Appends (W.taken out.old) (W.taken out.new) (slots_text order places.now values next slots.now)) }
+    ensures front { OnErr result (SendsFront (W.taken out.old) (W.taken out.new) (slots_text order places.now values next slots.now)) }
+    ensures count { W.failures out.new ≡ count_after (is_err result) (W.failures out.old) }
+    ensures same { W.through out.new ≡ W.through out.old }
+{
+    if slots.is_empty() {
+        return Ok(());
+    }
+    send_u16(out, order, slots.len() as u16)?;
+    send_entries(out, order, places, slots, values)?;
+    send_u32(out, order, next)
+}
+
+/// Sends the values of a directory that aren't in its entries.
+pub fn send_values<W: Sink>(
+    out: &mut W,
+    order: Order,
+    places: &Places,
+    slots: &[Slot],
+    values: u32,
+) -> io::Result<()>
+    requires ready { AllByRecursion (IsReady places.now) slots.now }
+    requires room { values_end values slots.now ≤ 4294967295 }
+    ensures sent { OnOk result (Appends (W.taken out.old) (W.taken out.new) (values_text order places.now values slots.now)) }
+    ensures front { OnErr result (SendsFront (W.taken out.old) (W.taken out.new) (values_text order places.now values slots.now)) }
+    ensures count { W.failures out.new ≡ count_after (is_err result) (W.failures out.old) }
+    ensures same { W.through out.new ≡ W.through out.old }
+{
+    let mut place = values;
+    for slot in slots {
+        slot.send_value(out, order, places, place)?;
+        place = slot.after(place);
+    }
+    Ok(())
+}
+
+/// Sends blocks one behind the other.
+#[tactic(auto, using(crate::proofs::Loops::front_item))]
+pub fn send_blocks<W: Sink>(out: &mut W, texts: &[&[u8]]) -> io::Result<()>
+    ensures sent { OnOk result (Appends (W.taken out.old) (W.taken out.new) (blocks_text texts.now)) }
+    ensures front { OnErr result (SendsFront (W.taken out.old) (W.taken out.new) (blocks_text texts.now)) }
+    ensures count { W.failures out.new ≡ count_after (is_err result) (W.failures out.old) }
+    ensures same { W.through out.new ≡ W.through out.old }
+{
+    for text in texts {
+        send_all(out, text)?;
+    }
+    Ok(())
+}

@@ -1,0 +1,25 @@
+//! Fields and blocks written as one TIFF image: the definition of images, the laws of what they hold,
+//! and the writer that sends them.
+#![tactic(auto)]
+
+pub mod block_kind;
+mod counts;
+mod directory;
+mod forward;
+mod groups;
+mod image;
+mod item;
+pub mod laws;
+mod make;
+mod measure;
+mod places;
+mod plan;
+mod planning;
+mod ranges;
+mod sizes;
+pub mod write_fault;
+mod writer;
+
+pub use block_kind::BlockKind;
+pub use write_fault::WriteFault;
+pub use writer::Writer;
