@@ -1,24 +1,28 @@
 //! Prints what the Exif metadata of a file say: `exif_show [-c] FILE`.
 #![tactic(auto)]
 
+mod program;
+#[cfg(test)]
+mod tests;
+
 use exif::{Counted, Error};
-use exif_report::{mode, say, show};
+use program::{mode, say, show};
 use std::fs::File;
 use std::io::BufWriter;
 use std::process::ExitCode;
 use std::{env, io};
 
 fn main(rt: HostRuntime) -> io::Result<ExitCode> {
-    let mut words = Vec::new(rt.alloc());
-    for word in env::args(&rt)?.skip(1) {
-        words.push(word)?;
+    let mut arguments = Vec::new(rt.alloc());
+    for argument in env::args(&rt)?.skip(1) {
+        arguments.push(argument)?;
     }
-    let Some((lenient, place)) = mode(words.as_slice()) else {
+    let Some((lenient, place)) = mode(arguments.as_slice()) else {
         eprintln!(rt; "usage: exif_show [-c] FILE")?;
         return Ok(ExitCode::from(2));
     };
     let mut err = Counted::new(rt.stderr());
-    let file = match File::open(&rt, words[place].as_str()) {
+    let file = match File::open(&rt, arguments[place].as_str()) {
         Ok(file) => file,
         Err(cause) => {
             let _ = say(rt.alloc(), &mut err, &Error::Io(cause));

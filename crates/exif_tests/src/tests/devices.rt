@@ -4,7 +4,7 @@ use super::support::{KINDS, kind_of};
 use crate::devices::{Drip, Slow};
 use crate::files;
 use exif::Counted;
-use exif_report::{report, show};
+use exif_report::report;
 use std::io::ErrorKind;
 use std::test::Fail;
 
@@ -69,41 +69,4 @@ fn writers(rt: HostRuntime) -> Result<(), Fail> {
     assert_eq!(rt; answer?, 0);
     assert_eq!(rt; out.into_inner().taken.as_slice(), DESCRIPTION);
     Ok(())
-}
-
-#[test]
-fn the_program_tells_of_its_devices(rt: HostRuntime) {
-    let alloc = rt.alloc();
-    let bytes = files::DESCRIBED_BIG;
-    let mut slow = Counted::new(Slow::new(bytes, 5, ErrorKind::Other));
-    let mut out = Counted::new(Vec::new(alloc));
-    let mut err = Counted::new(Vec::new(alloc));
-    assert_eq!(rt; show(alloc, &mut slow, &mut out, &mut err, false), 1);
-    assert!(rt; out.into_inner().is_empty());
-    let told: &[u8] = b"exif_show: the reader failed\n";
-    assert_eq!(rt; err.into_inner().as_slice(), told);
-    let mut out = Counted::new(Drip::new(alloc, 3, Some(ErrorKind::Other)));
-    let mut err = Counted::new(Vec::new(alloc));
-    assert_eq!(rt;
-        show(alloc, &mut Counted::new(bytes), &mut out, &mut err, true),
-        1
-    );
-    let written: &[u8] = b"Ima";
-    assert_eq!(rt; out.into_inner().taken.as_slice(), written);
-    let told: &[u8] = b"exif_show: the writer failed\n";
-    assert_eq!(rt; err.into_inner().as_slice(), told);
-}
-
-#[test]
-fn the_program_passes_over_a_failing_second_writer(rt: HostRuntime) {
-    let alloc = rt.alloc();
-    for good_calls in 0..5usize {
-        let mut out = Counted::new(Vec::new(alloc));
-        let mut err = Counted::new(Drip::new(alloc, good_calls, Some(ErrorKind::Other)));
-        let mut source = Counted::new(files::CIRCLE);
-        assert_eq!(rt; show(alloc, &mut source, &mut out, &mut err, false), 1);
-        assert!(rt; out.into_inner().is_empty());
-        let front = b"exif_show: Limit".get(..good_calls);
-        assert_eq!(rt; Some(err.into_inner().taken.as_slice()), front);
-    }
 }

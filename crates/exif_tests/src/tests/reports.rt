@@ -2,8 +2,6 @@
 
 use super::support::{reported, text_of};
 use crate::files;
-use exif::Counted;
-use exif_report::{mode, show};
 use std::test::Fail;
 
 const EIGHT_WIDTHS: &str = "ImageWidth primary 20 pixels
@@ -95,46 +93,5 @@ fault: Truncated IFD count
             assert!(rt; false, "a fault was passed over");
         }
     }
-    Ok(())
-}
-
-// What is shown of data: the status, and what went to either writer.
-fn shown(rt: &HostRuntime, bytes: &[u8], lenient: bool) -> (u8, Vec<u8>, Vec<u8>) {
-    let alloc = rt.alloc();
-    let mut out = Counted::new(Vec::new(alloc));
-    let mut err = Counted::new(Vec::new(alloc));
-    let status = show(alloc, &mut Counted::new(bytes), &mut out, &mut err, lenient);
-    (status, out.into_inner(), err.into_inner())
-}
-
-#[test]
-fn statuses(rt: HostRuntime) {
-    let limit = "exif_show: Limit the IFD count to 8\n";
-    let description = "ImageDescription primary \"Sample\"\n";
-    for (bytes, lenient, status, out, err) in [
-        (files::NOTHING, false, 0, "", ""),
-        (files::DESCRIBED_BIG, false, 0, description, ""),
-        (files::CIRCLE, false, 1, "", limit),
-        (files::CIRCLE, true, 3, EIGHT_WIDTHS, ""),
-    ] {
-        let (found, written, told) = shown(&rt, bytes, lenient);
-        assert_eq!(rt; found, status);
-        assert_eq!(rt; written.as_slice(), out.as_bytes());
-        assert_eq!(rt; told.as_slice(), err.as_bytes());
-    }
-}
-
-#[test]
-fn modes(rt: HostRuntime) -> Result<(), Fail> {
-    let alloc = rt.alloc();
-    let file = || String::from_str(alloc, "a.tif");
-    let flag = || String::from_str(alloc, "-c");
-    assert_eq!(rt; mode(&[]), None);
-    assert_eq!(rt; mode(&[file()?]), Some((false, 0)));
-    assert_eq!(rt; mode(&[flag()?]), None);
-    assert_eq!(rt; mode(&[flag()?, file()?]), Some((true, 1)));
-    assert_eq!(rt; mode(&[flag()?, flag()?]), Some((true, 1)));
-    assert_eq!(rt; mode(&[file()?, flag()?]), None);
-    assert_eq!(rt; mode(&[flag()?, file()?, file()?]), None);
     Ok(())
 }

@@ -1,4 +1,4 @@
--- What the program does with its words and with its report.
+-- What the program does with its arguments and with its report.
 use Rattle.std.specs.Prelude.{◌≡◌, ◌<◌, ℕ, Bool, true, false, ◌==◌, if◌then◌else◌, List, [], ◌∷◌, ◌++◌, codes, Option, Some, None, Result, Ok, Err, IfSome}
 use Rattle.std.specs.Str.{bytes_eq}
 use Rattle.std.specs.Io.KnownBytes.{Appends, Keeps}
@@ -9,7 +9,7 @@ use Rattle.exif_tiff.specs.Answers.{raw_answer}
 use Rattle.exif_reader.specs.Files.{file_answer}
 use Rattle.exif_report.specs.Reports.{Reports, ReportsSome, CountsBoth}
 
--- whether to pass over faults, and which word is the file's path
+-- whether to pass over faults, and which argument is the file's path
 abbrev pub asked_by : List (List ℕ) → Option (Bool × ℕ)
 asked_by [] = None
 asked_by (file ∷ []) = if bytes_eq file (codes "-c") then None else Some (false, 0)

@@ -1,6 +1,6 @@
-use Rattle.exif_report.proofs.Said.{says_whole, says_front, says_none}
+use Rattle.exif_show.proofs.Saying.{says_whole, says_front, says_none}
 use Rattle.exif_report.proofs.Sent.{keeps_same, appends_kept, front_all}
-use Rattle.exif_report.proofs.program.say.Goals as goal
+use Rattle.exif_show.proofs.program.say.Goals as goal
 
 pub returns-in_err-line-clause-front : goal.returns-in_err-line-clause-front
 returns-in_err-line-clause-front g c = says_none c.args.error.now _ _ (keeps_same _)

@@ -1,22 +1,22 @@
-//! What the program does with its words and with its report.
+//! What the program does with its arguments and with its report.
 
 ghost use Rattle.std.specs.Prelude.{◌≡◌, ◌<◌, Bool, length, map, string_bytes, IfErr, IfSome, OnOk};
 ghost use Rattle.exif_base.specs.Device.{count_after};
 ghost use Rattle.exif_types.specs.Refusals.{is_io, IsInterrupted};
-ghost use Rattle.exif_report.specs.Program.{asked_by, Says, SaysWhole, Shows};
+ghost use Rattle.exif_show.specs.Program.{asked_by, Says, SaysWhole, Shows};
 
-use crate::reporting::report;
 use exif::{Error, Sink, Source};
 use exif_base::send_all;
+use exif_report::report;
 use std::alloc::Global;
 
-/// What the words behind the program's name ask for: whether to pass over faults, and which word
-/// is the file's path. Nothing, where they are no such request.
-pub fn mode(words: &[String]) -> Option<(bool, usize)>
-    ensures asked { result ≡ asked_by (map string_bytes words.now) }
-    ensures path { IfSome result (λ asked. asked.1 < length words.now) }
+/// What the arguments behind the program's name ask for: whether to pass over faults, and which of
+/// them is the file's path. Nothing, where they are no such request.
+pub fn mode(arguments: &[String]) -> Option<(bool, usize)>
+    ensures asked { result ≡ asked_by (map string_bytes arguments.now) }
+    ensures path { IfSome result (λ asked. asked.1 < length arguments.now) }
 {
-    match words {
+    match arguments {
         [file] if file.as_str() != "-c" => Some((false, 0)),
         [flag, _] if flag.as_str() == "-c" => Some((true, 1)),
         _ => None,
