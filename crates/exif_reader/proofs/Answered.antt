@@ -32,5 +32,5 @@ answered number bytes lenient most start x s e =
 
 -- where noting a fault stops, it is a refusal
 pub says_stop : (e : Stop) (p q : Progress) (fault : Fault) (answer : Answer) → answer ≡ outcome (p, Some fault) → Follows (Err e) q (on_met p fault) → Says (Err e) answer
-says_stop stop.Memory p q fault answer a f = tt
+says_stop stop.OutOfMemory p q fault answer a f = tt
 says_stop (stop.Fault other) p q fault answer a f = a ∙ met_refused p q fault other f

@@ -16,7 +16,7 @@ use Rattle.exif_reader.proofs.RunSteps.{run-append, run_on, run_stop, run_one, s
 
 -- a stop in the first piece is a stop of the whole
 pub follows_stop : (e : Stop) (new : Progress) (xs ys : List Node) (p : Progress) (all : Progress × Option Fault) → run (xs ++ ys) p ≡ all → Follows (Err e) new (run xs p) → Follows (Err e) new all
-follows_stop stop.Memory new xs ys p all w h = tt
+follows_stop stop.OutOfMemory new xs ys p all w h = tt
 follows_stop (stop.Fault fault) new xs ys p all w h = run_stop xs ys p new fault all h w
 
 -- the answer of the last piece is that of the whole

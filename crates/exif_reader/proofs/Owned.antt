@@ -1,22 +1,15 @@
 -- What a reading says of data, it says of the data that it hands on.
-use Rattle.std.proofs.Common.{◌≡◌, ◌⊎◌, inl, inr, ℕ, List, Some, Result, Ok, Err, sym, subst}
-use Rattle.std.specs.List.{Contains}
+use Rattle.std.proofs.Common.{inl, inr, ℕ, List, Result, Ok, Err, sym, subst}
 use Rattle.exif_types.specs.Contents.{ExifContents}
 use Rattle.exif_types.specs.Failures.{Failure}
-use Rattle.exif_types.specs.Refusals.{Refusal}
 use Rattle.exif_types.specs.declared.error.Error.TheVariants as error
-use Rattle.exif_tiff.specs.Answers.{Answer, Refused}
-use Rattle.exif_tiff.specs.Faults.{refusal}
-use Rattle.exif_tiff.specs.declared.fault.Fault.{Fault}
+use Rattle.exif_tiff.specs.Answers.{Answer}
 use Rattle.exif_containers.specs.Answer.{IsNamed}
 use Rattle.exif_containers.specs.Container.{container_refusals}
-use Rattle.exif_reader.specs.Files.{AnswersOwnData, IsDataRefusal}
+use Rattle.exif_reader.specs.Files.{AnswersOwnData}
 use Rattle.exif_reader.specs.Readings.{ReadsAs}
 
--- a refusal of data is one
-data_refusal : (answer : List ℕ → Answer) (bytes : List ℕ) (r : Refusal) (fault : Fault) → answer bytes ≡ Refused fault → Some r ≡ Some (refusal fault) → Contains container_refusals r ⊎ IsDataRefusal answer r
-data_refusal answer bytes r fault refused same = let e : r ≡ refusal fault = cc in inr (bytes, (fault, refused, e))
-
+-- what data in memory are read as, the data that came back are
 pub answers_own_data : (answer : List ℕ → Answer) (bytes : List ℕ) (result : Result ExifContents Failure) → ReadsAs (answer bytes) bytes result → AnswersOwnData answer result
 answers_own_data answer bytes (Ok exif) h =
     let P : List ℕ → Type 0 = λ own. ReadsAs (answer own) own (Ok exif) in subst P (sym h.1.0) h
@@ -24,12 +17,12 @@ answers_own_data answer bytes (Err (error.PartialResult partial)) h =
     let P : List ℕ → Type 0 = λ own. ReadsAs (answer own) own (Err (error.PartialResult partial)) in subst P (sym h.3.0) h
 answers_own_data answer bytes (Err error.OutOfMemory) h = tt
 answers_own_data answer bytes (Err (error.Io cause)) h = tt
-answers_own_data answer bytes (Err (error.InvalidFormat text)) h = data_refusal answer bytes _ h.0 h.1 h.2
-answers_own_data answer bytes (Err (error.NotFound text)) h = data_refusal answer bytes _ h.0 h.1 h.2
-answers_own_data answer bytes (Err (error.BlankValue text)) h = data_refusal answer bytes _ h.0 h.1 h.2
-answers_own_data answer bytes (Err (error.TooBig text)) h = data_refusal answer bytes _ h.0 h.1 h.2
-answers_own_data answer bytes (Err (error.NotSupported text)) h = data_refusal answer bytes _ h.0 h.1 h.2
-answers_own_data answer bytes (Err (error.UnexpectedValue text)) h = data_refusal answer bytes _ h.0 h.1 h.2
+answers_own_data answer bytes (Err (error.InvalidFormat text)) h = inr (bytes, h)
+answers_own_data answer bytes (Err (error.NotFound text)) h = inr (bytes, h)
+answers_own_data answer bytes (Err (error.BlankValue text)) h = inr (bytes, h)
+answers_own_data answer bytes (Err (error.TooBig text)) h = inr (bytes, h)
+answers_own_data answer bytes (Err (error.NotSupported text)) h = inr (bytes, h)
+answers_own_data answer bytes (Err (error.UnexpectedValue text)) h = inr (bytes, h)
 
 -- an error of a container is one of its refusals, or an interruption
 pub answers_container : (answer : List ℕ → Answer) (e : Failure) → IsNamed container_refusals e → AnswersOwnData answer (Err e)

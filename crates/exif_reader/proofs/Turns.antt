@@ -48,5 +48,5 @@ all_walked nodes left new w = ap (λ ns. new.left + visits_of ns) (w.front ∙ (
 -- what follows a trace counts its turns
 pub counts_turns : (r : Result (Unit {0}) Stop) (old new : Progress) (nodes : List Node) → Follows r new (run nodes old) → CountsTurns r old new nodes
 counts_turns (Ok u) old new nodes h = all_walked nodes old.left new (walked_at nodes old (new, None) h)
-counts_turns (Err stop.Memory) old new nodes h = tt
+counts_turns (Err stop.OutOfMemory) old new nodes h = tt
 counts_turns (Err (stop.Fault fault)) old new nodes h = let w = walked_at nodes old (new, Some fault) h in (w.walked, w.rest, w.front, w.turns)

@@ -1,15 +1,13 @@
 -- What a file answers: its container gives TIFF data, and these give fields and faults.
-use Rattle.std.specs.Prelude.{◌≡◌, ◌⊎◌, ℕ, Bool, true, false, map, List, Option, Result, Ok, Err, MatchOption}
+use Rattle.std.specs.Prelude.{◌≡◌, ◌⊎◌, ℕ, Bool, true, false, List, Option, Result, Ok, Err, MatchOption}
 use Rattle.std.specs.List.{Contains}
 use Rattle.exif_types.specs.Contents.{ExifContents}
-use Rattle.exif_types.specs.Failures.{Failure, bytes_of}
+use Rattle.exif_types.specs.Failures.{Failure}
 use Rattle.exif_types.specs.Refusals.{Refusal, refusal_of, IsInterrupted, ◌>>=◌}
 use Rattle.exif_types.specs.declared.error.Error.TheVariants as error
-use Rattle.exif_tiff.specs.Faults.{text_of, refusal}
-use Rattle.exif_tiff.specs.Answers.{Answer, Refused, Whole, Partial, raw_answer, first_fault}
-use Rattle.exif_tiff.specs.declared.fault.Fault.{Fault}
+use Rattle.exif_tiff.specs.Answers.{Answer, raw_answer, first_fault}
 use Rattle.exif_containers.specs.Container.{container_answer, container_refusals}
-use Rattle.exif_reader.specs.Readings.{HoldsData, ReadsAs}
+use Rattle.exif_reader.specs.Readings.{IsRefusal, ReadsAs, ReadsOr}
 
 -- the answer of a file, or the refusal of its container
 abbrev pub file_answer : Bool → Option ℕ → List ℕ → Result Answer Refusal
@@ -19,20 +17,9 @@ file_answer lenient limit bytes = container_answer bytes >>= λ data'. Ok (raw_a
 abbrev pub StrictIsFirstFaultOfFile : Option ℕ → List ℕ → Type 0
 StrictIsFirstFaultOfFile limit bytes = file_answer false limit bytes ≡ (file_answer true limit bytes >>= λ answer. Ok (first_fault answer))
 
--- the data are refused as this
-abbrev pub IsRefusal : Answer → Refusal → Type 0
-IsRefusal answer r = (fault : Fault) × (answer ≡ Refused fault) × (r ≡ refusal fault)
-
--- the data answer so, unless memory or a device failed
-abbrev pub ReadsUnlessInterrupted : Answer → List ℕ → Result ExifContents Failure → Type 0
-ReadsUnlessInterrupted answer bytes (Ok exif) = (answer ≡ Whole exif.fields) × HoldsData exif bytes
-ReadsUnlessInterrupted answer bytes (Err (error.PartialResult partial)) =
-    (faults : List Fault) × (answer ≡ Partial partial.exif.fields faults) × (map bytes_of partial.faults ≡ map text_of faults) × HoldsData partial.exif bytes
-ReadsUnlessInterrupted answer bytes (Err e) = MatchOption (refusal_of e) (IsInterrupted e) (IsRefusal answer)
-
 -- what is read of a container: the answer of its data, or its refusal
 abbrev pub ReadsContainer : (List ℕ → Answer) → Result (List ℕ) Refusal → Result ExifContents Failure → Type 0
-ReadsContainer answer (Ok bytes) result = ReadsUnlessInterrupted (answer bytes) bytes result
+ReadsContainer answer (Ok bytes) result = ReadsOr IsInterrupted (answer bytes) bytes result
 ReadsContainer answer (Err r) (Ok exif) = ⊥
 ReadsContainer answer (Err r) (Err e) = MatchOption (refusal_of e) (IsInterrupted e) (λ refused. refused ≡ r)
 

@@ -1,11 +1,11 @@
 -- What the public calls say of data.
-use Rattle.std.specs.Prelude.{◌≡◌, ℕ, Bool, map, List, Option, Some, Result, Ok, Err, IsOk, Vec, if◌then◌else◌}
+use Rattle.std.specs.Prelude.{◌≡◌, ℕ, Bool, map, List, Option, Result, Ok, Err, IsOk, MatchOption, Vec, if◌then◌else◌}
 use Rattle.std.specs.Global.{Global}
 use Rattle.exif_base.specs.declared.endian.Order.{Order}
 use Rattle.exif_base.specs.declared.endian.Order.TheVariants.{Big, Little}
 use Rattle.exif_types.specs.Contents.{ExifContents}
 use Rattle.exif_types.specs.Failures.{Failure, bytes_of}
-use Rattle.exif_types.specs.Refusals.{refusal_of}
+use Rattle.exif_types.specs.Refusals.{Refusal, refusal_of}
 use Rattle.exif_types.specs.declared.error.Error.TheVariants as error
 use Rattle.exif_types.specs.declared.field.Field.{Field}
 use Rattle.exif_tiff.specs.Faults.{text_of, refusal}
@@ -26,19 +26,34 @@ order_named little_endian = if little_endian then Little else Big
 abbrev pub HoldsData : ExifContents → List ℕ → Type 0
 HoldsData exif bytes = (exif.buf ≡ bytes) × (header bytes ≡ Ok (order_named exif.little_endian))
 
--- a refusal is the answer's; want of memory comes only behind a right header
-abbrev pub RefusedAs : Answer → List ℕ → Failure → Type 0
-RefusedAs answer bytes error.OutOfMemory = IsOk (header bytes)
-RefusedAs answer bytes e = (fault : Fault) × (answer ≡ Refused fault) × (refusal_of e ≡ Some (refusal fault))
+-- the data are refused as this
+abbrev pub IsRefusal : Answer → Refusal → Type 0
+IsRefusal answer r = (fault : Fault) × (answer ≡ Refused fault) × (r ≡ refusal fault)
 
--- the fields are all there are; or they come with the faults; or the data are refused
+-- an error is the answer's refusal, or no refusal at all, and then P holds of it
+abbrev pub FailsAs : Answer → (Failure → Type 0) → Failure → Type 0
+FailsAs answer P e = MatchOption (refusal_of e) (P e) (IsRefusal answer)
+
+-- the fields are all there are; or they come with the faults; or the data are refused; P holds of other errors
+abbrev pub ReadsOr : (Failure → Type 0) → Answer → List ℕ → Result ExifContents Failure → Type 0
+ReadsOr P answer bytes (Ok exif) = (answer ≡ Whole exif.fields) × HoldsData exif bytes
+ReadsOr P answer bytes (Err (error.PartialResult partial)) =
+    (faults : List Fault)
+    × (answer ≡ Partial partial.exif.fields faults)
+    × (map bytes_of partial.faults ≡ map text_of faults)
+    × HoldsData partial.exif bytes
+ReadsOr P answer bytes (Err e) = FailsAs answer P e
+
+-- out of memory, which comes only behind a right header
+abbrev pub RunsOut : List ℕ → Failure → Type 0
+RunsOut bytes e = (e ≡ error.OutOfMemory) × IsOk (header bytes)
+
+-- what data in memory are read as
 abbrev pub ReadsAs : Answer → List ℕ → Result ExifContents Failure → Type 0
-ReadsAs answer bytes (Ok exif) = (answer ≡ Whole exif.fields) × HoldsData exif bytes
-ReadsAs answer bytes (Err (error.PartialResult partial)) =
-    (faults : List Fault) × (answer ≡ Partial partial.exif.fields faults) × (map bytes_of partial.faults ≡ map text_of faults) × HoldsData partial.exif bytes
-ReadsAs answer bytes (Err e) = RefusedAs answer bytes e
+ReadsAs answer bytes = ReadsOr (RunsOut bytes) answer bytes
 
 -- the fields in their order, and whether the data are little endian; or the data are refused
 abbrev pub ParsesAs : Answer → List ℕ → Result (Vec Field Global × Bool) Failure → Type 0
-ParsesAs answer bytes (Ok parsed) = (answer ≡ Whole parsed.0.items) × (header bytes ≡ Ok (order_named parsed.1))
-ParsesAs answer bytes (Err e) = RefusedAs answer bytes e
+ParsesAs answer bytes (Ok parsed) =
+    (answer ≡ Whole parsed.0.items) × (header bytes ≡ Ok (order_named parsed.1))
+ParsesAs answer bytes (Err e) = FailsAs answer (RunsOut bytes) e

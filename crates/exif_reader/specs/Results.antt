@@ -7,16 +7,16 @@ use Rattle.exif_reader.specs.declared.stop.Stop.{Stop}
 use Rattle.exif_reader.specs.declared.stop.Stop.TheVariants as stop
 use Rattle.exif_reader.specs.declared.tiff.Parsed.{Parsed}
 
--- the parsed data or a fault say the answer; want of memory says nothing
+-- the parsed data or a fault say the answer; out of memory says nothing
 abbrev pub Says : Result Parsed Stop → Answer → Type 0
 Says (Ok parsed) answer = answer ≡ shown parsed.fields.items parsed.faults.items
 Says (Err (stop.Fault fault)) answer = answer ≡ Refused fault
-Says (Err stop.Memory) answer = Unit {0}
+Says (Err stop.OutOfMemory) answer = Unit {0}
 
--- memory is wanted only behind a right header
-abbrev pub WantsMemory : Result Parsed Stop → List ℕ → Type 0
-WantsMemory (Err stop.Memory) bytes = IsOk (header bytes)
-WantsMemory _ bytes = Unit {0}
+-- memory is asked for only behind a right header
+abbrev pub AsksMemory : Result Parsed Stop → List ℕ → Type 0
+AsksMemory (Err stop.OutOfMemory) bytes = IsOk (header bytes)
+AsksMemory _ bytes = Unit {0}
 
 -- the order of the data
 abbrev pub SaysOrder : Result Parsed Stop → List ℕ → Type 0

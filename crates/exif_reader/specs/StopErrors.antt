@@ -8,5 +8,5 @@ use Rattle.exif_reader.specs.declared.stop.Stop.{Stop}
 use Rattle.exif_reader.specs.declared.stop.Stop.TheVariants as stop
 
 abbrev pub Becomes : Stop → Failure → Type 0
-Becomes stop.Memory e = e ≡ error.OutOfMemory
+Becomes stop.OutOfMemory e = e ≡ error.OutOfMemory
 Becomes (stop.Fault fault) e = refusal_of e ≡ Some (refusal fault)

@@ -9,12 +9,12 @@ use Rattle.exif_reader.specs.declared.stop.Stop.TheVariants as stop
 -- a step ended or stopped as the trace says, unless memory ran out
 abbrev pub Follows : Result (Unit {0}) Stop → Progress → Progress × Option Fault → Type 0
 Follows (Ok _) new outcome = outcome ≡ (new, None)
-Follows (Err stop.Memory) new outcome = Unit {0}
+Follows (Err stop.OutOfMemory) new outcome = Unit {0}
 Follows (Err (stop.Fault fault)) new outcome = outcome ≡ (new, Some fault)
 
 -- as many turns were taken as the trace that was walked has visits: the whole trace, or what stands before the stop
 abbrev pub CountsTurns : Result (Unit {0}) Stop → Progress → Progress → List Node → Type 0
 CountsTurns (Ok _) old new nodes = new.left + visits_of nodes ≡ old.left
-CountsTurns (Err stop.Memory) old new nodes = Unit {0}
+CountsTurns (Err stop.OutOfMemory) old new nodes = Unit {0}
 CountsTurns (Err (stop.Fault fault)) old new nodes =
     (walked rest : List Node) × (nodes ≡ walked ++ rest) × (new.left + visits_of walked ≡ old.left)

@@ -98,7 +98,7 @@ impl Reader {
     /// open.
     ///
     /// Whether or not the source tells its bytes, what comes back is what its own data (`buf`)
-    /// answer, and any other error is a named refusal of a container or of data, want of memory,
+    /// answer, and any other error is a named refusal of a container or of data, out of memory,
     /// or the source's.
     pub fn read_from_container<R: Source>(
         &self,

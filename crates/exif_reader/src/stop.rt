@@ -1,7 +1,7 @@
 //! Why a parser stops.
 
 ghost use Rattle.std.specs.Prelude.{◌≡◌};
-ghost use Rattle.exif_reader.specs.declared.stop.Stop.TheVariants.{Memory};
+ghost use Rattle.exif_reader.specs.declared.stop.Stop.TheVariants.{OutOfMemory};
 
 use exif_tiff::Fault;
 use exif_types::Error;
@@ -10,23 +10,23 @@ use std::alloc::{AllocError, AllocFailed};
 /// Why a parser stops: there is no memory, or a fault ends the reading.
 #[derive(Clone, Copy, Debug)]
 pub enum Stop {
-    Memory,
+    OutOfMemory,
     Fault(Fault),
 }
 
 impl From<AllocError> for Stop {
-    ghost from_gives = { λ _ e. e ≡ Memory };
+    ghost from_gives = { λ _ e. e ≡ OutOfMemory };
 
     fn from(_e: AllocError) -> Stop {
-        Stop::Memory
+        Stop::OutOfMemory
     }
 }
 
 impl<T: Drop> From<AllocFailed<T>> for Stop {
-    ghost from_gives = { λ _ e. e ≡ Memory };
+    ghost from_gives = { λ _ e. e ≡ OutOfMemory };
 
     fn from(_e: AllocFailed<T>) -> Stop {
-        Stop::Memory
+        Stop::OutOfMemory
     }
 }
 
@@ -37,7 +37,7 @@ impl From<Stop> for Error {
 
     fn from(stop: Stop) -> Error {
         match stop {
-            Stop::Memory => Error::OutOfMemory,
+            Stop::OutOfMemory => Error::OutOfMemory,
             Stop::Fault(fault) => Error::from(fault),
         }
     }

@@ -5,7 +5,7 @@ ghost use Rattle.exif_tiff.specs.Trace.{header, content_of, cut, ordered_trace};
 ghost use Rattle.exif_tiff.specs.Answers.{answer_of, raw_answer};
 ghost use Rattle.exif_reader.specs.Bounds.{FieldsAtMost};
 ghost use Rattle.exif_reader.specs.Readings.{ParsesAs};
-ghost use Rattle.exif_reader.specs.Results.{Says, WantsMemory, SaysOrder};
+ghost use Rattle.exif_reader.specs.Results.{Says, AsksMemory, SaysOrder};
 
 use crate::bytes::show_bytes;
 use crate::parser::Parser;
@@ -65,7 +65,7 @@ fn parse_in<E: Endian>(
     match parser.chain::<E>(alloc, bytes, 8, E::loadu32(bytes, 4)) {
         Ok(()) => {}
         Err(Stop::Fault(fault)) => parser.met(fault)?,
-        Err(Stop::Memory) => return Err(Stop::Memory),
+        Err(Stop::OutOfMemory) => return Err(Stop::OutOfMemory),
     }
     let (fields, faults) = parser.into_parts();
     Ok(Parsed {
@@ -79,7 +79,7 @@ fn parse_in<E: Endian>(
 fn parse_within(alloc: Global, bytes: &[u8], lenient: bool, most: u64) -> Result<Parsed, Stop>
     ensures says { Says result (raw_answer lenient (Some most) bytes.now) }
     ensures order { SaysOrder result bytes.now }
-    ensures memory { WantsMemory result bytes.now }
+    ensures memory { AsksMemory result bytes.now }
 {
     match header(bytes) {
         Ok(Order::Big) => parse_in::<BigEndian>(alloc, bytes, lenient, most, false),
@@ -93,7 +93,7 @@ fn parse_within(alloc: Global, bytes: &[u8], lenient: bool, most: u64) -> Result
 pub fn parse(alloc: Global, bytes: &[u8], lenient: bool, limit: Option<u64>) -> Result<Parsed, Stop>
     ensures says { Says result (raw_answer lenient limit bytes.now) }
     ensures order { SaysOrder result bytes.now }
-    ensures memory { WantsMemory result bytes.now }
+    ensures memory { AsksMemory result bytes.now }
 {
     show_bytes(bytes);
     reading_is_bounded();

@@ -24,7 +24,7 @@ fn is_kept(field: &Field) -> bool
     !matches!(field.tag.context(), Context::Gps) && !matches!(field.value, Value::Unknown(_, _, _))
 }
 
-// Pushes the fields that are kept, in their order. The only error is want of memory.
+// Pushes the fields that are kept, in their order. The only error is out of memory.
 fn push_kept<'a>(writer: &mut Writer<'a>, exif: &'a Exif) -> Result<(), Error>
     ensures pushed { OnOk result (writer.new ≡ pushed_all (kept exif.now.fields) writer.old) }
     ensures memory { IfErr result (λ e. e ≡ Error.OutOfMemory) }
@@ -42,7 +42,7 @@ fn push_kept<'a>(writer: &mut Writer<'a>, exif: &'a Exif) -> Result<(), Error>
 /// written. What was sent is read, in both modes and without a fault, as exactly the fields that
 /// are kept, and scrubbing it again gives the same bytes.
 ///
-/// The refusals are those of `Writer::write` for these fields: after them and after want of memory
+/// The refusals are those of `Writer::write` for these fields: after them and where memory runs out
 /// nothing was sent, and after an error of the sink exactly a beginning of the image.
 pub fn scrub<W: Sink>(
     alloc: Global,

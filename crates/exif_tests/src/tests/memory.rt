@@ -83,7 +83,7 @@ fn one_text(alloc: Global, text: &[u8]) -> Result<Value, Fail> {
 }
 
 #[test]
-fn containers_want_memory(rt: HostRuntime) -> Result<(), Fail> {
+fn containers_run_out_of_memory(rt: HostRuntime) -> Result<(), Fail> {
     let alloc = rt.alloc();
     let sample = one_text(alloc, b"Sample")?;
     let reader = Reader::new();
@@ -128,7 +128,7 @@ fn same_bytes(alloc: Global) -> Result<Vec<u8>, Fail> {
 // The fields take more memory than the buffer of the bytes did, which is given back before, so that
 // memory is refused amid the walk.
 #[test]
-fn many_fields_want_memory(rt: HostRuntime) -> Result<(), Fail> {
+fn many_fields_run_out_of_memory(rt: HostRuntime) -> Result<(), Fail> {
     let alloc = rt.alloc();
     let mut reader = Reader::new();
     reader.continue_on_error(true);
@@ -143,7 +143,7 @@ fn many_fields_want_memory(rt: HostRuntime) -> Result<(), Fail> {
     Ok(())
 }
 
-// What a report comes to. Where it wants memory a beginning of the text is written, and else all.
+// What a report comes to. Where memory runs out a beginning of the text is written, and else all.
 fn reporting(
     alloc: Global,
     bytes: &[u8],
@@ -164,7 +164,7 @@ fn reporting(
 }
 
 #[test]
-fn reports_want_memory(rt: HostRuntime) -> Result<(), Fail> {
+fn reports_run_out_of_memory(rt: HostRuntime) -> Result<(), Fail> {
     let alloc = rt.alloc();
     let shared = "ImageWidth primary 20 pixels
 ImageWidth primary 21 pixels
@@ -204,7 +204,7 @@ fn reported_greedily(
 }
 
 #[test]
-fn lines_want_memory(rt: HostRuntime) -> Result<(), Fail> {
+fn lines_run_out_of_memory(rt: HostRuntime) -> Result<(), Fail> {
     let alloc = rt.alloc();
     let fields = "ExifVersion primary 0x00020302\nTag(Tiff, 65000) primary -19088744\n";
     let (answer, written) = reported_greedily(alloc, files::WRONG_NEXT, 256)?;
@@ -245,7 +245,7 @@ fn copying_field(alloc: Global, field: &Field) -> Outcome {
 }
 
 #[test]
-fn copies_want_memory(rt: HostRuntime) -> Result<(), Fail> {
+fn copies_run_out_of_memory(rt: HostRuntime) -> Result<(), Fail> {
     let alloc = rt.alloc();
     let data = Vec::from_slice(alloc, files::EVERY_TYPE_BIG)?;
     let exif = Reader::new().read_raw(alloc, data)?;
@@ -270,8 +270,8 @@ fn defaulting(alloc: Global, tag: Tag, value: &Value) -> Outcome {
     }
 }
 
-// Each making of a tag's default wants memory, or gives this value.
-fn default_wants_memory(
+// Each making of a tag's default runs out of memory, or gives this value.
+fn default_runs_out_of_memory(
     rt: &(impl Abort + AllocGlobal),
     tag: Tag,
     value: &Value,
@@ -282,21 +282,21 @@ fn default_wants_memory(
 }
 
 #[test]
-fn defaults_want_memory(rt: HostRuntime) -> Result<(), Fail> {
+fn defaults_run_out_of_memory(rt: HostRuntime) -> Result<(), Fail> {
     let alloc = rt.alloc();
     let bits = Value::Short(Items::from_slice(alloc, &[8, 8, 8])?);
-    default_wants_memory(&rt, Tag::BitsPerSample, &bits)?;
+    default_runs_out_of_memory(&rt, Tag::BitsPerSample, &bits)?;
     let resolution = Value::Rational(Items::from_slice(alloc, &[Rational::from((72, 1))])?);
-    default_wants_memory(&rt, Tag::XResolution, &resolution)
+    default_runs_out_of_memory(&rt, Tag::XResolution, &resolution)
 }
 
 #[test]
-fn defaults_of_bytes_want_memory(rt: HostRuntime) -> Result<(), Fail> {
+fn defaults_of_bytes_run_out_of_memory(rt: HostRuntime) -> Result<(), Fail> {
     let alloc = rt.alloc();
     let source = Value::Undefined(Items::from_slice(alloc, &[3])?, 0);
-    default_wants_memory(&rt, Tag::FileSource, &source)?;
+    default_runs_out_of_memory(&rt, Tag::FileSource, &source)?;
     let altitude = Value::Byte(Items::from_slice(alloc, &[0])?);
-    default_wants_memory(&rt, Tag::GPSAltitudeRef, &altitude)?;
+    default_runs_out_of_memory(&rt, Tag::GPSAltitudeRef, &altitude)?;
     let speed = one_text(alloc, b"K")?;
-    default_wants_memory(&rt, Tag::GPSSpeedRef, &speed)
+    default_runs_out_of_memory(&rt, Tag::GPSSpeedRef, &speed)
 }

@@ -2,7 +2,7 @@
 //!
 //! All memory is taken, and some of it given back: so these tests need an allocator that hands out
 //! again what was dropped, as that of a built program does. Under `rt try --test`, whose allocator
-//! never does, each of them fails with want of memory; `rt test` is their judge.
+//! never does, each of them fails with out of memory; `rt test` is their judge.
 
 use exif::Error;
 use std::alloc::{AllocError, Global};
@@ -76,7 +76,7 @@ pub fn take_rest(alloc: Global, left: u16) -> Result<Blocks, AllocError> {
 /// What a call comes to where memory is short.
 #[derive(Drop)]
 pub enum Outcome {
-    /// It wants memory, and gave nothing false.
+    /// Memory ran out, and it gave nothing false.
     Wants,
     /// It answers as with all the memory.
     Right,
@@ -94,7 +94,7 @@ impl Outcome {
         }
     }
 
-    /// The outcome of an error, of which only want of memory may come.
+    /// The outcome of an error, of which only out of memory may come.
     pub fn refused(error: &Error) -> Outcome {
         match error {
             Error::OutOfMemory => Outcome::Wants,
@@ -104,7 +104,7 @@ impl Outcome {
 }
 
 /// Calls with no memory left, and then with ever more, until the answer is the right one. Any
-/// other is want of memory. Gives how many calls wanted memory.
+/// other is out of memory. Gives in how many calls memory ran out.
 pub fn in_turn<F: FnMut() -> Outcome + Drop>(
     rt: &(impl Abort + AllocGlobal),
     mut call: F,
@@ -136,7 +136,7 @@ pub struct Greedy {
 }
 
 impl Greedy {
-    /// A writer with room for so many bytes. One more wants memory, and the call fails.
+    /// A writer with room for so many bytes. For one more there is no memory, and the call fails.
     pub fn new(alloc: Global, room: usize) -> Result<Greedy, AllocError> {
         Ok(Greedy {
             written: Vec::with_capacity(alloc, room)?,

@@ -13,7 +13,7 @@ use std::io::ErrorKind;
 use std::process::Abort;
 use std::test::Fail;
 
-// What a write comes to that is to send these bytes. Where it wants memory, nothing was sent.
+// What a write comes to that is to send these bytes. Where memory runs out, nothing was sent.
 fn writing(writer: &mut Writer, bytes: &[u8]) -> Outcome {
     let mut room = [0u8; 256];
     let mut out = Counted::new(&mut room[..]);
@@ -27,7 +27,7 @@ fn writing(writer: &mut Writer, bytes: &[u8]) -> Outcome {
 }
 
 #[test]
-fn writing_wants_memory(rt: HostRuntime) -> Result<(), Fail> {
+fn writing_runs_out_of_memory(rt: HostRuntime) -> Result<(), Fail> {
     let alloc = rt.alloc();
     let fields = four_fields(alloc)?;
     let mut writer = Writer::new(alloc);
@@ -38,7 +38,7 @@ fn writing_wants_memory(rt: HostRuntime) -> Result<(), Fail> {
     Ok(())
 }
 
-// What scrubbing comes to that is to send these bytes. Where it wants memory, nothing was sent.
+// What scrubbing comes to that is to send these bytes. Where memory runs out, nothing was sent.
 fn scrubbing(alloc: Global, exif: &Exif, bytes: &[u8]) -> Outcome {
     let mut room = [0u8; 256];
     let mut out = Counted::new(&mut room[..]);
@@ -52,7 +52,7 @@ fn scrubbing(alloc: Global, exif: &Exif, bytes: &[u8]) -> Outcome {
 }
 
 #[test]
-fn scrubbing_wants_memory(rt: HostRuntime) -> Result<(), Fail> {
+fn scrubbing_runs_out_of_memory(rt: HostRuntime) -> Result<(), Fail> {
     let alloc = rt.alloc();
     let data = Vec::from_slice(alloc, files::EVERY_DIRECTORY)?;
     let exif = Reader::new().read_raw(alloc, data)?;
