@@ -1,4 +1,3 @@
-pub mod Ahead
 pub mod Blocks
 pub mod Bytes
 pub mod Counted

@@ -2,7 +2,6 @@
 //! that bytes come from and go to, and the reads and sends over them.
 #![tactic(auto)]
 
-pub mod ahead;
 pub mod device;
 pub mod endian;
 pub mod items;
@@ -12,7 +11,6 @@ pub mod send;
 #[cfg(test)]
 mod tests;
 
-pub use ahead::Ahead;
 pub use device::{Counted, Sink, Source};
 pub use endian::{BigEndian, Endian, LittleEndian, Order};
 pub use items::Items;

@@ -1,4 +1,4 @@
-//! Reads and skips that keep apart the end of the bytes, a reader's error and want of memory.
+//! Reads and skips that keep apart the end of the bytes, a reader's error and running out of memory.
 
 ghost use Rattle.std.specs.Prelude.{◌≡◌, ◌≢◌, ◌<◌, ◌≤◌, ◌∷◌, [], ◌++◌, List, ℕ, length, take, Err, OnOk, IfOk, is_err};
 ghost use Rattle.std.specs.Io.{StartsWith};
@@ -11,7 +11,7 @@ ghost use Rattle.exif_base.specs.declared.read.ReadFault.TheVariants.{End, Io, O
 
 use crate::device::Source;
 use crate::endian::{BigEndian, Endian};
-use std::alloc::{AllocError, AllocFailed};
+use std::alloc::AllocError;
 use std::io;
 
 /// Why the wanted bytes did not come.
@@ -37,14 +37,6 @@ impl From<AllocError> for ReadFault {
     ghost from_gives = { λ _ fault. fault ≡ OutOfMemory };
 
     fn from(_e: AllocError) -> ReadFault {
-        ReadFault::OutOfMemory
-    }
-}
-
-impl<T: Drop> From<AllocFailed<T>> for ReadFault {
-    ghost from_gives = { λ _ fault. fault ≡ OutOfMemory };
-
-    fn from(_e: AllocFailed<T>) -> ReadFault {
         ReadFault::OutOfMemory
     }
 }

@@ -1,11 +1,10 @@
 //! Sources that may hold bytes ahead of what was taken, and pass over them fast.
 
-ghost use Rattle.std.specs.Prelude.{◌≡◌, ◌≢◌, ◌∷◌, ◌+◌, ◌-◌, ◌<◌, ◌≤◌, ℕ, length, min, take, drop, slice_index, is_err, OnOk};
+ghost use Rattle.std.specs.Prelude.{◌≡◌, ◌≢◌, ◌∷◌, ◌++◌, ◌+◌, ◌-◌, ◌<◌, ◌≤◌, ℕ, length, min, take, drop, slice_index, is_err, OnOk};
 ghost use Rattle.std.specs.Io.KnownBytes.{IsAtEnd, Keeps, prepend_known};
 ghost use Rattle.exif_base.specs.Device.{count_after};
 ghost use Rattle.exif_base.specs.Scan.{PassesOthers};
 
-use crate::ahead::copy_front;
 use crate::device::Source;
 use memchr::memchr;
 use std::io;
@@ -186,4 +185,14 @@ fn copy_between(block: &[u8], at: usize, end: usize, to: &mut [u8]) -> usize
     ensures copied { take result to.new ≡ take result (drop at (take end block.now)) }
 {
     copy_front(&block[at..end], to)
+}
+
+// Copies as many bytes as both have, and answers how many.
+fn copy_front(from: &[u8], to: &mut [u8]) -> usize
+    ensures count { result ≡ min (length from.now) (length to.old) }
+    ensures copied { to.new ≡ take result from.now ++ drop result to.old }
+{
+    let n = from.len().min(to.len());
+    to[..n].copy_from_slice(&from[..n]);
+    n
 }

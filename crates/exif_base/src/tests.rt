@@ -1,7 +1,5 @@
 //! Devices that give or take a byte a call and fail at a given call; each public call once.
 
-use crate::Ahead;
-use crate::ahead::copy_front;
 use crate::device::{Counted, Sink, Source};
 use crate::endian::{BigEndian, Endian, LittleEndian, Order};
 use crate::items::Items;
@@ -11,7 +9,7 @@ use crate::read::{
 };
 use crate::scan::{Blocks, Exact, Scan};
 use crate::send::send_all;
-use std::alloc::{AllocError, AllocFailed};
+use std::alloc::AllocError;
 use std::io;
 use std::io::{Cursor, ErrorKind, Read, Write};
 use std::process::Abort;
@@ -198,14 +196,8 @@ fn sends_to_each_kind_of_writer(rt: HostRuntime) -> Result<(), Fail> {
 }
 
 #[test]
-fn bytes_ahead_come_first(rt: HostRuntime) -> Result<(), Fail> {
+fn bytes_at_hand_come_first(rt: HostRuntime) -> Result<(), Fail> {
     let mut list = Vec::new(rt.alloc());
-    let mut rest = one_byte(b"3456789", 100, ErrorKind::Other);
-    reads_all(
-        &rt,
-        &mut Ahead::new(b"012", &mut rest),
-        &mut Vec::new(rt.alloc()),
-    )?;
     let mut source = Counted::new(DIGITS);
     reads_all(&rt, &mut Exact::new(&mut source), &mut Vec::new(rt.alloc()))?;
     let mut source = one_byte(b"3456789", 100, ErrorKind::Other);
@@ -223,9 +215,6 @@ fn bytes_ahead_come_first(rt: HostRuntime) -> Result<(), Fail> {
     assert_eq!(rt; blocks.pass_others(b'4', 9), 0);
     read_to_end(&mut blocks, &mut list)?;
     assert_eq!(rt; list.as_slice(), b"456789".as_slice());
-    let mut room = [0u8; 2];
-    assert_eq!(rt; copy_front(b"abc", &mut room), 2);
-    assert!(rt; room == *b"ab");
     assert_eq!(rt;
         Exact::new(&mut Counted::new(DIGITS)).pass_others(b'4', 9),
         0
@@ -256,8 +245,6 @@ fn lists_and_faults(rt: HostRuntime) -> Result<(), Fail> {
     assert!(rt; Items::from_vec(again.into_vec()) == copy);
     let text = format!(in rt.alloc(); "{copy:?} {:?}", ReadFault::from(AllocError))?;
     assert_eq!(rt; text.as_str(), "[3, 5] OutOfMemory");
-    let failed = ReadFault::from(AllocFailed { value: 7u8 });
-    assert!(rt; matches!(failed, ReadFault::OutOfMemory));
     let broken = ReadFault::from(io::Error::new(ErrorKind::Other, "broken"));
     assert!(rt; matches!(broken, ReadFault::Io(_)));
     Ok(())
