@@ -1,4 +1,4 @@
-pub mod AtHand
-pub mod Overwritten
+pub mod EndianSteps
+pub mod ReadSteps
+pub mod ScanSteps
 pub mod Sent
-pub mod Told

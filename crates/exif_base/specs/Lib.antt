@@ -5,6 +5,7 @@ pub mod Device
 pub mod Exact
 pub mod Orders
 pub mod ReadFaults
+pub mod Reads
 pub mod Scan
 pub mod Sent
 pub mod Told

@@ -1,12 +1,12 @@
-//! Reads and skips that keep apart the end of the bytes, a reader's error and running out of memory.
+//! Reads and skips, which keep apart the end of the bytes, a reader's error and out of memory.
 
 ghost use Rattle.std.specs.Prelude.{◌≡◌, ◌≢◌, ◌<◌, ◌≤◌, ◌∷◌, [], ◌++◌, List, ℕ, length, take, Err, OnOk, IfOk, is_err};
 ghost use Rattle.std.specs.Io.{StartsWith};
 ghost use Rattle.std.specs.Io.KnownBytes.{Consumes, IsAtEnd};
 ghost use Rattle.byteorder.specs.Endian.{ReadsNumber, big_number};
-ghost use Rattle.exif_base.specs.Device.{count_after};
-ghost use Rattle.exif_base.specs.ReadFaults.{OnEnd, is_io_fault};
-ghost use Rattle.exif_base.specs.Told.{HasFewer, Skips, TakesAll};
+ghost use Rattle.exif_base.specs.ReadFaults.{is_io_fault};
+ghost use Rattle.exif_base.specs.Reads.{Counts, Reads};
+ghost use Rattle.exif_base.specs.Told.{Skips, TakesAll};
 ghost use Rattle.exif_base.specs.declared.read.ReadFault.TheVariants.{End, Io, OutOfMemory};
 
 use crate::device::Source;
@@ -45,11 +45,11 @@ impl From<AllocError> for ReadFault {
 ///
 /// Answers how many. After an error of the reader, how far it was read is left open.
 pub fn read_front<R: Source>(source: &mut R, buf: &mut [u8]) -> io::Result<usize>
-    ensures taken { IfOk result (λ n. Consumes (R.left source.old) (R.left source.new) (take n buf.new)) }
+    ensures taken { IfOk result
+        (λ n. Consumes (R.left source.old) (R.left source.new) (take n buf.new)) }
     ensures bound { IfOk result (λ n. n ≤ length buf.new) }
     ensures end { IfOk result (λ n. n < length buf.new → IsAtEnd (R.left source.new)) }
-    ensures count { R.failures source.new ≡ count_after (is_err result) (R.failures source.old) }
-    ensures same { R.through source.new ≡ R.through source.old }
+    ensures counts { Counts R.Source source.old source.new (is_err result) }
 {
     let mut at = 0;
     while at < buf.len() {
@@ -68,11 +68,8 @@ pub fn read_front<R: Source>(source: &mut R, buf: &mut [u8]) -> io::Result<usize
 /// far it was read is left open.
 pub fn read_exact<R: Source>(source: &mut R, buf: &mut [u8]) -> Result<(), ReadFault>
     ensures taken { OnOk result (Consumes (R.left source.old) (R.left source.new) buf.new) }
-    ensures end { OnEnd result (HasFewer (R.left source.old) (length buf.old)) }
-    ensures at_end { OnEnd result (IsAtEnd (R.left source.new)) }
+    ensures reads { Reads R.Source source.old source.new (length buf.old) result }
     ensures no_memory { result ≢ Err OutOfMemory }
-    ensures count { R.failures source.new ≡ count_after (is_io_fault result) (R.failures source.old) }
-    ensures same { R.through source.new ≡ R.through source.old }
 {
     let n = read_front(source, buf)?;
     if n < buf.len() {
@@ -83,12 +80,10 @@ pub fn read_exact<R: Source>(source: &mut R, buf: &mut [u8]) -> Result<(), ReadF
 
 /// The next byte. Faults are those of `read_exact`.
 pub fn read8<R: Source>(source: &mut R) -> Result<u8, ReadFault>
-    ensures taken { IfOk result (λ byte. Consumes (R.left source.old) (R.left source.new) (byte ∷ [])) }
-    ensures end { OnEnd result (HasFewer (R.left source.old) 1) }
-    ensures at_end { OnEnd result (IsAtEnd (R.left source.new)) }
+    ensures taken { IfOk result
+        (λ byte. Consumes (R.left source.old) (R.left source.new) (byte ∷ [])) }
+    ensures reads { Reads R.Source source.old source.new 1 result }
     ensures no_memory { result ≢ Err OutOfMemory }
-    ensures count { R.failures source.new ≡ count_after (is_io_fault result) (R.failures source.old) }
-    ensures same { R.through source.new ≡ R.through source.old }
 {
     let mut bytes = [0u8; 1];
     read_exact(source, &mut bytes)?;
@@ -98,11 +93,8 @@ pub fn read8<R: Source>(source: &mut R) -> Result<u8, ReadFault>
 /// The number in the next two bytes, the highest first. Faults are those of `read_exact`.
 pub fn read16<R: Source>(source: &mut R) -> Result<u16, ReadFault>
     ensures taken { IfOk result (ReadsNumber big_number 2 (R.left source.old) (R.left source.new)) }
-    ensures end { OnEnd result (HasFewer (R.left source.old) 2) }
-    ensures at_end { OnEnd result (IsAtEnd (R.left source.new)) }
+    ensures reads { Reads R.Source source.old source.new 2 result }
     ensures no_memory { result ≢ Err OutOfMemory }
-    ensures count { R.failures source.new ≡ count_after (is_io_fault result) (R.failures source.old) }
-    ensures same { R.through source.new ≡ R.through source.old }
 {
     let mut bytes = [0u8; 2];
     read_exact(source, &mut bytes)?;
@@ -112,11 +104,8 @@ pub fn read16<R: Source>(source: &mut R) -> Result<u16, ReadFault>
 /// The number in the next eight bytes, the highest first. Faults are those of `read_exact`.
 pub fn read64<R: Source>(source: &mut R) -> Result<u64, ReadFault>
     ensures taken { IfOk result (ReadsNumber big_number 8 (R.left source.old) (R.left source.new)) }
-    ensures end { OnEnd result (HasFewer (R.left source.old) 8) }
-    ensures at_end { OnEnd result (IsAtEnd (R.left source.new)) }
+    ensures reads { Reads R.Source source.old source.new 8 result }
     ensures no_memory { result ≢ Err OutOfMemory }
-    ensures count { R.failures source.new ≡ count_after (is_io_fault result) (R.failures source.old) }
-    ensures same { R.through source.new ≡ R.through source.old }
 {
     let mut bytes = [0u8; 8];
     read_exact(source, &mut bytes)?;
@@ -133,13 +122,12 @@ fn fetch_some<R: Source>(
     most: u64,
 ) -> Result<usize, ReadFault>
     requires { 0 < most }
-    ensures some { IfOk result (λ n. (0 < n) × (n ≤ most) × (n ≤ BLOCK) × (length (take n block.new) ≡ n)) }
-    ensures taken { IfOk result (λ n. Consumes (R.left source.old) (R.left source.new) (take n block.new)) }
-    ensures end { OnEnd result (HasFewer (R.left source.old) 1) }
-    ensures at_end { OnEnd result (IsAtEnd (R.left source.new)) }
+    ensures some { IfOk result
+        (λ n. (0 < n) × (n ≤ most) × (n ≤ BLOCK) × (length (take n block.new) ≡ n)) }
+    ensures taken { IfOk result
+        (λ n. Consumes (R.left source.old) (R.left source.new) (take n block.new)) }
+    ensures reads { Reads R.Source source.old source.new 1 result }
     ensures no_memory { result ≢ Err OutOfMemory }
-    ensures count { R.failures source.new ≡ count_after (is_io_fault result) (R.failures source.old) }
-    ensures same { R.through source.new ≡ R.through source.old }
 {
     let room = most.min(BLOCK as u64) as usize;
     let n = source.fetch(&mut block[..room])?;
@@ -152,11 +140,8 @@ fn fetch_some<R: Source>(
 /// Takes the next `len` bytes and forgets them, without memory. Faults are those of `read_exact`.
 pub fn discard_exact<R: Source>(source: &mut R, len: u64) -> Result<(), ReadFault>
     ensures taken { OnOk result (Skips (R.left source.old) (R.left source.new) len) }
-    ensures end { OnEnd result (HasFewer (R.left source.old) len) }
-    ensures at_end { OnEnd result (IsAtEnd (R.left source.new)) }
+    ensures reads { Reads R.Source source.old source.new len result }
     ensures no_memory { result ≢ Err OutOfMemory }
-    ensures count { R.failures source.new ≡ count_after (is_io_fault result) (R.failures source.old) }
-    ensures same { R.through source.new ≡ R.through source.old }
 {
     let mut block = [0u8; BLOCK];
     let mut rest = len;
@@ -169,20 +154,18 @@ pub fn discard_exact<R: Source>(source: &mut R, len: u64) -> Result<(), ReadFaul
 
 /// Puts the next `len` bytes at the end of the list.
 ///
-/// The list grows only as far as bytes come, so a length that lies takes no memory. After a fault it
-/// holds what it held and then some of the bytes.
+/// The list grows only as far as bytes come, so a length that lies takes no memory. After a fault
+/// it holds what it held and then some of the bytes.
 pub fn read_exact_len<R: Source>(
     source: &mut R,
     buf: &mut Vec<u8>,
     len: u64,
 ) -> Result<(), ReadFault>
-    ensures taken { OnOk result ((bytes : List ℕ) × Consumes (R.left source.old) (R.left source.new) bytes
+    ensures taken { OnOk result ((bytes : List ℕ)
+        × Consumes (R.left source.old) (R.left source.new) bytes
         × (length bytes ≡ len) × (buf.new.items ≡ buf.old.items ++ bytes)) }
-    ensures end { OnEnd result (HasFewer (R.left source.old) len) }
-    ensures at_end { OnEnd result (IsAtEnd (R.left source.new)) }
+    ensures reads { Reads R.Source source.old source.new len result }
     ensures kept { StartsWith buf.new.items buf.old.items }
-    ensures count { R.failures source.new ≡ count_after (is_io_fault result) (R.failures source.old) }
-    ensures same { R.through source.new ≡ R.through source.old }
 {
     let mut block = [0u8; BLOCK];
     let mut missing = len;
@@ -202,8 +185,7 @@ pub fn read_to_end<R: Source>(source: &mut R, buf: &mut Vec<u8>) -> Result<(), R
     ensures at_end { OnOk result (IsAtEnd (R.left source.new)) }
     ensures no_end { result ≢ Err End }
     ensures kept { StartsWith buf.new.items buf.old.items }
-    ensures count { R.failures source.new ≡ count_after (is_io_fault result) (R.failures source.old) }
-    ensures same { R.through source.new ≡ R.through source.old }
+    ensures counts { Counts R.Source source.old source.new (is_io_fault result) }
 {
     let mut block = [0u8; BLOCK];
     loop {

@@ -2,7 +2,7 @@
 
 ghost use Rattle.std.specs.Prelude.{◌≡◌, ◌≢◌, ◌∷◌, ◌++◌, ◌+◌, ◌-◌, ◌<◌, ◌≤◌, ℕ, length, min, take, drop, slice_index, is_err, OnOk};
 ghost use Rattle.std.specs.Io.KnownBytes.{IsAtEnd, Keeps, prepend_known};
-ghost use Rattle.exif_base.specs.Device.{count_after};
+ghost use Rattle.exif_base.specs.Reads.{Counts};
 ghost use Rattle.exif_base.specs.Scan.{PassesOthers};
 
 use crate::device::Source;
@@ -13,8 +13,8 @@ use std::io;
 pub trait Scan: Source {
     /// Takes bytes at hand up to the first `stop`, at most `most`, and answers how many.
     ///
-    /// It reads nothing, so it cannot fail. Which bytes are at hand is the source's own choice, and 0 is
-    /// always a right answer.
+    /// It reads nothing, so it cannot fail. Which bytes are at hand is the source's own choice, and
+    /// 0 is always a right answer.
     fn pass_others(&mut self, stop: u8, most: u64) -> u64
         ensures bound { result ≤ most }
         ensures passed { PassesOthers (Self.left self.old) (Self.left self.new) stop result }
@@ -62,8 +62,8 @@ impl<'a, R: Source> Scan for Exact<'a, R> {
 
 /// A source read in blocks: some bytes of the block are at hand, and the rest follows.
 ///
-/// It reads where a byte is wanted and none is at hand, and then once, so a fault of the reader comes
-/// where it would come without blocks. What was read and not taken is lost with it.
+/// It reads where a byte is wanted and none is at hand, and then once, so a fault of the reader
+/// comes where it would come without blocks. What was read and not taken is lost with it.
 #[derive(Drop)]
 pub struct Blocks<'a, R> {
     block: &'a mut [u8],
@@ -96,7 +96,8 @@ impl<'a, R> Blocks<'a, R> {
     fn others_at_hand(&self, stop: u8, most: u64) -> usize
         ensures most { result ≤ most }
         ensures bound { self.now.at + result ≤ self.now.end }
-        ensures others { (k : ℕ) → k < result → slice_index self.now.block.now (self.now.at + k) ≢ stop }
+        ensures others { (k : ℕ) → k < result
+            → slice_index self.now.block.now (self.now.at + k) ≢ stop }
     {
         others_at_front(self.block, self.at, self.end, stop, most)
     }
@@ -118,10 +119,11 @@ impl<'a, R: Source> Blocks<'a, R> {
     fn fill_at_hand(&mut self) -> io::Result<()>
         ensures bytes { Keeps (prepend_known (at_hand self.old) (R.left (blocks_source self.old)))
             (prepend_known (at_hand self.new) (R.left (blocks_source self.new))) }
-        ensures end { OnOk result (self.new.at ≡ self.new.end → IsAtEnd (R.left (blocks_source self.new))) }
-        ensures count { R.failures (blocks_source self.new) ≡ count_after (is_err result) (R.failures (blocks_source self.old)) }
+        ensures end { OnOk result
+            (self.new.at ≡ self.new.end → IsAtEnd (R.left (blocks_source self.new))) }
+        ensures counts { Counts R.Source (blocks_source self.old) (blocks_source self.new)
+            (is_err result) }
         ensures same { blocks_name self.new ≡ blocks_name self.old }
-        ensures through { R.through (blocks_source self.new) ≡ R.through (blocks_source self.old) }
     {
         if self.at < self.end {
             return Ok(());

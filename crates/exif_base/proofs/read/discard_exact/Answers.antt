@@ -1,5 +1,5 @@
 use Rattle.std.proofs.Common.{arith, rules}
-use Rattle.exif_base.proofs.Told.{skips_more}
+use Rattle.exif_base.proofs.ReadSteps.{skips_more}
 use Rattle.exif_base.proofs.read.discard_exact.Goals as goal
 
 pub loop-rest-preserved : goal.loop-rest-preserved

@@ -1,5 +1,5 @@
 use Rattle.std.proofs.Common.{◌-◌, length, rules}
-use Rattle.exif_base.proofs.Told.{consumes_append, take_filled}
+use Rattle.exif_base.proofs.ReadSteps.{consumes_append, take_filled}
 use Rattle.exif_base.proofs.read.read_front.Goals as goal
 
 pub loop-at-preserved : goal.loop-at-preserved

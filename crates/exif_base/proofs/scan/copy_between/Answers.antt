@@ -1,5 +1,5 @@
 use Rattle.std.proofs.Common.{rules}
-use Rattle.exif_base.proofs.AtHand.{at_hand_copied}
+use Rattle.exif_base.proofs.ScanSteps.{at_hand_copied}
 use Rattle.exif_base.proofs.scan.copy_between.Goals as goal
 
 pub returns-clause-copied : goal.returns-clause-copied

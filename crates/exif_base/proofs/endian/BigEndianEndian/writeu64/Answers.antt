@@ -1,4 +1,4 @@
-use Rattle.exif_base.proofs.Overwritten.{put_over}
+use Rattle.exif_base.proofs.EndianSteps.{put_over}
 use Rattle.byteorder.specs.Endian.{big_bytes}
 use Rattle.exif_base.proofs.endian.BigEndianEndian.writeu64.Goals as goal
 

@@ -1,4 +1,4 @@
-use Rattle.exif_base.proofs.Overwritten.{put_over}
+use Rattle.exif_base.proofs.EndianSteps.{put_over}
 use Rattle.byteorder.specs.Endian.{little_bytes}
 use Rattle.exif_base.proofs.endian.LittleEndianEndian.writeu16.Goals as goal
 

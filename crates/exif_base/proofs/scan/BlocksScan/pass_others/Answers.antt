@@ -1,4 +1,4 @@
-use Rattle.exif_base.proofs.AtHand.{at_hand_passed}
+use Rattle.exif_base.proofs.ScanSteps.{at_hand_passed}
 use Rattle.exif_base.proofs.scan.BlocksScan.pass_others.Goals as goal
 
 pub returns-clause-passed : goal.returns-clause-passed

@@ -1,5 +1,5 @@
 use Rattle.std.proofs.Common.{length, sym}
-use Rattle.exif_base.proofs.AtHand.{at_hand_given, at_hand_end}
+use Rattle.exif_base.proofs.ScanSteps.{at_hand_given, at_hand_end}
 use Rattle.exif_base.proofs.scan.BlocksSource.fetch.Goals as goal
 
 pub returns-clause-bytes : goal.returns-clause-bytes
