@@ -56,3 +56,17 @@ front_stuck (Some p) None c m n xs zs h e k = absurd h
 front_stuck (Some p) (Some q) None m n xs zs h e k = absurd k
 front_stuck (Some p) (Some q) (Some r) m n xs zs h e k =
     (take m xs, drop m xs, sym (take-append-drop m xs), k ∙ ap (λ t. q ++ take t zs) e ∙ append-nil q ∙ h)
+
+-- a text, and then a call that takes nothing
+pub appends_kept : (a b c : Option (List ℕ)) (text : List ℕ) → Appends a b text → Keeps b c → Appends a c text
+appends_kept None b c text h k = tt
+appends_kept (Some p) None c text h k = absurd h
+appends_kept (Some p) (Some q) None text h k = absurd k
+appends_kept (Some p) (Some q) (Some r) text h k = k ∙ h
+
+-- all of a text, and then a call that takes nothing
+pub front_all : (a b c : Option (List ℕ)) (text : List ℕ) → Appends a b text → Keeps b c → SendsFront a c text
+front_all None b c text h k = tt
+front_all (Some p) None c text h k = absurd h
+front_all (Some p) (Some q) None text h k = absurd k
+front_all (Some p) (Some q) (Some r) text h k = (text, [], sym (append-nil text), k ∙ h)

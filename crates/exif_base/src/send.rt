@@ -1,9 +1,6 @@
 //! Bytes sent to a sink.
 
-ghost use Rattle.std.specs.Prelude.{◌≡◌, OnOk, OnErr, is_err};
-ghost use Rattle.std.specs.Io.KnownBytes.{Appends};
-ghost use Rattle.exif_base.specs.Device.{count_after};
-ghost use Rattle.exif_base.specs.Sent.{SendsFront};
+ghost use Rattle.exif_base.specs.Sent.{Sends};
 
 use crate::device::Sink;
 use std::io;
@@ -15,10 +12,7 @@ use std::io::ErrorKind;
 /// error of kind `WriteZero`. After an error exactly a front of the bytes was taken.
 #[tactic(auto, using(crate::proofs::Sent::front_taken))]
 pub fn send_all<W: Sink>(sink: &mut W, bytes: &[u8]) -> io::Result<()>
-    ensures sent { OnOk result (Appends (W.taken sink.old) (W.taken sink.new) bytes.now) }
-    ensures front { OnErr result (SendsFront (W.taken sink.old) (W.taken sink.new) bytes.now) }
-    ensures count { W.failures sink.new ≡ count_after (is_err result) (W.failures sink.old) }
-    ensures same { W.through sink.new ≡ W.through sink.old }
+    ensures sends { Sends W.Sink sink.old sink.new result bytes.now }
 {
     let mut at = 0;
     while at < bytes.len() {
