@@ -64,25 +64,6 @@ fn write_errors<W: Sink>(alloc: Global, errors: &[Error], out: &mut W) -> Result
     Ok(())
 }
 
-/// The fields and the faults of a partial result. Any other error stays what it is.
-fn passed_over(error: Error) -> Result<(Exif, Vec<Error>), Error>
-    ensures finds { (expected : List ℕ → Answer) (container : Result (List ℕ) Refusal)
-        → ReadsContainer expected container (Err error.entry)
-        → Finds (given_by expected container) result }
-    ensures own { (expected : List ℕ → Answer) → AnswersOwnData expected (Err error.entry)
-        → FindsOwn expected result }
-    ensures invalid { IfOk result (λ found. All IsInvalidFormat found.1.items) }
-    ensures io { is_io result ≡ is_io_error error.entry }
-{
-    match error {
-        Error::PartialResult(partial) => {
-            let (exif, errors) = partial.into_inner();
-            Ok((exif, errors))
-        }
-        other => Err(other),
-    }
-}
-
 /// The fields that were read, and the faults that were passed over.
 fn found_of(alloc: Global, answer: Result<Exif, Error>) -> Result<(Exif, Vec<Error>), Error>
     ensures finds { (expected : List ℕ → Answer) (container : Result (List ℕ) Refusal)
@@ -95,21 +76,11 @@ fn found_of(alloc: Global, answer: Result<Exif, Error>) -> Result<(Exif, Vec<Err
 {
     match answer {
         Ok(exif) => Ok((exif, Vec::new(alloc))),
-        Err(error) => passed_over(error),
+        Err(error) => match error {
+            Error::PartialResult(partial) => Ok(partial.into_inner()),
+            other => Err(other),
+        },
     }
-}
-
-/// What is read of a file: the fields, and the faults that were passed over.
-fn read<R: Source>(alloc: Global, by: &Reader, reader: &mut R) -> Result<(Exif, Vec<Error>), Error>
-    ensures finds { IfSome (R.left reader.old)
-        (λ bytes. Finds (file_answer by.now.lenient by.now.limit bytes) result) }
-    ensures own { FindsOwn (raw_answer by.now.lenient by.now.limit) result }
-    ensures invalid { IfOk result (λ found. All IsInvalidFormat found.1.items) }
-    ensures count { R.failures reader.new ≡ count_after (is_io result) (R.failures reader.old) }
-    ensures same { R.through reader.new ≡ R.through reader.old }
-{
-    let found = found_of(alloc, by.read_from_container(alloc, reader))?;
-    Ok(found)
 }
 
 /// Writes a line for each field and for each fault, and flushes.
@@ -156,7 +127,7 @@ fn report_by<R: Source, W: Sink>(
     ensures read_through { R.through reader.new ≡ R.through reader.old }
     ensures written_through { W.through out.new ≡ W.through out.old }
 {
-    let (exif, errors) = read(alloc, by, reader)?;
+    let (exif, errors) = found_of(alloc, by.read_from_container(alloc, reader))?;
     let faults = errors.as_slice();
     write_all(alloc, &exif, faults, out)?;
     Ok(faults.len() as u64)

@@ -1,4 +1,11 @@
+use Rattle.std.proofs.Common.{refl}
+use Rattle.exif_report.proofs.Findings.{other_error, own_other}
 use Rattle.exif_report.proofs.reporting.found_of.Goals as goal
 
-pub returns-in-Err-clause-own : goal.returns-in-Err-clause-own
-returns-in-Err-clause-own c expected h = c.passed_over.ensures.own expected (rw (c.in-Err.is) at h)
+pub returns-in_default : goal.returns-in_default
+returns-in_default c = record {
+  finds = λ answer container h. other_error answer container c.in-Err.error c.in_default.not-PartialResult (rw c.in-Err.is at h);
+  own = λ answer h. own_other answer c.in-Err.error c.in_default.not-PartialResult (rw c.in-Err.is at h);
+  invalid = tt;
+  io = rw c.in-Err.is refl;
+}
