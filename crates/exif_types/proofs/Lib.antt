@@ -1,3 +1,4 @@
+pub mod Counting
 pub mod ItemSteps
 pub mod KeyOrder
 pub mod LastNamed

@@ -19,6 +19,21 @@ type_of n =
     (if n == 11 then Some field_type.Float else
     (if n == 12 then Some field_type.Double else None)))))))))))
 
+-- the number of a type
+abbrev pub number_of : FieldType → ℕ
+number_of field_type.Byte = 1
+number_of field_type.Ascii = 2
+number_of field_type.Short = 3
+number_of field_type.Long = 4
+number_of field_type.Rational = 5
+number_of field_type.SByte = 6
+number_of field_type.Undefined = 7
+number_of field_type.SShort = 8
+number_of field_type.SLong = 9
+number_of field_type.SRational = 10
+number_of field_type.Float = 11
+number_of field_type.Double = 12
+
 -- the bytes of one item
 abbrev pub unit_length : FieldType → ℕ
 unit_length field_type.Byte = 1
@@ -38,3 +53,7 @@ unit_length field_type.Double = 8
 abbrev pub known_length : Option FieldType → ℕ
 known_length None = 0
 known_length (Some t) = unit_length t
+
+-- how many bytes an item of the type with a number takes
+abbrev pub unit : ℕ → ℕ
+unit type = known_length (type_of type)

@@ -22,3 +22,4 @@ pub mod Texts
 pub mod Units
 pub mod ValueEq
 pub mod ValueTexts
+pub mod ValueTypes

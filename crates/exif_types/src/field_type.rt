@@ -1,23 +1,23 @@
 //! The types that values have in TIFF data (TIFF 6.0, section 2, "Types").
 
-ghost use Rattle.std.specs.Prelude.{◌≡◌, ◌≤◌};
-ghost use Rattle.exif_types.specs.FieldTypes.{type_of, unit_length};
+ghost use Rattle.std.specs.Prelude.{◌≡◌, ◌≤◌, Some};
+ghost use Rattle.exif_types.specs.FieldTypes.{type_of, number_of, unit_length};
 
 /// A type of values whose items have a fixed length.
 #[derive(Clone, Copy, Debug, PartialEq, Eq)]
 pub enum FieldType {
-    Byte,
-    Ascii,
-    Short,
-    Long,
-    Rational,
-    SByte,
-    Undefined,
-    SShort,
-    SLong,
-    SRational,
-    Float,
-    Double,
+    Byte = 1,
+    Ascii = 2,
+    Short = 3,
+    Long = 4,
+    Rational = 5,
+    SByte = 6,
+    Undefined = 7,
+    SShort = 8,
+    SLong = 9,
+    SRational = 10,
+    Float = 11,
+    Double = 12,
 }
 
 impl FieldType {
@@ -40,6 +40,14 @@ impl FieldType {
             12 => Some(FieldType::Double),
             _ => None,
         }
+    }
+
+    /// The number that names the type.
+    pub fn number(self) -> u16
+        ensures value { result ≡ number_of self }
+        ensures named { type_of result ≡ Some self }
+    {
+        self as u16
     }
 
     /// How many bytes an item takes.

@@ -1,9 +1,11 @@
 //! Values of fields.
 
-ghost use Rattle.std.specs.Prelude.{◌≡◌, ◌↔◌, IsTrue, IfOk, IfErr};
+ghost use Rattle.std.specs.Prelude.{◌≡◌, ◌↔◌, ◌<◌, ◌^◌, IsTrue, IfOk, IfErr, SomeIff};
+ghost use Rattle.exif_types.specs.Texts.{ended_length};
 ghost use Rattle.exif_types.specs.ValueEq.{value_eq};
+ghost use Rattle.exif_types.specs.ValueTypes.{field_type_of, type_number, count_of};
 
-use crate::{Error, Rational, SRational};
+use crate::{Error, FieldType, Rational, SRational};
 use exif_base::Items;
 use exif_text::{Contents, PlainText};
 use std::alloc::{AllocError, Global};
@@ -65,6 +67,57 @@ impl Value {
         }
     }
 
+    /// The type of its items, if it is known.
+    pub fn field_type(&self) -> Option<FieldType>
+        ensures { result ≡ field_type_of self.now }
+    {
+        match self {
+            Value::Byte(_) => Some(FieldType::Byte),
+            Value::Ascii(_) => Some(FieldType::Ascii),
+            Value::Short(_) => Some(FieldType::Short),
+            Value::Long(_) => Some(FieldType::Long),
+            Value::Rational(_) => Some(FieldType::Rational),
+            Value::SByte(_) => Some(FieldType::SByte),
+            Value::Undefined(_, _) => Some(FieldType::Undefined),
+            Value::SShort(_) => Some(FieldType::SShort),
+            Value::SLong(_) => Some(FieldType::SLong),
+            Value::SRational(_) => Some(FieldType::SRational),
+            Value::Float(_) => Some(FieldType::Float),
+            Value::Double(_) => Some(FieldType::Double),
+            Value::Unknown(_, _, _) => None,
+        }
+    }
+
+    /// The number of its type, known or not.
+    pub fn type_number(&self) -> u16
+        ensures { result ≡ type_number self.now }
+    {
+        match self {
+            Value::Unknown(number, _, _) => *number,
+            known => known.field_type().map_or(0, FieldType::number),
+        }
+    }
+
+    /// How many items it has, the zero behind each text counted, if 32 bits hold the number.
+    pub fn count(&self) -> Option<u32>
+        ensures { SomeIff result (count_of self.now < 2 ^ 32) (count_of self.now) }
+    {
+        let length = match self {
+            Value::Byte(items) | Value::Undefined(items, _) => items.len(),
+            Value::Ascii(texts) => return ended_length(texts),
+            Value::Short(items) => items.len(),
+            Value::Long(items) | Value::Float(items) => items.len(),
+            Value::Rational(items) => items.len(),
+            Value::SByte(items) => items.len(),
+            Value::SShort(items) => items.len(),
+            Value::SLong(items) => items.len(),
+            Value::SRational(items) => items.len(),
+            Value::Double(items) => items.len(),
+            Value::Unknown(_, count, _) => return Some(*count),
+        };
+        u32::try_from(length).ok()
+    }
+
     /// An equal value. The only error is want of memory.
     pub fn clone(&self, alloc: Global) -> Result<Value, Error>
         ensures equal { IfOk result (λ copy. copy ≡ self.now) }
@@ -93,6 +146,17 @@ impl Value {
             Value::Unknown(number, count, place) => Value::Unknown(*number, *count, *place),
         })
     }
+}
+
+// How many bytes texts take with a zero behind each, if 32 bits hold the number.
+fn ended_length(texts: &Items<Items<u8>>) -> Option<u32>
+    ensures { SomeIff result (ended_length texts.now < 2 ^ 32) (ended_length texts.now) }
+{
+    let mut length: u32 = 0;
+    for text in texts.as_slice() {
+        length = u32::try_from(length as usize + text.as_slice().len() + 1).ok()?;
+    }
+    Some(length)
 }
 
 // An equal list of texts.

@@ -9,7 +9,9 @@ use Rattle.exif_writer.proofs.Loops.{around}
 use Rattle.exif_base.specs.declared.endian.Order.{Order}
 use Rattle.exif_types.specs.declared.value.Value.{Value}
 use Rattle.exif_types.specs.declared.value.Value.TheVariants.{Byte, Ascii, Short, Long, Rational, SByte, Undefined, SShort, SLong, SRational, Float, Double, Unknown}
-use Rattle.exif_writer.specs.Encoding.{encode, ended, count_of, type_number, value_len, moved_to}
+use Rattle.exif_writer.specs.Encoding.{encode, value_len, moved_to}
+use Rattle.exif_types.specs.Texts.{ended}
+use Rattle.exif_types.specs.ValueTypes.{count_of, type_number}
 use Rattle.exif_writer.specs.Refused.{is_unknown}
 use Rattle.exif_writer.specs.Places.{places_from}
 

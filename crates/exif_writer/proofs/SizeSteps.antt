@@ -10,10 +10,11 @@ use Rattle.exif_writer.specs.declared.plan.Source.{Source}
 use Rattle.exif_writer.specs.declared.plan.Source.TheVariants.{Known, PlacesOf, LengthsOf, PlaceOf}
 use Rattle.exif_writer.specs.Sending.{source_count, source_size, IsKnownSource, slots_text, entries_text, after_slot, values_end}
 use Rattle.exif_base.specs.declared.endian.Order.{Order}
-use Rattle.exif_writer.specs.Encoding.{spelled, count_of, type_number}
+use Rattle.exif_writer.specs.Encoding.{spelled}
+use Rattle.exif_types.specs.ValueTypes.{count_of, type_number}
 use Rattle.exif_types.specs.declared.value.Value.{Value}
 use Rattle.exif_types.specs.declared.value.Value.TheVariants.{Byte, Ascii, Short, Long, Rational, SByte, Undefined, SShort, SLong, SRational, Float, Double, Unknown}
-use Rattle.exif_writer.specs.Sending.{unit}
+use Rattle.exif_types.specs.FieldTypes.{unit}
 use Rattle.exif_writer.specs.Refused.{is_unknown}
 use Rattle.exif_writer.specs.Places.{even}
 

@@ -1,11 +1,13 @@
 -- The bytes that spell values (TIFF 6.0, section 2, "Types").
-use Rattle.std.specs.Prelude.{ℕ, ◌*◌, List, [], ◌∷◌, ◌++◌, length}
+use Rattle.std.specs.Prelude.{ℕ, ◌*◌, List, [], ◌∷◌, ◌++◌}
 use Rattle.std.specs.List.{flat_map}
 use Rattle.std.specs.Int.{w8, w16, w32, cast_unsigned}
 use Rattle.byteorder.specs.Endian.{big_bytes, little_bytes}
 use Rattle.exif_base.specs.declared.endian.Order.{Order}
 use Rattle.exif_base.specs.declared.endian.Order.TheVariants.{Big, Little}
-use Rattle.exif_types.specs.FieldTypes.{type_of, known_length}
+use Rattle.exif_types.specs.FieldTypes.{unit}
+use Rattle.exif_types.specs.Texts.{ended}
+use Rattle.exif_types.specs.ValueTypes.{type_number, count_of}
 use Rattle.exif_types.specs.declared.value.Value.{Value}
 use Rattle.exif_types.specs.declared.value.Value.TheVariants.{Byte, Ascii, Short, Long, Rational, SByte, Undefined, SShort, SLong, SRational, Float, Double, Unknown}
 
@@ -13,26 +15,6 @@ use Rattle.exif_types.specs.declared.value.Value.TheVariants.{Byte, Ascii, Short
 abbrev pub spelled : Order → ℕ → ℕ → List ℕ
 spelled Big n x = big_bytes n x
 spelled Little n x = little_bytes n x
-
--- a text and the zero byte that ends it
-abbrev pub ended : List ℕ → List ℕ
-ended text = text ++ 0 ∷ []
-
--- the number of the value's type
-abbrev pub type_number : Value → ℕ
-type_number (Byte xs) = 1
-type_number (Ascii xs) = 2
-type_number (Short xs) = 3
-type_number (Long xs) = 4
-type_number (Rational xs) = 5
-type_number (SByte xs) = 6
-type_number (Undefined xs place) = 7
-type_number (SShort xs) = 8
-type_number (SLong xs) = 9
-type_number (SRational xs) = 10
-type_number (Float xs) = 11
-type_number (Double xs) = 12
-type_number (Unknown type count place) = type
 
 -- the bytes of a value; one of an unknown type has none
 abbrev pub encode : Order → Value → List ℕ
@@ -50,25 +32,9 @@ encode order (Float xs) = flat_map (spelled order 4) xs
 encode order (Double xs) = flat_map (spelled order 8) xs
 encode order (Unknown type count place) = []
 
--- how many items a value has; those of texts are their bytes
-abbrev pub count_of : Value → ℕ
-count_of (Byte xs) = length xs
-count_of (Ascii xs) = length (flat_map ended xs)
-count_of (Short xs) = length xs
-count_of (Long xs) = length xs
-count_of (Rational xs) = length xs
-count_of (SByte xs) = length xs
-count_of (Undefined xs place) = length xs
-count_of (SShort xs) = length xs
-count_of (SLong xs) = length xs
-count_of (SRational xs) = length xs
-count_of (Float xs) = length xs
-count_of (Double xs) = length xs
-count_of (Unknown type count place) = count
-
 -- how many bytes a value takes
 abbrev pub value_len : Value → ℕ
-value_len value = known_length (type_of (type_number value)) * count_of value
+value_len value = unit (type_number value) * count_of value
 
 -- the value with the place where its bytes stand now
 abbrev pub moved_to : ℕ → Value → Value

@@ -6,7 +6,8 @@ use Rattle.exif_base.specs.declared.endian.Order.TheVariants.{Big, Little}
 use Rattle.exif_types.specs.declared.tag.Context.TheVariants.{Tiff, Exif, Gps, Interop}
 use Rattle.exif_writer.specs.declared.block_kind.BlockKind.TheVariants.{Strips, Tiles, Jpeg}
 use Rattle.exif_writer.specs.Groups.{Group}
-use Rattle.exif_writer.specs.Encoding.{spelled, encode, type_number, count_of, value_len}
+use Rattle.exif_writer.specs.Encoding.{spelled, encode, value_len}
+use Rattle.exif_types.specs.ValueTypes.{type_number, count_of}
 use Rattle.exif_writer.specs.Slots.{Draft, draft_of}
 use Rattle.exif_writer.specs.Places.{Written, entries_of, tiff_place, exif_place, gps_place, interop_place, strips_place, tiles_place, jpeg_place, draft_end, next_place}
 

@@ -14,15 +14,12 @@ use Rattle.exif_types.specs.declared.tag.Context.{Context}
 use Rattle.exif_types.specs.declared.tag.Context.TheVariants.{Tiff, Exif, Gps, Interop}
 use Rattle.exif_writer.specs.declared.block_kind.BlockKind.{BlockKind}
 use Rattle.exif_writer.specs.declared.block_kind.BlockKind.TheVariants.{Strips, Tiles, Jpeg}
-use Rattle.exif_writer.specs.Encoding.{spelled, encode, type_number, count_of, moved_to}
-use Rattle.exif_types.specs.FieldTypes.{type_of, known_length}
+use Rattle.exif_writer.specs.Encoding.{spelled, encode, moved_to}
+use Rattle.exif_types.specs.ValueTypes.{type_number, count_of}
+use Rattle.exif_types.specs.FieldTypes.{unit}
 use Rattle.exif_base.specs.declared.endian.Order.{Order}
 use Rattle.exif_writer.specs.Places.{places_from, even, after_value}
 use Rattle.exif_writer.specs.Refused.{is_unknown}
-
--- how many bytes an item of the type with a number takes
-abbrev pub unit : ℕ → ℕ
-unit type = known_length (type_of type)
 
 -- what borrowed texts hold, how long each is, and all of them
 abbrev pub texts_of : List (Bor (List ℕ)) → List (List ℕ)

@@ -4,8 +4,10 @@ ghost use Rattle.std.specs.Prelude.{◌≡◌, ◌+◌, ◌*◌, ◌++◌, ◌^�
 ghost use Rattle.std.specs.List.{flat_map, AllByRecursion};
 ghost use Rattle.std.specs.Io.KnownBytes.{Appends};
 ghost use Rattle.exif_writer.specs.Sending.{block_place, context_place, lens, sum_of, settled, Settles, IsKnownSource, source_type, source_count, source_size, element, slot_text, IsReady, value_place, after_slot, values_end, entries_text, slots_text, value_text, values_text, blocks_text};
-ghost use Rattle.exif_writer.specs.Encoding.{spelled, encode, count_of, type_number, value_len, ended};
-ghost use Rattle.exif_writer.specs.Sending.{unit};
+ghost use Rattle.exif_writer.specs.Encoding.{spelled, encode, value_len};
+ghost use Rattle.exif_types.specs.ValueTypes.{count_of, type_number};
+ghost use Rattle.exif_types.specs.Texts.{ended};
+ghost use Rattle.exif_types.specs.FieldTypes.{unit};
 ghost use Rattle.exif_writer.specs.Places.{even, after_value, places_from};
 ghost use Rattle.exif_writer.specs.Image.{entry_text};
 ghost use Rattle.exif_writer.specs.Refused.{is_unknown};

@@ -7,7 +7,8 @@ ghost use Rattle.std.specs.Io.KnownBytes.{Appends};
 ghost use Rattle.exif_base.specs.Device.{count_after};
 ghost use Rattle.exif_base.specs.Sent.{SendsFront};
 ghost use Rattle.exif_base.specs.declared.endian.Order.{Order};
-ghost use Rattle.exif_writer.specs.Encoding.{spelled, encode, ended};
+ghost use Rattle.exif_writer.specs.Encoding.{spelled, encode};
+ghost use Rattle.exif_types.specs.Texts.{ended};
 
 use crate::forward::{send_u16, send_u32, send_u64, send_zeros};
 use exif_base::{Items, Order, Sink, send_all};

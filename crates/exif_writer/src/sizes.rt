@@ -3,7 +3,8 @@
 
 ghost use Rattle.std.specs.Prelude.{◌≡◌, ◌+◌, ◌*◌, ◌<◌, ◌≤◌, ◌^◌, false, length, SomeIff};
 ghost use Rattle.std.specs.List.{flat_map};
-ghost use Rattle.exif_writer.specs.Encoding.{ended, value_len};
+ghost use Rattle.exif_writer.specs.Encoding.{value_len};
+ghost use Rattle.exif_types.specs.Texts.{ended};
 ghost use Rattle.exif_writer.specs.Places.{after_blocks};
 ghost use Rattle.exif_writer.specs.Refused.{is_unknown};
 ghost use Rattle.exif_writer.specs.Sending.{texts_of};

@@ -11,7 +11,8 @@ use Rattle.exif_types.specs.declared.value.Value.{Value}
 use Rattle.exif_types.specs.declared.value.Value.TheVariants.{Byte, Ascii, Short, Long, Rational, SByte, Undefined, SShort, SLong, SRational, Float, Double, Unknown}
 use Rattle.exif_types.specs.declared.tag.Context.{Context}
 use Rattle.exif_tiff.specs.Trace.{Directory, Visit, child_of, tagged_nodes, valued_nodes, entry_nodes, entry_value}
-use Rattle.exif_writer.specs.Encoding.{spelled, encode, type_number, count_of, value_len, moved_to}
+use Rattle.exif_writer.specs.Encoding.{spelled, encode, value_len, moved_to}
+use Rattle.exif_types.specs.ValueTypes.{type_number, count_of}
 use Rattle.exif_writer.specs.Places.{Written}
 use Rattle.exif_writer.specs.Image.{entry_text}
 use Rattle.exif_writer.specs.Refused.{is_unknown}

@@ -5,7 +5,8 @@ use Rattle.std.proofs.lemmas.Bool.{leb-true}
 use Rattle.std.proofs.lemmas.List.{length-append, length-replicate}
 use Rattle.std.specs.List.{AllByRecursion, flat_map}
 use Rattle.exif_base.specs.declared.endian.Order.{Order}
-use Rattle.exif_writer.specs.Encoding.{spelled, encode, type_number, count_of, value_len}
+use Rattle.exif_writer.specs.Encoding.{spelled, encode, value_len}
+use Rattle.exif_types.specs.ValueTypes.{type_number, count_of}
 use Rattle.exif_types.specs.declared.tag.Context.{Context}
 use Rattle.exif_types.specs.declared.tag.Context.TheVariants.{Tiff, Exif, Gps, Interop}
 use Rattle.exif_writer.specs.Slots.{Draft, Source, Known, PlacesOf, LengthsOf, PlaceOf, Slot, source_len}

@@ -10,7 +10,8 @@ use Rattle.exif_types.specs.declared.value.Value.{Value}
 use Rattle.exif_types.specs.declared.value.Value.TheVariants.{Byte, Ascii, Short, Long, Rational, SByte, Undefined, SShort, SLong, SRational, Float, Double, Unknown}
 use Rattle.exif_writer.specs.declared.block_kind.BlockKind.{BlockKind}
 use Rattle.exif_writer.specs.declared.block_kind.BlockKind.TheVariants.{Strips, Tiles, Jpeg}
-use Rattle.exif_writer.specs.Encoding.{count_of, value_len}
+use Rattle.exif_writer.specs.Encoding.{value_len}
+use Rattle.exif_types.specs.ValueTypes.{count_of}
 use Rattle.exif_writer.specs.Slots.{Draft, Slot, source_len}
 use Rattle.exif_writer.specs.Places.{even, after_value, after_values, after_blocks, tiff_place, exif_place, gps_place, interop_place, tiff_values, exif_values, gps_values, interop_values, strips_place, tiles_place, jpeg_place, draft_end, directory_place, values_place, blocks_place, drafts_end}
 use Rattle.exif_writer.specs.Refused.{is_unknown}

@@ -14,11 +14,12 @@ use Rattle.exif_base.specs.Orders.{number_of}
 use Rattle.exif_text.specs.declared.rational.Rational as rational
 use Rattle.exif_text.specs.declared.rational.SRational as srational
 use Rattle.exif_types.specs.Rationals.{rational_at, srational_at}
-use Rattle.exif_types.specs.Texts.{texts, without_empty_last}
+use Rattle.exif_types.specs.Texts.{texts, without_empty_last, ended}
 use Rattle.exif_types.specs.Decode.{decode}
 use Rattle.exif_types.specs.declared.value.Value.{Value}
 use Rattle.exif_types.specs.declared.value.Value.TheVariants.{Byte, Ascii, Short, Long, Rational, SByte, Undefined, SShort, SLong, SRational, Float, Double, Unknown}
-use Rattle.exif_writer.specs.Encoding.{spelled, ended, encode, type_number, count_of, value_len, moved_to}
+use Rattle.exif_writer.specs.Encoding.{spelled, encode, value_len, moved_to}
+use Rattle.exif_types.specs.ValueTypes.{type_number, count_of}
 use Rattle.exif_writer.specs.Refused.{is_unknown}
 use Rattle.exif_writer.specs.Layout.{Stands}
 use Rattle.exif_writer.proofs.Images.Words.{Fits, IsPlain}

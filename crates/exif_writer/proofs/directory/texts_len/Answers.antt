@@ -2,7 +2,7 @@ use Rattle.std.proofs.Common.{arith, length, ap, take}
 use Rattle.std.specs.List.{flat_map}
 use Rattle.exif_writer.proofs.Moved.{texts_within}
 use Rattle.exif_writer.proofs.directory.texts_len.Goals as goal
-use Rattle.exif_writer.specs.Encoding.{ended}
+use Rattle.exif_types.specs.Texts.{ended}
 
 pub overflow_add-len-in-loop-text : goal.overflow_add-len-in-loop-text
 overflow_add-len-in-loop-text c =

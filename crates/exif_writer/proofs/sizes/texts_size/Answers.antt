@@ -1,7 +1,7 @@
 use Rattle.std.proofs.Common.{length, ap, take, rules}
 use Rattle.std.specs.List.{flat_map}
 use Rattle.exif_writer.proofs.Moved.{texts_within}
-use Rattle.exif_writer.specs.Encoding.{ended}
+use Rattle.exif_types.specs.Texts.{ended}
 use Rattle.exif_writer.proofs.sizes.texts_size.Goals as goal
 
 pub returns-in_err-size : goal.returns-in_err-size

@@ -1,0 +1,12 @@
+use Rattle.std.proofs.Common.{length, ap, take, rules}
+use Rattle.exif_types.proofs.Counting.{ended_within}
+use Rattle.exif_types.specs.Texts.{ended_length}
+use Rattle.exif_types.proofs.value.ended_length.Goals as goal
+
+pub returns-in_err-length : goal.returns-in_err-length
+returns-in_err-length c =
+    let whole = ap ended_length c.as_slice-text-items.ensures in
+    let front = ap (λ r. ended_length (take c.loop-text.text-index r)) c.as_slice-text-items.ensures in
+    let item = ap length c.as_slice.ensures in
+    let room = ended_within c.as_slice-text-items.result.now c.loop-text.text-index c.text-item.result c.text-item.result c.loop-text-test.true c.text-item.is in
+    search rules

@@ -1,0 +1,36 @@
+//! The types and counts of values (TIFF 6.0, section 2).
+
+use crate::{FieldType, Rational, Value};
+use exif_base::Items;
+use std::alloc::{AllocError, Global};
+use std::process::Abort;
+use std::test::Fail;
+
+// The value is of the type with the number, of so many items.
+fn assert_type(rt: &(impl Abort), value: &Value, number: u16, unit: u32, count: u32) {
+    let known = value.field_type().expect(rt, "a known type");
+    assert_eq!(rt; known.number(), number);
+    assert_eq!(rt; known.unit_length(), unit);
+    assert_eq!(rt; value.type_number(), number);
+    assert!(rt; value.count() == Some(count));
+}
+
+#[test]
+fn values_have_their_types_and_counts(rt: HostRuntime) -> Result<(), Fail> {
+    let alloc = rt.alloc();
+    let mut texts = Vec::new(alloc);
+    texts.push(Items::from_slice(alloc, b"ab")?)?;
+    texts.push(Items::from_slice(alloc, b"")?)?;
+    assert_type(&rt, &Value::Ascii(Items::from_vec(texts)), 2, 1, 4);
+    let longs = Value::Long(Items::from_slice(alloc, &[7, 8, 9])?);
+    assert_type(&rt, &longs, 4, 4, 3);
+    let fractions = Items::from_slice(alloc, &[Rational { num: 1, denom: 2 }])?;
+    assert_type(&rt, &Value::Rational(fractions), 5, 8, 1);
+    let bytes = Value::Undefined(Items::from_slice(alloc, b"0231")?, 40);
+    assert_type(&rt, &bytes, 7, 1, 4);
+    let unknown = Value::Unknown(13, 2, 40);
+    assert!(rt; unknown.field_type() == None);
+    assert_eq!(rt; unknown.type_number(), 13);
+    assert!(rt; unknown.count() == Some(2));
+    Ok(())
+}
