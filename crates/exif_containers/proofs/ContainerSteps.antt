@@ -1,12 +1,18 @@
 -- A stream's head, and what follows it.
-use Rattle.std.proofs.Common.{◌≡◌, true, ◌||◌, eqb, codes, ◌⊎◌, inl, inr, ℕ, ◌<◌, ◌≤◌, min, List, [], ◌++◌, length, take, Option, None, Some, Result, IfSome, refl, ap, ◌∙◌, arith, append-nil}
+use Rattle.std.proofs.Common.{◌≡◌, true, ◌||◌, eqb, codes, ◌⊎◌, inl, inr, ℕ, ◌<◌, ◌≤◌, min, List, [], ◌++◌, length, take, drop, Option, None, Some, Result, IfOk, IfErr, IfSome, Ok, Err, refl, sym, subst, ◌^◌, ◌-◌, ap, ◌∙◌, arith, append-nil}
 use Rattle.std.proofs.lemmas.Bool.{cases_lt}
 use Rattle.std.proofs.lemmas.List.{take_at, take_all, take-take, length-take-le}
 use Rattle.std.specs.Cmp.Lexicographic.{pointwise}
-use Rattle.std.specs.Io.KnownBytes.{Consumes, IsAtEnd}
-use Rattle.exif_types.specs.Refusals.{Refusal}
+use Rattle.std.specs.Io.KnownBytes.{Consumes, IsAtEnd, prepend_known}
+use Rattle.exif_base.specs.Told.{WhereTold}
+use Rattle.exif_types.specs.Failures.{Failure}
+use Rattle.exif_types.specs.Refusals.{Refusal, Fails, Gives}
+use Rattle.exif_containers.specs.Answer.{found}
+use Rattle.exif_containers.specs.Jpeg.{jpeg_answer}
+use Rattle.exif_containers.proofs.Refusing.{fails_along}
 use Rattle.exif_containers.specs.declared.container.Format.{Format}
-use Rattle.exif_containers.specs.Container.{TiffIsWhole, answer_as, begins_tiff, format_in, container_answer}
+use Rattle.exif_containers.specs.declared.container.Format.TheVariants.{Jpeg}
+use Rattle.exif_containers.specs.Container.{TiffIsWhole, answer_as, data_of, begins_tiff, format_in, container_answer}
 
 -- the head of a stream is its first 4096 bytes, or all where there are fewer
 head-first : (head rest : List ℕ) → length head ≤ 4096 → (length head < 4096 → rest ≡ []) → take 4096 (head ++ rest) ≡ head
@@ -17,17 +23,39 @@ head-first head rest most end = by (cases_lt (length head) 4096)
     by (inr le) = take_at head rest 4096 (omega arith)
 
 -- what holds of the answer of the head's choice holds of the stream's
-pub container_holds : (P : Result (List ℕ) Refusal → Type 0) (n : ℕ) (block : List ℕ) (format : Option Format) (a b : Option (List ℕ))
+pub container_holds : (P : Result (List ℕ) Refusal → Type 0) (n : ℕ) (block : List ℕ) (format : Option Format) (a b left : Option (List ℕ))
     → Consumes a b (take n block) → n ≤ length block → n ≤ 4096 → 4096 ≤ length block → (n < min 4096 (length block) → IsAtEnd b)
     → format ≡ format_in (take n block)
-    → IfSome b (λ rest. P (answer_as format (take n block ++ rest)))
+    → left ≡ prepend_known (take n block) b
+    → IfSome left (λ bytes. P (answer_as format bytes))
     → IfSome a (λ bytes. P (container_answer bytes))
 unfolding container_answer
-container_holds P n block format None b h bound most room end f g = tt
-container_holds P n block format (Some xs) None h bound most room end f g = absurd h
-container_holds P n block format (Some xs) (Some ys) h bound most room end f g =
+container_holds P n block format None b left h bound most room end f e g = tt
+container_holds P n block format (Some xs) None left h bound most room end f e g = absurd h
+container_holds P n block format (Some xs) (Some ys) left h bound most room end f e g =
+    let whole : IfSome (Some (take n block ++ ys)) (λ bytes. P (answer_as format bytes)) = subst (λ t. IfSome t (λ bytes. P (answer_as format bytes))) e g in
     let len : length (take n block) ≡ n = length-take-le n block bound in
-    rw (h, head-first (take n block) ys (omega arith) (λ lt. end (omega arith)), ← f) g
+    rw (h, head-first (take n block) ys (omega arith) (λ lt. end (omega arith)), ← f) whole
+
+-- what a call answers is the data of a stream, or its refusal
+stream_gives : {X : Type 0} (items : X → List ℕ) (result : Result X Failure) (a b : Option (List ℕ)) (l : ℕ)
+    → IfOk result (λ v. WhereTold a b (λ xs ys. (rest : List ℕ) × (jpeg_answer (take l xs) ≡ found (items v) rest) × (ys ≡ rest ++ drop l xs)))
+    → IfErr result (λ e. IfSome a (λ xs. Fails e (jpeg_answer (take l xs))))
+    → IfSome a (λ xs. Gives items result (data_of (jpeg_answer (take l xs))))
+stream_gives items (Ok v) None b l f r = tt
+stream_gives items (Ok v) (Some xs) None l f r = absurd f
+stream_gives items (Ok v) (Some xs) (Some ys) l f r = ap data_of f.1
+stream_gives items (Err e) None b l f r = tt
+stream_gives items (Err e) (Some xs) b l f r = fails_along e data_of (jpeg_answer (take l xs)) (λ d. refl) r
+
+-- a JPEG stream's data are those of the container
+pub jpeg_gives : {X : Type 0} (items : X → List ℕ) (result : Result X Failure) (format : Option Format) (a b : Option (List ℕ)) → format ≡ Some Jpeg
+    → IfOk result (λ v. WhereTold a b (λ xs ys. (rest : List ℕ) × (jpeg_answer (take (2 ^ 64 - 1) xs) ≡ found (items v) rest) × (ys ≡ rest ++ drop (2 ^ 64 - 1) xs)))
+    → IfErr result (λ e. IfSome a (λ xs. Fails e (jpeg_answer (take (2 ^ 64 - 1) xs))))
+    → IfSome a (λ xs. Gives items result (answer_as format xs))
+unfolding answer_as
+jpeg_gives items result format a b is f r =
+    subst (λ t. IfSome a (λ xs. Gives items result (answer_as t xs))) (sym is) (stream_gives items result a b (2 ^ 64 - 1) f r)
 
 -- the head of TIFF data begins as they do
 pub tiff_is_whole : (bytes : List ℕ) → TiffIsWhole bytes

@@ -1,5 +1,5 @@
 -- One step after another on told bytes of which only the first so many count.
-use Rattle.std.proofs.Common.{◌≡◌, ◌≢◌, ℕ, ◌+◌, cond, List, [], ◌∷◌, ◌++◌, length, take, drop, Option, None, Some, IfSome, ap, sym, ◌∙◌, refl, add_comm, arith}
+use Rattle.std.proofs.Common.{◌≡◌, ◌≢◌, ℕ, suc, ◌+◌, ◌*◌, cond, List, [], ◌∷◌, ◌++◌, length, take, drop, Option, None, Some, IfSome, ap, sym, ◌∙◌, refl, add_comm, arith}
 use Rattle.std.specs.List.{All}
 use Rattle.std.proofs.Math.Seq.{take-append-add, drop-append-add}
 use Rattle.std.proofs.lemmas.Bool.{ne_eqb}
@@ -7,6 +7,7 @@ use Rattle.std.proofs.lemmas.List.Elements.{All-tail}
 use Rattle.std.proofs.lemmas.List.{length-take-le, take-append-drop, drop-drop}
 use Rattle.exif_base.specs.Told.{Skips}
 use Rattle.std.specs.Io.KnownBytes.{Consumes}
+use Rattle.byteorder.specs.Endian.{ReadsNumber, big_number}
 use Rattle.exif_containers.specs.Jpeg.{from_mark}
 use Rattle.exif_base.specs.Scan.{PassesOthers}
 use Rattle.exif_containers.specs.Within.{Moves}
@@ -28,17 +29,18 @@ skips_within (Some xs) (Some ys) m n k h e =
       ap (λ t. drop t xs) sum2 ∙ sym (drop-drop n k xs) ∙ ap (drop n) (sym h.1),
     )
 
--- bytes that were put at the end of an empty list
-pub collects_within : (a b : Option (List ℕ)) (m n k : ℕ) (start items : List ℕ)
-    → ((bytes : List ℕ) × Consumes a b bytes × (length bytes ≡ k) × (items ≡ start ++ bytes)) → start ≡ [] → m ≡ n + k
-    → Moves a m b n (λ xs ys. xs ≡ items ++ ys)
-collects_within None b m n k start items h z e = tt
-collects_within (Some xs) None m n k start items h z e = absurd h.1
-collects_within (Some xs) (Some ys) m n k start items h z e =
-    let same : h.0 ≡ items = sym (h.3 ∙ ap (λ t. t ++ h.0) z) in
-    let sum : m ≡ length h.0 + n = e ∙ add_comm n k ∙ ap (λ t. t + n) (sym h.2) in (
-      ap (λ t. take t xs) sum ∙ ap (λ t. take (length h.0 + n) t) h.1 ∙ take-append-add h.0 ys n ∙ ap (λ t. t ++ take n ys) same,
-      ap (λ t. drop t xs) sum ∙ ap (λ t. drop (length h.0 + n) t) h.1 ∙ drop-append-add h.0 ys n,
+-- the number in two bytes
+pub number_within : (a b : Option (List ℕ)) (m n x : ℕ) → ReadsNumber big_number 2 a b x → m ≡ n + 2
+    → Moves a m b n (λ xs ys. (high low : ℕ) × (xs ≡ high ∷ low ∷ ys) × (x ≡ 256 * high + low))
+number_within None b m n x h e = tt
+number_within (Some xs) None m n x h e = absurd h
+number_within (Some []) (Some ys) m n x h e = absurd (let l = h.0 in omega arith)
+number_within (Some (p ∷ [])) (Some ys) m n x h e = absurd (let l = h.0 in omega arith)
+number_within (Some (p ∷ q ∷ xs)) (Some ys) m n x h e =
+    let two : m ≡ suc (suc n) = omega arith in
+    let is : x ≡ 256 * p + q = (let v = h.1 in omega arith) in (
+      (p, q, ap (λ t. take t (p ∷ q ∷ xs)) two ∙ ap (λ t. p ∷ q ∷ take n t) (sym h.2), is),
+      ap (λ t. drop t (p ∷ q ∷ xs)) two ∙ ap (drop n) (sym h.2),
     )
 
 -- two steps

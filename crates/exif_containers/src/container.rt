@@ -2,7 +2,7 @@
 
 ghost use Rattle.std.specs.Prelude.{◌≡◌, ◌<◌, ◌≤◌, ◌++◌, length, min, take, is_err, IfOk, IfErr, IfSome};
 ghost use Rattle.std.specs.Io.KnownBytes.{Consumes, IsAtEnd};
-ghost use Rattle.exif_base.specs.Device.{count_after};
+ghost use Rattle.exif_base.specs.Reads.{Counts};
 ghost use Rattle.exif_types.specs.Refusals.{Gives, is_io};
 ghost use Rattle.exif_containers.specs.Answer.{IsNamed};
 ghost use Rattle.exif_containers.specs.Container.{answer_as, begins_tiff, container_answer, container_refusals, data_of, format_in};
@@ -11,11 +11,11 @@ ghost use Rattle.exif_containers.specs.HeifRefusals.{heif_refusals};
 ghost use Rattle.exif_containers.specs.Jpeg.{jpeg_answer, jpeg_refusals};
 ghost use Rattle.exif_containers.specs.Webp.{webp_answer, webp_refusals};
 
-use crate::isobmff::{exif_of_file, is_heif};
-use crate::jpeg::{self, LIMIT, is_jpeg};
-use crate::util::read_behind;
+use crate::isobmff::{self, is_heif};
+use crate::jpeg::{self, is_jpeg};
+use crate::util::read_all;
 use crate::webp::{self, is_webp};
-use exif_base::{Blocks, Source, read_front};
+use exif_base::{Blocks, Scan, Source, read_front};
 use exif_types::Error;
 use std::alloc::Global;
 use std::io;
@@ -69,83 +69,19 @@ pub fn format_of(head: &[u8]) -> Option<Format>
     }
 }
 
-// The data of a file in memory, of which these bytes were read.
-fn heif_attr<R: Source>(alloc: Global, head: &[u8], source: &mut R) -> Result<Vec<u8>, Error>
-    ensures gives { IfSome (R.left source.old)
-        (λ rest. Gives (λ v. v.items) result (exif_of (head.now ++ rest))) }
-    ensures named { IfErr result (IsNamed heif_refusals) }
-    ensures count { R.failures source.new ≡ count_after (is_io result) (R.failures source.old) }
-    ensures same { R.through source.new ≡ R.through source.old }
-{
-    let file = read_behind(alloc, head, source)?;
-    let payload = exif_of_file(alloc, &file)?;
-    Ok(payload)
-}
-
-// The data of a JPEG stream whose first bytes stand in the block.
-fn jpeg_attr<R: Source>(
-    alloc: Global,
-    block: &mut [u8],
-    filled: usize,
-    source: &mut R,
-) -> Result<Vec<u8>, Error>
-    requires filled { filled ≤ length block.now }
-    requires some { 0 < length block.now }
-    ensures gives { IfSome (R.left source.old)
-        (λ rest. Gives (λ v. v.items) result
-        (data_of (jpeg_answer (take LIMIT (take filled block.old ++ rest))))) }
-    ensures named { IfErr result (IsNamed jpeg_refusals) }
-    ensures count { R.failures source.new ≡ count_after (is_io result) (R.failures source.old) }
-    ensures same { R.through source.new ≡ R.through source.old }
-{
-    let mut blocks = Blocks::new(block, filled, source);
-    let payload = jpeg::exif_attr(alloc, &mut blocks)?;
-    Ok(payload)
-}
-
-// The data of a WebP file whose first bytes stand in the block.
-fn webp_attr<R: Source>(
-    alloc: Global,
-    block: &mut [u8],
-    filled: usize,
-    source: &mut R,
-) -> Result<Vec<u8>, Error>
-    requires filled { filled ≤ length block.now }
-    requires some { 0 < length block.now }
-    ensures gives { IfSome (R.left source.old)
-        (λ rest. Gives (λ v. v.items) result
-        (data_of (webp_answer (take filled block.old ++ rest)))) }
-    ensures named { IfErr result (IsNamed webp_refusals) }
-    ensures count { R.failures source.new ≡ count_after (is_io result) (R.failures source.old) }
-    ensures same { R.through source.new ≡ R.through source.old }
-{
-    let mut blocks = Blocks::new(block, filled, source);
-    let payload = webp::get_exif_attr(alloc, &mut blocks)?;
-    Ok(payload)
-}
-
-// The data of a container whose first bytes stand in the block.
+// The data of this container, or the refusal of bytes that begin none.
 #[tactic(auto, unfolding(crate::specs::Container::answer_as))]
-fn attr_as<R: Source>(
-    alloc: Global,
-    format: Option<Format>,
-    block: &mut [u8],
-    filled: usize,
-    source: &mut R,
-) -> Result<Vec<u8>, Error>
-    requires filled { filled ≤ length block.now }
-    requires some { 0 < length block.now }
+fn attr_as<R: Scan>(alloc: Global, format: Option<Format>, source: &mut R) -> Result<Vec<u8>, Error>
     ensures gives { IfSome (R.left source.old)
-        (λ rest. Gives (λ v. v.items) result (answer_as format (take filled block.old ++ rest))) }
+        (λ bytes. Gives (λ v. v.items) result (answer_as format bytes)) }
     ensures named { IfErr result (IsNamed container_refusals) }
-    ensures count { R.failures source.new ≡ count_after (is_io result) (R.failures source.old) }
-    ensures same { R.through source.new ≡ R.through source.old }
+    ensures counts { Counts R.Source source.old source.new (is_io result) }
 {
     match format {
-        Some(Format::Tiff) => read_behind(alloc, &block[..filled], source),
-        Some(Format::Jpeg) => jpeg_attr(alloc, block, filled, source),
-        Some(Format::Heif) => heif_attr(alloc, &block[..filled], source),
-        Some(Format::WebP) => webp_attr(alloc, block, filled, source),
+        Some(Format::Tiff) => read_all(alloc, source),
+        Some(Format::Jpeg) => jpeg::get_exif_attr(alloc, source),
+        Some(Format::Heif) => isobmff::get_exif_attr(alloc, source),
+        Some(Format::WebP) => webp::get_exif_attr(alloc, source),
         None => Err(Error::InvalidFormat("Unknown image format")),
     }
 }
@@ -158,8 +94,7 @@ fn read_head<R: Source>(source: &mut R, block: &mut [u8]) -> io::Result<usize>
     ensures len { length block.new ≡ length block.old }
     ensures end { IfOk result (λ n. n < min HEAD (length block.new) → IsAtEnd (R.left source.new)) }
     ensures most { IfOk result (λ n. n ≤ HEAD) }
-    ensures count { R.failures source.new ≡ count_after (is_err result) (R.failures source.old) }
-    ensures same { R.through source.new ≡ R.through source.old }
+    ensures counts { Counts R.Source source.old source.new (is_err result) }
 {
     let room = HEAD.min(block.len());
     let n = read_front(source, &mut block[..room])?;
@@ -176,12 +111,12 @@ fn attr_by_block<R: Source>(
     ensures gives { IfSome (R.left source.old)
         (λ bytes. Gives (λ v. v.items) result (container_answer bytes)) }
     ensures named { IfErr result (IsNamed container_refusals) }
-    ensures count { R.failures source.new ≡ count_after (is_io result) (R.failures source.old) }
-    ensures same { R.through source.new ≡ R.through source.old }
+    ensures counts { Counts R.Source source.old source.new (is_io result) }
 {
     let filled = read_head(source, block)?;
     let format = format_of(&block[..filled]);
-    let payload = attr_as(alloc, format, block, filled, source)?;
+    let mut blocks = Blocks::new(block, filled, source);
+    let payload = attr_as(alloc, format, &mut blocks)?;
     Ok(payload)
 }
 
@@ -195,8 +130,7 @@ pub fn exif_attr_of_stream<R: Source>(alloc: Global, source: &mut R) -> Result<V
     ensures gives { IfSome (R.left source.old)
         (λ bytes. Gives (λ v. v.items) result (container_answer bytes)) }
     ensures named { IfErr result (IsNamed container_refusals) }
-    ensures count { R.failures source.new ≡ count_after (is_io result) (R.failures source.old) }
-    ensures same { R.through source.new ≡ R.through source.old }
+    ensures counts { Counts R.Source source.old source.new (is_io result) }
 {
     let mut block = vec![in alloc; 0u8; BLOCK]?;
     let payload = attr_by_block(alloc, &mut block, source)?;

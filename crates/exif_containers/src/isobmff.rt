@@ -9,7 +9,7 @@ mod locations;
 mod splitter;
 mod tables;
 
-pub use exif::{exif_of_file, get_exif_attr};
+pub use exif::get_exif_attr;
 pub use file::is_heif;
 pub use kind::Kind;
 pub use splitter::{BoxSplitter, Header};

@@ -2,7 +2,7 @@
 
 ghost use Rattle.std.specs.Prelude.{◌≡◌, ◌<◌, ◌≤◌, ◌++◌, ◌∷◌, List, ℕ, Some, true, false, take, drop, length, OnOk, IfOk, IfErr, IfSome, MatchOption};
 ghost use Rattle.std.specs.Option.{option_map};
-ghost use Rattle.exif_base.specs.Device.{count_after};
+ghost use Rattle.exif_base.specs.Reads.{Counts};
 ghost use Rattle.exif_base.specs.Told.{WhereTold};
 ghost use Rattle.exif_types.specs.Refusals.{Fails, is_io};
 ghost use Rattle.exif_types.specs.declared.error.Error.TheVariants.{OutOfMemory};
@@ -14,7 +14,7 @@ mod limited;
 
 use exif_base::{Exact, Scan, Source};
 use exif_types::Error;
-use limited::{collect, fill, next_code, next16, skip};
+use limited::{collect_within, fill_within, next_code, next16, skip_within};
 use std::alloc::Global;
 
 /// The byte that begins a marker.
@@ -60,20 +60,19 @@ fn exif_payload<R: Source>(
     ensures short { IfErr result (λ e. IsShort broken_jpeg e (R.left source.old) (λ xs. length (take budget.old xs) < len)) }
     ensures memory { IfErr result (λ e. e ≡ OutOfMemory → IfSome (R.left source.old)
         (λ xs. (6 ≤ len) × (begins_exif (take budget.old xs) ≡ true))) }
-    ensures count { R.failures source.new ≡ count_after (is_io result) (R.failures source.old) }
-    ensures same { R.through source.new ≡ R.through source.old }
+    ensures counts { Counts R.Source source.old source.new (is_io result) }
 {
     if len < 6 {
-        skip(source, budget, len)?;
+        skip_within(source, budget, len)?;
         return Ok(None);
     }
     let mut id = [0u8; 6];
-    fill(source, budget, &mut id)?;
+    fill_within(source, budget, &mut id)?;
     if id != EXIF_ID {
-        let _passed = skip(source, budget, len - 6)?;
+        let _passed = skip_within(source, budget, len - 6)?;
         return Ok(None);
     }
-    let payload = collect(alloc, source, budget, len - 6)?;
+    let payload = collect_within(alloc, source, budget, len - 6)?;
     Ok(Some(payload))
 }
 
@@ -101,8 +100,7 @@ fn segment<R: Source>(
     ensures named { IfErr result (IsNamed jpeg_refusals) }
     ensures memory { IfErr result (λ e. e ≡ OutOfMemory → IfSome (R.left source.old)
         (λ xs. IsCollected broken_jpeg (answer_at_code code (take budget.old xs)))) }
-    ensures count { R.failures source.new ≡ count_after (is_io result) (R.failures source.old) }
-    ensures same { R.through source.new ≡ R.through source.old }
+    ensures counts { Counts R.Source source.old source.new (is_io result) }
 {
     let size = u64::from(next16(source, budget)?);
     if size < 2 {
@@ -112,7 +110,7 @@ fn segment<R: Source>(
         let payload = exif_payload(alloc, source, budget, size - 2)?;
         return Ok(payload);
     }
-    skip(source, budget, size - 2)?;
+    skip_within(source, budget, size - 2)?;
     Ok(None)
 }
 
@@ -129,8 +127,7 @@ fn next_unit<R: Scan>(
     ensures named { IfErr result (IsNamed jpeg_refusals) }
     ensures memory { IfErr result (λ e. e ≡ OutOfMemory → IfSome (R.left source.old)
         (λ xs. IsCollected broken_jpeg (answer_from (take budget.old xs)))) }
-    ensures count { R.failures source.new ≡ count_after (is_io result) (R.failures source.old) }
-    ensures same { R.through source.new ≡ R.through source.old }
+    ensures counts { Counts R.Source source.old source.new (is_io result) }
 {
     let code = next_code(source, budget)?;
     match code {
@@ -150,19 +147,18 @@ fn next_unit<R: Scan>(
 /// `Invalid segment length`, NotFound `JPEG` at the end of the image, and `Broken JPEG file` where the
 /// bytes end before an answer, or after `LIMIT` bytes. What is skipped takes no memory: the want of it is
 /// told only where a payload is collected.
-pub fn exif_attr<R: Scan>(alloc: Global, source: &mut R) -> Result<Vec<u8>, Error>
+pub fn get_exif_attr<R: Scan>(alloc: Global, source: &mut R) -> Result<Vec<u8>, Error>
     ensures found { IfOk result (λ v. WhereTold (R.left source.old) (R.left source.new)
         (λ xs ys. (rest : List ℕ) × (jpeg_answer (take LIMIT xs) ≡ found v.items rest) × (ys ≡ rest ++ drop LIMIT xs))) }
     ensures refused { IfErr result (λ e. IfSome (R.left source.old) (λ xs. Fails e (jpeg_answer (take LIMIT xs)))) }
     ensures named { IfErr result (IsNamed jpeg_refusals) }
     ensures memory { IfErr result (λ e. e ≡ OutOfMemory → IfSome (R.left source.old)
         (λ xs. IsCollected broken_jpeg (jpeg_answer (take LIMIT xs)))) }
-    ensures count { R.failures source.new ≡ count_after (is_io result) (R.failures source.old) }
-    ensures same { R.through source.new ≡ R.through source.old }
+    ensures counts { Counts R.Source source.old source.new (is_io result) }
 {
     let mut budget = LIMIT;
     let mut signature = [0u8; 2];
-    fill(source, &mut budget, &mut signature)?;
+    fill_within(source, &mut budget, &mut signature)?;
     if signature != SIGNATURE {
         return Err(Error::InvalidFormat("Not a JPEG file"));
     }
@@ -175,7 +171,7 @@ pub fn exif_attr<R: Scan>(alloc: Global, source: &mut R) -> Result<Vec<u8>, Erro
 
 /// The Exif bytes of a JPEG stream. What follows their segment is left unread.
 ///
-/// The answers are those of `jpeg::exif_attr`, and what is skipped takes no memory either. After an error,
+/// The answers are those of `jpeg::get_exif_attr`, and what is skipped takes no memory either. After an error,
 /// how far the source was read is left open.
 pub fn get_exif_attr_from_jpeg<R: Source>(alloc: Global, source: &mut R) -> Result<Vec<u8>, Error>
     ensures found { IfOk result (λ v. WhereTold (R.left source.old) (R.left source.new)
@@ -184,10 +180,9 @@ pub fn get_exif_attr_from_jpeg<R: Source>(alloc: Global, source: &mut R) -> Resu
     ensures named { IfErr result (IsNamed jpeg_refusals) }
     ensures memory { IfErr result (λ e. e ≡ OutOfMemory → IfSome (R.left source.old)
         (λ xs. IsCollected broken_jpeg (jpeg_answer (take LIMIT xs)))) }
-    ensures count { R.failures source.new ≡ count_after (is_io result) (R.failures source.old) }
-    ensures same { R.through source.new ≡ R.through source.old }
+    ensures counts { Counts R.Source source.old source.new (is_io result) }
 {
     let mut exact = Exact::new(source);
-    let payload = exif_attr(alloc, &mut exact)?;
+    let payload = get_exif_attr(alloc, &mut exact)?;
     Ok(payload)
 }

@@ -1,12 +1,14 @@
 //! What the containers share above the reads of their bytes.
 
-ghost use Rattle.std.specs.Prelude.{◌≡◌, ◌++◌, IfOk, OnOk, IfErr, IfSome};
-ghost use Rattle.std.specs.Io.KnownBytes.{IsAtEnd};
-ghost use Rattle.exif_base.specs.Device.{count_after};
+ghost use Rattle.std.specs.Prelude.{◌≡◌, ◌≢◌, ◌<◌, length, IfOk, OnOk, IfErr, IfSome, Err};
+ghost use Rattle.std.specs.Io.KnownBytes.{Consumes, IsAtEnd};
+ghost use Rattle.exif_base.specs.Reads.{Counts};
+ghost use Rattle.exif_base.specs.Told.{Skips};
 ghost use Rattle.exif_types.specs.Refusals.{IsInterrupted, invalid_format, is_io};
-ghost use Rattle.exif_containers.specs.Answer.{IsErrorOf};
+ghost use Rattle.exif_types.specs.declared.error.Error.TheVariants.{OutOfMemory};
+ghost use Rattle.exif_containers.specs.Answer.{IsErrorOf, IsShort};
 
-use exif_base::{ReadFault, Source, read_to_end};
+use exif_base::{ReadFault, Source, discard_exact, read_exact, read_exact_len, read_to_end};
 use exif_types::Error;
 use std::alloc::Global;
 
@@ -21,32 +23,59 @@ pub fn error_of(fault: ReadFault, broken: &'static str) -> Error
     }
 }
 
-/// These bytes, and then all that are left.
+/// Fills the buffer with the next bytes. Their end is `InvalidFormat` with this text.
+pub fn fill<R: Source>(source: &mut R, buf: &mut [u8], broken: &'static str) -> Result<(), Error>
+    ensures taken { OnOk result (Consumes (R.left source.old) (R.left source.new) buf.new) }
+    ensures short { IfErr result (λ e. IsShort (invalid_format broken.now) e (R.left source.old)
+        (λ xs. length xs < length buf.old)) }
+    ensures no_memory { result ≢ Err OutOfMemory }
+    ensures counts { Counts R.Source source.old source.new (is_io result) }
+{
+    read_exact(source, buf).map_err(|fault| error_of(fault, broken))
+}
+
+/// Takes the next bytes and forgets them, without memory. Their end is that of `fill`.
+pub fn skip<R: Source>(source: &mut R, len: u64, broken: &'static str) -> Result<(), Error>
+    ensures taken { OnOk result (Skips (R.left source.old) (R.left source.new) len) }
+    ensures short { IfErr result (λ e. IsShort (invalid_format broken.now) e (R.left source.old)
+        (λ xs. length xs < len)) }
+    ensures no_memory { result ≢ Err OutOfMemory }
+    ensures counts { Counts R.Source source.old source.new (is_io result) }
+{
+    discard_exact(source, len).map_err(|fault| error_of(fault, broken))
+}
+
+/// The next bytes as a list. Their end is that of `fill`.
+pub fn collect<R: Source>(
+    alloc: Global,
+    source: &mut R,
+    len: u64,
+    broken: &'static str,
+) -> Result<Vec<u8>, Error>
+    ensures taken { IfOk result (λ v. Consumes (R.left source.old) (R.left source.new) v.items) }
+    ensures len { IfOk result (λ v. length v.items ≡ len) }
+    ensures short { IfErr result (λ e. IsShort (invalid_format broken.now) e (R.left source.old)
+        (λ xs. length xs < len)) }
+    ensures counts { Counts R.Source source.old source.new (is_io result) }
+{
+    let mut bytes = Vec::new(alloc);
+    read_exact_len(source, &mut bytes, len).map_err(|fault| error_of(fault, broken))?;
+    Ok(bytes)
+}
+
+/// All the bytes that are left.
 ///
 /// It answers `Io` or `OutOfMemory`, and no refusal. How far the source was read then is left open.
-pub fn read_behind<R: Source>(alloc: Global, head: &[u8], source: &mut R) -> Result<Vec<u8>, Error>
-    ensures taken { IfOk result (λ v. IfSome (R.left source.old) (λ rest. v.items ≡ head.now ++ rest)) }
+pub fn read_all<R: Source>(alloc: Global, source: &mut R) -> Result<Vec<u8>, Error>
+    ensures taken { IfOk result (λ v. IfSome (R.left source.old) (λ bytes. v.items ≡ bytes)) }
     ensures at_end { OnOk result (IsAtEnd (R.left source.new)) }
     ensures interrupted { IfErr result IsInterrupted }
-    ensures count { R.failures source.new ≡ count_after (is_io result) (R.failures source.old) }
-    ensures same { R.through source.new ≡ R.through source.old }
+    ensures counts { Counts R.Source source.old source.new (is_io result) }
 {
-    let mut bytes = Vec::from_slice(alloc, head)?;
+    let mut bytes = Vec::new(alloc);
     match read_to_end(source, &mut bytes) {
         Ok(()) => Ok(bytes),
         Err(ReadFault::Io(cause)) => Err(Error::Io(cause)),
         Err(ReadFault::End | ReadFault::OutOfMemory) => Err(Error::OutOfMemory),
     }
-}
-
-/// All the bytes that are left. Errors are those of `read_behind`.
-pub fn read_all<R: Source>(alloc: Global, source: &mut R) -> Result<Vec<u8>, Error>
-    ensures taken { IfOk result (λ v. IfSome (R.left source.old) (λ bytes. v.items ≡ bytes)) }
-    ensures at_end { OnOk result (IsAtEnd (R.left source.new)) }
-    ensures interrupted { IfErr result IsInterrupted }
-    ensures count { R.failures source.new ≡ count_after (is_io result) (R.failures source.old) }
-    ensures same { R.through source.new ≡ R.through source.old }
-{
-    let bytes = read_behind(alloc, &[], source)?;
-    Ok(bytes)
 }

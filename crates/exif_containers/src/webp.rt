@@ -1,20 +1,17 @@
 //! The Exif chunk of a WebP file (WebP Container Specification, "RIFF File Format", "Metadata").
 
 ghost use Rattle.std.specs.Prelude.{◌≡◌, ◌≢◌, ◌<◌, ◌≤◌, ◌-◌, length, take, drop, OnOk, IfOk, IfErr, IfSome, Ok, Err};
-ghost use Rattle.std.specs.Io.KnownBytes.{Consumes};
 ghost use Rattle.byteorder.specs.Endian.{little_number};
-ghost use Rattle.exif_base.specs.Device.{count_after};
-ghost use Rattle.exif_base.specs.Told.{Skips, WhereTold};
+ghost use Rattle.exif_base.specs.Reads.{Counts};
+ghost use Rattle.exif_base.specs.Told.{WhereTold};
 ghost use Rattle.exif_types.specs.Refusals.{Fails, is_io};
 ghost use Rattle.exif_types.specs.declared.error.Error.TheVariants.{OutOfMemory};
-ghost use Rattle.exif_containers.specs.Answer.{IsCollected, IsErrorOf, IsNamed, IsShort, found};
+ghost use Rattle.exif_containers.specs.Answer.{IsCollected, IsNamed, IsShort, found};
 ghost use Rattle.exif_containers.specs.Webp.{begins_webp, body_answer, broken_webp, chunk_at, chunk_body, padded, webp_answer, webp_refusals};
 ghost use Rattle.exif_containers.specs.WebpSteps.{IsPayload, LeavesAtMost, chunk_of};
 
-use crate::util::error_of;
-use exif_base::{
-    Endian, LittleEndian, ReadFault, Source, discard_exact, read_exact, read_exact_len,
-};
+use crate::util::{collect, fill, skip};
+use exif_base::{Endian, LittleEndian, Source};
 use exif_types::Error;
 use std::alloc::Global;
 
@@ -25,45 +22,8 @@ enum Step {
     Other(u64),
 }
 
-fn broken(fault: ReadFault) -> Error
-    ensures { IsErrorOf broken_webp fault result }
-{
-    error_of(fault, "Broken WebP file")
-}
-
-fn fill<R: Source>(source: &mut R, buf: &mut [u8]) -> Result<(), Error>
-    ensures taken { OnOk result (Consumes (R.left source.old) (R.left source.new) buf.new) }
-    ensures short { IfErr result (λ e. IsShort broken_webp e (R.left source.old) (λ xs. length xs < length buf.old)) }
-    ensures no_memory { result ≢ Err OutOfMemory }
-    ensures count { R.failures source.new ≡ count_after (is_io result) (R.failures source.old) }
-    ensures same { R.through source.new ≡ R.through source.old }
-{
-    read_exact(source, buf).map_err(broken)?;
-    Ok(())
-}
-
-fn skip<R: Source>(source: &mut R, len: u64) -> Result<(), Error>
-    ensures taken { OnOk result (Skips (R.left source.old) (R.left source.new) len) }
-    ensures short { IfErr result (λ e. IsShort broken_webp e (R.left source.old) (λ xs. length xs < len)) }
-    ensures no_memory { result ≢ Err OutOfMemory }
-    ensures count { R.failures source.new ≡ count_after (is_io result) (R.failures source.old) }
-    ensures same { R.through source.new ≡ R.through source.old }
-{
-    discard_exact(source, len).map_err(broken)?;
-    Ok(())
-}
-
-fn collect<R: Source>(alloc: Global, source: &mut R, len: u64) -> Result<Vec<u8>, Error>
-    ensures taken { IfOk result (λ v. Consumes (R.left source.old) (R.left source.new) v.items) }
-    ensures len { IfOk result (λ v. length v.items ≡ len) }
-    ensures short { IfErr result (λ e. IsShort broken_webp e (R.left source.old) (λ xs. length xs < len)) }
-    ensures count { R.failures source.new ≡ count_after (is_io result) (R.failures source.old) }
-    ensures same { R.through source.new ≡ R.through source.old }
-{
-    let mut bytes = Vec::new(alloc);
-    read_exact_len(source, &mut bytes, len).map_err(broken)?;
-    Ok(bytes)
-}
+// What the end of the bytes is called.
+const BROKEN: &str = "Broken WebP file";
 
 // How many bytes a payload takes, its pad byte among them: there is none at the end of the body.
 fn padded_len(size: u64, room: u64) -> u64
@@ -94,18 +54,17 @@ fn body<R: Source>(
     ensures memory { IfErr result (λ e. e ≡ OutOfMemory → IfSome (R.left source.old)
         (λ xs. IsPayload (chunk_body name size room xs))) }
     ensures fewer { IfOk result (LeavesAtMost room) }
-    ensures count { R.failures source.new ≡ count_after (is_io result) (R.failures source.old) }
-    ensures same { R.through source.new ≡ R.through source.old }
+    ensures counts { Counts R.Source source.old source.new (is_io result) }
 {
     if size > room {
         return Err(Error::InvalidFormat("Chunk overflowing parent"));
     }
     if name == *b"EXIF" {
-        let payload = collect(alloc, source, size)?;
+        let payload = collect(alloc, source, size, BROKEN)?;
         return Ok(Step::Exif(payload));
     }
     let taken = padded_len(size, room);
-    skip(source, taken)?;
+    skip(source, taken, BROKEN)?;
     Ok(Step::Other(room - taken))
 }
 
@@ -115,11 +74,10 @@ fn header<R: Source>(source: &mut R) -> Result<([u8; 4], u64), Error>
         (λ xs ys. (h.0 ≡ take 4 xs) × (h.1 ≡ little_number 4 (drop 4 xs)) × (8 ≤ length xs) × (ys ≡ drop 8 xs))) }
     ensures short { IfErr result (λ e. IsShort broken_webp e (R.left source.old) (λ xs. length xs < 8)) }
     ensures no_memory { result ≢ Err OutOfMemory }
-    ensures count { R.failures source.new ≡ count_after (is_io result) (R.failures source.old) }
-    ensures same { R.through source.new ≡ R.through source.old }
+    ensures counts { Counts R.Source source.old source.new (is_io result) }
 {
     let mut bytes = [0u8; 8];
-    fill(source, &mut bytes)?;
+    fill(source, &mut bytes, BROKEN)?;
     let name = [bytes[0], bytes[1], bytes[2], bytes[3]];
     let size = u32::from_le_bytes([bytes[4], bytes[5], bytes[6], bytes[7]]);
     Ok((name, u64::from(size)))
@@ -139,11 +97,10 @@ fn room_of_body<R: Source>(source: &mut R) -> Result<u64, Error>
     ensures refused { IfErr result (λ e. IfSome (R.left source.old) (λ xs. Fails e (webp_answer xs))) }
     ensures named { IfErr result (IsNamed webp_refusals) }
     ensures no_memory { result ≢ Err OutOfMemory }
-    ensures count { R.failures source.new ≡ count_after (is_io result) (R.failures source.old) }
-    ensures same { R.through source.new ≡ R.through source.old }
+    ensures counts { Counts R.Source source.old source.new (is_io result) }
 {
     let mut bytes = [0u8; 12];
-    fill(source, &mut bytes)?;
+    fill(source, &mut bytes, BROKEN)?;
     if !is_webp(&bytes) {
         return Err(Error::InvalidFormat("Not a WebP file"));
     }
@@ -165,8 +122,7 @@ fn next_chunk<R: Source>(alloc: Global, source: &mut R, room: u64) -> Result<Ste
         (λ xs. IsPayload (chunk_at room xs))) }
     ensures fewer { IfOk result (LeavesAtMost (room - 8)) }
     ensures room { OnOk result (8 ≤ room) }
-    ensures count { R.failures source.new ≡ count_after (is_io result) (R.failures source.old) }
-    ensures same { R.through source.new ≡ R.through source.old }
+    ensures counts { Counts R.Source source.old source.new (is_io result) }
 {
     if room < 8 {
         return Err(Error::InvalidFormat("Chunk overflowing parent"));
@@ -189,8 +145,7 @@ pub fn get_exif_attr<R: Source>(alloc: Global, source: &mut R) -> Result<Vec<u8>
     ensures named { IfErr result (IsNamed webp_refusals) }
     ensures memory { IfErr result (λ e. e ≡ OutOfMemory → IfSome (R.left source.old)
         (λ xs. IsCollected broken_webp (webp_answer xs))) }
-    ensures count { R.failures source.new ≡ count_after (is_io result) (R.failures source.old) }
-    ensures same { R.through source.new ≡ R.through source.old }
+    ensures counts { Counts R.Source source.old source.new (is_io result) }
 {
     let mut room = room_of_body(source)?;
     while room > 0 {

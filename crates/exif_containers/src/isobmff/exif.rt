@@ -1,7 +1,7 @@
 //! The Exif data of a HEIF file.
 
 ghost use Rattle.std.specs.Prelude.{◌≡◌, false, IfErr, IfSome};
-ghost use Rattle.exif_base.specs.Device.{count_after};
+ghost use Rattle.exif_base.specs.Reads.{Counts};
 ghost use Rattle.exif_types.specs.Refusals.{Gives, is_io};
 ghost use Rattle.exif_containers.specs.Answer.{IsNamed};
 ghost use Rattle.exif_containers.specs.Heif.{exif_block, exif_of};
@@ -39,7 +39,7 @@ fn exif_block(alloc: Global, file: &[u8], meta: &[u8]) -> Result<Vec<u8>, Error>
 /// The Exif data of a file in memory. Refusals come in the order of the boxes, and then of the steps from
 /// the item to its bytes.
 #[tactic(auto, unfolding(crate::specs::Heif::exif_of))]
-pub fn exif_of_file(alloc: Global, file: &[u8]) -> Result<Vec<u8>, Error>
+fn exif_of_file(alloc: Global, file: &[u8]) -> Result<Vec<u8>, Error>
     ensures gives { Gives (λ v. v.items) result (exif_of file.now) }
     ensures no_io { is_io result ≡ false }
 {
@@ -55,8 +55,7 @@ pub fn exif_of_file(alloc: Global, file: &[u8]) -> Result<Vec<u8>, Error>
 pub fn get_exif_attr<R: Source>(alloc: Global, source: &mut R) -> Result<Vec<u8>, Error>
     ensures gives { IfSome (R.left source.old) (λ file. Gives (λ v. v.items) result (exif_of file)) }
     ensures named { IfErr result (IsNamed heif_refusals) }
-    ensures count { R.failures source.new ≡ count_after (is_io result) (R.failures source.old) }
-    ensures same { R.through source.new ≡ R.through source.old }
+    ensures counts { Counts R.Source source.old source.new (is_io result) }
 {
     let file = read_all(alloc, source)?;
     let payload = exif_of_file(alloc, &file)?;

@@ -1,24 +1,21 @@
 //! Reads of a stream of which only so many bytes count, and the code that the next unit begins with.
 
-ghost use Rattle.std.specs.Prelude.{◌≡◌, ◌≢◌, ◌<◌, ◌≤◌, ◌*◌, ◌+◌, ◌∷◌, [], ◌++◌, List, ℕ, Some, take, length, OnOk, IfOk, IfErr, Err};
-ghost use Rattle.exif_base.specs.Device.{count_after};
+ghost use Rattle.std.specs.Prelude.{◌≡◌, ◌≢◌, false, ◌<◌, ◌≤◌, ◌*◌, ◌+◌, ◌∷◌, [], ◌++◌, List, ℕ, Some, take, length, OnOk, IfOk, IfErr, Err};
+ghost use Rattle.exif_base.specs.Reads.{Counts};
 ghost use Rattle.exif_types.specs.Refusals.{is_io, refusal_of};
-ghost use Rattle.exif_containers.specs.Answer.{IsErrorOf, IsShort};
+ghost use Rattle.exif_containers.specs.Answer.{IsShort};
 ghost use Rattle.exif_containers.specs.Within.{Moves};
 ghost use Rattle.exif_types.specs.declared.error.Error.TheVariants.{OutOfMemory};
 ghost use Rattle.exif_containers.specs.Jpeg.{after_marks, broken_jpeg, code_onwards, from_mark};
 
 use crate::jpeg::MARK;
-use crate::util::error_of;
-use exif_base::{ReadFault, Scan, Source, discard_exact, read_exact, read_exact_len};
+use crate::util::{collect, error_of, fill, skip};
+use exif_base::{Scan, Source, read8, read16};
 use exif_types::Error;
 use std::alloc::Global;
 
-fn broken(fault: ReadFault) -> Error
-    ensures { IsErrorOf broken_jpeg fault result }
-{
-    error_of(fault, "Broken JPEG file")
-}
+// What the end of the bytes is called.
+const BROKEN: &str = "Broken JPEG file";
 
 // Counts bytes against those that may still be taken.
 fn spend(budget: &mut u64, len: u64) -> Result<(), Error>
@@ -31,41 +28,39 @@ fn spend(budget: &mut u64, len: u64) -> Result<(), Error>
             *budget = rest;
             Ok(())
         }
-        None => Err(broken(ReadFault::End)),
+        None => Err(Error::InvalidFormat(BROKEN)),
     }
 }
 
 /// Fills the buffer with the next bytes.
-pub fn fill<R: Source>(source: &mut R, budget: &mut u64, buf: &mut [u8]) -> Result<(), Error>
+pub fn fill_within<R: Source>(source: &mut R, budget: &mut u64, buf: &mut [u8]) -> Result<(), Error>
     ensures taken { OnOk result (Moves (R.left source.old) budget.old (R.left source.new) budget.new (λ xs ys. xs ≡ buf.new ++ ys)) }
     ensures spent { OnOk result (budget.old ≡ budget.new + length buf.old) }
     ensures short { IfErr result (λ e. IsShort broken_jpeg e (R.left source.old) (λ xs. length (take budget.old xs) < length buf.old)) }
     ensures no_memory { result ≢ Err OutOfMemory }
-    ensures count { R.failures source.new ≡ count_after (is_io result) (R.failures source.old) }
-    ensures same { R.through source.new ≡ R.through source.old }
+    ensures counts { Counts R.Source source.old source.new (is_io result) }
 {
     spend(budget, buf.len() as u64)?;
-    read_exact(source, buf).map_err(broken)
+    fill(source, buf, BROKEN)
 }
 
 /// Takes the next bytes and forgets them, without memory.
 #[tactic(auto, using(crate::proofs::Within::skips_within))]
-pub fn skip<R: Source>(source: &mut R, budget: &mut u64, len: u64) -> Result<(), Error>
+pub fn skip_within<R: Source>(source: &mut R, budget: &mut u64, len: u64) -> Result<(), Error>
     ensures taken { OnOk result (Moves (R.left source.old) budget.old (R.left source.new) budget.new
         (λ xs ys. (bytes : List ℕ) × (length bytes ≡ len) × (xs ≡ bytes ++ ys))) }
     ensures spent { OnOk result (budget.old ≡ budget.new + len) }
     ensures short { IfErr result (λ e. IsShort broken_jpeg e (R.left source.old) (λ xs. length (take budget.old xs) < len)) }
     ensures no_memory { result ≢ Err OutOfMemory }
-    ensures count { R.failures source.new ≡ count_after (is_io result) (R.failures source.old) }
-    ensures same { R.through source.new ≡ R.through source.old }
+    ensures counts { Counts R.Source source.old source.new (is_io result) }
 {
     spend(budget, len)?;
-    discard_exact(source, len).map_err(broken)?;
+    skip(source, len, BROKEN)?;
     Ok(())
 }
 
 /// The next bytes as a list.
-pub fn collect<R: Source>(
+pub fn collect_within<R: Source>(
     alloc: Global,
     source: &mut R,
     budget: &mut u64,
@@ -75,13 +70,10 @@ pub fn collect<R: Source>(
     ensures len { IfOk result (λ v. length v.items ≡ len) }
     ensures spent { OnOk result (budget.old ≡ budget.new + len) }
     ensures short { IfErr result (λ e. IsShort broken_jpeg e (R.left source.old) (λ xs. length (take budget.old xs) < len)) }
-    ensures count { R.failures source.new ≡ count_after (is_io result) (R.failures source.old) }
-    ensures same { R.through source.new ≡ R.through source.old }
+    ensures counts { Counts R.Source source.old source.new (is_io result) }
 {
     spend(budget, len)?;
-    let mut bytes = Vec::new(alloc);
-    read_exact_len(source, &mut bytes, len).map_err(broken)?;
-    Ok(bytes)
+    collect(alloc, source, len, BROKEN)
 }
 
 fn next_byte<R: Source>(source: &mut R, budget: &mut u64) -> Result<u8, Error>
@@ -89,35 +81,32 @@ fn next_byte<R: Source>(source: &mut R, budget: &mut u64) -> Result<u8, Error>
     ensures spent { OnOk result (budget.old ≡ budget.new + 1) }
     ensures short { IfErr result (λ e. IsShort broken_jpeg e (R.left source.old) (λ xs. length (take budget.old xs) < 1)) }
     ensures no_memory { result ≢ Err OutOfMemory }
-    ensures count { R.failures source.new ≡ count_after (is_io result) (R.failures source.old) }
-    ensures same { R.through source.new ≡ R.through source.old }
+    ensures counts { Counts R.Source source.old source.new (is_io result) }
 {
-    let mut bytes = [0u8; 1];
-    fill(source, budget, &mut bytes)?;
-    Ok(bytes[0])
+    spend(budget, 1)?;
+    read8(source).map_err(|fault| error_of(fault, BROKEN))
 }
 
 /// The number in the next two bytes, the highest first.
+#[tactic(auto, using(crate::proofs::Within::number_within))]
 pub fn next16<R: Source>(source: &mut R, budget: &mut u64) -> Result<u16, Error>
     ensures taken { IfOk result (λ n. Moves (R.left source.old) budget.old (R.left source.new) budget.new
         (λ xs ys. (high low : ℕ) × (xs ≡ high ∷ low ∷ ys) × (n ≡ 256 * high + low))) }
     ensures spent { OnOk result (budget.old ≡ budget.new + 2) }
     ensures short { IfErr result (λ e. IsShort broken_jpeg e (R.left source.old) (λ xs. length (take budget.old xs) < 2)) }
     ensures no_memory { result ≢ Err OutOfMemory }
-    ensures count { R.failures source.new ≡ count_after (is_io result) (R.failures source.old) }
-    ensures same { R.through source.new ≡ R.through source.old }
+    ensures counts { Counts R.Source source.old source.new (is_io result) }
 {
-    let mut bytes = [0u8; 2];
-    fill(source, budget, &mut bytes)?;
-    Ok(u16::from_be_bytes(bytes))
+    spend(budget, 2)?;
+    let number = read16(source).map_err(|fault| error_of(fault, BROKEN))?;
+    Ok(number)
 }
 
 // Takes what is at hand and no ff.
 fn pass_at_hand<R: Scan>(source: &mut R, budget: &mut u64)
     ensures taken { Moves (R.left source.old) budget.old (R.left source.new) budget.new (λ xs ys. from_mark xs ≡ from_mark ys) }
     ensures spent { budget.new ≤ budget.old }
-    ensures count { R.failures source.new ≡ R.failures source.old }
-    ensures same { R.through source.new ≡ R.through source.old }
+    ensures counts { Counts R.Source source.old source.new false }
 {
     let passed = source.pass_others(MARK, *budget);
     *budget -= passed;
@@ -129,8 +118,7 @@ fn skip_to_mark<R: Scan>(source: &mut R, budget: &mut u64) -> Result<(), Error>
     ensures spent { OnOk result (budget.new < budget.old) }
     ensures short { IfErr result (λ e. IsShort broken_jpeg e (R.left source.old) (λ xs. from_mark (take budget.old xs) ≡ [])) }
     ensures no_memory { result ≢ Err OutOfMemory }
-    ensures count { R.failures source.new ≡ count_after (is_io result) (R.failures source.old) }
-    ensures same { R.through source.new ≡ R.through source.old }
+    ensures counts { Counts R.Source source.old source.new (is_io result) }
 {
     loop {
         pass_at_hand(source, budget);
@@ -147,8 +135,7 @@ fn code_after_marks<R: Source>(source: &mut R, budget: &mut u64) -> Result<u8, E
     ensures spent { OnOk result (budget.new < budget.old) }
     ensures short { IfErr result (λ e. IsShort broken_jpeg e (R.left source.old) (λ xs. after_marks (take budget.old xs) ≡ [])) }
     ensures no_memory { result ≢ Err OutOfMemory }
-    ensures count { R.failures source.new ≡ count_after (is_io result) (R.failures source.old) }
-    ensures same { R.through source.new ≡ R.through source.old }
+    ensures counts { Counts R.Source source.old source.new (is_io result) }
 {
     loop {
         let code = next_byte(source, budget)?;
@@ -164,8 +151,7 @@ pub fn next_code<R: Scan>(source: &mut R, budget: &mut u64) -> Result<u8, Error>
     ensures spent { OnOk result (budget.new < budget.old) }
     ensures short { IfErr result (λ e. IsShort broken_jpeg e (R.left source.old) (λ xs. code_onwards (take budget.old xs) ≡ [])) }
     ensures no_memory { result ≢ Err OutOfMemory }
-    ensures count { R.failures source.new ≡ count_after (is_io result) (R.failures source.old) }
-    ensures same { R.through source.new ≡ R.through source.old }
+    ensures counts { Counts R.Source source.old source.new (is_io result) }
 {
     skip_to_mark(source, budget)?;
     code_after_marks(source, budget)

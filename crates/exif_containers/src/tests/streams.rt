@@ -2,7 +2,7 @@
 
 use super::{Answer, is_answer, is_fault, one_byte};
 use crate::get_exif_attr_from_jpeg;
-use crate::jpeg::{exif_attr, is_jpeg};
+use crate::jpeg::{get_exif_attr, is_jpeg};
 use crate::util::read_all;
 use crate::webp::{self, is_webp};
 use exif_base::{Blocks, Counted, Source};
@@ -57,7 +57,7 @@ const WEBP_ROWS: [(&[u8], Answer); 11] = [
 
 fn by_blocks<R: Source>(alloc: Global, source: &mut R) -> Result<Vec<u8>, Error> {
     let mut block = [0u8; 7];
-    let payload = exif_attr(alloc, &mut Blocks::new(&mut block, 0, source))?;
+    let payload = get_exif_attr(alloc, &mut Blocks::new(&mut block, 0, source))?;
     Ok(payload)
 }
 

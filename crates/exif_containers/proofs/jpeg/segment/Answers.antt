@@ -8,7 +8,7 @@ returns-then-code-eq-APP1-clause-taken g c =
 
 pub returns-clause-taken : goal.returns-clause-taken
 returns-clause-taken g c =
-    segment_other _ _ _ _ _ _ c.args.code c.from-size.result c.requires c.if-code-eq-APP1.false c.if-size-lt2.false (rw c.from-size.ensures c.in_ok-next16.ensures.taken) c.in_ok-skip.ensures.taken
+    segment_other _ _ _ _ _ _ c.args.code c.from-size.result c.requires c.if-code-eq-APP1.false c.if-size-lt2.false (rw c.from-size.ensures c.in_ok-next16.ensures.taken) c.in_ok-skip_within.ensures.taken
 
 pub returns-in_err-payload-clause-memory : goal.returns-in_err-payload-clause-memory
 returns-in_err-payload-clause-memory g c =

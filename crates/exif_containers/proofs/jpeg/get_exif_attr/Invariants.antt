@@ -2,7 +2,7 @@ use Rattle.std.proofs.Common.{◌≡◌}
 use Rattle.exif_containers.specs.Within.{Moves}
 use Rattle.exif_containers.specs.Jpeg.{answer_from, jpeg_answer}
 use Rattle.exif_containers.specs.declared.jpeg.TheConstants.{LIMIT}
-use Rattle.exif_containers.proofs.jpeg.exif_attr.Given as goal
+use Rattle.exif_containers.proofs.jpeg.get_exif_attr.Given as goal
 
 abbrev pub invariant-loop-payload : goal.invariant-loop-payload
 invariant-loop-payload g l = record {

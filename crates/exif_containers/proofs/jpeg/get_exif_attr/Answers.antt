@@ -4,16 +4,16 @@ use Rattle.exif_containers.specs.Answer.{IsCollected}
 use Rattle.exif_containers.specs.Jpeg.{broken_jpeg}
 use Rattle.exif_containers.specs.declared.jpeg.TheConstants.{LIMIT}
 use Rattle.exif_containers.proofs.JpegMoves.{jpeg_short, jpeg_other, jpeg_found, jpeg_holds}
-use Rattle.exif_containers.proofs.jpeg.exif_attr.Goals as goal
+use Rattle.exif_containers.proofs.jpeg.get_exif_attr.Goals as goal
 
-pub returns-in_err-fill-clause-refused : goal.returns-in_err-fill-clause-refused
-returns-in_err-fill-clause-refused g c =
+pub returns-in_err-fill_within-clause-refused : goal.returns-in_err-fill_within-clause-refused
+returns-in_err-fill_within-clause-refused g c =
     let p = err_from_is_err_and c.from_residual.result c.from_residual.ensures.1 in
-    rw (p.1, p.2) (jpeg_short _ (g.R.Source.left c.args.source.now) LIMIT c.in_err-fill.ensures.short)
+    rw (p.1, p.2) (jpeg_short _ (g.R.Source.left c.args.source.now) LIMIT c.in_err-fill_within.ensures.short)
 
 pub returns-then-ne-clause-refused : goal.returns-then-ne-clause-refused
 returns-then-ne-clause-refused g c =
-    jpeg_other (g.R.Source.left c.args.source.now) (g.R.Source.left c.fill.new.source) LIMIT c.fill.new.budget c.fill.new.buf (search rules) c.if-ne.ensures c.in_ok-fill.ensures.taken
+    jpeg_other (g.R.Source.left c.args.source.now) (g.R.Source.left c.fill_within.new.source) LIMIT c.fill_within.new.budget c.fill_within.new.buf (search rules) c.if-ne.ensures c.in_ok-fill_within.ensures.taken
 
 pub returns-in-Some-clause-found : goal.returns-in-Some-clause-found
 returns-in-Some-clause-found g c =
