@@ -97,8 +97,7 @@ fn read_head<R: Source>(source: &mut R, block: &mut [u8]) -> io::Result<usize>
     ensures counts { Counts R.Source source.old source.new (is_err result) }
 {
     let room = HEAD.min(block.len());
-    let n = read_front(source, &mut block[..room])?;
-    Ok(n)
+    read_front(source, &mut block[..room])
 }
 
 // The data of a stream, read by way of the block.
@@ -133,6 +132,5 @@ pub fn exif_attr_of_stream<R: Source>(alloc: Global, source: &mut R) -> Result<V
     ensures counts { Counts R.Source source.old source.new (is_io result) }
 {
     let mut block = vec![in alloc; 0u8; BLOCK]?;
-    let payload = attr_by_block(alloc, &mut block, source)?;
-    Ok(payload)
+    attr_by_block(alloc, &mut block, source)
 }

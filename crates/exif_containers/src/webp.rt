@@ -128,8 +128,7 @@ fn next_chunk<R: Source>(alloc: Global, source: &mut R, room: u64) -> Result<Ste
         return Err(Error::InvalidFormat("Chunk overflowing parent"));
     }
     let (name, size) = header(source)?;
-    let step = body(alloc, source, name, size, room - 8)?;
-    Ok(step)
+    body(alloc, source, name, size, room - 8)
 }
 
 /// The payload of the first chunk named `EXIF`. What follows it is left in the source.
