@@ -1,5 +1,6 @@
 -- A stream's head, and what follows it.
 use Rattle.std.proofs.Common.{◌≡◌, true, ◌||◌, eqb, codes, ◌⊎◌, inl, inr, ℕ, ◌<◌, ◌≤◌, min, List, [], ◌++◌, length, take, drop, Option, None, Some, Result, IfOk, IfErr, IfSome, Ok, Err, refl, sym, subst, ◌^◌, ◌-◌, ap, ◌∙◌, arith, append-nil}
+use Rattle.std.specs.Bool.{⊤}
 use Rattle.std.proofs.lemmas.Bool.{cases_lt}
 use Rattle.std.proofs.lemmas.List.{take_at, take_all, take-take, length-take-le}
 use Rattle.std.specs.Cmp.Lexicographic.{pointwise}
@@ -36,6 +37,11 @@ container_holds P n block format (Some xs) (Some ys) left h bound most room end 
     let whole : IfSome (Some (take n block ++ ys)) (λ bytes. P (answer_as format bytes)) = subst (λ t. IfSome t (λ bytes. P (answer_as format bytes))) e g in
     let len : length (take n block) ≡ n = length-take-le n block bound in
     rw (h, head-first (take n block) ys (omega arith) (λ lt. end (omega arith)), ← f) whole
+
+-- an interruption is owed no answer
+pub interrupted : (a : Option (List ℕ)) → IfSome a (λ bytes. ⊤)
+interrupted None = tt
+interrupted (Some xs) = tt
 
 -- what a call answers is the data of a stream, or its refusal
 stream_gives : {X : Type 0} (items : X → List ℕ) (result : Result X Failure) (a b : Option (List ℕ)) (l : ℕ)

@@ -100,25 +100,6 @@ fn read_head<R: Source>(source: &mut R, block: &mut [u8]) -> io::Result<usize>
     read_front(source, &mut block[..room])
 }
 
-// The data of a stream, read by way of the block.
-fn attr_by_block<R: Source>(
-    alloc: Global,
-    block: &mut [u8],
-    source: &mut R,
-) -> Result<Vec<u8>, Error>
-    requires { HEAD ≤ length block.now }
-    ensures gives { IfSome (R.left source.old)
-        (λ bytes. Gives (λ v. v.items) result (container_answer bytes)) }
-    ensures named { IfErr result (IsNamed container_refusals) }
-    ensures counts { Counts R.Source source.old source.new (is_io result) }
-{
-    let filled = read_head(source, block)?;
-    let format = format_of(&block[..filled]);
-    let mut blocks = Blocks::new(block, filled, source);
-    let payload = attr_as(alloc, format, &mut blocks)?;
-    Ok(payload)
-}
-
 /// The Exif data of a stream: all bytes of TIFF data, or what a JPEG stream, a HEIF file or a
 /// WebP file holds. The first 4096 bytes choose, or all if there are fewer, whatever the source's
 /// cuts.
@@ -131,6 +112,11 @@ pub fn exif_attr_of_stream<R: Source>(alloc: Global, source: &mut R) -> Result<V
     ensures named { IfErr result (IsNamed container_refusals) }
     ensures counts { Counts R.Source source.old source.new (is_io result) }
 {
-    let mut block = vec![in alloc; 0u8; BLOCK]?;
-    attr_by_block(alloc, &mut block, source)
+    let mut space = vec![in alloc; 0u8; BLOCK]?;
+    let block = space.as_mut_slice();
+    let filled = read_head(source, block)?;
+    let format = format_of(&block[..filled]);
+    let mut blocks = Blocks::new(block, filled, source);
+    let payload = attr_as(alloc, format, &mut blocks)?;
+    Ok(payload)
 }

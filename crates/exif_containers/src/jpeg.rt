@@ -53,11 +53,13 @@ fn exif_payload<R: Source>(
     budget: &mut u64,
     len: u64,
 ) -> Result<Option<Vec<u8>>, Error>
-    ensures taken { IfOk result (λ payload. Moves (R.left source.old) budget.old (R.left source.new) budget.new
+    ensures taken { IfOk result (λ payload.
+        Moves (R.left source.old) budget.old (R.left source.new) budget.new
         (λ xs ys. (body : List ℕ) × (length body ≡ len) × (xs ≡ body ++ ys)
         × (payload_of body ≡ option_map (λ v. v.items) payload))) }
     ensures spent { OnOk result (budget.new ≤ budget.old) }
-    ensures short { IfErr result (λ e. IsShort broken_jpeg e (R.left source.old) (λ xs. length (take budget.old xs) < len)) }
+    ensures short { IfErr result (λ e. IsShort broken_jpeg e (R.left source.old)
+        (λ xs. length (take budget.old xs) < len)) }
     ensures memory { IfErr result (λ e. e ≡ OutOfMemory → IfSome (R.left source.old)
         (λ xs. (6 ≤ len) × (begins_exif (take budget.old xs) ≡ true))) }
     ensures counts { Counts R.Source source.old source.new (is_io result) }
@@ -92,11 +94,13 @@ fn segment<R: Source>(
     code: u8,
 ) -> Result<Option<Vec<u8>>, Error>
     requires { stands_alone code ≡ false }
-    ensures taken { IfOk result (λ payload. Moves (R.left source.old) budget.old (R.left source.new) budget.new
+    ensures taken { IfOk result (λ payload.
+        Moves (R.left source.old) budget.old (R.left source.new) budget.new
         (λ xs ys. (u : JpegUnit) × (unit_from_code (code ∷ xs) ≡ Some u) × (u.rest ≡ ys)
         × (unit_answer u ≡ option_map (λ v. found v.items ys) payload))) }
     ensures spent { OnOk result (budget.new ≤ budget.old) }
-    ensures refused { IfErr result (λ e. IfSome (R.left source.old) (λ xs. Fails e (answer_at_code code (take budget.old xs)))) }
+    ensures refused { IfErr result (λ e. IfSome (R.left source.old)
+        (λ xs. Fails e (answer_at_code code (take budget.old xs)))) }
     ensures named { IfErr result (IsNamed jpeg_refusals) }
     ensures memory { IfErr result (λ e. e ≡ OutOfMemory → IfSome (R.left source.old)
         (λ xs. IsCollected broken_jpeg (answer_at_code code (take budget.old xs)))) }
@@ -120,10 +124,13 @@ fn next_unit<R: Scan>(
     source: &mut R,
     budget: &mut u64,
 ) -> Result<Option<Vec<u8>>, Error>
-    ensures taken { IfOk result (λ payload. Moves (R.left source.old) budget.old (R.left source.new) budget.new
-        (λ xs ys. MatchOption payload (answer_from xs ≡ answer_from ys) (λ v. answer_from xs ≡ found v.items ys))) }
+    ensures taken { IfOk result (λ payload.
+        Moves (R.left source.old) budget.old (R.left source.new) budget.new
+        (λ xs ys. MatchOption payload (answer_from xs ≡ answer_from ys)
+        (λ v. answer_from xs ≡ found v.items ys))) }
     ensures spent { OnOk result (budget.new < budget.old) }
-    ensures refused { IfErr result (λ e. IfSome (R.left source.old) (λ xs. Fails e (answer_from (take budget.old xs)))) }
+    ensures refused { IfErr result (λ e. IfSome (R.left source.old)
+        (λ xs. Fails e (answer_from (take budget.old xs)))) }
     ensures named { IfErr result (IsNamed jpeg_refusals) }
     ensures memory { IfErr result (λ e. e ≡ OutOfMemory → IfSome (R.left source.old)
         (λ xs. IsCollected broken_jpeg (answer_from (take budget.old xs)))) }
@@ -144,13 +151,16 @@ fn next_unit<R: Scan>(
 /// The Exif bytes of a JPEG stream, taken from a source that may hold bytes at hand.
 ///
 /// What follows their segment is left in the source. Refusals: `Not a JPEG file`, `Unexpected SOI`,
-/// `Invalid segment length`, NotFound `JPEG` at the end of the image, and `Broken JPEG file` where the
-/// bytes end before an answer, or after `LIMIT` bytes. What is skipped takes no memory: the want of it is
-/// told only where a payload is collected.
+/// `Invalid segment length`, NotFound `JPEG` at the end of the image, and `Broken JPEG file` where
+/// the bytes end before an answer, or after `LIMIT` bytes. What is skipped takes no memory:
+/// `OutOfMemory` comes only where a payload is collected. After an error, how far the source was
+/// read is left open.
 pub fn get_exif_attr<R: Scan>(alloc: Global, source: &mut R) -> Result<Vec<u8>, Error>
     ensures found { IfOk result (λ v. WhereTold (R.left source.old) (R.left source.new)
-        (λ xs ys. (rest : List ℕ) × (jpeg_answer (take LIMIT xs) ≡ found v.items rest) × (ys ≡ rest ++ drop LIMIT xs))) }
-    ensures refused { IfErr result (λ e. IfSome (R.left source.old) (λ xs. Fails e (jpeg_answer (take LIMIT xs)))) }
+        (λ xs ys. (rest : List ℕ) × (jpeg_answer (take LIMIT xs) ≡ found v.items rest)
+        × (ys ≡ rest ++ drop LIMIT xs))) }
+    ensures refused { IfErr result (λ e. IfSome (R.left source.old)
+        (λ xs. Fails e (jpeg_answer (take LIMIT xs)))) }
     ensures named { IfErr result (IsNamed jpeg_refusals) }
     ensures memory { IfErr result (λ e. e ≡ OutOfMemory → IfSome (R.left source.old)
         (λ xs. IsCollected broken_jpeg (jpeg_answer (take LIMIT xs)))) }
@@ -171,12 +181,14 @@ pub fn get_exif_attr<R: Scan>(alloc: Global, source: &mut R) -> Result<Vec<u8>, 
 
 /// The Exif bytes of a JPEG stream. What follows their segment is left unread.
 ///
-/// The answers are those of `jpeg::get_exif_attr`, and what is skipped takes no memory either. After an error,
-/// how far the source was read is left open.
+/// The answers are those of `jpeg::get_exif_attr`, and what is skipped takes no memory either.
+/// After an error, how far the source was read is left open.
 pub fn get_exif_attr_from_jpeg<R: Source>(alloc: Global, source: &mut R) -> Result<Vec<u8>, Error>
     ensures found { IfOk result (λ v. WhereTold (R.left source.old) (R.left source.new)
-        (λ xs ys. (rest : List ℕ) × (jpeg_answer (take LIMIT xs) ≡ found v.items rest) × (ys ≡ rest ++ drop LIMIT xs))) }
-    ensures refused { IfErr result (λ e. IfSome (R.left source.old) (λ xs. Fails e (jpeg_answer (take LIMIT xs)))) }
+        (λ xs ys. (rest : List ℕ) × (jpeg_answer (take LIMIT xs) ≡ found v.items rest)
+        × (ys ≡ rest ++ drop LIMIT xs))) }
+    ensures refused { IfErr result (λ e. IfSome (R.left source.old)
+        (λ xs. Fails e (jpeg_answer (take LIMIT xs)))) }
     ensures named { IfErr result (IsNamed jpeg_refusals) }
     ensures memory { IfErr result (λ e. e ≡ OutOfMemory → IfSome (R.left source.old)
         (λ xs. IsCollected broken_jpeg (jpeg_answer (take LIMIT xs)))) }

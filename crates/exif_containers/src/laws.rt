@@ -25,8 +25,8 @@ pub fn webp_is_chunks()
     ensures every { (bytes : List ℕ) → IsAFile bytes }
 {}
 
-/// A box is read as its tree says, whatever follows it, and what is read as a box is that of a tree. As
-/// many boxes as are counted are read so.
+/// A box is read as its tree says, whatever follows it, and what is read as a box is that of a
+/// tree. As many boxes as are counted are read so.
 pub fn boxes_are_read()
     ensures read { (b : BoxTree) (rest : List ℕ) → BoxIsRead b rest }
     ensures only { (text : List ℕ) (p : Part) (rest : List ℕ) → IsABox text p rest }
@@ -39,7 +39,8 @@ pub fn counts_are_boxes()
     ensures every { (n : ℕ) (bytes : List ℕ) → IsACount n bytes }
 {}
 
-/// What stands in a box is read as the tree of its boxes says, and all bytes are those of such a tree.
+/// What stands in a box is read as the tree of its boxes says, and all bytes are those of such a
+/// tree.
 pub fn parents_are_boxes()
     ensures read { (p : Parent) → ParentIsRead p }
     ensures every { (bytes : List ℕ) → IsAParent bytes }
@@ -68,8 +69,8 @@ pub fn exif_items_are_read()
     ensures every { (bytes : List ℕ) → IsABlock bytes }
 {}
 
-/// The boxes of a file are read as the tree of its boxes says, the last one as far as it stands there. All
-/// bytes are those of such a tree, as `parents_are_boxes` says.
+/// The boxes of a file are read as the tree of its boxes says, the last one as far as it stands
+/// there. All bytes are those of such a tree, as `parents_are_boxes` says.
 pub fn file_boxes_are_read()
     ensures read { (p : Parent) → FileBoxesAreRead p }
 {}
@@ -80,23 +81,23 @@ pub fn brands_are_checked()
     ensures every { (bytes : List ℕ) → IsABrands bytes }
 {}
 
-/// The `meta` of a file is found as the tree of the boxes up to it says, or refused as what ends them says,
-/// and all bytes are those of such a tree.
+/// The `meta` of a file is found as the tree of the boxes up to it says, or refused as what ends
+/// them says, and all bytes are those of such a tree.
 pub fn files_up_to_meta()
     ensures found { (t : FrontTree) → MetaIsFound t }
     ensures every { (bytes : List ℕ) → IsAFront bytes }
 {}
 
-/// An `iloc` gives the places of the wanted item that the tree of its items and extents says, and one that
-/// is read is that of such a tree.
+/// An `iloc` gives the places of the wanted item that the tree of its items and extents says, and
+/// one that is read is that of such a tree.
 pub fn item_locations_are_read()
     ensures read { (wanted : ℕ) (t : PlacesTree) → PlacesAreRead wanted t }
     ensures only { (wanted : ℕ) (body : List ℕ) (places : List Place)
         → IsAPlaces wanted body places }
 {}
 
-/// An extent is read as the text that stands at its place, in the file or beside the items, and what is
-/// read of it stands there.
+/// An extent is read as the text that stands at its place, in the file or beside the items, and
+/// what is read of it stands there.
 pub fn extents_are_texts()
     ensures read { (within : Within) (bytes : List ℕ) (base : ℕ) (e : Extent) (text : List ℕ)
         → TextIsRead within bytes base e text }
@@ -104,7 +105,8 @@ pub fn extents_are_texts()
         → IsAText within bytes base e text }
 {}
 
-/// An item is the texts of its extents, one after the other, where they are at most 65,535 bytes together.
+/// An item is the texts of its extents, one after the other, where they are at most 65,535 bytes
+/// together.
 pub fn items_are_joined()
     ensures joined { (bytes_of : ExtentBytes) (es : List Extent) (texts : List (List ℕ))
         → ItemIsJoined bytes_of es texts }

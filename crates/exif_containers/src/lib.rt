@@ -1,4 +1,7 @@
 //! The Exif data in container files: JPEG streams, HEIF files and WebP files.
+//!
+//! A body ends `let x = f()?; Ok(x)` where its proof uses a lemma on the value or on the error
+//! alone: `?` makes a case of each.
 #![tactic(auto)]
 
 pub mod container;

@@ -49,7 +49,8 @@ fn body<R: Source>(
 ) -> Result<Step, Error>
     ensures chunk { IfOk result (λ step. WhereTold (R.left source.old) (R.left source.new)
         (λ xs ys. chunk_body name size room xs ≡ Ok (chunk_of step ys))) }
-    ensures refused { IfErr result (λ e. IfSome (R.left source.old) (λ xs. Fails e (chunk_body name size room xs))) }
+    ensures refused { IfErr result
+        (λ e. IfSome (R.left source.old) (λ xs. Fails e (chunk_body name size room xs))) }
     ensures named { IfErr result (IsNamed webp_refusals) }
     ensures memory { IfErr result (λ e. e ≡ OutOfMemory → IfSome (R.left source.old)
         (λ xs. IsPayload (chunk_body name size room xs))) }
@@ -71,8 +72,10 @@ fn body<R: Source>(
 // The name and the size of a chunk.
 fn header<R: Source>(source: &mut R) -> Result<([u8; 4], u64), Error>
     ensures taken { IfOk result (λ h. WhereTold (R.left source.old) (R.left source.new)
-        (λ xs ys. (h.0 ≡ take 4 xs) × (h.1 ≡ little_number 4 (drop 4 xs)) × (8 ≤ length xs) × (ys ≡ drop 8 xs))) }
-    ensures short { IfErr result (λ e. IsShort broken_webp e (R.left source.old) (λ xs. length xs < 8)) }
+        (λ xs ys. (h.0 ≡ take 4 xs) × (h.1 ≡ little_number 4 (drop 4 xs))
+        × (8 ≤ length xs) × (ys ≡ drop 8 xs))) }
+    ensures short { IfErr result
+        (λ e. IsShort broken_webp e (R.left source.old) (λ xs. length xs < 8)) }
     ensures no_memory { result ≢ Err OutOfMemory }
     ensures counts { Counts R.Source source.old source.new (is_io result) }
 {
@@ -94,7 +97,8 @@ pub fn is_webp(bytes: &[u8]) -> bool
 fn room_of_body<R: Source>(source: &mut R) -> Result<u64, Error>
     ensures room { IfOk result (λ room. WhereTold (R.left source.old) (R.left source.new)
         (λ xs ys. webp_answer xs ≡ body_answer room ys)) }
-    ensures refused { IfErr result (λ e. IfSome (R.left source.old) (λ xs. Fails e (webp_answer xs))) }
+    ensures refused { IfErr result
+        (λ e. IfSome (R.left source.old) (λ xs. Fails e (webp_answer xs))) }
     ensures named { IfErr result (IsNamed webp_refusals) }
     ensures no_memory { result ≢ Err OutOfMemory }
     ensures counts { Counts R.Source source.old source.new (is_io result) }
@@ -116,7 +120,8 @@ fn next_chunk<R: Source>(alloc: Global, source: &mut R, room: u64) -> Result<Ste
     requires { 0 < room }
     ensures chunk { IfOk result (λ step. WhereTold (R.left source.old) (R.left source.new)
         (λ xs ys. chunk_at room xs ≡ Ok (chunk_of step ys))) }
-    ensures refused { IfErr result (λ e. IfSome (R.left source.old) (λ xs. Fails e (chunk_at room xs))) }
+    ensures refused { IfErr result
+        (λ e. IfSome (R.left source.old) (λ xs. Fails e (chunk_at room xs))) }
     ensures named { IfErr result (IsNamed webp_refusals) }
     ensures memory { IfErr result (λ e. e ≡ OutOfMemory → IfSome (R.left source.old)
         (λ xs. IsPayload (chunk_at room xs))) }
@@ -133,14 +138,15 @@ fn next_chunk<R: Source>(alloc: Global, source: &mut R, room: u64) -> Result<Ste
 
 /// The payload of the first chunk named `EXIF`. What follows it is left in the source.
 ///
-/// Refusals: `Not a WebP file`, `Invalid header file size`, `Chunk overflowing parent`, NotFound `WebP`
-/// where the file's body is used up, and `Broken WebP file` where the bytes end before. What is skipped
-/// takes no memory: the want of it is told only where a payload is collected. After an error, how far the
-/// source was read is left open.
+/// Refusals: `Not a WebP file`, `Invalid header file size`, `Chunk overflowing parent`, NotFound
+/// `WebP` where the file's body is used up, and `Broken WebP file` where the bytes end before. What
+/// is skipped takes no memory: `OutOfMemory` comes only where a payload is collected. After an
+/// error, how far the source was read is left open.
 pub fn get_exif_attr<R: Source>(alloc: Global, source: &mut R) -> Result<Vec<u8>, Error>
     ensures found { IfOk result (λ v. WhereTold (R.left source.old) (R.left source.new)
         (λ xs ys. webp_answer xs ≡ found v.items ys)) }
-    ensures refused { IfErr result (λ e. IfSome (R.left source.old) (λ xs. Fails e (webp_answer xs))) }
+    ensures refused { IfErr result
+        (λ e. IfSome (R.left source.old) (λ xs. Fails e (webp_answer xs))) }
     ensures named { IfErr result (IsNamed webp_refusals) }
     ensures memory { IfErr result (λ e. e ≡ OutOfMemory → IfSome (R.left source.old)
         (λ xs. IsCollected broken_webp (webp_answer xs))) }

@@ -36,8 +36,8 @@ fn exif_block(alloc: Global, file: &[u8], meta: &[u8]) -> Result<Vec<u8>, Error>
     item_bytes(alloc, file, idat, &location)
 }
 
-/// The Exif data of a file in memory. Refusals come in the order of the boxes, and then of the steps from
-/// the item to its bytes.
+/// The Exif data of a file in memory. Refusals come in the order of the boxes, and then of the
+/// steps from the item to its bytes.
 #[tactic(auto, unfolding(crate::specs::Heif::exif_of))]
 fn exif_of_file(alloc: Global, file: &[u8]) -> Result<Vec<u8>, Error>
     ensures gives { Gives (λ v. v.items) result (exif_of file.now) }
@@ -50,10 +50,11 @@ fn exif_of_file(alloc: Global, file: &[u8]) -> Result<Vec<u8>, Error>
 
 /// The Exif data of a file, which is taken into memory whole.
 ///
-/// Places in the file count from where the source stood. Refusals are those of `exif_of_file`. After an
-/// error, how far the source was read is left open.
+/// Places in the file count from where the source stood. Refusals are those of `exif_of_file`.
+/// After an error, how far the source was read is left open.
 pub fn get_exif_attr<R: Source>(alloc: Global, source: &mut R) -> Result<Vec<u8>, Error>
-    ensures gives { IfSome (R.left source.old) (λ file. Gives (λ v. v.items) result (exif_of file)) }
+    ensures gives { IfSome (R.left source.old)
+        (λ file. Gives (λ v. v.items) result (exif_of file)) }
     ensures named { IfErr result (IsNamed heif_refusals) }
     ensures counts { Counts R.Source source.old source.new (is_io result) }
 {

@@ -77,7 +77,8 @@ fn gather(
     base: u64,
     extents: &[Extent],
 ) -> Result<Vec<u8>, Error>
-    ensures gives { Gives (λ v. v.items) result (gathered (extent_bytes within bytes.now base) [] extents.now) }
+    ensures gives { Gives
+        (λ v. v.items) result (gathered (extent_bytes within bytes.now base) [] extents.now) }
     ensures no_io { is_io result ≡ false }
 {
     let mut found = Vec::new(alloc);
@@ -99,7 +100,8 @@ pub fn item_bytes(
     idat: Option<&[u8]>,
     location: &Location,
 ) -> Result<Vec<u8>, Error>
-    ensures gives { Gives (λ v. v.items) result (item_bytes file.now (option_map (λ b. b.now) idat.entry) (location_view location.now)) }
+    ensures gives { Gives (λ v. v.items) result (item_bytes file.now (option_map
+        (λ b. b.now) idat.entry) (location_view location.now)) }
     ensures no_io { is_io result ≡ false }
 {
     match location.method {

@@ -26,7 +26,8 @@ fn exif_number(mut entry: BoxSplitter) -> Result<Option<u32>, Error>
 
 // The same of a box, where it is an entry.
 fn number_of(kind: Kind, body: BoxSplitter) -> Result<Option<u32>, Error>
-    ensures { Answers option_to_list result (read_one ItemInfoEntry exif_number (whole_part kind body.entry)) }
+    ensures { Answers option_to_list result
+        (read_one ItemInfoEntry exif_number (whole_part kind body.entry)) }
 {
     match kind {
         Kind::ItemInfoEntry => exif_number(body),
@@ -36,7 +37,8 @@ fn number_of(kind: Kind, body: BoxSplitter) -> Result<Option<u32>, Error>
 
 // The last Exif item of the next boxes, as many as are counted, or the one that was found before.
 fn exif_item_of(count: u32, mut rest: BoxSplitter, found: Option<u32>) -> Result<Option<u32>, Error>
-    ensures { Answers (λ o. o) result (from_count ItemInfoEntry exif_number found count rest.entry) }
+    ensures { Answers
+        (λ o. o) result (from_count ItemInfoEntry exif_number found count rest.entry) }
 {
     let mut last = found;
     for _ in 0..count {

@@ -97,7 +97,8 @@ fn extents(
     sizes: Sizes,
     count: u16,
 ) -> Result<Vec<Extent>, Error>
-    ensures gives { TakesIfRoom (λ v. v.items) result body.new (times count (extent_at sizes) body.old) }
+    ensures gives { TakesIfRoom
+        (λ v. v.items) result body.new (times count (extent_at sizes) body.old) }
     ensures no_io { is_io result ≡ false }
 {
     let mut found = Vec::new(alloc);
@@ -110,7 +111,8 @@ fn extents(
 
 // The extents of an item that is not wanted.
 fn pass_extents(body: &mut BoxSplitter, sizes: Sizes, count: u16) -> Result<(), Error>
-    ensures { Takes (λ u. u) result body.new (pass_at ((sizes.index + sizes.offset + sizes.len) * count) body.old) }
+    ensures { Takes (λ u. u) result body.new
+        (pass_at ((sizes.index + sizes.offset + sizes.len) * count) body.old) }
 {
     let each = usize::from(sizes.index) + usize::from(sizes.offset) + usize::from(sizes.len);
     let _passed = body.slice(each * usize::from(count))?;
@@ -155,7 +157,8 @@ fn next_location(
     version: u8,
     sizes: Sizes,
 ) -> Result<Option<Location>, Error>
-    ensures gives { TakesIfRoom location_list result body.new (location_at wanted version sizes body.old) }
+    ensures gives { TakesIfRoom location_list result body.new
+        (location_at wanted version sizes body.old) }
     ensures no_io { is_io result ≡ false }
 {
     let head = item_head(body, version, sizes)?;
@@ -199,7 +202,8 @@ pub fn item_location(
     mut body: BoxSplitter,
     wanted: u32,
 ) -> Result<Option<Location>, Error>
-    ensures gives { Gives (option_map location_view) result (last_read None (locations wanted body.entry)) }
+    ensures gives { Gives (option_map location_view) result
+        (last_read None (locations wanted body.entry)) }
     ensures no_io { is_io result ≡ false }
 {
     let version = body.fullbox_version()?;

@@ -46,7 +46,8 @@ impl<'a> BoxSplitter<'a> {
 
     /// The next bytes, as many as are asked for, else `Box too small`.
     ///
-    /// After an error of this call or of any other below, how far the splitter was read is left open.
+    /// After an error of this call or of any other below, how far the splitter was read is left
+    /// open.
     pub fn slice(&mut self, len: usize) -> Result<&'a [u8], Error>
         ensures { Takes (λ bytes. bytes.now) result self.new (bytes_at len self.old) }
     {
@@ -107,7 +108,8 @@ impl<'a> BoxSplitter<'a> {
 
     /// A number of 0, 4 or 8 bytes; another size is refused with this text.
     pub fn sized(&mut self, size: usize, refusal: &'static str) -> Result<u64, Error>
-        ensures { Takes (λ n. n) result self.new (sized_at (invalid_format refusal.now) size self.old) }
+        ensures { Takes
+            (λ n. n) result self.new (sized_at (invalid_format refusal.now) size self.old) }
     {
         match size {
             0 => Ok(0),

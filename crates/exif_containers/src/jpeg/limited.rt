@@ -1,4 +1,4 @@
-//! Reads of a stream of which only so many bytes count, and the code that the next unit begins with.
+//! Reads of a stream of which only so many bytes count, and the code of the next unit.
 
 ghost use Rattle.std.specs.Prelude.{◌≡◌, ◌≢◌, false, ◌<◌, ◌≤◌, ◌*◌, ◌+◌, ◌∷◌, [], ◌++◌, List, ℕ, Some, take, length, OnOk, IfOk, IfErr, Err};
 ghost use Rattle.exif_base.specs.Reads.{Counts};
@@ -34,9 +34,11 @@ fn spend(budget: &mut u64, len: u64) -> Result<(), Error>
 
 /// Fills the buffer with the next bytes.
 pub fn fill_within<R: Source>(source: &mut R, budget: &mut u64, buf: &mut [u8]) -> Result<(), Error>
-    ensures taken { OnOk result (Moves (R.left source.old) budget.old (R.left source.new) budget.new (λ xs ys. xs ≡ buf.new ++ ys)) }
+    ensures taken { OnOk result (Moves (R.left source.old) budget.old (R.left source.new) budget.new
+        (λ xs ys. xs ≡ buf.new ++ ys)) }
     ensures spent { OnOk result (budget.old ≡ budget.new + length buf.old) }
-    ensures short { IfErr result (λ e. IsShort broken_jpeg e (R.left source.old) (λ xs. length (take budget.old xs) < length buf.old)) }
+    ensures short { IfErr result (λ e. IsShort broken_jpeg e (R.left source.old)
+        (λ xs. length (take budget.old xs) < length buf.old)) }
     ensures no_memory { result ≢ Err OutOfMemory }
     ensures counts { Counts R.Source source.old source.new (is_io result) }
 {
@@ -50,7 +52,8 @@ pub fn skip_within<R: Source>(source: &mut R, budget: &mut u64, len: u64) -> Res
     ensures taken { OnOk result (Moves (R.left source.old) budget.old (R.left source.new) budget.new
         (λ xs ys. (bytes : List ℕ) × (length bytes ≡ len) × (xs ≡ bytes ++ ys))) }
     ensures spent { OnOk result (budget.old ≡ budget.new + len) }
-    ensures short { IfErr result (λ e. IsShort broken_jpeg e (R.left source.old) (λ xs. length (take budget.old xs) < len)) }
+    ensures short { IfErr result
+        (λ e. IsShort broken_jpeg e (R.left source.old) (λ xs. length (take budget.old xs) < len)) }
     ensures no_memory { result ≢ Err OutOfMemory }
     ensures counts { Counts R.Source source.old source.new (is_io result) }
 {
@@ -66,10 +69,13 @@ pub fn collect_within<R: Source>(
     budget: &mut u64,
     len: u64,
 ) -> Result<Vec<u8>, Error>
-    ensures taken { IfOk result (λ v. Moves (R.left source.old) budget.old (R.left source.new) budget.new (λ xs ys. xs ≡ v.items ++ ys)) }
+    ensures taken { IfOk result (λ v.
+        Moves (R.left source.old) budget.old (R.left source.new) budget.new
+        (λ xs ys. xs ≡ v.items ++ ys)) }
     ensures len { IfOk result (λ v. length v.items ≡ len) }
     ensures spent { OnOk result (budget.old ≡ budget.new + len) }
-    ensures short { IfErr result (λ e. IsShort broken_jpeg e (R.left source.old) (λ xs. length (take budget.old xs) < len)) }
+    ensures short { IfErr result
+        (λ e. IsShort broken_jpeg e (R.left source.old) (λ xs. length (take budget.old xs) < len)) }
     ensures counts { Counts R.Source source.old source.new (is_io result) }
 {
     spend(budget, len)?;
@@ -77,9 +83,12 @@ pub fn collect_within<R: Source>(
 }
 
 fn next_byte<R: Source>(source: &mut R, budget: &mut u64) -> Result<u8, Error>
-    ensures taken { IfOk result (λ b. Moves (R.left source.old) budget.old (R.left source.new) budget.new (λ xs ys. xs ≡ b ∷ ys)) }
+    ensures taken { IfOk result (λ b.
+        Moves (R.left source.old) budget.old (R.left source.new) budget.new
+        (λ xs ys. xs ≡ b ∷ ys)) }
     ensures spent { OnOk result (budget.old ≡ budget.new + 1) }
-    ensures short { IfErr result (λ e. IsShort broken_jpeg e (R.left source.old) (λ xs. length (take budget.old xs) < 1)) }
+    ensures short { IfErr result
+        (λ e. IsShort broken_jpeg e (R.left source.old) (λ xs. length (take budget.old xs) < 1)) }
     ensures no_memory { result ≢ Err OutOfMemory }
     ensures counts { Counts R.Source source.old source.new (is_io result) }
 {
@@ -90,10 +99,12 @@ fn next_byte<R: Source>(source: &mut R, budget: &mut u64) -> Result<u8, Error>
 /// The number in the next two bytes, the highest first.
 #[tactic(auto, using(crate::proofs::Within::number_within))]
 pub fn next16<R: Source>(source: &mut R, budget: &mut u64) -> Result<u16, Error>
-    ensures taken { IfOk result (λ n. Moves (R.left source.old) budget.old (R.left source.new) budget.new
+    ensures taken { IfOk result (λ n.
+        Moves (R.left source.old) budget.old (R.left source.new) budget.new
         (λ xs ys. (high low : ℕ) × (xs ≡ high ∷ low ∷ ys) × (n ≡ 256 * high + low))) }
     ensures spent { OnOk result (budget.old ≡ budget.new + 2) }
-    ensures short { IfErr result (λ e. IsShort broken_jpeg e (R.left source.old) (λ xs. length (take budget.old xs) < 2)) }
+    ensures short { IfErr result
+        (λ e. IsShort broken_jpeg e (R.left source.old) (λ xs. length (take budget.old xs) < 2)) }
     ensures no_memory { result ≢ Err OutOfMemory }
     ensures counts { Counts R.Source source.old source.new (is_io result) }
 {
@@ -104,7 +115,8 @@ pub fn next16<R: Source>(source: &mut R, budget: &mut u64) -> Result<u16, Error>
 
 // Takes what is at hand and no ff.
 fn pass_at_hand<R: Scan>(source: &mut R, budget: &mut u64)
-    ensures taken { Moves (R.left source.old) budget.old (R.left source.new) budget.new (λ xs ys. from_mark xs ≡ from_mark ys) }
+    ensures taken { Moves (R.left source.old) budget.old (R.left source.new) budget.new
+        (λ xs ys. from_mark xs ≡ from_mark ys) }
     ensures spent { budget.new ≤ budget.old }
     ensures counts { Counts R.Source source.old source.new false }
 {
@@ -114,9 +126,11 @@ fn pass_at_hand<R: Scan>(source: &mut R, budget: &mut u64)
 
 // Takes what is no ff, and one ff.
 fn skip_to_mark<R: Scan>(source: &mut R, budget: &mut u64) -> Result<(), Error>
-    ensures taken { OnOk result (Moves (R.left source.old) budget.old (R.left source.new) budget.new (λ xs ys. from_mark xs ≡ 255 ∷ ys)) }
+    ensures taken { OnOk result (Moves (R.left source.old) budget.old (R.left source.new) budget.new
+        (λ xs ys. from_mark xs ≡ 255 ∷ ys)) }
     ensures spent { OnOk result (budget.new < budget.old) }
-    ensures short { IfErr result (λ e. IsShort broken_jpeg e (R.left source.old) (λ xs. from_mark (take budget.old xs) ≡ [])) }
+    ensures short { IfErr result (λ e. IsShort broken_jpeg e (R.left source.old)
+        (λ xs. from_mark (take budget.old xs) ≡ [])) }
     ensures no_memory { result ≢ Err OutOfMemory }
     ensures counts { Counts R.Source source.old source.new (is_io result) }
 {
@@ -131,9 +145,12 @@ fn skip_to_mark<R: Scan>(source: &mut R, budget: &mut u64) -> Result<(), Error>
 
 // Takes ffs and the code behind them.
 fn code_after_marks<R: Source>(source: &mut R, budget: &mut u64) -> Result<u8, Error>
-    ensures taken { IfOk result (λ code. Moves (R.left source.old) budget.old (R.left source.new) budget.new (λ xs ys. after_marks xs ≡ code ∷ ys)) }
+    ensures taken { IfOk result (λ code.
+        Moves (R.left source.old) budget.old (R.left source.new) budget.new
+        (λ xs ys. after_marks xs ≡ code ∷ ys)) }
     ensures spent { OnOk result (budget.new < budget.old) }
-    ensures short { IfErr result (λ e. IsShort broken_jpeg e (R.left source.old) (λ xs. after_marks (take budget.old xs) ≡ [])) }
+    ensures short { IfErr result (λ e. IsShort broken_jpeg e (R.left source.old)
+        (λ xs. after_marks (take budget.old xs) ≡ [])) }
     ensures no_memory { result ≢ Err OutOfMemory }
     ensures counts { Counts R.Source source.old source.new (is_io result) }
 {
@@ -147,9 +164,12 @@ fn code_after_marks<R: Source>(source: &mut R, budget: &mut u64) -> Result<u8, E
 
 /// Takes what is no ff, the ffs behind it and the code of the next unit, and gives that code.
 pub fn next_code<R: Scan>(source: &mut R, budget: &mut u64) -> Result<u8, Error>
-    ensures taken { IfOk result (λ code. Moves (R.left source.old) budget.old (R.left source.new) budget.new (λ xs ys. code_onwards xs ≡ code ∷ ys)) }
+    ensures taken { IfOk result (λ code.
+        Moves (R.left source.old) budget.old (R.left source.new) budget.new
+        (λ xs ys. code_onwards xs ≡ code ∷ ys)) }
     ensures spent { OnOk result (budget.new < budget.old) }
-    ensures short { IfErr result (λ e. IsShort broken_jpeg e (R.left source.old) (λ xs. code_onwards (take budget.old xs) ≡ [])) }
+    ensures short { IfErr result (λ e. IsShort broken_jpeg e (R.left source.old)
+        (λ xs. code_onwards (take budget.old xs) ≡ [])) }
     ensures no_memory { result ≢ Err OutOfMemory }
     ensures counts { Counts R.Source source.old source.new (is_io result) }
 {

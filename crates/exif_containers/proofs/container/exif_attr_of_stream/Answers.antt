@@ -1,8 +1,8 @@
 use Rattle.std.proofs.Common.{◌≡◌, Ok, rules}
 use Rattle.std.proofs.lemmas.Result.{err_from_is_err_and}
 use Rattle.exif_types.specs.Refusals.{Fails}
-use Rattle.exif_containers.proofs.ContainerSteps.{container_holds}
-use Rattle.exif_containers.proofs.container.attr_by_block.Goals as goal
+use Rattle.exif_containers.proofs.ContainerSteps.{container_holds, interrupted}
+use Rattle.exif_containers.proofs.container.exif_attr_of_stream.Goals as goal
 
 pub returns-in_err-payload-clause-gives : goal.returns-in_err-payload-clause-gives
 returns-in_err-payload-clause-gives g c =
@@ -16,3 +16,8 @@ returns-clause-gives g c =
     let head = c.in_ok-filled.ensures in
     container_holds (λ t. t ≡ Ok c.in_ok-payload.payload.items) c.in_ok-filled.filled c.read_head.new.block _ _ (g.R.Source.left c.read_head.new.source) _
     head.taken head.bound head.most (search rules) head.end c.format_of-format.ensures (search rules) c.in_ok-payload.ensures.gives
+
+pub returns-in_err-filled-clause-gives : goal.returns-in_err-filled-clause-gives
+returns-in_err-filled-clause-gives g c =
+    let p = err_from_is_err_and c.from_residual-in_err-filled.result c.from_residual-in_err-filled.ensures.1 in
+    rw (p.1, p.2) (interrupted (g.R.Source.left c.args.source.now))
