@@ -12,6 +12,6 @@ pub mod Planned
 pub mod RangeSteps
 pub mod Ready
 pub mod Running
-pub mod Sent
+pub mod Sending
 pub mod SizeSteps
 pub mod Tails

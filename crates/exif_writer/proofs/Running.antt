@@ -1,18 +1,19 @@
 -- Sends of the texts of a list's members, in a loop that carries a state.
-use Rattle.std.proofs.Common.{◌≡◌, ℕ, ◌+◌, ◌<◌, ◌≤◌, length, arith, List, [], ◌∷◌, ◌++◌, take, drop, get_or, Option, ap, subst, sym, ◌∙◌, refl, append_assoc}
+use Rattle.std.proofs.Common.{◌≡◌, ℕ, ◌+◌, ◌<◌, ◌≤◌, length, arith, List, [], ◌∷◌, ◌++◌, take, drop, get_or, ap, subst, sym, ◌∙◌, refl, append_assoc}
 use Rattle.std.proofs.lemmas.List.{take_more, append-nil, take_all}
 use Rattle.std.specs.Prelude.{Result, Ok, Err, OnErr, OnOk}
+use Rattle.std.specs.Result.{IsErr}
 use Rattle.std.specs.List.{flat_map}
-use Rattle.std.specs.Io.KnownBytes.{Appends}
 use denote.Ref.{Bor}
 use Rattle.exif_writer.specs.Running.{run, state}
 use Rattle.exif_writer.specs.Sending.{lens, sum_of}
-use Rattle.exif_writer.proofs.Sent.{appends_more}
-use Rattle.exif_writer.proofs.Loops.{around, front_middle}
+use Rattle.exif_writer.proofs.Sending.{HasSent, sends_whole, sends_then, sends_stop}
+use Rattle.exif_writer.proofs.Loops.{around}
 use Rattle.exif_base.specs.declared.endian.Order.{Order}
 use Rattle.exif_writer.specs.Encoding.{spelled}
 use Rattle.exif_writer.specs.Places.{places_from}
-use Rattle.exif_base.specs.Sent.{SendsFront}
+use Rattle.exif_base.specs.Sent.{Sends}
+use Rattle.exif_base.specs.declared.device.Sink as sink
 
 pub run-append : {S X : Type 0} (step : S → X → S) (text : S → X → List ℕ) (s : S) (xs ys : List X)
     → run step text s (xs ++ ys) ≡ run step text s xs ++ run step text (state step s xs) ys
@@ -33,27 +34,40 @@ pub state_more : {S X : Type 0} (step : S → X → S) (s t : S) (xs : List X) (
 state_more step s t xs i x d h e k =
     ap (λ u. step u x) k ∙ sym (ap (state step s) (up_to xs i x d h e) ∙ state-append step s (take i xs) (x ∷ []))
 
--- one member more was sent
-pub run_sent : {S X : Type 0} (step : S → X → S) (text : S → X → List ℕ) (s t : S) (a b c : Option (List ℕ)) (xs : List X) (i : ℕ) (x d : X)
-    → i < length xs → x ≡ get_or xs i d → t ≡ state step s (take i xs)
-    → Appends a b (run step text s (take i xs)) → Appends b c (text t x) → Appends a c (run step text s (take (i + 1) xs))
-run_sent step text s t a b c xs i x d h e k sent one =
-    let P : List ℕ → Type 0 = λ w. Appends a c w in
-    let same : run step text s (take i xs) ++ text t x ≡ run step text s (take (i + 1) xs) =
+-- a member's text after those before it
+run_more : {S X : Type 0} (step : S → X → S) (text : S → X → List ℕ) (s t : S) (xs : List X) (i : ℕ) (x d : X)
+    → i < length xs → x ≡ get_or xs i d → t ≡ state step s (take i xs) → run step text s (take i xs) ++ text t x ≡ run step text s (take (i + 1) xs)
+run_more step text s t xs i x d h e k =
     ap (λ u. run step text s (take i xs) ++ text u x) k
     ∙ ap (λ r. run step text s (take i xs) ++ r) (sym (append-nil (text (state step s (take i xs)) x)))
-    ∙ sym (ap (run step text s) (up_to xs i x d h e) ∙ run-append step text s (take i xs) (x ∷ [])) in
-    subst P same (appends_more a b c (run step text s (take i xs)) (text t x) sent one)
+    ∙ sym (ap (run step text s) (up_to xs i x d h e) ∙ run-append step text s (take i xs) (x ∷ []))
 
--- a front of a member's text, after those of the members before it
-pub run_front : {S X : Type 0} (step : S → X → S) (text : S → X → List ℕ) (s t : S) (a b c : Option (List ℕ)) (xs : List X) (i : ℕ) (x d : X)
+pub runs_member : {S X Z T E : Type 0} {W : sink.Ghosts Z} {a b c : Z} {y : T} (step : S → X → S) (text : S → X → List ℕ) (s t : S) (xs : List X) (i : ℕ) (x d : X)
     → i < length xs → x ≡ get_or xs i d → t ≡ state step s (take i xs)
-    → Appends a b (run step text s (take i xs)) → SendsFront b c (text t x) → SendsFront a c (run step text s xs)
-run_front step text s t a b c xs i x d h e k sent front =
+    → HasSent W a b (run step text s (take i xs)) → (let r : Result T E = Ok y in Sends W b c r (text t x)) → HasSent W a c (run step text s (take (i + 1) xs))
+runs_member {W = W} {a = a} {c = c} step text s t xs i x d h e k sent one =
+    let P : List ℕ → Type 0 = λ w. HasSent W a c w in
+    subst P (run_more step text s t xs i x d h e k) (sends_then sent (sends_whole one))
+
+-- a failure in a member's text, after those before it
+pub runs_stop : {S X Z T U E F : Type 0} {W : sink.Ghosts Z} {a b c : Z} {e : E} {r : Result U F} (step : S → X → S) (text : S → X → List ℕ) (s t : S) (xs : List X) (i : ℕ) (x d : X)
+    → i < length xs → x ≡ get_or xs i d → t ≡ state step s (take i xs)
+    → HasSent W a b (run step text s (take i xs)) → (let q : Result T E = Err e in Sends W b c q (text t x)) → IsErr r → Sends W a c r (run step text s xs)
+runs_stop {W = W} {a = a} {c = c} {r = r} step text s t xs i x d h e k sent one failed =
     let u = state step s (take i xs) in
-    front_middle a b c (run step text s (take i xs)) (text t x) (run step text (step u x) (drop (i + 1) xs)) (run step text s xs) sent front
-    (ap (run step text s) (around xs i x d h e) ∙ run-append step text s (take i xs) (x ∷ drop (i + 1) xs)
-    ∙ ap (λ v. run step text s (take i xs) ++ (text v x ++ run step text (step u x) (drop (i + 1) xs))) (sym k))
+    let P : List ℕ → Type 0 = λ w. Sends W a c r w in
+    let whole : run step text s (take i xs) ++ (text t x ++ run step text (step u x) (drop (i + 1) xs)) ≡ run step text s xs =
+    sym (ap (run step text s) (around xs i x d h e) ∙ run-append step text s (take i xs) (x ∷ drop (i + 1) xs)
+    ∙ ap (λ v. run step text s (take i xs) ++ (text v x ++ run step text (step u x) (drop (i + 1) xs))) (sym k)) in
+    subst P whole (sends_then sent (sends_stop _ one failed))
+
+-- the texts of all members
+pub runs_all : {S X Z T E : Type 0} {W : sink.Ghosts Z} {a b : Z} {y : T} (step : S → X → S) (text : S → X → List ℕ) (s : S) (xs : List X) (i : ℕ)
+    → length xs ≤ i → HasSent W a b (run step text s (take i xs)) → let r : Result T E = Ok y in Sends W a b r (run step text s xs)
+runs_all {T = T} {E = E} {W = W} {a = a} {b = b} {y = y} step text s xs i h sent =
+    let r : Result T E = Ok y in
+    let P : List ℕ → Type 0 = λ w. Sends W a b r w in
+    subst P (ap (run step text s) (take_all i xs h)) (sends_whole sent)
 
 -- the places of texts, and their lengths, as loops send them
 pub run_places : (order : Order) (first : ℕ) (texts : List (Bor (List ℕ)))
@@ -61,14 +75,10 @@ pub run_places : (order : Order) (first : ℕ) (texts : List (Bor (List ℕ)))
 run_places order first [] = refl
 run_places order first (t ∷ texts) = ap (λ r. spelled order 4 first ++ r) (run_places order (first + length t.now) texts)
 
-pub run_lengths : (order : Order) (texts : List (Bor (List ℕ)))
-    → run (λ (p : ℕ) (b : Bor (List ℕ)). p) (λ p b. spelled order 4 (length b.now)) 0 texts ≡ flat_map (spelled order 4) (lens texts)
-run_lengths order [] = refl
-run_lengths order (t ∷ texts) = ap (λ r. spelled order 4 (length t.now) ++ r) (run_lengths order texts)
-
-pub state_same : {X : Type 0} (xs : List X) → 0 ≡ state (λ (p : ℕ) (x : X). p) 0 xs
-state_same [] = refl
-state_same (x ∷ xs) = state_same xs
+pub lengths_text : (order : Order) (texts : List (Bor (List ℕ)))
+    → flat_map (λ (b : Bor (List ℕ)). spelled order 4 (length b.now)) texts ≡ flat_map (spelled order 4) (lens texts)
+lengths_text order [] = refl
+lengths_text order (t ∷ texts) = ap (λ r. spelled order 4 (length t.now) ++ r) (lengths_text order texts)
 
 pub sum_append : (xs ys : List (Bor (List ℕ))) → sum_of (xs ++ ys) ≡ sum_of xs + sum_of ys
 sum_append [] ys = omega arith
@@ -85,22 +95,15 @@ pub state_sum : (s : ℕ) (xs : List (Bor (List ℕ))) → state (λ (p : ℕ) (
 state_sum s [] = omega arith
 state_sum s (x ∷ xs) = let e = state_sum (s + length x.now) xs in omega arith
 
--- all members were sent
-pub sent_whole : {S X : Type 0} (step : S → X → S) (text : S → X → List ℕ) (s : S) (a b : Option (List ℕ)) (xs : List X) (i : ℕ)
-    → length xs ≤ i → Appends a b (run step text s (take i xs)) → Appends a b (run step text s xs)
-sent_whole step text s a b xs i h sent =
-    let P : List ℕ → Type 0 = λ w. Appends a b w in
-    subst P (ap (run step text s) (take_all i xs h)) sent
-
 -- what a slice of texts gives past its end
 abbrev pub no_text : Bor (List ℕ)
 no_text = record { ref_ptr = (0, 0); now = [] }
+
+pub map_ok : {T E : Type 0} (r : Result T E) (P Q : Type 0) → (P → Q) → OnOk r P → OnOk r Q
+map_ok (Ok x) P Q f h = f h
+map_ok (Err e) P Q f h = tt
 
 -- what holds anyway holds of an error
 pub on_err : {T E : Type 0} (r : Result T E) (P : Type 0) → P → OnErr r P
 on_err (Ok x) P h = tt
 on_err (Err e) P h = h
-
-pub map_ok : {T E : Type 0} (r : Result T E) (P Q : Type 0) → (P → Q) → OnOk r P → OnOk r Q
-map_ok (Ok x) P Q f h = f h
-map_ok (Err e) P Q f h = tt

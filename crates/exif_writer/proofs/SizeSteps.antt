@@ -1,6 +1,6 @@
 -- Sizes of values.
 use Rattle.std.proofs.Common.{◌≡◌, ℕ, zero, suc, ◌+◌, ◌*◌, ◌<◌, ◌≤◌, List, [], ◌∷◌, ◌++◌, length, take, drop, get_or, arith, refl, sym, ap, subst, ◌∙◌, false, true}
-use Rattle.std.specs.Prelude.{if◌then◌else◌, nat_le}
+use Rattle.std.specs.Prelude.{if◌then◌else◌, nat_le, ◌-◌, ◌%◌, replicate}
 use Rattle.exif_writer.specs.declared.plan.Places.{Places}
 use Rattle.exif_writer.specs.declared.plan.Slot.{Slot}
 use Rattle.exif_writer.proofs.Loops.{around}
@@ -8,9 +8,10 @@ use Rattle.exif_writer.proofs.Running.{state-append}
 use Rattle.std.specs.List.{AllByRecursion}
 use Rattle.exif_writer.specs.declared.plan.Source.{Source}
 use Rattle.exif_writer.specs.declared.plan.Source.TheVariants.{Known, PlacesOf, LengthsOf, PlaceOf}
-use Rattle.exif_writer.specs.Sending.{source_count, source_size, IsKnownSource, slots_text, entries_text, after_slot, values_end}
+use Rattle.exif_writer.specs.Sending.{source_count, source_size, IsKnownSource, slots_text, entries_text, after_slot, values_end, element, settled, value_text}
+use Rattle.std.proofs.lemmas.Bool.{le-leb, lt-leb}
 use Rattle.exif_base.specs.declared.endian.Order.{Order}
-use Rattle.exif_writer.specs.Encoding.{spelled}
+use Rattle.exif_writer.specs.Encoding.{spelled, encode}
 use Rattle.exif_types.specs.ValueTypes.{count_of, type_number}
 use Rattle.exif_types.specs.declared.value.Value.{Value}
 use Rattle.exif_types.specs.declared.value.Value.TheVariants.{Byte, Ascii, Short, Long, Rational, SByte, Undefined, SShort, SLong, SRational, Float, Double, Unknown}
@@ -69,3 +70,13 @@ slot_within values place slots i x d h e k =
     let low = slots_low (after_slot (values_end values (take i slots)) x) (drop (i + 1) slots) in
     let same : after_slot place x ≡ after_slot (values_end values (take i slots)) x = ap (λ p. after_slot p x) k in
     omega arith
+
+-- a value that stands in its entry
+pub element_inside : (order : Order) (places : Places) (source : Source) (place : ℕ) → source_size source ≤ 4
+    → element order places source place ≡ encode order (settled places source) ++ replicate (4 - source_size source) 0
+element_inside order places source place h = rw (le-leb (source_size source) 4 h) refl
+
+-- a value that doesn't
+pub value_outside : (order : Order) (places : Places) (place : ℕ) (slot : Slot) → 4 < source_size slot.source
+    → value_text order places place slot ≡ replicate (place % 2) 0 ++ encode order (settled places slot.source)
+value_outside order places place slot h = rw (lt-leb (source_size slot.source) 4 h) refl

@@ -1,8 +1,7 @@
 //! Entries and the values that don't fit into them, sent at the places of a plan.
 
-ghost use Rattle.std.specs.Prelude.{◌≡◌, ◌+◌, ◌*◌, ◌++◌, ◌^◌, ◌<◌, ◌≤◌, length, map, false, OnOk, OnErr, is_err};
+ghost use Rattle.std.specs.Prelude.{◌≡◌, ◌+◌, ◌*◌, ◌++◌, ◌^◌, ◌<◌, ◌≤◌, length, map, false};
 ghost use Rattle.std.specs.List.{flat_map, AllByRecursion};
-ghost use Rattle.std.specs.Io.KnownBytes.{Appends};
 ghost use Rattle.exif_writer.specs.Sending.{block_place, context_place, lens, sum_of, settled, Settles, IsKnownSource, source_type, source_count, source_size, element, slot_text, IsReady, value_place, after_slot, values_end, entries_text, slots_text, value_text, values_text, blocks_text};
 ghost use Rattle.exif_writer.specs.Encoding.{spelled, encode, value_len};
 ghost use Rattle.exif_types.specs.ValueTypes.{count_of, type_number};
@@ -11,8 +10,7 @@ ghost use Rattle.exif_types.specs.FieldTypes.{unit};
 ghost use Rattle.exif_writer.specs.Places.{even, after_value, places_from};
 ghost use Rattle.exif_writer.specs.Image.{entry_text};
 ghost use Rattle.exif_writer.specs.Refused.{is_unknown};
-ghost use Rattle.exif_base.specs.Device.{count_after};
-ghost use Rattle.exif_base.specs.Sent.{SendsFront};
+ghost use Rattle.exif_base.specs.Sent.{Sends};
 
 use crate::block_kind::BlockKind;
 use crate::forward::{send_u16, send_u32, send_zeros};
@@ -50,10 +48,8 @@ impl Places {
 // Sends the places of texts that stand one behind the other.
 fn send_places<W: Sink>(out: &mut W, order: Order, first: u32, texts: &[&[u8]]) -> io::Result<()>
     requires { first + sum_of texts.now ≤ 4294967295 }
-    ensures sent { OnOk result (Appends (W.taken out.old) (W.taken out.new) (flat_map (spelled order 4) (places_from first (lens texts.now)))) }
-    ensures front { OnErr result (SendsFront (W.taken out.old) (W.taken out.new) (flat_map (spelled order 4) (places_from first (lens texts.now)))) }
-    ensures count { W.failures out.new ≡ count_after (is_err result) (W.failures out.old) }
-    ensures same { W.through out.new ≡ W.through out.old }
+    ensures sends { Sends W.Sink out.old out.new result
+        (flat_map (spelled order 4) (places_from first (lens texts.now))) }
 {
     let mut place = first;
     for text in texts {
@@ -66,10 +62,8 @@ fn send_places<W: Sink>(out: &mut W, order: Order, first: u32, texts: &[&[u8]]) 
 // Sends the lengths of texts.
 fn send_lengths<W: Sink>(out: &mut W, order: Order, texts: &[&[u8]]) -> io::Result<()>
     requires { sum_of texts.now ≤ 4294967295 }
-    ensures sent { OnOk result (Appends (W.taken out.old) (W.taken out.new) (flat_map (spelled order 4) (lens texts.now))) }
-    ensures front { OnErr result (SendsFront (W.taken out.old) (W.taken out.new) (flat_map (spelled order 4) (lens texts.now))) }
-    ensures count { W.failures out.new ≡ count_after (is_err result) (W.failures out.old) }
-    ensures same { W.through out.new ≡ W.through out.old }
+    ensures sends { Sends W.Sink out.old out.new result
+        (flat_map (spelled order 4) (lens texts.now)) }
 {
     for text in texts {
         send_u32(out, order, text.len() as u32)?;
@@ -82,10 +76,8 @@ impl<'a> Source<'a> {
     // Sends the bytes of the value.
     fn send<W: Sink>(&self, out: &mut W, order: Order, places: &Places) -> io::Result<()>
         requires { Settles places.now self.now }
-        ensures sent { OnOk result (Appends (W.taken out.old) (W.taken out.new) (encode order (settled places.now self.now))) }
-        ensures front { OnErr result (SendsFront (W.taken out.old) (W.taken out.new) (encode order (settled places.now self.now))) }
-        ensures count { W.failures out.new ≡ count_after (is_err result) (W.failures out.old) }
-        ensures same { W.through out.new ≡ W.through out.old }
+        ensures sends { Sends W.Sink out.old out.new result
+            (encode order (settled places.now self.now)) }
     {
         match self {
             Source::Known(value) => send_value(out, order, value),
@@ -189,7 +181,6 @@ impl<'a> Source<'a> {
     }
 }
 
-#[tactic(auto, using(crate::proofs::Sent::appends_more, crate::proofs::Sent::front_second, crate::proofs::Sent::front_first, crate::proofs::SizeSteps::count_within))]
 impl<'a> Slot<'a> {
     // Sends the last four bytes of the entry, whose value stands at a place where it doesn't fit into them.
     fn send_element<W: Sink>(
@@ -202,10 +193,8 @@ impl<'a> Slot<'a> {
         requires settles { Settles places.now self.now.source }
         requires known { IsKnownSource self.now.source }
         requires room { source_size self.now.source ≤ 4294967295 }
-        ensures sent { OnOk result (Appends (W.taken out.old) (W.taken out.new) (element order places.now self.now.source place)) }
-        ensures front { OnErr result (SendsFront (W.taken out.old) (W.taken out.new) (element order places.now self.now.source place)) }
-        ensures count { W.failures out.new ≡ count_after (is_err result) (W.failures out.old) }
-        ensures same { W.through out.new ≡ W.through out.old }
+        ensures sends { Sends W.Sink out.old out.new result
+            (element order places.now self.now.source place) }
     {
         let size = self.source.size();
         if size <= 4 {
@@ -227,10 +216,8 @@ impl<'a> Slot<'a> {
         requires settles { Settles places.now self.now.source }
         requires known { IsKnownSource self.now.source }
         requires room { source_size self.now.source ≤ 4294967295 }
-        ensures sent { OnOk result (Appends (W.taken out.old) (W.taken out.new) (slot_text order places.now self.now place)) }
-        ensures front { OnErr result (SendsFront (W.taken out.old) (W.taken out.new) (slot_text order places.now self.now place)) }
-        ensures count { W.failures out.new ≡ count_after (is_err result) (W.failures out.old) }
-        ensures same { W.through out.new ≡ W.through out.old }
+        ensures sends { Sends W.Sink out.old out.new result
+            (slot_text order places.now self.now place) }
     {
         let (kind, _) = self.source.kind();
         let count = self.source.count();
@@ -249,10 +236,8 @@ impl<'a> Slot<'a> {
         place: u32,
     ) -> io::Result<()>
         requires { IsReady places.now self.now }
-        ensures sent { OnOk result (Appends (W.taken out.old) (W.taken out.new) (value_text order places.now place self.now)) }
-        ensures front { OnErr result (SendsFront (W.taken out.old) (W.taken out.new) (value_text order places.now place self.now)) }
-        ensures count { W.failures out.new ≡ count_after (is_err result) (W.failures out.old) }
-        ensures same { W.through out.new ≡ W.through out.old }
+        ensures sends { Sends W.Sink out.old out.new result
+            (value_text order places.now place self.now) }
     {
         if self.source.size() <= 4 {
             return Ok(());
@@ -301,10 +286,8 @@ fn send_entries<W: Sink>(
 ) -> io::Result<()>
     requires ready { AllByRecursion (IsReady places.now) slots.now }
     requires room { values_end values slots.now ≤ 4294967295 }
-    ensures sent { OnOk result (Appends (W.taken out.old) (W.taken out.new) (entries_text order places.now values slots.now)) }
-    ensures front { OnErr result (SendsFront (W.taken out.old) (W.taken out.new) (entries_text order places.now values slots.now)) }
-    ensures count { W.failures out.new ≡ count_after (is_err result) (W.failures out.old) }
-    ensures same { W.through out.new ≡ W.through out.old }
+    ensures sends { Sends W.Sink out.old out.new result
+        (entries_text order places.now values slots.now) }
 {
     let mut place = values;
     for slot in slots {
@@ -315,7 +298,6 @@ fn send_entries<W: Sink>(
 }
 
 // Sends a directory, if it has entries.
-#[tactic(auto, using(crate::proofs::Sent::appends_more, crate::proofs::Sent::appends_none, crate::proofs::Sent::front_second, crate::proofs::Sent::front_first, crate::proofs::SizeSteps::slots_text_some))]
 pub fn send_directory<W: Sink>(
     out: &mut W,
     order: Order,
@@ -327,10 +309,8 @@ pub fn send_directory<W: Sink>(
     requires few { length slots.now ≤ 65535 }
     requires ready { AllByRecursion (IsReady places.now) slots.now }
     requires room { values_end values slots.now ≤ 4294967295 }
-    ensures sent { OnOk result (Appends (W.taken out.old) (W.taken out.new) (slots_text order places.now values next slots.now)) }
-    ensures front { OnErr result (SendsFront (W.taken out.old) (W.taken out.new) (slots_text order places.now values next slots.now)) }
-    ensures count { W.failures out.new ≡ count_after (is_err result) (W.failures out.old) }
-    ensures same { W.through out.new ≡ W.through out.old }
+    ensures sends { Sends W.Sink out.old out.new result
+        (slots_text order places.now values next slots.now) }
 {
     if slots.is_empty() {
         return Ok(());
@@ -350,10 +330,8 @@ pub fn send_values<W: Sink>(
 ) -> io::Result<()>
     requires ready { AllByRecursion (IsReady places.now) slots.now }
     requires room { values_end values slots.now ≤ 4294967295 }
-    ensures sent { OnOk result (Appends (W.taken out.old) (W.taken out.new) (values_text order places.now values slots.now)) }
-    ensures front { OnErr result (SendsFront (W.taken out.old) (W.taken out.new) (values_text order places.now values slots.now)) }
-    ensures count { W.failures out.new ≡ count_after (is_err result) (W.failures out.old) }
-    ensures same { W.through out.new ≡ W.through out.old }
+    ensures sends { Sends W.Sink out.old out.new result
+        (values_text order places.now values slots.now) }
 {
     let mut place = values;
     for slot in slots {
@@ -364,12 +342,8 @@ pub fn send_values<W: Sink>(
 }
 
 /// Sends blocks one behind the other.
-#[tactic(auto, using(crate::proofs::Loops::front_item))]
 pub fn send_blocks<W: Sink>(out: &mut W, texts: &[&[u8]]) -> io::Result<()>
-    ensures sent { OnOk result (Appends (W.taken out.old) (W.taken out.new) (blocks_text texts.now)) }
-    ensures front { OnErr result (SendsFront (W.taken out.old) (W.taken out.new) (blocks_text texts.now)) }
-    ensures count { W.failures out.new ≡ count_after (is_err result) (W.failures out.old) }
-    ensures same { W.through out.new ≡ W.through out.old }
+    ensures sends { Sends W.Sink out.old out.new result (blocks_text texts.now) }
 {
     for text in texts {
         send_all(out, text)?;

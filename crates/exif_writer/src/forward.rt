@@ -1,9 +1,7 @@
 //! Numbers and zeros, sent to a sink one behind the other.
 
-ghost use Rattle.std.specs.Prelude.{◌≡◌, ◌≤◌, OnOk, OnErr, is_err, replicate};
-ghost use Rattle.std.specs.Io.KnownBytes.{Appends};
-ghost use Rattle.exif_base.specs.Device.{count_after};
-ghost use Rattle.exif_base.specs.Sent.{SendsFront};
+ghost use Rattle.std.specs.Prelude.{◌≡◌, ◌≤◌, replicate};
+ghost use Rattle.exif_base.specs.Sent.{Sends};
 ghost use Rattle.exif_writer.specs.Encoding.{spelled};
 
 use exif_base::{BigEndian, Endian, LittleEndian, Order, Sink, send_all};
@@ -47,30 +45,21 @@ fn spelled_u64(order: Order, x: u64) -> [u8; 8]
 
 /// Sends a number of 2 bytes.
 pub fn send_u16<W: Sink>(out: &mut W, order: Order, x: u16) -> io::Result<()>
-    ensures sent { OnOk result (Appends (W.taken out.old) (W.taken out.new) (spelled order 2 x)) }
-    ensures front { OnErr result (SendsFront (W.taken out.old) (W.taken out.new) (spelled order 2 x)) }
-    ensures count { W.failures out.new ≡ count_after (is_err result) (W.failures out.old) }
-    ensures same { W.through out.new ≡ W.through out.old }
+    ensures sends { Sends W.Sink out.old out.new result (spelled order 2 x) }
 {
     send_all(out, &spelled_u16(order, x))
 }
 
 /// Sends a number of 4 bytes.
 pub fn send_u32<W: Sink>(out: &mut W, order: Order, x: u32) -> io::Result<()>
-    ensures sent { OnOk result (Appends (W.taken out.old) (W.taken out.new) (spelled order 4 x)) }
-    ensures front { OnErr result (SendsFront (W.taken out.old) (W.taken out.new) (spelled order 4 x)) }
-    ensures count { W.failures out.new ≡ count_after (is_err result) (W.failures out.old) }
-    ensures same { W.through out.new ≡ W.through out.old }
+    ensures sends { Sends W.Sink out.old out.new result (spelled order 4 x) }
 {
     send_all(out, &spelled_u32(order, x))
 }
 
 /// Sends a number of 8 bytes.
 pub fn send_u64<W: Sink>(out: &mut W, order: Order, x: u64) -> io::Result<()>
-    ensures sent { OnOk result (Appends (W.taken out.old) (W.taken out.new) (spelled order 8 x)) }
-    ensures front { OnErr result (SendsFront (W.taken out.old) (W.taken out.new) (spelled order 8 x)) }
-    ensures count { W.failures out.new ≡ count_after (is_err result) (W.failures out.old) }
-    ensures same { W.through out.new ≡ W.through out.old }
+    ensures sends { Sends W.Sink out.old out.new result (spelled order 8 x) }
 {
     send_all(out, &spelled_u64(order, x))
 }
@@ -78,10 +67,7 @@ pub fn send_u64<W: Sink>(out: &mut W, order: Order, x: u64) -> io::Result<()>
 /// Sends up to four zeros.
 pub fn send_zeros<W: Sink>(out: &mut W, count: usize) -> io::Result<()>
     requires { count ≤ 4 }
-    ensures sent { OnOk result (Appends (W.taken out.old) (W.taken out.new) (replicate count 0)) }
-    ensures front { OnErr result (SendsFront (W.taken out.old) (W.taken out.new) (replicate count 0)) }
-    ensures count { W.failures out.new ≡ count_after (is_err result) (W.failures out.old) }
-    ensures same { W.through out.new ≡ W.through out.old }
+    ensures sends { Sends W.Sink out.old out.new result (replicate count 0) }
 {
     let zeros = [0; 4];
     send_all(out, &zeros[..count])

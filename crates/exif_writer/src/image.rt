@@ -1,13 +1,11 @@
 //! Whole plans, sent strictly forward.
 
-ghost use Rattle.std.specs.Prelude.{◌≡◌, ◌++◌, OnOk, OnErr, is_err};
+ghost use Rattle.std.specs.Prelude.{◌≡◌, ◌++◌};
 ghost use Rattle.std.specs.List.{AllByRecursion};
-ghost use Rattle.std.specs.Io.KnownBytes.{Appends};
 ghost use Rattle.exif_writer.specs.Plans.{IsReadyPlan, directories_text, plan_values_text, plan_blocks_text, plan_text, plans_text, sent_image};
 ghost use Rattle.exif_writer.specs.Encoding.{spelled};
-ghost use Rattle.exif_writer.specs.Image.{header_text};
-ghost use Rattle.exif_base.specs.Device.{count_after};
-ghost use Rattle.exif_base.specs.Sent.{SendsFront};
+ghost use Rattle.exif_writer.specs.Image.{header_text, order_mark};
+ghost use Rattle.exif_base.specs.Sent.{Sends};
 
 use crate::directory::{send_blocks, send_directory, send_values};
 use crate::forward::{send_u16, send_u32, send_zeros};
@@ -15,15 +13,11 @@ use crate::plan::Plan;
 use exif_base::{Order, Sink, send_all};
 use std::io;
 
-#[tactic(auto, using(crate::proofs::Sent::appends_more, crate::proofs::Sent::front_second, crate::proofs::Sent::front_first))]
 impl<'a> Plan<'a> {
     // Sends the four directories, behind a zero where the first needs one.
     fn send_directories<W: Sink>(&self, out: &mut W, order: Order) -> io::Result<()>
         requires { IsReadyPlan self.now }
-        ensures sent { OnOk result (Appends (W.taken out.old) (W.taken out.new) (directories_text order self.now)) }
-        ensures front { OnErr result (SendsFront (W.taken out.old) (W.taken out.new) (directories_text order self.now)) }
-        ensures count { W.failures out.new ≡ count_after (is_err result) (W.failures out.old) }
-        ensures same { W.through out.new ≡ W.through out.old }
+        ensures sends { Sends W.Sink out.old out.new result (directories_text order self.now) }
     {
         let places = &self.places;
         send_zeros(out, (places.start % 2) as usize)?;
@@ -64,10 +58,7 @@ impl<'a> Plan<'a> {
     // Sends the values that aren't in their entries.
     fn send_values<W: Sink>(&self, out: &mut W, order: Order) -> io::Result<()>
         requires { IsReadyPlan self.now }
-        ensures sent { OnOk result (Appends (W.taken out.old) (W.taken out.new) (plan_values_text order self.now)) }
-        ensures front { OnErr result (SendsFront (W.taken out.old) (W.taken out.new) (plan_values_text order self.now)) }
-        ensures count { W.failures out.new ≡ count_after (is_err result) (W.failures out.old) }
-        ensures same { W.through out.new ≡ W.through out.old }
+        ensures sends { Sends W.Sink out.old out.new result (plan_values_text order self.now) }
     {
         let places = &self.places;
         send_values(out, order, places, self.tiff.as_slice(), places.tiff_values)?;
@@ -84,10 +75,7 @@ impl<'a> Plan<'a> {
 
     // Sends the blocks.
     fn send_blocks<W: Sink>(&self, out: &mut W) -> io::Result<()>
-        ensures sent { OnOk result (Appends (W.taken out.old) (W.taken out.new) (plan_blocks_text self.now)) }
-        ensures front { OnErr result (SendsFront (W.taken out.old) (W.taken out.new) (plan_blocks_text self.now)) }
-        ensures count { W.failures out.new ≡ count_after (is_err result) (W.failures out.old) }
-        ensures same { W.through out.new ≡ W.through out.old }
+        ensures sends { Sends W.Sink out.old out.new result (plan_blocks_text self.now) }
     {
         send_blocks(out, self.strips)?;
         send_blocks(out, self.tiles)?;
@@ -97,10 +85,7 @@ impl<'a> Plan<'a> {
     // Sends all parts.
     fn send<W: Sink>(&self, out: &mut W, order: Order) -> io::Result<()>
         requires { IsReadyPlan self.now }
-        ensures sent { OnOk result (Appends (W.taken out.old) (W.taken out.new) (plan_text order self.now)) }
-        ensures front { OnErr result (SendsFront (W.taken out.old) (W.taken out.new) (plan_text order self.now)) }
-        ensures count { W.failures out.new ≡ count_after (is_err result) (W.failures out.old) }
-        ensures same { W.through out.new ≡ W.through out.old }
+        ensures sends { Sends W.Sink out.old out.new result (plan_text order self.now) }
     {
         self.send_directories(out, order)?;
         self.send_values(out, order)?;
@@ -108,18 +93,21 @@ impl<'a> Plan<'a> {
     }
 }
 
-// Sends the byte order, the number 42 and the place of the first directory.
-#[tactic(auto, using(crate::proofs::Sent::appends_more, crate::proofs::Sent::front_second, crate::proofs::Sent::front_first))]
-fn send_header<W: Sink>(out: &mut W, order: Order) -> io::Result<()>
-    ensures sent { OnOk result (Appends (W.taken out.old) (W.taken out.new) (header_text order)) }
-    ensures front { OnErr result (SendsFront (W.taken out.old) (W.taken out.new) (header_text order)) }
-    ensures count { W.failures out.new ≡ count_after (is_err result) (W.failures out.old) }
-    ensures same { W.through out.new ≡ W.through out.old }
+// The two bytes that say a byte order.
+fn order_mark(order: Order) -> [u8; 2]
+    ensures { result ≡ order_mark order }
 {
     match order {
-        Order::Big => send_all(out, b"MM")?,
-        Order::Little => send_all(out, b"II")?,
+        Order::Big => *b"MM",
+        Order::Little => *b"II",
     }
+}
+
+// Sends the byte order, the number 42 and the place of the first directory.
+fn send_header<W: Sink>(out: &mut W, order: Order) -> io::Result<()>
+    ensures sends { Sends W.Sink out.old out.new result (header_text order) }
+{
+    send_all(out, &order_mark(order))?;
     send_u16(out, order, 42)?;
     send_u32(out, order, 8)
 }
@@ -127,10 +115,7 @@ fn send_header<W: Sink>(out: &mut W, order: Order) -> io::Result<()>
 // Sends the plans one behind the other.
 fn send_plans<'a, W: Sink>(out: &mut W, order: Order, plans: &[Plan<'a>]) -> io::Result<()>
     requires { AllByRecursion IsReadyPlan plans.now }
-    ensures sent { OnOk result (Appends (W.taken out.old) (W.taken out.new) (plans_text order plans.now)) }
-    ensures front { OnErr result (SendsFront (W.taken out.old) (W.taken out.new) (plans_text order plans.now)) }
-    ensures count { W.failures out.new ≡ count_after (is_err result) (W.failures out.old) }
-    ensures same { W.through out.new ≡ W.through out.old }
+    ensures sends { Sends W.Sink out.old out.new result (plans_text order plans.now) }
 {
     for plan in plans {
         plan.send(out, order)?;
@@ -139,13 +124,9 @@ fn send_plans<'a, W: Sink>(out: &mut W, order: Order, plans: &[Plan<'a>]) -> io:
 }
 
 /// Sends an image and flushes once.
-#[tactic(auto, using(crate::proofs::Sent::appends_more, crate::proofs::Sent::front_all, crate::proofs::Sent::front_second, crate::proofs::Sent::front_first))]
 pub fn send_image<'a, W: Sink>(out: &mut W, order: Order, plans: &[Plan<'a>]) -> io::Result<()>
     requires { AllByRecursion IsReadyPlan plans.now }
-    ensures sent { OnOk result (Appends (W.taken out.old) (W.taken out.new) (sent_image order plans.now)) }
-    ensures front { OnErr result (SendsFront (W.taken out.old) (W.taken out.new) (sent_image order plans.now)) }
-    ensures count { W.failures out.new ≡ count_after (is_err result) (W.failures out.old) }
-    ensures same { W.through out.new ≡ W.through out.old }
+    ensures sends { Sends W.Sink out.old out.new result (sent_image order plans.now) }
 {
     send_header(out, order)?;
     send_plans(out, order, plans)?;

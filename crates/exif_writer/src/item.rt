@@ -1,11 +1,9 @@
 //! The items of values, and values, sent as they are spelled.
 
-ghost use Rattle.std.specs.Prelude.{◌≡◌, ◌++◌, [], ◌∷◌, List, ℕ, OnOk, OnErr, is_err};
+ghost use Rattle.std.specs.Prelude.{◌≡◌, ◌++◌, [], ◌∷◌, List, ℕ};
 ghost use Rattle.std.specs.List.{flat_map};
 ghost use Rattle.std.specs.Int.{w8, w16, w32, cast_unsigned};
-ghost use Rattle.std.specs.Io.KnownBytes.{Appends};
-ghost use Rattle.exif_base.specs.Device.{count_after};
-ghost use Rattle.exif_base.specs.Sent.{SendsFront};
+ghost use Rattle.exif_base.specs.Sent.{Sends};
 ghost use Rattle.exif_base.specs.declared.endian.Order.{Order};
 ghost use Rattle.exif_writer.specs.Encoding.{spelled, encode};
 ghost use Rattle.exif_types.specs.Texts.{ended};
@@ -22,10 +20,7 @@ trait Item {
 
     /// Sends the bytes that spell it.
     fn send<W: Sink>(&self, out: &mut W, order: Order) -> io::Result<()>
-        ensures sent { OnOk result (Appends (W.taken out.old) (W.taken out.new) (spelled order self.now)) }
-        ensures front { OnErr result (SendsFront (W.taken out.old) (W.taken out.new) (spelled order self.now)) }
-        ensures count { W.failures out.new ≡ count_after (is_err result) (W.failures out.old) }
-        ensures same { W.through out.new ≡ W.through out.old };
+        ensures sends { Sends W.Sink out.old out.new result (spelled order self.now) };
 }
 
 impl Item for u16 {
@@ -76,7 +71,6 @@ impl Item for i32 {
     }
 }
 
-#[tactic(auto, using(crate::proofs::Sent::appends_more, crate::proofs::Sent::front_second, crate::proofs::Sent::front_first))]
 impl Item for Rational {
     ghost spelled = { λ order x. spelled order 4 x.num ++ spelled order 4 x.denom };
 
@@ -86,7 +80,6 @@ impl Item for Rational {
     }
 }
 
-#[tactic(auto, using(crate::proofs::Sent::appends_more, crate::proofs::Sent::front_second, crate::proofs::Sent::front_first))]
 impl Item for SRational {
     ghost spelled = { λ order x. spelled order 4 (cast_unsigned w32 x.num) ++ spelled order 4 (cast_unsigned w32 x.denom) };
 
@@ -96,7 +89,6 @@ impl Item for SRational {
     }
 }
 
-#[tactic(auto, using(crate::proofs::Sent::appends_more, crate::proofs::Sent::front_second, crate::proofs::Sent::front_first))]
 impl Item for Items<u8> {
     ghost spelled = { λ order text. ended text };
 
@@ -107,12 +99,8 @@ impl Item for Items<u8> {
 }
 
 // Sends items one behind the other.
-#[tactic(auto, using(crate::proofs::Loops::front_item))]
 fn send_items<T: Item, W: Sink>(out: &mut W, order: Order, items: &Items<T>) -> io::Result<()>
-    ensures sent { OnOk result (Appends (W.taken out.old) (W.taken out.new) (flat_map (T.spelled order) items.now)) }
-    ensures front { OnErr result (SendsFront (W.taken out.old) (W.taken out.new) (flat_map (T.spelled order) items.now)) }
-    ensures count { W.failures out.new ≡ count_after (is_err result) (W.failures out.old) }
-    ensures same { W.through out.new ≡ W.through out.old }
+    ensures sends { Sends W.Sink out.old out.new result (flat_map (T.spelled order) items.now) }
 {
     for item in items.as_slice() {
         item.send(out, order)?;
@@ -122,10 +110,7 @@ fn send_items<T: Item, W: Sink>(out: &mut W, order: Order, items: &Items<T>) -> 
 
 /// Sends the bytes that spell a value.
 pub fn send_value<W: Sink>(out: &mut W, order: Order, value: &Value) -> io::Result<()>
-    ensures sent { OnOk result (Appends (W.taken out.old) (W.taken out.new) (encode order value.now)) }
-    ensures front { OnErr result (SendsFront (W.taken out.old) (W.taken out.new) (encode order value.now)) }
-    ensures count { W.failures out.new ≡ count_after (is_err result) (W.failures out.old) }
-    ensures same { W.through out.new ≡ W.through out.old }
+    ensures sends { Sends W.Sink out.old out.new result (encode order value.now) }
 {
     match value {
         Value::Byte(items) | Value::Undefined(items, _) => send_all(out, items.as_slice()),

@@ -1,9 +1,21 @@
 use Rattle.std.proofs.Common.{refl, get_or}
-use Rattle.exif_writer.proofs.Running.{on_err, no_text}
-use Rattle.exif_writer.proofs.Loops.{front_item}
+use Rattle.exif_writer.proofs.Running.{no_text}
+use Rattle.exif_writer.proofs.Sending.{sends_none, sends_member, sends_stop_member, sends_members}
 use Rattle.exif_writer.proofs.directory.send_blocks.Goals as goal
 
-pub returns-in_err-send_all-clause-front : goal.returns-in_err-send_all-clause-front
-returns-in_err-send_all-clause-front g c =
-    on_err _ _ (front_item _ _ _ (λ text. text.now) c.args.texts.now c.loop-text.text-index (get_or c.args.texts.now c.loop-text.text-index no_text) no_text
-    c.loop-text-test.true refl c.loop-text.invariant.sent c.in_err-send_all.ensures.front)
+pub loop-text-init : goal.loop-text-init
+loop-text-init g c = sends_none
+
+pub loop-text-preserved : goal.loop-text-preserved
+loop-text-preserved g c =
+    sends_member (λ text. text.now) c.args.texts.now c.loop-text.text-index (get_or c.args.texts.now c.loop-text.text-index no_text) no_text
+    c.loop-text-test.true refl c.loop-text.invariant c.in_ok-send_all.ensures.sends
+
+pub returns-in_err-send_all : goal.returns-in_err-send_all
+returns-in_err-send_all g c = record {
+  sends = sends_stop_member (λ text. text.now) c.args.texts.now c.loop-text.text-index (get_or c.args.texts.now c.loop-text.text-index no_text) no_text
+      c.loop-text-test.true refl c.loop-text.invariant c.in_err-send_all.ensures.sends c.from_residual.ensures.0;
+}
+
+pub returns : goal.returns
+returns g c = record { sends = sends_members (λ text. text.now) c.args.texts.now c.loop-text.text-index c.loop-text-test.false c.loop-text.invariant }

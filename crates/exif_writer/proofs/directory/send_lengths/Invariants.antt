@@ -1,12 +1,9 @@
-use Rattle.std.proofs.Common.{◌≡◌, ℕ, length, take}
-use Rattle.std.specs.Io.KnownBytes.{Appends}
-use Rattle.exif_writer.specs.Running.{run}
-use Rattle.exif_writer.proofs.directory.send_lengths.Given as goal
+use Rattle.std.proofs.Common.{length, take}
+use Rattle.std.specs.List.{flat_map}
 use Rattle.exif_writer.specs.Encoding.{spelled}
+use Rattle.exif_writer.proofs.Sending.{HasSent}
+use Rattle.exif_writer.proofs.directory.send_lengths.Given as goal
 
 abbrev pub invariant-loop-text : goal.invariant-loop-text
-invariant-loop-text g l = record {
-  sent : Appends (g.W.Sink.taken l.initial.out) (g.W.Sink.taken l.out) (run {S = ℕ} (λ p b. p) (λ p b. spelled l.order 4 (length b.now)) 0 (take l.text-index l.texts));
-  count : g.W.Sink.failures l.out ≡ g.W.Sink.failures l.initial.out;
-  same : g.W.Sink.through l.out ≡ g.W.Sink.through l.initial.out;
-}
+invariant-loop-text g l =
+    HasSent g.W.Sink l.initial.out l.out (flat_map (λ text. spelled l.order 4 (length text.now)) (take l.text-index l.texts))

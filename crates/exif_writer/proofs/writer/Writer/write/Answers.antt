@@ -18,11 +18,11 @@ returns-in_err-send_image-clause-front g c =
     let none : write_fault c.args.self.now ≡ None = sym (c.write_fault.ensures ∙ ap write_fault c.ifds.ensures) ∙ c.in_default.is in
     let P : List Group → Type 0 = λ groups. ArePlans 8 (map draft_of groups) c.in_ok-plans.plans.items in
     let same = sent_is c.order_of.result c.args.self.now c.in_ok-plans.plans.items none (subst P c.ifds-2.ensures c.in_ok-plans.ensures) in
-    on_err _ _ (rw (c.as_slice.ensures.value, same, c.order_of.ensures) at (c.in_err-send_image.ensures.front))
+    on_err _ _ (rw (c.as_slice.ensures.value, same, c.order_of.ensures) at (c.in_err-send_image.ensures.sends.front))
 
 pub returns-clause-sent : goal.returns-clause-sent
 returns-clause-sent g c =
     let none : write_fault c.args.self.now ≡ None = sym (c.write_fault.ensures ∙ ap write_fault c.ifds.ensures) ∙ c.in_default.is in
     let P : List Group → Type 0 = λ groups. ArePlans 8 (map draft_of groups) c.in_ok-plans.plans.items in
     let same = sent_is c.order_of.result c.args.self.now c.in_ok-plans.plans.items none (subst P c.ifds-2.ensures c.in_ok-plans.ensures) in
-    rw (c.as_slice.ensures.value, same, c.order_of.ensures) at (c.in_ok-send_image.ensures.sent)
+    rw (c.as_slice.ensures.value, same, c.order_of.ensures) at (c.in_ok-send_image.ensures.sends.sent)
