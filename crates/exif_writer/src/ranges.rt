@@ -1,11 +1,12 @@
-//! Numbers of a value fit their types. These functions do nothing: their contracts show it.
+//! Numbers of a value fit their types. These functions do nothing: their contracts show it. The
+//! types of slices tell it of unsigned numbers, and that of each member of all others.
 
 ghost use Rattle.std.specs.Prelude.{◌<◌, ◌^◌, All};
 ghost use Rattle.exif_writer.specs.Ranged.{IsRanged};
 
 use exif_types::{Field, Rational, SRational, Value};
 
-/// A kind of numbers, each of which fits its type.
+/// A kind of numbers that a slice's type does not tell to fit.
 trait Ranged: Copy {
     // The number fits.
     ghost fits: { Self → Type 0 };
@@ -13,30 +14,6 @@ trait Ranged: Copy {
     /// The number fits.
     fn show(self)
         ensures { fits self };
-}
-
-impl Ranged for u16 {
-    ghost use Rattle.std.specs.Prelude.{◌<◌, ◌^◌};
-
-    ghost fits = { λ x. x < 2 ^ 16 };
-
-    fn show(self) {}
-}
-
-impl Ranged for u32 {
-    ghost use Rattle.std.specs.Prelude.{◌<◌, ◌^◌};
-
-    ghost fits = { λ x. x < 2 ^ 32 };
-
-    fn show(self) {}
-}
-
-impl Ranged for u64 {
-    ghost use Rattle.std.specs.Prelude.{◌<◌, ◌^◌};
-
-    ghost fits = { λ x. x < 2 ^ 64 };
-
-    fn show(self) {}
 }
 
 impl Ranged for i8 {
@@ -72,8 +49,7 @@ impl Ranged for Rational {
     ghost fits = { λ x. (x.num < 2 ^ 32) × (x.denom < 2 ^ 32) };
 
     fn show(self) {
-        self.num.show();
-        self.denom.show();
+        let _ = (self.num, self.denom);
     }
 }
 
@@ -99,19 +75,40 @@ fn show_all<T: Ranged>(items: &[T])
     }
 }
 
+// Each number of 16 bits fits.
+fn show_u16s(items: &[u16])
+    ensures { All (λ x. x < 2 ^ 16) items.now }
+{
+    let _count = items.len();
+}
+
+// Each number of 32 bits fits.
+fn show_u32s(items: &[u32])
+    ensures { All (λ x. x < 2 ^ 32) items.now }
+{
+    let _count = items.len();
+}
+
+// Each number of 64 bits fits.
+fn show_u64s(items: &[u64])
+    ensures { All (λ x. x < 2 ^ 64) items.now }
+{
+    let _count = items.len();
+}
+
 /// Each number of the value fits its type.
 pub fn show_value_fits(value: &Value)
     ensures { IsRanged value.now }
 {
     match value {
-        Value::Short(items) => show_all(items.as_slice()),
-        Value::Long(items) | Value::Float(items) => show_all(items.as_slice()),
+        Value::Short(items) => show_u16s(items.as_slice()),
+        Value::Long(items) | Value::Float(items) => show_u32s(items.as_slice()),
         Value::Rational(items) => show_all(items.as_slice()),
         Value::SByte(items) => show_all(items.as_slice()),
         Value::SShort(items) => show_all(items.as_slice()),
         Value::SLong(items) => show_all(items.as_slice()),
         Value::SRational(items) => show_all(items.as_slice()),
-        Value::Double(items) => show_all(items.as_slice()),
+        Value::Double(items) => show_u64s(items.as_slice()),
         Value::Byte(_) | Value::Ascii(_) | Value::Undefined(_, _) | Value::Unknown(_, _, _) => {}
     }
 }
@@ -121,6 +118,6 @@ pub fn show_field_fits(field: &Field)
     ensures tag { field.now.tag.1 < 2 ^ 16 }
     ensures value { IsRanged field.now.value }
 {
-    field.tag.1.show();
+    let _number = field.tag.1;
     show_value_fits(&field.value);
 }
