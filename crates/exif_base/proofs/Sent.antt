@@ -1,5 +1,5 @@
 -- One send after another.
-use Rattle.std.proofs.Common.{◌≡◌, ℕ, ◌+◌, ◌≤◌, length, arith, List, [], ◌++◌, take, drop, Option, None, Some, ap, sym, ◌∙◌, append_assoc, append-nil}
+use Rattle.std.proofs.Common.{◌≡◌, ℕ, ◌+◌, ◌≤◌, length, arith, List, [], ◌++◌, take, drop, Option, None, Some, ap, refl, sym, ◌∙◌, append_assoc, append-nil}
 use Rattle.std.proofs.lemmas.List.{take-append-drop, length-take-le, take-take}
 use Rattle.std.proofs.Math.Seq.{take-append-add}
 use Rattle.std.specs.Io.KnownBytes.{Appends, Keeps}
@@ -70,3 +70,14 @@ front_all None b c text h k = tt
 front_all (Some p) None c text h k = absurd h
 front_all (Some p) (Some q) None text h k = absurd k
 front_all (Some p) (Some q) (Some r) text h k = (text, [], sym (append-nil text), k ∙ h)
+
+-- nothing was done
+pub keeps_same : (a : Option (List ℕ)) → Keeps a a
+keeps_same None = tt
+keeps_same (Some p) = refl
+
+-- nothing is a front of each text
+pub front_none : (a b : Option (List ℕ)) (text : List ℕ) → Keeps a b → SendsFront a b text
+front_none None b text h = tt
+front_none (Some p) None text h = absurd h
+front_none (Some p) (Some q) text h = ([], text, refl, h ∙ sym (append-nil p))

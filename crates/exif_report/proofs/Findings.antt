@@ -5,7 +5,7 @@ use Rattle.std.specs.Prelude.{Vec, OnErr, IfSome}
 use Rattle.std.specs.Borrow.{Bor}
 use Rattle.std.specs.Global.{Global}
 use Rattle.std.specs.List.{flat_map, Contains}
-use Rattle.std.specs.Io.KnownBytes.{Appends, Keeps}
+use Rattle.std.specs.Io.KnownBytes.{Appends}
 use Rattle.exif_base.specs.Sent.{SendsFront}
 use Rattle.exif_types.specs.Contents.{ExifContents, PartialContents}
 use Rattle.exif_types.specs.Failures.{Failure, told_text, bytes_of}
@@ -19,7 +19,7 @@ use Rattle.exif_reader.specs.Files.{AnswersOwnData, ReadsContainer, IsDataRefusa
 use Rattle.exif_reader.specs.Readings.{IsRefusal}
 use Rattle.exif_report.specs.Lines.{field_line, fault_line, error_line}
 use Rattle.exif_report.specs.Reports.{Finds, FindsOwn, Holds, HoldsAnswer, Reports, ReportsSome, WritesWhole, IsRefusedAs, IsNamedRefusal, given_by, report_text, answer_text, fault_count}
-use Rattle.exif_report.proofs.Sent.{keeps_same, appends_more, appends_kept, front_none, front_all}
+use Rattle.exif_base.proofs.Sent.{keeps_same, front_none}
 
 -- ---- what was read of a container
 
@@ -204,8 +204,3 @@ some_none old answer e (inr interrupted) = inr (interrupted, ([], front_none old
 pub on_err : {T E : Type 0} (r : Result T E) (P : Type 0) → P → OnErr r P
 on_err (Ok x) P p = tt
 on_err (Err e) P p = p
-
--- both texts were taken, and a call that takes nothing failed
-pub front_of_both : (a b c d : Option (List ℕ)) (xs ys : List ℕ) → Appends a b xs → Appends b c ys → Keeps c d → SendsFront a d (xs ++ ys)
-front_of_both a b c d xs ys first second none =
-    front_all a d (xs ++ ys) (appends_kept a c d (xs ++ ys) (appends_more a b c xs ys first second) none)

@@ -1,2 +1,2 @@
 pub mod Findings
-pub mod Sent
+pub mod Writing

@@ -10,6 +10,7 @@ ghost use Rattle.exif_types.specs.Refusals.{Refusal, is_io, is_io_error, IsInter
 ghost use Rattle.exif_tiff.specs.Answers.{Answer, raw_answer};
 ghost use Rattle.exif_reader.specs.Files.{AnswersOwnData, ReadsContainer, file_answer};
 ghost use Rattle.exif_report.specs.Lines.{field_line, error_line};
+ghost use Rattle.exif_report.specs.Writes.{Writes};
 ghost use Rattle.exif_report.specs.Reports.{Finds, FindsOwn, Reports, ReportsSome, CountsBoth, given_by};
 
 use crate::lines::{set_error_line, set_field_line};
@@ -19,22 +20,14 @@ use exif_types::fields_left;
 use std::alloc::Global;
 
 /// Writes a line for each of the fields, which are those of `exif`.
-#[tactic(auto, using(crate::proofs::Sent::front_item, crate::proofs::Sent::front_between, crate::proofs::Sent::sent_item))]
 fn write_fields<W: Sink>(
     alloc: Global,
     exif: &Exif,
     fields: &[Field],
     out: &mut W,
 ) -> Result<(), Error>
-    ensures sent { OnOk result
-        (Appends (W.taken out.old) (W.taken out.new)
-        (flat_map (field_line exif.now.fields) fields.now)) }
-    ensures front { OnErr result
-        (SendsFront (W.taken out.old) (W.taken out.new)
-        (flat_map (field_line exif.now.fields) fields.now)) }
-    ensures interrupted { IfErr result IsInterrupted }
-    ensures count { W.failures out.new ≡ count_after (is_io result) (W.failures out.old) }
-    ensures same { W.through out.new ≡ W.through out.old }
+    ensures writes { Writes W.Sink out.old out.new result
+        (flat_map (field_line exif.now.fields) fields.now) }
 {
     let mut line = String::new(alloc);
     for field in fields {
@@ -45,16 +38,9 @@ fn write_fields<W: Sink>(
 }
 
 /// Writes a line for each fault.
-#[tactic(auto, using(crate::proofs::Sent::front_item, crate::proofs::Sent::front_between, crate::proofs::Sent::sent_item))]
 fn write_errors<W: Sink>(alloc: Global, errors: &[Error], out: &mut W) -> Result<(), Error>
     requires { All IsInvalidFormat errors.now }
-    ensures sent { OnOk result
-        (Appends (W.taken out.old) (W.taken out.new) (flat_map error_line errors.now)) }
-    ensures front { OnErr result
-        (SendsFront (W.taken out.old) (W.taken out.new) (flat_map error_line errors.now)) }
-    ensures interrupted { IfErr result IsInterrupted }
-    ensures count { W.failures out.new ≡ count_after (is_io result) (W.failures out.old) }
-    ensures same { W.through out.new ≡ W.through out.old }
+    ensures writes { Writes W.Sink out.old out.new result (flat_map error_line errors.now) }
 {
     let mut line = String::new(alloc);
     for error in errors {
@@ -84,7 +70,6 @@ fn found_of(alloc: Global, answer: Result<Exif, Error>) -> Result<(Exif, Vec<Err
 }
 
 /// Writes a line for each field and for each fault, and flushes.
-#[tactic(auto, using(crate::proofs::Sent::appends_more, crate::proofs::Sent::front_second, crate::proofs::Sent::front_first))]
 fn write_all<W: Sink>(
     alloc: Global,
     exif: &Exif,
@@ -92,15 +77,8 @@ fn write_all<W: Sink>(
     out: &mut W,
 ) -> Result<(), Error>
     requires { All IsInvalidFormat errors.now }
-    ensures sent { OnOk result
-        (Appends (W.taken out.old) (W.taken out.new)
-        (flat_map (field_line exif.now.fields) exif.now.fields ++ flat_map error_line errors.now)) }
-    ensures front { OnErr result
-        (SendsFront (W.taken out.old) (W.taken out.new)
-        (flat_map (field_line exif.now.fields) exif.now.fields ++ flat_map error_line errors.now)) }
-    ensures interrupted { IfErr result IsInterrupted }
-    ensures count { W.failures out.new ≡ count_after (is_io result) (W.failures out.old) }
-    ensures same { W.through out.new ≡ W.through out.old }
+    ensures writes { Writes W.Sink out.old out.new result
+        (flat_map (field_line exif.now.fields) exif.now.fields ++ flat_map error_line errors.now) }
 {
     write_fields(alloc, exif, fields_left(&exif.fields()), out)?;
     write_errors(alloc, errors, out)?;

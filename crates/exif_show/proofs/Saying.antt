@@ -6,7 +6,7 @@ use Rattle.std.specs.Io.KnownBytes.{Appends, Keeps}
 use Rattle.exif_base.specs.Sent.{SendsFront}
 use Rattle.exif_types.specs.Failures.{Failure, error_text}
 use Rattle.exif_show.specs.Program.{said_line, Says, SaysWhole}
-use Rattle.exif_report.proofs.Sent.{front_none}
+use Rattle.exif_base.proofs.Sent.{front_none}
 
 -- a line was written for a text, where that is told
 abbrev pub Told : Option (List ℕ) → List ℕ → Type 0

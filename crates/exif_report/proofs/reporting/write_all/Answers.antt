@@ -1,15 +1,26 @@
-use Rattle.std.proofs.Common.{◌∙◌, subst}
-use Rattle.std.specs.Prelude.{List}
+use Rattle.std.proofs.Common.{◌∙◌}
+use Rattle.std.proofs.lemmas.Result.{err_from_is_err_and}
 use Rattle.std.specs.List.{flat_map}
-use Rattle.std.specs.Io.KnownBytes.{Appends}
-use Rattle.exif_types.specs.declared.field.Field.{Field}
-use Rattle.exif_report.specs.Lines.{field_line, error_line}
-use Rattle.exif_report.proofs.Findings.{on_err, front_of_both}
+use Rattle.exif_report.specs.Lines.{error_line}
+use Rattle.exif_report.proofs.Writing.{writes_then, writes_stop, writes_kept}
 use Rattle.exif_report.proofs.reporting.write_all.Goals as goal
 
-pub returns-in_err-flush-clause-front : goal.returns-in_err-flush-clause-front
-returns-in_err-flush-clause-front g c =
-    let lines = flat_map (field_line c.args.exif.now.fields) in
-    let P : List Field → Type 0 = λ fields. Appends (g.W.Sink.taken c.args.out.now) (g.W.Sink.taken c.write_fields.new.out) (lines fields) in
-    let sent = subst P (c.fields_left.ensures ∙ c.fields.ensures.fields) c.in_ok-write_fields.ensures.sent in
-    on_err _ _ (front_of_both _ _ _ _ (lines c.args.exif.now.fields) (flat_map error_line c.args.errors.now) sent c.in_ok-write_errors.ensures.sent c.flush.ensures.bytes)
+pub returns-in_err-write_fields : goal.returns-in_err-write_fields
+returns-in_err-write_fields g c =
+    let p = err_from_is_err_and c.from_residual.result c.from_residual.ensures.1 in
+    record {
+      writes = rw (p.1, p.2) (writes_stop (flat_map error_line c.args.errors.now) (rw (c.fields_left.ensures ∙ c.fields.ensures.fields) at (c.in_err-write_fields.ensures.writes)));
+    }
+
+pub returns-in_err-write_errors : goal.returns-in_err-write_errors
+returns-in_err-write_errors g c =
+    let p = err_from_is_err_and c.from_residual-in_err-write_errors.result c.from_residual-in_err-write_errors.ensures.1 in
+    record {
+      writes = rw (p.1, p.2) (writes_then (rw (c.fields_left.ensures ∙ c.fields.ensures.fields) at (c.in_ok-write_fields.ensures.writes)) c.in_err-write_errors.ensures.writes);
+    }
+
+pub returns-in_err-flush : goal.returns-in_err-flush
+returns-in_err-flush g c =
+    let p = err_from_is_err_and c.from_residual-in_err-flush.result c.from_residual-in_err-flush.ensures.1 in
+    let both = writes_then (rw (c.fields_left.ensures ∙ c.fields.ensures.fields) at (c.in_ok-write_fields.ensures.writes)) c.in_ok-write_errors.ensures.writes in
+    record { writes = rw (p.1, p.2) (writes_kept both c.in_err-flush.ensures.bytes c.in_err-flush.ensures.count c.in_err-flush.ensures.same tt) }

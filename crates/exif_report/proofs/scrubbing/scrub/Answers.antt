@@ -7,7 +7,7 @@ use Rattle.exif_writer.specs.Rewriting.{pushed_all}
 use Rattle.exif_writer.specs.Scrubbing.{kept, scrubbed, IsScrubbed}
 use Rattle.exif_writer.specs.Views.{written_order}
 use Rattle.exif_report.proofs.Findings.{on_err}
-use Rattle.exif_report.proofs.Sent.{keeps_same, front_none}
+use Rattle.exif_base.proofs.Sent.{keeps_same, front_none}
 use Rattle.exif_report.proofs.scrubbing.scrub.Goals as goal
 
 -- what follows where a call succeeded
