@@ -9,8 +9,8 @@ use Rattle.std.proofs.lemmas.Bool.Decides.{nat_tests}
 use Rattle.std.proofs.lemmas.List.Folds.{list_all_more}
 use Rattle.std.proofs.lemmas.Str.{digit_value_digit}
 use Rattle.std.proofs.lemmas.Int.Digits.{digits_value_more}
-use Rattle.exif_text.specs.declared.datetime.DateFault.{DateFault}
-use Rattle.exif_text.specs.declared.datetime.DateFault.TheVariants.{NotANumber}
+use Rattle.exif_text.specs.declared.date_fault.DateFault.{DateFault}
+use Rattle.exif_text.specs.declared.date_fault.DateFault.TheVariants.{NotANumber}
 use Rattle.exif_text.specs.Digits.{are_two_at, digit_in, number_in, two_at}
 use Rattle.exif_text.proofs.SubsecLemmas.{next_below}
 

@@ -3,8 +3,8 @@ use Rattle.std.specs.Prelude.{ℕ, ◌+◌, ◌-◌, ◌*◌, ◌&&◌, nat_le, 
 use Rattle.std.specs.List.{list_all}
 use Rattle.std.specs.Char.{is_ascii_digit}
 use Rattle.std.specs.Str.Parse.{digits_value}
-use Rattle.exif_text.specs.declared.datetime.DateFault.{DateFault}
-use Rattle.exif_text.specs.declared.datetime.DateFault.TheVariants.{NotANumber}
+use Rattle.exif_text.specs.declared.date_fault.DateFault.{DateFault}
+use Rattle.exif_text.specs.declared.date_fault.DateFault.TheVariants.{NotANumber}
 
 -- the number that a digit is
 abbrev pub digit_in : ℕ → Result ℕ DateFault

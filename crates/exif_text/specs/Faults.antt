@@ -1,7 +1,7 @@
 -- What the faults of dates are called.
 use Rattle.std.specs.Prelude.{ℕ, List, codes}
-use Rattle.exif_text.specs.declared.datetime.DateFault.{DateFault}
-use Rattle.exif_text.specs.declared.datetime.DateFault.TheVariants.{BlankDate, DateTooShort, InvalidDateDelimiter, NotANumber, BlankOffset, OffsetTooShort, InvalidOffsetDelimiter, InvalidOffsetSign}
+use Rattle.exif_text.specs.declared.date_fault.DateFault.{DateFault}
+use Rattle.exif_text.specs.declared.date_fault.DateFault.TheVariants.{BlankDate, DateTooShort, InvalidDateDelimiter, NotANumber, BlankOffset, OffsetTooShort, InvalidOffsetDelimiter, InvalidOffsetSign}
 
 -- the text of a fault
 abbrev pub message_of : DateFault → List ℕ

@@ -4,9 +4,10 @@ use Rattle.exif_table.specs.declared.kind.TextKind.{TextKind}
 use Rattle.exif_table.specs.declared.kind.TextKind.TheVariants as K
 use Rattle.exif_table.specs.Fixed as F
 use Rattle.exif_table.specs.Fixed.{fixed_texts_of}
-use Rattle.exif_text.specs.declared.datetime.DateTime.{DateTime}
-use Rattle.exif_text.specs.declared.datetime.DateFault.{DateFault}
-use Rattle.exif_text.specs.declared.datetime.DateFault.TheVariants.{BlankDate}
+use Rattle.exif_text.specs.declared.date.Date.{Date}
+use Rattle.exif_text.specs.declared.date.TimeOfDay.{TimeOfDay}
+use Rattle.exif_text.specs.declared.date_fault.DateFault.{DateFault}
+use Rattle.exif_text.specs.declared.date_fault.DateFault.TheVariants.{BlankDate}
 use Rattle.exif_text.specs.Contents.{Plain}
 use Rattle.exif_text.specs.Plain.{plain_text}
 use Rattle.exif_text.specs.Numbers.{area_text, counts_text, focal_length_text, sampling_text}
@@ -18,8 +19,8 @@ use Rattle.exif_text.specs.Dates.{datetime_text, parse_datetime}
 use Rattle.exif_text.specs.FixedText.{fixed_text}
 
 -- a date as it was read: a blank one is unknown
-abbrev pub date_or : Result DateTime DateFault → List ℕ → List ℕ
-date_or (Ok d) otherwise = datetime_text d
+abbrev pub date_or : Result (Date × TimeOfDay) DateFault → List ℕ → List ℕ
+date_or (Ok read) otherwise = datetime_text read.0 read.1
 date_or (Err BlankDate) otherwise = codes "unknown"
 date_or (Err fault) otherwise = otherwise
 

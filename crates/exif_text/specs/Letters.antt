@@ -1,11 +1,12 @@
 -- Texts that bytes and letters choose (Exif 2.32, sections 4.6.5 and 4.6.6).
-use Rattle.std.specs.Prelude.{ℕ, ◌+◌, ◌*◌, ◌==◌, ◌&&◌, nat_le, if◌then◌else◌, List, [], ◌∷◌, codes, Option, Some, None, Bool, length, slice_index}
+use Rattle.std.specs.Prelude.{ℕ, ◌==◌, ◌&&◌, nat_le, if◌then◌else◌, List, [], ◌∷◌, codes, Option, Some, None, Bool, length, slice_index}
 use Rattle.std.specs.List.{flat_map}
 use Rattle.exif_text.specs.Contents.{Plain, Texts, Undefined}
 use Rattle.exif_text.specs.Plain.{plain_text}
 use Rattle.exif_text.specs.Quoted.{quoted}
 use Rattle.exif_text.specs.Clock.{date_text}
-use Rattle.exif_text.specs.Digits.{are_two_at, two_at}
+use Rattle.exif_text.specs.Dates.{date_at, has_date_digits}
+use Rattle.exif_text.specs.declared.date.Date.{Date}
 
 -- the first of the texts
 abbrev pub first_text : Plain → Option (List ℕ)
@@ -43,16 +44,15 @@ capital_text v = capital_of (letter_in (first_text v)) (plain_text v)
 -- colons and digits stand as in `2016:05:04`
 abbrev pub is_date : List ℕ → Bool
 is_date text =
-    nat_le 10 (length text) && (slice_index text 4 == 58 && (slice_index text 7 == 58
-    && (are_two_at text 0 && (are_two_at text 2 && (are_two_at text 5 && are_two_at text 8)))))
+    nat_le 10 (length text) && (slice_index text 4 == 58 && (slice_index text 7 == 58 && has_date_digits text))
 
--- the year, the month and the day
-abbrev pub date_in : List ℕ → Option (ℕ × ℕ × ℕ)
-date_in text = if is_date text then Some (two_at text 0 * 100 + two_at text 2, two_at text 5, two_at text 8) else None
+-- the date
+abbrev pub date_in : List ℕ → Option Date
+date_in text = if is_date text then Some (date_at text) else None
 
-abbrev pub date_of : Option (ℕ × ℕ × ℕ) → List ℕ → List ℕ
+abbrev pub date_of : Option Date → List ℕ → List ℕ
 date_of None otherwise = otherwise
-date_of (Some date) otherwise = date_text date.0 date.1 date.2
+date_of (Some date) otherwise = date_text date
 
 abbrev pub date_stamp_of : Option (List ℕ) → List ℕ → List ℕ
 date_stamp_of None otherwise = otherwise

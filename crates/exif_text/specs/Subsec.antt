@@ -3,9 +3,8 @@ use Rattle.std.specs.Prelude.{ℕ, ◌-◌, ◌==◌, not, if◌then◌else◌, 
 use Rattle.std.specs.List.{list_all, take_while}
 use Rattle.std.specs.Char.{is_ascii_digit}
 use Rattle.std.specs.Str.Parse.{digits_value}
-use Rattle.exif_text.specs.declared.datetime.DateTime.{DateTime}
-use Rattle.exif_text.specs.declared.datetime.DateFault.{DateFault}
-use Rattle.exif_text.specs.declared.datetime.DateFault.TheVariants.{NotANumber}
+use Rattle.exif_text.specs.declared.date_fault.DateFault.{DateFault}
+use Rattle.exif_text.specs.declared.date_fault.DateFault.TheVariants.{NotANumber}
 
 -- the bytes that count: up to nine, before the first space
 abbrev pub subsec_bytes : List ℕ → List ℕ
@@ -24,8 +23,3 @@ nanoseconds_of (d ∷ ds) = Some (nanoseconds (d ∷ ds))
 unfoldable pub parse_subsec : List ℕ → Result (Option ℕ) DateFault
 parse_subsec bytes =
     if list_all is_ascii_digit (subsec_bytes bytes) then Ok (nanoseconds_of (subsec_bytes bytes)) else Err NotANumber
-
--- the date with the nanoseconds that were read, or as it was
-abbrev pub with_subsec : DateTime → Result (Option ℕ) DateFault → DateTime
-with_subsec d (Ok nanosecond) = record d { nanosecond = nanosecond }
-with_subsec d (Err e) = d

@@ -4,39 +4,45 @@ ghost use Rattle.std.specs.Prelude.{◌≡◌};
 ghost use Rattle.std.specs.Fmt.{WritesOnOk, decimal};
 ghost use Rattle.exif_text.specs.Plain.{zero_filled};
 ghost use Rattle.exif_text.specs.Clock.{date_text, time_text};
+ghost use Rattle.exif_text.specs.Dates.{datetime_text};
 
+use crate::date::{Date, TimeOfDay};
 use std::fmt;
 
-/// Writes `2016-05-04`.
-pub(crate) fn write_date<W: fmt::Write>(
+/// Writes `2016-05-04 03:02:01`.
+#[tactic(auto, unfolding(crate::specs::Dates::datetime_text))]
+pub fn write_date_time<W: fmt::Write>(
     f: &mut fmt::Formatter<W>,
-    year: u16,
-    month: u8,
-    day: u8,
+    date: Date,
+    time: TimeOfDay,
 ) -> fmt::Result
-    ensures { WritesOnOk W.write_str_gives f.old result (date_text year month day) f.new }
+    ensures { WritesOnOk W.write_str_gives f.old result (datetime_text date time) f.new }
 {
-    write_four(f, year)?;
+    write_date(f, date)?;
+    f.write_str(" ")?;
+    write_time(f, time)
+}
+
+/// Writes `2016-05-04`.
+pub(crate) fn write_date<W: fmt::Write>(f: &mut fmt::Formatter<W>, date: Date) -> fmt::Result
+    ensures { WritesOnOk W.write_str_gives f.old result (date_text date) f.new }
+{
+    write_four(f, date.year)?;
     f.write_str("-")?;
-    write_two(f, month)?;
+    write_two(f, date.month)?;
     f.write_str("-")?;
-    write_two(f, day)
+    write_two(f, date.day)
 }
 
 /// Writes `03:02:01`.
-pub(crate) fn write_time<W: fmt::Write>(
-    f: &mut fmt::Formatter<W>,
-    hour: u8,
-    minute: u8,
-    second: u8,
-) -> fmt::Result
-    ensures { WritesOnOk W.write_str_gives f.old result (time_text hour minute second) f.new }
+fn write_time<W: fmt::Write>(f: &mut fmt::Formatter<W>, time: TimeOfDay) -> fmt::Result
+    ensures { WritesOnOk W.write_str_gives f.old result (time_text time) f.new }
 {
-    write_two(f, hour)?;
+    write_two(f, time.hour)?;
     f.write_str(":")?;
-    write_two(f, minute)?;
+    write_two(f, time.minute)?;
     f.write_str(":")?;
-    write_two(f, second)
+    write_two(f, time.second)
 }
 
 /// Writes a number with zeros before it up to two places.

@@ -1,22 +1,64 @@
-//! The places of a date.
+//! Dates with their time of day, as their digits stand (Exif 2.32, section 4.6.4, DateTime).
 
 ghost use Rattle.std.specs.Prelude.{◌≡◌, ◌+◌, ◌<◌, ◌≤◌, length, Ok, Err, if◌then◌else◌};
-ghost use Rattle.exif_text.specs.declared.datetime.DateFault.TheVariants.{NotANumber};
-ghost use Rattle.exif_text.specs.Dates.{date_at, has_delimiters, has_digits, is_blank};
+ghost use Rattle.exif_text.specs.declared.date_fault.DateFault.TheVariants.{NotANumber};
+ghost use Rattle.exif_text.specs.Dates.{has_delimiters, is_blank, parse_datetime, read_date, read_time};
 ghost use Rattle.exif_text.specs.Digits.{are_two_at, two_at};
 
-use crate::datetime::{DateFault, DateTime};
+use crate::date_fault::DateFault;
 use crate::digits::two_digits;
 
+/// A day of the calendar, as its digits are.
+#[derive(Clone, Copy)]
+pub struct Date {
+    /// The year.
+    pub year: u16,
+    /// The month, 1 for January.
+    pub month: u8,
+    /// The day of the month.
+    pub day: u8,
+}
+
+/// A time of day, as its digits are.
+#[derive(Clone, Copy)]
+pub struct TimeOfDay {
+    /// The hour of the day.
+    pub hour: u8,
+    /// The minute of the hour.
+    pub minute: u8,
+    /// The second of the minute.
+    pub second: u8,
+}
+
+/// The date and the time of day that `2016:05:04 03:02:01` spells. Ranges are not checked, and more
+/// bytes are ignored.
+#[tactic(auto, unfolding(crate::specs::Dates::parse_datetime))]
+pub fn read_date_time(bytes: &[u8]) -> Result<(Date, TimeOfDay), DateFault>
+    ensures { result ≡ parse_datetime bytes.now }
+{
+    if is_blank(bytes) {
+        return Err(DateFault::BlankDate);
+    }
+    if bytes.len() < 19 {
+        return Err(DateFault::DateTooShort);
+    }
+    if !has_delimiters(bytes) {
+        return Err(DateFault::InvalidDateDelimiter);
+    }
+    let date = read_date(bytes)?;
+    let time = read_time(bytes)?;
+    Ok((date, time))
+}
+
 /// Whether the bytes are 19 spaces, of which colons may stand at the places of colons.
-pub(crate) fn is_blank(bytes: &[u8]) -> bool
+fn is_blank(bytes: &[u8]) -> bool
     ensures { result ≡ is_blank bytes.now }
 {
     bytes == b"    :  :     :  :  ".as_slice() || bytes == b"                   ".as_slice()
 }
 
 /// Whether colons and a space stand at their places.
-pub(crate) fn has_delimiters(bytes: &[u8]) -> bool
+fn has_delimiters(bytes: &[u8]) -> bool
     requires { 19 ≤ length bytes.now }
     ensures { result ≡ has_delimiters bytes.now }
 {
@@ -40,20 +82,27 @@ pub(crate) fn part(bytes: &[u8], from: usize) -> Result<u8, DateFault>
 }
 
 /// The date that the digits of the fixed places spell.
-pub(crate) fn read_date(bytes: &[u8]) -> Result<DateTime, DateFault>
-    requires { 19 ≤ length bytes.now }
-    ensures { result ≡ (if has_digits bytes.now then Ok (date_at bytes.now) else Err NotANumber) }
+pub(crate) fn read_date(bytes: &[u8]) -> Result<Date, DateFault>
+    requires { 10 ≤ length bytes.now }
+    ensures { result ≡ read_date bytes.now }
 {
     let century = part(bytes, 0)?;
     let year = part(bytes, 2)?;
-    Ok(DateTime {
+    Ok(Date {
         year: u16::from(century) * 100 + u16::from(year),
         month: part(bytes, 5)?,
         day: part(bytes, 8)?,
+    })
+}
+
+/// The time of day that the digits of the fixed places spell.
+fn read_time(bytes: &[u8]) -> Result<TimeOfDay, DateFault>
+    requires { 19 ≤ length bytes.now }
+    ensures { result ≡ read_time bytes.now }
+{
+    Ok(TimeOfDay {
         hour: part(bytes, 11)?,
         minute: part(bytes, 14)?,
         second: part(bytes, 17)?,
-        nanosecond: None,
-        offset: None,
     })
 }

@@ -3,7 +3,7 @@
 ghost use Rattle.std.specs.Prelude.{◌≡◌, ◌+◌, ◌<◌, ◌≤◌, length, None, Some, if◌then◌else◌};
 ghost use Rattle.exif_text.specs.Digits.{are_two_at, digit_in, number_in, two_at};
 
-use crate::datetime::DateFault;
+use crate::date_fault::DateFault;
 
 /// The number that a digit is.
 pub(crate) fn ctou32(byte: u8) -> Result<u32, DateFault>

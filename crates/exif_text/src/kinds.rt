@@ -5,8 +5,10 @@ ghost use Rattle.std.specs.Fmt.{WritesOnOk};
 ghost use Rattle.exif_text.specs.Contents.{contents_view};
 ghost use Rattle.exif_text.specs.Kinds.{date_value_text, value_text};
 
+use crate::clock::write_date_time;
 use crate::contents::Contents;
-use crate::datetime::{DateFault, DateTime};
+use crate::date::read_date_time;
+use crate::date_fault::DateFault;
 use crate::fixed::write_fixed;
 use crate::flash::write_flash;
 use crate::fractions::{
@@ -19,7 +21,6 @@ use crate::plain::write_plain;
 use crate::versions::{write_exif_version, write_gps_version, write_interop_version};
 use exif_table::{TextKind, fixed_texts};
 use std::fmt;
-use std::fmt::Display;
 
 /// A value that prints as the kind of its tag says.
 #[derive(Clone, Copy)]
@@ -81,8 +82,8 @@ fn write_date_value<W: fmt::Write>(f: &mut fmt::Formatter<W>, contents: Contents
     let Some(text) = contents.first_text() else {
         return write_plain(f, contents);
     };
-    match DateTime::from_ascii(text) {
-        Ok(date) => date.fmt(f),
+    match read_date_time(text) {
+        Ok((date, time)) => write_date_time(f, date, time),
         Err(DateFault::BlankDate) => f.write_str("unknown"),
         Err(_) => write_plain(f, contents),
     }

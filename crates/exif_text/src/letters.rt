@@ -8,7 +8,7 @@ ghost use Rattle.exif_text.specs.Letters.{capital_text, component, components_te
 
 use crate::clock::write_date;
 use crate::contents::Contents;
-use crate::digits::two_digits;
+use crate::date::{Date, read_date};
 use crate::plain::write_plain;
 use crate::quoted::Quoted;
 use std::fmt;
@@ -105,23 +105,19 @@ pub(crate) fn write_date_stamp<W: fmt::Write>(
         return write_plain(f, contents);
     };
     match date_in(text) {
-        Some((year, month, day)) => write_date(f, year, month, day),
+        Some(date) => write_date(f, date),
         None => write_plain(f, contents),
     }
 }
 
-/// The year, the month and the day of `2016:05:04`. More bytes are ignored.
-fn date_in(text: &[u8]) -> Option<(u16, u8, u8)>
+/// The date that `2016:05:04` spells. More bytes are ignored.
+fn date_in(text: &[u8]) -> Option<Date>
     ensures { result ≡ date_in text.now }
 {
     if text.len() < 10 || text[4] != b':' || text[7] != b':' {
         return None;
     }
-    let century = two_digits(text, 0)?;
-    let year = two_digits(text, 2)?;
-    let month = two_digits(text, 5)?;
-    let day = two_digits(text, 8)?;
-    Some((u16::from(century) * 100 + u16::from(year), month, day))
+    read_date(text).ok()
 }
 
 /// Writes bytes of any meaning in quotes.

@@ -1,10 +1,10 @@
 //! The printed texts of values, written from borrowed contents without memory.
 #![tactic(auto)]
 
-mod clock;
+pub mod clock;
 pub mod contents;
-mod date;
-pub mod datetime;
+pub mod date;
+mod date_fault;
 pub mod decimal;
 mod digits;
 mod fixed;
@@ -23,7 +23,7 @@ pub mod subsec;
 mod versions;
 
 pub use contents::Contents;
-pub use datetime::{DateFault, DateTime};
+pub use date_fault::DateFault;
 pub use decimal::Decimal;
 pub use kinds::{ValueText, write_value};
 pub use plain::PlainText;

@@ -4,7 +4,7 @@ ghost use Rattle.std.specs.Prelude.{◌≡◌, ◌<◌, Ok, Err};
 ghost use Rattle.exif_text.specs.Dates.{is_blank_offset, parse_offset, signed_minutes};
 
 use crate::date::part;
-use crate::datetime::DateFault;
+use crate::date_fault::DateFault;
 
 /// Whether the bytes are 6 spaces, of which the fourth may be a colon.
 fn is_blank_offset(bytes: &[u8]) -> bool

@@ -5,7 +5,7 @@ ghost use Rattle.std.specs.List.{list_all, prefix_len};
 ghost use Rattle.std.specs.Char.{is_ascii_digit};
 ghost use Rattle.exif_text.specs.Subsec.{nanoseconds, parse_subsec, subsec_bytes};
 
-use crate::datetime::DateFault;
+use crate::date_fault::DateFault;
 
 /// The nanoseconds that up to nine digits before a space spell as a fraction of a second, or `None`
 /// where there are none. More bytes are ignored.

@@ -1,7 +1,6 @@
 //! Printed texts with values from outside, and what no clause says: debug texts, and that a text
 //! fails where its formatter does.
 
-mod dates;
 mod fixed;
 mod kinds;
 mod plain;

@@ -1,8 +1,9 @@
 -- Dates with their time of day (Exif 2.32, section 4.6.4, DateTime, and section 4.6.5).
-use Rattle.std.specs.Prelude.{ℕ, List, codes, Option, Some, Result, Ok, Err, ℤ}
-use Rattle.exif_text.specs.declared.datetime.DateTime as text
-use Rattle.exif_text.specs.declared.datetime.DateFault.{DateFault}
-use Rattle.exif_text.specs.declared.datetime.DateFault.TheVariants.{BlankDate, BlankOffset}
+use Rattle.std.specs.Prelude.{ℕ, List, Option, None, Some, Result, Ok, Err, ℤ}
+use Rattle.exif_text.specs.declared.date.Date.{Date}
+use Rattle.exif_text.specs.declared.date.TimeOfDay.{TimeOfDay}
+use Rattle.exif_text.specs.declared.date_fault.DateFault.{DateFault}
+use Rattle.exif_text.specs.declared.date_fault.DateFault.TheVariants.{BlankDate, BlankOffset}
 use Rattle.exif_text.specs.Dates.{datetime_text, parse_datetime, parse_offset}
 use Rattle.exif_text.specs.Faults.{message_of}
 use Rattle.exif_text.specs.Subsec.{parse_subsec}
@@ -11,8 +12,8 @@ use Rattle.exif_types.specs.declared.datetime.DateTime.{DateTime}
 
 -- the refusal that a fault is: blank where there are only spaces, and colons at their places
 abbrev pub refusal_for : DateFault → Refusal
-refusal_for BlankDate = blank_value (codes "DateTime is blank")
-refusal_for BlankOffset = blank_value (codes "OffsetTime is blank")
+refusal_for BlankDate = blank_value (message_of BlankDate)
+refusal_for BlankOffset = blank_value (message_of BlankOffset)
 refusal_for fault = invalid_format (message_of fault)
 
 -- what was read, or the refusal
@@ -20,31 +21,25 @@ abbrev pub or_refusal : {A B : Type 0} → (A → B) → Result A DateFault → 
 or_refusal f (Ok x) = Ok (f x)
 or_refusal f (Err fault) = Err (refusal_for fault)
 
--- a date as it was read
-abbrev pub date_of : text.DateTime → DateTime
-date_of d = record {
-  year = d.year;
-  month = d.month;
-  day = d.day;
-  hour = d.hour;
-  minute = d.minute;
-  second = d.second;
-  nanosecond = d.nanosecond;
-  offset = d.offset;
+-- a date and a time of day, of which no more is known
+abbrev pub date_of : Date × TimeOfDay → DateTime
+date_of (date, time) = record {
+  year = date.year;
+  month = date.month;
+  day = date.day;
+  hour = time.hour;
+  minute = time.minute;
+  second = time.second;
+  nanosecond = None;
+  offset = None;
 }
 
--- a date as it is shown
-abbrev pub shown_date : DateTime → text.DateTime
-shown_date d = record {
-  year = d.year;
-  month = d.month;
-  day = d.day;
-  hour = d.hour;
-  minute = d.minute;
-  second = d.second;
-  nanosecond = d.nanosecond;
-  offset = d.offset;
-}
+-- the date alone, and the time of day
+abbrev pub calendar_date : DateTime → Date
+calendar_date d = record { year = d.year; month = d.month; day = d.day }
+
+abbrev pub time_of_day : DateTime → TimeOfDay
+time_of_day d = record { hour = d.hour; minute = d.minute; second = d.second }
 
 -- the date of `2016:05:04 03:02:01`, or the refusal
 abbrev pub read_date : List ℕ → Result DateTime Refusal
@@ -75,4 +70,4 @@ with_offset d (Err r) = d
 
 -- `2016-05-04 03:02:01`
 abbrev pub date_text : DateTime → List ℕ
-date_text d = datetime_text (shown_date d)
+date_text d = datetime_text (calendar_date d) (time_of_day d)

@@ -1,13 +1,15 @@
 //! Dates with their time of day (Exif 2.32, section 4.6.4, DateTime, and section 4.6.5).
 
 ghost use Rattle.std.specs.Prelude.{◌≡◌, Some};
-ghost use Rattle.exif_types.specs.Dates.{date_of, refusal_for, shown_date};
+ghost use Rattle.exif_types.specs.Dates.{calendar_date, date_of, refusal_for, time_of_day};
 ghost use Rattle.exif_types.specs.Refusals.{refusal_of};
 
 use crate::Error;
+use exif_text::DateFault;
+use exif_text::clock::write_date_time;
+use exif_text::date::{Date, TimeOfDay, read_date_time};
 use exif_text::offset::read_offset;
 use exif_text::subsec::read_subsec;
-use exif_text::{DateFault, datetime};
 use std::fmt;
 
 /// A date and a time of day. It is shown as `2016-05-04 03:02:01`, without fraction and offset, and
@@ -42,9 +44,47 @@ impl DateTime {
     pub fn from_ascii(bytes: &[u8]) -> Result<DateTime, Error>
         ensures { Answers (λ date. date) result (read_date bytes.now) }
     {
-        match datetime::DateTime::from_ascii(bytes) {
-            Ok(date) => Ok(own_date(date)),
+        match read_date_time(bytes) {
+            Ok((date, time)) => Ok(DateTime::of(date, time)),
             Err(fault) => Err(refused(fault)),
+        }
+    }
+
+    // A date and a time of day, of which no more is known.
+    fn of(date: Date, time: TimeOfDay) -> DateTime
+        ensures { result ≡ date_of (date, time) }
+    {
+        DateTime {
+            year: date.year,
+            month: date.month,
+            day: date.day,
+            hour: time.hour,
+            minute: time.minute,
+            second: time.second,
+            nanosecond: None,
+            offset: None,
+        }
+    }
+
+    // The date alone.
+    fn date(self) -> Date
+        ensures { result ≡ calendar_date self }
+    {
+        Date {
+            year: self.year,
+            month: self.month,
+            day: self.day,
+        }
+    }
+
+    // The time of day.
+    fn time(self) -> TimeOfDay
+        ensures { result ≡ time_of_day self }
+    {
+        TimeOfDay {
+            hour: self.hour,
+            minute: self.minute,
+            second: self.second,
         }
     }
 
@@ -87,7 +127,7 @@ impl fmt::Display for DateTime {
     ghost output = { λ date. Some (date_text date) };
 
     fn fmt<W: fmt::Write>(&self, f: &mut fmt::Formatter<W>) -> fmt::Result {
-        write!(f, "{}", shown_date(*self))
+        write_date_time(f, self.date(), self.time())
     }
 }
 
@@ -98,37 +138,5 @@ fn refused(fault: DateFault) -> Error
     match fault {
         DateFault::BlankDate | DateFault::BlankOffset => Error::BlankValue(fault.message()),
         _ => Error::InvalidFormat(fault.message()),
-    }
-}
-
-// A date as it was read.
-fn own_date(date: datetime::DateTime) -> DateTime
-    ensures { result ≡ date_of date }
-{
-    DateTime {
-        year: date.year,
-        month: date.month,
-        day: date.day,
-        hour: date.hour,
-        minute: date.minute,
-        second: date.second,
-        nanosecond: date.nanosecond,
-        offset: date.offset,
-    }
-}
-
-// A date as it is shown.
-fn shown_date(date: DateTime) -> datetime::DateTime
-    ensures { result ≡ shown_date date }
-{
-    datetime::DateTime {
-        year: date.year,
-        month: date.month,
-        day: date.day,
-        hour: date.hour,
-        minute: date.minute,
-        second: date.second,
-        nanosecond: date.nanosecond,
-        offset: date.offset,
     }
 }

@@ -25,10 +25,18 @@ fn a_date_is_read_and_shown(rt: HostRuntime) -> Result<(), Fail> {
         format!(in alloc; "{date}|{date:30}|")?.as_str(),
         "2016-05-04 03:02:01|2016-05-04 03:02:01|"
     );
-    date.parse_subsec(b"9876543219")?;
-    assert_eq!(rt; date.nanosecond, Some(987654321));
-    date.parse_subsec(b"000987")?;
-    assert_eq!(rt; date.nanosecond, Some(987000));
+    for (text, nanosecond) in [
+        ("9876543219", Some(987654321)),
+        ("", None),
+        ("5 x", Some(500000000)),
+        ("999999999x", Some(999999999)),
+        ("000987", Some(987000)),
+    ] {
+        date.parse_subsec(text.as_bytes())?;
+        assert_eq!(rt; date.nanosecond, nanosecond);
+    }
+    date.parse_offset(b"+09:30 more")?;
+    assert_eq!(rt; date.offset, Some(570));
     date.parse_offset(b"-99:99")?;
     assert_eq!(rt; date.offset, Some(-6039));
     assert_refused(&rt, date.parse_offset(b"+01:2x"), false, "Not a number");
@@ -48,7 +56,9 @@ fn refusals_of_dates(rt: HostRuntime) -> Result<(), Fail> {
     for (text, blank, message) in [
         ("                   ", true, "DateTime is blank"),
         ("    :  :     :  :  ", true, "DateTime is blank"),
+        ("                    ", false, "Invalid DateTime delimiter"),
         ("2016:05:04 03:02:0", false, "DateTime too short"),
+        ("2016-05:04 03:02:01", false, "Invalid DateTime delimiter"),
         ("2016:05:04T03:02:01", false, "Invalid DateTime delimiter"),
         ("2016:05:04 03:02:0x", false, "Not a number"),
     ] {
@@ -64,6 +74,7 @@ fn refusals_of_dates(rt: HostRuntime) -> Result<(), Fail> {
         ("   :  ", true, "OffsetTime is blank"),
         ("+01:0", false, "OffsetTime too short"),
         ("+01-00", false, "Invalid OffsetTime delimiter"),
+        ("+x1:00", false, "Not a number"),
         ("?01:00", false, "Invalid OffsetTime sign"),
     ] {
         assert_refused(&rt, date.parse_offset(text.as_bytes()), blank, message);
