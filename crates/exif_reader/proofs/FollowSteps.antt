@@ -4,8 +4,8 @@ use Rattle.std.specs.List.{flat_map}
 use Rattle.std.proofs.lemmas.Bool.Decides.{nat_tests}
 use Rattle.exif_base.specs.Bytes.{spaced, Reading}
 use Rattle.exif_tiff.specs.Trace.{Node, Met, Directory, chain_nodes, chain_after, directory_nodes, pointer_nodes, child_end, directory_end}
-use Rattle.exif_types.specs.declared.tag.Context.{Context}
-use Rattle.exif_types.specs.declared.tag.Context.TheVariants.{Tiff}
+use Rattle.exif_table.specs.declared.context.Context.{Context}
+use Rattle.exif_table.specs.declared.context.Context.TheVariants.{Tiff}
 use Rattle.exif_tiff.specs.declared.fault.Fault.TheVariants.{UnexpectedNext}
 use Rattle.exif_reader.specs.Running.{Progress, on_met, run}
 use Rattle.exif_reader.specs.Stops.{Follows}

@@ -5,8 +5,8 @@ use Rattle.exif_base.specs.Bytes.{spaced, Reading}
 use Rattle.exif_tiff.specs.Trace.{Node, depth_of, directory_nodes, entry_nodes, entry_places}
 use Rattle.exif_reader.specs.Running.{Progress, and_then, on_node, run}
 use Rattle.exif_tiff.specs.declared.fault.Fault.{Fault}
-use Rattle.exif_types.specs.declared.tag.Context.{Context}
-use Rattle.exif_types.specs.declared.tag.Context.TheVariants.{Tiff, Exif, Gps, Interop}
+use Rattle.exif_table.specs.declared.context.Context.{Context}
+use Rattle.exif_table.specs.declared.context.Context.TheVariants.{Tiff, Exif, Gps, Interop}
 
 -- going on is one after the other
 and_then_more : (x : Progress × Option Fault) (f g : Progress → Progress × Option Fault) → and_then (and_then x f) g ≡ and_then x (λ p. and_then (f p) g)

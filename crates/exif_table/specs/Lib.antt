@@ -1,3 +1,4 @@
+pub mod Contexts
 pub mod Fixed
 pub mod Rising
 pub mod Rows

@@ -1,16 +1,19 @@
 //! The tags of Exif 2.32 and the fixed texts of their values.
 #![tactic(auto)]
 
+pub mod context;
 pub mod fixed;
 pub mod kind;
+pub mod laws;
 pub mod lookup;
 pub mod row;
 pub mod rows;
 
+pub use context::Context;
 pub use fixed::{Choice, FixedTexts, fixed_texts};
 pub use kind::TextKind;
 pub use lookup::find_row;
-pub use row::{Context, DefaultValue, Row, UnitPiece};
+pub use row::{DefaultValue, Row, UnitPiece};
 
 #[cfg(test)]
 mod tests;

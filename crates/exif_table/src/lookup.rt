@@ -5,7 +5,8 @@ ghost use Rattle.std.specs.Option.{option_map};
 ghost use Rattle.exif_table.specs.Rows.{row_of};
 ghost use Rattle.exif_table.specs.View.{row_view};
 
-use crate::row::{Context, Row};
+use crate::context::Context;
+use crate::row::Row;
 use crate::rows::rows;
 
 /// The row of the tag with this number in its context, or `None` where the table has none.

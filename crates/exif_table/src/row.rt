@@ -1,19 +1,7 @@
 //! What a row of the tag table holds.
 
+use crate::context::Context;
 use crate::kind::TextKind;
-
-/// The kind of directory in which a tag's number counts.
-#[derive(Clone, Copy, Debug, PartialEq, Eq, PartialOrd, Ord, Hash)]
-pub enum Context {
-    /// Directories of the chain (TIFF 6.0).
-    Tiff,
-    /// The directory that the Exif pointer names.
-    Exif,
-    /// The directory that the GPS pointer names.
-    Gps,
-    /// The directory that the interoperability pointer names.
-    Interop,
-}
 
 /// A piece of the text of a value with its unit.
 #[derive(Clone, Copy)]

@@ -32,7 +32,8 @@ mod gps;
 mod interop;
 mod tiff;
 
-use crate::row::{Context, Row};
+use crate::context::Context;
+use crate::row::Row;
 
 /// The rows of a context, numbers ascending.
 pub fn rows(context: Context) -> &'static [Row]

@@ -7,8 +7,8 @@ use Rattle.exif_base.specs.Orders.{number_of}
 use Rattle.exif_base.specs.declared.endian.Order.{Order}
 use Rattle.exif_types.specs.Numbers.{number_in}
 use Rattle.exif_types.specs.declared.value.Value.{Value}
-use Rattle.exif_types.specs.declared.tag.Context.{Context}
-use Rattle.exif_types.specs.declared.tag.Context.TheVariants.{Tiff}
+use Rattle.exif_table.specs.declared.context.Context.{Context}
+use Rattle.exif_table.specs.declared.context.Context.TheVariants.{Tiff}
 use Rattle.exif_tiff.specs.declared.fault.Fault.{Fault}
 use Rattle.exif_tiff.specs.declared.fault.Fault.TheVariants.{UnexpectedNext, TooManyDirectories}
 use Rattle.exif_tiff.specs.Trace.{Node, Visit, Found, Met, Directory, visits_of, fields_of, faults_of, cut, trace, ordered_trace, header, chain_nodes, chain_after, directory_nodes, directory_end, entry_nodes, entry_places, entry_value, valued_nodes, tagged_nodes, pointer_nodes, child_end, child_of}

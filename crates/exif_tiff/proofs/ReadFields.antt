@@ -16,8 +16,8 @@ use Rattle.exif_types.specs.declared.field_type.FieldType.{FieldType}
 use Rattle.exif_types.specs.declared.field_type.FieldType.TheVariants as field_type
 use Rattle.exif_tiff.specs.declared.fault.Fault.{Fault}
 use Rattle.exif_tiff.specs.declared.fault.Fault.TheVariants.{UnexpectedNext, TooManyDirectories}
-use Rattle.exif_types.specs.declared.tag.Context.{Context}
-use Rattle.exif_types.specs.declared.tag.Context.TheVariants.{Tiff}
+use Rattle.exif_table.specs.declared.context.Context.{Context}
+use Rattle.exif_table.specs.declared.context.Context.TheVariants.{Tiff}
 use Rattle.exif_tiff.specs.Trace.{Node, Visit, Found, Met, Directory, fields_of, cut, limited, ordered_trace, chain_nodes, chain_after, directory_nodes, directory_end, entry_nodes, entry_places, entry_value, valued_nodes, tagged_nodes, pointer_nodes, child_end, child_of}
 use Rattle.exif_tiff.proofs.ReportBound.{fields-append}
 

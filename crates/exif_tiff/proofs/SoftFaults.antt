@@ -8,8 +8,8 @@ use Rattle.exif_base.specs.Orders.{number_of}
 use Rattle.exif_base.specs.declared.endian.Order.{Order}
 use Rattle.exif_types.specs.Numbers.{number_in}
 use Rattle.exif_types.specs.declared.value.Value.{Value}
-use Rattle.exif_types.specs.declared.tag.Context.{Context}
-use Rattle.exif_types.specs.declared.tag.Context.TheVariants.{Tiff}
+use Rattle.exif_table.specs.declared.context.Context.{Context}
+use Rattle.exif_table.specs.declared.context.Context.TheVariants.{Tiff}
 use Rattle.exif_types.specs.declared.field.Field.{Field}
 use Rattle.exif_tiff.specs.declared.fault.Fault.{Fault}
 use Rattle.exif_tiff.specs.declared.fault.Fault.TheVariants.{DataTooLarge, TruncatedHeader, InvalidByteOrder, InvalidFortyTwo, TruncatedCount, TruncatedDirectory, TruncatedNextOffset, TruncatedValue, InvalidPointer, UnexpectedNext, TooManyDirectories, TooManyEntries}

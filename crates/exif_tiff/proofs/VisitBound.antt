@@ -13,8 +13,8 @@ use Rattle.exif_tiff.specs.declared.fault.Fault.TheVariants.{UnexpectedNext, Too
 use Rattle.std.specs.Prelude.{if◌then◌else◌}
 use Rattle.exif_base.specs.declared.endian.Order.{Order}
 use Rattle.exif_base.specs.declared.endian.Order.TheVariants.{Big, Little}
-use Rattle.exif_types.specs.declared.tag.Context.{Context}
-use Rattle.exif_types.specs.declared.tag.Context.TheVariants.{Tiff}
+use Rattle.exif_table.specs.declared.context.Context.{Context}
+use Rattle.exif_table.specs.declared.context.Context.TheVariants.{Tiff}
 use Rattle.exif_tiff.specs.Trace.{Node, Visit, Found, Met, Directory, valued_nodes, visits_of, trace, ordered_trace, header, chain_nodes, chain_after, directory_nodes, directory_end, entry_nodes, entry_places, entry_value, whole_entries, tagged_nodes, pointer_nodes, child_end, child_of}
 use Rattle.exif_tiff.specs.Visits.{AreBytes, entries_at_most, visits_at_most, VisitsAreBounded}
 

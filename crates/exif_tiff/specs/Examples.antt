@@ -5,7 +5,7 @@ use Rattle.exif_types.specs.Lookup.{last_named}
 use Rattle.exif_tiff.specs.Trace.{Visit, Found, Met, trace, ordered_trace, header, fields_of, faults_of, visits_of, cut}
 use Rattle.exif_tiff.specs.Answers.{Refused, Whole, Partial, raw_answer}
 use Rattle.exif_types.specs.declared.value.Value.TheVariants as value
-use Rattle.exif_types.specs.declared.tag.Context.TheVariants.{Tiff, Exif}
+use Rattle.exif_table.specs.declared.context.Context.TheVariants.{Tiff, Exif}
 use Rattle.exif_types.specs.declared.field.Field.{Field}
 use Rattle.exif_tiff.specs.declared.fault.Fault.TheVariants.{TruncatedHeader, InvalidByteOrder, InvalidFortyTwo, TruncatedNextOffset, TruncatedDirectory, TruncatedValue, InvalidPointer, TooManyDirectories, UnexpectedNext, TruncatedCount, TooManyEntries}
 use Rattle.exif_base.specs.declared.endian.Order.TheVariants.{Big}

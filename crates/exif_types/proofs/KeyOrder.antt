@@ -5,14 +5,14 @@ use Rattle.std.specs.declared.cmp.Ordering.{Ordering}
 use Rattle.std.specs.declared.cmp.Ordering.TheVariants.{Less, Equal, Greater}
 use Rattle.std.specs.declared.cmp.Ord.Ghosts.{cmp}
 use Rattle.std.specs.Ordering.{is_eq, nat_cmp, ordering_then}
-use Rattle.exif_types.specs.declared.tag.Context.{Context}
-use Rattle.exif_types.specs.declared.tag.Context.TheVariants.{Tiff, Exif, Gps, Interop}
+use Rattle.exif_table.specs.declared.context.Context.{Context}
+use Rattle.exif_table.specs.declared.context.Context.TheVariants.{Tiff, Exif, Gps, Interop}
 use Rattle.exif_types.specs.declared.tag.Tag.{Tag}
 use Rattle.exif_types.specs.declared.ifd.In.{In}
 use Rattle.exif_types.specs.declared.field.Field.{Field}
 use Rattle.exif_types.specs.declared.index.FieldKey.{FieldKey}
 use Rattle.exif_types.specs.contracts.index.FieldKeyOrd.TheImpl as FieldKeyOrd
-use Rattle.exif_types.specs.contracts.tag.ContextOrd.TheImpl as ContextOrd
+use Rattle.exif_table.specs.contracts.context.ContextOrd.TheImpl as ContextOrd
 use Rattle.exif_types.specs.Lookup.{context_eq, is_named}
 
 -- what the derived comparisons compute

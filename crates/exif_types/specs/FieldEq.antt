@@ -4,8 +4,8 @@ use Rattle.std.specs.Bool.{Decides}
 use Rattle.std.specs.Cmp.{unsigned_Decides}
 use Rattle.std.proofs.Common.{ap, sym}
 use Rattle.std.proofs.lemmas.Bool.{false≢true}
-use Rattle.exif_types.specs.declared.tag.Context.{Context}
-use Rattle.exif_types.specs.declared.tag.Context.TheVariants.{Tiff, Exif, Gps, Interop}
+use Rattle.exif_table.specs.declared.context.Context.{Context}
+use Rattle.exif_table.specs.declared.context.Context.TheVariants.{Tiff, Exif, Gps, Interop}
 use Rattle.exif_types.specs.declared.tag.Tag.{Tag}
 use Rattle.exif_types.specs.declared.ifd.In.{In}
 use Rattle.exif_types.specs.declared.value.Value.{Value}
@@ -33,7 +33,8 @@ tag_Decides a b =
     (λ e. (ap (λ (t : Tag). t.0) e, ap (λ (t : Tag). t.1) e))
     (both (context_eq a.0 b.0) (a.1 == b.1) (context_Decides a.0 b.0) (unsigned_Decides a.1 b.1))
   where
-    same : (c d : Context) (n m : ℕ) → c ≡ d → n ≡ m → ◌≡◌ {A = Tag} (record { 0 = c; 1 = n }) (record { 0 = d; 1 = m })
+    same : (c d : Context) (n m : ℕ) → c ≡ d → n ≡ m → ◌≡◌ {A = Tag} (record { 0 = c; 1 = n })
+        (record { 0 = d; 1 = m })
     same c d n m p q = rw (p, q) refl
 
 pub ifd_Decides : (a b : In) → Decides (a.0 == b.0) (a ≡ b)
@@ -45,20 +46,27 @@ ifd_Decides a b =
     same n m p = rw p refl
 
 -- a field's tag and directory, as a test from the other side
-named_Decides : (a b : Field) → Decides (is_named a.tag a.ifd_num b) ((a.tag ≡ b.tag) × (a.ifd_num ≡ b.ifd_num))
+named_Decides : (a b : Field) → Decides (is_named a.tag a.ifd_num b) ((a.tag ≡ b.tag)
+    × (a.ifd_num ≡ b.ifd_num))
 named_Decides a b =
-    along {r = is_named a.tag a.ifd_num b} {P = (b.tag ≡ a.tag) × (b.ifd_num ≡ a.ifd_num)} {Q = (a.tag ≡ b.tag) × (a.ifd_num ≡ b.ifd_num)}
+    along {r = is_named a.tag a.ifd_num b} {P = (b.tag ≡ a.tag) × (b.ifd_num ≡ a.ifd_num)}
+        {Q = (a.tag ≡ b.tag) × (a.ifd_num ≡ b.ifd_num)}
     (λ h. (sym h.0, sym h.1)) (λ h. (sym h.0, sym h.1))
-    (both (tag_eq b.tag a.tag) (b.ifd_num.0 == a.ifd_num.0) (tag_Decides b.tag a.tag) (ifd_Decides b.ifd_num a.ifd_num))
+    (both (tag_eq b.tag a.tag) (b.ifd_num.0 == a.ifd_num.0) (tag_Decides b.tag a.tag)
+        (ifd_Decides b.ifd_num a.ifd_num))
 
 -- fields that the test tells equal are equal, and the other way round
 pub field_Decides : (a b : Field) → Decides (field_eq a b) (a ≡ b)
 field_Decides a b =
-    along {r = field_eq a b} {P = ((a.tag ≡ b.tag) × (a.ifd_num ≡ b.ifd_num)) × (a.value ≡ b.value)} {Q = a ≡ b}
+    along {r = field_eq a b} {P = ((a.tag ≡ b.tag) × (a.ifd_num ≡ b.ifd_num)) × (a.value ≡ b.value)}
+        {Q = a ≡ b}
     (λ h. same a.tag b.tag a.ifd_num b.ifd_num a.value b.value h.0.0 h.0.1 h.1)
-    (λ e. ((ap (λ (f : Field). f.tag) e, ap (λ (f : Field). f.ifd_num) e), ap (λ (f : Field). f.value) e))
-    (both (is_named a.tag a.ifd_num b) (value_eq a.value b.value) (named_Decides a b) (value_Decides a.value b.value))
+    (λ e. ((ap (λ (f : Field). f.tag) e, ap (λ (f : Field). f.ifd_num) e), ap
+        (λ (f : Field). f.value) e))
+    (both (is_named a.tag a.ifd_num b) (value_eq a.value b.value) (named_Decides a b)
+        (value_Decides a.value b.value))
   where
     same : (t u : Tag) (i j : In) (v w : Value) → t ≡ u → i ≡ j → v ≡ w
-        → ◌≡◌ {A = Field} (record { tag = t; ifd_num = i; value = v }) (record { tag = u; ifd_num = j; value = w })
+        → ◌≡◌ {A = Field} (record { tag = t; ifd_num = i; value = v })
+            (record { tag = u; ifd_num = j; value = w })
     same t u i j v w p q r = rw (p, q, r) refl

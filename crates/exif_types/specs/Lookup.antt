@@ -1,7 +1,7 @@
 -- Looking for a field by its tag and its directory.
 use Rattle.std.specs.Prelude.{◌≡◌, ◌==◌, ◌&&◌, Bool, true, false, List, ◌∷◌, ◌++◌, All, Option, find, reverse}
-use Rattle.exif_types.specs.declared.tag.Context.{Context}
-use Rattle.exif_types.specs.declared.tag.Context.TheVariants.{Tiff, Exif, Gps, Interop}
+use Rattle.exif_table.specs.declared.context.Context.{Context}
+use Rattle.exif_table.specs.declared.context.Context.TheVariants.{Tiff, Exif, Gps, Interop}
 use Rattle.exif_types.specs.declared.tag.Tag.{Tag}
 use Rattle.exif_types.specs.declared.field.Field.{Field}
 use Rattle.exif_types.specs.declared.ifd.In.{In}
@@ -37,4 +37,5 @@ NoneNamed tag ifd_num fields = All (λ field. ¬ (HasName tag ifd_num field)) fi
 -- the field has the tag and the directory, and none behind it has them
 abbrev pub IsLastNamed : Tag → In → List Field → Field → Type 0
 IsLastNamed tag ifd_num fields field =
-    (before : List Field) × (behind : List Field) × (fields ≡ before ++ field ∷ behind) × HasName tag ifd_num field × NoneNamed tag ifd_num behind
+    (before : List Field) × (behind : List Field) × (fields ≡ before ++ field ∷ behind)
+        × HasName tag ifd_num field × NoneNamed tag ifd_num behind

@@ -1,25 +1,14 @@
 -- The tag table by tags (Exif 2.32, section 4.6).
 use Rattle.std.specs.Prelude.{ℕ, List, [], Option, Some, None}
-use Rattle.exif_table.specs.declared.row.Context as table
-use Rattle.exif_table.specs.declared.row.Context.TheVariants as T
 use Rattle.exif_table.specs.declared.kind.TextKind.{TextKind}
 use Rattle.exif_table.specs.declared.kind.TextKind.TheVariants as K
 use Rattle.exif_table.specs.Table.{TagRow, Piece}
 use Rattle.exif_table.specs.Rows.{row_of}
-use Rattle.exif_types.specs.declared.tag.Context.{Context}
-use Rattle.exif_types.specs.declared.tag.Context.TheVariants.{Tiff, Exif, Gps, Interop}
 use Rattle.exif_types.specs.declared.tag.Tag.{Tag}
-
--- a context in the table
-abbrev pub table_context : Context → table.Context
-table_context Tiff = T.Tiff
-table_context Exif = T.Exif
-table_context Gps = T.Gps
-table_context Interop = T.Interop
 
 -- the row of a tag, if there is one
 unfoldable pub row_of_tag : Tag → Option TagRow
-row_of_tag tag = row_of (table_context tag.0) tag.1
+row_of_tag tag = row_of tag.0 tag.1
 
 abbrev pub description_in : Option TagRow → Option (List ℕ)
 description_in (Some row) = Some row.description

@@ -1,21 +1,15 @@
 -- How tags are shown.
 use Rattle.std.specs.Prelude.{ℕ, List, ◌++◌, codes, Option, Some, None}
 use Rattle.std.specs.Fmt.{decimal}
+use Rattle.exif_table.specs.Contexts.{context_name}
 use Rattle.exif_table.specs.Table.{TagRow}
-use Rattle.exif_types.specs.declared.tag.Context.{Context}
-use Rattle.exif_types.specs.declared.tag.Context.TheVariants.{Tiff, Exif, Gps, Interop}
 use Rattle.exif_types.specs.declared.tag.Tag.{Tag}
 use Rattle.exif_types.specs.TagRows.{row_of_tag}
 
-abbrev pub context_name : Context → List ℕ
-context_name Tiff = codes "Tiff"
-context_name Exif = codes "Exif"
-context_name Gps = codes "Gps"
-context_name Interop = codes "Interop"
-
 -- the context and the number of a tag: `Tag(Exif, 0)`
 abbrev pub numbered_text : Tag → List ℕ
-numbered_text tag = codes "Tag(" ++ (context_name tag.0 ++ (codes ", " ++ (decimal tag.1 ++ codes ")")))
+numbered_text tag = codes "Tag("
+    ++ (context_name tag.0 ++ (codes ", " ++ (decimal tag.1 ++ codes ")")))
 
 abbrev pub name_or : Option TagRow → List ℕ → List ℕ
 name_or (Some row) otherwise = row.name

@@ -2,12 +2,8 @@
 use Rattle.std.specs.Prelude.{ℕ, List, [], ◌∷◌, ◌++◌, codes, Option, Some, None}
 use Rattle.std.specs.List.{flat_map}
 use Rattle.std.specs.Option.{option_map}
-use Rattle.exif_table.specs.declared.row.Context as table
-use Rattle.exif_table.specs.declared.row.Context.TheVariants as C
 use Rattle.exif_table.specs.Table as T
 use Rattle.exif_table.specs.Table.{Piece}
-use Rattle.exif_types.specs.declared.tag.Context.{Context}
-use Rattle.exif_types.specs.declared.tag.Context.TheVariants.{Tiff, Exif, Gps, Interop}
 use Rattle.exif_types.specs.declared.tag.Tag.{Tag}
 use Rattle.exif_types.specs.declared.ifd.In.{In}
 use Rattle.exif_types.specs.declared.value.Value.{Value}
@@ -38,20 +34,15 @@ default_text tag = shown_or tag (default_of tag) (missing_text tag)
 
 -- the text of the field of a directory with a tag, else of the tag's default
 abbrev pub sibling_text : List Field → In → Tag → List ℕ
-sibling_text fields ifd_num tag = shown_or tag (option_map (λ f. f.value) (last_named fields tag ifd_num)) (default_text tag)
-
--- a context of the table
-abbrev pub context_of : table.Context → Context
-context_of C.Tiff = Tiff
-context_of C.Exif = Exif
-context_of C.Gps = Gps
-context_of C.Interop = Interop
+sibling_text fields ifd_num tag =
+    shown_or tag (option_map (λ f. f.value) (last_named fields tag ifd_num)) (default_text tag)
 
 -- the value's own text, a text, or the text of another tag in the directory
 abbrev pub piece_text : Field → List Field → Piece → List ℕ
 piece_text field fields T.Value = text_of field.tag field.value
 piece_text field fields (T.Text text) = text
-piece_text field fields (T.Sibling context number) = sibling_text fields field.ifd_num (record { 0 = context_of context; 1 = number })
+piece_text field fields (T.Sibling context number) =
+    sibling_text fields field.ifd_num (record { 0 = context; 1 = number })
 
 -- the pieces in their order; without pieces the value's text stands alone
 abbrev pub pieces_text : Field → List Field → List Piece → List ℕ

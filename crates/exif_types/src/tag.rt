@@ -1,6 +1,6 @@
 //! Tags: a number, and the kind of directory that it stands in (Exif 2.32, 4.6.3).
 
-ghost use Rattle.std.specs.Prelude.{◌≡◌, ◌≤◌, length, Some, IfOk, IfErr, map, unwrap_or};
+ghost use Rattle.std.specs.Prelude.{◌≡◌, Some, IfOk, IfErr, map, unwrap_or};
 ghost use Rattle.std.specs.Option.{option_map};
 ghost use Rattle.std.specs.Fmt.{spec_align, spec_width};
 ghost use Rattle.std.specs.declared.fmt.Alignment.TheVariants.{Left};
@@ -11,57 +11,16 @@ mod constants;
 
 use crate::{Error, Value};
 use arrayvec::ArrayString;
-use exif_table::{Row, TextKind, UnitPiece, find_row};
+use exif_table::{Context, Row, TextKind, UnitPiece, find_row};
 use exif_text::pad::write_padded;
 use itoa::Buffer;
 use std::alloc::Global;
 use std::fmt;
 
-/// The kind of directory that a tag belongs to.
-#[derive(Clone, Copy, Debug, PartialEq, Eq, PartialOrd, Ord, Hash)]
-pub enum Context {
-    /// A directory of the chain (TIFF 6.0).
-    Tiff,
-    /// The directory that the Exif pointer names.
-    Exif,
-    /// The directory that the GPS pointer names.
-    Gps,
-    /// The directory that the Interoperability pointer names.
-    Interop,
-}
-
 /// A tag: the context and the number. It is shown by its name, or as `Tag(Exif, 0)` where the
 /// standard names none.
 #[derive(Clone, Copy, Debug, PartialEq, Eq, PartialOrd, Ord, Hash)]
 pub struct Tag(pub Context, pub u16);
-
-impl Context {
-    ghost use Rattle.exif_types.specs.TagRows.{table_context};
-    ghost use Rattle.exif_types.specs.TagTexts.{context_name};
-
-    fn in_table(self) -> exif_table::Context
-        ensures { result ≡ table_context self }
-    {
-        match self {
-            Context::Tiff => exif_table::Context::Tiff,
-            Context::Exif => exif_table::Context::Exif,
-            Context::Gps => exif_table::Context::Gps,
-            Context::Interop => exif_table::Context::Interop,
-        }
-    }
-
-    fn name(self) -> &'static str
-        ensures name { result.now ≡ context_name self }
-        ensures short { length result.now ≤ 7 }
-    {
-        match self {
-            Context::Tiff => "Tiff",
-            Context::Exif => "Exif",
-            Context::Gps => "Gps",
-            Context::Interop => "Interop",
-        }
-    }
-}
 
 impl Tag {
     ghost use Rattle.exif_types.specs.TagRows.{description_of, kind_of, row_of_tag, unit_of};
@@ -129,7 +88,7 @@ impl Tag {
     pub(crate) fn row(self) -> Option<&'static Row>
         ensures { option_map (λ r. row_view r.now) result ≡ row_of_tag self }
     {
-        find_row(self.0.in_table(), self.1)
+        find_row(self.0, self.1)
     }
 
     // The context and the number; `Tag(Interop, 65535)` is the longest.

@@ -6,7 +6,7 @@ ghost use Rattle.std.specs.Option.{option_copied};
 ghost use Rattle.exif_table.specs.View.{default_view, piece_view};
 ghost use Rattle.exif_types.specs.Defaults.{default_as};
 ghost use Rattle.exif_types.specs.Lookup.{last_named};
-ghost use Rattle.exif_types.specs.Units.{context_of, default_text, missing_text, pieces_text, shown_or, sibling_text};
+ghost use Rattle.exif_types.specs.Units.{default_text, missing_text, pieces_text, shown_or, sibling_text};
 
 use crate::{Context, Exif, Field, In, Rational, Tag};
 use exif_table::{DefaultValue, UnitPiece};
@@ -109,23 +109,11 @@ fn write_pieces<'a, T: ProvideUnit<'a>, W: fmt::Write>(
             UnitPiece::Value => write!(f, "{}", field.display_value())?,
             UnitPiece::Str(text) => f.write_str(text)?,
             UnitPiece::Tag(context, number) => {
-                write_sibling(f, Tag(own_context(context), number), field.ifd_num, unit)?;
+                write_sibling(f, Tag(context, number), field.ifd_num, unit)?;
             }
         }
     }
     Ok(())
-}
-
-// A context of the tag table.
-fn own_context(context: exif_table::Context) -> Context
-    ensures { result ≡ context_of context }
-{
-    match context {
-        exif_table::Context::Tiff => Context::Tiff,
-        exif_table::Context::Exif => Context::Exif,
-        exif_table::Context::Gps => Context::Gps,
-        exif_table::Context::Interop => Context::Interop,
-    }
 }
 
 // Writes the value of another tag of a directory.

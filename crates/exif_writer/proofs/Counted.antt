@@ -5,7 +5,7 @@ use Rattle.std.proofs.lemmas.Bool.{ne_eqb}
 use Rattle.std.specs.List.{list_any}
 use denote.Ref.{Bor}
 use Rattle.exif_types.specs.declared.field.Field.{Field}
-use Rattle.exif_types.specs.declared.tag.Context.TheVariants.{Tiff, Exif, Gps, Interop}
+use Rattle.exif_table.specs.declared.context.Context.TheVariants.{Tiff, Exif, Gps, Interop}
 use Rattle.exif_writer.specs.declared.write_fault.WriteFault.TheVariants.{EmptyDirectory, TooManyFields, UnknownType}
 use Rattle.exif_writer.specs.Groups.{Group, pushed_in}
 use Rattle.exif_writer.specs.Counting.{entry_count, tiff_count}

@@ -3,8 +3,8 @@ use Rattle.std.proofs.Common.{◌≡◌, ℕ, zero, suc, ◌+◌, ◌-◌, ◌�
 use Rattle.std.proofs.lemmas.List.{append-nil, append_assoc, replicate_more, take_at, set-get_or}
 use Rattle.std.proofs.lemmas.List.Elements.{All-nil, All-cons, All-head, All-tail, All-append}
 use Rattle.std.specs.Prelude.{Bool, true, false, not, if◌then◌else◌, OnOk, OnErr, is_err}
-use Rattle.exif_types.specs.declared.tag.Context.{Context}
-use Rattle.exif_types.specs.declared.tag.Context.TheVariants.{Tiff, Exif, Gps, Interop}
+use Rattle.exif_table.specs.declared.context.Context.{Context}
+use Rattle.exif_table.specs.declared.context.Context.TheVariants.{Tiff, Exif, Gps, Interop}
 use Rattle.exif_writer.specs.Groups.{Group, Entry, empty_group, changed, pushed_in, with_entry, with_strips, with_tiles, with_jpeg}
 use Rattle.exif_writer.specs.Ranged.{IsEntry, AreRanged}
 use Rattle.exif_writer.specs.Views.{grown}

@@ -5,8 +5,8 @@ use Rattle.std.specs.List.{AllByRecursion}
 use Rattle.std.proofs.Math.Nat.{le_trans}
 use denote.Ref.{Bor}
 use Rattle.exif_base.specs.declared.endian.Order.{Order}
-use Rattle.exif_types.specs.declared.tag.Context.{Context}
-use Rattle.exif_types.specs.declared.tag.Context.TheVariants.{Tiff, Exif, Gps, Interop}
+use Rattle.exif_table.specs.declared.context.Context.{Context}
+use Rattle.exif_table.specs.declared.context.Context.TheVariants.{Tiff, Exif, Gps, Interop}
 use Rattle.exif_writer.specs.declared.block_kind.BlockKind.{BlockKind}
 use Rattle.exif_writer.specs.Groups.{Group, blocks_in, pushed_in}
 use Rattle.exif_writer.specs.Image.{image}

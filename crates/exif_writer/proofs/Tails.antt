@@ -15,8 +15,8 @@ use Rattle.exif_writer.proofs.Moved.{same_moved, lens_length}
 use Rattle.exif_writer.specs.Sending.{lens}
 use Rattle.exif_writer.specs.declared.block_kind.BlockKind.{BlockKind}
 use Rattle.exif_writer.specs.declared.block_kind.BlockKind.TheVariants.{Strips, Tiles, Jpeg}
-use Rattle.exif_types.specs.declared.tag.Context.{Context}
-use Rattle.exif_types.specs.declared.tag.Context.TheVariants.{Tiff, Exif, Gps, Interop}
+use Rattle.exif_table.specs.declared.context.Context.{Context}
+use Rattle.exif_table.specs.declared.context.Context.TheVariants.{Tiff, Exif, Gps, Interop}
 use Rattle.exif_writer.proofs.Images.Counting.{values_end_is}
 use Rattle.exif_writer.proofs.Measured.{tells_small}
 use Rattle.exif_writer.specs.Groups.{Group, Entry, pushed_in, entry_of, places_tag, lengths_tag, single}

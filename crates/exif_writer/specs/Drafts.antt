@@ -1,6 +1,6 @@
 -- The plans of drafts: where everything of a draft stands, its entries and its blocks.
 use Rattle.std.specs.Prelude.{ℕ, ◌≡◌, List, [], ◌∷◌, map}
-use Rattle.exif_types.specs.declared.tag.Context.TheVariants.{Tiff, Exif, Gps, Interop}
+use Rattle.exif_table.specs.declared.context.Context.TheVariants.{Tiff, Exif, Gps, Interop}
 use Rattle.exif_writer.specs.declared.block_kind.BlockKind.TheVariants.{Strips, Tiles, Jpeg}
 use Rattle.exif_writer.specs.Slots.{Draft}
 use Rattle.exif_writer.specs.Places.{tiff_place, exif_place, gps_place, interop_place, tiff_values, exif_values, gps_values, interop_values, strips_place, tiles_place, jpeg_place, draft_end, next_place}

@@ -3,7 +3,7 @@ use Rattle.std.specs.Prelude.{ℕ, ◌+◌, ◌-◌, nat_le, List, [], ◌∷◌
 use Rattle.std.specs.List.{flat_map}
 use Rattle.exif_base.specs.declared.endian.Order.{Order}
 use Rattle.exif_base.specs.declared.endian.Order.TheVariants.{Big, Little}
-use Rattle.exif_types.specs.declared.tag.Context.TheVariants.{Tiff, Exif, Gps, Interop}
+use Rattle.exif_table.specs.declared.context.Context.TheVariants.{Tiff, Exif, Gps, Interop}
 use Rattle.exif_writer.specs.declared.block_kind.BlockKind.TheVariants.{Strips, Tiles, Jpeg}
 use Rattle.exif_writer.specs.Groups.{Group}
 use Rattle.exif_writer.specs.Encoding.{spelled, encode, value_len}

@@ -3,7 +3,7 @@ use Rattle.std.specs.Prelude.{Some, None, negsuc, pos, ℕ, ◌≡◌, refl, Lis
 use Rattle.std.specs.List.{range_with_len}
 use Rattle.exif_base.specs.declared.endian.Order.TheVariants.{Big, Little}
 use Rattle.exif_types.specs.declared.value.Value.TheVariants.{Byte, Ascii, Short, Long, Rational, SByte, Undefined, SLong, Unknown}
-use Rattle.exif_types.specs.declared.tag.Context.TheVariants.{Tiff, Exif, Gps, Interop}
+use Rattle.exif_table.specs.declared.context.Context.TheVariants.{Tiff, Exif, Gps, Interop}
 use Rattle.exif_types.specs.declared.field.Field.{Field}
 use Rattle.exif_tiff.specs.declared.fault.Fault.TheVariants.{TooManyDirectories}
 use Rattle.exif_writer.specs.declared.write_fault.WriteFault.TheVariants.{NoDirectory, EmptyDirectory, TooManyFields, UnknownType}

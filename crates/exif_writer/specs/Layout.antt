@@ -4,8 +4,8 @@ use Rattle.std.specs.List.{All, AllZip, filter}
 use Rattle.exif_base.specs.Bytes.{bytes_at}
 use Rattle.exif_base.specs.declared.endian.Order.{Order}
 use Rattle.exif_types.specs.declared.value.Value.TheVariants.{Long}
-use Rattle.exif_types.specs.declared.tag.Context.{Context}
-use Rattle.exif_types.specs.declared.tag.Context.TheVariants.{Tiff, Exif, Gps, Interop}
+use Rattle.exif_table.specs.declared.context.Context.{Context}
+use Rattle.exif_table.specs.declared.context.Context.TheVariants.{Tiff, Exif, Gps, Interop}
 use Rattle.exif_types.specs.declared.field.Field.{Field}
 use Rattle.exif_writer.specs.declared.block_kind.BlockKind.{BlockKind}
 use Rattle.exif_writer.specs.Groups.{Group, empty_group, blocks_in, places_tag, lengths_tag}

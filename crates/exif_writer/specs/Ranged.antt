@@ -5,7 +5,7 @@ use Rattle.std.specs.Int.{w8, w16, w32}
 use Rattle.exif_types.specs.Sound.{HasPlainTexts}
 use Rattle.exif_types.specs.declared.value.Value.{Value}
 use Rattle.exif_types.specs.declared.value.Value.TheVariants.{Short, Long, Rational, SByte, SShort, SLong, SRational, Float, Double}
-use Rattle.exif_types.specs.declared.tag.Context.{Context}
+use Rattle.exif_table.specs.declared.context.Context.{Context}
 use Rattle.exif_writer.specs.Groups.{Group, Entry, is_ignored, pushed_in}
 use Rattle.exif_writer.specs.Refused.{write_fault}
 

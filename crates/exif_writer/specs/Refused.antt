@@ -3,8 +3,8 @@ use Rattle.std.specs.Prelude.{◌==◌, nat_lt, Bool, true, false, List, [], ◌
 use Rattle.std.specs.List.{list_any}
 use Rattle.exif_types.specs.declared.value.Value.{Value}
 use Rattle.exif_types.specs.declared.value.Value.TheVariants.{Unknown}
-use Rattle.exif_types.specs.declared.tag.Context.{Context}
-use Rattle.exif_types.specs.declared.tag.Context.TheVariants.{Tiff, Exif, Gps, Interop}
+use Rattle.exif_table.specs.declared.context.Context.{Context}
+use Rattle.exif_table.specs.declared.context.Context.TheVariants.{Tiff, Exif, Gps, Interop}
 use Rattle.exif_writer.specs.declared.write_fault.WriteFault.{WriteFault}
 use Rattle.exif_writer.specs.declared.write_fault.WriteFault.TheVariants.{NoDirectory, EmptyDirectory, TooManyFields, UnknownType, OffsetTooLarge}
 use Rattle.exif_writer.specs.Groups.{Group, Entry, pushed_in}

@@ -1,8 +1,8 @@
 -- The entries of directories in the order in which they are written, before any place is settled (TIFF 6.0, section 2, "Sort Order"; Exif 2.32, 4.6.3).
 use Rattle.std.specs.Prelude.{ℕ, ◌*◌, nat_le, List, [], ◌∷◌, ◌++◌, length, map, Option, Some, None, if◌then◌else◌}
 use Rattle.exif_types.specs.declared.value.Value.{Value}
-use Rattle.exif_types.specs.declared.tag.Context.{Context}
-use Rattle.exif_types.specs.declared.tag.Context.TheVariants.{Tiff, Exif, Gps, Interop}
+use Rattle.exif_table.specs.declared.context.Context.{Context}
+use Rattle.exif_table.specs.declared.context.Context.TheVariants.{Tiff, Exif, Gps, Interop}
 use Rattle.exif_writer.specs.declared.block_kind.BlockKind.{BlockKind}
 use Rattle.exif_writer.specs.declared.block_kind.BlockKind.TheVariants.{Strips, Tiles, Jpeg}
 use Rattle.exif_writer.specs.Groups.{Group, Entry, blocks_in, places_tag, lengths_tag}

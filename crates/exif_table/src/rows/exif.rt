@@ -1,7 +1,7 @@
 //! The tags of an Exif directory (Exif 2.32, section 4.6.5), numbers ascending.
 
+use crate::context::Context::Exif;
 use crate::kind::TextKind;
-use crate::row::Context::Exif;
 use crate::row::DefaultValue::{ContextDependent, Short, Undefined, Unspecified};
 use crate::row::UnitPiece::{Str, Tag, Value};
 use crate::row::{DefaultValue, Row};

@@ -1,7 +1,7 @@
 //! The tags of a GPS directory (Exif 2.32, section 4.6.6), numbers ascending.
 
+use crate::context::Context::Gps;
 use crate::kind::TextKind;
-use crate::row::Context::Gps;
 use crate::row::DefaultValue::{Ascii, Byte, ContextDependent};
 use crate::row::UnitPiece::{Str, Tag, Value};
 use crate::row::{DefaultValue, Row};

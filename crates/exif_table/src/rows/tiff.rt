@@ -1,7 +1,7 @@
 //! The tags of TIFF data (TIFF 6.0, and Exif 2.32, section 4.6.4), numbers ascending.
 
+use crate::context::Context::Tiff;
 use crate::kind::TextKind;
-use crate::row::Context::Tiff;
 use crate::row::DefaultValue::{ContextDependent, Rational, Short, Unspecified};
 use crate::row::UnitPiece::{Str, Tag, Value};
 use crate::row::{DefaultValue, Row};

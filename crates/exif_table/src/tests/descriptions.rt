@@ -3,8 +3,9 @@
 use super::lines::{
     EXIF_DESCRIPTIONS, GPS_DESCRIPTIONS, GPS_REFERENCES, INTEROP_DESCRIPTIONS, TIFF_DESCRIPTIONS,
 };
+use crate::Context;
 use crate::lookup::find_row;
-use crate::row::{Context, Row};
+use crate::row::Row;
 use crate::rows::rows;
 use std::alloc::{AllocError, Global};
 use std::process::Abort;

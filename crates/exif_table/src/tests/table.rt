@@ -2,8 +2,9 @@
 
 use super::lines::{EXIF, GPS, INTEROP, TIFF};
 use super::words::word_of;
+use crate::Context;
 use crate::lookup::find_row;
-use crate::row::{Context, DefaultValue, Row, UnitPiece};
+use crate::row::{DefaultValue, Row, UnitPiece};
 use crate::rows::rows;
 use std::alloc::{AllocError, Global};
 use std::process::Abort;

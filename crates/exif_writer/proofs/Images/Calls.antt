@@ -5,8 +5,8 @@ use Rattle.std.specs.List.{filter, filter_map, cons_option, last_or, range_with_
 use Rattle.std.proofs.lemmas.Bool.{eqb-true, eqb-false}
 use Rattle.std.proofs.lemmas.List.{append-nil, append_assoc}
 use Rattle.exif_types.specs.Lookup.{context_eq}
-use Rattle.exif_types.specs.declared.tag.Context.{Context}
-use Rattle.exif_types.specs.declared.tag.Context.TheVariants.{Tiff, Exif, Gps, Interop}
+use Rattle.exif_table.specs.declared.context.Context.{Context}
+use Rattle.exif_table.specs.declared.context.Context.TheVariants.{Tiff, Exif, Gps, Interop}
 use Rattle.exif_types.specs.declared.field.Field.{Field}
 use Rattle.exif_writer.specs.Groups.{Group, entry_of, is_ignored, pushed, pushed_in, changed, with_entry, with_strips, with_tiles, with_jpeg}
 use Rattle.exif_writer.specs.Rewriting.{BlocksOf}

@@ -7,7 +7,7 @@ use Rattle.std.specs.List.{AllByRecursion, flat_map}
 use Rattle.exif_base.specs.declared.endian.Order.{Order}
 use Rattle.exif_base.specs.Bytes.{number_at, spaced}
 use Rattle.exif_base.specs.Orders.{number_of}
-use Rattle.exif_types.specs.declared.tag.Context.{Context}
+use Rattle.exif_table.specs.declared.context.Context.{Context}
 use Rattle.exif_types.specs.declared.field.Field.{Field}
 use Rattle.exif_tiff.specs.declared.fault.Fault.{Fault}
 use Rattle.exif_tiff.specs.Trace.{Directory, Node, Visit, child_of, tagged_nodes, entry_nodes, whole_entries, directory_end, fields_of, faults_of}

@@ -9,7 +9,7 @@ use Rattle.exif_types.specs.FieldTypes.{type_of, known_length}
 use Rattle.exif_types.specs.Decode.{decode}
 use Rattle.exif_types.specs.declared.value.Value.{Value}
 use Rattle.exif_types.specs.declared.value.Value.TheVariants.{Byte, Ascii, Short, Long, Rational, SByte, Undefined, SShort, SLong, SRational, Float, Double, Unknown}
-use Rattle.exif_types.specs.declared.tag.Context.{Context}
+use Rattle.exif_table.specs.declared.context.Context.{Context}
 use Rattle.exif_tiff.specs.Trace.{Directory, Visit, child_of, tagged_nodes, valued_nodes, entry_nodes, entry_value}
 use Rattle.exif_writer.specs.Encoding.{spelled, encode, value_len, moved_to}
 use Rattle.exif_types.specs.ValueTypes.{type_number, count_of}

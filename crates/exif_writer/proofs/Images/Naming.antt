@@ -5,8 +5,8 @@ use Rattle.std.specs.List.{AllByRecursion, flat_map, filter}
 use Rattle.std.proofs.lemmas.Bool.{eq-eqb, ne_eqb}
 use Rattle.std.proofs.lemmas.List.{append-nil}
 use Rattle.exif_writer.specs.Encoding.{moved_to}
-use Rattle.exif_types.specs.declared.tag.Context.{Context}
-use Rattle.exif_types.specs.declared.tag.Context.TheVariants.{Tiff, Exif, Gps}
+use Rattle.exif_table.specs.declared.context.Context.{Context}
+use Rattle.exif_table.specs.declared.context.Context.TheVariants.{Tiff, Exif, Gps}
 use Rattle.exif_types.specs.declared.field.Field.{Field}
 use Rattle.exif_writer.specs.Groups.{Group, Entry, is_ignored, single, pushed_in, blocks_in, places_tag, lengths_tag}
 use Rattle.exif_writer.specs.Slots.{Draft, draft_of, Slot, Source, Known, PlacesOf, LengthsOf, PlaceOf, known, in_tag_order, set_slots, block_slots, pointer_slots, slots_of, tiff_slots, exif_slots, gps_slots, source_len}

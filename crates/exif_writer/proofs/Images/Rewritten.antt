@@ -7,8 +7,8 @@ use Rattle.std.proofs.lemmas.List.{append-nil, append_assoc}
 use Rattle.std.proofs.lemmas.List.Concat.{flat_map-append}
 use Rattle.exif_base.specs.declared.endian.Order.{Order}
 use Rattle.exif_types.specs.Lookup.{context_eq}
-use Rattle.exif_types.specs.declared.tag.Context.{Context}
-use Rattle.exif_types.specs.declared.tag.Context.TheVariants.{Tiff, Exif, Gps, Interop}
+use Rattle.exif_table.specs.declared.context.Context.{Context}
+use Rattle.exif_table.specs.declared.context.Context.TheVariants.{Tiff, Exif, Gps, Interop}
 use Rattle.exif_types.specs.declared.field.Field.{Field}
 use Rattle.exif_writer.specs.Groups.{Group, Entry, empty_group, is_ignored, changed, with_entry, with_strips, with_tiles, with_jpeg, entry_of, pushed, strips_set, tiles_set, jpeg_set, single, blocks_in, pushed_in}
 use Rattle.exif_writer.specs.Slots.{Draft, draft_of, Slot, Source, Known, PlacesOf, LengthsOf, PlaceOf, known, in_tag_order, set_slots, block_slots, block_list, pointer_slots, slots_of, tiff_slots, exif_slots, gps_slots, interop_slots, source_len}

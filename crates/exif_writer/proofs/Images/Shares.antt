@@ -4,8 +4,8 @@ use Rattle.std.specs.Prelude.{if◌then◌else◌, not}
 use Rattle.std.specs.List.{AllByRecursion, flat_map, filter}
 use Rattle.std.proofs.lemmas.List.{append-nil, append_assoc, length-append}
 use Rattle.exif_types.specs.Lookup.{context_eq}
-use Rattle.exif_types.specs.declared.tag.Context.{Context}
-use Rattle.exif_types.specs.declared.tag.Context.TheVariants.{Tiff, Exif, Gps, Interop}
+use Rattle.exif_table.specs.declared.context.Context.{Context}
+use Rattle.exif_table.specs.declared.context.Context.TheVariants.{Tiff, Exif, Gps, Interop}
 use Rattle.exif_writer.specs.Groups.{Group, Entry, is_ignored, pushed_in, blocks_in, places_tag, lengths_tag}
 use Rattle.exif_writer.specs.Slots.{draft_of, Slot, known, in_tag_order, set_slots, block_slots, pointer_slots, slots_of, tiff_slots, exif_slots, gps_slots, interop_slots}
 use Rattle.exif_writer.specs.declared.block_kind.BlockKind.{BlockKind}

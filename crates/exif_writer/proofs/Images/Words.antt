@@ -5,8 +5,8 @@ use Rattle.std.specs.Int.{w8, w16, w32}
 use Rattle.exif_base.specs.declared.endian.Order.{Order}
 use Rattle.exif_types.specs.declared.value.Value.{Value}
 use Rattle.exif_types.specs.declared.value.Value.TheVariants.{Byte, Ascii, Short, Long, Rational, SByte, Undefined, SShort, SLong, SRational, Float, Double, Unknown}
-use Rattle.exif_types.specs.declared.tag.Context.{Context}
-use Rattle.exif_types.specs.declared.tag.Context.TheVariants.{Tiff, Exif, Gps, Interop}
+use Rattle.exif_table.specs.declared.context.Context.{Context}
+use Rattle.exif_table.specs.declared.context.Context.TheVariants.{Tiff, Exif, Gps, Interop}
 use Rattle.exif_types.specs.declared.field.Field.{Field}
 use Rattle.exif_writer.specs.declared.block_kind.BlockKind.{BlockKind}
 use Rattle.exif_tiff.specs.Trace.{Node, child_of, fields_of, faults_of}

@@ -1,5 +1,5 @@
 use Rattle.std.proofs.Common.{◌≡◌, ◌∙◌, ◌+◌, ap, arith}
-use Rattle.exif_types.specs.declared.tag.Context.TheVariants.{Tiff, Exif, Gps, Interop}
+use Rattle.exif_table.specs.declared.context.Context.TheVariants.{Tiff, Exif, Gps, Interop}
 use Rattle.exif_writer.specs.Places.{directory_len, after_values, after_blocks, tiff_place, exif_place, gps_place, interop_place, tiff_values, exif_values, gps_values, interop_values, strips_place, tiles_place, jpeg_place, draft_end}
 use Rattle.exif_writer.specs.Slots.{draft_of, slots_of}
 use Rattle.exif_writer.proofs.Placed.{places_are, places_within}
