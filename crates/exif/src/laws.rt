@@ -1,5 +1,5 @@
-//! Laws of reading and writing. They hold for all bytes and all groups, and speak of the definitions
-//! alone.
+//! Laws of reading and writing. They hold for all bytes and all groups, and speak of the
+//! definitions alone.
 
 pub use exif_reader::laws::strict_gives_the_first_fault_of_a_file;
 pub use exif_tiff::laws::{

@@ -1,4 +1,5 @@
-//! Exif metadata: pictures read into fields and faults, and fields and blocks written as one TIFF image.
+//! Exif metadata: pictures read into fields and faults, and fields and blocks written as one TIFF
+//! image.
 #![tactic(auto)]
 
 pub mod experimental;

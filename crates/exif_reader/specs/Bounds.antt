@@ -8,7 +8,7 @@ use Rattle.exif_types.specs.declared.field.Field.{Field}
 use Rattle.exif_tiff.specs.Trace.{trace, limited, visits_of}
 use Rattle.exif_tiff.specs.Visits.{visits_at_most}
 
--- the most entries that may be visited: by the length of the data, and by the limit where there is one
+-- the most entries that may be visited: by the length of the data, and by a limit
 abbrev pub most_visits : Option ℕ → List ℕ → ℕ
 most_visits (Some n) bytes = min n (visits_at_most bytes)
 most_visits None bytes = visits_at_most bytes

@@ -11,17 +11,23 @@ use Rattle.exif_reader.specs.Readings.{IsRefusal, ReadsAs, ReadsOr}
 
 -- the answer of a file, or the refusal of its container
 abbrev pub file_answer : Bool → Option ℕ → List ℕ → Result Answer Refusal
-file_answer lenient limit bytes = container_answer bytes >>= λ data'. Ok (raw_answer lenient limit data')
+file_answer lenient limit bytes =
+    container_answer bytes >>= λ data'. Ok (raw_answer lenient limit data')
 
--- strict reading of a file gives the first fault of lenient reading, and the same refusal of its container
+-- strict reading of a file gives the first fault of lenient reading, and the same refusal of its
+-- container
 abbrev pub StrictIsFirstFaultOfFile : Option ℕ → List ℕ → Type 0
-StrictIsFirstFaultOfFile limit bytes = file_answer false limit bytes ≡ (file_answer true limit bytes >>= λ answer. Ok (first_fault answer))
+StrictIsFirstFaultOfFile limit bytes =
+    file_answer false limit bytes
+    ≡ (file_answer true limit bytes >>= λ answer. Ok (first_fault answer))
 
 -- what is read of a container: the answer of its data, or its refusal
-abbrev pub ReadsContainer : (List ℕ → Answer) → Result (List ℕ) Refusal → Result ExifContents Failure → Type 0
+abbrev pub ReadsContainer :
+    (List ℕ → Answer) → Result (List ℕ) Refusal → Result ExifContents Failure → Type 0
 ReadsContainer answer (Ok bytes) result = ReadsOr IsInterrupted (answer bytes) bytes result
 ReadsContainer answer (Err r) (Ok exif) = ⊥
-ReadsContainer answer (Err r) (Err e) = MatchOption (refusal_of e) (IsInterrupted e) (λ refused. refused ≡ r)
+ReadsContainer answer (Err r) (Err e) =
+    MatchOption (refusal_of e) (IsInterrupted e) (λ refused. refused ≡ r)
 
 -- ---- what is said where a source tells no bytes, as that of a file
 
@@ -29,10 +35,12 @@ ReadsContainer answer (Err r) (Err e) = MatchOption (refusal_of e) (IsInterrupte
 abbrev pub IsDataRefusal : (List ℕ → Answer) → Refusal → Type 0
 IsDataRefusal answer r = (bytes : List ℕ) × IsRefusal (answer bytes) r
 
--- what came back, whole or partial, is what its own data answer; an error is a refusal of a container or of some data, or an interruption
+-- what came back, whole or partial, is what its own data answer; an error is a refusal of a
+-- container or of some data, or an interruption
 abbrev pub AnswersOwnData : (List ℕ → Answer) → Result ExifContents Failure → Type 0
 AnswersOwnData answer (Ok exif) = ReadsAs (answer exif.buf) exif.buf (Ok exif)
 AnswersOwnData answer (Err (error.PartialResult partial)) =
     ReadsAs (answer partial.exif.buf) partial.exif.buf (Err (error.PartialResult partial))
 AnswersOwnData answer (Err e) =
-    MatchOption (refusal_of e) (IsInterrupted e) (λ r. Contains container_refusals r ⊎ IsDataRefusal answer r)
+    MatchOption (refusal_of e) (IsInterrupted e)
+    (λ r. Contains container_refusals r ⊎ IsDataRefusal answer r)

@@ -34,7 +34,8 @@ IsRefusal answer r = (fault : Fault) × (answer ≡ Refused fault) × (r ≡ ref
 abbrev pub FailsAs : Answer → (Failure → Type 0) → Failure → Type 0
 FailsAs answer P e = MatchOption (refusal_of e) (P e) (IsRefusal answer)
 
--- the fields are all there are; or they come with the faults; or the data are refused; P holds of other errors
+-- the fields are all there are; or they come with the faults; or the data are refused; P holds of
+-- other errors
 abbrev pub ReadsOr : (Failure → Type 0) → Answer → List ℕ → Result ExifContents Failure → Type 0
 ReadsOr P answer bytes (Ok exif) = (answer ≡ Whole exif.fields) × HoldsData exif bytes
 ReadsOr P answer bytes (Err (error.PartialResult partial)) =

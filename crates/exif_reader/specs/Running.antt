@@ -6,8 +6,9 @@ use Rattle.exif_types.specs.declared.field.Field.{Field}
 use Rattle.exif_tiff.specs.declared.fault.Fault.{Fault}
 use Rattle.exif_tiff.specs.declared.fault.Fault.TheVariants.{TooManyEntries}
 
--- a parser: whether faults are noted and passed over, how many entries it may still visit, and what it has read;
--- each visit takes one of the entries that are left, so what is gone of them counts the parser's turns
+-- a parser: whether faults are noted and passed over, how many entries it may still visit, and what
+-- it has read; each visit takes one of the entries that are left, so what is gone of them counts the
+-- parser's turns
 pub record Progress : Type 0 where
   pub lenient : Bool
   pub left : ℕ
@@ -22,7 +23,11 @@ abbrev pub on_found : Progress → Field → Progress × Option Fault
 on_found p field = (record p { fields = p.fields ++ field ∷ [] }, None)
 
 abbrev pub on_met : Progress → Fault → Progress × Option Fault
-on_met p fault = elim p.lenient [ true ↦ (record p { faults = p.faults ++ fault ∷ [] }, None) | false ↦ (p, Some fault) ]
+on_met p fault =
+    elim p.lenient [
+      | true ↦ (record p { faults = p.faults ++ fault ∷ [] }, None)
+      | false ↦ (p, Some fault)
+    ]
 
 abbrev pub on_node : Progress → Node → Progress × Option Fault
 on_node p Visit = on_visit p
@@ -30,7 +35,8 @@ on_node p (Found field) = on_found p field
 on_node p (Met fault) = on_met p fault
 
 -- go on, unless the parser has stopped
-abbrev pub and_then : Progress × Option Fault → (Progress → Progress × Option Fault) → Progress × Option Fault
+abbrev pub and_then :
+    Progress × Option Fault → (Progress → Progress × Option Fault) → Progress × Option Fault
 and_then (p, None) next = next p
 and_then (p, Some fault) next = (p, Some fault)
 
@@ -42,4 +48,5 @@ run (node ∷ nodes) p = and_then (on_node p node) (run nodes)
 -- what a parser answers when it ended or stopped
 abbrev pub outcome : Progress × Option Fault → Answer
 outcome (p, None) = shown p.fields p.faults
-outcome (p, Some fault) = elim p.lenient [ true ↦ shown p.fields (p.faults ++ fault ∷ []) | false ↦ Refused fault ]
+outcome (p, Some fault) =
+    elim p.lenient [ true ↦ shown p.fields (p.faults ++ fault ∷ []) | false ↦ Refused fault ]

@@ -27,7 +27,12 @@ impl Model for Parser {
 
     ghost Value = { Progress };
 
-    ghost view = { λ p. record { lenient = p.lenient; left = p.left; fields = p.fields.items; faults = p.faults.items } };
+    ghost view = { λ p. record {
+      lenient = p.lenient;
+      left = p.left;
+      fields = p.fields.items;
+      faults = p.faults.items;
+    } };
 }
 
 impl Parser {

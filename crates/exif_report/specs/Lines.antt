@@ -8,7 +8,9 @@ use Rattle.exif_types.specs.declared.field.Field.{Field}
 
 -- one of the fields: its tag, its directory and its value with its unit
 unfoldable pub field_line : List Field → Field → List ℕ
-field_line fields field = tag_text field.tag ++ (codes " " ++ (ifd_text field.ifd_num.0 ++ (codes " " ++ (unit_text field fields ++ codes "\n"))))
+field_line fields field =
+    tag_text field.tag ++ (codes " "
+    ++ (ifd_text field.ifd_num.0 ++ (codes " " ++ (unit_text field fields ++ codes "\n"))))
 
 -- a fault that was passed over, by its text
 unfoldable pub fault_line : List ℕ → List ℕ

@@ -20,7 +20,8 @@ use Rattle.exif_report.specs.Lines.{field_line, fault_line}
 abbrev pub answer_text : Answer → List ℕ
 answer_text (Refused fault) = []
 answer_text (Whole fields) = flat_map (field_line fields) fields
-answer_text (Partial fields faults) = flat_map (field_line fields) fields ++ flat_map (λ fault. fault_line (text_of fault)) faults
+answer_text (Partial fields faults) =
+    flat_map (field_line fields) fields ++ flat_map (λ fault. fault_line (text_of fault)) faults
 
 -- how many faults were passed over
 abbrev pub fault_count : Answer → ℕ
@@ -39,7 +40,8 @@ given_by answer container = container >>= λ bytes. Ok (answer bytes)
 -- each count rose by one or stayed, and some rose exactly where a device's error was answered
 abbrev pub CountsBoth : ℕ → ℕ → ℕ → ℕ → Bool → Type 0
 CountsBoth read read' written written' io =
-    (r w : Bool) × (read' ≡ count_after r read) × (written' ≡ count_after w written) × (io ≡ (r || w))
+    (r w : Bool) × (read' ≡ count_after r read) × (written' ≡ count_after w written)
+    × (io ≡ (r || w))
 
 -- the container or its data are refused with this error
 abbrev pub IsRefusedAs : Result Answer Refusal → Failure → Type 0
@@ -50,7 +52,8 @@ IsRefusedAs (Err r) e = refusal_of e ≡ Some r
 abbrev pub Holds : Answer → ExifContents → List Failure → Type 0
 Holds (Refused fault) exif errors = ⊥
 Holds (Whole fields) exif errors = (exif.fields ≡ fields) × (errors ≡ [])
-Holds (Partial fields faults) exif errors = (exif.fields ≡ fields) × (map bytes_of (map told_text errors) ≡ map text_of faults)
+Holds (Partial fields faults) exif errors =
+    (exif.fields ≡ fields) × (map bytes_of (map told_text errors) ≡ map text_of faults)
 
 -- so of a file
 abbrev pub HoldsAnswer : Result Answer Refusal → ExifContents → List Failure → Type 0
@@ -58,34 +61,48 @@ HoldsAnswer (Ok answer) exif errors = Holds answer exif errors
 HoldsAnswer (Err r) exif errors = ⊥
 
 -- what was read is the file's; an error is its refusal, or none of the bytes'
-abbrev pub Finds : Result Answer Refusal → Result (ExifContents × Vec Failure Global) Failure → Type 0
+abbrev pub Finds : Result Answer Refusal → Result (ExifContents × Vec Failure Global) Failure
+    → Type 0
 Finds answer (Ok found) = HoldsAnswer answer found.0 found.1.items
 Finds answer (Err e) = IsRefusedAs answer e ⊎ IsInterrupted e
 
 -- all of the answer's text was written, and its faults were counted
 abbrev pub WritesWhole : Result Answer Refusal → ℕ → Option (List ℕ) → Option (List ℕ) → Type 0
-WritesWhole (Ok answer) count old new = ((fault : Fault) → answer ≡ Refused fault → ⊥) × (count ≡ fault_count answer) × Appends old new (answer_text answer)
+WritesWhole (Ok answer) count old new =
+    ((fault : Fault) → answer ≡ Refused fault → ⊥) × (count ≡ fault_count answer)
+    × Appends old new (answer_text answer)
 WritesWhole (Err r) count old new = ⊥
 
--- the text of the file's answer was written; a refusal writes nothing, and an interruption leaves a front of the text
-abbrev pub Reports : Result Answer Refusal → Result ℕ Failure → Option (List ℕ) → Option (List ℕ) → Type 0
+-- the text of the file's answer was written; a refusal writes nothing, and an interruption leaves a
+-- front of the text
+abbrev pub Reports : Result Answer Refusal → Result ℕ Failure → Option (List ℕ) → Option (List ℕ)
+    → Type 0
 Reports answer (Ok count) old new = WritesWhole answer count old new
-Reports answer (Err e) old new = (IsRefusedAs answer e × Keeps old new) ⊎ (IsInterrupted e × SendsFront old new (report_text answer))
+Reports answer (Err e) old new =
+    (IsRefusedAs answer e × Keeps old new)
+    ⊎ (IsInterrupted e × SendsFront old new (report_text answer))
 
 -- ---- what is said where the source tells no bytes, as that of a file
 
 -- a container or some data are refused with this error
 abbrev pub IsNamedRefusal : (List ℕ → Answer) → Failure → Type 0
-IsNamedRefusal answer e = (r : Refusal) × (refusal_of e ≡ Some r) × (Contains container_refusals r ⊎ IsDataRefusal answer r)
+IsNamedRefusal answer e =
+    (r : Refusal) × (refusal_of e ≡ Some r)
+    × (Contains container_refusals r ⊎ IsDataRefusal answer r)
 
--- the fields and the faults are those of the data that came with them; an error is a named refusal, or none of the bytes'
-abbrev pub FindsOwn : (List ℕ → Answer) → Result (ExifContents × Vec Failure Global) Failure → Type 0
+-- the fields and the faults are those of the data that came with them; an error is a named refusal,
+-- or none of the bytes'
+abbrev pub FindsOwn : (List ℕ → Answer) → Result (ExifContents × Vec Failure Global) Failure
+    → Type 0
 FindsOwn answer (Ok found) = Holds (answer found.0.buf) found.0 found.1.items
 FindsOwn answer (Err e) = IsNamedRefusal answer e ⊎ IsInterrupted e
 
--- the text of some data's answer was written; a refusal writes nothing, and an interruption leaves a front of such a text
-abbrev pub ReportsSome : (List ℕ → Answer) → Result ℕ Failure → Option (List ℕ) → Option (List ℕ) → Type 0
-ReportsSome answer (Ok count) old new = (bytes : List ℕ) × WritesWhole (Ok (answer bytes)) count old new
+-- the text of some data's answer was written; a refusal writes nothing, and an interruption leaves
+-- a front of such a text
+abbrev pub ReportsSome : (List ℕ → Answer) → Result ℕ Failure → Option (List ℕ) → Option (List ℕ)
+    → Type 0
+ReportsSome answer (Ok count) old new =
+    (bytes : List ℕ) × WritesWhole (Ok (answer bytes)) count old new
 ReportsSome answer (Err e) old new =
     (IsNamedRefusal answer e × Keeps old new)
     ⊎ (IsInterrupted e × ((bytes : List ℕ) × SendsFront old new (answer_text (answer bytes))))

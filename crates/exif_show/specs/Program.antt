@@ -39,7 +39,8 @@ SaysError (Ok count) old new = Keeps old new
 SaysError (Err e) old new = Says e old new
 
 -- a file's report, the status that tells of it, its error's line, and the counts of both devices
-pub record Shows (left : Option (List ℕ)) (lenient : Bool) (status : ℕ) (out out' err err' : Option (List ℕ)) (read read' written written' : ℕ) : Type 0 where
+pub record Shows (left : Option (List ℕ)) (lenient : Bool) (status : ℕ)
+    (out out' err err' : Option (List ℕ)) (read read' written written' : ℕ) : Type 0 where
   pub found : Result ℕ Failure
   pub reports : IfSome left (λ bytes. Reports (file_answer lenient None bytes) found out out')
   pub some : ReportsSome (raw_answer lenient None) found out out'

@@ -19,13 +19,15 @@ shown fields (fault ∷ faults) = Partial fields (fault ∷ faults)
 -- lenient reading passes over the faults, strict reading refuses with the first
 abbrev pub answer_of : Bool → Content → Answer
 answer_of true content = shown content.fields content.faults
-answer_of false content = elim content.faults [ [] ↦ Whole content.fields | fault ∷ faults ↦ Refused fault ]
+answer_of false content =
+    elim content.faults [ [] ↦ Whole content.fields | fault ∷ faults ↦ Refused fault ]
 
 -- the answer to data, lenient or strict, under a limit on the visited entries
 unfoldable pub raw_answer : Bool → Option ℕ → List ℕ → Answer
 raw_answer lenient limit bytes = elim (header bytes) [
   | Err fault ↦ Refused fault
-  | Ok order ↦ answer_of lenient (content_of (limited limit (ordered_trace (number_of order) bytes)))
+  | Ok order ↦
+      answer_of lenient (content_of (limited limit (ordered_trace (number_of order) bytes)))
 ]
 
 -- whether the data say that they are little endian
@@ -39,6 +41,8 @@ first_fault (Whole fields) = Whole fields
 first_fault (Partial fields []) = Whole fields
 first_fault (Partial fields (fault ∷ faults)) = Refused fault
 
--- strict reading answers what lenient reading answers, but for a first fault in place of a partial answer
+-- strict reading answers what lenient reading answers, but for a first fault in place of a partial
+-- answer
 abbrev pub StrictIsFirstFault : Option ℕ → List ℕ → Type 0
-StrictIsFirstFault limit bytes = raw_answer false limit bytes ≡ first_fault (raw_answer true limit bytes)
+StrictIsFirstFault limit bytes =
+    raw_answer false limit bytes ≡ first_fault (raw_answer true limit bytes)

@@ -13,7 +13,8 @@ VisitsAreLimited n nodes = visits_of (cut n nodes) ≡ min n (visits_of nodes)
 abbrev pub IsKeptWithin : ℕ → List Node → Type 0
 IsKeptWithin n nodes = visits_of nodes ≤ n → cut n nodes ≡ nodes
 
--- what stood before the visit after the first n is left, and behind it stands the fault of the limit alone
+-- what stood before the visit after the first n is left, and behind it stands the fault of the
+-- limit alone
 pub record IsCut (n : ℕ) (nodes : List Node) : Type 0 where
   pub front : List Node
   pub rest : List Node
@@ -27,20 +28,25 @@ IsCutPast n nodes = n < visits_of nodes → IsCut n nodes
 
 -- the fault of the limit comes exactly where the data have more entries to visit
 abbrev pub LimitIsMet : ℕ → List ℕ → Type 0
-LimitIsMet n bytes = Contains (faults_of (cut n (trace bytes))) TooManyEntries ↔ (n < visits_of (trace bytes))
+LimitIsMet n bytes =
+    Contains (faults_of (cut n (trace bytes))) TooManyEntries ↔ (n < visits_of (trace bytes))
 
 -- within the limit the answer is that without one
 abbrev pub AnswersWithin : ℕ → List ℕ → Type 0
 AnswersWithin n bytes =
-    (lenient : Bool) → visits_of (trace bytes) ≤ n → raw_answer lenient (Some n) bytes ≡ raw_answer lenient None bytes
+    (lenient : Bool) → visits_of (trace bytes) ≤ n
+        → raw_answer lenient (Some n) bytes ≡ raw_answer lenient None bytes
 
--- past it lenient reading answers what stood before the cut, and the fault of the limit behind the faults
+-- past it lenient reading answers what stood before the cut, and the fault of the limit behind the
+-- faults
 abbrev pub LenientAnswersCut : ℕ → List ℕ → Type 0
 LenientAnswersCut n bytes =
     (found : IsCut n (trace bytes))
-    → raw_answer true (Some n) bytes ≡ Partial (fields_of found.front) (faults_of found.front ++ TooManyEntries ∷ [])
+    → raw_answer true (Some n) bytes
+        ≡ Partial (fields_of found.front) (faults_of found.front ++ TooManyEntries ∷ [])
 
--- strict reading refuses for the limit exactly where there are more entries and no fault stands before the cut
+-- strict reading refuses for the limit exactly where there are more entries and no fault stands
+-- before the cut
 abbrev pub StrictRefusesCut : ℕ → List ℕ → Type 0
 StrictRefusesCut n bytes =
     (raw_answer false (Some n) bytes ≡ Refused TooManyEntries)

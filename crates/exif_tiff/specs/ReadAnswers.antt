@@ -9,7 +9,8 @@ use Rattle.exif_tiff.specs.Answers.{Whole, raw_answer, shown}
 -- each field that is shown has plain texts and is of one of the first eight directories
 abbrev pub ShowsReadFields : Bool → Option ℕ → List ℕ → Type 0
 ShowsReadFields lenient limit bytes =
-    (fields : List Field) (faults : List Fault) → raw_answer lenient limit bytes ≡ shown fields faults → All IsRead fields
+    (fields : List Field) (faults : List Fault)
+        → raw_answer lenient limit bytes ≡ shown fields faults → All IsRead fields
 
 -- strict reading shows fields only where there is no fault
 abbrev pub ShowsNoFault : Option ℕ → List ℕ → Type 0

@@ -1,4 +1,5 @@
--- Which faults are hard, so that nothing is read, and which are soft, so that reading may pass over them.
+-- Which faults are hard, so that nothing is read, and which are soft, so that reading may pass over
+-- them.
 use Rattle.std.specs.Prelude.{ℕ, ◌≡◌, ◌<◌, ◌↔◌, ◌⊎◌, Bool, true, false, List, length, Option, is_some, Err}
 use Rattle.std.specs.List.{All}
 use Rattle.exif_types.specs.declared.field.Field.{Field}
@@ -54,7 +55,8 @@ FaultsAreSoftUnder limit bytes =
 -- lenient reading passes over soft faults alone
 abbrev pub PassesSoftFaults : Option ℕ → List ℕ → Type 0
 PassesSoftFaults limit bytes =
-    (fields : List Field) (faults : List Fault) → raw_answer true limit bytes ≡ Partial fields faults
+    (fields : List Field) (faults : List Fault)
+        → raw_answer true limit bytes ≡ Partial fields faults
     → All (λ fault. is_soft_under limit fault ≡ true) faults
 
 -- a refusal is the header's fault, or in strict mode a soft one

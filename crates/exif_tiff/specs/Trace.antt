@@ -1,4 +1,5 @@
--- The directories of TIFF data, as a list of what stands in them from first to last (TIFF 6.0, section 2; Exif 2.32, 4.6.3).
+-- The directories of TIFF data, as a list of what stands in them from first to last (TIFF 6.0,
+-- section 2; Exif 2.32, 4.6.3).
 use Rattle.std.specs.Prelude.{ℕ, zero, suc, ◌+◌, ◌-◌, ◌*◌, ◌/◌, ◌^◌, ◌==◌, ◌&&◌, true, false, if◌then◌else◌, nat_lt, nat_le, min, List, [], ◌∷◌, ◌++◌, length, slice_index, Option, Some, None, Result, Ok, Err}
 use Rattle.std.specs.List.{flat_map}
 use Rattle.exif_base.specs.Bytes.{Reading, number_at, spaced}
@@ -29,7 +30,9 @@ entry_value number bytes e =
     let size = known_length (type_of type) * count in
     let place = number_at number 4 bytes (e + 8) in
     if nat_le size 4 then Some (decode number type count bytes (e + 8)) else
-    (if nat_le (place + size) (length bytes) then Some (decode number type count bytes place) else None)
+    (if nat_le (place + size) (length bytes)
+    then Some (decode number type count bytes place)
+    else None)
 
 -- how many entries of the directory at p are whole
 abbrev pub whole_entries : Reading → List ℕ → ℕ → ℕ
@@ -70,26 +73,31 @@ pointer_nodes child number bytes c None = Met InvalidPointer ∷ []
 pointer_nodes child number bytes c (Some q) = child c q ++ child_end (directory_end number bytes q)
 
 -- a tag n with a value: a field, or a pointer where the tag has a child
-abbrev pub tagged_nodes : Directory → Reading → List ℕ → Context → ℕ → ℕ → Value → Option Context → List Node
+abbrev pub tagged_nodes : Directory → Reading → List ℕ → Context → ℕ → ℕ → Value → Option Context
+    → List Node
 tagged_nodes child number bytes c k n v None =
     Found (record { tag = record { 0 = c; 1 = n }; ifd_num = record { 0 = k }; value = v }) ∷ []
-tagged_nodes child number bytes c k n v (Some d) = pointer_nodes child number bytes d (number_in v 0)
+tagged_nodes child number bytes c k n v (Some d) =
+    pointer_nodes child number bytes d (number_in v 0)
 
 -- a tag n with its value, if that lies in the data
 abbrev pub valued_nodes : Directory → Reading → List ℕ → Context → ℕ → ℕ → Option Value → List Node
 valued_nodes child number bytes c k n None = Met TruncatedValue ∷ []
-valued_nodes child number bytes c k n (Some v) = tagged_nodes child number bytes c k n v (child_of c n)
+valued_nodes child number bytes c k n (Some v) =
+    tagged_nodes child number bytes c k n v (child_of c n)
 
 -- the entry at e of a directory of context c and number k
 abbrev pub entry_nodes : Directory → Reading → List ℕ → Context → ℕ → ℕ → List Node
 entry_nodes child number bytes c k e =
-    Visit ∷ valued_nodes child number bytes c k (number_at number 2 bytes e) (entry_value number bytes e)
+    Visit
+    ∷ valued_nodes child number bytes c k (number_at number 2 bytes e) (entry_value number bytes e)
 
 -- the directory at p, with its children down to a depth
 abbrev pub directory_nodes : ℕ → Reading → List ℕ → ℕ → Directory
 directory_nodes zero number bytes k c p = []
 directory_nodes (suc depth) number bytes k c p =
-    flat_map (entry_nodes (directory_nodes depth number bytes k) number bytes c k) (entry_places number bytes p)
+    flat_map (entry_nodes (directory_nodes depth number bytes k) number bytes c k)
+    (entry_places number bytes p)
 
 -- how deep directories of a context nest: Tiff, Exif, Interop or Tiff, Gps
 abbrev pub depth_of : Context → ℕ
@@ -125,7 +133,8 @@ header bytes =
     (if nat_lt (length bytes) 8 then Err TruncatedHeader else
     elim (order_of bytes) [
       | None ↦ Err InvalidByteOrder
-      | Some order ↦ if number_at (number_of order) 2 bytes 2 == 42 then Ok order else Err InvalidFortyTwo
+      | Some order ↦
+          if number_at (number_of order) 2 bytes 2 == 42 then Ok order else Err InvalidFortyTwo
     ])
 
 -- what stands in data with this order
@@ -134,7 +143,8 @@ ordered_trace number bytes = chain_nodes 8 number bytes 0 (number_at number 4 by
 
 -- what stands in the data: nothing behind a wrong header
 unfoldable pub trace : List ℕ → List Node
-trace bytes = elim (header bytes) [ Ok order ↦ ordered_trace (number_of order) bytes | Err fault ↦ [] ]
+trace bytes =
+    elim (header bytes) [ Ok order ↦ ordered_trace (number_of order) bytes | Err fault ↦ [] ]
 
 abbrev pub fields_of : List Node → List Field
 fields_of [] = []

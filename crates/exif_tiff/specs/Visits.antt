@@ -27,7 +27,8 @@ ReportsAreBounded bytes = reports_of (trace bytes) ≤ visits_of (trace bytes) +
 
 -- so under any limit
 abbrev pub ReportsAreBoundedUnder : Option ℕ → List ℕ → Type 0
-ReportsAreBoundedUnder limit bytes = reports_of (limited limit (trace bytes)) ≤ visits_of (limited limit (trace bytes)) + 1
+ReportsAreBoundedUnder limit bytes =
+    reports_of (limited limit (trace bytes)) ≤ visits_of (limited limit (trace bytes)) + 1
 
 -- with a limit, the fields and the faults together are at most one more than it
 abbrev pub LimitBoundsReports : ℕ → List ℕ → Type 0
@@ -35,4 +36,5 @@ LimitBoundsReports n bytes = reports_of (cut n (trace bytes)) ≤ n + 1
 
 -- and one more than what the length of the data allows
 abbrev pub LimitAndLengthBoundReports : ℕ → List ℕ → Type 0
-LimitAndLengthBoundReports n bytes = AreBytes bytes → reports_of (cut n (trace bytes)) ≤ min (n + 1) (visits_at_most bytes + 1)
+LimitAndLengthBoundReports n bytes =
+    AreBytes bytes → reports_of (cut n (trace bytes)) ≤ min (n + 1) (visits_at_most bytes + 1)
