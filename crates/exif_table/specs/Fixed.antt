@@ -14,8 +14,11 @@ pub record Texts : Type 0 where
 
 -- the texts without their references
 abbrev pub texts_view : FixedTexts → Texts
-texts_view t = record { name = t.name.now; chosen_by = t.chosen_by;
-    texts = map (λ p. (p.0, p.1.now)) t.texts.now }
+texts_view t = record {
+  name = t.name.now;
+  chosen_by = t.chosen_by;
+  texts = map (λ p. (p.0, p.1.now)) t.texts.now;
+}
 
 abbrev named : List ℕ → Choice → List (ℕ × List ℕ) → Option Texts
 named name choice texts = Some (record { name = name; chosen_by = choice; texts = texts })

@@ -8,9 +8,13 @@ use Rattle.exif_text.specs.Plain.{zero_filled}
 -- `2016-05-04`
 abbrev pub date_text : Date → List ℕ
 date_text d =
-    zero_filled 4 (decimal d.year) ++ (codes "-" ++ (zero_filled 2 (decimal d.month) ++ (codes "-" ++ zero_filled 2 (decimal d.day))))
+    zero_filled 4 (decimal d.year)
+    ++ (codes "-" ++ (zero_filled 2 (decimal d.month)
+    ++ (codes "-" ++ zero_filled 2 (decimal d.day))))
 
 -- `03:02:01`
 abbrev pub time_text : TimeOfDay → List ℕ
 time_text t =
-    zero_filled 2 (decimal t.hour) ++ (codes ":" ++ (zero_filled 2 (decimal t.minute) ++ (codes ":" ++ zero_filled 2 (decimal t.second))))
+    zero_filled 2 (decimal t.hour)
+    ++ (codes ":" ++ (zero_filled 2 (decimal t.minute)
+    ++ (codes ":" ++ zero_filled 2 (decimal t.second))))

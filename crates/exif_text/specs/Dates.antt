@@ -14,17 +14,20 @@ is_text bytes text = pointwise nat_eq bytes text
 
 -- only spaces, or spaces with colons at 4, 7, 13 and 16
 abbrev pub is_blank : List ℕ → Bool
-is_blank bytes = is_text bytes (codes "    :  :     :  :  ") || is_text bytes (codes "                   ")
+is_blank bytes = is_text bytes (codes "    :  :     :  :  ")
+    || is_text bytes (codes "                   ")
 
 -- colons at 4, 7, 13 and 16, and a space at 10
 abbrev pub has_delimiters : List ℕ → Bool
 has_delimiters bytes =
-    (slice_index bytes 4 == 58 && (slice_index bytes 7 == 58 && (slice_index bytes 13 == 58 && slice_index bytes 16 == 58)))
+    (slice_index bytes 4 == 58 && (slice_index bytes 7 == 58
+    && (slice_index bytes 13 == 58 && slice_index bytes 16 == 58)))
     && slice_index bytes 10 == 32
 
 -- digits at 0 to 3, and two at 5 and 8
 abbrev pub has_date_digits : List ℕ → Bool
-has_date_digits bytes = are_two_at bytes 0 && (are_two_at bytes 2 && (are_two_at bytes 5 && are_two_at bytes 8))
+has_date_digits bytes = are_two_at bytes 0
+    && (are_two_at bytes 2 && (are_two_at bytes 5 && are_two_at bytes 8))
 
 -- two digits at 11, 14 and 17
 abbrev pub has_time_digits : List ℕ → Bool
@@ -40,7 +43,11 @@ date_at bytes = record {
 
 -- the time of day that the digits spell
 abbrev pub time_at : List ℕ → TimeOfDay
-time_at bytes = record { hour = two_at bytes 11; minute = two_at bytes 14; second = two_at bytes 17 }
+time_at bytes = record {
+  hour = two_at bytes 11;
+  minute = two_at bytes 14;
+  second = two_at bytes 17;
+}
 
 -- the date, where its digits are digits
 abbrev pub read_date : List ℕ → Result Date DateFault
@@ -51,7 +58,8 @@ abbrev pub read_time : List ℕ → Result TimeOfDay DateFault
 read_time bytes = if has_time_digits bytes then Ok (time_at bytes) else Err NotANumber
 
 -- both, or the first fault
-abbrev pub both : Result Date DateFault → Result TimeOfDay DateFault → Result (Date × TimeOfDay) DateFault
+abbrev pub both : Result Date DateFault → Result TimeOfDay DateFault
+    → Result (Date × TimeOfDay) DateFault
 both (Ok date) (Ok time) = Ok (date, time)
 both (Ok date) (Err fault) = Err fault
 both (Err fault) time = Err fault
@@ -79,7 +87,8 @@ minutes_at bytes = two_at bytes 1 * 60 + two_at bytes 4
 -- the minutes with their sign
 abbrev pub signed_minutes : ℕ → ℕ → Result ℤ DateFault
 signed_minutes sign minutes =
-    if sign == 43 then Ok (pos minutes) else (if sign == 45 then Ok (pos 0 -ℤ pos minutes) else Err InvalidOffsetSign)
+    if sign == 43 then Ok (pos minutes)
+    else (if sign == 45 then Ok (pos 0 -ℤ pos minutes) else Err InvalidOffsetSign)
 
 -- the minutes of `+hh:mm` or `-hh:mm`, or the first fault in this order
 unfoldable pub parse_offset : List ℕ → Result ℤ DateFault
@@ -87,4 +96,6 @@ parse_offset bytes =
     if is_blank_offset bytes then Err BlankOffset
     else (if nat_lt (length bytes) 6 then Err OffsetTooShort
     else (if not (slice_index bytes 3 == 58) then Err InvalidOffsetDelimiter
-    else (if are_two_at bytes 1 && are_two_at bytes 4 then signed_minutes (slice_index bytes 0) (minutes_at bytes) else Err NotANumber)))
+    else (if are_two_at bytes 1 && are_two_at bytes 4
+    then signed_minutes (slice_index bytes 0) (minutes_at bytes)
+    else Err NotANumber)))

@@ -21,9 +21,11 @@ unfoldable pub without_last_zeros : List ℕ → List ℕ
 without_last_zeros [] = []
 without_last_zeros (d ∷ ds) = push_unless_last_zero d (without_last_zeros ds)
 
--- what stands behind the whole part, for that many billionths below one: nothing, or a point and digits
+-- what stands behind the whole part, for that many billionths below one: nothing, or a point and
+-- digits
 unfoldable pub fraction_text : ℕ → List ℕ
-fraction_text billionths = if billionths == 0 then [] else 46 ∷ without_last_zeros (in_digits 9 billionths)
+fraction_text billionths = if billionths == 0 then []
+    else 46 ∷ without_last_zeros (in_digits 9 billionths)
 
 -- that many billionths
 abbrev pub billionths_text : ℕ → List ℕ
@@ -45,7 +47,8 @@ rational_decimal r = decimal_text false r.num r.denom
 
 -- a fraction with sign as a decimal, negative where the signs differ
 abbrev pub srational_decimal : SRational → List ℕ
-srational_decimal r = decimal_text (signs_differ r.num r.denom) (unsigned_abs r.num) (unsigned_abs r.denom)
+srational_decimal r = decimal_text (signs_differ r.num r.denom) (unsigned_abs r.num)
+    (unsigned_abs r.denom)
 
 -- the text of what `decimal()` answers
 abbrev pub shown_decimal : Decimal → List ℕ

@@ -13,7 +13,8 @@ digit_in byte = if is_ascii_digit byte then Ok (byte - 48) else Err NotANumber
 -- the number that digits spell, where there are digits alone and at least one
 abbrev pub number_in : List ℕ → Result ℕ DateFault
 number_in [] = Err NotANumber
-number_in (d ∷ ds) = if list_all is_ascii_digit (d ∷ ds) then Ok (digits_value 10 (d ∷ ds)) else Err NotANumber
+number_in (d ∷ ds) =
+    if list_all is_ascii_digit (d ∷ ds) then Ok (digits_value 10 (d ∷ ds)) else Err NotANumber
 
 -- the digit at a place, as a number
 abbrev pub digit_at : List ℕ → ℕ → ℕ

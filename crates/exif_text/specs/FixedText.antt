@@ -7,7 +7,7 @@ use Rattle.exif_table.specs.declared.fixed.Choice.TheVariants.{FirstNumber, Unde
 use Rattle.exif_table.specs.Fixed as F
 use Rattle.exif_text.specs.Contents.{Plain}
 use Rattle.exif_text.specs.Plain.{plain_text}
-use Rattle.exif_text.specs.Numbers.{number_at}
+use Rattle.exif_text.specs.Unsigned.{number_at}
 use Rattle.exif_text.specs.Letters.{first_text, letter_in, undefined_byte}
 
 -- what of a value chooses its text
@@ -30,4 +30,5 @@ text_or_reserved name v (Some text) = text
 
 -- the text that a value chooses, or that it is reserved
 abbrev pub fixed_text : F.Texts → Plain → List ℕ
-fixed_text texts v = text_or_reserved texts.name v (option_and_then (text_for texts) (chosen_by texts.chosen_by v))
+fixed_text texts v =
+    text_or_reserved texts.name v (option_and_then (text_for texts) (chosen_by texts.chosen_by v))

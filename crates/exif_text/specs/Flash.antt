@@ -2,7 +2,7 @@
 use Rattle.std.specs.Prelude.{ℕ, ◌/◌, ◌%◌, ◌==◌, if◌then◌else◌, List, [], ◌++◌, codes, Option, Some, None}
 use Rattle.exif_text.specs.Contents.{Plain}
 use Rattle.exif_text.specs.Plain.{plain_text}
-use Rattle.exif_text.specs.Numbers.{number_at}
+use Rattle.exif_text.specs.Unsigned.{number_at}
 
 -- one of four texts, by a number of two bits
 abbrev choose : ℕ → List ℕ → List ℕ → List ℕ → List ℕ → List ℕ
@@ -15,12 +15,14 @@ only_if bits text = if bits == 0 then [] else text
 -- bits 1 and 2
 abbrev pub flash_return : ℕ → List ℕ
 flash_return n =
-    choose n (codes ", no return light detection function") (codes ", return light status 1 (reserved)")
+    choose n (codes ", no return light detection function")
+    (codes ", return light status 1 (reserved)")
     (codes ", return light not detected") (codes ", return light detected")
 
 -- bits 3 and 4
 abbrev pub flash_mode : ℕ → List ℕ
-flash_mode n = choose n (codes ", auto mode 0 (unknown)") (codes ", forced") (codes ", suppressed") (codes ", auto")
+flash_mode n = choose n (codes ", auto mode 0 (unknown)") (codes ", forced") (codes ", suppressed")
+    (codes ", auto")
 
 -- what all bits say
 unfoldable pub flash_bits : ℕ → List ℕ

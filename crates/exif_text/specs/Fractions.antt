@@ -14,8 +14,10 @@ decimals_text v = plain_text v
 
 -- the first fraction as a decimal: one over the highest number, or over -1, is unknown
 abbrev pub optional_decimal_text : Plain → List ℕ
-optional_decimal_text (Rationals (r ∷ rs)) = if r.denom == 0xffffffff then codes "unknown" else rational_decimal r
-optional_decimal_text (SignedRationals (r ∷ rs)) = if int_eq r.denom (negsuc 0) then codes "unknown" else srational_decimal r
+optional_decimal_text (Rationals (r ∷ rs)) =
+    if r.denom == 0xffffffff then codes "unknown" else rational_decimal r
+optional_decimal_text (SignedRationals (r ∷ rs)) =
+    if int_eq r.denom (negsuc 0) then codes "unknown" else srational_decimal r
 optional_decimal_text v = decimals_text v
 
 -- seconds as a decimal, below one as `1/` and the decimal of the inverse
@@ -31,15 +33,18 @@ exposure_time_text v = plain_text v
 -- a distance: 0 is unknown, and the highest number is without end
 abbrev pub subject_distance_of : Rational → List ℕ → List ℕ
 subject_distance_of r otherwise =
-    if r.num == 0 then codes "unknown" else (if r.num == 0xffffffff then codes "infinity" else otherwise)
+    if r.num == 0 then codes "unknown"
+    else (if r.num == 0xffffffff then codes "infinity" else otherwise)
 
 abbrev pub subject_distance_text : Plain → List ℕ
-subject_distance_text (Rationals (r ∷ rs)) = subject_distance_of r (decimals_text (Rationals (r ∷ rs)))
+subject_distance_text (Rationals (r ∷ rs)) =
+    subject_distance_of r (decimals_text (Rationals (r ∷ rs)))
 subject_distance_text v = decimals_text v
 
 -- a ratio, which is 0 where there was no zoom
 abbrev pub zoom_ratio_text : Plain → List ℕ
-zoom_ratio_text (Rationals (r ∷ rs)) = if r.num == 0 then codes "unused" else decimals_text (Rationals (r ∷ rs))
+zoom_ratio_text (Rationals (r ∷ rs)) =
+    if r.num == 0 then codes "unused" else decimals_text (Rationals (r ∷ rs))
 zoom_ratio_text v = decimals_text v
 
 -- focal lengths from and to, and F numbers from and to
@@ -52,7 +57,9 @@ lens_text v = plain_text v
 -- degrees, minutes and seconds
 abbrev pub degrees_text : Plain → List ℕ
 degrees_text (Rationals (degrees ∷ minutes ∷ seconds ∷ rs)) =
-    rational_decimal degrees ++ (codes " deg " ++ (rational_decimal minutes ++ (codes " min " ++ (rational_decimal seconds ++ codes " sec"))))
+    rational_decimal degrees
+    ++ (codes " deg " ++ (rational_decimal minutes
+    ++ (codes " min " ++ (rational_decimal seconds ++ codes " sec"))))
 degrees_text v = plain_text v
 
 -- a decimal, behind a 0 where it is below ten

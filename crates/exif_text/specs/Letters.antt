@@ -26,8 +26,13 @@ undefined_byte v = None
 -- the letters of a color component
 abbrev pub component : ℕ → List ℕ
 component n =
-    if n == 0 then codes "_" else (if n == 1 then codes "Y" else (if n == 2 then codes "Cb" else (if n == 3 then codes "Cr"
-    else (if n == 4 then codes "R" else (if n == 5 then codes "G" else (if n == 6 then codes "B" else codes "?"))))))
+    if n == 0 then codes "_"
+    else (if n == 1 then codes "Y"
+    else (if n == 2 then codes "Cb"
+    else (if n == 3 then codes "Cr"
+    else (if n == 4 then codes "R"
+    else (if n == 5 then codes "G"
+    else (if n == 6 then codes "B" else codes "?"))))))
 
 abbrev pub components_text : Plain → List ℕ
 components_text (Undefined bytes) = flat_map component bytes
@@ -35,7 +40,8 @@ components_text v = plain_text v
 
 -- a capital letter
 abbrev pub capital_of : Option ℕ → List ℕ → List ℕ
-capital_of (Some letter) otherwise = if nat_le 65 letter && nat_le letter 90 then letter ∷ [] else otherwise
+capital_of (Some letter) otherwise =
+    if nat_le 65 letter && nat_le letter 90 then letter ∷ [] else otherwise
 capital_of None otherwise = otherwise
 
 abbrev pub capital_text : Plain → List ℕ
@@ -44,7 +50,8 @@ capital_text v = capital_of (letter_in (first_text v)) (plain_text v)
 -- colons and digits stand as in `2016:05:04`
 abbrev pub is_date : List ℕ → Bool
 is_date text =
-    nat_le 10 (length text) && (slice_index text 4 == 58 && (slice_index text 7 == 58 && has_date_digits text))
+    nat_le 10 (length text)
+    && (slice_index text 4 == 58 && (slice_index text 7 == 58 && has_date_digits text))
 
 -- the date
 abbrev pub date_in : List ℕ → Option Date

@@ -15,4 +15,5 @@ pub mod Plain
 pub mod Quoted
 pub mod Rational
 pub mod Subsec
+pub mod Unsigned
 pub mod Versions

@@ -1,16 +1,9 @@
 -- Texts that the first numbers of a value choose (Exif 2.32, section 4.6.5; TIFF 6.0, section 21).
 use Rattle.std.specs.Prelude.{ℕ, Bool, ◌==◌, ◌&&◌, if◌then◌else◌, List, ◌++◌, codes, Option, Some, None, unwrap_or}
-use Rattle.std.specs.List.{slice_get}
 use Rattle.std.specs.Fmt.{decimal}
-use Rattle.exif_text.specs.Contents.{Plain, Bytes, Shorts, Longs}
+use Rattle.exif_text.specs.Contents.{Plain}
 use Rattle.exif_text.specs.Plain.{plain_text}
-
--- the i-th number of a list of whole numbers without sign
-abbrev pub number_at : Plain → ℕ → Option ℕ
-number_at (Bytes xs) i = slice_get xs i
-number_at (Shorts xs) i = slice_get xs i
-number_at (Longs xs) i = slice_get xs i
-number_at _ i = None
+use Rattle.exif_text.specs.Unsigned.{number_at}
 
 -- the text for 0, another text for other numbers and for none
 abbrev pub if_zero : Option ℕ → List ℕ → List ℕ → List ℕ
@@ -47,17 +40,22 @@ place_text x y = codes "x=" ++ (decimal x ++ (codes ", y=" ++ decimal y))
 -- four numbers are a rectangle, three a circle, two a point
 abbrev pub area_of : Option ℕ → Option ℕ → Option ℕ → Option ℕ → Option (List ℕ)
 area_of (Some x) (Some y) (Some w) (Some h) =
-    Some (codes "rectangle (" ++ (place_text x y ++ (codes ", w=" ++ (decimal w ++ (codes ", h=" ++ (decimal h ++ codes ")"))))))
-area_of (Some x) (Some y) (Some d) None = Some (codes "circle (" ++ (place_text x y ++ (codes ", d=" ++ (decimal d ++ codes ")"))))
+    Some (codes "rectangle ("
+    ++ (place_text x y ++ (codes ", w="
+    ++ (decimal w ++ (codes ", h=" ++ (decimal h ++ codes ")"))))))
+area_of (Some x) (Some y) (Some d) None =
+    Some (codes "circle (" ++ (place_text x y ++ (codes ", d=" ++ (decimal d ++ codes ")"))))
 area_of (Some x) (Some y) None h = Some (codes "point (" ++ (place_text x y ++ codes ")"))
 area_of _ _ w h = None
 
 abbrev pub area_text : Plain → List ℕ
-area_text v = unwrap_or (area_of (number_at v 0) (number_at v 1) (number_at v 2) (number_at v 3)) (plain_text v)
+area_text v = unwrap_or (area_of (number_at v 0) (number_at v 1) (number_at v 2) (number_at v 3))
+    (plain_text v)
 
 -- how many images there were, and how many were used
 abbrev pub counts_of : Option ℕ → Option ℕ → Option (List ℕ)
-counts_of (Some total) (Some used) = Some (codes "total " ++ (decimal total ++ (codes ", used " ++ decimal used)))
+counts_of (Some total) (Some used) =
+    Some (codes "total " ++ (decimal total ++ (codes ", used " ++ decimal used)))
 counts_of _ _ = None
 
 abbrev pub counts_text : Plain → List ℕ

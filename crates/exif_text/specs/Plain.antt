@@ -34,4 +34,6 @@ plain_text (SignedRationals xs) = listed srational_text xs
 plain_text (Floats xs) = listed (bits_text 8) xs
 plain_text (Doubles xs) = listed (bits_text 16) xs
 plain_text (Unknown kind count place) =
-    codes "unknown value (type=" ++ (decimal kind ++ (codes ", count=" ++ (decimal count ++ (codes ", offset=0x" ++ (digits 16 false place ++ codes ")")))))
+    codes "unknown value (type="
+    ++ (decimal kind ++ (codes ", count="
+    ++ (decimal count ++ (codes ", offset=0x" ++ (digits 16 false place ++ codes ")")))))

@@ -7,7 +7,8 @@ use Rattle.std.specs.Fmt.{digit_glyph}
 abbrev pub hex_byte : ℕ → List ℕ
 hex_byte b = digit_glyph false (b / 16) ∷ digit_glyph false (b % 16) ∷ []
 
--- a byte between the quotes: `"` and `\` behind a `\`, printable ASCII itself, others `\x` and two digits
+-- a byte between the quotes: `"` and `\` behind a `\`, printable ASCII itself, others `\x` and two
+-- digits
 abbrev pub escaped : ℕ → List ℕ
 escaped b =
     if b == 34 || b == 92 then 92 ∷ b ∷ []

@@ -22,4 +22,5 @@ nanoseconds_of (d ∷ ds) = Some (nanoseconds (d ∷ ds))
 -- the nanoseconds, where all bytes that count are digits
 unfoldable pub parse_subsec : List ℕ → Result (Option ℕ) DateFault
 parse_subsec bytes =
-    if list_all is_ascii_digit (subsec_bytes bytes) then Ok (nanoseconds_of (subsec_bytes bytes)) else Err NotANumber
+    if list_all is_ascii_digit (subsec_bytes bytes) then Ok (nanoseconds_of (subsec_bytes bytes))
+    else Err NotANumber

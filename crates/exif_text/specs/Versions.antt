@@ -8,7 +8,8 @@ use Rattle.exif_text.specs.Digits.{are_two_at, two_at}
 -- the numbers of the first two and of the last two of four digits
 abbrev pub version_in : Plain → Option (ℕ × ℕ)
 version_in (Undefined bytes) =
-    if length bytes == 4 && (are_two_at bytes 0 && are_two_at bytes 2) then Some (two_at bytes 0, two_at bytes 2) else None
+    if length bytes == 4 && (are_two_at bytes 0 && are_two_at bytes 2)
+    then Some (two_at bytes 0, two_at bytes 2) else None
 version_in v = None
 
 -- the first number, a point, and the second as it is to be shown
@@ -29,5 +30,6 @@ interop_version_text v = version_text (λ n. zero_filled 2 (decimal n)) (version
 -- the first four numbers with points between them
 abbrev pub gps_version_text : Plain → List ℕ
 gps_version_text (Bytes (a ∷ b ∷ c ∷ d ∷ rest)) =
-    decimal a ++ (codes "." ++ (decimal b ++ (codes "." ++ (decimal c ++ (codes "." ++ decimal d)))))
+    decimal a ++ (codes "."
+    ++ (decimal b ++ (codes "." ++ (decimal c ++ (codes "." ++ decimal d)))))
 gps_version_text v = plain_text v

@@ -20,8 +20,8 @@ pub struct Decimal {
 impl Decimal {
     ghost use Rattle.exif_text.specs.Decimal.{decimal_text, shown_decimal};
 
-    /// The decimal of a fraction of these magnitudes, with a minus sign where `negative` says so and
-    /// the text is not 0.
+    /// The decimal of a fraction of these magnitudes, with a minus sign where `negative` says so
+    /// and the text is not 0.
     pub(crate) fn new(negative: bool, num: u32, denom: u32) -> Decimal
         ensures { shown_decimal result ≡ decimal_text negative num denom }
     {

@@ -1,6 +1,6 @@
 //! The text of a value by the kind of its tag.
 
-ghost use Rattle.std.specs.Prelude.{◌≡◌, Some};
+ghost use Rattle.std.specs.Prelude.{◌≡◌};
 ghost use Rattle.std.specs.Fmt.{WritesOnOk};
 ghost use Rattle.exif_text.specs.Contents.{contents_view};
 ghost use Rattle.exif_text.specs.Kinds.{date_value_text, value_text};
@@ -21,18 +21,6 @@ use crate::plain::write_plain;
 use crate::versions::{write_exif_version, write_gps_version, write_interop_version};
 use exif_table::{TextKind, fixed_texts};
 use std::fmt;
-
-/// A value that prints as the kind of its tag says.
-#[derive(Clone, Copy)]
-pub struct ValueText<'a>(pub TextKind, pub Contents<'a>);
-
-impl fmt::Display for ValueText<'_> {
-    ghost output = { λ t. Some (value_text t.0 (contents_view t.1)) };
-
-    fn fmt<W: fmt::Write>(&self, f: &mut fmt::Formatter<W>) -> fmt::Result {
-        write_value(f, self.0, self.1)
-    }
-}
 
 /// Writes a value as the kind of its tag says; where the value is not as the kind asks, its plain
 /// text. Takes no notice of a width.

@@ -20,15 +20,17 @@ pub mod plain;
 pub mod quoted;
 pub mod rational;
 pub mod subsec;
+pub mod unsigned;
 mod versions;
 
 pub use contents::Contents;
 pub use date_fault::DateFault;
 pub use decimal::Decimal;
-pub use kinds::{ValueText, write_value};
+pub use kinds::write_value;
 pub use plain::PlainText;
 pub use quoted::Quoted;
 pub use rational::{Rational, SRational};
+pub use unsigned::Numbers;
 
 #[cfg(test)]
 mod tests;

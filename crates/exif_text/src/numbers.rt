@@ -1,28 +1,15 @@
 //! Texts that the first numbers of a value choose.
 
-ghost use Rattle.std.specs.Prelude.{◌≡◌, ℕ, Option};
+ghost use Rattle.std.specs.Prelude.{◌≡◌};
 ghost use Rattle.std.specs.Option.{option_map};
 ghost use Rattle.std.specs.Fmt.{WritesOnOk};
 ghost use Rattle.exif_text.specs.Contents.{contents_view};
-ghost use Rattle.exif_text.specs.Numbers.{area_text, counts_text, focal_length_text, number_at, sampling_of, sampling_text};
+ghost use Rattle.exif_text.specs.Numbers.{area_text, counts_text, focal_length_text, sampling_of, sampling_text};
+ghost use Rattle.exif_text.specs.Unsigned.{number_at};
 
 use crate::contents::Contents;
 use crate::plain::write_plain;
 use std::fmt;
-
-impl Contents<'_> {
-    /// The number at `i` of a list of whole numbers without sign.
-    pub fn number_at(self, i: usize) -> Option<u32>
-        ensures { result ≡ number_at (contents_view self.entry) i }
-    {
-        match self {
-            Contents::Byte(items) => items.get(i).map(|item| u32::from(*item)),
-            Contents::Short(items) => items.get(i).map(|item| u32::from(*item)),
-            Contents::Long(items) => items.get(i).copied(),
-            _ => None,
-        }
-    }
-}
 
 /// Writes a focal length, of which 0 is unknown.
 pub(crate) fn write_focal_length<W: fmt::Write>(

@@ -13,7 +13,8 @@ default_as T.NoDefault = None
 default_as (T.Bytes ns) = Some (value.Byte ns)
 default_as (T.OneText text) = Some (value.Ascii (text ∷ []))
 default_as (T.Shorts ns) = Some (value.Short ns)
-default_as (T.OneFraction num denom) = Some (value.Rational (record { num = num; denom = denom } ∷ []))
+default_as (T.OneFraction num denom) =
+    Some (value.Rational (record { num = num; denom = denom } ∷ []))
 default_as (T.Undefineds bytes) = Some (value.Undefined bytes 0)
 default_as T.ContextDependent = None
 default_as T.Unspecified = None

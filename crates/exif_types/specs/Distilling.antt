@@ -8,16 +8,15 @@ use Rattle.exif_types.specs.declared.error.Error.TheVariants as error
 
 -- the fact holds of any list of the faults of a partial result
 abbrev pub ForFaults : {Text : Type 0} → Error Text → (Vec (Error Text) Global → Type 0) → Type 0
-ForFaults {Text} (error.PartialResult partial) P = (errors : Vec (Error Text) Global) → map told_text errors.items ≡ partial.faults → P errors
+ForFaults {Text} (error.PartialResult partial) P = (errors : Vec (Error Text) Global)
+    → map told_text errors.items ≡ partial.faults → P errors
 ForFaults _ P = ⊤
 
--- the faults of a partial result went to a call, and its fields came back; any other error came back as it was
-abbrev pub Distills : {Text : Type 0} → Error Text → Result ExifContents (Error Text) → (Vec (Error Text) Global → Type 0) → Type 0
+-- the faults of a partial result went to a call, and its fields came back; any other error came
+-- back as it was
+abbrev pub Distills : {Text : Type 0} → Error Text → Result ExifContents (Error Text)
+    → (Vec (Error Text) Global → Type 0) → Type 0
 Distills {Text} (error.PartialResult partial) result P =
-    (result ≡ Ok partial.exif) × (errors : Vec (Error Text) Global) × (map told_text errors.items ≡ partial.faults) × P errors
+    (result ≡ Ok partial.exif) × (errors : Vec (Error Text) Global)
+    × (map told_text errors.items ≡ partial.faults) × P errors
 Distills e result P = result ≡ Err e
-
--- the fields of a partial result came back; any other error came back as it was
-abbrev pub KeepsExif : {Text : Type 0} → Error Text → Result ExifContents (Error Text) → Type 0
-KeepsExif (error.PartialResult partial) result = result ≡ Ok partial.exif
-KeepsExif e result = result ≡ Err e

@@ -19,7 +19,13 @@ deep_zero (error.UnexpectedValue e) h = absurd h
 deep_zero (error.PartialResult e) h = absurd h
 deep_zero error.OutOfMemory h = absurd h
 
-pub errors_fall : {Text : Type 0} (es : List (Error Text)) → All IsInvalidFormat es → most (deep-Error Text) es ≤ 0
+pub errors_fall : {Text : Type 0} (es : List (Error Text)) → All IsInvalidFormat es
+    → most (deep-Error Text) es ≤ 0
 errors_fall [] h = omega arith
 errors_fall (e ∷ es) h =
-    omega (arith, deep_zero e (All-head IsInvalidFormat e es h), errors_fall es (All-tail IsInvalidFormat e es h))
+    omega (
+      arith,
+      deep_zero e (All-head IsInvalidFormat e es h),
+      errors_fall es
+          (All-tail IsInvalidFormat e es h),
+    )

@@ -32,6 +32,7 @@ error_text (error.TooBig text) = Some text.now
 error_text (error.NotSupported text) = Some text.now
 error_text (error.UnexpectedValue text) = Some text.now
 error_text (error.PartialResult partial) =
-    Some (codes "Partial result with " ++ (decimal (length partial.exif.fields) ++ (codes " fields and " ++ (decimal (length partial.faults) ++ codes " errors"))))
+    Some (codes "Partial result with " ++ (decimal (length partial.exif.fields)
+    ++ (codes " fields and " ++ (decimal (length partial.faults) ++ codes " errors"))))
 error_text error.OutOfMemory = Some (codes "Out of memory")
 error_text (error.Io cause) = None

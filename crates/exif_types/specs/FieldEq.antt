@@ -50,23 +50,26 @@ named_Decides : (a b : Field) → Decides (is_named a.tag a.ifd_num b) ((a.tag �
     × (a.ifd_num ≡ b.ifd_num))
 named_Decides a b =
     along {r = is_named a.tag a.ifd_num b} {P = (b.tag ≡ a.tag) × (b.ifd_num ≡ a.ifd_num)}
-        {Q = (a.tag ≡ b.tag) × (a.ifd_num ≡ b.ifd_num)}
+    {Q = (a.tag ≡ b.tag) × (a.ifd_num ≡ b.ifd_num)}
     (λ h. (sym h.0, sym h.1)) (λ h. (sym h.0, sym h.1))
     (both (tag_eq b.tag a.tag) (b.ifd_num.0 == a.ifd_num.0) (tag_Decides b.tag a.tag)
-        (ifd_Decides b.ifd_num a.ifd_num))
+    (ifd_Decides b.ifd_num a.ifd_num))
 
 -- fields that the test tells equal are equal, and the other way round
 pub field_Decides : (a b : Field) → Decides (field_eq a b) (a ≡ b)
 field_Decides a b =
     along {r = field_eq a b} {P = ((a.tag ≡ b.tag) × (a.ifd_num ≡ b.ifd_num)) × (a.value ≡ b.value)}
-        {Q = a ≡ b}
+    {Q = a ≡ b}
     (λ h. same a.tag b.tag a.ifd_num b.ifd_num a.value b.value h.0.0 h.0.1 h.1)
-    (λ e. ((ap (λ (f : Field). f.tag) e, ap (λ (f : Field). f.ifd_num) e), ap
-        (λ (f : Field). f.value) e))
+    (λ e. (
+      (ap (λ (f : Field). f.tag) e, ap (λ (f : Field). f.ifd_num) e),
+      ap
+          (λ (f : Field). f.value) e,
+    ))
     (both (is_named a.tag a.ifd_num b) (value_eq a.value b.value) (named_Decides a b)
-        (value_Decides a.value b.value))
+    (value_Decides a.value b.value))
   where
     same : (t u : Tag) (i j : In) (v w : Value) → t ≡ u → i ≡ j → v ≡ w
         → ◌≡◌ {A = Field} (record { tag = t; ifd_num = i; value = v })
-            (record { tag = u; ifd_num = j; value = w })
+        (record { tag = u; ifd_num = j; value = w })
     same t u i j v w p q r = rw (p, q, r) refl

@@ -4,4 +4,5 @@ use Rattle.std.specs.Fmt.{decimal}
 
 -- the first two have names
 abbrev pub ifd_text : ℕ → List ℕ
-ifd_text n = if n == 0 then codes "primary" else (if n == 1 then codes "thumbnail" else codes "IFD" ++ decimal n)
+ifd_text n = if n == 0 then codes "primary"
+    else (if n == 1 then codes "thumbnail" else codes "IFD" ++ decimal n)

@@ -13,8 +13,10 @@ use Rattle.exif_types.specs.Lookup.{last_named}
 abbrev pub place_in : (FieldKey → FieldKey → Ordering) → FieldIndex → Tag → In → Option ℕ
 place_in cmp index tag ifd_num = get cmp index.places (record { ifd_num = ifd_num; tag = tag })
 
--- there is a place exactly for the tags and directories of the fields, and there stands the last such field
+-- there is a place exactly for the tags and directories of the fields, and there stands the last
+-- such field
 abbrev pub Locates : (FieldKey → FieldKey → Ordering) → FieldIndex → List Field → Type 0
 Locates cmp index fields =
-    (tag : Tag) (ifd_num : In) → MatchOption (place_in cmp index tag ifd_num) (last_named fields tag ifd_num ≡ None)
+    (tag : Tag) (ifd_num : In) → MatchOption (place_in cmp index tag ifd_num)
+    (last_named fields tag ifd_num ≡ None)
     (λ place. (place < length fields) × (slice_get fields place ≡ last_named fields tag ifd_num))

@@ -38,4 +38,4 @@ NoneNamed tag ifd_num fields = All (λ field. ¬ (HasName tag ifd_num field)) fi
 abbrev pub IsLastNamed : Tag → In → List Field → Field → Type 0
 IsLastNamed tag ifd_num fields field =
     (before : List Field) × (behind : List Field) × (fields ≡ before ++ field ∷ behind)
-        × HasName tag ifd_num field × NoneNamed tag ifd_num behind
+    × HasName tag ifd_num field × NoneNamed tag ifd_num behind

@@ -56,7 +56,8 @@ abbrev pub ◌>>=◌ : {A B : Type 0} → Result A Refusal → (A → Result B R
 (Err e) >>= f = Err e
 
 -- the lists that each step in order gives, joined, or the first refusal
-abbrev pub joined : {A B : Type 0} → (A → Result (List B) Refusal) → List A → Result (List B) Refusal
+abbrev pub joined : {A B : Type 0} → (A → Result (List B) Refusal) → List A
+    → Result (List B) Refusal
 joined f [] = Ok []
 joined f (x ∷ xs) = do
   ys ← f x
@@ -64,7 +65,8 @@ joined f (x ∷ xs) = do
   Ok (ys ++ rest)
 
 -- each passes a test, or the first refusal
-abbrev pub all_pass : {A : Type 0} → (A → Result (Unit {0}) Refusal) → List A → Result (Unit {0}) Refusal
+abbrev pub all_pass : {A : Type 0} → (A → Result (Unit {0}) Refusal) → List A
+    → Result (Unit {0}) Refusal
 all_pass test [] = Ok tt
 all_pass test (x ∷ xs) = test x >>= λ u. all_pass test xs
 
@@ -97,7 +99,8 @@ abbrev pub Answers : {X Y : Type 0} → (X → Y) → Result X Failure → Resul
 Answers view (Ok x) answer = answer ≡ Ok (view x)
 Answers view (Err e) answer = Refuses e answer
 
--- what a call answered, seen by view, and what it left, is the value at the front and the text after it
+-- what a call answered, seen by view, and what it left, is the value at the front and the text
+-- after it
 abbrev pub Takes : {X Y : Type 0} → (X → Y) → Result X Failure → List ℕ → Front Y → Type 0
 Takes view (Ok x) rest read = read ≡ Ok (view x, rest)
 Takes view (Err e) rest read = Refuses e read
@@ -113,7 +116,8 @@ abbrev pub Gives : {X Y : Type 0} → (X → Y) → Result X Failure → Result 
 Gives view (Ok x) answer = answer ≡ Ok (view x)
 Gives view (Err e) answer = Fails e answer
 
--- what a call answered, seen by view, and what it left, is the value at the front and the text after it
+-- what a call answered, seen by view, and what it left, is the value at the front and the text
+-- after it
 abbrev pub TakesIfRoom : {X Y : Type 0} → (X → Y) → Result X Failure → List ℕ → Front Y → Type 0
 TakesIfRoom view (Ok x) rest read = read ≡ Ok (view x, rest)
 TakesIfRoom view (Err e) rest read = Fails e read

@@ -52,9 +52,11 @@ rational_Decides a b =
     along {r = rational_eq a b} {P = (a.num ≡ b.num) × (a.denom ≡ b.denom)} {Q = a ≡ b}
     (λ h. same a.num b.num a.denom b.denom h.0 h.1)
     (λ e. (ap (λ (r : Rational). r.num) e, ap (λ (r : Rational). r.denom) e))
-    (both (a.num == b.num) (a.denom == b.denom) (unsigned_Decides a.num b.num) (unsigned_Decides a.denom b.denom))
+    (both (a.num == b.num) (a.denom == b.denom) (unsigned_Decides a.num b.num)
+    (unsigned_Decides a.denom b.denom))
   where
-    same : (n m d e : ℕ) → n ≡ m → d ≡ e → ◌≡◌ {A = Rational} (record { num = n; denom = d }) (record { num = m; denom = e })
+    same : (n m d e : ℕ) → n ≡ m → d ≡ e → ◌≡◌ {A = Rational} (record { num = n; denom = d })
+        (record { num = m; denom = e })
     same n m d e p q = rw (p, q) refl
 
 srational_Decides : (a b : SRational) → Decides (srational_eq a b) (a ≡ b)
@@ -62,9 +64,11 @@ srational_Decides a b =
     along {r = srational_eq a b} {P = (a.num ≡ b.num) × (a.denom ≡ b.denom)} {Q = a ≡ b}
     (λ h. same a.num b.num a.denom b.denom h.0 h.1)
     (λ e. (ap (λ (r : SRational). r.num) e, ap (λ (r : SRational). r.denom) e))
-    (both (int_eq a.num b.num) (int_eq a.denom b.denom) (signed_Decides a.num b.num) (signed_Decides a.denom b.denom))
+    (both (int_eq a.num b.num) (int_eq a.denom b.denom) (signed_Decides a.num b.num)
+    (signed_Decides a.denom b.denom))
   where
-    same : (n m d e : ℤ) → n ≡ m → d ≡ e → ◌≡◌ {A = SRational} (record { num = n; denom = d }) (record { num = m; denom = e })
+    same : (n m d e : ℤ) → n ≡ m → d ≡ e → ◌≡◌ {A = SRational} (record { num = n; denom = d })
+        (record { num = m; denom = e })
     same n m d e p q = rw (p, q) refl
 
 numbers_Decides : (xs ys : List ℕ) → Decides (pointwise ◌==◌ xs ys) (xs ≡ ys)
@@ -80,35 +84,51 @@ rationals_Decides : (xs ys : List Rational) → Decides (pointwise rational_eq x
 rationals_Decides xs ys = slice_eq-Decides rational_Decides xs ys (pointwise rational_eq xs ys) refl
 
 srationals_Decides : (xs ys : List SRational) → Decides (pointwise srational_eq xs ys) (xs ≡ ys)
-srationals_Decides xs ys = slice_eq-Decides srational_Decides xs ys (pointwise srational_eq xs ys) refl
+srationals_Decides xs ys = slice_eq-Decides srational_Decides xs ys (pointwise srational_eq xs ys)
+    refl
 
 -- a kind that keeps its list apart
-under : {A : Type 0} (C : A → Value) (x y : A) (b : Bool) → (C x ≡ C y → x ≡ y) → Decides b (x ≡ y) → Decides b (C x ≡ C y)
+under : {A : Type 0} (C : A → Value) (x y : A) (b : Bool) → (C x ≡ C y → x ≡ y) → Decides b (x ≡ y)
+    → Decides b (C x ≡ C y)
 under C x y b inj d = (λ t. ap C (d.0 t), λ e. d.1 (inj e))
 
-undefined_Decides : (xs ys : List ℕ) (p q : ℕ) → Decides (pointwise ◌==◌ xs ys && (p == q)) (value.Undefined xs p ≡ value.Undefined ys q)
+undefined_Decides : (xs ys : List ℕ) (p q : ℕ) → Decides (pointwise ◌==◌ xs ys && (p == q))
+    (value.Undefined xs p ≡ value.Undefined ys q)
 undefined_Decides xs ys p q =
     let d = both (pointwise ◌==◌ xs ys) (p == q) (numbers_Decides xs ys) (unsigned_Decides p q) in
     (λ t. rw ((d.0 t).0, (d.0 t).1) refl, λ e. d.1 (cc, cc))
 
-unknown_Decides : (a b c x y z : ℕ) → Decides ((a == x) && (b == y) && (c == z)) (value.Unknown a b c ≡ value.Unknown x y z)
+unknown_Decides : (a b c x y z : ℕ) → Decides ((a == x) && (b == y) && (c == z))
+    (value.Unknown a b c ≡ value.Unknown x y z)
 unknown_Decides a b c x y z =
-    let d = both ((a == x) && (b == y)) (c == z) (both (a == x) (b == y) (unsigned_Decides a x) (unsigned_Decides b y)) (unsigned_Decides c z) in
+    let d = both ((a == x) && (b == y)) (c == z) (both (a == x) (b == y) (unsigned_Decides a x)
+    (unsigned_Decides b y)) (unsigned_Decides c z) in
     (λ t. rw ((d.0 t).0.0, (d.0 t).0.1, (d.0 t).1) refl, λ e. d.1 ((cc, cc), cc))
 
 -- values that the test tells equal are equal, and the other way round
 pub value_Decides : (a b : Value) → Decides (value_eq a b) (a ≡ b)
-value_Decides (value.Byte xs) (value.Byte ys) = under (λ zs. value.Byte zs) xs ys _ (λ e. cc) (numbers_Decides xs ys)
-value_Decides (value.Ascii xs) (value.Ascii ys) = under (λ zs. value.Ascii zs) xs ys _ (λ e. cc) (texts_Decides xs ys)
-value_Decides (value.Short xs) (value.Short ys) = under (λ zs. value.Short zs) xs ys _ (λ e. cc) (numbers_Decides xs ys)
-value_Decides (value.Long xs) (value.Long ys) = under (λ zs. value.Long zs) xs ys _ (λ e. cc) (numbers_Decides xs ys)
-value_Decides (value.Rational xs) (value.Rational ys) = under (λ zs. value.Rational zs) xs ys _ (λ e. cc) (rationals_Decides xs ys)
-value_Decides (value.SByte xs) (value.SByte ys) = under (λ zs. value.SByte zs) xs ys _ (λ e. cc) (signed_numbers_Decides xs ys)
+value_Decides (value.Byte xs) (value.Byte ys) =
+    under (λ zs. value.Byte zs) xs ys _ (λ e. cc) (numbers_Decides xs ys)
+value_Decides (value.Ascii xs) (value.Ascii ys) =
+    under (λ zs. value.Ascii zs) xs ys _ (λ e. cc) (texts_Decides xs ys)
+value_Decides (value.Short xs) (value.Short ys) =
+    under (λ zs. value.Short zs) xs ys _ (λ e. cc) (numbers_Decides xs ys)
+value_Decides (value.Long xs) (value.Long ys) =
+    under (λ zs. value.Long zs) xs ys _ (λ e. cc) (numbers_Decides xs ys)
+value_Decides (value.Rational xs) (value.Rational ys) =
+    under (λ zs. value.Rational zs) xs ys _ (λ e. cc) (rationals_Decides xs ys)
+value_Decides (value.SByte xs) (value.SByte ys) =
+    under (λ zs. value.SByte zs) xs ys _ (λ e. cc) (signed_numbers_Decides xs ys)
 value_Decides (value.Undefined xs p) (value.Undefined ys q) = undefined_Decides xs ys p q
-value_Decides (value.SShort xs) (value.SShort ys) = under (λ zs. value.SShort zs) xs ys _ (λ e. cc) (signed_numbers_Decides xs ys)
-value_Decides (value.SLong xs) (value.SLong ys) = under (λ zs. value.SLong zs) xs ys _ (λ e. cc) (signed_numbers_Decides xs ys)
-value_Decides (value.SRational xs) (value.SRational ys) = under (λ zs. value.SRational zs) xs ys _ (λ e. cc) (srationals_Decides xs ys)
-value_Decides (value.Float xs) (value.Float ys) = under (λ zs. value.Float zs) xs ys _ (λ e. cc) (numbers_Decides xs ys)
-value_Decides (value.Double xs) (value.Double ys) = under (λ zs. value.Double zs) xs ys _ (λ e. cc) (numbers_Decides xs ys)
+value_Decides (value.SShort xs) (value.SShort ys) =
+    under (λ zs. value.SShort zs) xs ys _ (λ e. cc) (signed_numbers_Decides xs ys)
+value_Decides (value.SLong xs) (value.SLong ys) =
+    under (λ zs. value.SLong zs) xs ys _ (λ e. cc) (signed_numbers_Decides xs ys)
+value_Decides (value.SRational xs) (value.SRational ys) =
+    under (λ zs. value.SRational zs) xs ys _ (λ e. cc) (srationals_Decides xs ys)
+value_Decides (value.Float xs) (value.Float ys) =
+    under (λ zs. value.Float zs) xs ys _ (λ e. cc) (numbers_Decides xs ys)
+value_Decides (value.Double xs) (value.Double ys) =
+    under (λ zs. value.Double zs) xs ys _ (λ e. cc) (numbers_Decides xs ys)
 value_Decides (value.Unknown a b c) (value.Unknown x y z) = unknown_Decides a b c x y z
 value_Decides _ _ = (λ t. absurd (false≢true t), λ e. cc)

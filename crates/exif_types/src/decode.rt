@@ -139,7 +139,8 @@ fn decode_items<T: Item, E: Endian>(
     count: usize,
 ) -> Result<Items<T>, AllocError>
     requires { place + T.LEN * count ≤ length bytes.now }
-    ensures { IfOk result (λ items. items ≡ items_at (T.item_at E.number_of bytes.now) T.LEN count place) }
+    ensures { IfOk result (λ items.
+        items ≡ items_at (T.item_at E.number_of bytes.now) T.LEN count place) }
 {
     let mut items = Vec::with_capacity(alloc, count)?;
     let mut at = place;

@@ -28,9 +28,14 @@ impl Model for Exif {
 
     ghost Value = { ExifContents };
 
-    ghost view = { λ a. record { buf = a.buf.items; fields = a.fields.items; little_endian = a.little_endian } };
+    ghost view = { λ a. record {
+      buf = a.buf.items;
+      fields = a.fields.items;
+      little_endian = a.little_endian;
+    } };
 
-    ghost invariant = { λ a. All IsRead a.fields.items × Locates ⟦<FieldKey as Ord>⟧.cmp a.index a.fields.items };
+    ghost invariant = { λ a. All IsRead a.fields.items
+        × Locates ⟦<FieldKey as Ord>⟧.cmp a.index a.fields.items };
 }
 
 /// The data, the fields that were read of them, and whether they are little endian.

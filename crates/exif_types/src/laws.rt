@@ -1,5 +1,5 @@
-//! What holds of equality, order and hashing of tags and of directories, of look-ups, and of unsigned
-//! numbers by index.
+//! What holds of equality, order and hashing of tags and of directories, of look-ups, and of
+//! unsigned numbers by index.
 
 ghost use Rattle.std.specs.Prelude.{◌≡◌, ◌↔◌, IsTrue, IfSome, IfNone, slice_get};
 ghost use Rattle.std.specs.List.{fold};
@@ -46,8 +46,8 @@ pub fn directories_agree<H: Hasher>(a: In, b: In, first: &mut H, second: &mut H)
     (a == b, a.cmp(&b))
 }
 
-/// `get_field` gives the last of `fields()` with its tag and directory: none behind it has them, and
-/// where it gives nothing none has them at all.
+/// `get_field` gives the last of `fields()` with its tag and directory: none behind it has them,
+/// and where it gives nothing none has them at all.
 pub fn get_field_gives_the_last(exif: &Exif, tag: Tag, ifd_num: In) -> (Fields<'_>, Option<&Field>)
     ensures last { IfSome (option_copied result.1) (IsLastNamed tag ifd_num result.0) }
     ensures none { IfNone result.1 (NoneNamed tag ifd_num result.0) }

@@ -1,85 +1,25 @@
 //! The unsigned whole numbers of a value.
 
 ghost use Rattle.std.specs.Prelude.{◌≡◌, length, slice_get, codes, Some, IfSome};
-ghost use Rattle.std.specs.Option.{option_map};
 ghost use Rattle.std.specs.Iterator.{YieldsFirst, UpTo, at_most, item_count};
 ghost use Rattle.std.specs.Iterator.SizeHint.{IsWithinCount};
-ghost use Rattle.exif_types.specs.Numbers.{numbers_of, number_in, numbers_in, first_and_rest, split_first};
+ghost use Rattle.exif_types.specs.Numbers.{numbers_of, number_in};
 ghost use Rattle.exif_types.specs.Refusals.{Answers, unexpected_value, or_refuse};
 
 use crate::{Error, Value};
+use exif_text::Numbers;
 use std::fmt;
 use std::iter::FusedIterator;
 use std::marker::Model;
-
-// The numbers of one of the three kinds.
-#[derive(Clone, Copy)]
-pub(crate) enum Numbers<'a> {
-    Byte(&'a [u8]),
-    Short(&'a [u16]),
-    Long(&'a [u32]),
-}
-
-impl<'a> Numbers<'a> {
-    // The numbers of a value, if it is of one of the kinds.
-    fn of(value: &'a Value) -> Option<Numbers<'a>>
-        ensures { option_map numbers_in result ≡ numbers_of value.now }
-    {
-        match value {
-            Value::Byte(items) => Some(Numbers::Byte(items.as_slice())),
-            Value::Short(items) => Some(Numbers::Short(items.as_slice())),
-            Value::Long(items) => Some(Numbers::Long(items.as_slice())),
-            _ => None,
-        }
-    }
-
-    fn get(self, index: usize) -> Option<u32>
-        ensures { result ≡ slice_get (numbers_in self.entry) index }
-    {
-        match self {
-            Numbers::Byte(items) => items.get(index).map(|n| u32::from(*n)),
-            Numbers::Short(items) => items.get(index).map(|n| u32::from(*n)),
-            Numbers::Long(items) => items.get(index).copied(),
-        }
-    }
-
-    fn len(self) -> usize
-        ensures { result ≡ length (numbers_in self.entry) }
-    {
-        match self {
-            Numbers::Byte(items) => items.len(),
-            Numbers::Short(items) => items.len(),
-            Numbers::Long(items) => items.len(),
-        }
-    }
-
-    fn split_first(self) -> Option<(u32, Numbers<'a>)>
-        ensures { option_map first_and_rest result ≡ split_first (numbers_in self.entry) }
-    {
-        match self {
-            Numbers::Byte(items) => {
-                let (first, others) = items.split_first()?;
-                Some((u32::from(*first), Numbers::Byte(others)))
-            }
-            Numbers::Short(items) => {
-                let (first, others) = items.split_first()?;
-                Some((u32::from(*first), Numbers::Short(others)))
-            }
-            Numbers::Long(items) => {
-                let (first, others) = items.split_first()?;
-                Some((*first, Numbers::Long(others)))
-            }
-        }
-    }
-}
 
 impl Value {
     /// A view of a `Byte`, `Short` or `Long` value. Any other kind is refused as
     /// `UnexpectedValue`.
     pub fn as_uint(&self) -> Result<UIntValue<'_>, Error>
-        ensures { Answers (λ v. v) result (or_refuse (numbers_of self.now) (unexpected_value (codes "Not unsigned integer"))) }
+        ensures { Answers (λ v. v) result
+            (or_refuse (numbers_of self.now) (unexpected_value (codes "Not unsigned integer"))) }
     {
-        match Numbers::of(self) {
+        match self.contents().numbers() {
             Some(numbers) => Ok(UIntValue { numbers }),
             None => Err(Error::UnexpectedValue("Not unsigned integer")),
         }
@@ -89,15 +29,14 @@ impl Value {
     pub fn get_uint(&self, index: usize) -> Option<u32>
         ensures { result ≡ number_in self.now index }
     {
-        let borrowed = Numbers::of(self)?;
-        borrowed.get(index)
+        self.contents().number_at(index)
     }
 
     /// The numbers of a `Byte`, `Short` or `Long` value in order.
     pub fn iter_uint(&self) -> Option<UIntIter<'_>>
         ensures { result ≡ numbers_of self.now }
     {
-        let left = Numbers::of(self)?;
+        let left = self.contents().numbers()?;
         Some(UIntIter { left })
     }
 }
@@ -110,7 +49,7 @@ pub struct UIntValue<'a> {
 
 impl<'a> Model for UIntValue<'a> {
     ghost use Rattle.std.specs.Prelude.{ℕ, List};
-    ghost use Rattle.exif_types.specs.Numbers.{numbers_in};
+    ghost use Rattle.exif_text.specs.Unsigned.{numbers_in};
 
     ghost Value = { List ℕ };
 
@@ -144,7 +83,7 @@ pub struct UIntIter<'a> {
 
 impl<'a> Model for UIntIter<'a> {
     ghost use Rattle.std.specs.Prelude.{ℕ, List};
-    ghost use Rattle.exif_types.specs.Numbers.{numbers_in};
+    ghost use Rattle.exif_text.specs.Unsigned.{numbers_in};
 
     ghost Value = { List ℕ };
 

@@ -1,4 +1,4 @@
-//! Each kind of fixed texts at a value that has one and at one that has none, and the kinds of other
+//! Each kind of fixed texts at a value that has one and at one that has none, and kinds of other
 //! texts at values that they don't take.
 
 use super::kinds::{assert_fractions, assert_shorts, assert_text, assert_texts, assert_undefined};

@@ -1,11 +1,22 @@
 //! Texts by kind.
 
 use crate::contents::Contents;
-use crate::kinds::ValueText;
+use crate::kinds::write_value;
 use crate::rational::{Rational, SRational};
 use exif_table::TextKind;
 use std::alloc::AllocError;
+use std::fmt;
 use std::process::Abort;
+
+// A value that prints as a kind says.
+#[derive(Clone, Copy)]
+struct Shown<'a>(TextKind, Contents<'a>);
+
+impl fmt::Display for Shown<'_> {
+    fn fmt<W: fmt::Write>(&self, f: &mut fmt::Formatter<W>) -> fmt::Result {
+        write_value(f, self.0, self.1)
+    }
+}
 
 pub fn assert_text(
     rt: &(impl Abort + AllocGlobal),
@@ -13,7 +24,7 @@ pub fn assert_text(
     contents: Contents<'_>,
     text: &str,
 ) -> Result<(), AllocError> {
-    let shown = ValueText(kind, contents);
+    let shown = Shown(kind, contents);
     let alloc = rt.alloc();
     assert_eq!(rt; format!(in alloc; "{shown}")?.as_str(), text);
     assert_eq!(rt; format!(in alloc; "{shown:60}")?.as_str(), text);
