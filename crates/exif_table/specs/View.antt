@@ -7,11 +7,13 @@ use Rattle.exif_table.specs.declared.row.DefaultValue.{DefaultValue}
 use Rattle.exif_table.specs.declared.row.DefaultValue.TheVariants as D
 use Rattle.exif_table.specs.Table.{TagRow, Piece, Value, Text, Sibling, Default, NoDefault, Bytes, OneText, Shorts, OneFraction, Undefineds, ContextDependent, Unspecified}
 
+-- a piece of a text with its unit
 abbrev pub piece_view : UnitPiece → Piece
 piece_view U.Value = Value
 piece_view (U.Str s) = Text s.now
 piece_view (U.Tag c n) = Sibling c n
 
+-- a default
 abbrev pub default_view : DefaultValue → Default
 default_view D.None = NoDefault
 default_view (D.Byte b) = Bytes b.now
@@ -22,6 +24,7 @@ default_view (D.Undefined b) = Undefineds b.now
 default_view D.ContextDependent = ContextDependent
 default_view D.Unspecified = Unspecified
 
+-- a row
 abbrev pub row_view : Row → TagRow
 row_view r = record {
   number = r.number;

@@ -1,6 +1,6 @@
-mod DigitLemmas
-mod FractionLemmas
-mod PadLemmas
-mod QuotedLemmas
-mod SubsecLemmas
-mod ZeroPadding
+pub mod DecimalLemmas
+pub mod DigitsLemmas
+pub mod PadLemmas
+pub mod PlainLemmas
+pub mod QuotedLemmas
+pub mod SubsecLemmas

@@ -8,6 +8,7 @@ use Rattle.std.specs.declared.fmt.Alignment.{Alignment}
 use Rattle.std.specs.declared.fmt.Alignment.TheVariants.{Left, Right, Center}
 use Rattle.exif_text.specs.Pad.{pad}
 
+-- a space over and over is so many spaces
 pub repeated_spaces : (n : ℕ) → repeat {A = ℕ} n (32 ∷ []) ≡ replicate n 32
 repeated_spaces zero = refl
 repeated_spaces (suc n) = ap (λ t. 32 ∷ t) (repeated_spaces n)

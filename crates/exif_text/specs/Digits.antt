@@ -20,6 +20,7 @@ number_in (d ∷ ds) =
 abbrev pub digit_at : List ℕ → ℕ → ℕ
 digit_at bytes i = slice_index bytes i - 48
 
+-- a digit stands at a place
 abbrev pub is_digit_at : List ℕ → ℕ → Bool
 is_digit_at bytes i = nat_le 48 (slice_index bytes i) && nat_le (slice_index bytes i) 57
 
@@ -27,5 +28,6 @@ is_digit_at bytes i = nat_le 48 (slice_index bytes i) && nat_le (slice_index byt
 abbrev pub two_at : List ℕ → ℕ → ℕ
 two_at bytes i = digit_at bytes i * 10 + digit_at bytes (i + 1)
 
+-- two digits stand from a place on
 abbrev pub are_two_at : List ℕ → ℕ → Bool
 are_two_at bytes i = is_digit_at bytes i && is_digit_at bytes (i + 1)

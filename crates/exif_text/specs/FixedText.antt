@@ -24,6 +24,7 @@ text_for texts key = option_map (λ p. p.1) (find (λ p. p.0 == key) texts.texts
 abbrev pub reserved : List ℕ → Plain → List ℕ
 reserved name v = codes "[reserved " ++ (name ++ (codes " " ++ (plain_text v ++ codes "]")))
 
+-- the text, or that the value is reserved
 abbrev pub text_or_reserved : List ℕ → Plain → Option (List ℕ) → List ℕ
 text_or_reserved name v None = reserved name v
 text_or_reserved name v (Some text) = text

@@ -34,9 +34,11 @@ flash_bits n =
     ++ (only_if (n / 64 % 2) (codes ", red-eye reduction")
     ++ only_if (n / 128) (codes ", unknown MSB bits")))))
 
+-- the text of the bits, if there are bits
 abbrev pub flash_of : Option ℕ → List ℕ → List ℕ
 flash_of None otherwise = otherwise
 flash_of (Some bits) otherwise = flash_bits bits
 
+-- the text of a value whose first number has the bits
 abbrev pub flash_text : Plain → List ℕ
 flash_text v = flash_of (number_at v 0) (plain_text v)

@@ -26,6 +26,7 @@ exposure_time_of r otherwise =
     if nat_le r.denom r.num then rational_decimal r
     else (if r.num == 0 then otherwise else codes "1/" ++ decimal_text false r.denom r.num)
 
+-- the exposure time of the first fraction
 abbrev pub exposure_time_text : Plain → List ℕ
 exposure_time_text (Rationals (r ∷ rs)) = exposure_time_of r (plain_text (Rationals (r ∷ rs)))
 exposure_time_text v = plain_text v
@@ -36,6 +37,7 @@ subject_distance_of r otherwise =
     if r.num == 0 then codes "unknown"
     else (if r.num == 0xffffffff then codes "infinity" else otherwise)
 
+-- the distance of the first fraction
 abbrev pub subject_distance_text : Plain → List ℕ
 subject_distance_text (Rationals (r ∷ rs)) =
     subject_distance_of r (decimals_text (Rationals (r ∷ rs)))

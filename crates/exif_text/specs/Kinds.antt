@@ -24,6 +24,7 @@ date_or (Ok read) otherwise = datetime_text read.0 read.1
 date_or (Err BlankDate) otherwise = codes "unknown"
 date_or (Err fault) otherwise = otherwise
 
+-- the date in a text, if there is a text
 abbrev pub date_value_of : Option (List ℕ) → List ℕ → List ℕ
 date_value_of None otherwise = otherwise
 date_value_of (Some text) otherwise = date_or (parse_datetime text) otherwise

@@ -34,6 +34,7 @@ component n =
     else (if n == 5 then codes "G"
     else (if n == 6 then codes "B" else codes "?"))))))
 
+-- the letters of color components, one behind the other
 abbrev pub components_text : Plain → List ℕ
 components_text (Undefined bytes) = flat_map component bytes
 components_text v = plain_text v
@@ -44,6 +45,7 @@ capital_of (Some letter) otherwise =
     if nat_le 65 letter && nat_le letter 90 then letter ∷ [] else otherwise
 capital_of None otherwise = otherwise
 
+-- the capital letter in the first text
 abbrev pub capital_text : Plain → List ℕ
 capital_text v = capital_of (letter_in (first_text v)) (plain_text v)
 
@@ -57,14 +59,17 @@ is_date text =
 abbrev pub date_in : List ℕ → Option Date
 date_in text = if is_date text then Some (date_at text) else None
 
+-- the text of a date, if there is one
 abbrev pub date_of : Option Date → List ℕ → List ℕ
 date_of None otherwise = otherwise
 date_of (Some date) otherwise = date_text date
 
+-- that of the date in a text, if there is a text
 abbrev pub date_stamp_of : Option (List ℕ) → List ℕ → List ℕ
 date_stamp_of None otherwise = otherwise
 date_stamp_of (Some text) otherwise = date_of (date_in text) otherwise
 
+-- the date in the first text
 abbrev pub date_stamp_text : Plain → List ℕ
 date_stamp_text v = date_stamp_of (first_text v) (plain_text v)
 

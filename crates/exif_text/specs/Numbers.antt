@@ -30,6 +30,7 @@ sampling_of (Some h) (Some v) =
     else None)))))
 sampling_of _ _ = None
 
+-- the sampling by the first two numbers
 abbrev pub sampling_text : Plain → List ℕ
 sampling_text v = unwrap_or (sampling_of (number_at v 0) (number_at v 1)) (plain_text v)
 
@@ -48,6 +49,7 @@ area_of (Some x) (Some y) (Some d) None =
 area_of (Some x) (Some y) None h = Some (codes "point (" ++ (place_text x y ++ codes ")"))
 area_of _ _ w h = None
 
+-- the area of the first numbers
 abbrev pub area_text : Plain → List ℕ
 area_text v = unwrap_or (area_of (number_at v 0) (number_at v 1) (number_at v 2) (number_at v 3))
     (plain_text v)
@@ -58,5 +60,6 @@ counts_of (Some total) (Some used) =
     Some (codes "total " ++ (decimal total ++ (codes ", used " ++ decimal used)))
 counts_of _ _ = None
 
+-- the counts of the first two numbers
 abbrev pub counts_text : Plain → List ℕ
 counts_text v = unwrap_or (counts_of (number_at v 0) (number_at v 1)) (plain_text v)

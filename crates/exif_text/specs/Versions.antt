@@ -21,9 +21,11 @@ version_text shown (Some version) otherwise = decimal version.0 ++ (codes "." ++
 abbrev pub shortened : ℕ → List ℕ
 shortened n = if n % 10 == 0 then decimal (n / 10) else zero_filled 2 (decimal n)
 
+-- the version of Exif or Flashpix
 abbrev pub exif_version_text : Plain → List ℕ
 exif_version_text v = version_text shortened (version_in v) (plain_text v)
 
+-- the version of interoperability, in two places
 abbrev pub interop_version_text : Plain → List ℕ
 interop_version_text v = version_text (λ n. zero_filled 2 (decimal n)) (version_in v) (plain_text v)
 

@@ -1,6 +1,4 @@
-pub mod Counting
-pub mod ItemSteps
-pub mod KeyOrder
-pub mod LastNamed
-pub mod Locating
-pub mod TextLemmas
+pub mod DecodeLemmas
+pub mod IndexLemmas
+pub mod LawsLemmas
+pub mod ValueLemmas

@@ -34,10 +34,11 @@ date_of (date, time) = record {
   offset = None;
 }
 
--- the date alone, and the time of day
+-- the date alone
 abbrev pub calendar_date : DateTime → Date
 calendar_date d = record { year = d.year; month = d.month; day = d.day }
 
+-- the time of day alone
 abbrev pub time_of_day : DateTime → TimeOfDay
 time_of_day d = record { hour = d.hour; minute = d.minute; second = d.second }
 

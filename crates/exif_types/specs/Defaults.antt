@@ -19,6 +19,7 @@ default_as (T.Undefineds bytes) = Some (value.Undefined bytes 0)
 default_as T.ContextDependent = None
 default_as T.Unspecified = None
 
+-- the default in a row, if there is a row
 abbrev pub default_in : Option TagRow → Option Value
 default_in (Some row) = default_as row.default
 default_in None = None

@@ -19,6 +19,7 @@ deep_zero (error.UnexpectedValue e) h = absurd h
 deep_zero (error.PartialResult e) h = absurd h
 deep_zero error.OutOfMemory h = absurd h
 
+-- invalid formats hold no errors
 pub errors_fall : {Text : Type 0} (es : List (Error Text)) → All IsInvalidFormat es
     → most (deep-Error Text) es ≤ 0
 errors_fall [] h = omega arith

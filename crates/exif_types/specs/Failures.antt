@@ -14,6 +14,7 @@ abbrev pub told_text : {Text : Type 0} → Error Text → Option Text
 told_text (error.InvalidFormat text) = Some text
 told_text _ = None
 
+-- an error is an invalid format
 abbrev pub IsInvalidFormat : {Text : Type 0} → Error Text → Type 0
 IsInvalidFormat (error.InvalidFormat text) = ⊤
 IsInvalidFormat _ = ⊥

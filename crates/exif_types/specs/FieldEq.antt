@@ -19,6 +19,7 @@ field_eq a b = is_named a.tag a.ifd_num b && value_eq a.value b.value
 
 -- ---- the test decides equality
 
+-- the test of contexts
 pub context_Decides : (a b : Context) → Decides (context_eq a b) (a ≡ b)
 context_Decides Tiff Tiff = (λ t. refl, λ e. refl)
 context_Decides Exif Exif = (λ t. refl, λ e. refl)
@@ -26,6 +27,7 @@ context_Decides Gps Gps = (λ t. refl, λ e. refl)
 context_Decides Interop Interop = (λ t. refl, λ e. refl)
 context_Decides _ _ = (λ t. absurd (false≢true t), λ e. cc)
 
+-- the test of tags
 pub tag_Decides : (a b : Tag) → Decides (tag_eq a b) (a ≡ b)
 tag_Decides a b =
     along {r = tag_eq a b} {P = (a.0 ≡ b.0) × (a.1 ≡ b.1)} {Q = a ≡ b}
@@ -37,6 +39,7 @@ tag_Decides a b =
         (record { 0 = d; 1 = m })
     same c d n m p q = rw (p, q) refl
 
+-- the test of directories
 pub ifd_Decides : (a b : In) → Decides (a.0 == b.0) (a ≡ b)
 ifd_Decides a b =
     along {r = a.0 == b.0} {P = a.0 ≡ b.0} {Q = a ≡ b}

@@ -12,6 +12,7 @@ rational_at number bytes place = record {
   denom = number_at number 4 bytes (place + 4);
 }
 
+-- the signed fraction at a place
 abbrev pub srational_at : Reading → List ℕ → ℕ → SRational
 srational_at number bytes place = record {
   num = cast_signed w32 (number_at number 4 bytes place);

@@ -43,6 +43,7 @@ IsInterrupted (error.Io cause) = ⊤
 IsInterrupted error.OutOfMemory = ⊤
 IsInterrupted _ = ⊥
 
+-- a device's error came out of a call
 abbrev pub is_io : {T : Type 0} → Result T Failure → Bool
 is_io (Ok x) = false
 is_io (Err e) = is_io_error e

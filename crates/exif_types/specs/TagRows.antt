@@ -10,6 +10,7 @@ use Rattle.exif_types.specs.declared.tag.Tag.{Tag}
 unfoldable pub row_of_tag : Tag → Option TagRow
 row_of_tag tag = row_of tag.0 tag.1
 
+-- the description in a row
 abbrev pub description_in : Option TagRow → Option (List ℕ)
 description_in (Some row) = Some row.description
 description_in None = None
@@ -18,6 +19,7 @@ description_in None = None
 abbrev pub description_of : Tag → Option (List ℕ)
 description_of tag = description_in (row_of_tag tag)
 
+-- the kind in a row; without a row the plain text
 abbrev pub kind_in : Option TagRow → TextKind
 kind_in (Some row) = row.kind
 kind_in None = K.Plain
@@ -26,6 +28,7 @@ kind_in None = K.Plain
 abbrev pub kind_of : Tag → TextKind
 kind_of tag = kind_in (row_of_tag tag)
 
+-- the pieces of the unit in a row
 abbrev pub unit_in : Option TagRow → List Piece
 unit_in (Some row) = row.unit
 unit_in None = []

@@ -11,6 +11,7 @@ abbrev pub numbered_text : Tag → List ℕ
 numbered_text tag = codes "Tag("
     ++ (context_name tag.0 ++ (codes ", " ++ (decimal tag.1 ++ codes ")")))
 
+-- the name in a row, or another text
 abbrev pub name_or : Option TagRow → List ℕ → List ℕ
 name_or (Some row) otherwise = row.name
 name_or None otherwise = otherwise

@@ -16,6 +16,7 @@ use Rattle.exif_types.specs.declared.value.Value.TheVariants as value
 abbrev pub rational_eq : Rational → Rational → Bool
 rational_eq a b = (a.num == b.num) && (a.denom == b.denom)
 
+-- whether two signed fractions hold the same
 abbrev pub srational_eq : SRational → SRational → Bool
 srational_eq a b = int_eq a.num b.num && int_eq a.denom b.denom
 

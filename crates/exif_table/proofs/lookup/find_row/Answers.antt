@@ -4,7 +4,7 @@ use Rattle.std.specs.Option.{option_map}
 use Rattle.std.specs.List.{find}
 use Rattle.exif_table.specs.Table.{TagRow}
 use Rattle.exif_table.specs.View.{row_view}
-use Rattle.exif_table.proofs.Search.{searched_ok, searched_err, find-map}
+use Rattle.exif_table.proofs.LookupLemmas.{searched_ok, searched_err, find-map}
 use Rattle.exif_table.proofs.lookup.find_row.Goals as goal
 
 pub returns-in-Ok : goal.returns-in-Ok

@@ -1,6 +1,6 @@
 use Rattle.std.proofs.Common.{arith}
 use Rattle.std.proofs.lemmas.Grind.{common_steps}
-use Rattle.exif_text.proofs.ZeroPadding.{zero_padded}
+use Rattle.exif_text.proofs.PlainLemmas.{zero_padded}
 use Rattle.exif_text.proofs.clock.write_two.Goals as goal
 
 pub returns : goal.returns

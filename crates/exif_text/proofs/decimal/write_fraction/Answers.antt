@@ -3,7 +3,7 @@ use Rattle.std.proofs.lemmas.Grind.{common_steps}
 use Rattle.std.proofs.lemmas.Bool.Decides.{nat_tests}
 use Rattle.std.proofs.Output.{has_written_append, has_written_of_eq}
 use Rattle.exif_text.specs.Decimal.{fraction_text, in_digits, without_last_zeros}
-use Rattle.exif_text.proofs.FractionLemmas.{fraction_last, fraction_more}
+use Rattle.exif_text.proofs.DecimalLemmas.{fraction_last, fraction_more}
 use Rattle.exif_text.proofs.decimal.write_fraction.Goals as goal
 
 pub returns-then-billionths-eq0 : goal.returns-then-billionths-eq0

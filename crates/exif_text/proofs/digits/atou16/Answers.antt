@@ -1,7 +1,7 @@
 use Rattle.std.proofs.Common.{◌≡◌, rules, get_or}
 use Rattle.std.specs.Prelude.{Ok}
 use Rattle.exif_text.specs.Digits.{digit_in}
-use Rattle.exif_text.proofs.DigitLemmas.{digit_more}
+use Rattle.exif_text.proofs.DigitsLemmas.{digit_more}
 use Rattle.exif_text.proofs.digits.atou16.Goals as goal
 
 pub loop-byte-preserved : goal.loop-byte-preserved

@@ -1,6 +1,6 @@
 use Rattle.std.proofs.Common.{◌≡◌, ◌∙◌, sym, ap, ℕ, ◌+◌, ◌-◌, take, drop, arith}
 use Rattle.exif_text.specs.Digits.{are_two_at, number_in, two_at}
-use Rattle.exif_text.proofs.DigitLemmas.{two_read, some_read, none_read}
+use Rattle.exif_text.proofs.DigitsLemmas.{two_read, some_read, none_read}
 use Rattle.exif_text.proofs.digits.two_digits.Goals as goal
 
 -- two bytes are borrowed

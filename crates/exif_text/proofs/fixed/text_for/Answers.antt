@@ -1,7 +1,7 @@
 use Rattle.std.proofs.Common.{◌≡◌, sym, ap, ◌∙◌, List, ℕ, Bor, ◌==◌, map, refl}
 use Rattle.std.specs.Option.{option_map}
 use Rattle.std.specs.List.{find}
-use Rattle.exif_table.proofs.Search.{find-map}
+use Rattle.exif_table.proofs.LookupLemmas.{find-map}
 use Rattle.exif_text.proofs.fixed.text_for.Goals as goal
 
 -- an entry without its reference

@@ -1,5 +1,5 @@
 use Rattle.std.proofs.Common.{arith}
-use Rattle.exif_types.proofs.ItemSteps.{room_step, push_step}
+use Rattle.exif_types.proofs.DecodeLemmas.{room_step, push_step}
 use Rattle.exif_types.proofs.decode.decode_items.Goals as goal
 
 pub loop-preserved : goal.loop-preserved

@@ -1,6 +1,6 @@
 use Rattle.std.proofs.Common.{arith, ◌∙◌, ◌≡◌, ◌≢◌, length}
 use Rattle.std.proofs.lemmas.Bool.Decides.{nat_tests}
-use Rattle.exif_types.proofs.TextLemmas.{drops_empty, keeps_full, keeps_none}
+use Rattle.exif_types.proofs.DecodeLemmas.{drops_empty, keeps_full, keeps_none}
 use Rattle.exif_types.proofs.decode.drop_empty_last.Goals as goal
 use Rattle.exif_types.proofs.decode.drop_empty_last.Goals.{else-count-gt0-via-then-count-gt0+else-is_empty, else-count-gt0-via-else-count-gt0}
 

@@ -1,7 +1,7 @@
 use Rattle.std.specs.Prelude.{MatchOption}
 use Rattle.std.specs.Option.{option_copied}
 use Rattle.exif_types.specs.Lookup.{IsLastNamed, NoneNamed}
-use Rattle.exif_types.proofs.LastNamed.{last_is_last, if_found, if_none}
+use Rattle.exif_types.proofs.LawsLemmas.{last_is_last, if_found, if_none}
 use Rattle.exif_types.proofs.laws.get_field_gives_the_last.Goals as goal
 
 -- what was found is the last of its name, or there is none

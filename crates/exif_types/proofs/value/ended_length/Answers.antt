@@ -1,5 +1,5 @@
 use Rattle.std.proofs.Common.{length, ap, take, rules}
-use Rattle.exif_types.proofs.Counting.{ended_within}
+use Rattle.exif_types.proofs.ValueLemmas.{ended_within}
 use Rattle.exif_types.specs.Texts.{ended_length}
 use Rattle.exif_types.proofs.value.ended_length.Goals as goal
 

@@ -2,8 +2,8 @@ use Rattle.std.proofs.Common.{◌≡◌, ◌+◌, ◌∷◌, [], ◌++◌, Some,
 use Rattle.std.specs.BTreeMap.{Updates}
 use Rattle.std.proofs.lemmas.List.{take_more, take_all, length-take-le}
 use Rattle.exif_types.specs.declared.field.Field.{Field}
-use Rattle.exif_types.proofs.KeyOrder.{key_cmp}
-use Rattle.exif_types.proofs.Locating.{locates_none, locates_more}
+use Rattle.exif_types.proofs.IndexLemmas.{key_cmp}
+use Rattle.exif_types.proofs.IndexLemmas.{locates_none, locates_more}
 use Rattle.exif_types.proofs.index.FieldIndex.of.Goals as goal
 
 pub loop-place-init : goal.loop-place-init

@@ -1,6 +1,6 @@
 use Rattle.std.proofs.Common.{take}
 use Rattle.exif_types.specs.Located.{Locates}
-use Rattle.exif_types.proofs.KeyOrder.{key_cmp}
+use Rattle.exif_types.proofs.IndexLemmas.{key_cmp}
 use Rattle.exif_types.proofs.index.FieldIndex.of.Given as goal
 
 -- the fields so far are in the index

@@ -73,6 +73,7 @@ pub some_read : (b : Bool) (m n : ℕ) → ◌≡◌ {A = Result ℕ DateFault} 
 some_read true m n e = cc
 some_read false m n e = cc
 
+-- no number was read, as an option
 pub none_read : (b : Bool) (m : ℕ) (f : DateFault) → ◌≡◌ {A = Result ℕ DateFault} (if b then Ok m else Err NotANumber) (Err f)
     → ◌≡◌ {A = Option ℕ} None (if b then Some m else None)
 none_read true m f e = cc
