@@ -13,7 +13,7 @@ use Rattle.exif_containers.specs.HeifRefusals.{no_exif, meta_before_ftyp, broken
 use Rattle.exif_containers.specs.Boxes.{Part, Parts, before, and_then, all_boxes, children, whole_part, box_at, header_len, header_at}
 use Rattle.exif_containers.specs.HeifFile.{file_box_at, file_boxes, fours, is_heif_brand, has_heif_brand, is_meta, is_ftyp, checked, passed, before_meta, whole}
 use Rattle.exif_containers.proofs.Refusing.{refuses_along}
-use Rattle.exif_containers.proofs.Filling.{Shortens, all_boxes_more, all_boxes_end, bind_ok, when_ok, ok_same, header_rest, eight, after, box_shorter}
+use Rattle.exif_containers.proofs.SplitterBoxes.{Shortens, all_boxes_more, all_boxes_end, bind_ok, when_ok, ok_same, header_rest, eight, after, box_shorter}
 
 -- ---- brands
 

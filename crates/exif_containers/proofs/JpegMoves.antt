@@ -13,7 +13,7 @@ use Rattle.exif_types.specs.Refusals.{Refusal, refusal_of, IsInterrupted, Fails}
 use Rattle.exif_containers.specs.Answer.{Answer, found, refused, IsCollected, IsShort}
 use Rattle.exif_containers.specs.Jpeg.{jpeg_refusals, answer_at_code, begins_exif, invalid_length, not_jpeg, unexpected_soi, no_exif_in_jpeg, broken_jpeg, JpegUnit, stands_alone, unit_from_code, unit_answer, code_onwards, answer_from, jpeg_answer, exif_payload, first_answer, with_units, units_of}
 use Rattle.exif_containers.proofs.JpegUnits.{unit-segment, unit-alone, unit_answer_segment, answer-at_code, answer-short, answer-no_code, answer_alone}
-use Rattle.exif_containers.proofs.Within.{moves_then, moves_then_fact, moves_fact, moves_weaker}
+use Rattle.exif_containers.proofs.LimitedMoves.{moves_then, moves_then_fact, moves_fact, moves_weaker}
 
 -- bytes that begin with six, which are the identifier or not
 payload-six : (id rest : List ℕ) → length id ≡ 6 → exif_payload (id ++ rest) ≡ cond (pointwise eqb id (codes "Exif\0\0")) (Some rest) None

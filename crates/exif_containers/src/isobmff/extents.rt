@@ -12,7 +12,7 @@ use exif_types::Error;
 use std::alloc::Global;
 
 /// Where extents lie.
-#[derive(Clone, Copy, Debug)]
+#[derive(Clone, Copy)]
 pub enum Within {
     /// In the file, from its start.
     File,

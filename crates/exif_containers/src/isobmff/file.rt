@@ -10,7 +10,7 @@ use crate::isobmff::{BoxSplitter, Kind};
 use exif_types::Error;
 
 /// A box of a file: its type, how long its body is, and the body as far as it stands there.
-#[derive(Clone, Copy, Debug)]
+#[derive(Clone, Copy)]
 pub struct FileBox<'a> {
     kind: Kind,
     len: u64,

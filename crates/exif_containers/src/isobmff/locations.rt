@@ -11,7 +11,7 @@ use exif_types::Error;
 use std::alloc::Global;
 
 /// How many bytes the fields of an item take.
-#[derive(Clone, Copy, Debug)]
+#[derive(Clone, Copy)]
 pub struct Sizes {
     /// An extent's offset.
     pub offset: u8,
@@ -24,7 +24,7 @@ pub struct Sizes {
 }
 
 /// A part of an item.
-#[derive(Clone, Copy, Debug)]
+#[derive(Clone, Copy)]
 pub struct Extent {
     /// Its place behind the base, in bytes.
     pub offset: u64,
@@ -33,7 +33,7 @@ pub struct Extent {
 }
 
 /// The parts of an item, and where they are.
-#[derive(Debug, Drop)]
+#[derive(Drop)]
 pub struct Location {
     /// How the item is put together: 0 from the file, 1 from `idat`.
     pub method: u8,
@@ -120,7 +120,7 @@ fn pass_extents(body: &mut BoxSplitter, sizes: Sizes, count: u16) -> Result<(), 
 }
 
 // What stands in front of an item's extents.
-#[derive(Clone, Copy, Debug)]
+#[derive(Clone, Copy)]
 struct ItemHead {
     number: u32,
     method: u8,

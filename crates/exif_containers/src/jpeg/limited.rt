@@ -47,7 +47,7 @@ pub fn fill_within<R: Source>(source: &mut R, budget: &mut u64, buf: &mut [u8]) 
 }
 
 /// Takes the next bytes and forgets them, without memory.
-#[tactic(auto, using(crate::proofs::Within::skips_within))]
+#[tactic(auto, using(crate::proofs::LimitedMoves::skips_within))]
 pub fn skip_within<R: Source>(source: &mut R, budget: &mut u64, len: u64) -> Result<(), Error>
     ensures taken { OnOk result (Moves (R.left source.old) budget.old (R.left source.new) budget.new
         (λ xs ys. (bytes : List ℕ) × (length bytes ≡ len) × (xs ≡ bytes ++ ys))) }
@@ -97,7 +97,7 @@ fn next_byte<R: Source>(source: &mut R, budget: &mut u64) -> Result<u8, Error>
 }
 
 /// The number in the next two bytes, the highest first.
-#[tactic(auto, using(crate::proofs::Within::number_within))]
+#[tactic(auto, using(crate::proofs::LimitedMoves::number_within))]
 pub fn next16<R: Source>(source: &mut R, budget: &mut u64) -> Result<u16, Error>
     ensures taken { IfOk result (λ n.
         Moves (R.left source.old) budget.old (R.left source.new) budget.new

@@ -1,6 +1,6 @@
 use Rattle.std.proofs.Common.{rules}
 use Rattle.exif_containers.proofs.ContainerSteps.{jpeg_gives}
-use Rattle.exif_containers.proofs.Naming.{named_jpeg, named_heif, named_webp}
+use Rattle.exif_containers.proofs.ContainerNames.{named_jpeg, named_heif, named_webp}
 use Rattle.exif_containers.proofs.container.attr_as.Goals as goal
 
 pub returns-in-Some-Jpeg-clause-named : goal.returns-in-Some-Jpeg-clause-named

@@ -1,4 +1,4 @@
-use Rattle.exif_containers.proofs.BoxTrees.{box_is_read, is_a_box, counted_are_read}
+use Rattle.exif_containers.proofs.LawsBoxes.{box_is_read, is_a_box, counted_are_read}
 use Rattle.exif_containers.proofs.laws.boxes_are_read.Goals as goal
 
 pub returns-clause-read : goal.returns-clause-read

@@ -1,4 +1,4 @@
-use Rattle.exif_containers.proofs.BrandTrees.{brands_are_checked, is_a_brands}
+use Rattle.exif_containers.proofs.LawsBrands.{brands_are_checked, is_a_brands}
 use Rattle.exif_containers.proofs.laws.brands_are_checked.Goals as goal
 
 pub returns-clause-checked : goal.returns-clause-checked

@@ -1,4 +1,4 @@
-use Rattle.exif_containers.proofs.CountTrees.{count_is_read, is_a_count}
+use Rattle.exif_containers.proofs.LawsCounts.{count_is_read, is_a_count}
 use Rattle.exif_containers.proofs.laws.counts_are_boxes.Goals as goal
 
 pub returns-clause-read : goal.returns-clause-read

@@ -1,4 +1,4 @@
-use Rattle.exif_containers.proofs.ItemTrees.{entry_is_read, is_an_entry}
+use Rattle.exif_containers.proofs.LawsItems.{entry_is_read, is_an_entry}
 use Rattle.exif_containers.proofs.laws.entries_are_read.Goals as goal
 
 pub returns-clause-read : goal.returns-clause-read

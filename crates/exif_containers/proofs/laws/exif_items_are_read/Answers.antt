@@ -1,4 +1,4 @@
-use Rattle.exif_containers.proofs.ItemTrees.{block_is_read, is_a_block}
+use Rattle.exif_containers.proofs.LawsItems.{block_is_read, is_a_block}
 use Rattle.exif_containers.proofs.laws.exif_items_are_read.Goals as goal
 
 pub returns-clause-read : goal.returns-clause-read

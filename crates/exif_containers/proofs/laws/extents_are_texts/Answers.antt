@@ -1,4 +1,4 @@
-use Rattle.exif_containers.proofs.ExtentTexts.{text_is_read, is_a_text}
+use Rattle.exif_containers.proofs.LawsExtents.{text_is_read, is_a_text}
 use Rattle.exif_containers.proofs.laws.extents_are_texts.Goals as goal
 
 pub returns-clause-read : goal.returns-clause-read

@@ -1,4 +1,4 @@
-use Rattle.exif_containers.proofs.FileTrees.{file_boxes_are_read}
+use Rattle.exif_containers.proofs.LawsFiles.{file_boxes_are_read}
 use Rattle.exif_containers.proofs.laws.file_boxes_are_read.Goals as goal
 
 pub returns : goal.returns

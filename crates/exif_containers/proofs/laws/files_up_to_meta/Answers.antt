@@ -1,4 +1,4 @@
-use Rattle.exif_containers.proofs.FileTrees.{meta_is_found, is_a_front}
+use Rattle.exif_containers.proofs.LawsFiles.{meta_is_found, is_a_front}
 use Rattle.exif_containers.proofs.laws.files_up_to_meta.Goals as goal
 
 pub returns-clause-found : goal.returns-clause-found

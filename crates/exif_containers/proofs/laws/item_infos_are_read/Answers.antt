@@ -1,4 +1,4 @@
-use Rattle.exif_containers.proofs.ItemTrees.{info_is_read, is_an_info}
+use Rattle.exif_containers.proofs.LawsItems.{info_is_read, is_an_info}
 use Rattle.exif_containers.proofs.laws.item_infos_are_read.Goals as goal
 
 pub returns-clause-read : goal.returns-clause-read

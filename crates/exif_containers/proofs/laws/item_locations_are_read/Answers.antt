@@ -1,4 +1,4 @@
-use Rattle.exif_containers.proofs.LocationTrees.{places_are_read, is_a_places}
+use Rattle.exif_containers.proofs.LawsLocations.{places_are_read, is_a_places}
 use Rattle.exif_containers.proofs.laws.item_locations_are_read.Goals as goal
 
 pub returns-clause-read : goal.returns-clause-read

@@ -1,4 +1,4 @@
-use Rattle.exif_containers.proofs.ItemTexts.{item_is_joined, is_an_item}
+use Rattle.exif_containers.proofs.LawsJoined.{item_is_joined, is_an_item}
 use Rattle.exif_containers.proofs.laws.items_are_joined.Goals as goal
 
 pub returns-clause-joined : goal.returns-clause-joined

@@ -1,4 +1,4 @@
-use Rattle.exif_containers.proofs.JpegTrees.{stream_is_answered, is_a_stream}
+use Rattle.exif_containers.proofs.LawsJpeg.{stream_is_answered, is_a_stream}
 use Rattle.exif_containers.proofs.laws.jpeg_is_units.Goals as goal
 
 pub returns-clause-answered : goal.returns-clause-answered

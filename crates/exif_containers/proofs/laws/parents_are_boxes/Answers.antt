@@ -1,4 +1,4 @@
-use Rattle.exif_containers.proofs.BoxTrees.{parent_is_read, is_a_parent}
+use Rattle.exif_containers.proofs.LawsBoxes.{parent_is_read, is_a_parent}
 use Rattle.exif_containers.proofs.laws.parents_are_boxes.Goals as goal
 
 pub returns-clause-read : goal.returns-clause-read

@@ -1,4 +1,4 @@
-use Rattle.exif_containers.proofs.WebpTrees.{file_is_answered, is_a_file}
+use Rattle.exif_containers.proofs.LawsWebp.{file_is_answered, is_a_file}
 use Rattle.exif_containers.proofs.laws.webp_is_chunks.Goals as goal
 
 pub returns-clause-answered : goal.returns-clause-answered

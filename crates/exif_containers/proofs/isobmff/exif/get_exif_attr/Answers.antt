@@ -1,5 +1,5 @@
 use Rattle.std.proofs.lemmas.Result.{err_from_is_err_and}
-use Rattle.exif_containers.proofs.HeifNamed.{exif_of_only, fails_named}
+use Rattle.exif_containers.proofs.ExifNames.{exif_of_only, fails_named}
 use Rattle.exif_containers.proofs.isobmff.exif.get_exif_attr.Goals as goal
 
 pub returns-in_err-payload-clause-named : goal.returns-in_err-payload-clause-named

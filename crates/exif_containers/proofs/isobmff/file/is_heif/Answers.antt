@@ -1,7 +1,7 @@
 use Rattle.std.proofs.Common.{sym, ◌∙◌, ap}
 use Rattle.exif_containers.specs.Boxes.{children, whole_part}
 use Rattle.exif_containers.specs.HeifFile.{begins_heif, has_heif_brand}
-use Rattle.exif_containers.proofs.Filling.{box_shorter}
+use Rattle.exif_containers.proofs.SplitterBoxes.{box_shorter}
 use Rattle.exif_containers.proofs.FileBoxes.{heif_of, heif_cut, heif_went_on, heif_found}
 use Rattle.exif_containers.proofs.isobmff.file.is_heif.Goals as goal
 

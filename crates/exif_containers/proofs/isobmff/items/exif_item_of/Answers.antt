@@ -3,7 +3,7 @@ use Rattle.std.proofs.lemmas.Result.{err_from_is_err_and}
 use Rattle.exif_containers.specs.declared.isobmff.kind.Kind.TheVariants.{ItemInfoEntry}
 use Rattle.exif_containers.specs.Items.{exif_number}
 use Rattle.exif_containers.specs.Boxes.{whole_part}
-use Rattle.exif_containers.proofs.Boxes.{count_cut, count_failed, count_went_on, count_done}
+use Rattle.exif_containers.proofs.ItemsBoxes.{count_cut, count_failed, count_went_on, count_done}
 use Rattle.exif_containers.proofs.isobmff.items.exif_item_of.Goals as goal
 
 pub returns-in_err-kind : goal.returns-in_err-kind

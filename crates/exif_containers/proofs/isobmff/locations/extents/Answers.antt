@@ -2,7 +2,7 @@ use Rattle.std.proofs.Common.{sym, ◌∙◌}
 use Rattle.std.proofs.lemmas.Result.{err_from_is_err_and}
 use Rattle.exif_containers.specs.Places.{extent_at}
 use Rattle.exif_containers.proofs.Refusing.{refusal_fails}
-use Rattle.exif_containers.proofs.Times.{times_failed, times_went_on, times_done}
+use Rattle.exif_containers.proofs.LocationsTimes.{times_failed, times_went_on, times_done}
 use Rattle.exif_containers.proofs.isobmff.locations.extents.Goals as goal
 
 pub returns-in_err-extent-clause-gives : goal.returns-in_err-extent-clause-gives

@@ -1,7 +1,7 @@
 use Rattle.std.proofs.Common.{◌≡◌, ◌-◌}
 use Rattle.exif_containers.specs.Places.{extent_at}
 use Rattle.exif_containers.specs.Boxes.{times}
-use Rattle.exif_containers.proofs.Times.{times_more}
+use Rattle.exif_containers.proofs.LocationsTimes.{times_more}
 use Rattle.exif_containers.proofs.isobmff.locations.extents.Given as goal
 
 -- what was found and what is still read is what is read in all

@@ -2,7 +2,7 @@ use Rattle.std.proofs.Common.{sym, ◌∙◌}
 use Rattle.std.specs.Option.{option_map}
 use Rattle.std.proofs.lemmas.Result.{err_from_is_err_and}
 use Rattle.exif_containers.specs.Places.{location_view, location_at}
-use Rattle.exif_containers.proofs.Times.{last_failed, last_went_on, last_done}
+use Rattle.exif_containers.proofs.LocationsTimes.{last_failed, last_went_on, last_done}
 use Rattle.exif_containers.proofs.isobmff.locations.last_location.Goals as goal
 
 pub returns-in_err-location-clause-gives : goal.returns-in_err-location-clause-gives

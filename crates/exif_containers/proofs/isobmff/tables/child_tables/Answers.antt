@@ -3,8 +3,8 @@ use Rattle.std.proofs.lemmas.Result.{err_from_is_err_and}
 use Rattle.std.proofs.lemmas.Bool.Decides.{nat_tests}
 use Rattle.exif_containers.specs.Boxes.{whole_part}
 use Rattle.exif_containers.specs.TablesView.{tables_view}
-use Rattle.exif_containers.proofs.Filling.{box_shorter}
-use Rattle.exif_containers.proofs.Children.{child_cut, child_failed, child_went_on, children_done}
+use Rattle.exif_containers.proofs.SplitterBoxes.{box_shorter}
+use Rattle.exif_containers.proofs.TablesChildren.{child_cut, child_failed, child_went_on, children_done}
 use Rattle.exif_containers.proofs.isobmff.tables.child_tables.Goals as goal
 
 pub returns-in_err-kind : goal.returns-in_err-kind

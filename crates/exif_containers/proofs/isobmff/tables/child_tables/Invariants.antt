@@ -2,7 +2,7 @@ use Rattle.std.proofs.Common.{◌≡◌, length}
 use Rattle.exif_containers.specs.Boxes.{children}
 use Rattle.exif_containers.specs.Heif.{tables_of}
 use Rattle.exif_containers.specs.TablesView.{tables_view}
-use Rattle.exif_containers.proofs.Children.{tables_from}
+use Rattle.exif_containers.proofs.TablesChildren.{tables_from}
 use Rattle.exif_containers.proofs.isobmff.tables.child_tables.Given as goal
 
 -- what counted, with what is still read, is what counts in all

@@ -1,5 +1,5 @@
 use Rattle.std.proofs.Common.{◌-◌, arith}
-use Rattle.exif_containers.proofs.Within.{passes_marks}
+use Rattle.exif_containers.proofs.LimitedMoves.{passes_marks}
 use Rattle.exif_containers.proofs.jpeg.limited.pass_at_hand.Goals as goal
 
 pub returns-clause-taken : goal.returns-clause-taken

@@ -8,12 +8,12 @@ use Rattle.exif_types.specs.Refusals.{Refusal, ◌>>=◌, Front}
 use Rattle.exif_containers.specs.HeifRefusals.{too_small}
 use Rattle.exif_containers.specs.Boxes.{bytes_at, number_at, version_at, times}
 use Rattle.exif_containers.specs.ItemGrammar.{FullHead, print_full, IsFull}
-use Rattle.exif_containers.proofs.BoxTrees.{bytes-there}
+use Rattle.exif_containers.proofs.LawsBoxes.{bytes-there}
 use Rattle.std.specs.List.{All, flat_map}
 use Rattle.std.proofs.lemmas.List.Elements.{All-nil, All-cons, All-head, All-tail}
 use Rattle.exif_containers.specs.Places.{sized_at}
 use Rattle.exif_containers.specs.PlaceGrammar.{IsSize}
-use Rattle.exif_containers.proofs.Filling.{bind_ok, ok_same}
+use Rattle.exif_containers.proofs.SplitterBoxes.{bind_ok, ok_same}
 
 -- ---- steps
 

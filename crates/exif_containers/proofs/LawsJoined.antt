@@ -6,8 +6,8 @@ use Rattle.exif_containers.specs.HeifRefusals.{data_too_large}
 use Rattle.exif_containers.specs.declared.isobmff.locations.Extent.{Extent}
 use Rattle.exif_containers.specs.Places.{gathered}
 use Rattle.exif_containers.specs.PlaceGrammar.{AreTexts, joined_texts, ItemIsJoined, IsAnItem}
-use Rattle.exif_containers.proofs.Filling.{bind_ok, ok_same}
-use Rattle.exif_containers.proofs.ReadSteps.{then_ok, unless-ok}
+use Rattle.exif_containers.proofs.SplitterBoxes.{bind_ok, ok_same}
+use Rattle.exif_containers.proofs.LawsSteps.{then_ok, unless-ok}
 
 gathered-more : (bytes_of : Extent → Result (List ℕ) Refusal) (front : List ℕ) (es : List Extent) (texts : List (List ℕ)) → AreTexts bytes_of es texts
     → length (front ++ joined_texts texts) ≤ 65535 → gathered bytes_of front es ≡ Ok (front ++ joined_texts texts)

@@ -14,8 +14,8 @@ use Rattle.exif_containers.specs.HeifRefusals.{too_small, external_data, invalid
 use Rattle.exif_containers.specs.Boxes.{bytes_at, pass_at, number_at, times}
 use Rattle.exif_containers.specs.Places.{Place, item_width, sized_at, extent_at, method_at, item_head_at, location_at}
 use Rattle.exif_containers.specs.PlaceGrammar.{IsSize, ExtentTree, print_extent, IsExtent, extent_of, PlaceTree, print_place, method_len, method_said, IsPlace, place_of, place_said}
-use Rattle.exif_containers.proofs.Filling.{bind_ok, ok_same}
-use Rattle.exif_containers.proofs.ReadSteps.{then_ok, unless-ok, bytes_read, number_read, times-read, times-only, sized-read, number-taken, sized-taken, bytes-taken}
+use Rattle.exif_containers.proofs.SplitterBoxes.{bind_ok, ok_same}
+use Rattle.exif_containers.proofs.LawsSteps.{then_ok, unless-ok, bytes_read, number_read, times-read, times-only, sized-read, number-taken, sized-taken, bytes-taken}
 
 -- ---- extents
 

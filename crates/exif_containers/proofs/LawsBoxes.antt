@@ -12,7 +12,7 @@ use Rattle.exif_containers.specs.HeifRefusals.{too_small, invalid_size}
 use Rattle.exif_containers.specs.Kinds.{kind_of}
 use Rattle.exif_containers.specs.Boxes.{Part, ended, before, and_then, whole_part, bytes_at, box_size, header_len, header_at, box_at, boxes, all_boxes, children}
 use Rattle.exif_containers.specs.BoxGrammar.{BoxHeader, sized, large, to_end, print_header, type_of, said_size, IsHeader, BoxTree, print_box, IsBox, box_part, AreBoxes, NoBox, cut, cut_large, too_long, too_short, print_no_box, IsNoBox, no_box_refusal, Parent, filled, broken, BoxIsRead, IsABox, CountedAreRead, ParentIsRead, IsAParent}
-use Rattle.exif_containers.proofs.Filling.{all_boxes_end, all_boxes_more, box_shorter, ok_same, after}
+use Rattle.exif_containers.proofs.SplitterBoxes.{all_boxes_end, all_boxes_more, box_shorter, ok_same, after}
 
 -- ---- what the definition makes of the front of a text
 

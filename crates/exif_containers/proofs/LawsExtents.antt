@@ -9,8 +9,8 @@ use Rattle.exif_containers.specs.declared.isobmff.locations.Extent.{Extent}
 use Rattle.exif_containers.specs.HeifRefusals.{invalid_offset, invalid_length, broken_file, out_of_idat}
 use Rattle.exif_containers.specs.Places.{file_extent, idat_extent}
 use Rattle.exif_containers.specs.PlaceGrammar.{StandsAt, RunsToEnd, IsFileText, IsIdatText, TextIsRead, IsAText}
-use Rattle.exif_containers.proofs.Filling.{ok_same}
-use Rattle.exif_containers.proofs.ReadSteps.{unless-ok}
+use Rattle.exif_containers.proofs.SplitterBoxes.{ok_same}
+use Rattle.exif_containers.proofs.LawsSteps.{unless-ok}
 
 -- a text between others
 stands-read : (bytes : List ℕ) (from len : ℕ) (text : List ℕ) → length text ≡ len → StandsAt bytes from text → (from + len ≤ length bytes) × (take len (drop from bytes) ≡ text)

@@ -5,7 +5,7 @@ use Rattle.exif_types.specs.Refusals.{Refusal}
 use Rattle.exif_containers.specs.HeifRefusals.{too_small}
 use Rattle.exif_containers.specs.Boxes.{before, and_then, box_at, boxes}
 use Rattle.exif_containers.specs.BoxGrammar.{BoxTree, print_box, IsBox, box_part, AreBoxes, print_no_box, no_box_refusal, Counted, all, cut_off, too_few, CountIsRead, IsACount}
-use Rattle.exif_containers.proofs.BoxTrees.{box_is_read, no_box_is_refused, box-cut, counted_more, Boxed, Unboxed, place}
+use Rattle.exif_containers.proofs.LawsBoxes.{box_is_read, no_box_is_refused, box-cut, counted_more, Boxed, Unboxed, place}
 
 counted-boxes : (bs : List BoxTree) (rest : List ℕ) (fault : Option Refusal) (n k : ℕ) → n ≡ length bs + k → AreBoxes bs rest
     → boxes k rest ≡ record { whole = []; fault = fault } → boxes n (flat_map print_box bs ++ rest) ≡ record { whole = map box_part bs; fault = fault }

@@ -10,9 +10,9 @@ use Rattle.exif_containers.specs.Boxes.{number_at, version_at, times, times_join
 use Rattle.exif_containers.specs.ItemGrammar.{print_full}
 use Rattle.exif_containers.specs.Places.{Place, sizes, item_width, location_at, locations}
 use Rattle.exif_containers.specs.PlaceGrammar.{print_place, IsPlace, place_said, PlacesTree, print_places, sizes_in, ArePlaces, places_said, PlacesAreRead, IsAPlaces}
-use Rattle.exif_containers.proofs.Filling.{bind_ok, ok_same}
-use Rattle.exif_containers.proofs.ReadSteps.{then_ok, then_err, unless-ok, number_read, full_read, full_short, Fronted, fronted, times-read, times-only, number-taken}
-use Rattle.exif_containers.proofs.PlaceTrees.{location-read, location-only}
+use Rattle.exif_containers.proofs.SplitterBoxes.{bind_ok, ok_same}
+use Rattle.exif_containers.proofs.LawsSteps.{then_ok, then_err, unless-ok, number_read, full_read, full_short, Fronted, fronted, times-read, times-only, number-taken}
+use Rattle.exif_containers.proofs.LawsPlaces.{location-read, location-only}
 
 packed-sizes : (version n : ℕ) (s : Sizes) → n ≡ 4096 * s.offset + 256 * s.len + 16 * s.base + s.index → s.len < 16 → s.base < 16 → s.index < 16 → sizes version n ≡ sizes_in version s
 packed-sizes version n s e l b i =

@@ -10,7 +10,7 @@ use Rattle.exif_types.specs.Refusals.{Refusal}
 use Rattle.exif_containers.specs.Answer.{Answer, found, refused}
 use Rattle.exif_containers.specs.Jpeg.{JpegUnit, broken_jpeg, not_jpeg, unexpected_soi, invalid_length, no_exif_in_jpeg, two_bytes, from_mark, after_marks, stands_alone, begins_exif, exif_payload, unit_with_body, unit_from_code, first_unit, unit_answer, with_units, units_of, first_answer, answer_from, jpeg_answer}
 use Rattle.exif_containers.specs.JpegGrammar.{Brought, nothing, sized, exif, exif_id, HasNoId, UnitTree, print_brought, print_unit, IsBrought, IsUnit, unit_says, IsSilent, HasNoUnit, Ending, speaking, cut, print_ending, IsEnding, answer_said, ending_answer, Stream, short, foreign, units, StreamIsAnswered, IsAStream}
-use Rattle.exif_containers.proofs.Within.{from_mark-others}
+use Rattle.exif_containers.proofs.LimitedMoves.{from_mark-others}
 use Rattle.exif_containers.proofs.JpegUnits.{unit-alone, unit-segment, answer-first_unit, rest-first_unit}
 
 -- ---- a unit is read back

@@ -10,8 +10,8 @@ use Rattle.exif_containers.specs.Items.{exif_numbers}
 use Rattle.exif_containers.specs.Heif.{Tables}
 use Rattle.exif_containers.specs.TablesView.{table_with}
 use Rattle.exif_containers.proofs.Refusing.{refuses_along}
-use Rattle.exif_containers.proofs.Boxes.{read_more}
-use Rattle.exif_containers.proofs.Filling.{all_boxes_more, all_boxes_end, box_shorter}
+use Rattle.exif_containers.proofs.ItemsBoxes.{read_more}
+use Rattle.exif_containers.proofs.SplitterBoxes.{all_boxes_more, all_boxes_end, box_shorter}
 
 -- what counts among boxes, with what counted before
 abbrev pub tables_from : Tables → Parts → Result Tables Refusal

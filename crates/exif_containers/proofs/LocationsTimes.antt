@@ -6,7 +6,7 @@ use Rattle.std.proofs.lemmas.List.{append-nil}
 use Rattle.exif_types.specs.Failures.{Failure}
 use Rattle.exif_types.specs.Refusals.{Refusal, ◌>>=◌, Fails, last_read, Front}
 use Rattle.exif_containers.specs.Boxes.{times, times_joined}
-use Rattle.exif_containers.proofs.Boxes.{last_or-append}
+use Rattle.exif_containers.proofs.ItemsBoxes.{last_or-append}
 use Rattle.exif_containers.proofs.Refusing.{fails_along}
 
 -- those read before and those still read

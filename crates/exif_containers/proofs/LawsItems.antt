@@ -14,8 +14,8 @@ use Rattle.exif_containers.specs.BoxGrammar.{print_counted}
 use Rattle.exif_containers.specs.Items.{entry_width, exif_number, exif_numbers}
 use Rattle.exif_containers.specs.Heif.{after_header}
 use Rattle.exif_containers.specs.ItemGrammar.{FullHead, print_full, IsFull, EntryTree, exif, other, unsupported, cut_head, cut_entry, HasNumber, EntryIsRead, IsAnEntry, InfoTree, info, cut_count, HasCount, InfoIsRead, IsAnInfo, BlockTree, block, short, over, BlockIsRead, IsABlock}
-use Rattle.exif_containers.proofs.CountTrees.{count_is_read, is_a_count}
-use Rattle.exif_containers.proofs.ReadSteps.{then_ok, then_err, bytes_read, bytes_short, number_short, number_read, full_read, full_short, Fronted, fronted}
+use Rattle.exif_containers.proofs.LawsCounts.{count_is_read, is_a_count}
+use Rattle.exif_containers.proofs.LawsSteps.{then_ok, then_err, bytes_read, bytes_short, number_short, number_read, full_read, full_short, Fronted, fronted}
 
 -- ---- an entry
 
