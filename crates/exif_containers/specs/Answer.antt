@@ -11,9 +11,11 @@ use Rattle.exif_types.specs.Refusals.{Refusal, refusal_of, Front, IsInterrupted}
 abbrev pub Answer : Type 0
 Answer = Front (List ℕ)
 
+-- the Exif bytes were found, and these follow them
 abbrev pub found : List ℕ → List ℕ → Answer
 found payload rest = Ok (payload, rest)
 
+-- the bytes give no Exif data, for this reason
 abbrev pub refused : Refusal → Answer
 refused r = Err r
 

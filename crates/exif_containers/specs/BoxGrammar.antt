@@ -15,11 +15,13 @@ pub data BoxHeader : Type 0 where
   large : List ℕ → List ℕ → List ℕ → BoxHeader
   to_end : List ℕ → List ℕ → BoxHeader
 
+-- the bytes of a header
 abbrev pub print_header : BoxHeader → List ℕ
 print_header (sized size type) = size ++ type
 print_header (large one type size) = one ++ (type ++ size)
 print_header (to_end zero type) = zero ++ type
 
+-- the four bytes of a type
 abbrev pub type_of : BoxHeader → List ℕ
 type_of (sized size type) = type
 type_of (large one type size) = type
@@ -31,6 +33,7 @@ said_size (sized size type) n = big_number 4 size
 said_size (large one type size) n = big_number 8 size
 said_size (to_end zero type) n = n
 
+-- its fields have their lengths, and its size is of its form
 abbrev pub IsHeader : BoxHeader → Type 0
 IsHeader (sized size type) = (length size ≡ 4) × (length type ≡ 4) × (1 < big_number 4 size)
 IsHeader (large one type size) = (length one ≡ 4) × (length type ≡ 4) × (length size ≡ 8) × (big_number 4 one ≡ 1)
@@ -41,6 +44,7 @@ pub record BoxTree : Type 0 where
   pub header : BoxHeader
   pub body : List ℕ
 
+-- the bytes of a box
 abbrev pub print_box : BoxTree → List ℕ
 print_box b = print_header b.header ++ b.body
 
@@ -48,6 +52,7 @@ print_box b = print_header b.header ++ b.body
 abbrev pub IsBox : BoxTree → List ℕ → Type 0
 IsBox b rest = IsHeader b.header × (said_size b.header (length (print_box b ++ rest)) ≡ length (print_box b))
 
+-- what a reader gives for a box
 abbrev pub box_part : BoxTree → Part
 box_part b = whole_part (kind_of (type_of b.header)) b.body
 
@@ -64,12 +69,14 @@ pub data NoBox : Type 0 where
   too_long : BoxHeader → List ℕ → NoBox
   too_short : BoxHeader → List ℕ → NoBox
 
+-- those bytes
 abbrev pub print_no_box : NoBox → List ℕ
 print_no_box (cut bytes) = bytes
 print_no_box (cut_large one type bytes) = one ++ (type ++ bytes)
 print_no_box (too_long h bytes) = print_header h ++ bytes
 print_no_box (too_short h bytes) = print_header h ++ bytes
 
+-- they begin no box in that way
 abbrev pub IsNoBox : NoBox → Type 0
 IsNoBox (cut bytes) = (0 < length bytes) × (length bytes < 8)
 IsNoBox (cut_large one type bytes) = (length one ≡ 4) × (length type ≡ 4) × (big_number 4 one ≡ 1) × (length bytes < 8)
@@ -77,6 +84,7 @@ IsNoBox (too_long h bytes) =
     IsHeader h × (length (print_header h ++ bytes) < said_size h (length (print_header h ++ bytes)))
 IsNoBox (too_short h bytes) = IsHeader h × (said_size h (length (print_header h ++ bytes)) < length (print_header h))
 
+-- why they are refused
 abbrev pub no_box_refusal : NoBox → Refusal
 no_box_refusal (cut bytes) = too_small
 no_box_refusal (cut_large one type bytes) = too_small
@@ -88,14 +96,17 @@ pub data Parent : Type 0 where
   filled : List BoxTree → Parent
   broken : List BoxTree → NoBox → Parent
 
+-- the bytes of what stands in a box
 abbrev pub print_parent : Parent → List ℕ
 print_parent (filled bs) = flat_map print_box bs ++ []
 print_parent (broken bs end) = flat_map print_box bs ++ print_no_box end
 
+-- it is valid: each box is whole, and bytes behind them begin none
 abbrev pub IsParent : Parent → Type 0
 IsParent (filled bs) = AreBoxes bs []
 IsParent (broken bs end) = AreBoxes bs (print_no_box end) × IsNoBox end
 
+-- what a reader gives for it
 abbrev pub parent_parts : Parent → Parts
 parent_parts (filled bs) = record { whole = map box_part bs; fault = None }
 parent_parts (broken bs end) = record { whole = map box_part bs; fault = Some (no_box_refusal end) }
@@ -107,16 +118,19 @@ pub data Counted : Type 0 where
   cut_off : List BoxTree → NoBox → Counted
   too_few : List BoxTree → Counted
 
+-- the bytes of counted boxes
 abbrev pub print_counted : Counted → List ℕ
 print_counted (all bs rest) = flat_map print_box bs ++ rest
 print_counted (cut_off bs end) = flat_map print_box bs ++ print_no_box end
 print_counted (too_few bs) = flat_map print_box bs ++ []
 
+-- they are valid for a count of n
 abbrev pub IsCounted : ℕ → Counted → Type 0
 IsCounted n (all bs rest) = (length bs ≡ n) × AreBoxes bs rest
 IsCounted n (cut_off bs end) = (length bs < n) × AreBoxes bs (print_no_box end) × IsNoBox end
 IsCounted n (too_few bs) = (length bs < n) × AreBoxes bs []
 
+-- what a reader gives for them
 abbrev pub counted_parts : Counted → Parts
 counted_parts (all bs rest) = record { whole = map box_part bs; fault = None }
 counted_parts (cut_off bs end) = record { whole = map box_part bs; fault = Some (no_box_refusal end) }

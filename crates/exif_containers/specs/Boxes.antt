@@ -76,12 +76,15 @@ pub record Parts : Type 0 where
   pub whole : List Part
   pub fault : Option Refusal
 
+-- no boxes, and nothing wrong
 abbrev pub none : Parts
 none = record { whole = []; fault = None }
 
+-- no boxes, since this is wrong
 abbrev pub ended : Refusal → Parts
 ended r = record { whole = []; fault = Some r }
 
+-- a box, and those behind it
 abbrev pub before : Part → Parts → Parts
 before p ps = record { whole = p ∷ ps.whole; fault = ps.fault }
 
@@ -105,6 +108,7 @@ filling box (suc n) (b ∷ text) = and_then (box (b ∷ text)) (filling box n)
 unfoldable pub all_boxes : (List ℕ → Front Part) → List ℕ → Parts
 all_boxes box text = filling box (length text) text
 
+-- the boxes in the body of a box
 abbrev pub children : List ℕ → Parts
 children text = all_boxes box_at text
 

@@ -12,6 +12,7 @@ use Rattle.exif_containers.specs.HeifRefusals.{heif_refusals}
 use Rattle.exif_containers.specs.Jpeg.{begins_jpeg, jpeg_answer, jpeg_refusals}
 use Rattle.exif_containers.specs.Webp.{begins_webp, webp_answer, webp_refusals}
 
+-- the first bytes are those of no container
 abbrev pub unknown_format : Refusal
 unknown_format = invalid_format (codes "Unknown image format")
 

@@ -22,6 +22,7 @@ end_parts (cut_large one type bytes) = ended broken_file
 end_parts (too_long h bytes) = record { whole = record { kind = kind_of (type_of h); len = said_len h bytes; body = bytes } ∷ []; fault = None }
 end_parts (too_short h bytes) = ended invalid_size
 
+-- what a reader gives for the boxes of a file
 abbrev pub file_parts : Parent → Parts
 file_parts (filled bs) = record { whole = map box_part bs; fault = None }
 file_parts (broken bs end) = record { whole = map box_part bs ++ (end_parts end).whole; fault = (end_parts end).fault }
@@ -39,26 +40,32 @@ pub data BrandsTree : Type 0 where
   unknown : List ℕ → List (List ℕ) → List ℕ → BrandsTree
   short : List ℕ → BrandsTree
 
+-- the bytes of brands, one after the other
 abbrev pub print_list : List (List ℕ) → List ℕ
 print_list brands = flat_map (λ brand. brand) brands
 
+-- the bytes of the body of an `ftyp`
 abbrev pub print_brands : BrandsTree → List ℕ
 print_brands (known front brands brand rest) = front ++ (print_list brands ++ (brand ++ rest))
 print_brands (unknown front brands rest) = front ++ (print_list brands ++ rest)
 print_brands (short bytes) = bytes
 
+-- a brand of HEIF
 abbrev pub IsHeifBrand : List ℕ → Type 0
 IsHeifBrand brand = (brand ≡ codes "mif1") ⊎ (brand ≡ codes "msf1")
 
+-- a brand of another standard
 pub record IsForeign (brand : List ℕ) : Type 0 where
   pub four : length brand ≡ 4
   pub foreign : IsHeifBrand brand → ⊥
 
+-- the tree is valid: its fields have their lengths, and its brands are what it says
 abbrev pub AreBrands : BrandsTree → Type 0
 AreBrands (known front brands brand rest) = (length front ≡ 8) × All IsForeign brands × IsHeifBrand brand
 AreBrands (unknown front brands rest) = (length front ≡ 8) × All IsForeign brands × (length rest < 4)
 AreBrands (short bytes) = length bytes < 8
 
+-- whether the brands are accepted, or why not
 abbrev pub brands_say : BrandsTree → Result (Unit {0}) Refusal
 brands_say (known front brands brand rest) = Ok tt
 brands_say (unknown front brands rest) = Err no_brand
@@ -78,12 +85,15 @@ IsABrands bytes = (t : BrandsTree) × AreBrands t × (print_brands t ≡ bytes)
 
 -- ---- the boxes up to `meta`
 
+-- the header of a `meta`
 abbrev pub IsMeta : BoxHeader → Type 0
 IsMeta h = type_of h ≡ codes "meta"
 
+-- the header of an `ftyp`
 abbrev pub IsFtyp : BoxHeader → Type 0
 IsFtyp h = type_of h ≡ codes "ftyp"
 
+-- the header of a box of any other type
 abbrev pub IsOther : BoxHeader → Type 0
 IsOther h = (type_of h ≢ codes "ftyp") × (type_of h ≢ codes "meta")
 
@@ -92,21 +102,26 @@ pub data Passed : Type 0 where
   ftyp : BoxTree → Passed
   other : BoxTree → Passed
 
+-- the box itself
 abbrev pub passed_box : Passed → BoxTree
 passed_box (ftyp b) = b
 passed_box (other b) = b
 
+-- it is one that is passed over
 abbrev pub IsPassed : Passed → Type 0
 IsPassed (ftyp b) = IsFtyp b.header × BrandsSay b.body (Ok tt)
 IsPassed (other b) = IsOther b.header × (length b.body < 2 ^ 63)
 
+-- whether it is an `ftyp`
 abbrev pub is_ftyp : Passed → Bool
 is_ftyp (ftyp b) = true
 is_ftyp (other b) = false
 
+-- its bytes
 abbrev pub print_passed : Passed → List ℕ
 print_passed p = print_box (passed_box p)
 
+-- boxes that are passed over, with these bytes behind them
 abbrev pub ArePassed : List Passed → List ℕ → Type 0
 ArePassed [] rest = ⊤
 ArePassed (p ∷ ps) rest = IsBox (passed_box p) (flat_map print_passed ps ++ rest) × IsPassed p × ArePassed ps rest
@@ -123,6 +138,7 @@ pub data FileEnd : Type 0 where
   no_header : NoBox → FileEnd
   no_meta : FileEnd
 
+-- the bytes of what ends the boxes
 abbrev pub print_file_end : FileEnd → List ℕ
 print_file_end (meta b rest) = print_box b ++ rest
 print_file_end (wrong_ftyp b r rest) = print_box b ++ rest
@@ -140,12 +156,14 @@ IsHeadless (cut_large one type bytes) = IsNoBox (cut_large one type bytes)
 IsHeadless (too_long h bytes) = ⊥
 IsHeadless (too_short h bytes) = IsNoBox (too_short h bytes)
 
+-- why bytes without a header are refused
 abbrev pub headless_refusal : NoBox → Refusal
 headless_refusal (cut bytes) = broken_file
 headless_refusal (cut_large one type bytes) = broken_file
 headless_refusal (too_long h bytes) = broken_file
 headless_refusal (too_short h bytes) = invalid_size
 
+-- it is valid
 abbrev pub IsFileEnd : FileEnd → Type 0
 IsFileEnd (meta b rest) = IsBox b rest × IsMeta b.header
 IsFileEnd (wrong_ftyp b r rest) = IsBox b rest × IsFtyp b.header × BrandsSay b.body (Err r)
@@ -172,12 +190,15 @@ pub record FrontTree : Type 0 where
   pub passed : List Passed
   pub end : FileEnd
 
+-- the bytes of a file
 abbrev pub print_front : FrontTree → List ℕ
 print_front t = flat_map print_passed t.passed ++ print_file_end t.end
 
+-- the tree is valid
 abbrev pub IsFront : FrontTree → Type 0
 IsFront t = ArePassed t.passed (print_file_end t.end) × IsFileEnd t.end
 
+-- the body of the `meta`, or why there is none
 abbrev pub front_says : FrontTree → Result (List ℕ) Refusal
 front_says t = end_says (list_any is_ftyp t.passed) t.end
 

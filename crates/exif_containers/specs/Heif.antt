@@ -16,6 +16,7 @@ pub record Tables : Type 0 where
   pub iloc : Option (List ℕ)
   pub idat : Option (List ℕ)
 
+-- what counts among these boxes
 abbrev pub tables_of : Parts → Result Tables Refusal
 tables_of parts = do
   item ← last_read None (read_each ItemInfo exif_numbers parts)

@@ -15,6 +15,7 @@ file_box_at file = if nat_le (header_len file) (length file) then (do
   header ← header_at file
   Ok (record { kind = header.0.kind; len = header.0.len; body = take header.0.len header.1 }, drop header.0.len header.1)) else Err broken_file
 
+-- the boxes of a file
 abbrev pub file_boxes : List ℕ → Parts
 file_boxes file = all_boxes file_box_at file
 
@@ -23,6 +24,7 @@ abbrev pub fours : List ℕ → List (List ℕ)
 fours (a ∷ b ∷ c ∷ d ∷ text) = (a ∷ b ∷ c ∷ d ∷ []) ∷ fours text
 fours text = []
 
+-- whether a brand is one of HEIF
 abbrev pub is_heif_brand : List ℕ → Bool
 is_heif_brand brand = bytes_eq brand (codes "mif1") || bytes_eq brand (codes "msf1")
 
@@ -35,9 +37,11 @@ abbrev pub brand_checked : List ℕ → Result (Unit {0}) Refusal
 brand_checked body =
     if nat_lt (length body) 8 then Err too_small else (if has_heif_brand body then Ok tt else Err no_brand)
 
+-- whether a box is a `meta`
 abbrev pub is_meta : Part → Bool
 is_meta p = same_kind Meta p.kind
 
+-- whether a box is an `ftyp`
 abbrev pub is_ftyp : Part → Bool
 is_ftyp p = same_kind FileType p.kind
 

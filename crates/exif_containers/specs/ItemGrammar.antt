@@ -15,9 +15,11 @@ pub record FullHead : Type 0 where
   pub version : ℕ
   pub flags : List ℕ
 
+-- its bytes, and those behind it
 abbrev pub print_full : FullHead → List ℕ → List ℕ
 print_full h rest = h.version ∷ (h.flags ++ rest)
 
+-- its flags are three bytes
 abbrev pub IsFull : FullHead → Type 0
 IsFull h = length h.flags ≡ 3
 
@@ -32,6 +34,7 @@ pub data EntryTree : Type 0 where
   cut_head : List ℕ → EntryTree
   cut_entry : FullHead → List ℕ → EntryTree
 
+-- the bytes of an entry
 abbrev pub print_entry : EntryTree → List ℕ
 print_entry (exif h number protection rest) = print_full h (number ++ (protection ++ (codes "Exif" ++ rest)))
 print_entry (other h number protection type rest) = print_full h (number ++ (protection ++ (type ++ rest)))
@@ -43,6 +46,7 @@ print_entry (cut_entry h bytes) = print_full h bytes
 abbrev pub HasNumber : ℕ → ℕ → Type 0
 HasNumber version len = ((version ≡ 2) × (len ≡ 2)) ⊎ ((version ≡ 3) × (len ≡ 4))
 
+-- the tree is valid: its fields have their lengths, and its version is what it says
 abbrev pub IsEntry : EntryTree → Type 0
 IsEntry (exif h number protection rest) = IsFull h × HasNumber h.version (length number) × (length protection ≡ 2)
 IsEntry (other h number protection type rest) =
@@ -52,6 +56,7 @@ IsEntry (cut_head bytes) = length bytes < 4
 IsEntry (cut_entry h bytes) =
     IsFull h × (((h.version ≡ 2) × (length bytes < 8)) ⊎ ((h.version ≡ 3) × (length bytes < 10)))
 
+-- the number of the Exif item, none, or why it is refused
 abbrev pub entry_says : EntryTree → Result (List ℕ) Refusal
 entry_says (exif h number protection rest) = Ok (big_number (length number) number ∷ [])
 entry_says (other h number protection type rest) = Ok []
@@ -75,6 +80,7 @@ pub data InfoTree : Type 0 where
   cut_head : List ℕ → InfoTree
   cut_count : FullHead → List ℕ → InfoTree
 
+-- the bytes of an `iinf`
 abbrev pub print_info : InfoTree → List ℕ
 print_info (info h count boxes) = print_full h (count ++ print_counted boxes)
 print_info (cut_head bytes) = bytes
@@ -84,6 +90,7 @@ print_info (cut_count h bytes) = print_full h bytes
 abbrev pub HasCount : ℕ → ℕ → Type 0
 HasCount version len = ((version ≡ 0) × (len ≡ 2)) ⊎ ((version ≢ 0) × (len ≡ 4))
 
+-- the tree is valid: its count has its length and counts its boxes
 abbrev pub IsInfo : InfoTree → Type 0
 IsInfo (info h count boxes) = IsFull h × HasCount h.version (length count) × IsCounted (big_number (length count) count) boxes
 IsInfo (cut_head bytes) = length bytes < 4
@@ -113,16 +120,19 @@ pub data BlockTree : Type 0 where
   short : List ℕ → BlockTree
   over : List ℕ → List ℕ → BlockTree
 
+-- the bytes of an Exif item
 abbrev pub print_block : BlockTree → List ℕ
 print_block (block number skipped payload) = number ++ (skipped ++ payload)
 print_block (short bytes) = bytes
 print_block (over number bytes) = number ++ bytes
 
+-- the tree is valid: its fields have their lengths
 abbrev pub IsBlock : BlockTree → Type 0
 IsBlock (block number skipped payload) = (length number ≡ 4) × (length skipped ≡ big_number 4 number)
 IsBlock (short bytes) = length bytes < 4
 IsBlock (over number bytes) = (length number ≡ 4) × (length bytes < big_number 4 number)
 
+-- the Exif data, or why they are refused
 abbrev pub block_says : BlockTree → Result (List ℕ) Refusal
 block_says (block number skipped payload) = Ok payload
 block_says (short bytes) = Err block_too_small

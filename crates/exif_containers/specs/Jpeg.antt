@@ -5,18 +5,23 @@ use Rattle.std.specs.Option.{option_map}
 use Rattle.exif_types.specs.Refusals.{Refusal, invalid_format, not_found}
 use Rattle.exif_containers.specs.Answer.{Answer, found, refused}
 
+-- the bytes end before an answer
 abbrev pub broken_jpeg : Refusal
 broken_jpeg = invalid_format (codes "Broken JPEG file")
 
+-- the stream does not begin ff d8
 abbrev pub not_jpeg : Refusal
 not_jpeg = invalid_format (codes "Not a JPEG file")
 
+-- an image begins inside the image
 abbrev pub unexpected_soi : Refusal
 unexpected_soi = invalid_format (codes "Unexpected SOI")
 
+-- a segment is shorter than its own length
 abbrev pub invalid_length : Refusal
 invalid_length = invalid_format (codes "Invalid segment length")
 
+-- the image ends, and held no Exif data
 abbrev pub no_exif_in_jpeg : Refusal
 no_exif_in_jpeg = not_found (codes "JPEG")
 
@@ -67,6 +72,7 @@ abbrev pub unit_from_code : List ℕ → Option JpegUnit
 unit_from_code [] = None
 unit_from_code (code ∷ bytes) = unit_with_body code bytes (body_len code bytes)
 
+-- the first unit of these bytes, where it is whole
 abbrev pub first_unit : List ℕ → Option JpegUnit
 first_unit bytes = unit_from_code (code_onwards bytes)
 
@@ -106,6 +112,7 @@ first_answer (u ∷ us) = unwrap_or (unit_answer u) (first_answer us)
 abbrev pub units_of : List ℕ → List JpegUnit
 units_of bytes = units (length bytes) bytes
 
+-- the answer of the units from here on
 abbrev pub answer_from : List ℕ → Answer
 answer_from bytes = first_answer (units_of bytes)
 

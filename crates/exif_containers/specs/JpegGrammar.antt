@@ -24,6 +24,7 @@ pub record UnitTree : Type 0 where
   pub code : ℕ
   pub brought : Brought
 
+-- the bytes behind a code
 abbrev pub print_brought : Brought → List ℕ
 print_brought nothing = []
 print_brought (sized high low content) = high ∷ low ∷ content
@@ -45,6 +46,7 @@ IsBrought code (sized high low content) =
     (stands_alone code ≡ false) × (length content ≡ 256 * high + low - 2) × (code ≡ 225 → HasNoId content)
 IsBrought code (exif high low payload) = (code ≡ 225) × (256 * high + low ≡ 8 + length payload)
 
+-- the unit is valid: no ff stands in what is passed or as its code
 pub record IsUnit (u : UnitTree) : Type 0 where
   pub passed : All (λ b. b ≢ 255) u.passed
   pub code : u.code ≢ 255
@@ -75,10 +77,12 @@ pub data Ending : Type 0 where
   speaking : UnitTree → Result (List ℕ) Refusal → List ℕ → Ending
   cut : List ℕ → Ending
 
+-- the bytes of what ends them
 abbrev pub print_ending : Ending → List ℕ
 print_ending (speaking u said rest) = print_unit u ++ rest
 print_ending (cut bytes) = bytes
 
+-- it is valid: the unit says so, or there is no unit
 abbrev pub IsEnding : Ending → Type 0
 IsEnding (speaking u said rest) = IsUnit u × (unit_says u ≡ Some said)
 IsEnding (cut bytes) = HasNoUnit bytes
@@ -88,6 +92,7 @@ abbrev pub answer_said : List ℕ → Result (List ℕ) Refusal → Answer
 answer_said rest (Ok payload) = found payload rest
 answer_said rest (Err r) = refused r
 
+-- the answer of what ends them
 abbrev pub ending_answer : Ending → Answer
 ending_answer (speaking u said rest) = answer_said rest said
 ending_answer (cut bytes) = refused broken_jpeg
@@ -98,16 +103,19 @@ pub data Stream : Type 0 where
   foreign : ℕ → ℕ → List ℕ → Stream
   units : List UnitTree → Ending → Stream
 
+-- the bytes of a stream
 abbrev pub print_stream : Stream → List ℕ
 print_stream (short bytes) = bytes
 print_stream (foreign a b rest) = a ∷ b ∷ rest
 print_stream (units us end) = 255 ∷ 216 ∷ (flat_map print_unit us ++ print_ending end)
 
+-- the tree is valid
 abbrev pub IsStream : Stream → Type 0
 IsStream (short bytes) = length bytes < 2
 IsStream (foreign a b rest) = (a ≡ 255) × (b ≡ 216) → ⊥
 IsStream (units us end) = All IsSilent us × IsEnding end
 
+-- the answer of a stream
 abbrev pub stream_answer : Stream → Answer
 stream_answer (short bytes) = refused broken_jpeg
 stream_answer (foreign a b rest) = refused not_jpeg

@@ -17,24 +17,29 @@ IsSize n = (n ≡ 0) ⊎ ((n ≡ 4) ⊎ (n ≡ 8))
 
 -- ---- an extent: an index, an offset and a length, of so many bytes each
 
+-- the fields of an extent
 pub record ExtentTree : Type 0 where
   pub index : List ℕ
   pub offset : List ℕ
   pub len : List ℕ
 
+-- the bytes of an extent
 abbrev pub print_extent : ExtentTree → List ℕ
 print_extent e = e.index ++ (e.offset ++ e.len)
 
+-- the fields are as long as the sizes say
 pub record IsExtent (s : Sizes) (e : ExtentTree) : Type 0 where
   pub index : length e.index ≡ s.index
   pub offset : length e.offset ≡ s.offset
   pub len : length e.len ≡ s.len
 
+-- the extent that the fields spell
 abbrev pub extent_of : ExtentTree → Extent
 extent_of e = record { offset = big_number (length e.offset) e.offset; len = big_number (length e.len) e.len }
 
 -- ---- an item: its number, how it is put together, where its data are, a base, a count, and its extents
 
+-- the fields of an item
 pub record PlaceTree : Type 0 where
   pub number : List ℕ
   pub method : List ℕ
@@ -43,6 +48,7 @@ pub record PlaceTree : Type 0 where
   pub count : List ℕ
   pub extents : List ExtentTree
 
+-- the bytes of an item
 abbrev pub print_place : PlaceTree → List ℕ
 print_place p = p.number ++ (p.method ++ (p.reference ++ (p.base ++ (p.count ++ flat_map print_extent p.extents))))
 
@@ -50,6 +56,7 @@ print_place p = p.number ++ (p.method ++ (p.reference ++ (p.base ++ (p.count ++ 
 abbrev pub number_len : ℕ → ℕ
 number_len version = if version == 2 then 4 else 2
 
+-- how an item is put together takes two bytes, but none in version 0
 abbrev pub method_len : ℕ → ℕ
 method_len version = if version == 0 then 0 else 2
 
@@ -57,6 +64,7 @@ method_len version = if version == 0 then 0 else 2
 abbrev pub method_said : ℕ → List ℕ → ℕ
 method_said version method = if version == 0 then 0 else slice_index method 1 % 16
 
+-- the item has the wanted number
 abbrev pub IsWanted : ℕ → PlaceTree → Type 0
 IsWanted wanted p = big_number (length p.number) p.number ≡ wanted
 
@@ -73,6 +81,7 @@ pub record IsPlace (wanted version : ℕ) (s : Sizes) (p : PlaceTree) : Type 0 w
   pub extents : All (IsExtent s) p.extents
   pub sized : IsWanted wanted p → 0 < length p.extents → IsSize s.index × IsSize s.offset × IsSize s.len
 
+-- the place that the fields spell
 abbrev pub place_of : ℕ → PlaceTree → Place
 place_of version p =
     record { method = method_said version p.method; base = big_number (length p.base) p.base; extents = map extent_of p.extents }
@@ -83,6 +92,7 @@ place_said wanted version p = if big_number (length p.number) p.number == wanted
 
 -- ---- an `iloc`: two bytes of sizes, a count, items, and any bytes
 
+-- the fields of an `iloc`
 pub record PlacesTree : Type 0 where
   pub head : FullHead
   pub packed : List ℕ
@@ -91,6 +101,7 @@ pub record PlacesTree : Type 0 where
   pub places : List PlaceTree
   pub rest : List ℕ
 
+-- the bytes of an `iloc`
 abbrev pub print_places : PlacesTree → List ℕ
 print_places t = print_full t.head (t.packed ++ (t.count ++ (flat_map print_place t.places ++ t.rest)))
 
@@ -106,6 +117,7 @@ pub record ArePacked (packed : List ℕ) (s : Sizes) : Type 0 where
 abbrev pub sizes_in : ℕ → Sizes → Sizes
 sizes_in version s = record { offset = s.offset; len = s.len; base = s.base; index = if version == 0 then 0 else s.index }
 
+-- the tree is valid: its fields have their lengths, and its count counts its items
 pub record ArePlaces (wanted : ℕ) (t : PlacesTree) : Type 0 where
   pub head : IsFull t.head
   pub version : t.head.version ≤ 2
@@ -114,6 +126,7 @@ pub record ArePlaces (wanted : ℕ) (t : PlacesTree) : Type 0 where
   pub counted : big_number (length t.count) t.count ≡ length t.places
   pub places : All (IsPlace wanted t.head.version (sizes_in t.head.version t.sizes)) t.places
 
+-- the places of the wanted item
 abbrev pub places_said : ℕ → PlacesTree → List Place
 places_said wanted t = flat_map (place_said wanted t.head.version) t.places
 
@@ -178,6 +191,7 @@ AreTexts bytes_of [] [] = ⊤
 AreTexts bytes_of (e ∷ es) (text ∷ texts) = (bytes_of e ≡ Ok text) × AreTexts bytes_of es texts
 AreTexts bytes_of es texts = ⊥
 
+-- texts, one after the other
 abbrev pub joined_texts : List (List ℕ) → List ℕ
 joined_texts texts = flat_map (λ text. text) texts
 

@@ -37,9 +37,11 @@ pub record Place : Type 0 where
   pub base : ℕ
   pub extents : List Extent
 
+-- a location of the code as a place
 abbrev pub location_view : Location → Place
 location_view l = record { method = l.method; base = l.base; extents = l.extents.items }
 
+-- the place, where there is one
 abbrev pub location_list : Option Location → List Place
 location_list o = option_to_list (option_map location_view o)
 

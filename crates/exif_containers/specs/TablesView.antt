@@ -8,6 +8,7 @@ use Rattle.exif_types.specs.Refusals.{Refusal, ◌>>=◌, last_read}
 use Rattle.exif_containers.specs.Items.{exif_numbers}
 use Rattle.exif_containers.specs.Heif.{Tables}
 
+-- the tables of the code as those of a definition
 abbrev pub tables_view : Lent → Tables
 tables_view t = record { item = t.item; iloc = t.iloc; idat = option_map (λ b. b.now) t.idat }
 

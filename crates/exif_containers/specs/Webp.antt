@@ -6,18 +6,23 @@ use Rattle.byteorder.specs.Endian.{little_number}
 use Rattle.exif_types.specs.Refusals.{Refusal, invalid_format, not_found}
 use Rattle.exif_containers.specs.Answer.{Answer, found, refused}
 
+-- the bytes end before an answer
 abbrev pub broken_webp : Refusal
 broken_webp = invalid_format (codes "Broken WebP file")
 
+-- the file does not begin as a WebP file does
 abbrev pub not_webp : Refusal
 not_webp = invalid_format (codes "Not a WebP file")
 
+-- the file is shorter than its form type
 abbrev pub invalid_file_size : Refusal
 invalid_file_size = invalid_format (codes "Invalid header file size")
 
+-- a chunk does not fit into the room that is left
 abbrev pub overflowing : Refusal
 overflowing = invalid_format (codes "Chunk overflowing parent")
 
+-- the body is used up, and held no Exif data
 abbrev pub no_exif_in_webp : Refusal
 no_exif_in_webp = not_found (codes "WebP")
 
@@ -35,9 +40,11 @@ pub data Chunk : Type 0 where
 abbrev pub padded : ℕ → ℕ → ℕ
 padded size room = if (size % 2 == 1) && nat_lt size room then size + 1 else size
 
+-- a payload of Exif data, where it is whole
 abbrev pub exif_chunk : ℕ → List ℕ → Result Chunk Refusal
 exif_chunk size bytes = if nat_lt (length bytes) size then Err broken_webp else Ok (exif (take size bytes) (drop size bytes))
 
+-- another payload and its pad byte, where they are whole
 abbrev pub other_chunk : ℕ → ℕ → List ℕ → Result Chunk Refusal
 other_chunk taken room bytes = if nat_lt (length bytes) taken then Err broken_webp else Ok (other (room - taken) (drop taken bytes))
 
@@ -55,6 +62,7 @@ chunk_at room bytes =
     if nat_lt (length bytes) 8 then Err broken_webp else
     chunk_body (take 4 bytes) (little_number 4 (drop 4 bytes)) (room - 8) (drop 8 bytes)
 
+-- the answer of a chunk, or of what follows it
 abbrev pub follow : Result Chunk Refusal → (ℕ → List ℕ → Answer) → Answer
 follow (Ok (exif payload rest)) next = found payload rest
 follow (Ok (other room bytes)) next = next room bytes
@@ -77,6 +85,7 @@ begins_webp bytes = bytes_eq (take 4 bytes) (codes "RIFF") && bytes_eq (take 4 (
 abbrev pub sized_answer : ℕ → List ℕ → Answer
 sized_answer size bytes = if nat_lt size 4 then refused invalid_file_size else body_answer (size - 4) bytes
 
+-- the answer of a file: its header, and then its chunks
 abbrev pub webp_answer : List ℕ → Answer
 webp_answer bytes =
     if nat_lt (length bytes) 12 then refused broken_webp else

@@ -75,6 +75,7 @@ pub data BodyEnd : Type 0 where
   cut_header : List ℕ → BodyEnd
   cut_payload : List ℕ → List ℕ → List ℕ → BodyEnd
 
+-- the bytes of what ends the other chunks
 abbrev pub print_end : BodyEnd → List ℕ
 print_end (exif c rest) = print_chunk c ++ rest
 print_end (used_up rest) = rest
@@ -83,6 +84,7 @@ print_end (too_long name size rest) = name ++ (size ++ rest)
 print_end (cut_header bytes) = bytes
 print_end (cut_payload name size bytes) = name ++ (size ++ bytes)
 
+-- it ends them in that way, with so much room left
 abbrev pub IsEnd : ℕ → BodyEnd → Type 0
 IsEnd room (exif c rest) = IsExif room c
 IsEnd room (used_up rest) = room ≡ 0
@@ -92,6 +94,7 @@ IsEnd room (cut_header bytes) = (8 ≤ room) × (length bytes < 8)
 IsEnd room (cut_payload name size bytes) =
     IsHeader room name size × (little_number 4 size ≤ room - 8) × (length bytes < wanted name (little_number 4 size) (room - 8))
 
+-- its answer
 abbrev pub end_answer : BodyEnd → Answer
 end_answer (exif c rest) = found c.payload rest
 end_answer (used_up rest) = refused no_exif_in_webp
@@ -112,6 +115,7 @@ pub data WebpFile : Type 0 where
   short : List ℕ → WebpFile
   foreign : List ℕ → WebpFile
 
+-- the bytes of a file
 abbrev pub print_file : WebpFile → List ℕ
 print_file (body size cs end) = print_header size ++ (flat_map print_chunk cs ++ print_end end)
 print_file (small size rest) = print_header size ++ rest
@@ -122,9 +126,11 @@ print_file (foreign bytes) = bytes
 abbrev pub body_room : List ℕ → ℕ
 body_room size = little_number 4 size - 4
 
+-- these bytes begin with no header of a file
 abbrev pub HasNoHeader : List ℕ → Type 0
 HasNoHeader bytes = (size rest : List ℕ) → length size ≡ 4 → bytes ≡ print_header size ++ rest → ⊥
 
+-- the tree is valid
 abbrev pub IsFile : WebpFile → Type 0
 IsFile (body size cs end) =
     (length size ≡ 4) × (4 ≤ little_number 4 size) × AreOthers (body_room size) cs × IsEnd (room_behind (body_room size) cs) end
@@ -132,6 +138,7 @@ IsFile (small size rest) = (length size ≡ 4) × (little_number 4 size < 4)
 IsFile (short bytes) = length bytes < 12
 IsFile (foreign bytes) = (12 ≤ length bytes) × HasNoHeader bytes
 
+-- the answer of a file
 abbrev pub file_answer : WebpFile → Answer
 file_answer (body size cs end) = end_answer end
 file_answer (small size rest) = refused invalid_file_size

@@ -10,6 +10,7 @@ abbrev pub chunk_of : Step → List ℕ → Chunk
 chunk_of (step.Exif payload) rest = exif payload.items rest
 chunk_of (step.Other room) rest = other room rest
 
+-- a chunk that was passed leaves at most this room
 abbrev pub LeavesAtMost : ℕ → Step → Type 0
 LeavesAtMost room (step.Exif payload) = ⊤
 LeavesAtMost room (step.Other rest) = rest ≤ room
