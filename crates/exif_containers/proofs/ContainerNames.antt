@@ -34,11 +34,14 @@ more few all f (Err e) h = by (refusal_of e) h
     by None h = h
     by (Some r) h = f r h
 
+-- a named refusal of a JPEG stream is one of a container
 pub named_jpeg : {T : Type 0} (result : Result T Failure) → IfErr result (IsNamed jpeg_refusals) → IfErr result (IsNamed container_refusals)
 named_jpeg = more jpeg_refusals container_refusals (λ r h. behind-one unknown_format (jpeg_refusals ++ (heif_refusals ++ webp_refusals)) r (front jpeg_refusals (heif_refusals ++ webp_refusals) r h))
 
+-- a named refusal of a HEIF file is one of a container
 pub named_heif : {T : Type 0} (result : Result T Failure) → IfErr result (IsNamed heif_refusals) → IfErr result (IsNamed container_refusals)
 named_heif = more heif_refusals container_refusals (λ r h. behind-one unknown_format (jpeg_refusals ++ (heif_refusals ++ webp_refusals)) r (behind jpeg_refusals (heif_refusals ++ webp_refusals) r (front heif_refusals webp_refusals r h)))
 
+-- a named refusal of a WebP file is one of a container
 pub named_webp : {T : Type 0} (result : Result T Failure) → IfErr result (IsNamed webp_refusals) → IfErr result (IsNamed container_refusals)
 named_webp = more webp_refusals container_refusals (λ r h. behind-one unknown_format (jpeg_refusals ++ (heif_refusals ++ webp_refusals)) r (behind jpeg_refusals (heif_refusals ++ webp_refusals) r (behind heif_refusals webp_refusals r h)))

@@ -252,6 +252,7 @@ exif_block_only file meta =
     only_then (last_read None (locations item iloc)) _ (last_only None (locations item iloc) (locations_only item iloc)) (λ found.
     only_then (or_refuse found _) _ (or_only found _ (14, omega arith, refl)) (λ place. item_bytes_only file t.idat place)))))
 
+-- the Exif data of a file are refused by a refusal of the list
 pub exif_of_only : (file : List ℕ) → Only (exif_of file)
 unfolding exif_of
 exif_of_only file =

@@ -17,6 +17,7 @@ use Rattle.exif_containers.proofs.SplitterBoxes.{Shortens, all_boxes_more, all_b
 
 -- ---- brands
 
+-- a test of the first text of 4 bytes, and of those behind it
 pub any_more : (f : List ℕ → Bool) (text : List ℕ) → 4 ≤ length text → list_any f (fours text) ≡ (f (take 4 text) || list_any f (fours (drop 4 text)))
 any_more f [] h = absurd (omega arith)
 any_more f (a ∷ []) h = absurd (omega arith)
@@ -24,6 +25,7 @@ any_more f (a ∷ b ∷ []) h = absurd (omega arith)
 any_more f (a ∷ b ∷ c ∷ []) h = absurd (omega arith)
 any_more f (a ∷ b ∷ c ∷ d ∷ text) h = refl
 
+-- fewer than 4 bytes hold no text of 4
 pub any_none : (f : List ℕ → Bool) (text : List ℕ) → length text < 4 → list_any f (fours text) ≡ false
 any_none f [] h = refl
 any_none f (a ∷ []) h = refl
@@ -37,6 +39,7 @@ any_went_on f text total long h so_far = sym (any_more f text long ∙ ap (λ b.
 
 -- ---- boxes
 
+-- a box of a file is longer than nothing
 pub file_box_shorter : Shortens file_box_at
 unfolding file_box_at
 file_box_shorter text p rest e =
@@ -54,6 +57,7 @@ file_box_shorter text p rest e =
 abbrev pub each_checked : List Part → Result (Unit {0}) Refusal
 each_checked ps = all_pass (λ p. checked p.kind p.len p.body) ps
 
+-- the body of the `meta` from here on, where an `ftyp` was seen or not
 abbrev pub meta_from : Bool → Parts → Result (List ℕ) Refusal
 meta_from seen parts =
     each_checked (before_meta parts.whole) >>= λ u. or_refuse (find is_meta parts.whole) (unwrap_or parts.fault no_exif)
@@ -74,6 +78,7 @@ step : (seen t : Bool) (one : Result (Unit {0}) Refusal) (ps : Parts)
 step seen t (Ok u) ps = ap (λ b. each_checked (before_meta ps.whole) >>= λ v. chosen b ps) (or_swap seen t (list_any is_ftyp (before_meta ps.whole)))
 step seen t (Err r) ps = refl
 
+-- a box by its type, the length of its body and the body
 abbrev pub box_of : Kind → ℕ → List ℕ → Part
 box_of kind len body = record { kind = kind; len = len; body = body }
 
@@ -90,20 +95,24 @@ opened : (seen : Bool) (p : Part) (text rest : List ℕ) → 0 < length text →
 opened seen p text rest some h =
     ap (λ ps. meta_from seen ps) (all_boxes_more file_box_at file_box_shorter text some) ∙ ap (λ b. meta_from seen (and_then b (all_boxes file_box_at))) h
 
+-- a box that is no `meta`, and then the others
 pub file_more : (seen : Bool) (p : Part) (text rest : List ℕ) → 0 < length text → file_box_at text ≡ Ok (p, rest) → (p.kind ≡ Meta → ⊥)
     → meta_from seen (file_boxes text) ≡ (passed seen p.kind p.len p.body >>= λ s. meta_from s (file_boxes rest))
 file_more seen p text rest some h not_meta = opened seen p text rest some h ∙ more seen p.kind p.len p.body (file_boxes rest) not_meta
 
+-- the loop goes on behind a box that is passed over
 pub file_went_on : (seen now : Bool) (p : Part) (text rest : List ℕ) (total : Result (List ℕ) Refusal) → 0 < length text → file_box_at text ≡ Ok (p, rest) → (p.kind ≡ Meta → ⊥)
     → passed seen p.kind p.len p.body ≡ Ok now → meta_from seen (file_boxes text) ≡ total → meta_from now (file_boxes rest) ≡ total
 file_went_on seen now p text rest total some h not_meta k so_far =
     sym (file_more seen p text rest some h not_meta ∙ ap (λ r. r >>= λ s. meta_from s (file_boxes rest)) k) ∙ so_far
 
+-- a box that is refused is the file's refusal
 pub file_failed : (e : Failure) (seen : Bool) (p : Part) (text rest : List ℕ) → 0 < length text → file_box_at text ≡ Ok (p, rest) → (p.kind ≡ Meta → ⊥)
     → Refuses e (passed seen p.kind p.len p.body) → Refuses e (meta_from seen (file_boxes text))
 file_failed e seen p text rest some h not_meta k =
     rw (file_more seen p text rest some h not_meta) (refuses_along e (λ r. r >>= λ s. meta_from s (file_boxes rest)) (passed seen p.kind p.len p.body) (λ r. refl) k)
 
+-- bytes that are no box are the file's refusal
 pub file_cut : (e : Failure) (seen : Bool) (text : List ℕ) → 0 < length text → Refuses e (file_box_at text) → Refuses e (meta_from seen (file_boxes text))
 file_cut e seen text some h =
     rw (all_boxes_more file_box_at file_box_shorter text some) (refuses_along e (λ b. meta_from seen (and_then b (all_boxes file_box_at))) (file_box_at text) (λ r. refl) h)
@@ -118,14 +127,17 @@ found seen ItemInfoEntry len body ps h = absurd cc
 found seen ItemLocation len body ps h = absurd cc
 found seen Other len body ps h = absurd cc
 
+-- the first `meta` is the answer, where an `ftyp` was seen
 pub file_found : (seen : Bool) (p : Part) (text rest : List ℕ) → 0 < length text → file_box_at text ≡ Ok (p, rest) → p.kind ≡ Meta → meta_from seen (file_boxes text) ≡ cond seen (whole p.len p.body) (Err meta_before_ftyp)
 file_found seen p text rest some h is_meta = opened seen p text rest some h ∙ found seen p.kind p.len p.body (file_boxes rest) is_meta
 
+-- a file with no more boxes holds no Exif data
 pub file_done : (seen : Bool) (text : List ℕ) → length text ≡ 0 → meta_from seen (file_boxes text) ≡ Err no_exif
 file_done seen text h = ap (λ ps. meta_from seen ps) (all_boxes_end file_box_at text h)
 
 -- ---- what begins as a HEIF file
 
+-- whether the first `ftyp` among boxes has a brand of HEIF
 abbrev pub heif_of : Parts → Bool
 heif_of parts = elim (find is_ftyp parts.whole) [ Some p ↦ has_heif_brand p.body | None ↦ false ]
 
@@ -137,6 +149,7 @@ refused_end e (Ok p) h = absurd (no_refusal (refusal_of e) h)
     no_refusal None h = h
     no_refusal (Some r) h = cc
 
+-- bytes that are no box begin no HEIF file
 pub heif_cut : (e : Failure) (text : List ℕ) → Refuses e (box_at text) → heif_of (children text) ≡ false
 heif_cut e [] h = ap heif_of (all_boxes_end box_at [] refl)
 heif_cut e (b ∷ text) h = ap heif_of (all_boxes_more box_at box_shorter (b ∷ text) (omega arith)) ∙ refused_end e (box_at (b ∷ text)) h
@@ -164,9 +177,11 @@ heif_first ItemInfoEntry body ps h = absurd cc
 heif_first ItemLocation body ps h = absurd cc
 heif_first Other body ps h = absurd cc
 
+-- the loop goes on behind a box that is no `ftyp`
 pub heif_went_on : (kind : Kind) (body text rest : List ℕ) (total : Bool) → box_at text ≡ Ok (whole_part kind body, rest) → (kind ≡ FileType → ⊥) → heif_of (children text) ≡ total → heif_of (children rest) ≡ total
 heif_went_on kind body text rest total h not_ftyp so_far = sym (heif_opened (whole_part kind body) text rest h ∙ heif_step kind body (children rest) not_ftyp) ∙ so_far
 
+-- the first `ftyp` decides
 pub heif_found : (kind : Kind) (body text rest : List ℕ) → box_at text ≡ Ok (whole_part kind body, rest) → kind ≡ FileType → heif_of (children text) ≡ has_heif_brand body
 heif_found kind body text rest h is_ftyp = heif_opened (whole_part kind body) text rest h ∙ heif_first kind body (children rest) is_ftyp
 

@@ -9,6 +9,7 @@ use Rattle.exif_types.specs.Refusals.{Refusal, ◌>>=◌, Refuses, joined, last_
 use Rattle.exif_containers.specs.Boxes.{Part, Parts, before, and_then, box_at, boxes, read_one, read_each, from_count}
 use Rattle.exif_containers.proofs.Refusing.{refuses_along}
 
+-- the last of two lists
 pub last_or-append : {A : Type 0} (o : Option A) (xs ys : List A) → last_or o (xs ++ ys) ≡ last_or (last_or o xs) ys
 last_or-append o [] ys = refl
 last_or-append o (x ∷ xs) ys = last_or-append (Some x) xs ys
@@ -40,17 +41,20 @@ count_of : {A : Type 0} (kind : Kind) (read : List ℕ → Result (List A) Refus
 unfolding boxes
 count_of kind read found count i text lt = let k : count - i ≡ suc (count - (i + 1)) = omega arith in rw k refl
 
+-- a counted box, and then the others
 pub count_goes_on : {A : Type 0} (kind : Kind) (read : List ℕ → Result (List A) Refusal) (found : Option A) (count i : ℕ) (text : List ℕ) (p : Part) (rest : List ℕ)
     → i < count → box_at text ≡ Ok (p, rest)
     → from_count kind read found (count - i) text ≡ (read_one kind read p >>= λ ys. from_count kind read (last_or found ys) (count - (i + 1)) rest)
 count_goes_on kind read found count i text p rest lt h =
     count_of kind read found count i text lt ∙ ap (λ b. last_read found (read_each kind read (and_then b (boxes (count - (i + 1)))))) h ∙ read_more found kind read p (boxes (count - (i + 1)) rest)
 
+-- bytes that are no box are the refusal of those that are counted
 pub count_cut : {A : Type 0} (e : Failure) (kind : Kind) (read : List ℕ → Result (List A) Refusal) (found : Option A) (count i : ℕ) (text : List ℕ)
     → i < count → Refuses e (box_at text) → Refuses e (from_count kind read found (count - i) text)
 count_cut e kind read found count i text lt h =
     rw (count_of kind read found count i text lt) (refuses_along e (λ b. last_read found (read_each kind read (and_then b (boxes (count - (i + 1)))))) (box_at text) (λ r. refl) h)
 
+-- no more boxes are counted
 pub count_done : {A : Type 0} (kind : Kind) (read : List ℕ → Result (List A) Refusal) (found : Option A) (count i : ℕ) (text : List ℕ) → count ≤ i
     → from_count kind read found (count - i) text ≡ Ok found
 unfolding boxes
@@ -65,6 +69,7 @@ count_went_on kind read found None count i text p rest total lt h k so_far =
 count_went_on kind read found (Some x) count i text p rest total lt h k so_far =
     sym (count_goes_on kind read found count i text p rest lt h ∙ ap (λ r. r >>= λ ys. from_count kind read (last_or found ys) (count - (i + 1)) rest) k) ∙ so_far
 
+-- a box that is refused is the refusal of those that are counted
 pub count_failed : {A : Type 0} (e : Failure) (kind : Kind) (read : List ℕ → Result (List A) Refusal) (found : Option A) (count i : ℕ) (text : List ℕ) (p : Part) (rest : List ℕ)
     → i < count → box_at text ≡ Ok (p, rest) → Refuses e (read_one kind read p) → Refuses e (from_count kind read found (count - i) text)
 count_failed e kind read found count i text p rest lt h k =

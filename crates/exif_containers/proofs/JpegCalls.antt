@@ -12,6 +12,7 @@ pub found_as : (a b c d : Option (List ℕ)) (l : ℕ) (payload : List ℕ) → 
     → WhereTold c d (λ xs ys. (rest : List ℕ) × (jpeg_answer (take l xs) ≡ found payload rest) × (ys ≡ rest ++ drop l xs))
 found_as a b c d l payload e f h = rw (sym e, sym f) h
 
+-- the same bytes fail alike
 pub fails_as : (e : Failure) (a c : Option (List ℕ)) (f : List ℕ → Answer) → a ≡ c
     → IfSome a (λ xs. Fails e (f xs)) → IfSome c (λ xs. Fails e (f xs))
 fails_as e a c f s h = rw (sym s) h

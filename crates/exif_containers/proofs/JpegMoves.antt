@@ -29,6 +29,7 @@ at_not_none : (b : Bool) (xs : List ℕ) → true ≡ not b → cond b (Some xs)
 at_not_none true xs e = absurd (cc)
 at_not_none false xs e = refl
 
+-- an identifier that is not that of Exif, and a skip: a body with no payload
 pub payload_skipped : (a b c : Option (List ℕ)) (l m n len : ℕ) (id : List ℕ) → length id ≡ 6 → 6 ≤ len → true ≡ not (pointwise eqb id (codes "Exif\0\0"))
     → Moves a l b m (λ xs ys. xs ≡ id ++ ys)
     → Moves b m c n (λ xs ys. (bytes : List ℕ) × (length bytes ≡ len - 6) × (xs ≡ bytes ++ ys))
@@ -39,6 +40,7 @@ payload_skipped a b c l m n len id six room e h k =
     (λ x y z p q. (id ++ q.0, omega (arith, length-append id q.0), p ∙ ap (λ t. id ++ t) q.2 ∙ sym (append_assoc id q.0 z), payload-six id q.0 six ∙ at_not_none _ q.0 e))
     h k
 
+-- the identifier of Exif, and a payload: a body with that payload
 pub payload_found : (a b c : Option (List ℕ)) (l m n len : ℕ) (id payload : List ℕ) → length id ≡ 6 → 6 ≤ len → length payload ≡ len - 6 → false ≡ not (pointwise eqb id (codes "Exif\0\0"))
     → Moves a l b m (λ xs ys. xs ≡ id ++ ys)
     → Moves b m c n (λ xs ys. xs ≡ payload ++ ys)
@@ -54,6 +56,7 @@ option_map_twice : {X A : Type 0} (f : X → List ℕ) (g : List ℕ → A) (o :
 option_map_twice f g None = refl
 option_map_twice f g (Some v) = refl
 
+-- a length and a body that may have a payload: a segment that may answer
 pub segment_exif : {X : Type 0} (items : X → List ℕ) (a b c : Option (List ℕ)) (l m n code size : ℕ) (payload : Option X)
     → stands_alone code ≡ false → code ≡ 225 → 2 ≤ size
     → Moves a l b m (λ xs ys. (high low : ℕ) × (xs ≡ high ∷ low ∷ ys) × (size ≡ 256 * high + low))
@@ -74,6 +77,7 @@ segment_exif items a b c l m n code size payload e is room h k =
     ))
     h k
 
+-- a length and a skip: a segment that does not answer
 pub segment_other : (a b c : Option (List ℕ)) (l m n code size : ℕ)
     → stands_alone code ≡ false → code ≢ 225 → 2 ≤ size
     → Moves a l b m (λ xs ys. (high low : ℕ) × (xs ≡ high ∷ low ∷ ys) × (size ≡ 256 * high + low))
@@ -150,6 +154,7 @@ collected-exif high low ys room is = by (cases_lt (length ys) (256 * high + low 
 pub bad_length_named : Contains jpeg_refusals invalid_length
 bad_length_named = (3, omega arith, refl)
 
+-- out of memory in a segment: its payload is collected
 pub segment_collects : (a b : Option (List ℕ)) (l m code size : ℕ) → code ≡ 225
     → Moves a l b m (λ xs ys. (high low : ℕ) × (xs ≡ high ∷ low ∷ ys) × (size ≡ 256 * high + low))
     → IfSome b (λ ys. (6 ≤ size - 2) × (begins_exif (take m ys) ≡ true))
@@ -159,24 +164,28 @@ segment_collects a b l m code size is =
     (λ ys. (6 ≤ size - 2) × (begins_exif ys ≡ true)) (λ xs. IsCollected broken_jpeg (answer_at_code code xs))
     (λ x y p q. rw (is, p.2) (collected-exif p.0 p.1 y (let e = p.3 in let f = q.0 in omega arith) q.1))
 
+-- an SOI is refused
 pub unit_soi : (a b : Option (List ℕ)) (l m code : ℕ) → Moves a l b m (λ xs ys. code_onwards xs ≡ code ∷ ys) → code ≡ 216
     → IfSome a (λ xs. answer_from (take l xs) ≡ refused (unexpected_soi))
 unit_soi a b l m code h e =
     moves_fact a b l m (λ xs ys. code_onwards xs ≡ code ∷ ys) (λ xs. answer_from xs ≡ refused (unexpected_soi))
     (λ x y p. answer-at_code x y code p ∙ ap (λ t. answer_at_code t y) e ∙ ap (λ o. first_answer (with_units o units_of)) (unit-alone 216 y refl)) h
 
+-- an EOI ends the image
 pub unit_eoi : (a b : Option (List ℕ)) (l m code : ℕ) → Moves a l b m (λ xs ys. code_onwards xs ≡ code ∷ ys) → code ≡ 217
     → IfSome a (λ xs. answer_from (take l xs) ≡ refused (no_exif_in_jpeg))
 unit_eoi a b l m code h e =
     moves_fact a b l m (λ xs ys. code_onwards xs ≡ code ∷ ys) (λ xs. answer_from xs ≡ refused (no_exif_in_jpeg))
     (λ x y p. answer-at_code x y code p ∙ ap (λ t. answer_at_code t y) e ∙ ap (λ o. first_answer (with_units o units_of)) (unit-alone 217 y refl)) h
 
+-- a code that stands alone answers nothing
 pub unit_none : (a b : Option (List ℕ)) (l m code : ℕ) → stands_alone code ≡ true → code ≢ 216 → code ≢ 217
     → Moves a l b m (λ xs ys. code_onwards xs ≡ code ∷ ys) → Moves a l b m (λ xs ys. answer_from xs ≡ answer_from ys)
 unit_none a b l m code e n k =
     moves_weaker a b l m (λ xs ys. code_onwards xs ≡ code ∷ ys) (λ xs ys. answer_from xs ≡ answer_from ys)
     (λ x y p. answer-at_code x y code p ∙ answer_alone code y e n k)
 
+-- a code and its segment answer what the segment does
 pub unit_segment : {X : Type 0} (items : X → List ℕ) (a b c : Option (List ℕ)) (l m n code : ℕ) (payload : Option X)
     → Moves a l b m (λ xs ys. code_onwards xs ≡ code ∷ ys)
     → Moves b m c n (λ xs ys. (u : JpegUnit) × (unit_from_code (code ∷ xs) ≡ Some u) × (u.rest ≡ ys) × (unit_answer u ≡ option_map (λ v. found (items v) ys) payload))
@@ -209,6 +218,7 @@ jpeg-fewer [] h = refl
 jpeg-fewer (a ∷ []) h = refl
 jpeg-fewer (a ∷ b ∷ xs) h = absurd (omega arith)
 
+-- a stream of fewer than two bytes is broken
 pub jpeg_short : (e : Failure) (a : Option (List ℕ)) (l : ℕ) → IsShort broken_jpeg e a (λ xs. length (take l xs) < 2)
     → IfSome a (λ xs. Fails e (jpeg_answer (take l xs)))
 jpeg_short e a l = fails_short e a l (λ xs. length xs < 2) jpeg_answer jpeg-fewer
@@ -221,6 +231,7 @@ choose_no : {A : Type 0} (b : Bool) (x y : A) → true ≡ not b → cond b x y 
 choose_no true x y e = absurd (cc)
 choose_no false x y e = refl
 
+-- a stream with another signature is refused
 pub jpeg_other : (a b : Option (List ℕ)) (l m : ℕ) (signature : List ℕ) → length signature ≡ 2 → true ≡ not (pointwise eqb signature (255 ∷ 216 ∷ []))
     → Moves a l b m (λ xs ys. xs ≡ signature ++ ys) → IfSome a (λ xs. jpeg_answer (take l xs) ≡ refused (not_jpeg))
 jpeg_other a b l m signature two e =
@@ -235,10 +246,12 @@ jpeg_passed a b c l m n signature two e =
     moves_then a b c l m n (λ xs ys. xs ≡ signature ++ ys) (λ xs ys. answer_from xs ≡ answer_from ys) (λ xs ys. jpeg_answer xs ≡ answer_from ys)
     (λ x y z p q. ap jpeg_answer p ∙ jpeg-two signature y two ∙ choose_yes _ _ _ e ∙ q)
 
+-- what holds of the answer of the units left holds of the stream's
 pub jpeg_holds : (Q : Answer → Type 0) (a b : Option (List ℕ)) (l m : ℕ) → Moves a l b m (λ xs ys. jpeg_answer xs ≡ answer_from ys)
     → IfSome b (λ ys. Q (answer_from (take m ys))) → IfSome a (λ xs. Q (jpeg_answer (take l xs)))
 jpeg_holds Q a b l m = holds_after Q a b l m (λ xs ys. jpeg_answer xs ≡ answer_from ys) jpeg_answer answer_from (λ x y p. p)
 
+-- the units left answer a payload, and so does the stream
 pub jpeg_found : (payload : List ℕ) (a b c : Option (List ℕ)) (l m n : ℕ)
     → Moves a l b m (λ xs ys. jpeg_answer xs ≡ answer_from ys) → Moves b m c n (λ xs ys. answer_from xs ≡ found payload ys)
     → WhereTold a c (λ xs ys. (rest : List ℕ) × (jpeg_answer (take l xs) ≡ found payload rest) × (ys ≡ rest ++ drop l xs))

@@ -37,6 +37,7 @@ rest-from_code [] u e = absurd (cc)
 rest-from_code (code ∷ ys) u e =
     let h = rest_with_body code ys (body_len code ys) (leb (body_len code ys) (length ys)) u e in omega arith
 
+-- a unit has a byte
 pub rest-first_unit : (xs : List ℕ) (u : JpegUnit) → first_unit xs ≡ Some u → length u.rest < length xs
 rest-first_unit xs u e =
     let h = rest-from_code (code_onwards xs) u e in
@@ -68,9 +69,11 @@ answer-first_unit xs =
     after None e = refl
     after (Some u) e = let l = rest-first_unit xs u e in ap (λ us. u ∷ us) (units_enough (length xs) (length u.rest) u.rest (omega arith) (omega arith))
 
+-- the answer is that of the bytes from the first code on
 pub answer-at_code : (xs ys : List ℕ) (code : ℕ) → code_onwards xs ≡ code ∷ ys → answer_from xs ≡ answer_at_code code ys
 answer-at_code xs ys code e = answer-first_unit xs ∙ ap (λ t. first_answer (with_units (unit_from_code t) units_of)) e
 
+-- bytes with no code are broken
 pub answer-no_code : (xs : List ℕ) → code_onwards xs ≡ [] → answer_from xs ≡ refused broken_jpeg
 answer-no_code xs e = answer-first_unit xs ∙ ap (λ t. first_answer (with_units (unit_from_code t) units_of)) e
 
@@ -85,16 +88,19 @@ with_body-whole code len body ys e =
 with_body-short : (code len : ℕ) (ys : List ℕ) → length ys < len → unit_with_body code ys len ≡ None
 with_body-short code len ys h = grind (arith, nat_tests)
 
+-- the unit of a code that stands alone
 pub unit-alone : (code : ℕ) (ys : List ℕ) → stands_alone code ≡ true → unit_from_code (code ∷ ys) ≡ Some (record { code = code; body = []; rest = ys })
 unit-alone code ys e =
     ap (unit_with_body code ys) (ap (λ t. cond t 0 (max 2 (two_bytes ys))) e) ∙ with_body-whole code 0 [] ys refl
 
+-- the unit of a code, a length and a body
 pub unit-segment : (code high low : ℕ) (body ys : List ℕ) → stands_alone code ≡ false → max 2 (256 * high + low) ≡ 2 + length body
     → unit_from_code (code ∷ high ∷ low ∷ (body ++ ys)) ≡ Some (record { code = code; body = high ∷ low ∷ body; rest = ys })
 unit-segment code high low body ys e len =
     ap (unit_with_body code (high ∷ low ∷ (body ++ ys))) (ap (λ t. cond t 0 (max 2 (256 * high + low))) e)
     ∙ with_body-whole code (max 2 (256 * high + low)) (high ∷ low ∷ body) ys (omega arith)
 
+-- a body that is cut is broken
 pub answer-short : (code : ℕ) (xs : List ℕ) → stands_alone code ≡ false → length xs < max 2 (two_bytes xs) → answer_at_code code xs ≡ refused broken_jpeg
 answer-short code xs e h =
     ap (λ o. first_answer (with_units o units_of)) (ap (unit_with_body code xs) (ap (λ t. cond t 0 (max 2 (two_bytes xs))) e) ∙ with_body-short code (max 2 (two_bytes xs)) xs h)

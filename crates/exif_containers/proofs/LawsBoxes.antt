@@ -16,6 +16,7 @@ use Rattle.exif_containers.proofs.SplitterBoxes.{all_boxes_end, all_boxes_more, 
 
 -- ---- what the definition makes of the front of a text
 
+-- the header at the front of a text, and what follows it
 abbrev pub head_of : List ℕ → Header × List ℕ
 head_of text = (record { kind = kind_of (take 4 (drop 4 text)); len = box_size text - header_len text }, drop (header_len text) text)
 
@@ -25,6 +26,7 @@ with_body kind body = Ok (whole_part kind body.0, body.1)
 abbrev after_head : Header × List ℕ → Front Part
 after_head header = bytes_at header.0.len header.1 >>= with_body header.0.kind
 
+-- a header whose size is no less than its own is read
 pub head-read : (text : List ℕ) → header_len text ≤ box_size text → header_at text ≡ Ok (head_of text)
 unfolding header_at
 head-read text h = ap (λ t. cond t (Err invalid_size) (Ok (head_of text))) (le-ltb (box_size text) (header_len text) h)
@@ -59,6 +61,7 @@ box-over text h k l =
     ∙ ap (λ t. cond t (Err too_small) (Ok (take (box_size text - header_len text) (drop (header_len text) text), drop (box_size text - header_len text) (drop (header_len text) text))) >>= with_body (kind_of (take 4 (drop 4 text))))
     (lt-ltb (length (drop (header_len text) text)) (box_size text - header_len text) (omega (arith, length-drop (header_len text) text)))
 
+-- bytes at the front are read
 pub bytes-there : (body rest : List ℕ) → bytes_at (length body) (body ++ rest) ≡ Ok (body, rest)
 bytes-there body rest =
     ap (λ t. cond t (Err too_small) (Ok (take (length body) (body ++ rest), drop (length body) (body ++ rest)))) (le-ltb (length (body ++ rest)) (length body) (omega (arith, length-append body rest)))
@@ -81,6 +84,7 @@ box-read text body rest h e s =
 
 -- ---- headers
 
+-- a header is read as its tree says
 pub record Reads (h : BoxHeader) (text more : List ℕ) : Type 0 where
   pub len : header_len text ≡ length (print_header h)
   pub size : box_size text ≡ said_size h (length text)
@@ -91,6 +95,7 @@ pub record Reads (h : BoxHeader) (text more : List ℕ) : Type 0 where
 abbrev size_by : ℕ → List ℕ → ℕ
 size_by n text = cond (eqb n 0) (length text) (cond (eqb n 1) (big_number 8 (drop 8 text)) n)
 
+-- the number in the first 4 bytes
 pub two-number : (size type more : List ℕ) → length size ≡ 4 → big_number 4 (size ++ (type ++ more)) ≡ big_number 4 size
 two-number size type more h = big_from-append 4 size (type ++ more) (omega arith)
 
@@ -129,6 +134,7 @@ large-reads one type size more ol tl sl e =
       behind = ap (λ m. drop m text) sixteen ∙ sym (drop-drop 8 8 text) ∙ ap (drop 8) there ∙ drop_at size more 8 sl;
     }
 
+-- a valid header is read
 pub header-reads : (h : BoxHeader) (more : List ℕ) → IsHeader h → Reads h (print_header h ++ more) more
 header-reads (sized size type) more h =
     let ne : big_number 4 size ≢ 1 = λ e. omega (arith, h.2) in
@@ -159,11 +165,13 @@ box_is_read_at h body rest is said =
     read_as : Kind → List ℕ → List ℕ → Front Part
     read_as kind body rest = Ok (whole_part kind body, rest)
 
+-- a valid box is read as its tree says
 pub box_is_read : (b : BoxTree) (rest : List ℕ) → BoxIsRead b rest
 box_is_read b rest h =
     let e : print_box b ++ rest ≡ print_header b.header ++ (b.body ++ rest) = append_assoc (print_header b.header) b.body rest in
     ap box_at e ∙ box_is_read_at b.header b.body rest h.0 (ap (λ (t : List ℕ). said_size b.header (length t)) (sym e) ∙ h.1)
 
+-- bytes that begin no box are refused as their tree says
 pub no_box_is_refused : (end : NoBox) → IsNoBox end → box_at (print_no_box end) ≡ Err (no_box_refusal end)
 no_box_is_refused (cut bytes) h = box-cut bytes (let k = least (eqb (big_number 4 bytes) 1) in omega (arith, h.1))
   where
@@ -266,6 +274,7 @@ pub record Boxed (text : List ℕ) : Type 0 where
   pub is : IsBox tree rest
   pub whole : print_box tree ++ rest ≡ text
 
+-- the tree of bytes that begin no box
 pub record Unboxed (text : List ℕ) : Type 0 where
   pub end : NoBox
   pub is : IsNoBox end
@@ -298,6 +307,7 @@ at-header head more is = by-least (ltb (said_size head (length (print_header hea
     by-least true e = inl (record { end = too_short head more; is = (is, ltb-true (said_size head (length (print_header head ++ more))) (length (print_header head)) e); whole = refl })
     by-least false e = by-most (ltb (length (print_header head ++ more)) (said_size head (length (print_header head ++ more)))) refl (ltb-false (said_size head (length (print_header head ++ more))) (length (print_header head)) e)
 
+-- bytes begin a box or none
 pub place : (text : List ℕ) → 0 < length text → Unboxed text ⊎ Boxed text
 place text some = by-eight (ltb (length text) 8) refl
   where
@@ -351,10 +361,12 @@ is_a_box (b ∷ text) p rest e = of (place (b ∷ text) (omega arith))
 
 -- ---- boxes one after the other
 
+-- the first box of those that are counted
 pub counted_more : (b : BoxTree) (n : ℕ) (text rest : List ℕ) → box_at text ≡ Ok (box_part b, rest) → boxes (suc n) text ≡ before (box_part b) (boxes n rest)
 unfolding boxes
 counted_more b n text rest e = ap (λ r. and_then r (boxes n)) e
 
+-- valid boxes are read, as many as are counted
 pub counted_are_read : (bs : List BoxTree) (rest : List ℕ) → CountedAreRead bs rest
 unfolding boxes
 counted_are_read [] rest h = refl
@@ -363,6 +375,7 @@ counted_are_read (b ∷ bs) rest h =
     ∙ counted_more b (length bs) (print_box b ++ (flat_map print_box bs ++ rest)) (flat_map print_box bs ++ rest) (box_is_read b (flat_map print_box bs ++ rest) h.0)
     ∙ ap (before (box_part b)) (counted_are_read bs rest h.1)
 
+-- a header has 8 bytes or more
 pub header-some : (h : BoxHeader) → IsHeader h → 8 ≤ length (print_header h)
 header-some (sized size type) h = omega (arith, h.0, h.1, length-append size type)
 header-some (large one type size) h = omega (arith, h.0, h.1, length-append one (type ++ size), length-append type size)
@@ -382,6 +395,7 @@ children-boxes (b ∷ bs) rest fault h e =
     ∙ children-more b (flat_map print_box bs ++ rest) h.0
     ∙ ap (before (box_part b)) (children-boxes bs rest fault h.1 e)
 
+-- bytes that begin no box are some
 pub no_box-some : (end : NoBox) → IsNoBox end → 0 < length (print_no_box end)
 no_box-some (cut bytes) h = h.0
 no_box-some (cut_large one type bytes) h = omega (arith, h.0, length-append one (type ++ bytes))
@@ -392,6 +406,7 @@ children-broken : (end : NoBox) → IsNoBox end → children (print_no_box end) 
 children-broken end h =
     all_boxes_more box_at box_shorter (print_no_box end) (no_box-some end h) ∙ ap (λ r. and_then r (all_boxes box_at)) (no_box_is_refused end h)
 
+-- what stands in a box is read as its tree says
 pub parent_is_read : (p : Parent) → ParentIsRead p
 parent_is_read (filled bs) h = children-boxes bs [] None h (all_boxes_end box_at [] refl)
 parent_is_read (broken bs end) h = children-boxes bs (print_no_box end) (Some (no_box_refusal end)) h.0 (children-broken end h.1)
@@ -408,6 +423,7 @@ parent-boxed text b (broken bs end, is, whole) = (
   append_assoc (print_box b.tree) (flat_map print_box bs) (print_no_box end) ∙ ap (λ r. print_box b.tree ++ r) whole ∙ b.whole,
 )
 
+-- a box has a byte
 pub boxed-shorter : (text : List ℕ) (b : Boxed text) → length b.rest < length text
 boxed-shorter text b =
     let some = header-some b.tree.header b.is.0 in
@@ -423,5 +439,6 @@ parent-within (suc n) (b ∷ text) h = first n (b ∷ text) h (place (b ∷ text
     first n text h (inl u) ih = (broken [] u.end, (tt, u.is), u.whole)
     first n text h (inr b) ih = parent-boxed text b (ih b.rest (let lt = boxed-shorter text b in omega arith))
 
+-- all bytes are those of boxes, and of bytes that begin none
 pub is_a_parent : (bytes : List ℕ) → IsAParent bytes
 is_a_parent bytes = parent-within (suc (length bytes)) bytes (omega arith)

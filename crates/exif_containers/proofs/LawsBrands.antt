@@ -12,6 +12,7 @@ use Rattle.exif_containers.specs.HeifFile.{fours, is_heif_brand, has_heif_brand,
 use Rattle.exif_containers.specs.FileGrammar.{BrandsTree, known, unknown, short, print_list, IsHeifBrand, IsForeign, BrandsSay, BrandsAreChecked, IsABrands}
 use Rattle.exif_containers.proofs.FileBoxes.{any_more, any_none}
 
+-- texts that differ are not equal
 pub is-not : (name word : List ℕ) → name ≢ word → bytes_eq name word ≡ false
 is-not name word h = by (bytes_eq name word) refl
   where
@@ -52,6 +53,7 @@ brands-checked front rest t eight e =
     by_brand : Bool → Result (Unit {0}) Refusal
     by_brand t = cond t (Ok tt) (Err no_brand)
 
+-- brands are checked as their tree says
 pub brands_are_checked : (t : BrandsTree) → BrandsAreChecked t
 brands_are_checked (known front brands brand rest) h =
     let is = heif-four brand h.2 in
@@ -105,6 +107,7 @@ listed-within (suc n) front text h = by (cases_lt (length text) 4) (listed-withi
     by (inl lt) ih = inr ([], text, All-nil IsForeign, lt, refl)
     by (inr le) ih = first (heif-or (take 4 text)) le ih
 
+-- all bytes are those of a tree of brands
 pub is_a_brands : (bytes : List ℕ) → IsABrands bytes
 is_a_brands bytes = by (cases_lt (length bytes) 8)
   where
@@ -128,5 +131,6 @@ is_a_brands bytes = by (cases_lt (length bytes) 8)
 pub said-checked : (body : List ℕ) (r : Result (Unit {0}) Refusal) → BrandsSay body r → brand_checked body ≡ r
 said-checked body r t = ap brand_checked (sym t.2) ∙ brands_are_checked t.0 t.1 ∙ t.3
 
+-- what a check answers is what a tree says
 pub checked-said : (body : List ℕ) (r : Result (Unit {0}) Refusal) → brand_checked body ≡ r → BrandsSay body r
 checked-said body r e = let t = is_a_brands body in (t.0, t.1, t.2, sym (brands_are_checked t.0 t.1) ∙ ap brand_checked t.2 ∙ e)

@@ -25,6 +25,7 @@ one-refused : (k : ℕ) (text : List ℕ) (r : Refusal) → box_at text ≡ Err 
 unfolding boxes
 one-refused k text r e = ap (λ b. and_then b (boxes k)) e
 
+-- counted boxes are read as their tree says
 pub count_is_read : (n : ℕ) (c : Counted) → CountIsRead n c
 count_is_read n (all bs rest) h = counted-boxes bs rest None n 0 (omega (arith, h.0)) h.1 (no-count rest)
 count_is_read n (cut_off bs end) h =
@@ -50,6 +51,7 @@ count-boxed n text b (too_few bs, is, whole) = (
   append_assoc (print_box b.tree) (flat_map print_box bs) [] ∙ ap (λ r. print_box b.tree ++ r) whole ∙ b.whole,
 )
 
+-- all bytes are those of counted boxes
 pub is_a_count : (n : ℕ) (bytes : List ℕ) → IsACount n bytes
 is_a_count zero bytes = (all [] bytes, (refl, tt), refl)
 is_a_count (suc n) [] = (too_few [], (omega arith, tt), refl)

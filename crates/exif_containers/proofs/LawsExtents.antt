@@ -132,6 +132,7 @@ idat-only idat from len text e =
 
 -- ---- in either
 
+-- an extent is read as the text that stands there
 pub text_is_read : (within : Within) (bytes : List ℕ) (base : ℕ) (e : Extent) (text : List ℕ) → TextIsRead within bytes base e text
 text_is_read File bytes base e text h =
     file-unfolded bytes base e ∙ ap (λ t. cond t (Err invalid_offset) (file_part bytes (base + e.offset) e.len)) (lt-leb (2 ^ 64) (base + e.offset) h.0)
@@ -143,6 +144,7 @@ text_is_read ItemDataBox bytes base e text h =
     ∙ ap (λ t. cond t (Err invalid_length) (idat_part bytes (base + e.offset) e.len)) (lt-leb (2 ^ 64) (base + e.offset + e.len) h.0)
     ∙ idat-read bytes (base + e.offset) e.len text h.1
 
+-- what is read of an extent stands there
 pub is_a_text : (within : Within) (bytes : List ℕ) (base : ℕ) (e : Extent) (text : List ℕ) → IsAText within bytes base e text
 is_a_text File bytes base e text k =
     let u = unless-ok (leb (2 ^ 64) (base + e.offset)) invalid_offset (file_part bytes (base + e.offset) e.len) text (sym (file-unfolded bytes base e) ∙ k) in

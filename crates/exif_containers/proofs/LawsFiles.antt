@@ -41,6 +41,7 @@ file-read text behind kind n h k e f g =
     read_as : Kind → ℕ → List ℕ → Front Part
     read_as kind n behind = Ok (box_of kind n (take n behind), drop n behind)
 
+-- a whole box of a file is read as its tree says
 pub file_whole : (b : BoxTree) (rest : List ℕ) → IsBox b rest → file_box_at (print_box b ++ rest) ≡ Ok (box_part b, rest)
 file_whole b rest h =
     let r = header-reads b.header (b.body ++ rest) h.0 in
@@ -58,6 +59,7 @@ file_whole b rest h =
     read_as : List ℕ → List ℕ → Front Part
     read_as body rest = Ok (box_of (kind_of (type_of b.header)) (length b.body) body, rest)
 
+-- a box that is longer than the file is read as far as it stands there
 pub file_cut_box : (h : BoxHeader) (bytes : List ℕ) → IsNoBox (too_long h bytes)
     → file_box_at (print_header h ++ bytes) ≡ Ok (box_of (kind_of (type_of h)) (said_len h bytes) bytes, [])
 file_cut_box h bytes is =
@@ -87,6 +89,7 @@ unfolding header_at
 file-wrong text h k =
     file-headed text h ∙ ap (λ t. cond t (Err invalid_size) (Ok (head_of text)) >>= file_after) (lt-ltb (box_size text) (header_len text) k)
 
+-- bytes without a header are refused as their tree says
 pub file_headless : (end : NoBox) → IsHeadless end → file_box_at (print_no_box end) ≡ Err (headless_refusal end)
 file_headless (cut bytes) h = file-cut bytes (let k = least (eqb (big_number 4 bytes) 1) in omega (arith, h.1))
   where
@@ -133,6 +136,7 @@ end-file (too_short head bytes) h =
     all_boxes_more file_box_at file_box_shorter (print_header head ++ bytes) (no_box-some (too_short head bytes) h)
     ∙ ap (λ r. and_then r (all_boxes file_box_at)) (file_headless (too_short head bytes) h)
 
+-- the boxes of a file are read as their tree says
 pub file_boxes_are_read : (p : Parent) → FileBoxesAreRead p
 file_boxes_are_read (filled bs) h =
     boxes-file bs [] (record { whole = []; fault = None }) h (all_boxes_end file_box_at [] refl)
@@ -289,6 +293,7 @@ or-false : (a : Bool) → (a || false) ≡ a
 or-false true = refl
 or-false false = refl
 
+-- the `meta` is found as the tree of the file says
 pub meta_is_found : (t : FrontTree) → MetaIsFound t
 meta_is_found t h =
     meta-from_false (flat_map print_passed t.passed ++ print_file_end t.end)
@@ -350,5 +355,6 @@ front-within (suc n) (b ∷ text) h = first n (b ∷ text) h (place (b ∷ text)
     first n text h (inl u) ih = front-unboxed text u.end u.is u.whole
     first n text h (inr b) ih = front-boxed text b (ih b.rest (let lt = boxed-shorter text b in omega arith))
 
+-- all bytes are those of such a tree
 pub is_a_front : (bytes : List ℕ) → IsAFront bytes
 is_a_front bytes = front-within (suc (length bytes)) bytes (omega arith)

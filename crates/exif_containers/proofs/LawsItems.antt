@@ -81,6 +81,7 @@ entry-headless : (bytes : List ℕ) → length bytes < 4 → exif_number bytes �
 unfolding exif_number
 entry-headless bytes h = then_err (version_at bytes) too_small _ (full_short bytes h)
 
+-- an entry is read as its tree says
 pub entry_is_read : (e : EntryTree) → EntryIsRead e
 entry_is_read (exif h number protection rest) is = entry-read h number protection (codes "Exif") rest is.0 is.1 is.2 refl
 entry_is_read (other h number protection type rest) is =
@@ -159,6 +160,7 @@ entry-fronted bytes f = by2 (eqb f.head.version 2) refl
         room (inr le) = entry-at bytes f 2 (inl (eqb-true f.head.version 2 e, refl)) (omega arith)
     by2 false e = by3 (eqb f.head.version 3) refl (eqb-false f.head.version 2 e)
 
+-- all bytes are those of an entry
 pub is_an_entry : (bytes : List ℕ) → IsAnEntry bytes
 is_an_entry bytes = by (cases_lt (length bytes) 4)
   where
@@ -187,6 +189,7 @@ info-headless : (bytes : List ℕ) → length bytes < 4 → exif_numbers bytes �
 unfolding exif_numbers
 info-headless bytes h = then_err (version_at bytes) too_small _ (full_short bytes h)
 
+-- an `iinf` is read as its tree says
 pub info_is_read : (t : InfoTree) → InfoIsRead t
 info_is_read (info h count bs) is =
     info-fronted h (count ++ print_counted bs) is.0
@@ -224,6 +227,7 @@ info-from bytes f = by (eqb f.head.version 0) refl
         room (inl lt) = (cut_count f.head f.rest, (f.is, inr (eqb-false f.head.version 0 e, lt)), f.whole)
         room (inr le) = info-at bytes f 4 (inr (eqb-false f.head.version 0 e, refl)) le
 
+-- all bytes are those of an `iinf`
 pub is_an_info : (bytes : List ℕ) → IsAnInfo bytes
 is_an_info bytes = by (cases_lt (length bytes) 4)
   where
@@ -259,6 +263,7 @@ unfolding after_header
 block-short bytes h =
     ap (λ t. cond t (Err block_too_small) (offset_or (ltb (length bytes - 4) (big_number 4 bytes)) (drop (4 + big_number 4 bytes) bytes))) (lt-ltb (length bytes) 4 h)
 
+-- the Exif item is read as its tree says
 pub block_is_read : (t : BlockTree) → BlockIsRead t
 block_is_read (block number skipped payload) is =
     block-number number (skipped ++ payload) is.0
@@ -282,6 +287,7 @@ block-long bytes long = by (cases_lt (length (drop 4 bytes)) (big_number 4 (take
       ap (λ t. take 4 bytes ++ t) (take-append-drop (big_number 4 (take 4 bytes)) (drop 4 bytes)) ∙ take-append-drop 4 bytes,
     )
 
+-- all bytes are those of an Exif item
 pub is_a_block : (bytes : List ℕ) → IsABlock bytes
 is_a_block bytes = by (cases_lt (length bytes) 4)
   where

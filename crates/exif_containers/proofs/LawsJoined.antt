@@ -29,6 +29,7 @@ gathered-more bytes_of front (e ∷ es) (text ∷ texts) h most =
     ok : List ℕ → Result (List ℕ) Refusal
     ok t = Ok t
 
+-- an item is its extents' texts, joined
 pub item_is_joined : (bytes_of : Extent → Result (List ℕ) Refusal) (es : List Extent) (texts : List (List ℕ)) → ItemIsJoined bytes_of es texts
 item_is_joined bytes_of es texts h most = gathered-more bytes_of [] es texts h most
 
@@ -58,5 +59,6 @@ gathered-from bytes_of front (x ∷ es) item room e =
       whole = sym same ∙ g.whole;
     }
 
+-- an item that is read is such texts
 pub is_an_item : (bytes_of : Extent → Result (List ℕ) Refusal) (es : List Extent) (item : List ℕ) → IsAnItem bytes_of es item
 is_an_item bytes_of es item e = let g = gathered-from bytes_of [] es item (omega arith) e in (g.texts, g.are, g.most, g.whole)

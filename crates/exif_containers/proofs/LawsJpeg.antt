@@ -36,6 +36,7 @@ first_unit-print u rest h =
 
 -- ---- what is read is a unit
 
+-- bytes as a front that passes a test, and what follows it
 pub record Split (test : List ℕ → Type 0) (bytes after : List ℕ) : Type 0 where
   front : List ℕ
   is : test front
@@ -293,6 +294,7 @@ short-broken [] h = refl
 short-broken (a ∷ []) h = refl
 short-broken (a ∷ b ∷ bytes) h = absurd (omega arith)
 
+-- a stream is answered as its tree says
 pub stream_is_answered : (s : Stream) → StreamIsAnswered s
 stream_is_answered (short bytes) h = short-broken bytes h
 stream_is_answered (foreign a b rest) h =
@@ -349,6 +351,7 @@ is_a_stream_from a b rest true true p q =
 is_a_stream_from a b rest true false p q = (foreign a b rest, λ h. eqb-false b 216 q h.1, refl)
 is_a_stream_from a b rest false t p q = (foreign a b rest, λ h. eqb-false a 255 p h.0, refl)
 
+-- all bytes are those of a stream
 pub is_a_stream : (bytes : List ℕ) → IsAStream bytes
 is_a_stream [] = (short [], omega arith, refl)
 is_a_stream (a ∷ []) = (short (a ∷ []), omega arith, refl)

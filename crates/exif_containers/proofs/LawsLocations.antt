@@ -49,6 +49,7 @@ locations-headed : (wanted : ℕ) (body : List ℕ) → locations wanted body �
 unfolding locations
 locations-headed wanted body = refl
 
+-- an `iloc` is read as its tree says
 pub places_are_read : (wanted : ℕ) (t : PlacesTree) → PlacesAreRead wanted t
 places_are_read wanted t is =
     let v = t.head.version in
@@ -127,6 +128,7 @@ places-fronted wanted body f places e =
     all_of : List (List Place) × List ℕ → Result (List Place) Refusal
     all_of found = Ok (flat_map (λ xs. xs) found.0)
 
+-- an `iloc` that is read has a tree
 pub is_a_places : (wanted : ℕ) (body : List ℕ) (places : List Place) → IsAPlaces wanted body places
 is_a_places wanted body places e = by (cases_lt (length body) 4)
   where

@@ -304,6 +304,7 @@ located-read wanted version s p rest false is e =
     (pass-read ((s.index + s.offset + s.len) * big_number 2 p.count) (flat_map print_extent p.extents) rest
     (extents-len s p.extents is.extents ∙ ap (λ n. (s.index + s.offset + s.len) * n) (sym is.counted)))
 
+-- an item of an `iloc` is read as its tree says
 pub location-read : (wanted version : ℕ) (s : Sizes) (p : PlaceTree) (rest : List ℕ) → IsPlace wanted version s p
     → location_at wanted version s (print_place p ++ rest) ≡ Ok (place_said wanted version p, rest)
 location-read wanted version s p rest is =
@@ -379,6 +380,7 @@ located-only wanted version s text y h x false q e =
     (ap (λ r. flat_map print_extent ps.extents ++ r) (sym (ap (λ (z : List Place × List ℕ). z.1) same)) ∙ ps.whole)
     (ap (λ t. places_if t (place_of version (with_extents h ps.extents))) here ∙ ap (λ (z : List Place × List ℕ). z.0) same)
 
+-- an item that is read has a tree
 pub location-only : (wanted version : ℕ) (s : Sizes) (text : List ℕ) (x : List Place × List ℕ) → location_at wanted version s text ≡ Ok x
     → (p : PlaceTree) × IsPlace wanted version s p × (place_said wanted version p ≡ x.0) × (print_place p ++ x.1 ≡ text)
 location-only wanted version s text x e =

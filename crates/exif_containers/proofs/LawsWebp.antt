@@ -204,6 +204,7 @@ answer-foreign bytes h e =
     front =
         sym (begins_webp-append (take 12 bytes) (drop 12 bytes) (length-take-le 12 bytes h)) ∙ ap begins_webp (take-append-drop 12 bytes)
 
+-- a file is answered as its tree says
 pub file_is_answered : (f : WebpFile) → FileIsAnswered f
 file_is_answered (body size cs end) h =
     answer-file size (flat_map print_chunk cs ++ print_end end) h.0
@@ -341,6 +342,7 @@ chunks-within (suc n) room bytes h = first n room bytes h (place room bytes) (ch
     first n room bytes h (inl e) ih = chunks-ended room bytes e
     first n room bytes h (inr p) ih = chunks-passed room bytes p (ih (room - chunk_len p.chunk) p.rest (omega (arith, p.fewer)))
 
+-- all bytes are those of a file
 pub is_a_file : (bytes : List ℕ) → IsAFile bytes
 is_a_file bytes = by-len (ltb (length bytes) 12) refl
   where

@@ -12,6 +12,7 @@ use Rattle.exif_containers.specs.Jpeg.{from_mark}
 use Rattle.exif_base.specs.Scan.{PassesOthers}
 use Rattle.exif_containers.specs.Within.{Moves}
 
+-- a skip of bytes that count
 pub skips_within : (a b : Option (List ℕ)) (m n k : ℕ) → Skips a b k → m ≡ n + k → Moves a m b n (λ xs ys. (bytes : List ℕ) × (length bytes ≡ k) × (xs ≡ bytes ++ ys))
 skips_within None b m n k h e = tt
 skips_within (Some xs) None m n k h e = absurd h
@@ -58,6 +59,7 @@ moves_then_fact None b l m P Q S f h k = tt
 moves_then_fact (Some x) None l m P Q S f h k = absurd h
 moves_then_fact (Some x) (Some y) l m P Q S f h k = f (take l x) (take m y) h.0 k
 
+-- a step says less
 pub moves_weaker : (a b : Option (List ℕ)) (l m : ℕ) (P Q : List ℕ → List ℕ → Type 0)
     → ((x y : List ℕ) → P x y → Q x y) → Moves a l b m P → Moves a l b m Q
 moves_weaker None b l m P Q f h = tt
@@ -82,6 +84,7 @@ from_mark-others [] rest h = refl
 from_mark-others (b ∷ bytes) rest h =
     ap (λ t. cond t (b ∷ (bytes ++ rest)) (from_mark (bytes ++ rest))) (ne_eqb b 255 (h 0 b (omega arith))) ∙ from_mark-others bytes rest (All-tail (λ b. b ≢ 255) b bytes h)
 
+-- bytes at hand that are no ff are passed over
 pub passes_marks : (a b : Option (List ℕ)) (m n k : ℕ) → PassesOthers a b 255 k → m ≡ n + k → Moves a m b n (λ xs ys. from_mark xs ≡ from_mark ys)
 passes_marks None b m n k h e = tt
 passes_marks (Some xs) None m n k h e = absurd h.1

@@ -33,16 +33,19 @@ one value front count i text lt =
     let k : count - i ≡ suc (count - (i + 1)) = omega arith in
     rw k (one_by value front (count - (i + 1)) (value text))
 
+-- the loop goes on behind a value
 pub times_went_on : {A : Type 0} (value : List ℕ → Front A) (front : List A) (count i : ℕ) (text : List ℕ) (x : A) (rest : List ℕ) (total : Front (List A))
     → i < count → value text ≡ Ok (x, rest) → times_more value front (count - i) text ≡ total → times_more value (front ++ x ∷ []) (count - (i + 1)) rest ≡ total
 times_went_on value front count i text x rest total lt h so_far =
     sym (one value front count i text lt ∙ ap (λ r. r >>= λ y. times_more value (front ++ y.0 ∷ []) (count - (i + 1)) y.1) h) ∙ so_far
 
+-- a value that fails is the failure of all
 pub times_failed : {A : Type 0} (e : Failure) (value : List ℕ → Front A) (front : List A) (count i : ℕ) (text : List ℕ)
     → i < count → Fails e (value text) → Fails e (times_more value front (count - i) text)
 times_failed e value front count i text lt h =
     rw (one value front count i text lt) (fails_along e (λ r. r >>= λ x. times_more value (front ++ x.0 ∷ []) (count - (i + 1)) x.1) (value text) (λ r. refl) h)
 
+-- no more values are counted
 pub times_done : {A : Type 0} (value : List ℕ → Front A) (front : List A) (count i : ℕ) (text : List ℕ) → count ≤ i → times_more value front (count - i) text ≡ Ok (front, text)
 unfolding times
 times_done {A = A} value front count i text le =
@@ -53,6 +56,7 @@ whole : {A : Type 0} (read : Front (List A)) → with_front [] read ≡ read
 whole (Ok x) = refl
 whole (Err r) = refl
 
+-- with nothing read before, these are the values
 pub times_first : {A : Type 0} (value : List ℕ → Front A) (n : ℕ) (text : List ℕ) → times_more value [] n text ≡ times n value text
 times_first value n text = whole (times n value text)
 
@@ -89,11 +93,13 @@ last_went_on view value found None count i text rest total lt h so_far =
 last_went_on view value found (Some l) count i text rest total lt h so_far =
     sym (last_more value (option_map view found) count i text lt ∙ ap (λ r. r >>= λ x. last_read (last_or (option_map view found) x.0) (times_joined (count - (i + 1)) value x.1)) h) ∙ so_far
 
+-- a value that fails is the failure of the last
 pub last_failed : {A : Type 0} (e : Failure) (value : List ℕ → Front (List A)) (found : Option A) (count i : ℕ) (text : List ℕ)
     → i < count → Fails e (value text) → Fails e (last_read found (times_joined (count - i) value text))
 last_failed e value found count i text lt h =
     rw (last_more value found count i text lt) (fails_along e (λ r. r >>= λ x. last_read (last_or found x.0) (times_joined (count - (i + 1)) value x.1)) (value text) (λ r. refl) h)
 
+-- no more values are counted, and the last stays
 pub last_done : {A : Type 0} (value : List ℕ → Front (List A)) (found : Option A) (count i : ℕ) (text : List ℕ) → count ≤ i → last_read found (times_joined (count - i) value text) ≡ Ok found
 unfolding times
 last_done value found count i text le = let k : count - i ≡ 0 = omega arith in rw k refl

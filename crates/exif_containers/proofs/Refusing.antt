@@ -13,6 +13,7 @@ refuses_with : {A B : Type 0} (o : Option Refusal) (f : Result A Refusal → Res
 refuses_with (Some r) f part k h = ap f h ∙ k r
 refuses_with None f part k h = h
 
+-- a refusal of a part is one of the whole
 pub refuses_along : {A B : Type 0} (e : Failure) (f : Result A Refusal → Result B Refusal) (part : Result A Refusal) → Keeps f
     → Refuses e part → Refuses e (f part)
 refuses_along e f part k h = refuses_with (refusal_of e) f part k h
@@ -22,6 +23,7 @@ fails_with : {A B : Type 0} (o : Option Refusal) (I : Type 0) (f : Result A Refu
 fails_with (Some r) I f part k h = ap f h ∙ k r
 fails_with None I f part k h = h
 
+-- a failure of a part is one of the whole
 pub fails_along : {A B : Type 0} (e : Failure) (f : Result A Refusal → Result B Refusal) (part : Result A Refusal) → Keeps f
     → Fails e part → Fails e (f part)
 fails_along e f part k h = fails_with (refusal_of e) (IsInterrupted e) f part k h
@@ -32,6 +34,7 @@ refusal_with : {A : Type 0} (o : Option Refusal) (I : Type 0) (part : Result A R
 refusal_with (Some r) I part h = h
 refusal_with None I part h = absurd h
 
+-- a refusal is a failure
 pub refusal_fails : {A : Type 0} (e : Failure) (part : Result A Refusal) → Refuses e part → Fails e part
 refusal_fails e part h = refusal_with (refusal_of e) (IsInterrupted e) part h
 
@@ -47,6 +50,7 @@ refusal_told (error.UnexpectedValue text) h = refl
 refusal_told (error.PartialResult partial) h = refl
 refusal_told error.OutOfMemory h = refl
 
+-- a refusal is no device's error
 pub refusal_no_io : {A : Type 0} (e : Failure) (part : Result A Refusal) → Refuses e part → is_io_error e ≡ false
 refusal_no_io e part h = refusal_told e (told (refusal_of e) h)
   where

@@ -28,6 +28,7 @@ filling_enough box shortens (suc n) (suc m) [] h k = refl
 filling_enough box shortens (suc n) (suc m) (b ∷ text) h k =
     by_same box shortens n m (b ∷ text) (λ rest lt. filling_enough box shortens n m rest (omega arith) (omega arith)) (box (b ∷ text)) refl
 
+-- no bytes have no boxes
 pub all_boxes_end : (box : List ℕ → Front Part) (text : List ℕ) → length text ≡ 0 → all_boxes box text ≡ none
 unfolding all_boxes
 all_boxes_end box [] h = refl
@@ -44,34 +45,42 @@ unfolding all_boxes
 all_boxes_more box shortens [] h = absurd (omega arith)
 all_boxes_more box shortens (b ∷ text) h = and_then_enough box shortens (length text) (b ∷ text) (box (b ∷ text)) refl refl
 
+-- an answer is one
 pub ok_same : {A : Type 0} {x y : A} → let r : Result A Refusal = Ok x in r ≡ Ok y → x ≡ y
 ok_same e = cc
 
 -- ---- a box inside a box takes 8 bytes at least
 
+-- two steps that succeed, each
 pub bind_ok : {A B : Type 0} (r : Result A Refusal) (f : A → Result B Refusal) (y : B) → (r >>= f) ≡ Ok y → (x : A) × (r ≡ Ok x) × (f x ≡ Ok y)
 bind_ok (Ok x) f y e = (x, refl, e)
 bind_ok (Err d) f y e = absurd cc
 
+-- a test that was passed
 pub when_ok : {A : Type 0} (b : Bool) (r : Result A Refusal) (d : Refusal) (y : A) → cond b r (Err d) ≡ Ok y → (b ≡ true) × (r ≡ Ok y)
 when_ok true r d y e = (refl, e)
 when_ok false r d y e = absurd cc
 
+-- a test that did not refuse
 pub unless_ok : {A : Type 0} (b : Bool) (d : Refusal) (x y : A) → cond b (Err d) (Ok x) ≡ Ok y → x ≡ y
 unless_ok true d x y e = absurd cc
 unless_ok false d x y e = cc
 
+-- the text behind a value
 abbrev pub after : {A : Type 0} → A × List ℕ → List ℕ
 after x = x.1
 
+-- what follows a header
 pub header_rest : (text : List ℕ) (h : Header × List ℕ) → header_at text ≡ Ok h → drop (header_len text) text ≡ h.1
 unfolding header_at
 header_rest text h e = ap after (unless_ok (ltb (box_size text) (header_len text)) invalid_size _ h e)
 
+-- a header has 8 bytes or 16
 pub eight : (b : Bool) → 8 ≤ cond b 16 8
 eight true = omega arith
 eight false = omega arith
 
+-- a box inside a box is longer than nothing
 pub box_shorter : Shortens box_at
 unfolding box_at
 box_shorter text p rest e =

@@ -39,19 +39,23 @@ pub child_more : (t : Tables) (kind : Kind) (body text rest : List ℕ) → 0 < 
 child_more t kind body text rest some h =
     ap (λ ps. tables_from t ps) (all_boxes_more box_at box_shorter text some) ∙ ap (λ b. tables_from t (and_then b (all_boxes box_at))) h ∙ table_more t kind body (children rest)
 
+-- the loop goes on behind a child
 pub child_went_on : (t u : Tables) (kind : Kind) (body text rest : List ℕ) (total : Result Tables Refusal) → 0 < length text → box_at text ≡ Ok (whole_part kind body, rest)
     → table_with kind body t ≡ Ok u → tables_from t (children text) ≡ total → tables_from u (children rest) ≡ total
 child_went_on t u kind body text rest total some h k so_far =
     sym (child_more t kind body text rest some h ∙ ap (λ r. r >>= λ v. tables_from v (children rest)) k) ∙ so_far
 
+-- a child that is refused is the refusal of `meta`
 pub child_failed : (e : Failure) (t : Tables) (kind : Kind) (body text rest : List ℕ) → 0 < length text → box_at text ≡ Ok (whole_part kind body, rest)
     → Refuses e (table_with kind body t) → Refuses e (tables_from t (children text))
 child_failed e t kind body text rest some h k =
     rw (child_more t kind body text rest some h) (refuses_along e (λ r. r >>= λ u. tables_from u (children rest)) (table_with kind body t) (λ r. refl) k)
 
+-- bytes that are no box are the refusal of `meta`
 pub child_cut : (e : Failure) (t : Tables) (text : List ℕ) → 0 < length text → Refuses e (box_at text) → Refuses e (tables_from t (children text))
 child_cut e t text some h =
     rw (all_boxes_more box_at box_shorter text some) (refuses_along e (λ b. tables_from t (and_then b (all_boxes box_at))) (box_at text) (λ r. refl) h)
 
+-- no more children stand there
 pub children_done : (t : Tables) (text : List ℕ) → length text ≡ 0 → tables_from t (children text) ≡ Ok t
 children_done t text h = ap (λ ps. tables_from t ps) (all_boxes_end box_at text h)

@@ -15,6 +15,7 @@ use Rattle.exif_containers.proofs.Refusing.{fails_along}
 use Rattle.exif_containers.specs.WebpSteps.{IsPayload}
 use Rattle.exif_containers.specs.Webp.{Chunk, exif, other, broken_webp, not_webp, invalid_file_size, overflowing, no_exif_in_webp, padded, exif_chunk, other_chunk, chunk_body, chunk_at, follow, answer_within, body_answer, begins_webp, sized_answer, webp_answer}
 
+-- the first 12 bytes begin a file
 pub begins_webp-append : (header ys : List ℕ) → length header ≡ 12 → begins_webp (header ++ ys) ≡ begins_webp header
 begins_webp-append header ys e =
     ap (λ t. pointwise eqb t (codes "RIFF") && pointwise eqb (take 4 (drop 8 (header ++ ys))) (codes "WEBP")) (take-append-le 4 header ys (omega arith))
@@ -34,6 +35,7 @@ webp-twelve header ys e =
     (ap (little_number 4) (drop-append-le 4 header ys (omega arith)) ∙ little_from-append 4 (drop 4 header) ys (omega (arith, length-drop 4 header)))
     ∙ ap (λ t. cond (begins_webp header) (sized_answer (little_number 4 (drop 4 header)) t) (refused not_webp)) (drop_at header ys 12 e)
 
+-- a file with another header is refused
 pub webp_other : (a b : Option (List ℕ)) (header : List ℕ) → length header ≡ 12 → begins_webp header ≡ false → Consumes a b header
     → IfSome a (λ xs. webp_answer xs ≡ refused not_webp)
 webp_other None b header e w h = tt
@@ -41,9 +43,11 @@ webp_other (Some xs) None header e w h = absurd h
 webp_other (Some xs) (Some ys) header e w h =
     ap webp_answer h ∙ webp-twelve header ys e ∙ ap (λ t. cond t (sized_answer (little_number 4 (drop 4 header)) ys) (refused not_webp)) w
 
+-- a size below 4 is refused
 pub sized-small : (size : ℕ) (ys : List ℕ) → size < 4 → sized_answer size ys ≡ refused invalid_file_size
 sized-small size ys h = grind (arith, nat_tests)
 
+-- a size of 4 or more is that of a body
 pub sized-body : (size : ℕ) (ys : List ℕ) → 4 ≤ size → sized_answer size ys ≡ body_answer (size - 4) ys
 sized-body size ys h = ap (λ t. cond t (refused invalid_file_size) (body_answer (size - 4) ys)) (not_small size h)
   where
@@ -55,6 +59,7 @@ pub webp-header : (header ys : List ℕ) → length header ≡ 12 → begins_web
 webp-header header ys e w =
     webp-twelve header ys e ∙ ap (λ t. cond t (sized_answer (little_number 4 (drop 4 header)) ys) (refused not_webp)) w
 
+-- a file with too small a size is refused
 pub webp_small : (a b : Option (List ℕ)) (header : List ℕ) (size : ℕ) → length header ≡ 12 → begins_webp header ≡ true → size ≡ little_number 4 (drop 4 header) → size < 4 → Consumes a b header
     → IfSome a (λ xs. webp_answer xs ≡ refused invalid_file_size)
 webp_small None b header size e w s small h = tt
@@ -62,6 +67,7 @@ webp_small (Some xs) None header size e w s small h = absurd h
 webp_small (Some xs) (Some ys) header size e w s small h =
     ap webp_answer h ∙ webp-header header ys e w ∙ ap (λ t. sized_answer t ys) (sym s) ∙ sized-small size ys small
 
+-- a file with a header is answered as its body
 pub webp_body : (a b : Option (List ℕ)) (header : List ℕ) (size : ℕ) → length header ≡ 12 → begins_webp header ≡ true → size ≡ little_number 4 (drop 4 header) → 4 ≤ size → Consumes a b header
     → WhereTold a b (λ xs ys. webp_answer xs ≡ body_answer (size - 4) ys)
 webp_body None b header size e w s big h = tt
@@ -98,6 +104,7 @@ at-shorter false false false room bytes r rest l e =
     let long : 8 ≤ length bytes = ltb-false (length bytes) 8 l in
     omega (arith, length-drop 8 bytes)
 
+-- a chunk has a byte
 pub chunk-shorter : (room : ℕ) (bytes : List ℕ) (r : ℕ) (rest : List ℕ) → chunk_at room bytes ≡ Ok (other r rest) → length rest < length bytes
 chunk-shorter room bytes r rest e = at-shorter (eqb room 0) (ltb room 8) (ltb (length bytes) 8) room bytes r rest refl e
 
@@ -120,12 +127,15 @@ body-other room xs r rest e =
     let l = chunk-shorter room xs r rest e in
     ap (λ c. follow c (answer_within (length xs))) e ∙ answer_enough (length xs) (suc (length rest)) r rest l (omega arith)
 
+-- a chunk with Exif data is the answer
 pub body-exif : (room : ℕ) (xs payload rest : List ℕ) → chunk_at room xs ≡ Ok (exif payload rest) → body_answer room xs ≡ found payload rest
 body-exif room xs payload rest e = ap (λ c. follow c (answer_within (length xs))) e
 
+-- a chunk that is refused is the refusal of the body
 pub body-refused : (room : ℕ) (xs : List ℕ) (r : Refusal) → chunk_at room xs ≡ Err r → body_answer room xs ≡ refused r
 body-refused room xs r e = ap (λ c. follow c (answer_within (length xs))) e
 
+-- the loop goes on behind another chunk
 pub webp_passed : (a b c : Option (List ℕ)) (room r : ℕ) → WhereTold a b (λ xs ys. webp_answer xs ≡ body_answer room ys) → WhereTold b c (λ xs ys. chunk_at room xs ≡ Ok (other r ys))
     → WhereTold a c (λ xs ys. webp_answer xs ≡ body_answer r ys)
 webp_passed None b c room r h k = tt
@@ -133,6 +143,7 @@ webp_passed (Some xs) None c room r h k = absurd h
 webp_passed (Some xs) (Some ys) None room r h k = absurd k
 webp_passed (Some xs) (Some ys) (Some zs) room r h k = h ∙ body-other room ys r zs k
 
+-- a chunk with Exif data is the answer of the file
 pub webp_found : (a b c : Option (List ℕ)) (room : ℕ) (v : List ℕ) → WhereTold a b (λ xs ys. webp_answer xs ≡ body_answer room ys) → WhereTold b c (λ xs ys. chunk_at room xs ≡ Ok (exif v ys))
     → WhereTold a c (λ xs ys. webp_answer xs ≡ found v ys)
 webp_found None b c room v h k = tt
@@ -144,6 +155,7 @@ webp_found (Some xs) (Some ys) (Some zs) room v h k = h ∙ body-exif room ys v 
 fails_body : (e : Failure) (room : ℕ) (ys : List ℕ) → Fails e (chunk_at room ys) → Fails e (body_answer room ys)
 fails_body e room ys = fails_along e (λ c. follow c (answer_within (length ys))) (chunk_at room ys) (λ r. refl)
 
+-- a chunk that fails is the failure of the file
 pub webp_fails : (e : Failure) (a b : Option (List ℕ)) (room : ℕ) → WhereTold a b (λ xs ys. webp_answer xs ≡ body_answer room ys)
     → IfSome b (λ ys. Fails e (chunk_at room ys)) → IfSome a (λ xs. Fails e (webp_answer xs))
 webp_fails e None b room h k = tt
@@ -156,12 +168,14 @@ payload-collected (Ok (exif payload rest)) next h = tt
 payload-collected (Ok (other room bytes)) next h = absurd h
 payload-collected (Err r) next h = h
 
+-- out of memory in a chunk: its payload is collected
 pub webp_collects : (a b : Option (List ℕ)) (room : ℕ) → WhereTold a b (λ xs ys. webp_answer xs ≡ body_answer room ys)
     → IfSome b (λ ys. IsPayload (chunk_at room ys)) → IfSome a (λ xs. IsCollected broken_webp (webp_answer xs))
 webp_collects None b room h k = tt
 webp_collects (Some xs) None room h k = absurd h
 webp_collects (Some xs) (Some ys) room h k = rw h (payload-collected (chunk_at room ys) (answer_within (length ys)) k)
 
+-- a body that is used up holds no Exif data
 pub webp_used_up : (a b : Option (List ℕ)) (room : ℕ) → room ≡ 0 → WhereTold a b (λ xs ys. webp_answer xs ≡ body_answer room ys) → IfSome a (λ xs. webp_answer xs ≡ refused no_exif_in_webp)
 webp_used_up None b room z h = tt
 webp_used_up (Some xs) None room z h = absurd h
