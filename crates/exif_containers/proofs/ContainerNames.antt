@@ -6,7 +6,7 @@ use Rattle.exif_types.specs.Failures.{Failure}
 use Rattle.exif_types.specs.Refusals.{Refusal, refusal_of, IsInterrupted}
 use Rattle.exif_containers.specs.Answer.{IsNamed}
 use Rattle.exif_containers.specs.Container.{container_refusals, unknown_format}
-use Rattle.exif_containers.specs.HeifRefusals.{heif_refusals}
+use Rattle.exif_isobmff.specs.HeifRefusals.{heif_refusals}
 use Rattle.exif_containers.specs.Jpeg.{jpeg_refusals}
 use Rattle.exif_containers.specs.Webp.{webp_refusals}
 

@@ -10,7 +10,7 @@ use Rattle.exif_types.specs.Failures.{Failure}
 use Rattle.exif_types.specs.Refusals.{Refusal, Fails, Gives}
 use Rattle.exif_containers.specs.Answer.{found}
 use Rattle.exif_containers.specs.Jpeg.{jpeg_answer}
-use Rattle.exif_containers.proofs.Refusing.{fails_along}
+use Rattle.exif_isobmff.proofs.Refusing.{fails_along}
 use Rattle.exif_containers.specs.declared.container.Format.{Format}
 use Rattle.exif_containers.specs.declared.container.Format.TheVariants.{Jpeg}
 use Rattle.exif_containers.specs.Container.{TiffIsWhole, answer_as, data_of, begins_tiff, format_in, container_answer}

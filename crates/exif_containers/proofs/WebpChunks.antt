@@ -11,7 +11,7 @@ use Rattle.exif_base.specs.Told.{WhereTold}
 use Rattle.exif_types.specs.Failures.{Failure}
 use Rattle.exif_types.specs.Refusals.{Refusal, Fails}
 use Rattle.exif_containers.specs.Answer.{Answer, found, refused, IsCollected}
-use Rattle.exif_containers.proofs.Refusing.{fails_along}
+use Rattle.exif_isobmff.proofs.Refusing.{fails_along}
 use Rattle.exif_containers.specs.WebpSteps.{IsPayload}
 use Rattle.exif_containers.specs.Webp.{Chunk, exif, other, broken_webp, not_webp, invalid_file_size, overflowing, no_exif_in_webp, padded, exif_chunk, other_chunk, chunk_body, chunk_at, follow, answer_within, body_answer, begins_webp, sized_answer, webp_answer}
 

@@ -6,9 +6,9 @@ use Rattle.exif_types.specs.Refusals.{Refusal, invalid_format, ◌>>=◌}
 use Rattle.exif_containers.specs.declared.container.Format.{Format}
 use Rattle.exif_containers.specs.declared.container.Format.TheVariants.{Tiff, Jpeg, Heif, WebP}
 use Rattle.exif_containers.specs.Answer.{Answer}
-use Rattle.exif_containers.specs.Heif.{exif_of}
-use Rattle.exif_containers.specs.HeifFile.{begins_heif}
-use Rattle.exif_containers.specs.HeifRefusals.{heif_refusals}
+use Rattle.exif_isobmff.specs.Heif.{exif_of}
+use Rattle.exif_isobmff.specs.HeifFile.{begins_heif}
+use Rattle.exif_isobmff.specs.HeifRefusals.{heif_refusals}
 use Rattle.exif_containers.specs.Jpeg.{begins_jpeg, jpeg_answer, jpeg_refusals}
 use Rattle.exif_containers.specs.Webp.{begins_webp, webp_answer, webp_refusals}
 

@@ -1,9 +1,0 @@
-use Rattle.std.proofs.Common.{◌≡◌, ◌-◌}
-use Rattle.exif_containers.specs.Places.{extent_at}
-use Rattle.exif_containers.specs.Boxes.{times}
-use Rattle.exif_containers.proofs.LocationsTimes.{times_more}
-use Rattle.exif_containers.proofs.isobmff.locations.extents.Given as goal
-
--- what was found and what is still read is what is read in all
-abbrev pub invariant-loop : goal.invariant-loop
-invariant-loop l = times_more (extent_at l.sizes) l.found.items (l.count - l.counter) l.body ≡ times l.count (extent_at l.sizes) l.fn.body

@@ -1,5 +1,0 @@
-use Rattle.exif_containers.proofs.LawsFiles.{file_boxes_are_read}
-use Rattle.exif_containers.proofs.laws.file_boxes_are_read.Goals as goal
-
-pub returns : goal.returns
-returns c = record { read = file_boxes_are_read }

@@ -1,0 +1,17 @@
+pub mod ExifNames
+pub mod FileBoxes
+pub mod ItemsBoxes
+pub mod LawsBoxes
+pub mod LawsBrands
+pub mod LawsCounts
+pub mod LawsExtents
+pub mod LawsFiles
+pub mod LawsItems
+pub mod LawsJoined
+pub mod LawsLocations
+pub mod LawsPlaces
+pub mod LawsSteps
+pub mod LocationsTimes
+pub mod Refusing
+pub mod SplitterBoxes
+pub mod TablesChildren

@@ -1,0 +1,13 @@
+pub mod BoxGrammar
+pub mod Boxes
+pub mod FileBoxView
+pub mod FileGrammar
+pub mod Heif
+pub mod HeifFile
+pub mod HeifRefusals
+pub mod ItemGrammar
+pub mod Items
+pub mod Kinds
+pub mod PlaceGrammar
+pub mod Places
+pub mod TablesView

@@ -1,0 +1,17 @@
+//! The Exif data of a HEIF file in memory (ISO/IEC 14496-12:2015, 4.2; ISO/IEC 23008-12:2017, A.2.1).
+#![tactic(auto)]
+
+mod exif;
+mod extents;
+mod file;
+mod items;
+mod kind;
+pub mod laws;
+mod locations;
+mod splitter;
+mod tables;
+
+pub use exif::exif_of_file;
+pub use file::is_heif;
+pub use kind::Kind;
+pub use splitter::{BoxSplitter, Header};
