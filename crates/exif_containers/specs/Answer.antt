@@ -19,20 +19,24 @@ found payload rest = Ok (payload, rest)
 abbrev pub refused : Refusal → Answer
 refused r = Err r
 
--- the error that a fault becomes: the end of the bytes is this refusal, and the others stay what they are
+-- the error that a fault becomes: the end of the bytes is this refusal, and the others stay what
+-- they are
 abbrev pub IsErrorOf : Refusal → ReadFault → Failure → Type 0
 IsErrorOf broken fault.End e = refusal_of e ≡ Some broken
 IsErrorOf broken (fault.Io cause) e = e ≡ error.Io cause
 IsErrorOf broken fault.OutOfMemory e = e ≡ error.OutOfMemory
 
--- an error is an interruption, or says that the bytes ended, and then P holds of those that were left
+-- an error is an interruption, or says that the bytes ended, and then P holds of those that were
+-- left
 abbrev pub IsShort : Refusal → Failure → Option (List ℕ) → (List ℕ → Type 0) → Type 0
-IsShort broken e left P = MatchOption (refusal_of e) (IsInterrupted e) (λ r. (r ≡ broken) × IfSome left P)
+IsShort broken e left P =
+    MatchOption (refusal_of e) (IsInterrupted e) (λ r. (r ≡ broken) × IfSome left P)
 
 -- an error is an interruption, or one of these refusals
 abbrev pub IsNamed : List Refusal → Failure → Type 0
 IsNamed named e = MatchOption (refusal_of e) (IsInterrupted e) (Contains named)
 
--- the answer where a payload is collected: the Exif data, or the refusal of bytes that end in a payload
+-- the answer where a payload is collected: the Exif data, or the refusal of bytes that end in a
+-- payload
 abbrev pub IsCollected : Refusal → Answer → Type 0
 IsCollected broken answer = IfErr answer (λ r. r ≡ broken)

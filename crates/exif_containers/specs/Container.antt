@@ -1,5 +1,5 @@
--- What a stream gives, as the first 4096 bytes say which container it is (TIFF 6.0, section 2; ITU-T
--- T.81, B.1.1; ISO/IEC 14496-12:2015, 4.3; WebP Container Specification, "WebP File Header").
+-- What a stream gives, as the first 4096 bytes say which container it is (TIFF 6.0, section 2;
+-- ITU-T T.81, B.1.1; ISO/IEC 14496-12:2015, 4.3; WebP Container Specification, "WebP File Header").
 use Rattle.std.specs.Prelude.{◌≡◌, ℕ, ◌-◌, ◌^◌, List, ◌∷◌, ◌++◌, take, codes, Bool, true, ◌||◌, if◌then◌else◌, Option, None, Some, Result, Ok, Err}
 use Rattle.std.specs.Str.{bytes_eq}
 use Rattle.exif_types.specs.Refusals.{Refusal, invalid_format, ◌>>=◌}
@@ -22,7 +22,8 @@ container_refusals = unknown_format ∷ (jpeg_refusals ++ (heif_refusals ++ webp
 
 -- whether bytes begin as TIFF data do, in either byte order
 abbrev pub begins_tiff : List ℕ → Bool
-begins_tiff bytes = bytes_eq (take 4 bytes) (codes "MM\0*") || bytes_eq (take 4 bytes) (codes "II*\0")
+begins_tiff bytes =
+    bytes_eq (take 4 bytes) (codes "MM\0*") || bytes_eq (take 4 bytes) (codes "II*\0")
 
 -- the container that a head begins
 unfoldable pub format_in : List ℕ → Option Format

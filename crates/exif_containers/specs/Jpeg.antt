@@ -65,7 +65,8 @@ body_len code bytes = if stands_alone code then 0 else max 2 (two_bytes bytes)
 -- the unit with a body of this length, where it is whole
 abbrev pub unit_with_body : ℕ → List ℕ → ℕ → Option JpegUnit
 unit_with_body code bytes len =
-    if nat_le len (length bytes) then Some (record { code = code; body = take len bytes; rest = drop len bytes }) else None
+    if nat_le len (length bytes)
+    then Some (record { code = code; body = take len bytes; rest = drop len bytes }) else None
 
 -- the unit at the front of these bytes, which begin with its code, where it is whole
 abbrev pub unit_from_code : List ℕ → Option JpegUnit
@@ -91,7 +92,8 @@ unit_answer u =
     if u.code == 217 then Some (refused no_exif_in_jpeg) else
     if stands_alone u.code then None else
     if nat_lt (two_bytes u.body) 2 then Some (refused invalid_length) else
-    if u.code == 225 then option_map (λ payload. found payload u.rest) (exif_payload (drop 2 u.body)) else None
+    if u.code == 225
+    then option_map (λ payload. found payload u.rest) (exif_payload (drop 2 u.body)) else None
 
 -- the unit, if there is one, and the units of what follows it
 abbrev pub with_units : Option JpegUnit → (List ℕ → List JpegUnit) → List JpegUnit
@@ -120,7 +122,8 @@ answer_from bytes = first_answer (units_of bytes)
 abbrev pub jpeg_answer : List ℕ → Answer
 jpeg_answer [] = refused broken_jpeg
 jpeg_answer (a ∷ []) = refused broken_jpeg
-jpeg_answer (a ∷ b ∷ bytes) = if (a == 255) && (b == 216) then answer_from bytes else refused not_jpeg
+jpeg_answer (a ∷ b ∷ bytes) =
+    if (a == 255) && (b == 216) then answer_from bytes else refused not_jpeg
 
 -- whether bytes begin as a JPEG stream does
 abbrev pub begins_jpeg : List ℕ → Bool

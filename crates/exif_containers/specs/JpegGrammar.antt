@@ -6,8 +6,8 @@ use Rattle.exif_types.specs.Refusals.{Refusal}
 use Rattle.exif_containers.specs.Answer.{Answer, found, refused}
 use Rattle.exif_containers.specs.Jpeg.{broken_jpeg, not_jpeg, unexpected_soi, invalid_length, no_exif_in_jpeg, stands_alone, jpeg_answer}
 
--- what a code brings: nothing; the two bytes of a length and what that counts besides them; or such a
--- length, the identifier of Exif and the Exif data
+-- what a code brings: nothing; the two bytes of a length and what that counts besides them; or such
+-- a length, the identifier of Exif and the Exif data
 pub data Brought : Type 0 where
   nothing : Brought
   sized : ℕ → ℕ → List ℕ → Brought
@@ -38,12 +38,13 @@ print_unit u = u.passed ++ (255 ∷ (replicate u.fill 255 ++ (u.code ∷ print_b
 abbrev pub HasNoId : List ℕ → Type 0
 HasNoId content = (payload : List ℕ) → content ≡ exif_id ++ payload → ⊥
 
--- codes that stand alone bring nothing; a length counts its own two bytes; code e1 brings Exif data where
--- the identifier stands
+-- codes that stand alone bring nothing; a length counts its own two bytes; code e1 brings Exif data
+-- where the identifier stands
 abbrev pub IsBrought : ℕ → Brought → Type 0
 IsBrought code nothing = stands_alone code ≡ true
 IsBrought code (sized high low content) =
-    (stands_alone code ≡ false) × (length content ≡ 256 * high + low - 2) × (code ≡ 225 → HasNoId content)
+    (stands_alone code ≡ false) × (length content ≡ 256 * high + low - 2)
+    × (code ≡ 225 → HasNoId content)
 IsBrought code (exif high low payload) = (code ≡ 225) × (256 * high + low ≡ 8 + length payload)
 
 -- the unit is valid: no ff stands in what is passed or as its code
@@ -55,7 +56,8 @@ pub record IsUnit (u : UnitTree) : Type 0 where
 -- what the bytes of a code say: the Exif data, a refusal or nothing
 abbrev pub brought_says : ℕ → Brought → Option (Result (List ℕ) Refusal)
 brought_says code nothing = None
-brought_says code (sized high low content) = if nat_lt (256 * high + low) 2 then Some (Err invalid_length) else None
+brought_says code (sized high low content) =
+    if nat_lt (256 * high + low) 2 then Some (Err invalid_length) else None
 brought_says code (exif high low payload) = Some (Ok payload)
 
 -- what a unit says
@@ -72,7 +74,8 @@ IsSilent u = IsUnit u × (unit_says u ≡ None)
 abbrev pub HasNoUnit : List ℕ → Type 0
 HasNoUnit bytes = (u : UnitTree) (rest : List ℕ) → IsUnit u → bytes ≡ print_unit u ++ rest → ⊥
 
--- what ends the silent units: one that says something, and then any bytes, or bytes that no unit begins
+-- what ends the silent units: one that says something, and then any bytes, or bytes that no unit
+-- begins
 pub data Ending : Type 0 where
   speaking : UnitTree → Result (List ℕ) Refusal → List ℕ → Ending
   cut : List ℕ → Ending

@@ -42,17 +42,22 @@ padded size room = if (size % 2 == 1) && nat_lt size room then size + 1 else siz
 
 -- a payload of Exif data, where it is whole
 abbrev pub exif_chunk : ℕ → List ℕ → Result Chunk Refusal
-exif_chunk size bytes = if nat_lt (length bytes) size then Err broken_webp else Ok (exif (take size bytes) (drop size bytes))
+exif_chunk size bytes =
+    if nat_lt (length bytes) size then Err broken_webp else
+    Ok (exif (take size bytes) (drop size bytes))
 
 -- another payload and its pad byte, where they are whole
 abbrev pub other_chunk : ℕ → ℕ → List ℕ → Result Chunk Refusal
-other_chunk taken room bytes = if nat_lt (length bytes) taken then Err broken_webp else Ok (other (room - taken) (drop taken bytes))
+other_chunk taken room bytes =
+    if nat_lt (length bytes) taken then Err broken_webp else
+    Ok (other (room - taken) (drop taken bytes))
 
 -- what follows the name and the size of a chunk
 abbrev pub chunk_body : List ℕ → ℕ → ℕ → List ℕ → Result Chunk Refusal
 chunk_body name size room bytes =
     if nat_lt room size then Err overflowing else
-    if bytes_eq name (codes "EXIF") then exif_chunk size bytes else other_chunk (padded size room) room bytes
+    if bytes_eq name (codes "EXIF") then exif_chunk size bytes else
+    other_chunk (padded size room) room bytes
 
 -- the chunk at a place with so much room
 abbrev pub chunk_at : ℕ → List ℕ → Result Chunk Refusal
@@ -79,14 +84,17 @@ body_answer room bytes = answer_within (suc (length bytes)) room bytes
 
 -- whether bytes begin as a WebP file does
 abbrev pub begins_webp : List ℕ → Bool
-begins_webp bytes = bytes_eq (take 4 bytes) (codes "RIFF") && bytes_eq (take 4 (drop 8 bytes)) (codes "WEBP")
+begins_webp bytes =
+    bytes_eq (take 4 bytes) (codes "RIFF") && bytes_eq (take 4 (drop 8 bytes)) (codes "WEBP")
 
 -- the answer of what stands behind the header of a file of this size; the form type counts in it
 abbrev pub sized_answer : ℕ → List ℕ → Answer
-sized_answer size bytes = if nat_lt size 4 then refused invalid_file_size else body_answer (size - 4) bytes
+sized_answer size bytes =
+    if nat_lt size 4 then refused invalid_file_size else body_answer (size - 4) bytes
 
 -- the answer of a file: its header, and then its chunks
 abbrev pub webp_answer : List ℕ → Answer
 webp_answer bytes =
     if nat_lt (length bytes) 12 then refused broken_webp else
-    if begins_webp bytes then sized_answer (little_number 4 (drop 4 bytes)) (drop 12 bytes) else refused not_webp
+    if begins_webp bytes then sized_answer (little_number 4 (drop 4 bytes)) (drop 12 bytes) else
+    refused not_webp

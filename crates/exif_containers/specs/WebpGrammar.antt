@@ -7,7 +7,8 @@ use Rattle.byteorder.specs.Endian.{little_number}
 use Rattle.exif_containers.specs.Answer.{Answer, found, refused}
 use Rattle.exif_containers.specs.Webp.{broken_webp, not_webp, invalid_file_size, overflowing, no_exif_in_webp, webp_answer}
 
--- a chunk: four bytes of name, four that spell the payload's length, the payload, and a pad byte or none
+-- a chunk: four bytes of name, four that spell the payload's length, the payload, and a pad byte or
+-- none
 pub record ChunkTree : Type 0 where
   pub name : List ℕ
   pub size : List ℕ
@@ -62,11 +63,12 @@ room_behind room (c ∷ cs) = room_behind (room - chunk_len c) cs
 
 -- how many bytes stand behind a name and a size, with so much room there
 abbrev pub wanted : List ℕ → ℕ → ℕ → ℕ
-wanted name size room = if bytes_eq name (codes "EXIF") then size else size + pad_len size (room - size)
+wanted name size room =
+    if bytes_eq name (codes "EXIF") then size else size + pad_len size (room - size)
 
--- what ends the other chunks: one with Exif data and then any bytes; any bytes behind a body that is
--- used up, or that has no room for a header; a size over the room, and then any bytes; the end of the
--- bytes in a header; or the end of the bytes behind a name and a size
+-- what ends the other chunks: one with Exif data and then any bytes; any bytes behind a body that
+-- is used up, or that has no room for a header; a size over the room, and then any bytes; the end
+-- of the bytes in a header; or the end of the bytes behind a name and a size
 pub data BodyEnd : Type 0 where
   exif : ChunkTree → List ℕ → BodyEnd
   used_up : List ℕ → BodyEnd
@@ -92,7 +94,8 @@ IsEnd room (no_room rest) = (0 < room) × (room < 8)
 IsEnd room (too_long name size rest) = IsHeader room name size × (room - 8 < little_number 4 size)
 IsEnd room (cut_header bytes) = (8 ≤ room) × (length bytes < 8)
 IsEnd room (cut_payload name size bytes) =
-    IsHeader room name size × (little_number 4 size ≤ room - 8) × (length bytes < wanted name (little_number 4 size) (room - 8))
+    IsHeader room name size × (little_number 4 size ≤ room - 8)
+    × (length bytes < wanted name (little_number 4 size) (room - 8))
 
 -- its answer
 abbrev pub end_answer : BodyEnd → Answer
@@ -133,7 +136,8 @@ HasNoHeader bytes = (size rest : List ℕ) → length size ≡ 4 → bytes ≡ p
 -- the tree is valid
 abbrev pub IsFile : WebpFile → Type 0
 IsFile (body size cs end) =
-    (length size ≡ 4) × (4 ≤ little_number 4 size) × AreOthers (body_room size) cs × IsEnd (room_behind (body_room size) cs) end
+    (length size ≡ 4) × (4 ≤ little_number 4 size) × AreOthers (body_room size) cs
+    × IsEnd (room_behind (body_room size) cs) end
 IsFile (small size rest) = (length size ≡ 4) × (little_number 4 size < 4)
 IsFile (short bytes) = length bytes < 12
 IsFile (foreign bytes) = (12 ≤ length bytes) × HasNoHeader bytes

@@ -2,6 +2,8 @@
 use Rattle.std.specs.Prelude.{◌≡◌, ℕ, List, take, drop, Option}
 use Rattle.exif_base.specs.Told.{WhereTold}
 
--- P holds of the bytes that count: at most m of those left before, at most n of those left after; the others stay
+-- P holds of the bytes that count: at most m of those left before, at most n of those left after;
+-- the others stay
 abbrev pub Moves : Option (List ℕ) → ℕ → Option (List ℕ) → ℕ → (List ℕ → List ℕ → Type 0) → Type 0
-Moves old m new n P = WhereTold old new (λ xs ys. P (take m xs) (take n ys) × (drop m xs ≡ drop n ys))
+Moves old m new n P =
+    WhereTold old new (λ xs ys. P (take m xs) (take n ys) × (drop m xs ≡ drop n ys))

@@ -1,5 +1,5 @@
--- Boxes as their standard writes them (ISO/IEC 14496-12:2015, 4.2): trees, their bytes, and what makes
--- them valid.
+-- Boxes as their standard writes them (ISO/IEC 14496-12:2015, 4.2): trees, their bytes, and what
+-- makes them valid.
 use Rattle.std.specs.Prelude.{◌≡◌, ℕ, ◌<◌, List, [], ◌∷◌, ◌++◌, length, map, Some, None, Ok, ⊤}
 use Rattle.std.specs.List.{flat_map}
 use Rattle.byteorder.specs.Endian.{big_number}
@@ -8,8 +8,8 @@ use Rattle.exif_isobmff.specs.HeifRefusals.{too_small, invalid_size}
 use Rattle.exif_isobmff.specs.Kinds.{kind_of}
 use Rattle.exif_isobmff.specs.Boxes.{Part, Parts, whole_part, box_at, boxes, children}
 
--- the three forms of a header: a size of 4 bytes and a type; 1, a type and a size of 8 bytes; 0 and a
--- type, for a box that runs to the end of what it stands in
+-- the three forms of a header: a size of 4 bytes and a type; 1, a type and a size of 8 bytes; 0 and
+-- a type, for a box that runs to the end of what it stands in
 pub data BoxHeader : Type 0 where
   sized : List ℕ → List ℕ → BoxHeader
   large : List ℕ → List ℕ → List ℕ → BoxHeader
@@ -36,7 +36,8 @@ said_size (to_end zero type) n = n
 -- its fields have their lengths, and its size is of its form
 abbrev pub IsHeader : BoxHeader → Type 0
 IsHeader (sized size type) = (length size ≡ 4) × (length type ≡ 4) × (1 < big_number 4 size)
-IsHeader (large one type size) = (length one ≡ 4) × (length type ≡ 4) × (length size ≡ 8) × (big_number 4 one ≡ 1)
+IsHeader (large one type size) =
+    (length one ≡ 4) × (length type ≡ 4) × (length size ≡ 8) × (big_number 4 one ≡ 1)
 IsHeader (to_end zero type) = (length zero ≡ 4) × (length type ≡ 4) × (big_number 4 zero ≡ 0)
 
 -- a box: a header and a body
@@ -50,7 +51,8 @@ print_box b = print_header b.header ++ b.body
 
 -- with these bytes behind it, it is as long as its header says
 abbrev pub IsBox : BoxTree → List ℕ → Type 0
-IsBox b rest = IsHeader b.header × (said_size b.header (length (print_box b ++ rest)) ≡ length (print_box b))
+IsBox b rest =
+    IsHeader b.header × (said_size b.header (length (print_box b ++ rest)) ≡ length (print_box b))
 
 -- what a reader gives for a box
 abbrev pub box_part : BoxTree → Part
@@ -61,8 +63,8 @@ abbrev pub AreBoxes : List BoxTree → List ℕ → Type 0
 AreBoxes [] rest = ⊤
 AreBoxes (b ∷ bs) rest = IsBox b (flat_map print_box bs ++ rest) × AreBoxes bs rest
 
--- bytes that begin no box: fewer than a header has, a box that is longer than they are, or a size under
--- that of the header
+-- bytes that begin no box: fewer than a header has, a box that is longer than they are, or a size
+-- under that of the header
 pub data NoBox : Type 0 where
   cut : List ℕ → NoBox
   cut_large : List ℕ → List ℕ → List ℕ → NoBox
@@ -79,10 +81,12 @@ print_no_box (too_short h bytes) = print_header h ++ bytes
 -- they begin no box in that way
 abbrev pub IsNoBox : NoBox → Type 0
 IsNoBox (cut bytes) = (0 < length bytes) × (length bytes < 8)
-IsNoBox (cut_large one type bytes) = (length one ≡ 4) × (length type ≡ 4) × (big_number 4 one ≡ 1) × (length bytes < 8)
+IsNoBox (cut_large one type bytes) =
+    (length one ≡ 4) × (length type ≡ 4) × (big_number 4 one ≡ 1) × (length bytes < 8)
 IsNoBox (too_long h bytes) =
     IsHeader h × (length (print_header h ++ bytes) < said_size h (length (print_header h ++ bytes)))
-IsNoBox (too_short h bytes) = IsHeader h × (said_size h (length (print_header h ++ bytes)) < length (print_header h))
+IsNoBox (too_short h bytes) =
+    IsHeader h × (said_size h (length (print_header h ++ bytes)) < length (print_header h))
 
 -- why they are refused
 abbrev pub no_box_refusal : NoBox → Refusal
@@ -111,8 +115,8 @@ abbrev pub parent_parts : Parent → Parts
 parent_parts (filled bs) = record { whole = map box_part bs; fault = None }
 parent_parts (broken bs end) = record { whole = map box_part bs; fault = Some (no_box_refusal end) }
 
--- boxes that are counted: all of them, and then any bytes; or fewer, and then bytes that begin no box, or
--- no more bytes
+-- boxes that are counted: all of them, and then any bytes; or fewer, and then bytes that begin no
+-- box, or no more bytes
 pub data Counted : Type 0 where
   all : List BoxTree → List ℕ → Counted
   cut_off : List BoxTree → NoBox → Counted
@@ -133,7 +137,8 @@ IsCounted n (too_few bs) = (length bs < n) × AreBoxes bs []
 -- what a reader gives for them
 abbrev pub counted_parts : Counted → Parts
 counted_parts (all bs rest) = record { whole = map box_part bs; fault = None }
-counted_parts (cut_off bs end) = record { whole = map box_part bs; fault = Some (no_box_refusal end) }
+counted_parts (cut_off bs end) =
+    record { whole = map box_part bs; fault = Some (no_box_refusal end) }
 counted_parts (too_few bs) = record { whole = map box_part bs; fault = Some too_small }
 
 -- a box is read as its tree says, and the bytes behind it are left
@@ -142,11 +147,15 @@ BoxIsRead b rest = IsBox b rest → box_at (print_box b ++ rest) ≡ Ok (box_par
 
 -- a box that is read is that of a tree
 abbrev pub IsABox : List ℕ → Part → List ℕ → Type 0
-IsABox text p rest = box_at text ≡ Ok (p, rest) → (b : BoxTree) × IsBox b rest × (box_part b ≡ p) × (text ≡ print_box b ++ rest)
+IsABox text p rest =
+    box_at text ≡ Ok (p, rest) → (b : BoxTree) × IsBox b rest × (box_part b ≡ p)
+    × (text ≡ print_box b ++ rest)
 
 -- as many boxes as are counted are read, whatever follows them
 abbrev pub CountedAreRead : List BoxTree → List ℕ → Type 0
-CountedAreRead bs rest = AreBoxes bs rest → boxes (length bs) (flat_map print_box bs ++ rest) ≡ record { whole = map box_part bs; fault = None }
+CountedAreRead bs rest =
+    AreBoxes bs rest → boxes (length bs) (flat_map print_box bs
+    ++ rest) ≡ record { whole = map box_part bs; fault = None }
 
 -- a count of boxes is read as its tree says
 abbrev pub CountIsRead : ℕ → Counted → Type 0

@@ -18,11 +18,13 @@ pass_at n text = if nat_lt (length text) n then Err too_small else Ok (tt, drop 
 
 -- the number in the first n bytes
 abbrev pub number_at : ℕ → List ℕ → Front ℕ
-number_at n text = if nat_lt (length text) n then Err too_small else Ok (big_number n text, drop n text)
+number_at n text =
+    if nat_lt (length text) n then Err too_small else Ok (big_number n text, drop n text)
 
 -- the version of a full box: a byte, with 3 bytes of flags behind it
 abbrev pub version_at : List ℕ → Front ℕ
-version_at text = if nat_lt (length text) 4 then Err too_small else Ok (slice_index text 0, drop 4 text)
+version_at text =
+    if nat_lt (length text) 4 then Err too_small else Ok (slice_index text 0, drop 4 text)
 
 -- n values one after the other
 unfoldable pub times : {A : Type 0} → ℕ → (List ℕ → Front A) → List ℕ → Front (List A)
@@ -33,7 +35,8 @@ times (suc n) value text = do
   Ok (x.0 ∷ xs.0, xs.1)
 
 -- what n values one after the other give, joined
-abbrev pub times_joined : {A : Type 0} → ℕ → (List ℕ → Front (List A)) → List ℕ → Result (List A) Refusal
+abbrev pub times_joined : {A : Type 0} → ℕ → (List ℕ → Front (List A)) → List ℕ
+    → Result (List A) Refusal
 times_joined n value text = do
   found ← times n value text
   Ok (flat_map (λ xs. xs) found.0)
@@ -62,7 +65,10 @@ header_len text = if big_number 4 text == 1 then 16 else 8
 unfoldable pub header_at : List ℕ → Front Header
 header_at text =
     if nat_lt (box_size text) (header_len text) then Err invalid_size else
-    Ok (record { kind = kind_of (take 4 (drop 4 text)); len = box_size text - header_len text }, drop (header_len text) text)
+    Ok (
+      record { kind = kind_of (take 4 (drop 4 text)); len = box_size text - header_len text },
+      drop (header_len text) text,
+    )
 
 -- a box at the front of a text
 unfoldable pub box_at : List ℕ → Front Part
@@ -117,16 +123,19 @@ abbrev pub bodies : Kind → Parts → List (List ℕ)
 bodies kind parts = map (λ p. p.body) (filter (λ p. same_kind kind p.kind) parts.whole)
 
 -- what `read` gives for a box, where it has the type
-abbrev pub read_one : {A : Type 0} → Kind → (List ℕ → Result (List A) Refusal) → Part → Result (List A) Refusal
+abbrev pub read_one : {A : Type 0} → Kind → (List ℕ → Result (List A) Refusal) → Part
+    → Result (List A) Refusal
 read_one kind read p = if same_kind kind p.kind then read p.body else Ok []
 
 -- what `read` gives for the boxes of a type, where they stand, joined, or the first refusal
-abbrev pub read_each : {A : Type 0} → Kind → (List ℕ → Result (List A) Refusal) → Parts → Result (List A) Refusal
+abbrev pub read_each : {A : Type 0} → Kind → (List ℕ → Result (List A) Refusal) → Parts
+    → Result (List A) Refusal
 read_each kind read parts = do
   found ← joined read (bodies kind parts)
   whole ← unless_refused parts.fault
   Ok found
 
 -- the last of what `read` gives for the boxes of a type among the first n, or the one from before
-abbrev pub from_count : {A : Type 0} → Kind → (List ℕ → Result (List A) Refusal) → Option A → ℕ → List ℕ → Result (Option A) Refusal
+abbrev pub from_count : {A : Type 0} → Kind → (List ℕ → Result (List A) Refusal) → Option A → ℕ
+    → List ℕ → Result (Option A) Refusal
 from_count kind read found n text = last_read found (read_each kind read (boxes n text))

@@ -1,5 +1,5 @@
--- The boxes of a HEIF file up to its `meta`, as their standards write them (ISO/IEC 14496-12:2015, 4.2, 4.3,
--- 8.11.1; ISO/IEC 23008-12:2017, B.4): trees, their bytes, and what makes them valid.
+-- The boxes of a HEIF file up to its `meta`, as their standards write them (ISO/IEC 14496-12:2015,
+-- 4.2, 4.3, 8.11.1; ISO/IEC 23008-12:2017, B.4): trees, their bytes, and what makes them valid.
 use Rattle.std.specs.Prelude.{◌≡◌, ◌≢◌, ◌⊎◌, ℕ, ◌-◌, ◌<◌, ◌≤◌, ◌^◌, nat_le, if◌then◌else◌, Bool, true, false, List, [], ◌∷◌, ◌++◌, length, map, codes, None, Result, Ok, Err, ⊤}
 use Rattle.std.specs.List.{All, flat_map, list_any}
 use Rattle.exif_types.specs.Refusals.{Refusal}
@@ -19,13 +19,17 @@ said_len h bytes = said_size h (length (print_header h ++ bytes)) - length (prin
 abbrev pub end_parts : NoBox → Parts
 end_parts (cut bytes) = ended broken_file
 end_parts (cut_large one type bytes) = ended broken_file
-end_parts (too_long h bytes) = record { whole = record { kind = kind_of (type_of h); len = said_len h bytes; body = bytes } ∷ []; fault = None }
+end_parts (too_long h bytes) = record {
+  whole = record { kind = kind_of (type_of h); len = said_len h bytes; body = bytes } ∷ [];
+  fault = None;
+}
 end_parts (too_short h bytes) = ended invalid_size
 
 -- what a reader gives for the boxes of a file
 abbrev pub file_parts : Parent → Parts
 file_parts (filled bs) = record { whole = map box_part bs; fault = None }
-file_parts (broken bs end) = record { whole = map box_part bs ++ (end_parts end).whole; fault = (end_parts end).fault }
+file_parts (broken bs end) =
+    record { whole = map box_part bs ++ (end_parts end).whole; fault = (end_parts end).fault }
 
 -- the boxes of a file are read as their tree says
 abbrev pub FileBoxesAreRead : Parent → Type 0
@@ -33,8 +37,8 @@ FileBoxesAreRead p = IsParent p → file_boxes (print_parent p) ≡ file_parts p
 
 -- ---- what an `ftyp` lists: eight bytes, and then brands of four bytes
 
--- brands, one of HEIF, and any bytes; brands that are none of HEIF, and fewer than four bytes; or fewer than
--- eight bytes
+-- brands, one of HEIF, and any bytes; brands that are none of HEIF, and fewer than four bytes; or
+-- fewer than eight bytes
 pub data BrandsTree : Type 0 where
   known : List ℕ → List (List ℕ) → List ℕ → List ℕ → BrandsTree
   unknown : List ℕ → List (List ℕ) → List ℕ → BrandsTree
@@ -61,8 +65,10 @@ pub record IsForeign (brand : List ℕ) : Type 0 where
 
 -- the tree is valid: its fields have their lengths, and its brands are what it says
 abbrev pub AreBrands : BrandsTree → Type 0
-AreBrands (known front brands brand rest) = (length front ≡ 8) × All IsForeign brands × IsHeifBrand brand
-AreBrands (unknown front brands rest) = (length front ≡ 8) × All IsForeign brands × (length rest < 4)
+AreBrands (known front brands brand rest) =
+    (length front ≡ 8) × All IsForeign brands × IsHeifBrand brand
+AreBrands (unknown front brands rest) =
+    (length front ≡ 8) × All IsForeign brands × (length rest < 4)
 AreBrands (short bytes) = length bytes < 8
 
 -- whether the brands are accepted, or why not
@@ -73,7 +79,8 @@ brands_say (short bytes) = Err too_small
 
 -- the tree of these bytes says this
 abbrev pub BrandsSay : List ℕ → Result (Unit {0}) Refusal → Type 0
-BrandsSay bytes said = (t : BrandsTree) × AreBrands t × (print_brands t ≡ bytes) × (brands_say t ≡ said)
+BrandsSay bytes said =
+    (t : BrandsTree) × AreBrands t × (print_brands t ≡ bytes) × (brands_say t ≡ said)
 
 -- the brands of a valid tree are checked as it says
 abbrev pub BrandsAreChecked : BrandsTree → Type 0
@@ -97,7 +104,8 @@ IsFtyp h = type_of h ≡ codes "ftyp"
 abbrev pub IsOther : BoxHeader → Type 0
 IsOther h = (type_of h ≢ codes "ftyp") × (type_of h ≢ codes "meta")
 
--- a box that is passed over: an `ftyp` with a brand of HEIF, or one of another type that is not too large
+-- a box that is passed over: an `ftyp` with a brand of HEIF, or one of another type that is not too
+-- large
 pub data Passed : Type 0 where
   ftyp : BoxTree → Passed
   other : BoxTree → Passed
@@ -124,10 +132,12 @@ print_passed p = print_box (passed_box p)
 -- boxes that are passed over, with these bytes behind them
 abbrev pub ArePassed : List Passed → List ℕ → Type 0
 ArePassed [] rest = ⊤
-ArePassed (p ∷ ps) rest = IsBox (passed_box p) (flat_map print_passed ps ++ rest) × IsPassed p × ArePassed ps rest
+ArePassed (p ∷ ps) rest =
+    IsBox (passed_box p) (flat_map print_passed ps ++ rest) × IsPassed p × ArePassed ps rest
 
--- what ends them: the `meta`, an `ftyp` that is refused or a box that is too large, each whole and with any
--- bytes behind it; one that is longer than the file; bytes that begin no box; or no more bytes
+-- what ends them: the `meta`, an `ftyp` that is refused or a box that is too large, each whole and
+-- with any bytes behind it; one that is longer than the file; bytes that begin no box; or no more
+-- bytes
 pub data FileEnd : Type 0 where
   meta : BoxTree → List ℕ → FileEnd
   wrong_ftyp : BoxTree → Refusal → List ℕ → FileEnd
@@ -181,7 +191,8 @@ end_says seen (wrong_ftyp b r rest) = Err r
 end_says seen (large b rest) = Err seek_too_large
 end_says seen (cut_meta h bytes) = if seen then Err broken_file else Err meta_before_ftyp
 end_says seen (cut_ftyp h bytes) = Err broken_file
-end_says seen (cut_other h bytes) = if nat_le (2 ^ 63) (said_len h bytes) then Err seek_too_large else Err no_exif
+end_says seen (cut_other h bytes) =
+    if nat_le (2 ^ 63) (said_len h bytes) then Err seek_too_large else Err no_exif
 end_says seen (no_header end) = Err (headless_refusal end)
 end_says seen no_meta = Err no_exif
 

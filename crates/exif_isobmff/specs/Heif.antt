@@ -10,7 +10,8 @@ use Rattle.exif_isobmff.specs.Items.{exif_numbers}
 use Rattle.exif_isobmff.specs.Places.{locations, item_bytes}
 use Rattle.exif_isobmff.specs.HeifFile.{meta_body}
 
--- what counts among the children of `meta`: the last Exif item over all `iinf`, the last `iloc` and the last `idat`
+-- what counts among the children of `meta`: the last Exif item over all `iinf`, the last `iloc` and
+-- the last `idat`
 pub record Tables : Type 0 where
   pub item : Option ℕ
   pub iloc : Option (List ℕ)
@@ -20,7 +21,11 @@ pub record Tables : Type 0 where
 abbrev pub tables_of : Parts → Result Tables Refusal
 tables_of parts = do
   item ← last_read None (read_each ItemInfo exif_numbers parts)
-  Ok (record { item = item; iloc = last_or None (bodies ItemLocation parts); idat = last_or None (bodies ItemData parts) })
+  Ok (record {
+    item = item;
+    iloc = last_or None (bodies ItemLocation parts);
+    idat = last_or None (bodies ItemData parts);
+  })
 
 -- `meta` is a full box of version 0, and then boxes
 unfoldable pub meta_tables : List ℕ → Result Tables Refusal

@@ -13,7 +13,10 @@ use Rattle.exif_isobmff.specs.Boxes.{Part, Parts, header_len, header_at, all_box
 unfoldable pub file_box_at : List ℕ → Front Part
 file_box_at file = if nat_le (header_len file) (length file) then (do
   header ← header_at file
-  Ok (record { kind = header.0.kind; len = header.0.len; body = take header.0.len header.1 }, drop header.0.len header.1)) else Err broken_file
+  Ok (
+    record { kind = header.0.kind; len = header.0.len; body = take header.0.len header.1 },
+    drop header.0.len header.1,
+  )) else Err broken_file
 
 -- the boxes of a file
 abbrev pub file_boxes : List ℕ → Parts
@@ -35,7 +38,8 @@ has_heif_brand body = list_any is_heif_brand (fours (drop 8 body))
 -- whether `ftyp` has a brand
 abbrev pub brand_checked : List ℕ → Result (Unit {0}) Refusal
 brand_checked body =
-    if nat_lt (length body) 8 then Err too_small else (if has_heif_brand body then Ok tt else Err no_brand)
+    if nat_lt (length body) 8 then Err too_small else
+    (if has_heif_brand body then Ok tt else Err no_brand)
 
 -- whether a box is a `meta`
 abbrev pub is_meta : Part → Bool
@@ -49,10 +53,12 @@ is_ftyp p = same_kind FileType p.kind
 abbrev pub whole : ℕ → List ℕ → Result (List ℕ) Refusal
 whole len body = if nat_lt (length body) len then Err broken_file else Ok body
 
--- a box before `meta`, of this type, length and body: an `ftyp` has a brand, any other is passed over, also past the end
+-- a box before `meta`, of this type, length and body: an `ftyp` has a brand, any other is passed
+-- over, also past the end
 abbrev pub checked : Kind → ℕ → List ℕ → Result (Unit {0}) Refusal
 checked kind len body =
-    if same_kind FileType kind then whole len body >>= brand_checked else (if nat_le (2 ^ 63) len then Err seek_too_large else Ok tt)
+    if same_kind FileType kind then whole len body >>= brand_checked else
+    (if nat_le (2 ^ 63) len then Err seek_too_large else Ok tt)
 
 -- the boxes before the first `meta`
 abbrev pub before_meta : List Part → List Part

@@ -111,7 +111,8 @@ abbrev pub heif_refusals : List Refusal
 heif_refusals =
     broken_file ∷ invalid_size ∷ seek_too_large ∷ no_brand ∷ meta_before_ftyp
     ∷ too_small ∷ unsupported_meta ∷ unsupported_infe ∷ unsupported_iloc ∷ external_data
-    ∷ invalid_base_size ∷ invalid_index_size ∷ invalid_offset_size ∷ invalid_length_size ∷ no_matching_item
+    ∷ invalid_base_size ∷ invalid_index_size ∷ invalid_offset_size ∷ invalid_length_size
+    ∷ no_matching_item
     ∷ no_iloc ∷ no_exif ∷ invalid_offset ∷ no_idat ∷ invalid_length
     ∷ out_of_idat ∷ by_item_offset ∷ invalid_method ∷ data_too_large ∷ block_too_small
     ∷ invalid_header_offset ∷ []

@@ -1,5 +1,5 @@
--- Item information and the Exif item as their standards write them (ISO/IEC 14496-12:2015, 4.2, 8.11.6;
--- ISO/IEC 23008-12:2017, A.2.1): trees, their bytes, and what makes them valid.
+-- Item information and the Exif item as their standards write them (ISO/IEC 14496-12:2015, 4.2,
+-- 8.11.6; ISO/IEC 23008-12:2017, A.2.1): trees, their bytes, and what makes them valid.
 use Rattle.std.specs.Prelude.{◌≡◌, ◌≢◌, ◌⊎◌, ℕ, ◌<◌, List, [], ◌∷◌, ◌++◌, length, codes, Result, Ok, Err}
 use Rattle.byteorder.specs.Endian.{big_number}
 use Rattle.exif_types.specs.Refusals.{Refusal}
@@ -25,8 +25,8 @@ IsFull h = length h.flags ≡ 3
 
 -- ---- an entry: what one item is
 
--- an entry of an Exif item: its number, two bytes of protection, `Exif`, and any bytes; one of another
--- type; one of a version that is not read; or one that ends early
+-- an entry of an Exif item: its number, two bytes of protection, `Exif`, and any bytes; one of
+-- another type; one of a version that is not read; or one that ends early
 pub data EntryTree : Type 0 where
   exif : FullHead → List ℕ → List ℕ → List ℕ → EntryTree
   other : FullHead → List ℕ → List ℕ → List ℕ → List ℕ → EntryTree
@@ -36,8 +36,10 @@ pub data EntryTree : Type 0 where
 
 -- the bytes of an entry
 abbrev pub print_entry : EntryTree → List ℕ
-print_entry (exif h number protection rest) = print_full h (number ++ (protection ++ (codes "Exif" ++ rest)))
-print_entry (other h number protection type rest) = print_full h (number ++ (protection ++ (type ++ rest)))
+print_entry (exif h number protection rest) =
+    print_full h (number ++ (protection ++ (codes "Exif" ++ rest)))
+print_entry (other h number protection type rest) =
+    print_full h (number ++ (protection ++ (type ++ rest)))
 print_entry (unsupported h rest) = print_full h rest
 print_entry (cut_head bytes) = bytes
 print_entry (cut_entry h bytes) = print_full h bytes
@@ -48,9 +50,11 @@ HasNumber version len = ((version ≡ 2) × (len ≡ 2)) ⊎ ((version ≡ 3) ×
 
 -- the tree is valid: its fields have their lengths, and its version is what it says
 abbrev pub IsEntry : EntryTree → Type 0
-IsEntry (exif h number protection rest) = IsFull h × HasNumber h.version (length number) × (length protection ≡ 2)
+IsEntry (exif h number protection rest) =
+    IsFull h × HasNumber h.version (length number) × (length protection ≡ 2)
 IsEntry (other h number protection type rest) =
-    IsFull h × HasNumber h.version (length number) × (length protection ≡ 2) × (length type ≡ 4) × (type ≢ codes "Exif")
+    IsFull h × HasNumber h.version (length number) × (length protection ≡ 2)
+    × (length type ≡ 4) × (type ≢ codes "Exif")
 IsEntry (unsupported h rest) = IsFull h × (h.version ≢ 2) × (h.version ≢ 3)
 IsEntry (cut_head bytes) = length bytes < 4
 IsEntry (cut_entry h bytes) =
@@ -92,7 +96,8 @@ HasCount version len = ((version ≡ 0) × (len ≡ 2)) ⊎ ((version ≢ 0) × 
 
 -- the tree is valid: its count has its length and counts its boxes
 abbrev pub IsInfo : InfoTree → Type 0
-IsInfo (info h count boxes) = IsFull h × HasCount h.version (length count) × IsCounted (big_number (length count) count) boxes
+IsInfo (info h count boxes) =
+    IsFull h × HasCount h.version (length count) × IsCounted (big_number (length count) count) boxes
 IsInfo (cut_head bytes) = length bytes < 4
 IsInfo (cut_count h bytes) =
     IsFull h × (((h.version ≡ 0) × (length bytes < 2)) ⊎ ((h.version ≢ 0) × (length bytes < 4)))
@@ -113,8 +118,8 @@ IsAnInfo bytes = (t : InfoTree) × IsInfo t × (print_info t ≡ bytes)
 
 -- ---- the Exif item
 
--- four bytes that spell a length, so many bytes that are skipped, and the Exif data; fewer than four bytes;
--- or a length over what is left
+-- four bytes that spell a length, so many bytes that are skipped, and the Exif data; fewer than
+-- four bytes; or a length over what is left
 pub data BlockTree : Type 0 where
   block : List ℕ → List ℕ → List ℕ → BlockTree
   short : List ℕ → BlockTree
@@ -128,7 +133,8 @@ print_block (over number bytes) = number ++ bytes
 
 -- the tree is valid: its fields have their lengths
 abbrev pub IsBlock : BlockTree → Type 0
-IsBlock (block number skipped payload) = (length number ≡ 4) × (length skipped ≡ big_number 4 number)
+IsBlock (block number skipped payload) =
+    (length number ≡ 4) × (length skipped ≡ big_number 4 number)
 IsBlock (short bytes) = length bytes < 4
 IsBlock (over number bytes) = (length number ≡ 4) × (length bytes < big_number 4 number)
 

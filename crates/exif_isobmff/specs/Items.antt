@@ -20,7 +20,8 @@ exif_number body = do
   type ← bytes_at 4 protection.1
   Ok (if bytes_eq type.0 (codes "Exif") then number.0 ∷ [] else [])
 
--- the numbers of the Exif items that an `iinf` box names: it counts its boxes, whatever follows them
+-- the numbers of the Exif items that an `iinf` box names: it counts its boxes, whatever follows
+-- them
 unfoldable pub exif_numbers : List ℕ → Result (List ℕ) Refusal
 exif_numbers body = do
   version ← version_at body

@@ -1,5 +1,5 @@
--- Item locations, and an item as its extents, as the standard writes them (ISO/IEC 14496-12:2015, 8.11.3):
--- trees, their bytes, and what makes them valid.
+-- Item locations, and an item as its extents, as the standard writes them (ISO/IEC 14496-12:2015,
+-- 8.11.3): trees, their bytes, and what makes them valid.
 use Rattle.std.specs.Prelude.{◌≡◌, ◌⊎◌, ℕ, ◌+◌, ◌*◌, ◌%◌, ◌^◌, ◌<◌, ◌≤◌, ◌==◌, if◌then◌else◌, List, [], ◌∷◌, ◌++◌, length, map, slice_index, Result, Ok, ⊤}
 use Rattle.std.specs.List.{All, flat_map}
 use Rattle.byteorder.specs.Endian.{big_number}
@@ -35,9 +35,10 @@ pub record IsExtent (s : Sizes) (e : ExtentTree) : Type 0 where
 
 -- the extent that the fields spell
 abbrev pub extent_of : ExtentTree → Extent
-extent_of e = record { offset = big_number (length e.offset) e.offset; len = big_number (length e.len) e.len }
+extent_of e =
+    record { offset = big_number (length e.offset) e.offset; len = big_number (length e.len) e.len }
 
--- ---- an item: its number, how it is put together, where its data are, a base, a count, and its extents
+-- ---- an item: its number, its construction, where its data are, a base, a count, and its extents
 
 -- the fields of an item
 pub record PlaceTree : Type 0 where
@@ -50,7 +51,9 @@ pub record PlaceTree : Type 0 where
 
 -- the bytes of an item
 abbrev pub print_place : PlaceTree → List ℕ
-print_place p = p.number ++ (p.method ++ (p.reference ++ (p.base ++ (p.count ++ flat_map print_extent p.extents))))
+print_place p =
+    p.number ++ (p.method
+    ++ (p.reference ++ (p.base ++ (p.count ++ flat_map print_extent p.extents))))
 
 -- a number of items, or an item's own, has four bytes in version 2, and else two
 abbrev pub number_len : ℕ → ℕ
@@ -79,16 +82,22 @@ pub record IsPlace (wanted version : ℕ) (s : Sizes) (p : PlaceTree) : Type 0 w
   pub count : length p.count ≡ 2
   pub counted : big_number 2 p.count ≡ length p.extents
   pub extents : All (IsExtent s) p.extents
-  pub sized : IsWanted wanted p → 0 < length p.extents → IsSize s.index × IsSize s.offset × IsSize s.len
+  pub sized : IsWanted wanted p → 0 < length p.extents
+      → IsSize s.index × IsSize s.offset × IsSize s.len
 
 -- the place that the fields spell
 abbrev pub place_of : ℕ → PlaceTree → Place
 place_of version p =
-    record { method = method_said version p.method; base = big_number (length p.base) p.base; extents = map extent_of p.extents }
+    record {
+      method = method_said version p.method;
+      base = big_number (length p.base) p.base;
+      extents = map extent_of p.extents;
+    }
 
 -- where the item is, if it is the wanted one
 abbrev pub place_said : ℕ → ℕ → PlaceTree → List Place
-place_said wanted version p = if big_number (length p.number) p.number == wanted then place_of version p ∷ [] else []
+place_said wanted version p =
+    if big_number (length p.number) p.number == wanted then place_of version p ∷ [] else []
 
 -- ---- an `iloc`: two bytes of sizes, a count, items, and any bytes
 
@@ -103,7 +112,8 @@ pub record PlacesTree : Type 0 where
 
 -- the bytes of an `iloc`
 abbrev pub print_places : PlacesTree → List ℕ
-print_places t = print_full t.head (t.packed ++ (t.count ++ (flat_map print_place t.places ++ t.rest)))
+print_places t =
+    print_full t.head (t.packed ++ (t.count ++ (flat_map print_place t.places ++ t.rest)))
 
 -- two bytes spell four numbers of 4 bits
 pub record ArePacked (packed : List ℕ) (s : Sizes) : Type 0 where
@@ -115,7 +125,14 @@ pub record ArePacked (packed : List ℕ) (s : Sizes) : Type 0 where
 
 -- in version 0 an extent has no index
 abbrev pub sizes_in : ℕ → Sizes → Sizes
-sizes_in version s = record { offset = s.offset; len = s.len; base = s.base; index = if version == 0 then 0 else s.index }
+sizes_in version s =
+    record {
+      offset = s.offset;
+      len = s.len;
+      base = s.base;
+      index = if version == 0 then 0 else
+          s.index;
+    }
 
 -- the tree is valid: its fields have their lengths, and its count counts its items
 pub record ArePlaces (wanted : ℕ) (t : PlacesTree) : Type 0 where
@@ -132,12 +149,14 @@ places_said wanted t = flat_map (place_said wanted t.head.version) t.places
 
 -- the bytes of a valid `iloc` give the places of the wanted item that its tree says
 abbrev pub PlacesAreRead : ℕ → PlacesTree → Type 0
-PlacesAreRead wanted t = ArePlaces wanted t → locations wanted (print_places t) ≡ Ok (places_said wanted t)
+PlacesAreRead wanted t =
+    ArePlaces wanted t → locations wanted (print_places t) ≡ Ok (places_said wanted t)
 
 -- an `iloc` that is read is that of a tree
 abbrev pub IsAPlaces : ℕ → List ℕ → List Place → Type 0
 IsAPlaces wanted body places =
-    locations wanted body ≡ Ok places → (t : PlacesTree) × ArePlaces wanted t × (places_said wanted t ≡ places) × (print_places t ≡ body)
+    locations wanted body ≡ Ok places → (t : PlacesTree) × ArePlaces wanted t
+    × (places_said wanted t ≡ places) × (print_places t ≡ body)
 
 -- ---- the text of an extent
 
@@ -163,21 +182,25 @@ IsFileText file from len text =
 -- in `idat`: length 0 runs to the end, which it may not begin past
 abbrev pub IsIdatText : List ℕ → ℕ → ℕ → List ℕ → Type 0
 IsIdatText idat from len text =
-    ((len ≡ 0) × RunsToEnd idat from text) ⊎ ((0 < len) × (length text ≡ len) × StandsAt idat from text)
+    ((len ≡ 0) × RunsToEnd idat from text)
+    ⊎ ((0 < len) × (length text ≡ len) × StandsAt idat from text)
 
 -- places have 64 bits
 abbrev pub IsText : Within → List ℕ → ℕ → Extent → List ℕ → Type 0
-IsText File bytes base e text = (base + e.offset < 2 ^ 64) × IsFileText bytes (base + e.offset) e.len text
+IsText File bytes base e text =
+    (base + e.offset < 2 ^ 64) × IsFileText bytes (base + e.offset) e.len text
 IsText ItemDataBox bytes base e text =
     (base + e.offset + e.len < 2 ^ 64) × IsIdatText bytes (base + e.offset) e.len text
 
 -- an extent is read as the text that stands there
 abbrev pub TextIsRead : Within → List ℕ → ℕ → Extent → List ℕ → Type 0
-TextIsRead within bytes base e text = IsText within bytes base e text → extent_bytes within bytes base e ≡ Ok text
+TextIsRead within bytes base e text =
+    IsText within bytes base e text → extent_bytes within bytes base e ≡ Ok text
 
 -- what is read of an extent stands there
 abbrev pub IsAText : Within → List ℕ → ℕ → Extent → List ℕ → Type 0
-IsAText within bytes base e text = extent_bytes within bytes base e ≡ Ok text → IsText within bytes base e text
+IsAText within bytes base e text =
+    extent_bytes within bytes base e ≡ Ok text → IsText within bytes base e text
 
 -- ---- an item: the texts of its extents, one after the other
 
@@ -197,9 +220,12 @@ joined_texts texts = flat_map (λ text. text) texts
 
 -- texts of at most 65,535 bytes together are the item
 abbrev pub ItemIsJoined : ExtentBytes → List Extent → List (List ℕ) → Type 0
-ItemIsJoined bytes_of es texts = AreTexts bytes_of es texts → length (joined_texts texts) ≤ 65535 → gathered bytes_of [] es ≡ Ok (joined_texts texts)
+ItemIsJoined bytes_of es texts =
+    AreTexts bytes_of es texts → length (joined_texts texts) ≤ 65535
+    → gathered bytes_of [] es ≡ Ok (joined_texts texts)
 
 -- an item that is read is its extents' texts
 abbrev pub IsAnItem : ExtentBytes → List Extent → List ℕ → Type 0
 IsAnItem bytes_of es item =
-    gathered bytes_of [] es ≡ Ok item → (texts : List (List ℕ)) × AreTexts bytes_of es texts × (length (joined_texts texts) ≤ 65535) × (joined_texts texts ≡ item)
+    gathered bytes_of [] es ≡ Ok item → (texts : List (List ℕ)) × AreTexts bytes_of es texts
+    × (length (joined_texts texts) ≤ 65535) × (joined_texts texts ≡ item)

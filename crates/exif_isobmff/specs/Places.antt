@@ -13,7 +13,14 @@ use Rattle.exif_isobmff.specs.Boxes.{bytes_at, pass_at, number_at, version_at, t
 
 -- how many bytes the fields of an item take: 4 bits each
 abbrev pub sizes : ℕ → ℕ → Sizes
-sizes version n = record { offset = n / 4096; len = n / 256 % 16; base = n / 16 % 16; index = if version == 0 then 0 else n % 16 }
+sizes version n =
+    record {
+      offset = n / 4096;
+      len = n / 256 % 16;
+      base = n / 16 % 16;
+      index = if version == 0
+          then 0 else n % 16;
+    }
 
 -- how many bytes an item's number takes in a version, and how many items' count
 abbrev pub item_width : ℕ → ℕ
@@ -21,7 +28,8 @@ item_width version = if version == 2 then 4 else 2
 
 -- a number of 0, 4 or 8 bytes
 abbrev pub sized_at : Refusal → ℕ → List ℕ → Front ℕ
-sized_at refusal size text = if (size == 0) || (size == 4) || (size == 8) then number_at size text else Err refusal
+sized_at refusal size text =
+    if (size == 0) || (size == 4) || (size == 8) then number_at size text else Err refusal
 
 -- index, offset and length; the index says nothing here
 unfoldable pub extent_at : Sizes → List ℕ → Front Extent
@@ -57,7 +65,8 @@ item_head_at version s text = do
   number ← number_at (item_width version) text
   method ← method_at version number.1
   reference ← number_at 2 method.1
-  base ← if (method.0 == 0) && not (reference.0 == 0) then Err external_data else sized_at invalid_base_size s.base reference.1
+  base ← if (method.0 == 0) && not (reference.0 == 0) then Err external_data else
+      sized_at invalid_base_size s.base reference.1
   count ← number_at 2 base.1
   Ok (record { number = number.0; method = method.0; base = base.0; count = count.0 }, count.1)
 
@@ -68,7 +77,10 @@ location_at wanted version s text = do
   if head.0.number == wanted
       then (do
         extents ← times head.0.count (extent_at s) head.1
-        Ok (record { method = head.0.method; base = head.0.base; extents = extents.0 } ∷ [], extents.1))
+        Ok (
+          record { method = head.0.method; base = head.0.base; extents = extents.0 } ∷ [],
+          extents.1,
+        ))
       else (do
         passed ← pass_at ((s.index + s.offset + s.len) * head.0.count) head.1
         Ok ([], passed.1))
@@ -78,7 +90,8 @@ unfoldable pub locations : ℕ → List ℕ → Result (List Place) Refusal
 locations wanted body = do
   version ← version_at body
   packed ← number_at 2 version.1
-  count ← if nat_lt 2 version.0 then Err unsupported_iloc else number_at (item_width version.0) packed.1
+  count ← if nat_lt 2 version.0 then Err unsupported_iloc else
+      number_at (item_width version.0) packed.1
   times_joined count.0 (location_at wanted version.0 (sizes version.0 packed.0)) count.1
 
 -- the bytes of an extent of the file; length 0 runs to its end
@@ -87,7 +100,8 @@ file_extent file base e =
     let from = base + e.offset in
     if nat_le (2 ^ 64) from then Err invalid_offset else
     (if e.len == 0 then Ok (drop from file) else
-    (if nat_lt (length file) (from + e.len) then Err broken_file else Ok (take e.len (drop from file))))
+    (if nat_lt (length file) (from + e.len) then Err broken_file else
+    Ok (take e.len (drop from file))))
 
 -- the bytes of an extent of the data beside the items
 unfoldable pub idat_extent : List ℕ → ℕ → Extent → Result (List ℕ) Refusal
@@ -104,11 +118,13 @@ extent_bytes File bytes base e = file_extent bytes base e
 extent_bytes ItemDataBox bytes base e = idat_extent bytes base e
 
 -- the bytes of extents behind those before; after each there are at most 65,535
-abbrev pub gathered : (Extent → Result (List ℕ) Refusal) → List ℕ → List Extent → Result (List ℕ) Refusal
+abbrev pub gathered : (Extent → Result (List ℕ) Refusal) → List ℕ → List Extent
+    → Result (List ℕ) Refusal
 gathered bytes_of front [] = Ok front
 gathered bytes_of front (e ∷ es) = do
   bytes ← bytes_of e
-  if nat_lt 65535 (length (front ++ bytes)) then Err data_too_large else gathered bytes_of (front ++ bytes) es
+  if nat_lt 65535 (length (front ++ bytes)) then Err data_too_large else
+      gathered bytes_of (front ++ bytes) es
 
 -- the bytes at a place, by how the item is put together
 unfoldable pub item_bytes : List ℕ → Option (List ℕ) → Place → Result (List ℕ) Refusal

@@ -14,7 +14,9 @@ tables_view t = record { item = t.item; iloc = t.iloc; idat = option_map (λ b. 
 
 -- the tables with one more child
 abbrev pub table_with : Kind → List ℕ → Tables → Result Tables Refusal
-table_with ItemInfo body t = last_read t.item (exif_numbers body) >>= λ item. Ok (record { item = item; iloc = t.iloc; idat = t.idat })
+table_with ItemInfo body t =
+    last_read t.item (exif_numbers body)
+    >>= λ item. Ok (record { item = item; iloc = t.iloc; idat = t.idat })
 table_with ItemLocation body t = Ok (record { item = t.item; iloc = Some body; idat = t.idat })
 table_with ItemData body t = Ok (record { item = t.item; iloc = t.iloc; idat = Some body })
 table_with kind body t = Ok t
