@@ -12,9 +12,10 @@ use Rattle.exif_writer.specs.declared.plan.Slot.{Slot}
 use Rattle.exif_writer.specs.declared.plan.Plan.{Plan}
 use Rattle.exif_writer.specs.declared.plan.Source.{Source}
 use Rattle.exif_writer.specs.declared.plan.Source.TheVariants.{Known, PlacesOf, LengthsOf, PlaceOf}
-use Rattle.exif_writer.specs.Sending.{lens, texts_of, block_place, context_place, settled, symbol_of, symbol, source_type, source_count, source_size, slot_text, element, value_place, entries_text, slots_text, values_text, blocks_text}
+use Rattle.exif_writer.specs.Sending.{lens, texts_of, block_place, context_place, settled, symbol_of, symbol, source_type, source_count, source_size, slot_text, after_slot, IsSettled, AreSettled, entries_text, slots_text, values_text, blocks_text}
 use Rattle.exif_writer.specs.Plans.{plan_text, plans_text, sent_image}
-use Rattle.exif_writer.specs.Drafts.{places_of, IsPlan, ArePlans}
+use Rattle.exif_writer.specs.Drafts.{places_of, IsPlan, IsSettledPlan, ArePlans}
+use Rattle.exif_writer.proofs.Settling.{zeros_before}
 use Rattle.exif_writer.proofs.Images.Laid.{joined, length_header}
 use Rattle.exif_writer.proofs.Moved.{same_moved, places_length, lens_length}
 use Rattle.exif_base.specs.declared.endian.Order.{Order}
@@ -72,19 +73,21 @@ size_is (PlaceOf context) = refl
 len_is : (places : Places) (source : Source) → value_len (settled places source) ≡ source_size source
 len_is places source = let m = measures places source in λ i. unit (m.type i) * m.count i
 
--- an entry's text, where its value stands at a place if it isn't in the entry
-entry_is : (order : Order) (places : Places) (slot : Slot) (value : Value) (source : format.Source) (place other : ℕ) → settled places slot.source ≡ value
-    → (nat_le (source_size slot.source) 4 ≡ false → place ≡ other)
-    → slot_text order places slot place ≡ entry_text order (record { tag = slot.tag; source = source; value = value; place = other })
-entry_is order places slot value source place other e same =
+-- an entry's text, where its value stands at its place if it isn't in the entry
+entry_is : (order : Order) (places : Places) (slot : Slot) (value : Value) (source : format.Source) (other : ℕ) → settled places slot.source ≡ value
+    → slot.size ≡ source_size slot.source → (nat_le (source_size slot.source) 4 ≡ false → slot.place ≡ other)
+    → slot_text order places slot ≡ entry_text order (record { tag = slot.tag; source = source; value = value; place = other })
+entry_is order places slot value source other e size same =
     let m = measures places slot.source in
     let front : (x : List ℕ) → spelled order 2 slot.tag ++ (spelled order 2 (source_type slot.source) ++ (spelled order 4 (source_count slot.source) ++ x))
     ≡ spelled order 2 slot.tag ++ (spelled order 2 (type_number value) ++ (spelled order 4 (count_of value) ++ x)) =
     λ x i. spelled order 2 slot.tag ++ (spelled order 2 ((sym m.type ∙ ap type_number e) i) ++ (spelled order 4 ((sym m.count ∙ ap count_of e) i) ++ x)) in
     front _ ∙ ap (λ x. spelled order 2 slot.tag ++ (spelled order 2 (type_number value) ++ (spelled order 4 (count_of value) ++ x)))
-    (last (nat_le (source_size slot.source) 4) refl)
+    (ap (λ n. if nat_le n 4 then encode order (settled places slot.source) ++ replicate (4 - n) 0 else spelled order 4 slot.place) size
+    ∙ last (nat_le (source_size slot.source) 4) refl)
   where
-    last : (b : Bool) → nat_le (source_size slot.source) 4 ≡ b → element order places slot.source place
+    last : (b : Bool) → nat_le (source_size slot.source) 4 ≡ b
+        → (if nat_le (source_size slot.source) 4 then encode order (settled places slot.source) ++ replicate (4 - source_size slot.source) 0 else spelled order 4 slot.place)
         ≡ (if nat_le (value_len value) 4 then encode order value ++ replicate (4 - value_len value) 0 else spelled order 4 other)
     last true h =
         let k : value_len value ≡ source_size slot.source = ap value_len (sym e) ∙ len_is places slot.source in
@@ -95,71 +98,77 @@ entry_is order places slot value source place other e same =
         let t : nat_le (value_len value) 4 ≡ false = ap (λ n. nat_le n 4) k ∙ h in
         rw (h, t) (ap (spelled order 4) (same h))
 
+-- slots behind one, settled as images measure
+settled_behind : (start : ℕ) (slot : Slot) (slots : List Slot) → AreSettled (after_slot start slot) slots → AreSettled (after_value start (source_len (symbol_of slot.source))) slots
+settled_behind start slot slots h = let P : ℕ → Type 0 = λ n. AreSettled (after_value start n) slots in subst P (sym (size_is slot.source)) h
+
 -- the entries of a directory
-pub entries_are : (order : Order) (draft : Draft) (start : ℕ) (places : Places) → ArePlaces draft start places → (at values : ℕ) (slots : List Slot)
-    → entries_text order places values slots ≡ flat_map (entry_text order) (written draft start at values (map symbol slots))
-entries_are order draft start places h at values [] = refl
-entries_are order draft start places h at values (slot ∷ slots) =
+pub entries_are : (order : Order) (draft : Draft) (start : ℕ) (places : Places) → ArePlaces draft start places → (at values : ℕ) (slots : List Slot) → AreSettled values slots
+    → entries_text order places slots ≡ flat_map (entry_text order) (written draft start at values (map symbol slots))
+entries_are order draft start places h at values [] s = refl
+entries_are order draft start places h at values (slot ∷ slots) s =
     let size = size_is slot.source in
-    let head : slot_text order places slot (value_place values (source_size slot.source))
+    let head : slot_text order places slot
     ≡ entry_text order (record { tag = slot.tag; source = symbol_of slot.source; value = value_of draft start (symbol_of slot.source); place = if nat_le (source_len (symbol_of slot.source)) 4 then at + 8 else even values }) =
-    entry_is order places slot (value_of draft start (symbol_of slot.source)) (symbol_of slot.source) _ _ (settled_is draft start places h slot.source)
-    (λ (big : nat_le (source_size slot.source) 4 ≡ false). rw (size, big) refl) in
-    (λ i. head i ++ entries_text order places (after_value values ((sym size) i)) slots)
-    ∙ ap (λ r. entry_text order (record { tag = slot.tag; source = symbol_of slot.source; value = value_of draft start (symbol_of slot.source); place = if nat_le (source_len (symbol_of slot.source)) 4 then at + 8 else even values }) ++ r)
-    (entries_are order draft start places h (at + 12) (after_value values (source_len (symbol_of slot.source))) slots)
+    entry_is order places slot (value_of draft start (symbol_of slot.source)) (symbol_of slot.source) _ (settled_is draft start places h slot.source)
+    s.0.size (λ (big : nat_le (source_size slot.source) 4 ≡ false). rw (size, big) (s.0.place big)) in
+    λ i. head i ++ entries_are order draft start places h (at + 12) (after_value values (source_len (symbol_of slot.source))) slots (settled_behind values slot slots s.1) i
 
 -- one value of a directory, and what comes behind it
 value_laid : (order : Order) (draft : Draft) (start : ℕ) (places : Places) → ArePlaces draft start places → (at values : ℕ) (slot : Slot) (slots : List Slot)
-    → IsKnown (symbol_of slot.source)
-    → ((v : ℕ) → laid v (value_parts order (written draft start (at + 12) v (map symbol slots))) ≡ values_text order places v slots)
+    → IsKnown (symbol_of slot.source) → IsSettled values slot
+    → laid (after_slot values slot) (value_parts order (written draft start (at + 12) (after_slot values slot) (map symbol slots))) ≡ values_text order places slots
     → (fits : Bool) → nat_le (source_size slot.source) 4 ≡ fits
-    → laid values (value_parts order (written draft start at values (map symbol (slot ∷ slots)))) ≡ values_text order places values (slot ∷ slots)
-value_laid order draft start places h at values slot slots k more true e =
+    → laid values (value_parts order (written draft start at values (map symbol (slot ∷ slots)))) ≡ values_text order places (slot ∷ slots)
+value_laid order draft start places h at values slot slots k s more true e =
     let size = size_is slot.source in
     let same : nat_le (value_len (value_of draft start (symbol_of slot.source))) 4 ≡ true = ap (λ n. nat_le n 4) (length-value_of draft start (symbol_of slot.source) ∙ size) ∙ e in
-    rw (same, size, e) (more values)
-value_laid order draft start places h at values slot slots k more false e =
+    let inside : nat_le slot.size 4 ≡ true = ap (λ n. nat_le n 4) s.size ∙ e in
+    rw (same, size, e, inside) (rw e at more)
+value_laid order draft start places h at values slot slots k s more false e =
     let size = size_is slot.source in
     let value : Value = value_of draft start (symbol_of slot.source) in
     let same : nat_le (value_len value) 4 ≡ false = ap (λ n. nat_le n 4) (length-value_of draft start (symbol_of slot.source) ∙ size) ∙ e in
+    let outside : nat_le slot.size 4 ≡ false = ap (λ n. nat_le n 4) s.size ∙ e in
     let len : length (encode order value) ≡ source_size slot.source =
     length-encode order value (known_value draft start (symbol_of slot.source) k) ∙ length-value_of draft start (symbol_of slot.source) ∙ size in
     let text : encode order value ≡ encode order (settled places slot.source) = ap (encode order) (sym (settled_is draft start places h slot.source)) in
-    let gap : even values - values ≡ values % 2 = omega arith in
+    let gap : even values - values ≡ (if slot.padded then 1 else 0) =
+    (let twos : even values - values ≡ values % 2 = omega arith in twos ∙ zeros_before values ∙ sym (ap (λ b. if b then 1 else 0) (s.padded e))) in
     let next : even values + length (encode order value) ≡ even values + source_size slot.source = ap (λ n. even values + n) len in
-    rw (same, size, e) (
+    rw (same, size, e, outside) (
     (λ i. replicate (gap i) 0 ++ (text i ++ laid (next i) (value_parts order (written draft start (at + 12) (even values + source_size slot.source) (map symbol slots)))))
-    ∙ ap (λ r. replicate (values % 2) 0 ++ (encode order (settled places slot.source) ++ r)) (more (even values + source_size slot.source))
-    ∙ sym (append_assoc (replicate (values % 2) 0) (encode order (settled places slot.source)) (values_text order places (even values + source_size slot.source) slots)))
+    ∙ ap (λ r. replicate (if slot.padded then 1 else 0) 0 ++ (encode order (settled places slot.source) ++ r)) (rw e at more)
+    ∙ sym (append_assoc (replicate (if slot.padded then 1 else 0) 0) (encode order (settled places slot.source)) (values_text order places slots)))
 
-pub values_are : (order : Order) (draft : Draft) (start : ℕ) (places : Places) → ArePlaces draft start places → (at values : ℕ) (slots : List Slot) → AllKnown (map symbol slots)
-    → laid values (value_parts order (written draft start at values (map symbol slots))) ≡ values_text order places values slots
-values_are order draft start places h at values [] k = refl
-values_are order draft start places h at values (slot ∷ slots) k =
-    value_laid order draft start places h at values slot slots k.0 (λ v. values_are order draft start places h (at + 12) v slots k.1) (nat_le (source_size slot.source) 4) refl
+pub values_are : (order : Order) (draft : Draft) (start : ℕ) (places : Places) → ArePlaces draft start places → (at values : ℕ) (slots : List Slot) → AllKnown (map symbol slots) → AreSettled values slots
+    → laid values (value_parts order (written draft start at values (map symbol slots))) ≡ values_text order places slots
+values_are order draft start places h at values [] k s = refl
+values_are order draft start places h at values (slot ∷ slots) k s =
+    value_laid order draft start places h at values slot slots k.0 s.0 (values_are order draft start places h (at + 12) (after_slot values slot) slots k.1 s.1)
+    (nat_le (source_size slot.source) 4) refl
 
 symbols_length : (slots : List Slot) → length (map symbol slots) ≡ length slots
 symbols_length [] = refl
 symbols_length (slot ∷ slots) = ap suc (symbols_length slots)
 
 -- a directory, behind zeros where it needs them
-pub directory_is : (order : Order) (draft : Draft) (start : ℕ) (places : Places) → ArePlaces draft start places → (from place at values next : ℕ) (slots : List Slot)
-    → 0 < length slots → laid from (directory_part order place next (written draft start at values (map symbol slots))) ≡ replicate (place - from) 0 ++ slots_text order places values next slots
-directory_is order draft start places h from place at values next [] some = absurd (omega arith)
-directory_is order draft start places h from place at values next (slot ∷ slots) some =
+pub directory_is : (order : Order) (draft : Draft) (start : ℕ) (places : Places) → ArePlaces draft start places → (from place at values next : ℕ) (slots : List Slot) → AreSettled values slots
+    → 0 < length slots → laid from (directory_part order place next (written draft start at values (map symbol slots))) ≡ replicate (place - from) 0 ++ slots_text order places next slots
+directory_is order draft start places h from place at values next [] s some = absurd (omega arith)
+directory_is order draft start places h from place at values next (slot ∷ slots) s some =
     let count : length (written draft start at values (map symbol (slot ∷ slots))) ≡ length (slot ∷ slots) =
     length-written draft start at values (map symbol (slot ∷ slots)) ∙ symbols_length (slot ∷ slots) in
     ap (λ r. replicate (place - from) 0 ++ r) (append-nil _)
-    ∙ (λ i. replicate (place - from) 0 ++ (spelled order 2 (count i) ++ ((sym (entries_are order draft start places h at values (slot ∷ slots))) i ++ spelled order 4 next)))
+    ∙ (λ i. replicate (place - from) 0 ++ (spelled order 2 (count i) ++ ((sym (entries_are order draft start places h at values (slot ∷ slots) s)) i ++ spelled order 4 next)))
 
-pub child_is : (order : Order) (draft : Draft) (start : ℕ) (places : Places) → ArePlaces draft start places → (place at values : ℕ) (slots : List Slot)
-    → laid place (directory_part order place 0 (written draft start at values (map symbol slots))) ≡ slots_text order places values 0 slots
-child_is order draft start places h place at values [] = refl
-child_is order draft start places h place at values (slot ∷ slots) =
+pub child_is : (order : Order) (draft : Draft) (start : ℕ) (places : Places) → ArePlaces draft start places → (place at values : ℕ) (slots : List Slot) → AreSettled values slots
+    → laid place (directory_part order place 0 (written draft start at values (map symbol slots))) ≡ slots_text order places 0 slots
+child_is order draft start places h place at values [] s = refl
+child_is order draft start places h place at values (slot ∷ slots) s =
     let none : place - place ≡ 0 = omega arith in
-    directory_is order draft start places h place place at values 0 (slot ∷ slots) (omega arith)
-    ∙ (λ i. replicate (none i) 0 ++ slots_text order places values 0 (slot ∷ slots))
+    directory_is order draft start places h place place at values 0 (slot ∷ slots) s (omega arith)
+    ∙ (λ i. replicate (none i) 0 ++ slots_text order places 0 (slot ∷ slots))
 
 pub are_places : (draft : Draft) (start next : ℕ) → ArePlaces draft start (places_of draft start next)
 are_places draft start next = record {
@@ -171,41 +180,45 @@ regroup : (p a b c d e f g h x y z : List ℕ) → (p ++ a) ++ (b ++ (c ++ (d ++
     ≡ (p ++ (a ++ (b ++ (c ++ d)))) ++ ((e ++ (f ++ (g ++ h))) ++ (x ++ (y ++ z)))
 regroup p a b c d e f g h x y z = simp append_assoc
 
-module _ (order : Order) (draft : Draft) (start next : ℕ) (plan : Plan) (is : IsPlan draft start next plan) where
+module _ (order : Order) (draft : Draft) (start next : ℕ) (plan : Plan) (whole : IsSettledPlan draft start next plan) where
+  is : IsPlan draft start next plan
+  is = whole.is
+
   are : ArePlaces draft start plan.places
   are = let P : Places → Type 0 = ArePlaces draft start in subst P (sym is.places) (are_places draft start next)
 
   -- a child's directory, at the place and with the values of the draft
-  child_laid : (place at values from : ℕ) (slots : List Slot) (symbols : List format.Slot) → map symbol slots ≡ symbols → values ≡ from
-      → laid place (directory_part order place 0 (written draft start at from symbols)) ≡ slots_text order plan.places values 0 slots
-  child_laid place at values from slots symbols e k =
+  child_laid : (place at values from : ℕ) (slots : List Slot) (symbols : List format.Slot) → map symbol slots ≡ symbols → AreSettled values slots → values ≡ from
+      → laid place (directory_part order place 0 (written draft start at from symbols)) ≡ slots_text order plan.places 0 slots
+  child_laid place at values from slots symbols e s k =
+      let P : ℕ → Type 0 = λ n. AreSettled n slots in
       (λ i. laid place (directory_part order place 0 (written draft start at from ((sym e) i))))
-      ∙ child_is order draft start plan.places are place at from slots
-      ∙ ap (λ v. slots_text order plan.places v 0 slots) (sym k)
+      ∙ child_is order draft start plan.places are place at from slots (subst P k s)
 
-  values_laid : (at values from : ℕ) (slots : List Slot) (symbols : List format.Slot) → map symbol slots ≡ symbols → values ≡ from → AllKnown symbols
-      → laid from (value_parts order (written draft start at from symbols)) ≡ values_text order plan.places values slots
-  values_laid at values from slots symbols e k known =
+  values_laid : (at values from : ℕ) (slots : List Slot) (symbols : List format.Slot) → map symbol slots ≡ symbols → AreSettled values slots → values ≡ from → AllKnown symbols
+      → laid from (value_parts order (written draft start at from symbols)) ≡ values_text order plan.places slots
+  values_laid at values from slots symbols e s k known =
+      let P : ℕ → Type 0 = λ n. AreSettled n slots in
       (λ i. laid from (value_parts order (written draft start at from ((sym e) i))))
-      ∙ values_are order draft start plan.places are at from slots (let P : List format.Slot → Type 0 = AllKnown in subst P (sym e) known)
-      ∙ ap (λ v. values_text order plan.places v slots) (sym k)
+      ∙ values_are order draft start plan.places are at from slots (let P : List format.Slot → Type 0 = AllKnown in subst P (sym e) known) (subst P k s)
 
   blocks_laid : (place : ℕ) (texts : List (Bor (List ℕ))) (held : List (List ℕ)) → texts_of texts ≡ held → laid place (block_parts place held) ≡ blocks_text texts
   blocks_laid place texts held e = (λ i. laid place (block_parts place ((sym e) i))) ∙ laid_blocks place texts
 
   tiff_laid : 0 < length (draft.slots Tiff)
       → laid start (directory_part order (tiff_place draft start) next (entries_of draft start Tiff))
-      ≡ replicate (plan.places.start % 2) 0 ++ slots_text order plan.places plan.places.tiff_values plan.places.next plan.tiff.items
+      ≡ replicate (plan.places.start % 2) 0 ++ slots_text order plan.places plan.places.next plan.tiff.items
   unfolding tiff_place
   tiff_laid some =
       let at : ℕ = tiff_place draft start + 2 in
       let from : ℕ = tiff_values draft start in
+      let P : ℕ → Type 0 = λ n. AreSettled n plan.tiff.items in
       let more : 0 < length plan.tiff.items = (let a = ap length is.tiff in let b = symbols_length plan.tiff.items in omega arith) in
       let gap : even start - start ≡ start % 2 = omega arith in
       (λ i. laid start (directory_part order (tiff_place draft start) next (written draft start at from ((sym is.tiff) i))))
-      ∙ directory_is order draft start plan.places are start (tiff_place draft start) at from next plan.tiff.items more
-      ∙ (λ i. replicate (gap i) 0 ++ slots_text order plan.places from next plan.tiff.items)
-      ∙ (λ i. replicate (((sym is.places) i).start % 2) 0 ++ slots_text order plan.places ((sym is.places) i).tiff_values ((sym is.places) i).next plan.tiff.items)
+      ∙ directory_is order draft start plan.places are start (tiff_place draft start) at from next plan.tiff.items (subst P (λ i. ((is.places) i).tiff_values) whole.tiff) more
+      ∙ (λ i. replicate (gap i) 0 ++ slots_text order plan.places next plan.tiff.items)
+      ∙ (λ i. replicate (((sym is.places) i).start % 2) 0 ++ slots_text order plan.places ((sym is.places) i).next plan.tiff.items)
 
   -- what is sent of the plan is what the draft's parts lay down
   pub plan_is : 0 < length (draft.slots Tiff) → ((context : Context) → AllKnown (draft.slots context)) → laid start (draft_parts order draft start next) ≡ plan_text order plan
@@ -215,39 +228,39 @@ module _ (order : Order) (draft : Draft) (start next : ℕ) (plan : Plan) (is : 
       (directory_spans order draft start next start (tiff_place draft start) _ _ (draft.slots Tiff) (known Tiff) (inl some) (even_low start) (even_high start)) (tiff_laid some)
       (joined (exif_place draft start) (gps_place draft start) _ _ _ _
       (directory_spans order draft start 0 _ (exif_place draft start) _ _ (draft.slots Exif) (known Exif) (inr refl) (omega arith) (omega arith))
-      (child_laid (exif_place draft start) _ _ (exif_values draft start) plan.exif.items (draft.slots Exif) is.exif (λ i. ((is.places) i).exif_values))
+      (child_laid (exif_place draft start) _ _ (exif_values draft start) plan.exif.items (draft.slots Exif) is.exif whole.exif (λ i. ((is.places) i).exif_values))
       (joined (gps_place draft start) (interop_place draft start) _ _ _ _
       (directory_spans order draft start 0 _ (gps_place draft start) _ _ (draft.slots Gps) (known Gps) (inr refl) (omega arith) (omega arith))
-      (child_laid (gps_place draft start) _ _ (gps_values draft start) plan.gps.items (draft.slots Gps) is.gps (λ i. ((is.places) i).gps_values))
+      (child_laid (gps_place draft start) _ _ (gps_values draft start) plan.gps.items (draft.slots Gps) is.gps whole.gps (λ i. ((is.places) i).gps_values))
       (joined (interop_place draft start) (tiff_values draft start) _ _ _ _
       (directory_spans order draft start 0 _ (interop_place draft start) _ _ (draft.slots Interop) (known Interop) (inr refl) (omega arith) (omega arith))
-      (child_laid (interop_place draft start) _ _ (interop_values draft start) plan.interop.items (draft.slots Interop) is.interop (λ i. ((is.places) i).interop_values))
+      (child_laid (interop_place draft start) _ _ (interop_values draft start) plan.interop.items (draft.slots Interop) is.interop whole.interop (λ i. ((is.places) i).interop_values))
       (joined (tiff_values draft start) (exif_values draft start) _ _ _ _
       (values_span order draft start _ (tiff_values draft start) (draft.slots Tiff) (known Tiff))
-      (values_laid _ _ (tiff_values draft start) plan.tiff.items (draft.slots Tiff) is.tiff (λ i. ((is.places) i).tiff_values) (known Tiff))
+      (values_laid _ _ (tiff_values draft start) plan.tiff.items (draft.slots Tiff) is.tiff whole.tiff (λ i. ((is.places) i).tiff_values) (known Tiff))
       (joined (exif_values draft start) (gps_values draft start) _ _ _ _
       (values_span order draft start _ (exif_values draft start) (draft.slots Exif) (known Exif))
-      (values_laid _ _ (exif_values draft start) plan.exif.items (draft.slots Exif) is.exif (λ i. ((is.places) i).exif_values) (known Exif))
+      (values_laid _ _ (exif_values draft start) plan.exif.items (draft.slots Exif) is.exif whole.exif (λ i. ((is.places) i).exif_values) (known Exif))
       (joined (gps_values draft start) (interop_values draft start) _ _ _ _
       (values_span order draft start _ (gps_values draft start) (draft.slots Gps) (known Gps))
-      (values_laid _ _ (gps_values draft start) plan.gps.items (draft.slots Gps) is.gps (λ i. ((is.places) i).gps_values) (known Gps))
+      (values_laid _ _ (gps_values draft start) plan.gps.items (draft.slots Gps) is.gps whole.gps (λ i. ((is.places) i).gps_values) (known Gps))
       (joined (interop_values draft start) (strips_place draft start) _ _ _ _
       (values_span order draft start _ (interop_values draft start) (draft.slots Interop) (known Interop))
-      (values_laid _ _ (interop_values draft start) plan.interop.items (draft.slots Interop) is.interop (λ i. ((is.places) i).interop_values) (known Interop))
+      (values_laid _ _ (interop_values draft start) plan.interop.items (draft.slots Interop) is.interop whole.interop (λ i. ((is.places) i).interop_values) (known Interop))
       (joined (strips_place draft start) (tiles_place draft start) _ _ _ _
       (blocks_span (strips_place draft start) (draft.blocks Strips)) (blocks_laid (strips_place draft start) plan.strips.now (draft.blocks Strips) is.strips)
       (joined (tiles_place draft start) (jpeg_place draft start) _ _ _ _
       (blocks_span (tiles_place draft start) (draft.blocks Tiles)) (blocks_laid (tiles_place draft start) plan.tiles.now (draft.blocks Tiles) is.tiles)
       (blocks_laid (jpeg_place draft start) plan.jpeg.now (draft.blocks Jpeg) is.jpeg))))))))))
       ∙ regroup (replicate (plan.places.start % 2) 0)
-      (slots_text order plan.places plan.places.tiff_values plan.places.next plan.tiff.items)
-      (slots_text order plan.places plan.places.exif_values 0 plan.exif.items)
-      (slots_text order plan.places plan.places.gps_values 0 plan.gps.items)
-      (slots_text order plan.places plan.places.interop_values 0 plan.interop.items)
-      (values_text order plan.places plan.places.tiff_values plan.tiff.items)
-      (values_text order plan.places plan.places.exif_values plan.exif.items)
-      (values_text order plan.places plan.places.gps_values plan.gps.items)
-      (values_text order plan.places plan.places.interop_values plan.interop.items)
+      (slots_text order plan.places plan.places.next plan.tiff.items)
+      (slots_text order plan.places 0 plan.exif.items)
+      (slots_text order plan.places 0 plan.gps.items)
+      (slots_text order plan.places 0 plan.interop.items)
+      (values_text order plan.places plan.tiff.items)
+      (values_text order plan.places plan.exif.items)
+      (values_text order plan.places plan.gps.items)
+      (values_text order plan.places plan.interop.items)
       (blocks_text plan.strips.now)
       (blocks_text plan.tiles.now)
       (blocks_text plan.jpeg.now)

@@ -13,5 +13,6 @@ pub mod RangeSteps
 pub mod Ready
 pub mod Running
 pub mod Sending
+pub mod Settling
 pub mod SizeSteps
 pub mod Tails

@@ -4,7 +4,7 @@ use Rattle.std.specs.Prelude.{if◌then◌else◌, nat_lt, is_some, SomeIff, IsS
 use Rattle.std.proofs.lemmas.Bool.{lt-ltb, le-ltb, eqb-true}
 use Rattle.exif_writer.specs.declared.write_fault.WriteFault.{WriteFault}
 use Rattle.exif_writer.specs.declared.write_fault.WriteFault.TheVariants.{NoDirectory, OffsetTooLarge}
-use Rattle.exif_writer.specs.Drafts.{IsPlan, ArePlans}
+use Rattle.exif_writer.specs.Drafts.{IsSettledPlan, ArePlans}
 use Rattle.exif_writer.specs.declared.plan.Plan.{Plan}
 use Rattle.exif_writer.proofs.Placed.{places_are, places_within}
 use Rattle.std.proofs.lemmas.List.{append-nil, drop_more, drop_all}
@@ -141,14 +141,14 @@ next_within groups i h =
 -- one plan more
 module _ (groups : List Group) (i : ℕ) (x d : Group) (start : ℕ) (plans : List Plan) (h : i < length groups) (e : x ≡ get_or groups i d)
     (so : (more : List Plan) → ArePlans start (map draft_of (drop i groups)) more → ArePlans 8 (map draft_of groups) (plans ++ more)) where
-  pub plans_more : (plan : Plan) (next end : ℕ) (new : List Plan) → IsPlan (draft_of x) start next plan → end ≡ draft_end (draft_of x) start
+  pub plans_more : (plan : Plan) (next end : ℕ) (new : List Plan) → IsSettledPlan (draft_of x) start next plan → end ≡ draft_end (draft_of x) start
       → next ≡ next_place (draft_end (draft_of x) start) (map draft_of (drop (i + 1) groups)) → new ≡ plans ++ plan ∷ []
       → (more : List Plan) → ArePlans end (map draft_of (drop (i + 1) groups)) more → ArePlans 8 (map draft_of groups) (new ++ more)
   plans_more plan next end new is k n p more rest =
       let split : map draft_of (drop i groups) ≡ draft_of x ∷ map draft_of (drop (i + 1) groups) =
       ap (map draft_of) (drop_more groups i d h ∙ ap (λ y. y ∷ drop (i + 1) groups) (sym e)) in
       let A : List Draft → Type 0 = λ drafts. ArePlans start drafts (plan ∷ more) in
-      let B : ℕ → Type 0 = λ m. IsPlan (draft_of x) start m plan in
+      let B : ℕ → Type 0 = λ m. IsSettledPlan (draft_of x) start m plan in
       let C : ℕ → Type 0 = λ m. ArePlans m (map draft_of (drop (i + 1) groups)) more in
       let D : List Plan → Type 0 = ArePlans 8 (map draft_of groups) in
       let same : plans ++ (plan ∷ more) ≡ new ++ more = sym (append_assoc plans (plan ∷ []) more) ∙ ap (λ r. r ++ more) (sym p) in

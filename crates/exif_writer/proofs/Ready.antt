@@ -140,7 +140,7 @@ ready_all (group ∷ groups) start [] h room are = absurd are
 ready_all (group ∷ groups) start (plan ∷ plans) h room are =
     let end : ℕ = draft_end (draft_of group) start in
     let low = drafts_low end (map draft_of groups) in (
-      ready_plan group start (next_place end (map draft_of groups)) plan are.0 h.0 (omega arith),
+      ready_plan group start (next_place end (map draft_of groups)) plan are.0.is h.0 (omega arith),
       ready_all groups end plans h.1 room are.1,
     )
 

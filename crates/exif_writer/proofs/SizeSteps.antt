@@ -1,6 +1,6 @@
 -- Sizes of values.
 use Rattle.std.proofs.Common.{◌≡◌, ℕ, zero, suc, ◌+◌, ◌*◌, ◌<◌, ◌≤◌, List, [], ◌∷◌, ◌++◌, length, take, drop, get_or, arith, refl, sym, ap, subst, ◌∙◌, false, true}
-use Rattle.std.specs.Prelude.{if◌then◌else◌, nat_le, ◌-◌, ◌%◌, replicate}
+use Rattle.std.specs.Prelude.{if◌then◌else◌, nat_le, ◌-◌, replicate}
 use Rattle.exif_writer.specs.declared.plan.Places.{Places}
 use Rattle.exif_writer.specs.declared.plan.Slot.{Slot}
 use Rattle.exif_writer.proofs.Loops.{around}
@@ -42,10 +42,10 @@ count_within (LengthsOf kind texts) h = omega arith
 count_within (PlaceOf context) h = omega arith
 
 -- a directory that has entries
-pub slots_text_some : (order : Order) (places : Places) (values next : ℕ) (slots : List Slot) → 0 < length slots
-    → slots_text order places values next slots ≡ spelled order 2 (length slots) ++ (entries_text order places values slots ++ spelled order 4 next)
-slots_text_some order places values next [] h = absurd (omega arith)
-slots_text_some order places values next (slot ∷ slots) h = refl
+pub slots_text_some : (order : Order) (places : Places) (next : ℕ) (slots : List Slot) → 0 < length slots
+    → slots_text order places next slots ≡ spelled order 2 (length slots) ++ (entries_text order places slots ++ spelled order 4 next)
+slots_text_some order places next [] h = absurd (omega arith)
+slots_text_some order places next (slot ∷ slots) h = refl
 
 -- what holds of all holds of one
 pub all_at : {X : Type 0} (P : X → Type 0) (xs : List X) (i : ℕ) (x d : X) → AllByRecursion P xs → i < length xs → x ≡ get_or xs i d → P x
@@ -72,11 +72,11 @@ slot_within values place slots i x d h e k =
     omega arith
 
 -- a value that stands in its entry
-pub element_inside : (order : Order) (places : Places) (source : Source) (place : ℕ) → source_size source ≤ 4
-    → element order places source place ≡ encode order (settled places source) ++ replicate (4 - source_size source) 0
-element_inside order places source place h = rw (le-leb (source_size source) 4 h) refl
+pub element_inside : (order : Order) (places : Places) (slot : Slot) → slot.size ≤ 4
+    → element order places slot ≡ encode order (settled places slot.source) ++ replicate (4 - slot.size) 0
+element_inside order places slot h = rw (le-leb slot.size 4 h) refl
 
 -- a value that doesn't
-pub value_outside : (order : Order) (places : Places) (place : ℕ) (slot : Slot) → 4 < source_size slot.source
-    → value_text order places place slot ≡ replicate (place % 2) 0 ++ encode order (settled places slot.source)
-value_outside order places place slot h = rw (lt-leb (source_size slot.source) 4 h) refl
+pub value_outside : (order : Order) (places : Places) (slot : Slot) → 4 < slot.size
+    → value_text order places slot ≡ replicate (if slot.padded then 1 else 0) 0 ++ encode order (settled places slot.source)
+value_outside order places slot h = rw (lt-leb slot.size 4 h) refl

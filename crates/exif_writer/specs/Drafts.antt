@@ -6,7 +6,7 @@ use Rattle.exif_writer.specs.Slots.{Draft}
 use Rattle.exif_writer.specs.Places.{tiff_place, exif_place, gps_place, interop_place, tiff_values, exif_values, gps_values, interop_values, strips_place, tiles_place, jpeg_place, draft_end, next_place}
 use Rattle.exif_writer.specs.declared.plan.Places.{Places}
 use Rattle.exif_writer.specs.declared.plan.Plan.{Plan}
-use Rattle.exif_writer.specs.Sending.{symbol, texts_of}
+use Rattle.exif_writer.specs.Sending.{symbol, texts_of, AreSettled}
 
 -- the places of a draft, as a plan has them
 abbrev pub places_of : Draft → ℕ → ℕ → Places
@@ -38,10 +38,18 @@ pub record IsPlan (draft : Draft) (start next : ℕ) (plan : Plan) : Type 0 wher
   pub tiles : texts_of plan.tiles.now ≡ draft.blocks Tiles
   pub jpeg : texts_of plan.jpeg.now ≡ draft.blocks Jpeg
 
+-- such a plan whose sizes and places are settled
+pub record IsSettledPlan (draft : Draft) (start next : ℕ) (plan : Plan) : Type 0 where
+  pub is : IsPlan draft start next plan
+  pub tiff : AreSettled plan.places.tiff_values plan.tiff.items
+  pub exif : AreSettled plan.places.exif_values plan.exif.items
+  pub gps : AreSettled plan.places.gps_values plan.gps.items
+  pub interop : AreSettled plan.places.interop_values plan.interop.items
+
 -- the plans of drafts that stand one behind the other
 abbrev pub ArePlans : ℕ → List Draft → List Plan → Type 0
 ArePlans start [] [] = Unit {0}
 ArePlans start [] (plan ∷ plans) = ⊥
 ArePlans start (draft ∷ drafts) [] = ⊥
 ArePlans start (draft ∷ drafts) (plan ∷ plans) =
-    IsPlan draft start (next_place (draft_end draft start) drafts) plan × ArePlans (draft_end draft start) drafts plans
+    IsSettledPlan draft start (next_place (draft_end draft start) drafts) plan × ArePlans (draft_end draft start) drafts plans

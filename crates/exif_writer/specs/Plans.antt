@@ -23,17 +23,17 @@ pub record IsReadyPlan (plan : Plan) : Type 0 where
 abbrev pub directories_text : Order → Plan → List ℕ
 directories_text order plan =
     replicate (plan.places.start % 2) 0
-    ++ (slots_text order plan.places plan.places.tiff_values plan.places.next plan.tiff.items
-    ++ (slots_text order plan.places plan.places.exif_values 0 plan.exif.items
-    ++ (slots_text order plan.places plan.places.gps_values 0 plan.gps.items
-    ++ slots_text order plan.places plan.places.interop_values 0 plan.interop.items)))
+    ++ (slots_text order plan.places plan.places.next plan.tiff.items
+    ++ (slots_text order plan.places 0 plan.exif.items
+    ++ (slots_text order plan.places 0 plan.gps.items
+    ++ slots_text order plan.places 0 plan.interop.items)))
 
 abbrev pub plan_values_text : Order → Plan → List ℕ
 plan_values_text order plan =
-    values_text order plan.places plan.places.tiff_values plan.tiff.items
-    ++ (values_text order plan.places plan.places.exif_values plan.exif.items
-    ++ (values_text order plan.places plan.places.gps_values plan.gps.items
-    ++ values_text order plan.places plan.places.interop_values plan.interop.items))
+    values_text order plan.places plan.tiff.items
+    ++ (values_text order plan.places plan.exif.items
+    ++ (values_text order plan.places plan.gps.items
+    ++ values_text order plan.places plan.interop.items))
 
 abbrev pub plan_blocks_text : Plan → List ℕ
 plan_blocks_text plan = blocks_text plan.strips.now ++ (blocks_text plan.tiles.now ++ blocks_text plan.jpeg.now)

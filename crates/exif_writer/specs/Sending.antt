@@ -1,9 +1,9 @@
 -- What a plan's entries say once the places are settled.
-use Rattle.std.specs.Prelude.{ℕ, ◌≡◌, ◌+◌, ◌-◌, ◌*◌, ◌≤◌, ◌++◌, nat_le, ◌%◌, false, if◌then◌else◌, List, [], ◌∷◌, length, map, replicate, ⊤}
+use Rattle.std.specs.Prelude.{ℕ, ◌≡◌, ◌+◌, ◌-◌, ◌*◌, ◌≤◌, ◌++◌, nat_le, ◌%◌, ◌==◌, false, if◌then◌else◌, List, [], ◌∷◌, length, map, replicate, ⊤}
 use denote.Ref.{Bor}
 use Rattle.std.specs.List.{flat_map}
 use Rattle.exif_writer.specs.Slots as format
-use Rattle.exif_writer.specs.Running.{run, state}
+use Rattle.exif_writer.specs.Running.{state}
 use Rattle.exif_writer.specs.declared.plan.Places.{Places}
 use Rattle.exif_writer.specs.declared.plan.Slot.{Slot}
 use Rattle.exif_writer.specs.declared.plan.Source.{Source}
@@ -89,51 +89,73 @@ IsKnownSource (PlacesOf blocks texts) = ⊤
 IsKnownSource (LengthsOf kind texts) = ⊤
 IsKnownSource (PlaceOf context) = ⊤
 
--- the last four bytes of an entry whose value stands at a place where it doesn't fit into them
-abbrev pub element : Order → Places → Source → ℕ → List ℕ
-element order places source place =
-    if nat_le (source_size source) 4 then encode order (settled places source) ++ replicate (4 - source_size source) 0
-    else spelled order 4 place
+-- the last four bytes of an entry: its value, or the place where it stands
+abbrev pub element : Order → Places → Slot → List ℕ
+element order places slot =
+    if nat_le slot.size 4 then encode order (settled places slot.source) ++ replicate (4 - slot.size) 0
+    else spelled order 4 slot.place
 
 -- the 12 bytes of an entry
-abbrev pub slot_text : Order → Places → Slot → ℕ → List ℕ
-slot_text order places slot place =
-    spelled order 2 slot.tag ++ (spelled order 2 (source_type slot.source) ++ (spelled order 4 (source_count slot.source) ++ element order places slot.source place))
+abbrev pub slot_text : Order → Places → Slot → List ℕ
+slot_text order places slot =
+    spelled order 2 slot.tag ++ (spelled order 2 (source_type slot.source) ++ (spelled order 4 (source_count slot.source) ++ element order places slot))
 
--- a slot that can be sent: its value is of a known type, and its numbers fit into 32 bits
+-- a slot that can be settled and sent: its value is of a known type, and its numbers fit into 32 bits
 pub record IsReady (places : Places) (slot : Slot) : Type 0 where
   pub settles : Settles places slot.source
   pub known : IsKnownSource slot.source
   pub room : source_size slot.source ≤ 4294967295
 
--- where a value stands that isn't in its entry, and where the next one may
-abbrev pub value_place : ℕ → ℕ → ℕ
-value_place values size = if nat_le size 4 then values else even values
-
+-- where the next value may stand, and where the values of slots end
 abbrev pub after_slot : ℕ → Slot → ℕ
-after_slot values slot = after_value values (source_size slot.source)
+after_slot start slot = after_value start (source_size slot.source)
 
 abbrev pub values_end : ℕ → List Slot → ℕ
-values_end values slots = state after_slot values slots
+values_end start slots = state after_slot start slots
 
--- the entries of a directory whose values stand from a place on
-abbrev pub entries_text : Order → Places → ℕ → List Slot → List ℕ
-entries_text order places values slots =
-    run after_slot (λ place slot. slot_text order places slot (value_place place (source_size slot.source))) values slots
+-- a slot with its size, and with the place of its value where that isn't in the entry and may stand from a place on
+abbrev pub settle_slot : ℕ → Slot → Slot
+settle_slot start slot =
+    if nat_le (source_size slot.source) 4 then record slot { size = source_size slot.source }
+    else record slot { size = source_size slot.source; place = even start; padded = start % 2 == 1 }
+
+-- a slot whose size can be settled
+pub record IsMeasurable (slot : Slot) : Type 0 where
+  pub known : IsKnownSource slot.source
+  pub room : source_size slot.source ≤ 4294967295
+
+-- slots with their sizes and places, whose values stand one behind the other
+abbrev pub settle : ℕ → List Slot → List Slot
+settle start [] = []
+settle start (slot ∷ slots) = settle_slot start slot ∷ settle (after_slot start slot) slots
+
+-- what is asked of settled slots
+pub record IsSettled (start : ℕ) (slot : Slot) : Type 0 where
+  pub size : slot.size ≡ source_size slot.source
+  pub place : nat_le (source_size slot.source) 4 ≡ false → slot.place ≡ even start
+  pub padded : nat_le (source_size slot.source) 4 ≡ false → slot.padded ≡ (start % 2 == 1)
+
+abbrev pub AreSettled : ℕ → List Slot → Type 0
+AreSettled start [] = ⊤
+AreSettled start (slot ∷ slots) = IsSettled start slot × AreSettled (after_slot start slot) slots
+
+-- the entries of a directory
+abbrev pub entries_text : Order → Places → List Slot → List ℕ
+entries_text order places slots = flat_map (slot_text order places) slots
 
 -- a directory, if it has entries
-abbrev pub slots_text : Order → Places → ℕ → ℕ → List Slot → List ℕ
-slots_text order places values next [] = []
-slots_text order places values next (slot ∷ slots) =
-    spelled order 2 (length (slot ∷ slots)) ++ (entries_text order places values (slot ∷ slots) ++ spelled order 4 next)
+abbrev pub slots_text : Order → Places → ℕ → List Slot → List ℕ
+slots_text order places next [] = []
+slots_text order places next (slot ∷ slots) =
+    spelled order 2 (length (slot ∷ slots)) ++ (entries_text order places (slot ∷ slots) ++ spelled order 4 next)
 
 -- a value that isn't in its entry, behind a zero where it needs one
-abbrev pub value_text : Order → Places → ℕ → Slot → List ℕ
-value_text order places place slot =
-    if nat_le (source_size slot.source) 4 then [] else replicate (place % 2) 0 ++ encode order (settled places slot.source)
+abbrev pub value_text : Order → Places → Slot → List ℕ
+value_text order places slot =
+    if nat_le slot.size 4 then [] else replicate (if slot.padded then 1 else 0) 0 ++ encode order (settled places slot.source)
 
-abbrev pub values_text : Order → Places → ℕ → List Slot → List ℕ
-values_text order places values slots = run after_slot (value_text order places) values slots
+abbrev pub values_text : Order → Places → List Slot → List ℕ
+values_text order places slots = flat_map (value_text order places) slots
 
 abbrev pub blocks_text : List (Bor (List ℕ)) → List ℕ
 blocks_text texts = flat_map (λ text. text.now) texts

@@ -2,7 +2,7 @@
 
 ghost use Rattle.std.specs.Prelude.{◌≡◌, ◌+◌, ◌*◌, ◌++◌, ◌^◌, ◌<◌, ◌≤◌, length, map, false};
 ghost use Rattle.std.specs.List.{flat_map, AllByRecursion};
-ghost use Rattle.exif_writer.specs.Sending.{block_place, context_place, lens, sum_of, settled, Settles, IsKnownSource, source_type, source_count, source_size, element, slot_text, IsReady, value_place, after_slot, values_end, entries_text, slots_text, value_text, values_text, blocks_text};
+ghost use Rattle.exif_writer.specs.Sending.{block_place, context_place, lens, sum_of, settled, Settles, IsKnownSource, source_type, source_count, source_size, element, slot_text, IsReady, entries_text, slots_text, value_text, values_text, blocks_text};
 ghost use Rattle.exif_writer.specs.Encoding.{spelled, encode, value_len};
 ghost use Rattle.exif_types.specs.ValueTypes.{count_of, type_number};
 ghost use Rattle.exif_types.specs.Texts.{ended};
@@ -171,7 +171,7 @@ impl<'a> Source<'a> {
     }
 
     // How many bytes the value takes.
-    fn size(&self) -> usize
+    pub fn size(&self) -> usize
         requires known { IsKnownSource self.now }
         requires room { source_size self.now ≤ 4294967295 }
         ensures { result ≡ source_size self.now }
@@ -181,142 +181,81 @@ impl<'a> Source<'a> {
     }
 }
 
+#[tactic(auto, using(crate::proofs::SizeSteps::count_within))]
 impl<'a> Slot<'a> {
-    // Sends the last four bytes of the entry, whose value stands at a place where it doesn't fit into them.
-    fn send_element<W: Sink>(
-        &self,
-        out: &mut W,
-        order: Order,
-        places: &Places,
-        place: u32,
-    ) -> io::Result<()>
-        requires settles { Settles places.now self.now.source }
-        requires known { IsKnownSource self.now.source }
-        requires room { source_size self.now.source ≤ 4294967295 }
-        ensures sends { Sends W.Sink out.old out.new result
-            (element order places.now self.now.source place) }
+    // Sends the last four bytes of the entry.
+    fn send_element<W: Sink>(&self, out: &mut W, order: Order, places: &Places) -> io::Result<()>
+        requires { Settles places.now self.now.source }
+        ensures sends { Sends W.Sink out.old out.new result (element order places.now self.now) }
     {
-        let size = self.source.size();
-        if size <= 4 {
+        if self.size <= 4 {
             self.source.send(out, order, places)?;
-            send_zeros(out, 4 - size)
+            send_zeros(out, (4 - self.size) as usize)
         } else {
-            send_u32(out, order, place)
+            send_u32(out, order, self.place)
         }
     }
 
     // Sends the entry.
-    fn send<W: Sink>(
-        &self,
-        out: &mut W,
-        order: Order,
-        places: &Places,
-        place: u32,
-    ) -> io::Result<()>
-        requires settles { Settles places.now self.now.source }
-        requires known { IsKnownSource self.now.source }
-        requires room { source_size self.now.source ≤ 4294967295 }
-        ensures sends { Sends W.Sink out.old out.new result
-            (slot_text order places.now self.now place) }
+    fn send<W: Sink>(&self, out: &mut W, order: Order, places: &Places) -> io::Result<()>
+        requires { IsReady places.now self.now }
+        ensures sends { Sends W.Sink out.old out.new result (slot_text order places.now self.now) }
     {
         let (kind, _) = self.source.kind();
         let count = self.source.count();
         send_u16(out, order, self.tag)?;
         send_u16(out, order, kind)?;
         send_u32(out, order, count as u32)?;
-        self.send_element(out, order, places, place)
+        self.send_element(out, order, places)
     }
 
-    // Sends the value, if it isn't in its entry, behind a zero where the place is odd.
-    fn send_value<W: Sink>(
-        &self,
-        out: &mut W,
-        order: Order,
-        places: &Places,
-        place: u32,
-    ) -> io::Result<()>
+    // Sends the value, if it isn't in its entry.
+    fn send_value<W: Sink>(&self, out: &mut W, order: Order, places: &Places) -> io::Result<()>
         requires { IsReady places.now self.now }
-        ensures sends { Sends W.Sink out.old out.new result
-            (value_text order places.now place self.now) }
+        ensures sends { Sends W.Sink out.old out.new result (value_text order places.now self.now) }
     {
-        if self.source.size() <= 4 {
+        if self.size <= 4 {
             return Ok(());
         }
-        send_zeros(out, (place % 2) as usize)?;
+        send_zeros(out, usize::from(self.padded))?;
         self.source.send(out, order, places)
-    }
-
-    // Where the value stands that may stand at a place, if it isn't in its entry.
-    fn value_place(&self, place: u32) -> u32
-        requires known { IsKnownSource self.now.source }
-        requires room { source_size self.now.source ≤ 4294967295 }
-        requires end { after_slot place self.now ≤ 4294967295 }
-        ensures { result ≡ value_place place (source_size self.now.source) }
-    {
-        if self.source.size() <= 4 {
-            place
-        } else {
-            place + place % 2
-        }
-    }
-
-    // Where the next value may stand.
-    fn after(&self, place: u32) -> u32
-        requires known { IsKnownSource self.now.source }
-        requires room { source_size self.now.source ≤ 4294967295 }
-        requires end { after_slot place self.now ≤ 4294967295 }
-        ensures { result ≡ after_slot place self.now }
-    {
-        let size = self.source.size();
-        if size <= 4 {
-            place
-        } else {
-            place + place % 2 + size as u32
-        }
     }
 }
 
-// Sends the entries of a directory, whose values stand from a place on.
+// Sends the entries of a directory.
 fn send_entries<W: Sink>(
     out: &mut W,
     order: Order,
     places: &Places,
     slots: &[Slot],
-    values: u32,
 ) -> io::Result<()>
-    requires ready { AllByRecursion (IsReady places.now) slots.now }
-    requires room { values_end values slots.now ≤ 4294967295 }
-    ensures sends { Sends W.Sink out.old out.new result
-        (entries_text order places.now values slots.now) }
+    requires { AllByRecursion (IsReady places.now) slots.now }
+    ensures sends { Sends W.Sink out.old out.new result (entries_text order places.now slots.now) }
 {
-    let mut place = values;
     for slot in slots {
-        slot.send(out, order, places, slot.value_place(place))?;
-        place = slot.after(place);
+        slot.send(out, order, places)?;
     }
     Ok(())
 }
 
-// Sends a directory, if it has entries.
+/// Sends a directory, if it has entries.
 pub fn send_directory<W: Sink>(
     out: &mut W,
     order: Order,
     places: &Places,
     slots: &[Slot],
-    values: u32,
     next: u32,
 ) -> io::Result<()>
     requires few { length slots.now ≤ 65535 }
     requires ready { AllByRecursion (IsReady places.now) slots.now }
-    requires room { values_end values slots.now ≤ 4294967295 }
     ensures sends { Sends W.Sink out.old out.new result
-        (slots_text order places.now values next slots.now) }
+        (slots_text order places.now next slots.now) }
 {
     if slots.is_empty() {
         return Ok(());
     }
     send_u16(out, order, slots.len() as u16)?;
-    send_entries(out, order, places, slots, values)?;
+    send_entries(out, order, places, slots)?;
     send_u32(out, order, next)
 }
 
@@ -326,17 +265,12 @@ pub fn send_values<W: Sink>(
     order: Order,
     places: &Places,
     slots: &[Slot],
-    values: u32,
 ) -> io::Result<()>
-    requires ready { AllByRecursion (IsReady places.now) slots.now }
-    requires room { values_end values slots.now ≤ 4294967295 }
-    ensures sends { Sends W.Sink out.old out.new result
-        (values_text order places.now values slots.now) }
+    requires { AllByRecursion (IsReady places.now) slots.now }
+    ensures sends { Sends W.Sink out.old out.new result (values_text order places.now slots.now) }
 {
-    let mut place = values;
     for slot in slots {
-        slot.send_value(out, order, places, place)?;
-        place = slot.after(place);
+        slot.send_value(out, order, places)?;
     }
     Ok(())
 }

@@ -21,38 +21,10 @@ impl<'a> Plan<'a> {
     {
         let places = &self.places;
         send_zeros(out, (places.start % 2) as usize)?;
-        send_directory(
-            out,
-            order,
-            places,
-            self.tiff.as_slice(),
-            places.tiff_values,
-            places.next,
-        )?;
-        send_directory(
-            out,
-            order,
-            places,
-            self.exif.as_slice(),
-            places.exif_values,
-            0,
-        )?;
-        send_directory(
-            out,
-            order,
-            places,
-            self.gps.as_slice(),
-            places.gps_values,
-            0,
-        )?;
-        send_directory(
-            out,
-            order,
-            places,
-            self.interop.as_slice(),
-            places.interop_values,
-            0,
-        )
+        send_directory(out, order, places, self.tiff.as_slice(), places.next)?;
+        send_directory(out, order, places, self.exif.as_slice(), 0)?;
+        send_directory(out, order, places, self.gps.as_slice(), 0)?;
+        send_directory(out, order, places, self.interop.as_slice(), 0)
     }
 
     // Sends the values that aren't in their entries.
@@ -61,16 +33,10 @@ impl<'a> Plan<'a> {
         ensures sends { Sends W.Sink out.old out.new result (plan_values_text order self.now) }
     {
         let places = &self.places;
-        send_values(out, order, places, self.tiff.as_slice(), places.tiff_values)?;
-        send_values(out, order, places, self.exif.as_slice(), places.exif_values)?;
-        send_values(out, order, places, self.gps.as_slice(), places.gps_values)?;
-        send_values(
-            out,
-            order,
-            places,
-            self.interop.as_slice(),
-            places.interop_values,
-        )
+        send_values(out, order, places, self.tiff.as_slice())?;
+        send_values(out, order, places, self.exif.as_slice())?;
+        send_values(out, order, places, self.gps.as_slice())?;
+        send_values(out, order, places, self.interop.as_slice())
     }
 
     // Sends the blocks.

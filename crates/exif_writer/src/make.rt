@@ -18,10 +18,7 @@ fn known_slots<'a>(alloc: Global, fields: &[&'a Field]) -> Result<Vec<Slot<'a>>,
 {
     let mut slots = Vec::new(alloc);
     for field in fields {
-        slots.push(Slot {
-            tag: field.tag.1,
-            source: Source::Known(&field.value),
-        })?;
+        slots.push(Slot::new(field.tag.1, Source::Known(&field.value)))?;
     }
     Ok(slots)
 }
@@ -37,14 +34,8 @@ fn push_blocks<'a>(
     let Some(texts) = set else {
         return Ok(());
     };
-    slots.push(Slot {
-        tag: places_tag(kind),
-        source: Source::PlacesOf(kind, texts),
-    })?;
-    slots.push(Slot {
-        tag: lengths_tag(kind),
-        source: Source::LengthsOf(kind, texts),
-    })?;
+    slots.push(Slot::new(places_tag(kind), Source::PlacesOf(kind, texts)))?;
+    slots.push(Slot::new(lengths_tag(kind), Source::LengthsOf(kind, texts)))?;
     Ok(())
 }
 
@@ -60,10 +51,7 @@ fn push_pointer<'a>(
     if entries.is_empty() {
         return Ok(());
     }
-    slots.push(Slot {
-        tag,
-        source: Source::PlaceOf(child),
-    })?;
+    slots.push(Slot::new(tag, Source::PlaceOf(child)))?;
     Ok(())
 }
 

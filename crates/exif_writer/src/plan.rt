@@ -1,9 +1,12 @@
 //! What is known of an image before its first byte is sent.
 
-ghost use Rattle.std.specs.Prelude.{◌≡◌, map, OnOk};
-ghost use Rattle.exif_writer.specs.Sending.{symbol};
+ghost use Rattle.std.specs.Prelude.{ℕ, ◌≡◌, ◌≤◌, map, OnOk};
+ghost use Rattle.std.specs.List.{AllByRecursion};
+ghost use Rattle.exif_writer.specs.Sending.{symbol, symbol_of, settle, settle_slot, after_slot, values_end, IsMeasurable};
 ghost use Rattle.exif_writer.specs.Groups.{places_tag, lengths_tag};
-ghost use Rattle.exif_writer.specs.Slots.{in_tag_order};
+ghost use Rattle.exif_writer.specs.Slots.{Draft, in_tag_order};
+ghost use Rattle.exif_writer.specs.Drafts.{IsPlan, IsSettledPlan};
+ghost use Rattle.exif_writer.specs.Plans.{IsReadyPlan};
 
 use crate::block_kind::BlockKind;
 use exif_types::{Context, Value};
@@ -62,6 +65,45 @@ pub struct Slot<'a> {
     pub tag: u16,
     /// Where the value comes from.
     pub source: Source<'a>,
+    /// How many bytes the value takes.
+    pub size: u32,
+    /// Where the value stands, if it isn't in the entry.
+    pub place: u32,
+    /// Whether a zero stands before it there.
+    pub padded: bool,
+}
+
+impl<'a> Slot<'a> {
+    /// An entry whose size and place are not settled.
+    pub fn new(tag: u16, source: Source<'a>) -> Slot<'a>
+        ensures { symbol result ≡ record { tag = tag; source = symbol_of source.entry } }
+    {
+        Slot {
+            tag,
+            source,
+            size: 0,
+            place: 0,
+            padded: false,
+        }
+    }
+
+    // Settles the size of the value, and its place if it isn't in the entry and may stand from a
+    // place on; answers where the next one may stand.
+    fn settle(&mut self, start: u32) -> u32
+        requires measurable { IsMeasurable self.old }
+        requires room { after_slot start self.old ≤ 4294967295 }
+        ensures slot { self.new ≡ settle_slot start self.old }
+        ensures end { result ≡ after_slot start self.old }
+    {
+        let size = self.source.size() as u32;
+        self.size = size;
+        if size <= 4 {
+            return start;
+        }
+        self.padded = start % 2 == 1;
+        self.place = start + start % 2;
+        self.place + size
+    }
 }
 
 /// What is sent of one directory of the chain, its children and its blocks.
@@ -90,6 +132,33 @@ pub fn sort(slots: &mut Vec<Slot>) -> Result<(), AllocError>
     ensures { OnOk result (map symbol slots.new.items ≡ in_tag_order (map symbol slots.old.items)) }
 {
     slots.sort_by_key(|slot| slot.tag)
+}
+
+/// Settles the sizes and the places of values that stand one behind the other from a place on.
+pub fn settle(slots: &mut [Slot], start: u32)
+    requires measurable { AllByRecursion IsMeasurable slots.old }
+    requires room { values_end start slots.old ≤ 4294967295 }
+    ensures { slots.new ≡ settle start slots.old }
+{
+    let mut end = start;
+    for slot in slots.iter_mut() {
+        end = slot.settle(end);
+    }
+}
+
+impl<'a> Plan<'a> {
+    /// Settles the sizes and the places of all values.
+    pub fn settle(&mut self)
+        requires { IsReadyPlan self.old }
+        ensures { (draft : Draft) (start next : ℕ)
+            → IsPlan draft start next self.old
+            → IsSettledPlan draft start next self.new }
+    {
+        settle(&mut self.tiff, self.places.tiff_values);
+        settle(&mut self.exif, self.places.exif_values);
+        settle(&mut self.gps, self.places.gps_values);
+        settle(&mut self.interop, self.places.interop_values);
+    }
 }
 
 /// The tag under which the places of blocks stand.

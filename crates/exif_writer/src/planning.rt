@@ -69,7 +69,9 @@ pub fn plans<'b>(alloc: Global, ifds: &'b [Ifd]) -> Result<Vec<Plan<'b>>, AllocE
         if index + 1 < ifds.len() {
             places.next = start + start % 2;
         }
-        plans.push(ifd.plan(alloc, places)?)?;
+        let mut plan = ifd.plan(alloc, places)?;
+        plan.settle();
+        plans.push(plan)?;
     }
     Ok(plans)
 }

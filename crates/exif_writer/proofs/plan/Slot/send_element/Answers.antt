@@ -1,19 +1,15 @@
-use Rattle.std.proofs.Common.{◌≤◌, arith}
-use Rattle.exif_writer.specs.Sending.{source_size}
 use Rattle.exif_writer.proofs.SizeSteps.{element_inside}
 use Rattle.exif_writer.proofs.Sending.{sends_then, sends_stop}
 use Rattle.exif_writer.proofs.plan.Slot.send_element.Goals as goal
 
 pub returns-in_err-send : goal.returns-in_err-send
-returns-in_err-send g c =
-    let small : source_size c.args.self.now.source ≤ 4 = omega (arith, c.size-size.ensures) in record {
-      sends = rw (element_inside c.args.order c.args.places.now c.args.self.now.source c.args.place small)
-          (sends_stop _ c.in_err-send.ensures.sends c.from_residual.ensures.0);
-    }
+returns-in_err-send g c = record {
+  sends = rw (element_inside c.args.order c.args.places.now c.args.self.now c.if-self-le4.true)
+      (sends_stop _ c.in_err-send.ensures.sends c.from_residual.ensures.0);
+}
 
 pub returns-in_ok-send : goal.returns-in_ok-send
-returns-in_ok-send g c =
-    let small : source_size c.args.self.now.source ≤ 4 = omega (arith, c.size-size.ensures) in record {
-      sends = rw (element_inside c.args.order c.args.places.now c.args.self.now.source c.args.place small)
-          (sends_then c.in_ok-send.ensures.sends (rw c.size-size.ensures at c.send_zeros.ensures.sends));
-    }
+returns-in_ok-send g c = record {
+  sends = rw (element_inside c.args.order c.args.places.now c.args.self.now c.if-self-le4.true)
+      (sends_then c.in_ok-send.ensures.sends c.send_zeros.ensures.sends);
+}
