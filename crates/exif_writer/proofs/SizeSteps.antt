@@ -1,5 +1,5 @@
 -- Sizes of values.
-use Rattle.std.proofs.Common.{◌≡◌, ℕ, zero, suc, ◌+◌, ◌*◌, ◌<◌, ◌≤◌, List, [], ◌∷◌, ◌++◌, length, take, drop, get_or, arith, refl, sym, ap, subst, ◌∙◌, false, true}
+use Rattle.std.proofs.Common.{◌≡◌, Some, None, ℕ, zero, suc, ◌+◌, ◌*◌, ◌<◌, ◌≤◌, List, [], ◌∷◌, ◌++◌, length, take, drop, get_or, arith, refl, sym, ap, subst, ◌∙◌, false, true}
 use Rattle.std.specs.Prelude.{if◌then◌else◌, nat_le, ◌-◌, replicate}
 use Rattle.exif_writer.specs.declared.plan.Places.{Places}
 use Rattle.exif_writer.specs.declared.plan.Slot.{Slot}
@@ -12,15 +12,17 @@ use Rattle.exif_writer.specs.Sending.{source_count, source_size, IsKnownSource, 
 use Rattle.std.proofs.lemmas.Bool.{le-leb, lt-leb}
 use Rattle.exif_base.specs.declared.endian.Order.{Order}
 use Rattle.exif_writer.specs.Encoding.{spelled, encode}
-use Rattle.exif_types.specs.ValueTypes.{count_of, type_number}
+use Rattle.exif_types.specs.ValueTypes.{count_of, type_number, field_type_of}
+use Rattle.exif_types.specs.declared.field_type.FieldType.{FieldType}
+use Rattle.exif_types.specs.declared.field_type.FieldType.TheVariants as field_type
 use Rattle.exif_types.specs.declared.value.Value.{Value}
 use Rattle.exif_types.specs.declared.value.Value.TheVariants.{Byte, Ascii, Short, Long, Rational, SByte, Undefined, SShort, SLong, SRational, Float, Double, Unknown}
-use Rattle.exif_types.specs.FieldTypes.{unit}
+use Rattle.exif_types.specs.FieldTypes.{unit, unit_length}
 use Rattle.exif_writer.specs.Refused.{is_unknown}
 use Rattle.exif_writer.specs.Places.{even}
 
 -- a value of a known type has no more members than bytes
-value_within : (value : Value) → is_unknown value ≡ false → count_of value ≤ unit (type_number value) * count_of value
+pub value_within : (value : Value) → is_unknown value ≡ false → count_of value ≤ unit (type_number value) * count_of value
 value_within (Byte xs) h = omega arith
 value_within (Ascii xs) h = omega arith
 value_within (Short xs) h = omega arith
@@ -34,6 +36,37 @@ value_within (SRational xs) h = omega arith
 value_within (Float xs) h = omega arith
 value_within (Double xs) h = omega arith
 value_within (Unknown type count old) h = absurd cc
+
+-- a known type and its unit
+pub known_unit : (value : Value) (type : FieldType) → field_type_of value ≡ Some type → unit (type_number value) ≡ unit_length type
+known_unit (Byte xs) type h = let e : field_type.Byte ≡ type = cc in ap unit_length e
+known_unit (Ascii xs) type h = let e : field_type.Ascii ≡ type = cc in ap unit_length e
+known_unit (Short xs) type h = let e : field_type.Short ≡ type = cc in ap unit_length e
+known_unit (Long xs) type h = let e : field_type.Long ≡ type = cc in ap unit_length e
+known_unit (Rational xs) type h = let e : field_type.Rational ≡ type = cc in ap unit_length e
+known_unit (SByte xs) type h = let e : field_type.SByte ≡ type = cc in ap unit_length e
+known_unit (Undefined xs old) type h = let e : field_type.Undefined ≡ type = cc in ap unit_length e
+known_unit (SShort xs) type h = let e : field_type.SShort ≡ type = cc in ap unit_length e
+known_unit (SLong xs) type h = let e : field_type.SLong ≡ type = cc in ap unit_length e
+known_unit (SRational xs) type h = let e : field_type.SRational ≡ type = cc in ap unit_length e
+known_unit (Float xs) type h = let e : field_type.Float ≡ type = cc in ap unit_length e
+known_unit (Double xs) type h = let e : field_type.Double ≡ type = cc in ap unit_length e
+known_unit (Unknown type count old) other h = absurd cc
+
+pub never_untyped : (value : Value) → is_unknown value ≡ false → field_type_of value ≡ None → ⊥
+never_untyped (Byte xs) h e = cc
+never_untyped (Ascii xs) h e = cc
+never_untyped (Short xs) h e = cc
+never_untyped (Long xs) h e = cc
+never_untyped (Rational xs) h e = cc
+never_untyped (SByte xs) h e = cc
+never_untyped (Undefined xs old) h e = cc
+never_untyped (SShort xs) h e = cc
+never_untyped (SLong xs) h e = cc
+never_untyped (SRational xs) h e = cc
+never_untyped (Float xs) h e = cc
+never_untyped (Double xs) h e = cc
+never_untyped (Unknown type count old) h e = cc
 
 pub count_within : (source : Source) → IsKnownSource source → source_count source ≤ source_size source
 count_within (Known value) h = value_within value.now h

@@ -16,8 +16,9 @@ use crate::block_kind::BlockKind;
 use crate::forward::{send_u16, send_u32, send_zeros};
 use crate::item::send_value;
 use crate::plan::{Places, Slot, Source};
-use exif_base::{Items, Order, Sink, send_all};
-use exif_types::{Context, Value};
+use crate::sizes::value_size;
+use exif_base::{Order, Sink, send_all};
+use exif_types::{Context, FieldType};
 use std::io;
 
 impl Places {
@@ -88,96 +89,42 @@ impl<'a> Source<'a> {
     }
 }
 
-// How many items a value has, the zero behind each text counted.
-fn count(value: &Value) -> usize
-    requires { count_of value.now ≤ 4294967295 }
-    ensures { result ≡ count_of value.now }
-{
-    match value {
-        Value::Byte(items) | Value::Undefined(items, _) => items.as_slice().len(),
-        Value::Ascii(texts) => texts_len(texts),
-        Value::Short(items) => items.as_slice().len(),
-        Value::Long(items) | Value::Float(items) => items.as_slice().len(),
-        Value::Rational(items) => items.as_slice().len(),
-        Value::SByte(items) => items.as_slice().len(),
-        Value::SShort(items) => items.as_slice().len(),
-        Value::SLong(items) => items.as_slice().len(),
-        Value::SRational(items) => items.as_slice().len(),
-        Value::Double(items) => items.as_slice().len(),
-        Value::Unknown(_, count, _) => *count as usize,
-    }
-}
-
-// How long texts are, with a zero behind each.
-fn texts_len(texts: &Items<Items<u8>>) -> usize
-    requires { length (flat_map ended texts.now) ≤ 4294967295 }
-    ensures { result ≡ length (flat_map ended texts.now) }
-{
-    let mut len = 0;
-    for text in texts.as_slice() {
-        len += text.as_slice().len() + 1;
-    }
-    len
-}
-
-// A value's type, by its number, and how many bytes an item takes.
-fn kind(value: &Value) -> (u16, usize)
-    ensures number { result.0 ≡ type_number value.now }
-    ensures unit { is_unknown value.now ≡ false → result.1 ≡ unit (type_number value.now) }
-{
-    match value {
-        Value::Byte(_) => (1, 1),
-        Value::Ascii(_) => (2, 1),
-        Value::Short(_) => (3, 2),
-        Value::Long(_) => (4, 4),
-        Value::Rational(_) => (5, 8),
-        Value::SByte(_) => (6, 1),
-        Value::Undefined(_, _) => (7, 1),
-        Value::SShort(_) => (8, 2),
-        Value::SLong(_) => (9, 4),
-        Value::SRational(_) => (10, 8),
-        Value::Float(_) => (11, 4),
-        Value::Double(_) => (12, 8),
-        Value::Unknown(kind, _, _) => (*kind, 1),
-    }
-}
-
-#[tactic(auto, using(crate::proofs::SizeSteps::count_within))]
 impl<'a> Source<'a> {
-    // The number of the value's type, and how many bytes an item takes.
-    fn kind(&self) -> (u16, usize)
-        ensures number { result.0 ≡ source_type self.now }
-        ensures unit { IsKnownSource self.now → result.1 ≡ unit (source_type self.now) }
+    // The number of the value's type.
+    fn type_number(&self) -> u16
+        ensures { result ≡ source_type self.now }
     {
         match self {
-            Source::Known(value) => kind(value),
-            Source::PlacesOf(_, _) => (4, 4),
-            Source::LengthsOf(_, _) => (4, 4),
-            Source::PlaceOf(_) => (4, 4),
+            Source::Known(value) => value.type_number(),
+            Source::PlacesOf(_, _) | Source::LengthsOf(_, _) | Source::PlaceOf(_) => {
+                FieldType::Long.number()
+            }
         }
     }
 
     // How many items the value has.
-    fn count(&self) -> usize
+    fn count(&self) -> u32
         requires { source_count self.now ≤ 4294967295 }
         ensures { result ≡ source_count self.now }
     {
         match self {
-            Source::Known(value) => count(value),
-            Source::PlacesOf(_, texts) => texts.len(),
-            Source::LengthsOf(_, texts) => texts.len(),
+            Source::Known(value) => value.count().unwrap(),
+            Source::PlacesOf(_, texts) | Source::LengthsOf(_, texts) => texts.len() as u32,
             Source::PlaceOf(_) => 1,
         }
     }
 
-    // How many bytes the value takes.
-    pub fn size(&self) -> usize
+    /// How many bytes the value takes.
+    pub fn size(&self) -> u32
         requires known { IsKnownSource self.now }
         requires room { source_size self.now ≤ 4294967295 }
         ensures { result ≡ source_size self.now }
     {
-        let (_, unit) = self.kind();
-        unit * self.count()
+        match self {
+            Source::Known(value) => value_size(value).unwrap(),
+            Source::PlacesOf(_, texts) | Source::LengthsOf(_, texts) => 4 * texts.len() as u32,
+            Source::PlaceOf(_) => 4,
+        }
     }
 }
 
@@ -201,11 +148,9 @@ impl<'a> Slot<'a> {
         requires { IsReady places.now self.now }
         ensures sends { Sends W.Sink out.old out.new result (slot_text order places.now self.now) }
     {
-        let (kind, _) = self.source.kind();
-        let count = self.source.count();
         send_u16(out, order, self.tag)?;
-        send_u16(out, order, kind)?;
-        send_u32(out, order, count as u32)?;
+        send_u16(out, order, self.source.type_number())?;
+        send_u32(out, order, self.source.count())?;
         self.send_element(out, order, places)
     }
 

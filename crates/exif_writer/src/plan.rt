@@ -95,7 +95,7 @@ impl<'a> Slot<'a> {
         ensures slot { self.new ≡ settle_slot start self.old }
         ensures end { result ≡ after_slot start self.old }
     {
-        let size = self.source.size() as u32;
+        let size = self.source.size();
         self.size = size;
         if size <= 4 {
             return start;

@@ -1,7 +1,0 @@
-use Rattle.std.proofs.Common.{◌≡◌, length, take}
-use Rattle.std.specs.List.{flat_map}
-use Rattle.exif_writer.proofs.directory.texts_len.Given as goal
-use Rattle.exif_types.specs.Texts.{ended}
-
-abbrev pub invariant-loop-text : goal.invariant-loop-text
-invariant-loop-text l = l.len ≡ length (flat_map ended (take l.text-index l.texts))
