@@ -10,9 +10,9 @@ use Rattle.exif_writer.proofs.Images.Places.{length-value_of, known_value, lengt
 use Rattle.exif_writer.specs.declared.plan.Places.{Places}
 use Rattle.exif_writer.specs.declared.plan.Slot.{Slot}
 use Rattle.exif_writer.specs.declared.plan.Plan.{Plan}
-use Rattle.exif_writer.specs.declared.plan.Source.{Source}
-use Rattle.exif_writer.specs.declared.plan.Source.TheVariants.{Known, PlacesOf, LengthsOf, PlaceOf}
-use Rattle.exif_writer.specs.Sending.{lens, texts_of, block_place, context_place, settled, symbol_of, symbol, source_type, source_count, source_size, slot_text, after_slot, IsSettled, AreSettled, entries_text, slots_text, values_text, blocks_text}
+use Rattle.exif_writer.specs.declared.plan.Content.{Content}
+use Rattle.exif_writer.specs.declared.plan.Content.TheVariants.{Known, PlacesOf, LengthsOf, PlaceOf}
+use Rattle.exif_writer.specs.Sending.{lens, texts_of, block_place, context_place, settled, symbol_of, symbol, content_type, content_count, content_size, slot_text, after_slot, IsSettled, AreSettled, entries_text, slots_text, values_text, blocks_text}
 use Rattle.exif_writer.specs.Plans.{plan_text, plans_text, sent_image}
 use Rattle.exif_writer.specs.Drafts.{places_of, IsPlan, IsSettledPlan, ArePlans}
 use Rattle.exif_writer.proofs.Settling.{zeros_before}
@@ -29,7 +29,7 @@ use Rattle.exif_types.specs.ValueTypes.{type_number, count_of}
 use Rattle.exif_types.specs.declared.value.Value.{Value}
 use Rattle.exif_types.specs.declared.value.Value.TheVariants.{Long}
 use Rattle.exif_types.specs.FieldTypes.{unit}
-use Rattle.exif_writer.specs.Slots.{Draft, source_len, draft_of}
+use Rattle.exif_writer.specs.Slots.{Draft, content_len, draft_of}
 use Rattle.exif_writer.specs.Image.{laid, block_parts, value_parts, directory_part, entry_text, draft_parts, parts_from, header_text, image}
 use Rattle.exif_writer.specs.Places.{written, even, after_value, value_of, blocks_place, directory_place, places_from, entries_of, tiff_place, exif_place, gps_place, interop_place, tiff_values, exif_values, gps_values, interop_values, strips_place, tiles_place, jpeg_place, draft_end, next_place}
 use Rattle.exif_writer.proofs.Images.Words.{IsKnown, AllKnown}
@@ -47,106 +47,106 @@ pub record ArePlaces (draft : Draft) (start : ℕ) (places : Places) : Type 0 wh
   pub block : (blocks : BlockKind) → block_place places blocks ≡ blocks_place draft start blocks
   pub context : (context : Context) → context_place places context ≡ directory_place draft start context
 
-settled_is : (draft : Draft) (start : ℕ) (places : Places) → ArePlaces draft start places → (source : Source) → settled places source ≡ value_of draft start (symbol_of source)
+settled_is : (draft : Draft) (start : ℕ) (places : Places) → ArePlaces draft start places → (content : Content) → settled places content ≡ value_of draft start (symbol_of content)
 settled_is draft start places h (Known value) = refl
 settled_is draft start places h (PlacesOf blocks texts) = ap (λ p. Long (places_from p (lens texts.now))) (h.block blocks)
 settled_is draft start places h (LengthsOf kind texts) = refl
 settled_is draft start places h (PlaceOf context) = ap (λ p. Long (p ∷ [])) (h.context context)
 
 -- what is known of a settled value without its places
-record Measures (places : Places) (source : Source) : Type 0 where
-  type : type_number (settled places source) ≡ source_type source
-  count : count_of (settled places source) ≡ source_count source
+record Measures (places : Places) (content : Content) : Type 0 where
+  type : type_number (settled places content) ≡ content_type content
+  count : count_of (settled places content) ≡ content_count content
 
-measures : (places : Places) (source : Source) → Measures places source
+measures : (places : Places) (content : Content) → Measures places content
 measures places (Known value) = let s = same_moved value.now 0 in record { type = s.type; count = s.count }
 measures places (PlacesOf blocks texts) = record { type = refl; count = places_length (block_place places blocks) texts.now }
 measures places (LengthsOf kind texts) = record { type = refl; count = lens_length texts.now }
 measures places (PlaceOf context) = record { type = refl; count = refl }
 
-pub size_is : (source : Source) → source_len (symbol_of source) ≡ source_size source
+pub size_is : (content : Content) → content_len (symbol_of content) ≡ content_size content
 size_is (Known value) = (same_moved value.now 0).len
 size_is (PlacesOf blocks texts) = ap (λ n. 4 * n) (lens_length texts.now)
 size_is (LengthsOf kind texts) = ap (λ n. 4 * n) (lens_length texts.now)
 size_is (PlaceOf context) = refl
 
-len_is : (places : Places) (source : Source) → value_len (settled places source) ≡ source_size source
-len_is places source = let m = measures places source in λ i. unit (m.type i) * m.count i
+len_is : (places : Places) (content : Content) → value_len (settled places content) ≡ content_size content
+len_is places content = let m = measures places content in λ i. unit (m.type i) * m.count i
 
 -- an entry's text, where its value stands at its place if it isn't in the entry
-entry_is : (order : Order) (places : Places) (slot : Slot) (value : Value) (source : format.Source) (other : ℕ) → settled places slot.source ≡ value
-    → slot.size ≡ source_size slot.source → (nat_le (source_size slot.source) 4 ≡ false → slot.place ≡ other)
-    → slot_text order places slot ≡ entry_text order (record { tag = slot.tag; source = source; value = value; place = other })
-entry_is order places slot value source other e size same =
-    let m = measures places slot.source in
-    let front : (x : List ℕ) → spelled order 2 slot.tag ++ (spelled order 2 (source_type slot.source) ++ (spelled order 4 (source_count slot.source) ++ x))
+entry_is : (order : Order) (places : Places) (slot : Slot) (value : Value) (content : format.Content) (other : ℕ) → settled places slot.content ≡ value
+    → slot.size ≡ content_size slot.content → (nat_le (content_size slot.content) 4 ≡ false → slot.place ≡ other)
+    → slot_text order places slot ≡ entry_text order (record { tag = slot.tag; content = content; value = value; place = other })
+entry_is order places slot value content other e size same =
+    let m = measures places slot.content in
+    let front : (x : List ℕ) → spelled order 2 slot.tag ++ (spelled order 2 (content_type slot.content) ++ (spelled order 4 (content_count slot.content) ++ x))
     ≡ spelled order 2 slot.tag ++ (spelled order 2 (type_number value) ++ (spelled order 4 (count_of value) ++ x)) =
     λ x i. spelled order 2 slot.tag ++ (spelled order 2 ((sym m.type ∙ ap type_number e) i) ++ (spelled order 4 ((sym m.count ∙ ap count_of e) i) ++ x)) in
     front _ ∙ ap (λ x. spelled order 2 slot.tag ++ (spelled order 2 (type_number value) ++ (spelled order 4 (count_of value) ++ x)))
-    (ap (λ n. if nat_le n 4 then encode order (settled places slot.source) ++ replicate (4 - n) 0 else spelled order 4 slot.place) size
-    ∙ last (nat_le (source_size slot.source) 4) refl)
+    (ap (λ n. if nat_le n 4 then encode order (settled places slot.content) ++ replicate (4 - n) 0 else spelled order 4 slot.place) size
+    ∙ last (nat_le (content_size slot.content) 4) refl)
   where
-    last : (b : Bool) → nat_le (source_size slot.source) 4 ≡ b
-        → (if nat_le (source_size slot.source) 4 then encode order (settled places slot.source) ++ replicate (4 - source_size slot.source) 0 else spelled order 4 slot.place)
+    last : (b : Bool) → nat_le (content_size slot.content) 4 ≡ b
+        → (if nat_le (content_size slot.content) 4 then encode order (settled places slot.content) ++ replicate (4 - content_size slot.content) 0 else spelled order 4 slot.place)
         ≡ (if nat_le (value_len value) 4 then encode order value ++ replicate (4 - value_len value) 0 else spelled order 4 other)
     last true h =
-        let k : value_len value ≡ source_size slot.source = ap value_len (sym e) ∙ len_is places slot.source in
+        let k : value_len value ≡ content_size slot.content = ap value_len (sym e) ∙ len_is places slot.content in
         let t : nat_le (value_len value) 4 ≡ true = ap (λ n. nat_le n 4) k ∙ h in
         rw (h, t) (λ i. encode order (e i) ++ replicate (4 - (sym k) i) 0)
     last false h =
-        let k : value_len value ≡ source_size slot.source = ap value_len (sym e) ∙ len_is places slot.source in
+        let k : value_len value ≡ content_size slot.content = ap value_len (sym e) ∙ len_is places slot.content in
         let t : nat_le (value_len value) 4 ≡ false = ap (λ n. nat_le n 4) k ∙ h in
         rw (h, t) (ap (spelled order 4) (same h))
 
 -- slots behind one, settled as images measure
-settled_behind : (start : ℕ) (slot : Slot) (slots : List Slot) → AreSettled (after_slot start slot) slots → AreSettled (after_value start (source_len (symbol_of slot.source))) slots
-settled_behind start slot slots h = let P : ℕ → Type 0 = λ n. AreSettled (after_value start n) slots in subst P (sym (size_is slot.source)) h
+settled_behind : (start : ℕ) (slot : Slot) (slots : List Slot) → AreSettled (after_slot start slot) slots → AreSettled (after_value start (content_len (symbol_of slot.content))) slots
+settled_behind start slot slots h = let P : ℕ → Type 0 = λ n. AreSettled (after_value start n) slots in subst P (sym (size_is slot.content)) h
 
 -- the entries of a directory
 pub entries_are : (order : Order) (draft : Draft) (start : ℕ) (places : Places) → ArePlaces draft start places → (at values : ℕ) (slots : List Slot) → AreSettled values slots
     → entries_text order places slots ≡ flat_map (entry_text order) (written draft start at values (map symbol slots))
 entries_are order draft start places h at values [] s = refl
 entries_are order draft start places h at values (slot ∷ slots) s =
-    let size = size_is slot.source in
+    let size = size_is slot.content in
     let head : slot_text order places slot
-    ≡ entry_text order (record { tag = slot.tag; source = symbol_of slot.source; value = value_of draft start (symbol_of slot.source); place = if nat_le (source_len (symbol_of slot.source)) 4 then at + 8 else even values }) =
-    entry_is order places slot (value_of draft start (symbol_of slot.source)) (symbol_of slot.source) _ (settled_is draft start places h slot.source)
-    s.0.size (λ (big : nat_le (source_size slot.source) 4 ≡ false). rw (size, big) (s.0.place big)) in
-    λ i. head i ++ entries_are order draft start places h (at + 12) (after_value values (source_len (symbol_of slot.source))) slots (settled_behind values slot slots s.1) i
+    ≡ entry_text order (record { tag = slot.tag; content = symbol_of slot.content; value = value_of draft start (symbol_of slot.content); place = if nat_le (content_len (symbol_of slot.content)) 4 then at + 8 else even values }) =
+    entry_is order places slot (value_of draft start (symbol_of slot.content)) (symbol_of slot.content) _ (settled_is draft start places h slot.content)
+    s.0.size (λ (big : nat_le (content_size slot.content) 4 ≡ false). rw (size, big) (s.0.place big)) in
+    λ i. head i ++ entries_are order draft start places h (at + 12) (after_value values (content_len (symbol_of slot.content))) slots (settled_behind values slot slots s.1) i
 
 -- one value of a directory, and what comes behind it
 value_laid : (order : Order) (draft : Draft) (start : ℕ) (places : Places) → ArePlaces draft start places → (at values : ℕ) (slot : Slot) (slots : List Slot)
-    → IsKnown (symbol_of slot.source) → IsSettled values slot
+    → IsKnown (symbol_of slot.content) → IsSettled values slot
     → laid (after_slot values slot) (value_parts order (written draft start (at + 12) (after_slot values slot) (map symbol slots))) ≡ values_text order places slots
-    → (fits : Bool) → nat_le (source_size slot.source) 4 ≡ fits
+    → (fits : Bool) → nat_le (content_size slot.content) 4 ≡ fits
     → laid values (value_parts order (written draft start at values (map symbol (slot ∷ slots)))) ≡ values_text order places (slot ∷ slots)
 value_laid order draft start places h at values slot slots k s more true e =
-    let size = size_is slot.source in
-    let same : nat_le (value_len (value_of draft start (symbol_of slot.source))) 4 ≡ true = ap (λ n. nat_le n 4) (length-value_of draft start (symbol_of slot.source) ∙ size) ∙ e in
+    let size = size_is slot.content in
+    let same : nat_le (value_len (value_of draft start (symbol_of slot.content))) 4 ≡ true = ap (λ n. nat_le n 4) (length-value_of draft start (symbol_of slot.content) ∙ size) ∙ e in
     let inside : nat_le slot.size 4 ≡ true = ap (λ n. nat_le n 4) s.size ∙ e in
     rw (same, size, e, inside) (rw e at more)
 value_laid order draft start places h at values slot slots k s more false e =
-    let size = size_is slot.source in
-    let value : Value = value_of draft start (symbol_of slot.source) in
-    let same : nat_le (value_len value) 4 ≡ false = ap (λ n. nat_le n 4) (length-value_of draft start (symbol_of slot.source) ∙ size) ∙ e in
+    let size = size_is slot.content in
+    let value : Value = value_of draft start (symbol_of slot.content) in
+    let same : nat_le (value_len value) 4 ≡ false = ap (λ n. nat_le n 4) (length-value_of draft start (symbol_of slot.content) ∙ size) ∙ e in
     let outside : nat_le slot.size 4 ≡ false = ap (λ n. nat_le n 4) s.size ∙ e in
-    let len : length (encode order value) ≡ source_size slot.source =
-    length-encode order value (known_value draft start (symbol_of slot.source) k) ∙ length-value_of draft start (symbol_of slot.source) ∙ size in
-    let text : encode order value ≡ encode order (settled places slot.source) = ap (encode order) (sym (settled_is draft start places h slot.source)) in
+    let len : length (encode order value) ≡ content_size slot.content =
+    length-encode order value (known_value draft start (symbol_of slot.content) k) ∙ length-value_of draft start (symbol_of slot.content) ∙ size in
+    let text : encode order value ≡ encode order (settled places slot.content) = ap (encode order) (sym (settled_is draft start places h slot.content)) in
     let gap : even values - values ≡ (if slot.padded then 1 else 0) =
     (let twos : even values - values ≡ values % 2 = omega arith in twos ∙ zeros_before values ∙ sym (ap (λ b. if b then 1 else 0) (s.padded e))) in
-    let next : even values + length (encode order value) ≡ even values + source_size slot.source = ap (λ n. even values + n) len in
+    let next : even values + length (encode order value) ≡ even values + content_size slot.content = ap (λ n. even values + n) len in
     rw (same, size, e, outside) (
-    (λ i. replicate (gap i) 0 ++ (text i ++ laid (next i) (value_parts order (written draft start (at + 12) (even values + source_size slot.source) (map symbol slots)))))
-    ∙ ap (λ r. replicate (if slot.padded then 1 else 0) 0 ++ (encode order (settled places slot.source) ++ r)) (rw e at more)
-    ∙ sym (append_assoc (replicate (if slot.padded then 1 else 0) 0) (encode order (settled places slot.source)) (values_text order places slots)))
+    (λ i. replicate (gap i) 0 ++ (text i ++ laid (next i) (value_parts order (written draft start (at + 12) (even values + content_size slot.content) (map symbol slots)))))
+    ∙ ap (λ r. replicate (if slot.padded then 1 else 0) 0 ++ (encode order (settled places slot.content) ++ r)) (rw e at more)
+    ∙ sym (append_assoc (replicate (if slot.padded then 1 else 0) 0) (encode order (settled places slot.content)) (values_text order places slots)))
 
 pub values_are : (order : Order) (draft : Draft) (start : ℕ) (places : Places) → ArePlaces draft start places → (at values : ℕ) (slots : List Slot) → AllKnown (map symbol slots) → AreSettled values slots
     → laid values (value_parts order (written draft start at values (map symbol slots))) ≡ values_text order places slots
 values_are order draft start places h at values [] k s = refl
 values_are order draft start places h at values (slot ∷ slots) k s =
     value_laid order draft start places h at values slot slots k.0 s.0 (values_are order draft start places h (at + 12) (after_slot values slot) slots k.1 s.1)
-    (nat_le (source_size slot.source) 4) refl
+    (nat_le (content_size slot.content) 4) refl
 
 symbols_length : (slots : List Slot) → length (map symbol slots) ≡ length slots
 symbols_length [] = refl

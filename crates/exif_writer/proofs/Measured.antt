@@ -6,13 +6,13 @@ use Rattle.std.proofs.lemmas.Bool.{le-leb, lt-leb, lt-ltb, le-ltb}
 use Rattle.exif_writer.proofs.Images.Exact as exact
 use Rattle.exif_writer.specs.declared.measure.Tail.{Tail}
 use Rattle.exif_writer.specs.Tails.{measure, Tells}
-use Rattle.exif_writer.specs.Slots.{Slot, source_len, in_tag_order}
+use Rattle.exif_writer.specs.Slots.{Slot, content_len, in_tag_order}
 use Rattle.exif_writer.specs.Places.{after_values}
 use Rattle.exif_writer.specs.Measuring.{span, last_out, end_from}
 
-pub tells_small : (tail : Tail) (size : ℕ) (slots : List Slot) (slot : Slot) → size ≤ 4 → source_len slot.source ≡ size → Tells tail slots → Tells tail (slots ++ slot ∷ [])
+pub tells_small : (tail : Tail) (size : ℕ) (slots : List Slot) (slot : Slot) → size ≤ 4 → content_len slot.content ≡ size → Tells tail slots → Tells tail (slots ++ slot ∷ [])
 tells_small tail size slots slot h e t =
-    let small : nat_le (source_len slot.source) 4 ≡ true = le-leb (source_len slot.source) 4 (omega arith) in
+    let small : nat_le (content_len slot.content) 4 ≡ true = le-leb (content_len slot.content) 4 (omega arith) in
     record {
       bytes = t.bytes ∙ sym (exact.span_pushed slots slot ∙ rw small (omega arith));
       last = t.last ∙ sym (ap (option_map measure) (exact.last_pushed slots slot ∙ rw small refl));
@@ -23,35 +23,35 @@ newer_pair : ℕ → ℕ → Option (ℕ × ℕ) → Option (ℕ × ℕ)
 newer_pair tag size None = Some (tag, size)
 newer_pair tag size (Some last) = if nat_lt tag last.0 then Some last else Some (tag, size)
 
-newer_is : (slot : Slot) (last : Option Slot) → newer_pair slot.tag (source_len slot.source) (option_map measure last) ≡ option_map measure (exact.newer slot last)
+newer_is : (slot : Slot) (last : Option Slot) → newer_pair slot.tag (content_len slot.content) (option_map measure last) ≡ option_map measure (exact.newer slot last)
 unfolding newer_pair
 newer_is slot None = refl
 newer_is slot (Some t) = elim (nat_lt slot.tag t.tag) as (λ b. (if b then Some (measure t) else Some (measure slot)) ≡ option_map measure (if b then Some t else Some slot)) [ true ↦ refl | false ↦ refl ]
 
-tells_big : (tail new : Tail) (tag size : ℕ) (slots : List Slot) (slot : Slot) → 4 < size → slot.tag ≡ tag → source_len slot.source ≡ size → Tells tail slots
+tells_big : (tail new : Tail) (tag size : ℕ) (slots : List Slot) (slot : Slot) → 4 < size → slot.tag ≡ tag → content_len slot.content ≡ size → Tells tail slots
     → new.bytes ≡ tail.bytes + (size + size % 2) → new.last ≡ newer_pair tag size tail.last → Tells new (slots ++ slot ∷ [])
 tells_big tail new tag size slots slot h k e t bytes last =
-    let big : nat_le (source_len slot.source) 4 ≡ false = lt-leb (source_len slot.source) 4 (omega arith) in
-    let pair : newer_pair tag size tail.last ≡ newer_pair slot.tag (source_len slot.source) (option_map measure (last_out slots)) =
+    let big : nat_le (content_len slot.content) 4 ≡ false = lt-leb (content_len slot.content) 4 (omega arith) in
+    let pair : newer_pair tag size tail.last ≡ newer_pair slot.tag (content_len slot.content) (option_map measure (last_out slots)) =
     λ i. newer_pair ((sym k) i) ((sym e) i) (t.last i) in
     record {
       bytes = bytes ∙ (λ i. t.bytes i + (((sym e) i) + ((sym e) i) % 2)) ∙ sym (exact.span_pushed slots slot ∙ rw big refl);
       last = last ∙ pair ∙ newer_is slot (last_out slots) ∙ ap (option_map measure) (sym (exact.last_pushed slots slot ∙ rw big refl));
     }
 
-pub tells_first : (tail new : Tail) (tag size : ℕ) (slots : List Slot) (slot : Slot) → 4 < size → slot.tag ≡ tag → source_len slot.source ≡ size → Tells tail slots
+pub tells_first : (tail new : Tail) (tag size : ℕ) (slots : List Slot) (slot : Slot) → 4 < size → slot.tag ≡ tag → content_len slot.content ≡ size → Tells tail slots
     → new.bytes ≡ tail.bytes + (size + size % 2) → tail.last ≡ None → new.last ≡ Some (tag, size) → Tells new (slots ++ slot ∷ [])
 unfolding newer_pair
 tells_first tail new tag size slots slot h k e t bytes none last =
     tells_big tail new tag size slots slot h k e t bytes (last ∙ sym (ap (newer_pair tag size) none))
 
-pub tells_newer : (tail new : Tail) (tag size : ℕ) (pair : ℕ × ℕ) (slots : List Slot) (slot : Slot) → 4 < size → slot.tag ≡ tag → source_len slot.source ≡ size → Tells tail slots
+pub tells_newer : (tail new : Tail) (tag size : ℕ) (pair : ℕ × ℕ) (slots : List Slot) (slot : Slot) → 4 < size → slot.tag ≡ tag → content_len slot.content ≡ size → Tells tail slots
     → new.bytes ≡ tail.bytes + (size + size % 2) → tail.last ≡ Some pair → pair.0 ≤ tag → new.last ≡ Some (tag, size) → Tells new (slots ++ slot ∷ [])
 unfolding newer_pair
 tells_newer tail new tag size pair slots slot h k e t bytes some low last =
     tells_big tail new tag size slots slot h k e t bytes (last ∙ sym (ap (newer_pair tag size) some ∙ rw (le-ltb tag pair.0 low) refl))
 
-pub tells_older : (tail new : Tail) (tag size : ℕ) (pair : ℕ × ℕ) (slots : List Slot) (slot : Slot) → 4 < size → slot.tag ≡ tag → source_len slot.source ≡ size → Tells tail slots
+pub tells_older : (tail new : Tail) (tag size : ℕ) (pair : ℕ × ℕ) (slots : List Slot) (slot : Slot) → 4 < size → slot.tag ≡ tag → content_len slot.content ≡ size → Tells tail slots
     → new.bytes ≡ tail.bytes + (size + size % 2) → tail.last ≡ Some pair → tag < pair.0 → new.last ≡ tail.last → Tells new (slots ++ slot ∷ [])
 unfolding newer_pair
 tells_older tail new tag size pair slots slot h k e t bytes some high last =

@@ -13,7 +13,7 @@ use Rattle.exif_writer.specs.Image.{image}
 use Rattle.exif_writer.specs.Places.{after_value, after_values, draft_end, drafts_end, next_place, values_place}
 use Rattle.exif_writer.specs.Refused.{write_fault}
 use Rattle.exif_writer.specs.Slots as format
-use Rattle.exif_writer.specs.Slots.{Draft, draft_of, slots_of, block_list, block_slots, set_slots, known, source_len}
+use Rattle.exif_writer.specs.Slots.{Draft, draft_of, slots_of, block_list, block_slots, set_slots, known, content_len}
 use Rattle.exif_writer.proofs.Images.Room.{blocks_len, blocks_within, values_within, values_room, drafts_low}
 use Rattle.exif_writer.proofs.Images.Shares.{always}
 use Rattle.exif_writer.proofs.Images.Slots.{all_slots}
@@ -23,27 +23,27 @@ use Rattle.exif_writer.proofs.Laid.{ArePlaces, are_places, size_is, IsSendable, 
 use Rattle.exif_writer.proofs.Moved.{same_moved}
 use Rattle.exif_writer.specs.Drafts.{IsPlan, ArePlans}
 use Rattle.exif_writer.specs.Plans.{IsReadyDirectory, IsReadyPlan, sent_image}
-use Rattle.exif_writer.specs.Sending.{lens, sum_of, symbol, symbol_of, source_size, Settles, IsKnownSource, IsReady, values_end}
+use Rattle.exif_writer.specs.Sending.{lens, sum_of, symbol, symbol_of, content_size, Settles, IsKnownContent, IsReady, values_end}
 use Rattle.exif_writer.specs.declared.plan.Places.{Places}
 use Rattle.exif_writer.specs.declared.plan.Plan.{Plan}
 use Rattle.exif_writer.specs.declared.plan.Slot.{Slot}
-use Rattle.exif_writer.specs.declared.plan.Source.{Source}
-use Rattle.exif_writer.specs.declared.plan.Source.TheVariants.{Known, PlacesOf, LengthsOf, PlaceOf}
+use Rattle.exif_writer.specs.declared.plan.Content.{Content}
+use Rattle.exif_writer.specs.declared.plan.Content.TheVariants.{Known, PlacesOf, LengthsOf, PlaceOf}
 
 -- an entry of blocks holds the lengths of the blocks that are set
-abbrev Holds : Group → format.Source → Type 0
+abbrev Holds : Group → format.Content → Type 0
 Holds group (format.Known value) = ⊤
 Holds group (format.PlacesOf kind lengths) = lengths ≡ map length (block_list (blocks_in group kind))
 Holds group (format.LengthsOf kind lengths) = lengths ≡ map length (block_list (blocks_in group kind))
 Holds group (format.PlaceOf context) = ⊤
 
-held_blocks : (group : Group) (kind : BlockKind) (set : Option (List (List ℕ))) → blocks_in group kind ≡ set → AllByRecursion (λ slot. Holds group slot.source) (set_slots kind set)
+held_blocks : (group : Group) (kind : BlockKind) (set : Option (List (List ℕ))) → blocks_in group kind ≡ set → AllByRecursion (λ slot. Holds group slot.content) (set_slots kind set)
 held_blocks group kind None e = tt
 held_blocks group kind (Some texts) e = (ap (λ o. map length (block_list o)) (sym e), (ap (λ o. map length (block_list o)) (sym e), tt))
 
-held : (group : Group) (context : Context) → AllByRecursion (λ slot. Holds group slot.source) (slots_of group context)
+held : (group : Group) (context : Context) → AllByRecursion (λ slot. Holds group slot.content) (slots_of group context)
 held group context =
-    all_slots (λ c slot. Holds group slot.source) group (λ c. always (λ entry. Holds group (known entry).source) (λ entry. tt) (pushed_in group c))
+    all_slots (λ c slot. Holds group slot.content) group (λ c. always (λ entry. Holds group (known entry).content) (λ entry. tt) (pushed_in group c))
     (λ kind. held_blocks group kind (blocks_in group kind) refl) (λ some. tt) (λ some. tt) (λ some. tt) context
 
 -- how many bytes blocks have, by their lengths
@@ -63,18 +63,18 @@ len_total (text ∷ texts) = ap (λ n. length text + n) (len_total texts)
 ends_same : (values : ℕ) (slots : List Slot) → values_end values slots ≡ after_values values (map symbol slots)
 ends_same values [] = refl
 ends_same values (slot ∷ slots) =
-    ends_same (after_value values (source_size slot.source)) slots
-    ∙ (λ i. after_values (after_value values ((sym (size_is slot.source)) i)) (map symbol slots))
+    ends_same (after_value values (content_size slot.content)) slots
+    ∙ (λ i. after_values (after_value values ((sym (size_is slot.content)) i)) (map symbol slots))
 
 symbols_length : (slots : List Slot) → length (map symbol slots) ≡ length slots
 symbols_length [] = refl
 symbols_length (slot ∷ slots) = ap (λ n. suc n) (symbols_length slots)
 
-known_source : (source : Source) → IsKnown (symbol_of source) → IsKnownSource source
-known_source (Known value) k = sym (same_moved value.now 0).unknown ∙ k
-known_source (PlacesOf kind texts) k = tt
-known_source (LengthsOf kind texts) k = tt
-known_source (PlaceOf context) k = tt
+known_content : (content : Content) → IsKnown (symbol_of content) → IsKnownContent content
+known_content (Known value) k = sym (same_moved value.now 0).unknown ∙ k
+known_content (PlacesOf kind texts) k = tt
+known_content (LengthsOf kind texts) k = tt
+known_content (PlaceOf context) k = tt
 
 -- the plan of a group that is accepted, whose draft ends where 32 bits reach
 module _ (group : Group) (start next : ℕ) (plan : Plan) (is : IsPlan (draft_of group) start next plan) (h : IsAccepted group)
@@ -82,7 +82,7 @@ module _ (group : Group) (start next : ℕ) (plan : Plan) (is : IsPlan (draft_of
   at : ArePlaces (draft_of group) start plan.places
   at = let P : Places → Type 0 = ArePlaces (draft_of group) start in subst P (sym is.places) (are_places (draft_of group) start next)
 
-  settles : (source : Source) → Holds group (symbol_of source) → Settles plan.places source
+  settles : (content : Content) → Holds group (symbol_of content) → Settles plan.places content
   settles (Known value) e = tt
   settles (PlacesOf kind texts) e =
       let sum : sum_of texts.now ≡ blocks_len (block_list (blocks_in group kind)) = sum_total texts.now ∙ ap total e ∙ sym (len_total (block_list (blocks_in group kind))) in
@@ -95,14 +95,14 @@ module _ (group : Group) (start next : ℕ) (plan : Plan) (is : IsPlan (draft_of
       omega arith
   settles (PlaceOf context) e = tt
 
-  ready_slots : (slots : List Slot) → AllByRecursion (λ slot. Holds group slot.source) (map symbol slots) → AllKnown (map symbol slots)
-      → AllByRecursion (λ slot. source_len slot.source ≤ 4294967295) (map symbol slots) → AllByRecursion (IsReady plan.places) slots
+  ready_slots : (slots : List Slot) → AllByRecursion (λ slot. Holds group slot.content) (map symbol slots) → AllKnown (map symbol slots)
+      → AllByRecursion (λ slot. content_len slot.content ≤ 4294967295) (map symbol slots) → AllByRecursion (IsReady plan.places) slots
   ready_slots [] a b c = tt
   ready_slots (slot ∷ slots) a b c = (
     record {
-      settles = settles slot.source a.0;
-      known = known_source slot.source b.0;
-      room = (let size = size_is slot.source in let low = c.0 in omega arith);
+      settles = settles slot.content a.0;
+      known = known_content slot.content b.0;
+      room = (let size = size_is slot.content in let low = c.0 in omega arith);
     },
     ready_slots slots a.1 b.1 c.1,
   )
@@ -111,9 +111,9 @@ module _ (group : Group) (start next : ℕ) (plan : Plan) (is : IsPlan (draft_of
       → IsReadyDirectory plan.places values slots
   ready_directory context slots values e v =
       let ends : after_values (values_place (draft_of group) start context) (slots_of group context) ≤ 4294967295 = le_trans (values_within (draft_of group) start context) room in
-      let A : List format.Slot → Type 0 = AllByRecursion (λ slot. Holds group slot.source) in
+      let A : List format.Slot → Type 0 = AllByRecursion (λ slot. Holds group slot.content) in
       let B : List format.Slot → Type 0 = AllKnown in
-      let C : List format.Slot → Type 0 = AllByRecursion (λ slot. source_len slot.source ≤ 4294967295) in
+      let C : List format.Slot → Type 0 = AllByRecursion (λ slot. content_len slot.content ≤ 4294967295) in
       let same : values_end values slots ≡ after_values (values_place (draft_of group) start context) (slots_of group context) = ends_same values slots ∙ (λ i. after_values (v i) (e i)) in
       let few = h.few context in
       let count : length slots ≡ length (slots_of group context) = sym (symbols_length slots) ∙ ap length e in

@@ -10,7 +10,7 @@ use Rattle.std.specs.declared.vec.Vec.{Vec}
 use mir.Val.{bool_byte}
 use Rattle.exif_writer.specs.Slots as format
 use Rattle.exif_writer.specs.Places.{even, after_value}
-use Rattle.exif_writer.specs.Sending.{source_size, symbol, after_slot, values_end, settle_slot, settle, IsSettled, AreSettled, IsMeasurable, IsReady}
+use Rattle.exif_writer.specs.Sending.{content_size, symbol, after_slot, values_end, settle_slot, settle, IsSettled, AreSettled, IsMeasurable, IsReady}
 use Rattle.exif_writer.specs.declared.plan.Places.{Places}
 use Rattle.exif_writer.specs.declared.plan.Slot.{Slot}
 
@@ -36,19 +36,19 @@ settle_all start slots i h = (λ k. settle start (take_all i slots h k) ++ drop_
 -- settling leaves what a slot says
 slot_same : (start : ℕ) (slot : Slot) → symbol (settle_slot start slot) ≡ symbol slot
 slot_same start slot =
-    elim (nat_le (source_size slot.source) 4) as (λ b. symbol (if b then record slot { size = source_size slot.source } else record slot { size = source_size slot.source; place = even start; padded = start % 2 == 1 }) ≡ symbol slot) [ true ↦ refl | false ↦ refl ]
+    elim (nat_le (content_size slot.content) 4) as (λ b. symbol (if b then record slot { size = content_size slot.content } else record slot { size = content_size slot.content; place = even start; padded = start % 2 == 1 }) ≡ symbol slot) [ true ↦ refl | false ↦ refl ]
 
 pub settle_same : (start : ℕ) (slots : List Slot) → map symbol (settle start slots) ≡ map symbol slots
 settle_same start [] = refl
 settle_same start (slot ∷ slots) = λ i. slot_same start slot i ∷ settle_same (after_slot start slot) slots i
 
 -- settled slots are such
-source_same : (start : ℕ) (slot : Slot) → (settle_slot start slot).source ≡ slot.source
-source_same start slot =
-    elim (nat_le (source_size slot.source) 4) as (λ b. (let s : Slot = if b then record slot { size = source_size slot.source } else record slot { size = source_size slot.source; place = even start; padded = start % 2 == 1 } in s).source ≡ slot.source) [ true ↦ refl | false ↦ refl ]
+content_same : (start : ℕ) (slot : Slot) → (settle_slot start slot).content ≡ slot.content
+content_same start slot =
+    elim (nat_le (content_size slot.content) 4) as (λ b. (let s : Slot = if b then record slot { size = content_size slot.content } else record slot { size = content_size slot.content; place = even start; padded = start % 2 == 1 } in s).content ≡ slot.content) [ true ↦ refl | false ↦ refl ]
 
-settled_by : (start : ℕ) (slot : Slot) (b : Bool) → nat_le (source_size slot.source) 4 ≡ b
-    → IsSettled start (if b then record slot { size = source_size slot.source } else record slot { size = source_size slot.source; place = even start; padded = start % 2 == 1 })
+settled_by : (start : ℕ) (slot : Slot) (b : Bool) → nat_le (content_size slot.content) 4 ≡ b
+    → IsSettled start (if b then record slot { size = content_size slot.content } else record slot { size = content_size slot.content; place = even start; padded = start % 2 == 1 })
 settled_by start slot true e = record { size = refl; place = λ h. absurd (true≢false (sym e ∙ h)); padded = λ h. absurd (true≢false (sym e ∙ h)) }
 settled_by start slot false e = record { size = refl; place = λ h. refl; padded = λ h. refl }
 
@@ -56,8 +56,8 @@ pub settle_are : (start : ℕ) (slots : List Slot) → AreSettled start (settle 
 settle_are start [] = tt
 settle_are start (slot ∷ slots) =
     let P : ℕ → Type 0 = λ end. AreSettled end (settle (after_slot start slot) slots) in
-    let same : after_slot start slot ≡ after_slot start (settle_slot start slot) = ap (λ source. after_value start (source_size source)) (sym (source_same start slot)) in
-    (settled_by start slot (nat_le (source_size slot.source) 4) refl, subst P same (settle_are (after_slot start slot) slots))
+    let same : after_slot start slot ≡ after_slot start (settle_slot start slot) = ap (λ content. after_value start (content_size content)) (sym (content_same start slot)) in
+    (settled_by start slot (nat_le (content_size slot.content) 4) refl, subst P same (settle_are (after_slot start slot) slots))
 
 -- slots that can be sent can be settled
 pub measurable : (places : Places) (slots : List Slot) → AllByRecursion (IsReady places) slots → AllByRecursion IsMeasurable slots

@@ -6,9 +6,9 @@ use Rattle.exif_writer.specs.declared.plan.Slot.{Slot}
 use Rattle.exif_writer.proofs.Loops.{around}
 use Rattle.exif_writer.proofs.Running.{state-append}
 use Rattle.std.specs.List.{AllByRecursion}
-use Rattle.exif_writer.specs.declared.plan.Source.{Source}
-use Rattle.exif_writer.specs.declared.plan.Source.TheVariants.{Known, PlacesOf, LengthsOf, PlaceOf}
-use Rattle.exif_writer.specs.Sending.{source_count, source_size, IsKnownSource, slots_text, entries_text, after_slot, values_end, element, settled, value_text}
+use Rattle.exif_writer.specs.declared.plan.Content.{Content}
+use Rattle.exif_writer.specs.declared.plan.Content.TheVariants.{Known, PlacesOf, LengthsOf, PlaceOf}
+use Rattle.exif_writer.specs.Sending.{content_count, content_size, IsKnownContent, slots_text, entries_text, after_slot, values_end, element, settled, value_text}
 use Rattle.std.proofs.lemmas.Bool.{le-leb, lt-leb}
 use Rattle.exif_base.specs.declared.endian.Order.{Order}
 use Rattle.exif_writer.specs.Encoding.{spelled, encode}
@@ -68,7 +68,7 @@ never_untyped (Float xs) h e = cc
 never_untyped (Double xs) h e = cc
 never_untyped (Unknown type count old) h e = cc
 
-pub count_within : (source : Source) → IsKnownSource source → source_count source ≤ source_size source
+pub count_within : (content : Content) → IsKnownContent content → content_count content ≤ content_size content
 count_within (Known value) h = value_within value.now h
 count_within (PlacesOf blocks texts) h = omega arith
 count_within (LengthsOf kind texts) h = omega arith
@@ -88,7 +88,7 @@ all_at P (y ∷ xs) (suc i) x d a h e = all_at P xs i x d a.1 (omega arith) e
 
 -- places only grow
 pub slot_low : (place : ℕ) (slot : Slot) → place ≤ after_slot place slot
-slot_low place slot = elim (nat_le (source_size slot.source) 4) as (λ b. place ≤ (if b then place else even place + source_size slot.source)) [ true ↦ omega arith | false ↦ omega arith ]
+slot_low place slot = elim (nat_le (content_size slot.content) 4) as (λ b. place ≤ (if b then place else even place + content_size slot.content)) [ true ↦ omega arith | false ↦ omega arith ]
 
 pub slots_low : (place : ℕ) (slots : List Slot) → place ≤ values_end place slots
 slots_low place [] = omega arith
@@ -106,10 +106,10 @@ slot_within values place slots i x d h e k =
 
 -- a value that stands in its entry
 pub element_inside : (order : Order) (places : Places) (slot : Slot) → slot.size ≤ 4
-    → element order places slot ≡ encode order (settled places slot.source) ++ replicate (4 - slot.size) 0
+    → element order places slot ≡ encode order (settled places slot.content) ++ replicate (4 - slot.size) 0
 element_inside order places slot h = rw (le-leb slot.size 4 h) refl
 
 -- a value that doesn't
 pub value_outside : (order : Order) (places : Places) (slot : Slot) → 4 < slot.size
-    → value_text order places slot ≡ replicate (if slot.padded then 1 else 0) 0 ++ encode order (settled places slot.source)
+    → value_text order places slot ≡ replicate (if slot.padded then 1 else 0) 0 ++ encode order (settled places slot.content)
 value_outside order places slot h = rw (lt-leb slot.size 4 h) refl

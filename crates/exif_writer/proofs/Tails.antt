@@ -24,7 +24,7 @@ use Rattle.exif_writer.specs.Encoding.{value_len}
 use Rattle.exif_writer.specs.Measuring.{span, last_out, end_from}
 use Rattle.exif_writer.specs.Places.{even, after_values}
 use Rattle.exif_writer.specs.Refused.{any_unknown, is_unknown}
-use Rattle.exif_writer.specs.Slots.{Slot, PlacesOf, LengthsOf, PlaceOf, known, source_len, set_slots, block_slots, pointer_slots, exif_slots, gps_slots, interop_slots, tiff_unsorted, unsorted, slots_of}
+use Rattle.exif_writer.specs.Slots.{Slot, PlacesOf, LengthsOf, PlaceOf, known, content_len, set_slots, block_slots, pointer_slots, exif_slots, gps_slots, interop_slots, tiff_unsorted, unsorted, slots_of}
 
 -- what follows of an answer that there is, and of none
 pub none_map : {T P Q : Type 0} (o : Option T) → (P → Q) → IfNone o P → IfNone o Q
@@ -44,18 +44,18 @@ span-append [] ys = omega arith
 span-append (x ∷ xs) ys = let e = span-append xs ys in omega arith
 
 -- a value that doesn't stand in its entry counts whole
-pub over_one : (tail : Tail) (size : ℕ) (slots : List Slot) (slot : Slot) → 4 < size → Tells tail slots → source_len slot.source ≡ size
+pub over_one : (tail : Tail) (size : ℕ) (slots : List Slot) (slot : Slot) → 4 < size → Tells tail slots → content_len slot.content ≡ size
     → 2 ^ 32 ≤ tail.bytes + (size + size % 2) → 2 ^ 32 ≤ span (slots ++ slot ∷ [])
 over_one tail size slots slot h t e over =
-    let big : nat_le (source_len slot.source) 4 ≡ false = lt-leb (source_len slot.source) 4 (omega arith) in
-    let k : span (slots ++ slot ∷ []) ≡ span slots + even (source_len slot.source) = exact.span_pushed slots slot ∙ rw big refl in
+    let big : nat_le (content_len slot.content) 4 ≡ false = lt-leb (content_len slot.content) 4 (omega arith) in
+    let k : span (slots ++ slot ∷ []) ≡ span slots + even (content_len slot.content) = exact.span_pushed slots slot ∙ rw big refl in
     let b = t.bytes in
     omega arith
 
-pub over_alone : (size : ℕ) (slots : List Slot) (slot : Slot) → 2 ^ 32 ≤ size → source_len slot.source ≡ size → 2 ^ 32 ≤ span (slots ++ slot ∷ [])
+pub over_alone : (size : ℕ) (slots : List Slot) (slot : Slot) → 2 ^ 32 ≤ size → content_len slot.content ≡ size → 2 ^ 32 ≤ span (slots ++ slot ∷ [])
 over_alone size slots slot h e =
-    let big : nat_le (source_len slot.source) 4 ≡ false = lt-leb (source_len slot.source) 4 (omega arith) in
-    let k : span (slots ++ slot ∷ []) ≡ span slots + even (source_len slot.source) = exact.span_pushed slots slot ∙ rw big refl in
+    let big : nat_le (content_len slot.content) 4 ≡ false = lt-leb (content_len slot.content) 4 (omega arith) in
+    let k : span (slots ++ slot ∷ []) ≡ span slots + even (content_len slot.content) = exact.span_pushed slots slot ∙ rw big refl in
     omega arith
 
 -- a slot, and another one behind it
@@ -70,10 +70,10 @@ span_first slots a b =
 
 -- the two slots of blocks
 abbrev pub place_slot : BlockKind → List (Bor (List ℕ)) → Slot
-place_slot kind texts = record { tag = places_tag kind; source = PlacesOf kind (lens texts) }
+place_slot kind texts = record { tag = places_tag kind; content = PlacesOf kind (lens texts) }
 
 abbrev pub length_slot : BlockKind → List (Bor (List ℕ)) → Slot
-length_slot kind texts = record { tag = lengths_tag kind; source = LengthsOf kind (lens texts) }
+length_slot kind texts = record { tag = lengths_tag kind; content = LengthsOf kind (lens texts) }
 
 pub slot_len : (texts : List (Bor (List ℕ))) (size : ℕ) → size ≡ 4 * length texts → 4 * length (lens texts) ≡ size
 slot_len texts size e = let k = lens_length texts in omega arith
@@ -106,7 +106,7 @@ span_front fields n =
     omega arith
 
 -- how long the value of a pushed field is
-pub known_len : (field : Field) → source_len (known (entry_of field)).source ≡ value_len field.value
+pub known_len : (field : Field) → content_len (known (entry_of field)).content ≡ value_len field.value
 known_len field = (same_moved field.value 0).len
 
 -- none of the fields has a value of an unknown type
@@ -128,13 +128,13 @@ span_longer xs ys = let e = span-append xs ys in omega arith
 -- slots whose values stand in their entries tell nothing
 pub tells_pointer : (tail : Tail) (slots : List Slot) (tag : ℕ) (child : Context) (entries : List Slot) → Tells tail slots → Tells tail (slots ++ pointer_slots tag child entries)
 tells_pointer tail slots tag child [] t = rw (append-nil slots) t
-tells_pointer tail slots tag child (entry ∷ entries) t = tells_small tail 4 slots (record { tag = tag; source = PlaceOf child }) (omega arith) refl t
+tells_pointer tail slots tag child (entry ∷ entries) t = tells_small tail 4 slots (record { tag = tag; content = PlaceOf child }) (omega arith) refl t
 
 tells_jpeg : (tail : Tail) (slots : List Slot) (jpeg : Option (List ℕ)) → Tells tail slots → Tells tail (slots ++ set_slots Jpeg (single jpeg))
 tells_jpeg tail slots None t = rw (append-nil slots) t
 tells_jpeg tail slots (Some text) t =
-    let a : Slot = record { tag = places_tag Jpeg; source = PlacesOf Jpeg (length text ∷ []) } in
-    let b : Slot = record { tag = lengths_tag Jpeg; source = LengthsOf Jpeg (length text ∷ []) } in
+    let a : Slot = record { tag = places_tag Jpeg; content = PlacesOf Jpeg (length text ∷ []) } in
+    let b : Slot = record { tag = lengths_tag Jpeg; content = LengthsOf Jpeg (length text ∷ []) } in
     let P : List Slot → Type 0 = Tells tail in
     subst P (pushed_two slots a b) (tells_small tail 4 (slots ++ a ∷ []) b (omega arith) refl (tells_small tail 4 slots a (omega arith) refl t))
 
@@ -185,6 +185,6 @@ span_beyond place group context low h = go (last_out (unsorted group context)) r
     go : (last : Option Slot) → last_out (unsorted group context) ≡ last → 2 ^ 32 ≤ after_values place (slots_of group context)
     go None e = let none = exact.span_none (unsorted group context) e in absurd (omega arith)
     go (Some last) e =
-        let k : after_values place (slots_of group context) ≡ even place + span (unsorted group context) - source_len last.source % 2 =
+        let k : after_values place (slots_of group context) ≡ even place + span (unsorted group context) - content_len last.content % 2 =
         values_end_is place group context ∙ ap (end_from place (span (unsorted group context))) e in
         omega arith

@@ -18,7 +18,7 @@ field_of context tag ifd value = record { tag = record { 0 = context; 1 = tag };
 -- the fields of an entry; an undefined value has the place where its bytes stand
 abbrev pub entry_fields : (Context → List Field) → Context → ℕ → Written → List Field
 entry_fields inner context ifd entry =
-    elim entry.source [
+    elim entry.content [
       | PlaceOf child ↦ inner child
       | _ ↦ field_of context entry.tag ifd (moved_to entry.place entry.value) ∷ []
     ]

@@ -1,16 +1,16 @@
 -- The length of values, measured over entries in any order of tags.
 use Rattle.std.specs.Prelude.{ℕ, ◌+◌, ◌-◌, ◌%◌, nat_le, nat_lt, List, [], ◌∷◌, Bool, Option, Some, None, if◌then◌else◌}
-use Rattle.exif_writer.specs.Slots.{Slot, source_len}
+use Rattle.exif_writer.specs.Slots.{Slot, content_len}
 use Rattle.exif_writer.specs.Places.{even}
 
 -- the value stands in its entry
 abbrev pub fits : Slot → Bool
-fits slot = nat_le (source_len slot.source) 4
+fits slot = nat_le (content_len slot.content) 4
 
 -- how many bytes the values outside of the entries take, each made even
 abbrev pub span : List Slot → ℕ
 span [] = 0
-span (slot ∷ slots) = (if fits slot then 0 else even (source_len slot.source)) + span slots
+span (slot ∷ slots) = (if fits slot then 0 else even (content_len slot.content)) + span slots
 
 -- of a slot and the last one in tag order of those behind it, the last in tag order
 abbrev pub later : Slot → Option Slot → Option Slot
@@ -25,4 +25,4 @@ last_out (slot ∷ slots) = if fits slot then last_out slots else later slot (la
 -- where values end that begin at a place and take so many bytes, each made even but for the last one's own length
 abbrev pub end_from : ℕ → ℕ → Option Slot → ℕ
 end_from place bytes None = place
-end_from place bytes (Some last) = even place + bytes - source_len last.source % 2
+end_from place bytes (Some last) = even place + bytes - content_len last.content % 2

@@ -6,7 +6,7 @@ use Rattle.exif_table.specs.declared.context.Context.{Context}
 use Rattle.exif_table.specs.declared.context.Context.TheVariants.{Tiff, Exif, Gps, Interop}
 use Rattle.exif_writer.specs.declared.block_kind.BlockKind.{BlockKind}
 use Rattle.exif_writer.specs.declared.block_kind.BlockKind.TheVariants.{Strips, Tiles, Jpeg}
-use Rattle.exif_writer.specs.Slots.{Draft, Slot, Source, Known, PlacesOf, LengthsOf, PlaceOf, source_len}
+use Rattle.exif_writer.specs.Slots.{Draft, Slot, Content, Known, PlacesOf, LengthsOf, PlaceOf, content_len}
 
 -- the length of a directory; one with no entries isn't there
 abbrev pub directory_len : List Slot → ℕ
@@ -24,7 +24,7 @@ after_value place len = if nat_le len 4 then place else even place + len
 -- where the values of entries end that begin at a place
 abbrev pub after_values : ℕ → List Slot → ℕ
 after_values place [] = place
-after_values place (slot ∷ slots) = after_values (after_value place (source_len slot.source)) slots
+after_values place (slot ∷ slots) = after_values (after_value place (content_len slot.content)) slots
 
 -- where blocks end that begin at a place
 abbrev pub after_blocks : ℕ → List (List ℕ) → ℕ
@@ -102,7 +102,7 @@ places_from place [] = []
 places_from place (len ∷ lengths) = place ∷ places_from (place + len) lengths
 
 -- the value of an entry, once the places are settled
-abbrev pub value_of : Draft → ℕ → Source → Value
+abbrev pub value_of : Draft → ℕ → Content → Value
 value_of draft start (Known value) = value
 value_of draft start (PlacesOf kind lengths) = Long (places_from (blocks_place draft start kind) lengths)
 value_of draft start (LengthsOf kind lengths) = Long lengths
@@ -111,7 +111,7 @@ value_of draft start (PlaceOf context) = Long (directory_place draft start conte
 -- an entry as it is written: its value, and the place where the value's bytes stand
 pub record Written : Type 0 where
   pub tag : ℕ
-  pub source : Source
+  pub content : Content
   pub value : Value
   pub place : ℕ
 
@@ -119,8 +119,8 @@ pub record Written : Type 0 where
 abbrev pub written : Draft → ℕ → ℕ → ℕ → List Slot → List Written
 written draft start at values [] = []
 written draft start at values (slot ∷ slots) =
-    record { tag = slot.tag; source = slot.source; value = value_of draft start slot.source; place = if nat_le (source_len slot.source) 4 then at + 8 else even values }
-    ∷ written draft start (at + 12) (after_value values (source_len slot.source)) slots
+    record { tag = slot.tag; content = slot.content; value = value_of draft start slot.content; place = if nat_le (content_len slot.content) 4 then at + 8 else even values }
+    ∷ written draft start (at + 12) (after_value values (content_len slot.content)) slots
 
 abbrev pub entries_of : Draft → ℕ → Context → List Written
 entries_of draft start context =

@@ -6,8 +6,8 @@ use Rattle.exif_writer.specs.Slots as format
 use Rattle.exif_writer.specs.Running.{state}
 use Rattle.exif_writer.specs.declared.plan.Places.{Places}
 use Rattle.exif_writer.specs.declared.plan.Slot.{Slot}
-use Rattle.exif_writer.specs.declared.plan.Source.{Source}
-use Rattle.exif_writer.specs.declared.plan.Source.TheVariants.{Known, PlacesOf, LengthsOf, PlaceOf}
+use Rattle.exif_writer.specs.declared.plan.Content.{Content}
+use Rattle.exif_writer.specs.declared.plan.Content.TheVariants.{Known, PlacesOf, LengthsOf, PlaceOf}
 use Rattle.exif_types.specs.declared.value.Value.{Value}
 use Rattle.exif_types.specs.declared.value.Value.TheVariants.{Long}
 use Rattle.exif_table.specs.declared.context.Context.{Context}
@@ -44,71 +44,71 @@ context_place places Gps = places.gps
 context_place places Interop = places.interop
 
 -- the value of an entry
-abbrev pub settled : Places → Source → Value
+abbrev pub settled : Places → Content → Value
 settled places (Known value) = moved_to 0 value.now
 settled places (PlacesOf blocks texts) = Long (places_from (block_place places blocks) (lens texts.now))
 settled places (LengthsOf kind texts) = Long (lens texts.now)
 settled places (PlaceOf context) = Long (context_place places context ∷ [])
 
 -- the places and lengths of blocks fit into 32 bits
-abbrev pub Settles : Places → Source → Type 0
+abbrev pub Settles : Places → Content → Type 0
 Settles places (Known value) = ⊤
 Settles places (PlacesOf blocks texts) = block_place places blocks + sum_of texts.now ≤ 4294967295
 Settles places (LengthsOf kind texts) = sum_of texts.now ≤ 4294967295
 Settles places (PlaceOf context) = ⊤
 
 -- where the value comes from, in the words of images
-abbrev pub symbol_of : Source → format.Source
+abbrev pub symbol_of : Content → format.Content
 symbol_of (Known value) = format.Known (moved_to 0 value.now)
 symbol_of (PlacesOf blocks texts) = format.PlacesOf blocks (lens texts.now)
 symbol_of (LengthsOf kind texts) = format.LengthsOf kind (lens texts.now)
 symbol_of (PlaceOf context) = format.PlaceOf context
 
 abbrev pub symbol : Slot → format.Slot
-symbol slot = record { tag = slot.tag; source = symbol_of slot.source }
+symbol slot = record { tag = slot.tag; content = symbol_of slot.content }
 
 -- the value's type, how many members and how many bytes it has
-abbrev pub source_type : Source → ℕ
-source_type (Known value) = type_number value.now
-source_type (PlacesOf blocks texts) = 4
-source_type (LengthsOf kind texts) = 4
-source_type (PlaceOf context) = 4
+abbrev pub content_type : Content → ℕ
+content_type (Known value) = type_number value.now
+content_type (PlacesOf blocks texts) = 4
+content_type (LengthsOf kind texts) = 4
+content_type (PlaceOf context) = 4
 
-abbrev pub source_count : Source → ℕ
-source_count (Known value) = count_of value.now
-source_count (PlacesOf blocks texts) = length texts.now
-source_count (LengthsOf kind texts) = length texts.now
-source_count (PlaceOf context) = 1
+abbrev pub content_count : Content → ℕ
+content_count (Known value) = count_of value.now
+content_count (PlacesOf blocks texts) = length texts.now
+content_count (LengthsOf kind texts) = length texts.now
+content_count (PlaceOf context) = 1
 
-abbrev pub source_size : Source → ℕ
-source_size source = unit (source_type source) * source_count source
+abbrev pub content_size : Content → ℕ
+content_size content = unit (content_type content) * content_count content
 
-abbrev pub IsKnownSource : Source → Type 0
-IsKnownSource (Known value) = is_unknown value.now ≡ false
-IsKnownSource (PlacesOf blocks texts) = ⊤
-IsKnownSource (LengthsOf kind texts) = ⊤
-IsKnownSource (PlaceOf context) = ⊤
+abbrev pub IsKnownContent : Content → Type 0
+IsKnownContent (Known value) = is_unknown value.now ≡ false
+IsKnownContent (PlacesOf blocks texts) = ⊤
+IsKnownContent (LengthsOf kind texts) = ⊤
+IsKnownContent (PlaceOf context) = ⊤
 
 -- the last four bytes of an entry: its value, or the place where it stands
 abbrev pub element : Order → Places → Slot → List ℕ
 element order places slot =
-    if nat_le slot.size 4 then encode order (settled places slot.source) ++ replicate (4 - slot.size) 0
+    if nat_le slot.size 4 then encode order (settled places slot.content) ++ replicate (4 - slot.size) 0
     else spelled order 4 slot.place
 
 -- the 12 bytes of an entry
 abbrev pub slot_text : Order → Places → Slot → List ℕ
 slot_text order places slot =
-    spelled order 2 slot.tag ++ (spelled order 2 (source_type slot.source) ++ (spelled order 4 (source_count slot.source) ++ element order places slot))
+    spelled order 2 slot.tag ++ (spelled order 2 (content_type slot.content) ++ (spelled order 4 (content_count slot.content) ++ element order places slot))
 
 -- a slot that can be settled and sent: its value is of a known type, and its numbers fit into 32 bits
 pub record IsReady (places : Places) (slot : Slot) : Type 0 where
-  pub settles : Settles places slot.source
-  pub known : IsKnownSource slot.source
-  pub room : source_size slot.source ≤ 4294967295
+  pub settles : Settles places slot.content
+  pub known : IsKnownContent slot.content
+  pub room : content_size slot.content ≤ 4294967295
 
 -- where the next value may stand, and where the values of slots end
 abbrev pub after_slot : ℕ → Slot → ℕ
-after_slot start slot = after_value start (source_size slot.source)
+after_slot start slot = after_value start (content_size slot.content)
 
 abbrev pub values_end : ℕ → List Slot → ℕ
 values_end start slots = state after_slot start slots
@@ -116,13 +116,13 @@ values_end start slots = state after_slot start slots
 -- a slot with its size, and with the place of its value where that isn't in the entry and may stand from a place on
 abbrev pub settle_slot : ℕ → Slot → Slot
 settle_slot start slot =
-    if nat_le (source_size slot.source) 4 then record slot { size = source_size slot.source }
-    else record slot { size = source_size slot.source; place = even start; padded = start % 2 == 1 }
+    if nat_le (content_size slot.content) 4 then record slot { size = content_size slot.content }
+    else record slot { size = content_size slot.content; place = even start; padded = start % 2 == 1 }
 
 -- a slot whose size can be settled
 pub record IsMeasurable (slot : Slot) : Type 0 where
-  pub known : IsKnownSource slot.source
-  pub room : source_size slot.source ≤ 4294967295
+  pub known : IsKnownContent slot.content
+  pub room : content_size slot.content ≤ 4294967295
 
 -- slots with their sizes and places, whose values stand one behind the other
 abbrev pub settle : ℕ → List Slot → List Slot
@@ -131,9 +131,9 @@ settle start (slot ∷ slots) = settle_slot start slot ∷ settle (after_slot st
 
 -- what is asked of settled slots
 pub record IsSettled (start : ℕ) (slot : Slot) : Type 0 where
-  pub size : slot.size ≡ source_size slot.source
-  pub place : nat_le (source_size slot.source) 4 ≡ false → slot.place ≡ even start
-  pub padded : nat_le (source_size slot.source) 4 ≡ false → slot.padded ≡ (start % 2 == 1)
+  pub size : slot.size ≡ content_size slot.content
+  pub place : nat_le (content_size slot.content) 4 ≡ false → slot.place ≡ even start
+  pub padded : nat_le (content_size slot.content) 4 ≡ false → slot.padded ≡ (start % 2 == 1)
 
 abbrev pub AreSettled : ℕ → List Slot → Type 0
 AreSettled start [] = ⊤
@@ -152,7 +152,7 @@ slots_text order places next (slot ∷ slots) =
 -- a value that isn't in its entry, behind a zero where it needs one
 abbrev pub value_text : Order → Places → Slot → List ℕ
 value_text order places slot =
-    if nat_le slot.size 4 then [] else replicate (if slot.padded then 1 else 0) 0 ++ encode order (settled places slot.source)
+    if nat_le slot.size 4 then [] else replicate (if slot.padded then 1 else 0) 0 ++ encode order (settled places slot.content)
 
 abbrev pub values_text : Order → Places → List Slot → List ℕ
 values_text order places slots = flat_map (value_text order places) slots

@@ -9,20 +9,20 @@ use Rattle.exif_writer.specs.Groups.{Group, Entry, blocks_in, places_tag, length
 use Rattle.exif_writer.specs.Encoding.{value_len, moved_to}
 
 -- where an entry's value comes from: it is known, or the places or the lengths of blocks of these lengths, or the place of a child directory
-pub data Source : Type 0 where
-  Known : Value → Source
-  PlacesOf : BlockKind → List ℕ → Source
-  LengthsOf : BlockKind → List ℕ → Source
-  PlaceOf : Context → Source
+pub data Content : Type 0 where
+  Known : Value → Content
+  PlacesOf : BlockKind → List ℕ → Content
+  LengthsOf : BlockKind → List ℕ → Content
+  PlaceOf : Context → Content
 
 -- an entry of a directory
 pub record Slot : Type 0 where
   pub tag : ℕ
-  pub source : Source
+  pub content : Content
 
 -- a pushed entry; the place that an undefined value was read at says nothing
 abbrev pub known : Entry → Slot
-known entry = record { tag = entry.tag; source = Known (moved_to 0 entry.value) }
+known entry = record { tag = entry.tag; content = Known (moved_to 0 entry.value) }
 
 -- a slot before the first one that has a greater tag, or an equal one
 abbrev pub inserted : Slot → List Slot → List Slot
@@ -38,8 +38,8 @@ in_tag_order (slot ∷ slots) = inserted slot (in_tag_order slots)
 abbrev pub set_slots : BlockKind → Option (List (List ℕ)) → List Slot
 set_slots kind None = []
 set_slots kind (Some texts) =
-    record { tag = places_tag kind; source = PlacesOf kind (map length texts) }
-    ∷ record { tag = lengths_tag kind; source = LengthsOf kind (map length texts) } ∷ []
+    record { tag = places_tag kind; content = PlacesOf kind (map length texts) }
+    ∷ record { tag = lengths_tag kind; content = LengthsOf kind (map length texts) } ∷ []
 
 abbrev pub block_slots : Group → BlockKind → List Slot
 block_slots group kind = set_slots kind (blocks_in group kind)
@@ -47,7 +47,7 @@ block_slots group kind = set_slots kind (blocks_in group kind)
 -- the pointer to a child directory that has entries
 abbrev pub pointer_slots : ℕ → Context → List Slot → List Slot
 pointer_slots tag child [] = []
-pointer_slots tag child (slot ∷ slots) = record { tag = tag; source = PlaceOf child } ∷ []
+pointer_slots tag child (slot ∷ slots) = record { tag = tag; content = PlaceOf child } ∷ []
 
 -- the entries of each directory: pushed ones, the blocks' and pointers; those that come together, and those as they are written
 unfoldable pub interop_slots : Group → List Slot
@@ -100,8 +100,8 @@ abbrev pub draft_of : Group → Draft
 draft_of group = record { slots = slots_of group; blocks = λ kind. block_list (blocks_in group kind) }
 
 -- how many bytes the value of an entry takes
-abbrev pub source_len : Source → ℕ
-source_len (Known value) = value_len value
-source_len (PlacesOf kind lengths) = 4 * length lengths
-source_len (LengthsOf kind lengths) = 4 * length lengths
-source_len (PlaceOf context) = 4
+abbrev pub content_len : Content → ℕ
+content_len (Known value) = value_len value
+content_len (PlacesOf kind lengths) = 4 * length lengths
+content_len (LengthsOf kind lengths) = 4 * length lengths
+content_len (PlaceOf context) = 4

@@ -2,12 +2,12 @@
 use Rattle.std.specs.Prelude.{◌≡◌, ℕ, List}
 use Rattle.std.specs.Option.{option_map}
 use Rattle.exif_writer.specs.declared.measure.Tail.{Tail}
-use Rattle.exif_writer.specs.Slots.{Slot, source_len}
+use Rattle.exif_writer.specs.Slots.{Slot, content_len}
 use Rattle.exif_writer.specs.Measuring.{span, last_out}
 
 -- a slot's tag and how many bytes its value takes
 abbrev pub measure : Slot → ℕ × ℕ
-measure slot = (slot.tag, source_len slot.source)
+measure slot = (slot.tag, content_len slot.content)
 
 pub record Tells (tail : Tail) (slots : List Slot) : Type 0 where
   pub bytes : tail.bytes ≡ span slots

@@ -2,7 +2,7 @@
 
 ghost use Rattle.std.specs.Prelude.{◌≡◌, ◌+◌, ◌*◌, ◌++◌, ◌^◌, ◌<◌, ◌≤◌, length, map, false};
 ghost use Rattle.std.specs.List.{flat_map, AllByRecursion};
-ghost use Rattle.exif_writer.specs.Sending.{block_place, context_place, lens, sum_of, settled, Settles, IsKnownSource, source_type, source_count, source_size, element, slot_text, IsReady, entries_text, slots_text, value_text, values_text, blocks_text};
+ghost use Rattle.exif_writer.specs.Sending.{block_place, context_place, lens, sum_of, settled, Settles, IsKnownContent, content_type, content_count, content_size, element, slot_text, IsReady, entries_text, slots_text, value_text, values_text, blocks_text};
 ghost use Rattle.exif_writer.specs.Encoding.{spelled, encode, value_len};
 ghost use Rattle.exif_types.specs.ValueTypes.{count_of, type_number};
 ghost use Rattle.exif_types.specs.Texts.{ended};
@@ -15,7 +15,7 @@ ghost use Rattle.exif_base.specs.Sent.{Sends};
 use crate::block_kind::BlockKind;
 use crate::forward::{send_u16, send_u32, send_zeros};
 use crate::item::send_value;
-use crate::plan::{Places, Slot, Source};
+use crate::plan::{Content, Places, Slot};
 use crate::sizes::value_size;
 use exif_base::{Order, Sink, send_all};
 use exif_types::{Context, FieldType};
@@ -73,7 +73,7 @@ fn send_lengths<W: Sink>(out: &mut W, order: Order, texts: &[&[u8]]) -> io::Resu
 }
 
 #[tactic(auto, using(crate::proofs::Moved::encode_moved))]
-impl<'a> Source<'a> {
+impl<'a> Content<'a> {
     // Sends the bytes of the value.
     fn send<W: Sink>(&self, out: &mut W, order: Order, places: &Places) -> io::Result<()>
         requires { Settles places.now self.now }
@@ -81,22 +81,22 @@ impl<'a> Source<'a> {
             (encode order (settled places.now self.now)) }
     {
         match self {
-            Source::Known(value) => send_value(out, order, value),
-            Source::PlacesOf(kind, texts) => send_places(out, order, places.block(*kind), texts),
-            Source::LengthsOf(_, texts) => send_lengths(out, order, texts),
-            Source::PlaceOf(context) => send_u32(out, order, places.context(*context)),
+            Content::Known(value) => send_value(out, order, value),
+            Content::PlacesOf(kind, texts) => send_places(out, order, places.block(*kind), texts),
+            Content::LengthsOf(_, texts) => send_lengths(out, order, texts),
+            Content::PlaceOf(context) => send_u32(out, order, places.context(*context)),
         }
     }
 }
 
-impl<'a> Source<'a> {
+impl<'a> Content<'a> {
     // The number of the value's type.
     fn type_number(&self) -> u16
-        ensures { result ≡ source_type self.now }
+        ensures { result ≡ content_type self.now }
     {
         match self {
-            Source::Known(value) => value.type_number(),
-            Source::PlacesOf(_, _) | Source::LengthsOf(_, _) | Source::PlaceOf(_) => {
+            Content::Known(value) => value.type_number(),
+            Content::PlacesOf(_, _) | Content::LengthsOf(_, _) | Content::PlaceOf(_) => {
                 FieldType::Long.number()
             }
         }
@@ -104,26 +104,26 @@ impl<'a> Source<'a> {
 
     // How many items the value has.
     fn count(&self) -> u32
-        requires { source_count self.now ≤ 4294967295 }
-        ensures { result ≡ source_count self.now }
+        requires { content_count self.now ≤ 4294967295 }
+        ensures { result ≡ content_count self.now }
     {
         match self {
-            Source::Known(value) => value.count().unwrap(),
-            Source::PlacesOf(_, texts) | Source::LengthsOf(_, texts) => texts.len() as u32,
-            Source::PlaceOf(_) => 1,
+            Content::Known(value) => value.count().unwrap(),
+            Content::PlacesOf(_, texts) | Content::LengthsOf(_, texts) => texts.len() as u32,
+            Content::PlaceOf(_) => 1,
         }
     }
 
     /// How many bytes the value takes.
     pub fn size(&self) -> u32
-        requires known { IsKnownSource self.now }
-        requires room { source_size self.now ≤ 4294967295 }
-        ensures { result ≡ source_size self.now }
+        requires known { IsKnownContent self.now }
+        requires room { content_size self.now ≤ 4294967295 }
+        ensures { result ≡ content_size self.now }
     {
         match self {
-            Source::Known(value) => value_size(value).unwrap(),
-            Source::PlacesOf(_, texts) | Source::LengthsOf(_, texts) => 4 * texts.len() as u32,
-            Source::PlaceOf(_) => 4,
+            Content::Known(value) => value_size(value).unwrap(),
+            Content::PlacesOf(_, texts) | Content::LengthsOf(_, texts) => 4 * texts.len() as u32,
+            Content::PlaceOf(_) => 4,
         }
     }
 }
@@ -132,11 +132,11 @@ impl<'a> Source<'a> {
 impl<'a> Slot<'a> {
     // Sends the last four bytes of the entry.
     fn send_element<W: Sink>(&self, out: &mut W, order: Order, places: &Places) -> io::Result<()>
-        requires { Settles places.now self.now.source }
+        requires { Settles places.now self.now.content }
         ensures sends { Sends W.Sink out.old out.new result (element order places.now self.now) }
     {
         if self.size <= 4 {
-            self.source.send(out, order, places)?;
+            self.content.send(out, order, places)?;
             send_zeros(out, (4 - self.size) as usize)
         } else {
             send_u32(out, order, self.place)
@@ -149,8 +149,8 @@ impl<'a> Slot<'a> {
         ensures sends { Sends W.Sink out.old out.new result (slot_text order places.now self.now) }
     {
         send_u16(out, order, self.tag)?;
-        send_u16(out, order, self.source.type_number())?;
-        send_u32(out, order, self.source.count())?;
+        send_u16(out, order, self.content.type_number())?;
+        send_u32(out, order, self.content.count())?;
         self.send_element(out, order, places)
     }
 
@@ -163,7 +163,7 @@ impl<'a> Slot<'a> {
             return Ok(());
         }
         send_zeros(out, usize::from(self.padded))?;
-        self.source.send(out, order, places)
+        self.content.send(out, order, places)
     }
 }
 

@@ -8,7 +8,7 @@ ghost use Rattle.exif_writer.specs.Slots.{draft_of, known, set_slots, pointer_sl
 
 use crate::block_kind::BlockKind;
 use crate::groups::Ifd;
-use crate::plan::{Places, Plan, Slot, Source, lengths_tag, places_tag, sort};
+use crate::plan::{Content, Places, Plan, Slot, lengths_tag, places_tag, sort};
 use exif_types::{Context, Field};
 use std::alloc::{AllocError, Global};
 
@@ -18,7 +18,7 @@ fn known_slots<'a>(alloc: Global, fields: &[&'a Field]) -> Result<Vec<Slot<'a>>,
 {
     let mut slots = Vec::new(alloc);
     for field in fields {
-        slots.push(Slot::new(field.tag.1, Source::Known(&field.value)))?;
+        slots.push(Slot::new(field.tag.1, Content::Known(&field.value)))?;
     }
     Ok(slots)
 }
@@ -34,8 +34,8 @@ fn push_blocks<'a>(
     let Some(texts) = set else {
         return Ok(());
     };
-    slots.push(Slot::new(places_tag(kind), Source::PlacesOf(kind, texts)))?;
-    slots.push(Slot::new(lengths_tag(kind), Source::LengthsOf(kind, texts)))?;
+    slots.push(Slot::new(places_tag(kind), Content::PlacesOf(kind, texts)))?;
+    slots.push(Slot::new(lengths_tag(kind), Content::LengthsOf(kind, texts)))?;
     Ok(())
 }
 
@@ -51,7 +51,7 @@ fn push_pointer<'a>(
     if entries.is_empty() {
         return Ok(());
     }
-    slots.push(Slot::new(tag, Source::PlaceOf(child)))?;
+    slots.push(Slot::new(tag, Content::PlaceOf(child)))?;
     Ok(())
 }
 

@@ -6,7 +6,7 @@ ghost use Rattle.exif_writer.specs.Views.{set_in, entries_in};
 ghost use Rattle.exif_writer.specs.Measuring.{span};
 ghost use Rattle.exif_writer.specs.Places.{after_values};
 ghost use Rattle.exif_writer.specs.Refused.{any_unknown};
-ghost use Rattle.exif_writer.specs.Slots.{Slot, known, set_slots, source_len, in_tag_order};
+ghost use Rattle.exif_writer.specs.Slots.{Slot, known, set_slots, content_len, in_tag_order};
 
 use crate::block_kind::BlockKind;
 use crate::plan::{lengths_tag, places_tag};
@@ -41,8 +41,8 @@ impl Tail {
 
     // Counts an entry with a tag whose value takes so many bytes.
     fn with(self, tag: u16, size: u32) -> Option<Tail>
-        ensures over { IfNone result ((slots : List Slot) (slot : Slot) → Tells self slots → source_len slot.source ≡ size → 2 ^ 32 ≤ span (slots ++ slot ∷ [])) }
-        ensures told { IfSome result (λ tail. (slots : List Slot) (slot : Slot) → Tells self slots → slot.tag ≡ tag → source_len slot.source ≡ size → Tells tail (slots ++ slot ∷ [])) }
+        ensures over { IfNone result ((slots : List Slot) (slot : Slot) → Tells self slots → content_len slot.content ≡ size → 2 ^ 32 ≤ span (slots ++ slot ∷ [])) }
+        ensures told { IfSome result (λ tail. (slots : List Slot) (slot : Slot) → Tells self slots → slot.tag ≡ tag → content_len slot.content ≡ size → Tells tail (slots ++ slot ∷ [])) }
     {
         if size <= 4 {
             return Some(self);

@@ -45,9 +45,9 @@ pub struct Places {
     pub next: u32,
 }
 
-/// Where the value of an entry comes from.
+/// What the value of an entry is made of.
 #[derive(Drop)]
-pub enum Source<'a> {
+pub enum Content<'a> {
     /// A pushed field.
     Known(&'a Value),
     /// The places of these blocks.
@@ -63,8 +63,8 @@ pub enum Source<'a> {
 pub struct Slot<'a> {
     /// The number of the tag.
     pub tag: u16,
-    /// Where the value comes from.
-    pub source: Source<'a>,
+    /// What the value is made of.
+    pub content: Content<'a>,
     /// How many bytes the value takes.
     pub size: u32,
     /// Where the value stands, if it isn't in the entry.
@@ -75,12 +75,12 @@ pub struct Slot<'a> {
 
 impl<'a> Slot<'a> {
     /// An entry whose size and place are not settled.
-    pub fn new(tag: u16, source: Source<'a>) -> Slot<'a>
-        ensures { symbol result ≡ record { tag = tag; source = symbol_of source.entry } }
+    pub fn new(tag: u16, content: Content<'a>) -> Slot<'a>
+        ensures { symbol result ≡ record { tag = tag; content = symbol_of content.entry } }
     {
         Slot {
             tag,
-            source,
+            content,
             size: 0,
             place: 0,
             padded: false,
@@ -95,7 +95,7 @@ impl<'a> Slot<'a> {
         ensures slot { self.new ≡ settle_slot start self.old }
         ensures end { result ≡ after_slot start self.old }
     {
-        let size = self.source.size();
+        let size = self.content.size();
         self.size = size;
         if size <= 4 {
             return start;

@@ -12,13 +12,13 @@ use Rattle.exif_types.specs.declared.field.Field.{Field}
 use Rattle.exif_tiff.specs.declared.fault.Fault.{Fault}
 use Rattle.exif_tiff.specs.Trace.{Directory, Node, Visit, child_of, tagged_nodes, entry_nodes, whole_entries, directory_end, fields_of, faults_of}
 use Rattle.exif_writer.specs.Encoding.{spelled, encode, value_len, moved_to}
-use Rattle.exif_writer.specs.Slots.{Draft, Slot, Source, Known, PlacesOf, LengthsOf, PlaceOf, source_len}
+use Rattle.exif_writer.specs.Slots.{Draft, Slot, Content, Known, PlacesOf, LengthsOf, PlaceOf, content_len}
 use Rattle.exif_writer.specs.Places.{Written, value_of, written, after_value, directory_place, even}
 use Rattle.exif_writer.specs.Image.{entry_text, directory_text, value_parts}
 use Rattle.exif_writer.specs.Flat.{entry_fields}
 use Rattle.exif_writer.specs.Layout.{Stands}
 use Rattle.exif_tiff.proofs.ReportBound.{fields-append, faults-append}
-use Rattle.exif_writer.proofs.Images.Words.{AllStand, Fits, SourceFits, SlotFits, Gives}
+use Rattle.exif_writer.proofs.Images.Words.{AllStand, Fits, ContentFits, SlotFits, Gives}
 use Rattle.exif_writer.proofs.Images.Standing.{stands_left, stands_right, number_read, length_spelled}
 use Rattle.exif_writer.proofs.Images.Places.{AllWrittenKnown, length-entry_texts, length-value_of, length-entry_text}
 use Rattle.exif_writer.proofs.Images.Entries.{entry_is, fits_known}
@@ -38,14 +38,14 @@ module _ (order : Order) (bytes : List ℕ) (small : length bytes < 256 ^ 4) (dr
     pub nodes : (child : Context) → 0 < length (draft.slots child) → Gives (inner child (directory_place draft start child)) (fields child)
     pub ends : (parent : Context) (tag : ℕ) (child : Context) → child_of parent tag ≡ Some child → 0 < length (draft.slots child) → directory_end (number_of order) bytes (directory_place draft start child) ≡ Ok 0
 
-  source_gives : (inner : Directory) (fields : Context → List Field) → ChildrenGive inner fields
-      → (context : Context) (ifd tag place : ℕ) (source : Source) → SourceFits draft context tag source
-      → Gives (Visit ∷ tagged_nodes inner (number_of order) bytes context ifd tag (moved_to place (value_of draft start source)) (child_of context tag))
-      (entry_fields fields context ifd (record { tag = tag; source = source; value = value_of draft start source; place = place }))
-  source_gives inner fields children context ifd tag place (Known value) h = rw h.1 (record { seen = refl; clean = refl })
-  source_gives inner fields children context ifd tag place (PlacesOf kind lengths) h = rw h.1 (record { seen = refl; clean = refl })
-  source_gives inner fields children context ifd tag place (LengthsOf kind lengths) h = rw h.1 (record { seen = refl; clean = refl })
-  source_gives inner fields children context ifd tag place (PlaceOf child) h =
+  content_gives : (inner : Directory) (fields : Context → List Field) → ChildrenGive inner fields
+      → (context : Context) (ifd tag place : ℕ) (content : Content) → ContentFits draft context tag content
+      → Gives (Visit ∷ tagged_nodes inner (number_of order) bytes context ifd tag (moved_to place (value_of draft start content)) (child_of context tag))
+      (entry_fields fields context ifd (record { tag = tag; content = content; value = value_of draft start content; place = place }))
+  content_gives inner fields children context ifd tag place (Known value) h = rw h.1 (record { seen = refl; clean = refl })
+  content_gives inner fields children context ifd tag place (PlacesOf kind lengths) h = rw h.1 (record { seen = refl; clean = refl })
+  content_gives inner fields children context ifd tag place (LengthsOf kind lengths) h = rw h.1 (record { seen = refl; clean = refl })
+  content_gives inner fields children context ifd tag place (PlaceOf child) h =
       let nodes = children.nodes child h.1 in
       let end = children.ends context tag child h.0 h.1 in
       let q : ℕ = directory_place draft start child in
@@ -67,7 +67,7 @@ module _ (order : Order) (bytes : List ℕ) (small : length bytes < 256 ^ 4) (dr
 
   pub entries_give : (inner : Directory) (fields : Context → List Field) → ChildrenGive inner fields
       → (context : Context) (ifd at values : ℕ) (slots : List Slot) → AllByRecursion (SlotFits draft context) slots
-      → AllByRecursion (λ slot. Fits (value_of draft start slot.source)) slots
+      → AllByRecursion (λ slot. Fits (value_of draft start slot.content)) slots
       → Stands bytes at (flat_map (entry_text order) (written draft start at values slots))
       → AllStand bytes (value_parts order (written draft start at values slots))
       → Gives (flat_map (entry_nodes inner (number_of order) bytes context ifd) (spaced at 12 (length slots)))
@@ -76,24 +76,24 @@ module _ (order : Order) (bytes : List ℕ) (small : length bytes < 256 ^ 4) (dr
   entries_give inner fields children context ifd at values (slot ∷ slots) fit good texts parts =
       let entry : Written = record {
         tag = slot.tag;
-        source = slot.source;
-        value = value_of draft start slot.source;
-        place = if nat_le (source_len slot.source) 4 then at + 8 else even values;
+        content = slot.content;
+        value = value_of draft start slot.content;
+        place = if nat_le (content_len slot.content) 4 then at + 8 else even values;
       } in
-      let rest : List Written = written draft start (at + 12) (after_value values (source_len slot.source)) slots in
-      let same : value_len entry.value ≡ source_len slot.source = length-value_of draft start slot.source in
+      let rest : List Written = written draft start (at + 12) (after_value values (content_len slot.content)) slots in
+      let same : value_len entry.value ≡ content_len slot.content = length-value_of draft start slot.content in
       let text : Stands bytes at (entry_text order entry) = stands_left bytes (entry_text order entry) (flat_map (entry_text order) rest) at texts in
       let len : length (entry_text order entry) ≡ 12 = length-entry_text order entry (fits_known entry.value good.0) in
       let more : Stands bytes (at + 12) (flat_map (entry_text order) rest) =
       stands_right bytes (entry_text order entry) (flat_map (entry_text order) rest) at (at + 12) texts (omega arith) in
       let inside : nat_le (value_len entry.value) 4 ≡ true → entry.place ≡ at + 8 =
-      λ e. let e' : nat_le (source_len slot.source) 4 ≡ true = ap (λ n. nat_le n 4) (sym same) ∙ e in rw e' refl in
+      λ e. let e' : nat_le (content_len slot.content) 4 ≡ true = ap (λ n. nat_le n 4) (sym same) ∙ e in rw e' refl in
       let is = entry_is order bytes small inner context ifd entry at fit.0.tag good.0 text inside
       (value_outside entry rest parts (nat_le (value_len entry.value) 4) refl) in
       let one : Gives (entry_nodes inner (number_of order) bytes context ifd at) (entry_fields fields context ifd entry) =
-      rw is (source_gives inner fields children context ifd slot.tag entry.place slot.source fit.0.source) in
+      rw is (content_gives inner fields children context ifd slot.tag entry.place slot.content fit.0.content) in
       gives_append _ _ _ _ one
-      (entries_give inner fields children context ifd (at + 12) (after_value values (source_len slot.source)) slots fit.1 good.1 more
+      (entries_give inner fields children context ifd (at + 12) (after_value values (content_len slot.content)) slots fit.1 good.1 more
       (values_rest entry rest parts (nat_le (value_len entry.value) 4) refl))
 
 -- the end of a directory where no test finds a fault

@@ -3,7 +3,7 @@ use Rattle.std.proofs.Common.{◌≡◌, ℕ, ◌+◌, ◌<◌, ◌≤◌, List,
 use Rattle.std.specs.Prelude.{if◌then◌else◌, nat_le, nat_lt, Option, Some, None}
 use Rattle.std.proofs.lemmas.Bool.{leb-false, ltb-true, ltb-false, le-ltb, lt-ltb}
 use Rattle.std.specs.List.{AllByRecursion}
-use Rattle.exif_writer.specs.Slots.{Slot, inserted, in_tag_order, source_len}
+use Rattle.exif_writer.specs.Slots.{Slot, inserted, in_tag_order, content_len}
 use Rattle.exif_writer.specs.Places.{after_value, after_values, even}
 use Rattle.exif_writer.specs.Measuring.{fits, span, later, last_out, end_from}
 use Rattle.exif_writer.proofs.Images.Sorting.{IsUp, up_sorted}
@@ -14,15 +14,15 @@ span_inserted slot (next ∷ slots) =
     elim (nat_le slot.tag next.tag) as (λ b. span (if b then slot ∷ next ∷ slots else next ∷ inserted slot slots) ≡ span (slot ∷ next ∷ slots)) [
       | true ↦ refl
       | false ↦ let e = span_inserted slot slots in
-          let x : ℕ = if fits slot then 0 else even (source_len slot.source) in
-          let y : ℕ = if fits next then 0 else even (source_len next.source) in
+          let x : ℕ = if fits slot then 0 else even (content_len slot.content) in
+          let y : ℕ = if fits next then 0 else even (content_len next.content) in
           let s : y + (x + span slots) ≡ x + (y + span slots) = omega arith in
           ap (λ n. y + n) e ∙ s
     ]
 
 pub span_sorted : (slots : List Slot) → span (in_tag_order slots) ≡ span slots
 span_sorted [] = refl
-span_sorted (slot ∷ slots) = span_inserted slot (in_tag_order slots) ∙ ap (λ n. (if fits slot then 0 else even (source_len slot.source)) + n) (span_sorted slots)
+span_sorted (slot ∷ slots) = span_inserted slot (in_tag_order slots) ∙ ap (λ n. (if fits slot then 0 else even (content_len slot.content)) + n) (span_sorted slots)
 
 -- two slots of different tags in either order
 later_both : (x y : Slot) (last : Option Slot) → y.tag < x.tag → later y (later x last) ≡ later x (later y last)
@@ -78,12 +78,12 @@ span_none [] e = refl
 span_none (slot ∷ slots) e = go (fits slot) (last_out slots) refl refl (span_none slots) e
   where
     go : (b : Bool) (l : Option Slot) → fits slot ≡ b → last_out slots ≡ l → (last_out slots ≡ None → span slots ≡ 0) → (if fits slot then last_out slots else later slot (last_out slots)) ≡ None
-        → (if fits slot then 0 else even (source_len slot.source)) + span slots ≡ 0
+        → (if fits slot then 0 else even (content_len slot.content)) + span slots ≡ 0
     go true l f k ih e = let r = ih (rw f at e) in rw f (omega arith)
     go false None f k ih e = let j : Some slot ≡ None = rw (f, k) at e in absurd cc
     go false (Some t) f k ih e = pick (nat_lt t.tag slot.tag) (rw (f, k) at e)
       where
-        pick : (c : Bool) → (if c then Some slot else Some t) ≡ None → (if fits slot then 0 else even (source_len slot.source)) + span slots ≡ 0
+        pick : (c : Bool) → (if c then Some slot else Some t) ≡ None → (if fits slot then 0 else even (content_len slot.content)) + span slots ≡ 0
         pick true e = absurd cc
         pick false e = absurd cc
 
@@ -93,17 +93,17 @@ end_sorted place [] up = refl
 end_sorted place (slot ∷ slots) up = go (fits slot) (last_out slots) refl refl (λ p. end_sorted p slots up.1)
   where
     go : (b : Bool) (l : Option Slot) → fits slot ≡ b → last_out slots ≡ l → ((p : ℕ) → after_values p slots ≡ end_from p (span slots) (last_out slots))
-        → after_values (after_value place (source_len slot.source)) slots
-        ≡ end_from place ((if fits slot then 0 else even (source_len slot.source)) + span slots) (if fits slot then last_out slots else later slot (last_out slots))
+        → after_values (after_value place (content_len slot.content)) slots
+        ≡ end_from place ((if fits slot then 0 else even (content_len slot.content)) + span slots) (if fits slot then last_out slots else later slot (last_out slots))
     go true l f k ih = let z : 0 + span slots ≡ span slots = omega arith in rw (f, z) (ih place)
     go false None f k ih =
         let none = span_none slots k in
-        let p : ℕ = even place + source_len slot.source in
+        let p : ℕ = even place + content_len slot.content in
         rw (f, k) (rw k at (ih p) ∙ omega arith)
     go false (Some t) f k ih =
         let high = last_high slot.tag slots t up.0 k in
         let same : nat_lt t.tag slot.tag ≡ false = le-ltb t.tag slot.tag high in
-        let p : ℕ = even place + source_len slot.source in
+        let p : ℕ = even place + content_len slot.content in
         rw (f, k, same) (rw k at (ih p) ∙ omega arith)
 
 -- the end of the values of a directory, from its entries in any order
@@ -139,11 +139,11 @@ last_pushed (x ∷ slots) slot = ap (λ l. if fits x then l else later x l) (las
     both false true l = refl
     both false false l = newer_later x slot l
 
-pub span_pushed : (slots : List Slot) (slot : Slot) → span (slots ++ slot ∷ []) ≡ span slots + (if fits slot then 0 else even (source_len slot.source))
+pub span_pushed : (slots : List Slot) (slot : Slot) → span (slots ++ slot ∷ []) ≡ span slots + (if fits slot then 0 else even (content_len slot.content))
 span_pushed [] slot = omega arith
 span_pushed (x ∷ slots) slot =
     let e = span_pushed slots slot in
-    let a : ℕ = if fits x then 0 else even (source_len x.source) in
-    let b : ℕ = if fits slot then 0 else even (source_len slot.source) in
+    let a : ℕ = if fits x then 0 else even (content_len x.content) in
+    let b : ℕ = if fits slot then 0 else even (content_len slot.content) in
     let s : a + (span slots + b) ≡ (a + span slots) + b = omega arith in
     ap (λ n. a + n) e ∙ s

@@ -9,12 +9,12 @@ use Rattle.exif_table.specs.declared.context.Context.TheVariants.{Tiff, Exif, Gp
 use Rattle.exif_types.specs.declared.field.Field.{Field}
 use Rattle.exif_writer.specs.declared.block_kind.BlockKind.TheVariants.{Strips, Tiles, Jpeg}
 use Rattle.exif_tiff.specs.Trace.{Directory, child_of, entry_nodes, entry_places, whole_entries, directory_nodes}
-use Rattle.exif_writer.specs.Slots.{Draft, Slot, Source, Known, PlacesOf, LengthsOf, PlaceOf, source_len}
+use Rattle.exif_writer.specs.Slots.{Draft, Slot, Content, Known, PlacesOf, LengthsOf, PlaceOf, content_len}
 use Rattle.exif_writer.specs.Places.{value_of, written, directory_place, values_place, blocks_place, entries_of, places_from, after_value}
 use Rattle.exif_writer.specs.Image.{Part, directory_text, directory_part, value_parts, block_parts, draft_parts}
 use Rattle.exif_writer.specs.Flat.{entry_fields, directory_fields}
 use Rattle.exif_writer.specs.Layout.{Stands}
-use Rattle.exif_writer.proofs.Images.Words.{AllStand, Fits, SourceFits, SlotFits, Gives, DraftStands, next_of}
+use Rattle.exif_writer.proofs.Images.Words.{AllStand, Fits, ContentFits, SlotFits, Gives, DraftStands, next_of}
 use Rattle.exif_tiff.proofs.Members.{all_left, all_right}
 use Rattle.exif_writer.proofs.Images.Places.{AllWrittenKnown, length-written}
 use Rattle.exif_writer.proofs.Images.Entries.{fits_known}
@@ -100,7 +100,7 @@ module _ (order : Order) (bytes : List ℕ) (small : length bytes < 256 ^ 4) (dr
     (stands : DraftStands order bytes draft start next)
     (few : (context : Context) → length (draft.slots context) ≤ 65535)
     (fit : (context : Context) → AllByRecursion (SlotFits draft context) (draft.slots context)) where
-  value_fits : (context : Context) (tag : ℕ) (source : Source) → SourceFits draft context tag source → Fits (value_of draft start source)
+  value_fits : (context : Context) (tag : ℕ) (content : Content) → ContentFits draft context tag content → Fits (value_of draft start content)
   value_fits context tag (Known value) h = h.0
   value_fits context tag (PlacesOf blocks lengths) h =
       rw h.0 (places_low bytes (blocks_place draft start blocks) (draft.blocks blocks) small (stands.blocks blocks))
@@ -108,14 +108,14 @@ module _ (order : Order) (bytes : List ℕ) (small : length bytes < 256 ^ 4) (dr
       rw h.0 (lengths_low bytes (blocks_place draft start blocks) (draft.blocks blocks) small (stands.blocks blocks))
   value_fits context tag (PlaceOf child) h = let within = (stands.directory child h.1).within in (omega arith, tt)
 
-  values_fit : (context : Context) (slots : List Slot) → AllByRecursion (SlotFits draft context) slots → AllByRecursion (λ slot. Fits (value_of draft start slot.source)) slots
+  values_fit : (context : Context) (slots : List Slot) → AllByRecursion (SlotFits draft context) slots → AllByRecursion (λ slot. Fits (value_of draft start slot.content)) slots
   values_fit context [] h = tt
-  values_fit context (slot ∷ slots) h = (value_fits context slot.tag slot.source h.0.source, values_fit context slots h.1)
+  values_fit context (slot ∷ slots) h = (value_fits context slot.tag slot.content h.0.content, values_fit context slots h.1)
 
-  written_known : (at values : ℕ) (slots : List Slot) → AllByRecursion (λ slot. Fits (value_of draft start slot.source)) slots
+  written_known : (at values : ℕ) (slots : List Slot) → AllByRecursion (λ slot. Fits (value_of draft start slot.content)) slots
       → AllWrittenKnown (written draft start at values slots)
   written_known at values [] h = tt
-  written_known at values (slot ∷ slots) h = (fits_known (value_of draft start slot.source) h.0, written_known (at + 12) (after_value values (source_len slot.source)) slots h.1)
+  written_known at values (slot ∷ slots) h = (fits_known (value_of draft start slot.content) h.0, written_known (at + 12) (after_value values (content_len slot.content)) slots h.1)
 
   next_low : (context : Context) → next_of next context < 256 ^ 4
   next_low Tiff = low

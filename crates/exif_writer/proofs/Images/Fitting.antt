@@ -70,7 +70,7 @@ pushed_fit : (draft : Draft) (context : Context) (entries : List Entry) → AllB
     → AllByRecursion (λ entry. SlotFits draft context (known entry)) entries
 pushed_fit draft context [] r z u = tt
 pushed_fit draft context (entry ∷ entries) r z u = (
-  record { tag = r.0.tag; source = (fits_moved 0 entry.value (fits_of entry.value r.0.value z.0 u.0), no_pointer context entry.tag r.0.pushed) },
+  record { tag = r.0.tag; content = (fits_moved 0 entry.value (fits_of entry.value r.0.value z.0 u.0), no_pointer context entry.tag r.0.pushed) },
   pushed_fit draft context entries r.1 z.1 u.1,
 )
 
@@ -79,8 +79,8 @@ blocks_fit : (draft : Draft) (kind : BlockKind) (texts : Option (List (List ℕ)
     → draft.blocks kind ≡ block_list texts → AllByRecursion (SlotFits draft Tiff) (set_slots kind texts)
 blocks_fit draft kind None p l a b e = tt
 blocks_fit draft kind (Some texts) p l a b e = (
-  record { tag = p; source = (ap (map length) (sym e), a) },
-  (record { tag = l; source = (ap (map length) (sym e), b) }, tt),
+  record { tag = p; content = (ap (map length) (sym e), a) },
+  (record { tag = l; content = (ap (map length) (sym e), b) }, tt),
 )
 
 pub slots_fit : (group : Group)
@@ -95,6 +95,6 @@ slots_fit group entries clean accepted =
       | Tiles ↦ blocks_fit (draft_of group) Tiles group.tiles (omega arith) (omega arith) refl refl refl
       | Jpeg ↦ blocks_fit (draft_of group) Jpeg (single group.jpeg) (omega arith) (omega arith) refl refl refl
     ])
-    (λ some. record { tag = omega arith; source = (refl, some) })
-    (λ some. record { tag = omega arith; source = (refl, some) })
-    (λ some. record { tag = omega arith; source = (refl, some) })
+    (λ some. record { tag = omega arith; content = (refl, some) })
+    (λ some. record { tag = omega arith; content = (refl, some) })
+    (λ some. record { tag = omega arith; content = (refl, some) })

@@ -12,7 +12,7 @@ use Rattle.exif_types.specs.Lookup.{context_eq}
 use Rattle.exif_table.specs.declared.context.Context.{Context}
 use Rattle.exif_types.specs.declared.field.Field.{Field}
 use Rattle.exif_writer.specs.Groups.{is_ignored}
-use Rattle.exif_writer.specs.Slots.{Draft, Slot, Source, Known, PlacesOf, LengthsOf, PlaceOf, inserted, in_tag_order, source_len}
+use Rattle.exif_writer.specs.Slots.{Draft, Slot, Content, Known, PlacesOf, LengthsOf, PlaceOf, inserted, in_tag_order, content_len}
 use Rattle.exif_writer.specs.Places.{written, directory_place, values_place, after_value, value_of, even}
 use Rattle.exif_writer.specs.Flat.{entry_fields, directory_fields}
 use Rattle.exif_writer.proofs.Images.Pushing.{added}
@@ -35,7 +35,7 @@ moved_twice p q (Unknown type count old) = refl
 -- A slot holds no old place, and what the writer made itself has a tag of its own.
 abbrev pub IsSettled : Context → Slot → Type 0
 IsSettled context slot =
-    elim slot.source [
+    elim slot.content [
       | Known value ↦ moved_to 0 value ≡ value
       | PlacesOf kind lengths ↦ is_ignored context slot.tag ≡ true
       | LengthsOf kind lengths ↦ is_ignored context slot.tag ≡ true
@@ -49,7 +49,7 @@ is_pushed context slot = not (is_ignored context slot.tag)
 -- what a slot of the directory `here` adds to the one of `context`, where `inner` says what a child adds
 abbrev pub share : Context → Context → (Context → List Slot) → Slot → List Slot
 share context here inner slot =
-    elim slot.source [
+    elim slot.content [
       | Known value ↦ if is_ignored here slot.tag then [] else (if context_eq here context then slot ∷ [] else [])
       | PlacesOf kind lengths ↦ []
       | LengthsOf kind lengths ↦ []
@@ -58,10 +58,10 @@ share context here inner slot =
 
 module _ (draft : Draft) (start ifd : ℕ) where
   -- what one entry adds
-  entry_adds : (context here : Context) (fields : Context → List Field) (tag : ℕ) (source : Source) (place : ℕ)
-      → IsSettled here (record { tag = tag; source = source })
-      → flat_map (added ifd context) (entry_fields fields here ifd (record { tag = tag; source = source; value = value_of draft start source; place = place }))
-      ≡ share context here (λ child. flat_map (added ifd context) (fields child)) (record { tag = tag; source = source })
+  entry_adds : (context here : Context) (fields : Context → List Field) (tag : ℕ) (content : Content) (place : ℕ)
+      → IsSettled here (record { tag = tag; content = content })
+      → flat_map (added ifd context) (entry_fields fields here ifd (record { tag = tag; content = content; value = value_of draft start content; place = place }))
+      ≡ share context here (λ child. flat_map (added ifd context) (fields child)) (record { tag = tag; content = content })
   entry_adds context here fields tag (Known value) place h =
       let n : (ifd == ifd) ≡ true = eq-eqb ifd ifd refl in
       let v : moved_to 0 (moved_to place value) ≡ value = moved_twice 0 place value ∙ h in
@@ -77,12 +77,12 @@ module _ (draft : Draft) (start ifd : ℕ) where
   entries_add context here fields at values (slot ∷ slots) h =
       flat_map-append (added ifd context) (entry_fields fields here ifd (record {
         tag = slot.tag;
-        source = slot.source;
-        value = value_of draft start slot.source;
-        place = if nat_le (source_len slot.source) 4 then at + 8 else even values;
-      })) (flat_map (entry_fields fields here ifd) (written draft start (at + 12) (after_value values (source_len slot.source)) slots))
-      ∙ (λ i. entry_adds context here fields slot.tag slot.source (if nat_le (source_len slot.source) 4 then at + 8 else even values) h.0 i
-      ++ entries_add context here fields (at + 12) (after_value values (source_len slot.source)) slots h.1 i)
+        content = slot.content;
+        value = value_of draft start slot.content;
+        place = if nat_le (content_len slot.content) 4 then at + 8 else even values;
+      })) (flat_map (entry_fields fields here ifd) (written draft start (at + 12) (after_value values (content_len slot.content)) slots))
+      ∙ (λ i. entry_adds context here fields slot.tag slot.content (if nat_le (content_len slot.content) 4 then at + 8 else even values) h.0 i
+      ++ entries_add context here fields (at + 12) (after_value values (content_len slot.content)) slots h.1 i)
 
   -- what a directory adds with its children, and what they add
   abbrev pub sum_of : ℕ → Context → Context → List Slot

@@ -9,7 +9,7 @@ use Rattle.exif_table.specs.declared.context.Context.TheVariants.{Tiff}
 use Rattle.exif_types.specs.declared.field.Field.{Field}
 use Rattle.exif_writer.specs.Groups.{Group, Entry, blocks_in, pushed_in, places_tag, lengths_tag}
 use Rattle.exif_writer.specs.Encoding.{moved_to}
-use Rattle.exif_writer.specs.Slots.{Draft, draft_of, Slot, Source, Known, PlacesOf, LengthsOf, PlaceOf, known, set_slots, slots_of, source_len}
+use Rattle.exif_writer.specs.Slots.{Draft, draft_of, Slot, Content, Known, PlacesOf, LengthsOf, PlaceOf, known, set_slots, slots_of, content_len}
 use Rattle.exif_writer.specs.declared.block_kind.BlockKind.{BlockKind}
 use Rattle.exif_writer.specs.Places.{written, draft_end, even, after_value, value_of, directory_place, values_place}
 use Rattle.exif_writer.specs.Flat.{field_of, entry_fields, directory_fields, flat_from, flat}
@@ -21,7 +21,7 @@ use Rattle.exif_writer.proofs.Images.Flat.{moved_twice}
 -- what holds of a slot's field, wherever its value and its blocks stand
 abbrev SlotHas : (Field → Type 0) → ℕ → Context → Slot → Type 0
 SlotHas P ifd context slot =
-    elim slot.source [
+    elim slot.content [
       | Known value ↦ (place : ℕ) → P (field_of context slot.tag ifd (moved_to place value))
       | PlacesOf kind lengths ↦ (numbers : List ℕ) → P (field_of context slot.tag ifd (Long numbers))
       | LengthsOf kind lengths ↦ (numbers : List ℕ) → P (field_of context slot.tag ifd (Long numbers))
@@ -57,21 +57,21 @@ module _ (P : Field → Type 0) (ifd : ℕ) where
       (λ some. tt) (λ some. tt) (λ some. tt)
 
   module _ (draft : Draft) (start : ℕ) where
-    source_has : (fields : Context → List Field) → ((child : Context) → AllByRecursion P (fields child)) → (here : Context) (tag place : ℕ) (source : Source)
-        → SlotHas P ifd here (record { tag = tag; source = source })
-        → AllByRecursion P (entry_fields fields here ifd (record { tag = tag; source = source; value = value_of draft start source; place = place }))
-    source_has fields h here tag place (Known value) p = (p place, tt)
-    source_has fields h here tag place (PlacesOf kind lengths) p = (p _, tt)
-    source_has fields h here tag place (LengthsOf kind lengths) p = (p lengths, tt)
-    source_has fields h here tag place (PlaceOf child) p = h child
+    content_has : (fields : Context → List Field) → ((child : Context) → AllByRecursion P (fields child)) → (here : Context) (tag place : ℕ) (content : Content)
+        → SlotHas P ifd here (record { tag = tag; content = content })
+        → AllByRecursion P (entry_fields fields here ifd (record { tag = tag; content = content; value = value_of draft start content; place = place }))
+    content_has fields h here tag place (Known value) p = (p place, tt)
+    content_has fields h here tag place (PlacesOf kind lengths) p = (p _, tt)
+    content_has fields h here tag place (LengthsOf kind lengths) p = (p lengths, tt)
+    content_has fields h here tag place (PlaceOf child) p = h child
 
     entries_have : (fields : Context → List Field) → ((child : Context) → AllByRecursion P (fields child)) → (here : Context) (at values : ℕ) (slots : List Slot)
         → AllByRecursion (SlotHas P ifd here) slots → AllByRecursion P (flat_map (entry_fields fields here ifd) (written draft start at values slots))
     entries_have fields h here at values [] p = tt
     entries_have fields h here at values (slot ∷ slots) p =
         all_append P _ _
-        (source_has fields h here slot.tag (if nat_le (source_len slot.source) 4 then at + 8 else even values) slot.source p.0)
-        (entries_have fields h here (at + 12) (after_value values (source_len slot.source)) slots p.1)
+        (content_has fields h here slot.tag (if nat_le (content_len slot.content) 4 then at + 8 else even values) slot.content p.0)
+        (entries_have fields h here (at + 12) (after_value values (content_len slot.content)) slots p.1)
 
     fields_have : ((context : Context) → AllByRecursion (SlotHas P ifd context) (draft.slots context)) → (depth : ℕ) (here : Context) → AllByRecursion P (directory_fields draft start ifd depth here)
     fields_have h zero here = tt

@@ -9,7 +9,7 @@ use Rattle.exif_table.specs.declared.context.Context.{Context}
 use Rattle.exif_table.specs.declared.context.Context.TheVariants.{Tiff, Exif, Gps}
 use Rattle.exif_types.specs.declared.field.Field.{Field}
 use Rattle.exif_writer.specs.Groups.{Group, Entry, is_ignored, single, pushed_in, blocks_in, places_tag, lengths_tag}
-use Rattle.exif_writer.specs.Slots.{Draft, draft_of, Slot, Source, Known, PlacesOf, LengthsOf, PlaceOf, known, in_tag_order, set_slots, block_slots, pointer_slots, slots_of, tiff_slots, exif_slots, gps_slots, source_len}
+use Rattle.exif_writer.specs.Slots.{Draft, draft_of, Slot, Content, Known, PlacesOf, LengthsOf, PlaceOf, known, in_tag_order, set_slots, block_slots, pointer_slots, slots_of, tiff_slots, exif_slots, gps_slots, content_len}
 use Rattle.exif_writer.specs.declared.block_kind.BlockKind.{BlockKind}
 use Rattle.exif_writer.specs.declared.block_kind.BlockKind.TheVariants.{Strips, Tiles, Jpeg}
 use Rattle.exif_writer.specs.Places.{written, draft_end, even, after_value, value_of, directory_place, values_place}
@@ -34,7 +34,7 @@ filter_nothing test (x ∷ l) h = rw h.0 (filter_nothing test l h.1)
 
 -- children lie in other contexts
 ChildIsLow : Slot → Type 0
-ChildIsLow slot = elim slot.source [ PlaceOf child ↦ is_tiff child ≡ false | _ ↦ Unit {0} ]
+ChildIsLow slot = elim slot.content [ PlaceOf child ↦ is_tiff child ≡ false | _ ↦ Unit {0} ]
 
 blocks_low : (kind : BlockKind) (texts : Option (List (List ℕ))) → AllByRecursion ChildIsLow (set_slots kind texts)
 unfolding ChildIsLow
@@ -52,14 +52,14 @@ AllLow : List Field → Type 0
 AllLow fields = AllByRecursion (λ field. is_tiff field.tag.0 ≡ false) fields
 
 module _ (draft : Draft) (start ifd : ℕ) where
-  source_low : (fields : Context → List Field) → ((child : Context) → is_tiff child ≡ false → AllLow (fields child)) → (here : Context) → is_tiff here ≡ false
-      → (tag place : ℕ) (source : Source) → ChildIsLow (record { tag = tag; source = source })
-      → AllLow (entry_fields fields here ifd (record { tag = tag; source = source; value = value_of draft start source; place = place }))
+  content_low : (fields : Context → List Field) → ((child : Context) → is_tiff child ≡ false → AllLow (fields child)) → (here : Context) → is_tiff here ≡ false
+      → (tag place : ℕ) (content : Content) → ChildIsLow (record { tag = tag; content = content })
+      → AllLow (entry_fields fields here ifd (record { tag = tag; content = content; value = value_of draft start content; place = place }))
   unfolding AllLow ChildIsLow
-  source_low fields h here low tag place (Known value) c = (low, tt)
-  source_low fields h here low tag place (PlacesOf kind lengths) c = (low, tt)
-  source_low fields h here low tag place (LengthsOf kind lengths) c = (low, tt)
-  source_low fields h here low tag place (PlaceOf child) c = h child c
+  content_low fields h here low tag place (Known value) c = (low, tt)
+  content_low fields h here low tag place (PlacesOf kind lengths) c = (low, tt)
+  content_low fields h here low tag place (LengthsOf kind lengths) c = (low, tt)
+  content_low fields h here low tag place (PlaceOf child) c = h child c
 
   entries_low : (fields : Context → List Field) → ((child : Context) → is_tiff child ≡ false → AllLow (fields child)) → (here : Context) → is_tiff here ≡ false
       → (at values : ℕ) (slots : List Slot) → AllByRecursion ChildIsLow slots → AllLow (flat_map (entry_fields fields here ifd) (written draft start at values slots))
@@ -67,8 +67,8 @@ module _ (draft : Draft) (start ifd : ℕ) where
   entries_low fields h here low at values [] c = tt
   entries_low fields h here low at values (slot ∷ slots) c =
       all_append (λ field. is_tiff field.tag.0 ≡ false) _ _
-      (source_low fields h here low slot.tag (if nat_le (source_len slot.source) 4 then at + 8 else even values) slot.source c.0)
-      (entries_low fields h here low (at + 12) (after_value values (source_len slot.source)) slots c.1)
+      (content_low fields h here low slot.tag (if nat_le (content_len slot.content) 4 then at + 8 else even values) slot.content c.0)
+      (entries_low fields h here low (at + 12) (after_value values (content_len slot.content)) slots c.1)
 
   fields_low : ((here : Context) → AllByRecursion ChildIsLow (draft.slots here)) → (depth : ℕ) (here : Context) → is_tiff here ≡ false → AllLow (directory_fields draft start ifd depth here)
   unfolding AllLow
@@ -84,7 +84,7 @@ none_under tag ifd (field ∷ fields) h = rw h.0 (none_under tag ifd fields h.1)
 -- what has a tag of the writer's own doesn't depend on its place, and is no pointer
 abbrev IsNamed : ℕ → Slot → Type 0
 IsNamed t slot =
-    elim slot.source [
+    elim slot.content [
       | Known value ↦ (slot.tag == t) ≡ true → (p : ℕ) → moved_to p value ≡ value
       | PlacesOf kind lengths ↦ Unit {0}
       | LengthsOf kind lengths ↦ Unit {0}
@@ -93,21 +93,21 @@ IsNamed t slot =
 
 -- the field that an entry of a top directory is
 abbrev pub top_field : Draft → ℕ → ℕ → Slot → Field
-top_field draft start ifd slot = field_of Tiff slot.tag ifd (value_of draft start slot.source)
+top_field draft start ifd slot = field_of Tiff slot.tag ifd (value_of draft start slot.content)
 
 module _ (draft : Draft) (start ifd t : ℕ) where
-  source_named : (fields : Context → List Field) → ((child : Context) → is_tiff child ≡ false → filter (under t ifd) (fields child) ≡ [])
-      → (tag place : ℕ) (source : Source) → IsNamed t (record { tag = tag; source = source }) → (b : Bool) → (tag == t) ≡ b
-      → filter (under t ifd) (entry_fields fields Tiff ifd (record { tag = tag; source = source; value = value_of draft start source; place = place }))
-      ≡ cond b (top_field draft start ifd (record { tag = tag; source = source }) ∷ []) []
-  source_named fields h tag place (Known value) n true e = let own : (ifd == ifd) ≡ true = eq-eqb ifd ifd refl in rw (e, own, n e place) refl
-  source_named fields h tag place (Known value) n false e = rw e refl
-  source_named fields h tag place (PlacesOf kind lengths) n true e = let own : (ifd == ifd) ≡ true = eq-eqb ifd ifd refl in rw (e, own) refl
-  source_named fields h tag place (PlacesOf kind lengths) n false e = rw e refl
-  source_named fields h tag place (LengthsOf kind lengths) n true e = let own : (ifd == ifd) ≡ true = eq-eqb ifd ifd refl in rw (e, own) refl
-  source_named fields h tag place (LengthsOf kind lengths) n false e = rw e refl
-  source_named fields h tag place (PlaceOf child) n true e = absurd (let k : true ≡ false = sym e ∙ n.0 in cc)
-  source_named fields h tag place (PlaceOf child) n false e = h child n.1
+  content_named : (fields : Context → List Field) → ((child : Context) → is_tiff child ≡ false → filter (under t ifd) (fields child) ≡ [])
+      → (tag place : ℕ) (content : Content) → IsNamed t (record { tag = tag; content = content }) → (b : Bool) → (tag == t) ≡ b
+      → filter (under t ifd) (entry_fields fields Tiff ifd (record { tag = tag; content = content; value = value_of draft start content; place = place }))
+      ≡ cond b (top_field draft start ifd (record { tag = tag; content = content }) ∷ []) []
+  content_named fields h tag place (Known value) n true e = let own : (ifd == ifd) ≡ true = eq-eqb ifd ifd refl in rw (e, own, n e place) refl
+  content_named fields h tag place (Known value) n false e = rw e refl
+  content_named fields h tag place (PlacesOf kind lengths) n true e = let own : (ifd == ifd) ≡ true = eq-eqb ifd ifd refl in rw (e, own) refl
+  content_named fields h tag place (PlacesOf kind lengths) n false e = rw e refl
+  content_named fields h tag place (LengthsOf kind lengths) n true e = let own : (ifd == ifd) ≡ true = eq-eqb ifd ifd refl in rw (e, own) refl
+  content_named fields h tag place (LengthsOf kind lengths) n false e = rw e refl
+  content_named fields h tag place (PlaceOf child) n true e = absurd (let k : true ≡ false = sym e ∙ n.0 in cc)
+  content_named fields h tag place (PlaceOf child) n false e = h child n.1
 
   entries_named : (fields : Context → List Field) → ((child : Context) → is_tiff child ≡ false → filter (under t ifd) (fields child) ≡ [])
       → (at values : ℕ) (slots : List Slot) → AllByRecursion (IsNamed t) slots
@@ -115,10 +115,10 @@ module _ (draft : Draft) (start ifd t : ℕ) where
   entries_named fields h at values [] n = refl
   entries_named fields h at values (slot ∷ slots) n =
       filter-append (under t ifd)
-      (entry_fields fields Tiff ifd (record { tag = slot.tag; source = slot.source; value = value_of draft start slot.source; place = if nat_le (source_len slot.source) 4 then at + 8 else even values }))
-      (flat_map (entry_fields fields Tiff ifd) (written draft start (at + 12) (after_value values (source_len slot.source)) slots))
-      ∙ (λ i. source_named fields h slot.tag (if nat_le (source_len slot.source) 4 then at + 8 else even values) slot.source n.0 (slot.tag == t) refl i
-      ++ entries_named fields h (at + 12) (after_value values (source_len slot.source)) slots n.1 i)
+      (entry_fields fields Tiff ifd (record { tag = slot.tag; content = slot.content; value = value_of draft start slot.content; place = if nat_le (content_len slot.content) 4 then at + 8 else even values }))
+      (flat_map (entry_fields fields Tiff ifd) (written draft start (at + 12) (after_value values (content_len slot.content)) slots))
+      ∙ (λ i. content_named fields h slot.tag (if nat_le (content_len slot.content) 4 then at + 8 else even values) slot.content n.0 (slot.tag == t) refl i
+      ++ entries_named fields h (at + 12) (after_value values (content_len slot.content)) slots n.1 i)
       ∙ chosen (slot.tag == t)
     where
       chosen : (b : Bool) → cond b (top_field draft start ifd slot ∷ []) [] ++ map (top_field draft start ifd) (filter (λ s. s.tag == t) slots)
@@ -247,11 +247,11 @@ own_slots group t own h =
 -- the slots under the two tags of blocks
 abbrev pub places_slots : BlockKind → Option (List (List ℕ)) → List Slot
 places_slots kind None = []
-places_slots kind (Some texts) = record { tag = places_tag kind; source = PlacesOf kind (map length texts) } ∷ []
+places_slots kind (Some texts) = record { tag = places_tag kind; content = PlacesOf kind (map length texts) } ∷ []
 
 abbrev pub lengths_slots : BlockKind → Option (List (List ℕ)) → List Slot
 lengths_slots kind None = []
-lengths_slots kind (Some texts) = record { tag = lengths_tag kind; source = LengthsOf kind (map length texts) } ∷ []
+lengths_slots kind (Some texts) = record { tag = lengths_tag kind; content = LengthsOf kind (map length texts) } ∷ []
 
 three_places : (kind : BlockKind) (a b j : Option (List (List ℕ)))
     → in_tag_order (filter (λ slot. slot.tag == places_tag kind) (set_slots Strips a) ++ filter (λ slot. slot.tag == places_tag kind) (set_slots Tiles b)

@@ -9,7 +9,7 @@ use Rattle.exif_writer.specs.Encoding.{spelled, encode, value_len}
 use Rattle.exif_types.specs.ValueTypes.{type_number, count_of}
 use Rattle.exif_table.specs.declared.context.Context.{Context}
 use Rattle.exif_table.specs.declared.context.Context.TheVariants.{Tiff, Exif, Gps, Interop}
-use Rattle.exif_writer.specs.Slots.{Draft, Source, Known, PlacesOf, LengthsOf, PlaceOf, Slot, source_len}
+use Rattle.exif_writer.specs.Slots.{Draft, Content, Known, PlacesOf, LengthsOf, PlaceOf, Slot, content_len}
 use Rattle.exif_writer.specs.declared.block_kind.BlockKind.TheVariants.{Strips, Tiles, Jpeg}
 use Rattle.exif_writer.specs.Places.{Written, value_of, places_from, blocks_place, written, directory_len, after_value, after_values, after_blocks, even, tiff_place, exif_place, gps_place, interop_place, tiff_values, exif_values, gps_values, interop_values, strips_place, tiles_place, jpeg_place, draft_end}
 use Rattle.exif_writer.specs.Image.{entry_text, directory_text, directory_part, value_parts, block_parts, draft_parts}
@@ -23,13 +23,13 @@ length-places_from : (place : ℕ) (lengths : List ℕ) → length (places_from 
 length-places_from place [] = refl
 length-places_from place (len ∷ lengths) = ap suc (length-places_from (place + len) lengths)
 
-pub length-value_of : (draft : Draft) (start : ℕ) (source : Source) → value_len (value_of draft start source) ≡ source_len source
+pub length-value_of : (draft : Draft) (start : ℕ) (content : Content) → value_len (value_of draft start content) ≡ content_len content
 length-value_of draft start (Known value) = refl
 length-value_of draft start (PlacesOf blocks lengths) = ap (λ n. 4 * n) (length-places_from (blocks_place draft start blocks) lengths)
 length-value_of draft start (LengthsOf blocks lengths) = refl
 length-value_of draft start (PlaceOf context) = refl
 
-pub known_value : (draft : Draft) (start : ℕ) (source : Source) → IsKnown source → is_unknown (value_of draft start source) ≡ false
+pub known_value : (draft : Draft) (start : ℕ) (content : Content) → IsKnown content → is_unknown (value_of draft start content) ≡ false
 known_value draft start (Known value) h = h
 known_value draft start (PlacesOf blocks lengths) h = refl
 known_value draft start (LengthsOf blocks lengths) h = refl
@@ -37,7 +37,7 @@ known_value draft start (PlaceOf context) h = refl
 
 pub length-written : (draft : Draft) (start at values : ℕ) (slots : List Slot) → length (written draft start at values slots) ≡ length slots
 length-written draft start at values [] = refl
-length-written draft start at values (slot ∷ slots) = ap suc (length-written draft start (at + 12) (after_value values (source_len slot.source)) slots)
+length-written draft start at values (slot ∷ slots) = ap suc (length-written draft start (at + 12) (after_value values (content_len slot.content)) slots)
 
 -- the last 4 bytes of an entry
 element_of : Order → Written → Bool → List ℕ
@@ -74,7 +74,7 @@ AllWrittenKnown entries = AllByRecursion (λ entry. is_unknown entry.value ≡ f
 pub known_written : (draft : Draft) (start at values : ℕ) (slots : List Slot) → AllKnown slots → AllWrittenKnown (written draft start at values slots)
 known_written draft start at values [] h = tt
 known_written draft start at values (slot ∷ slots) h =
-    (known_value draft start slot.source h.0, known_written draft start (at + 12) (after_value values (source_len slot.source)) slots h.1)
+    (known_value draft start slot.content h.0, known_written draft start (at + 12) (after_value values (content_len slot.content)) slots h.1)
 
 pub length-entry_texts : (order : Order) (entries : List Written) → AllWrittenKnown entries → length (flat_map (entry_text order) entries) ≡ 12 * length entries
 length-entry_texts order [] h = omega arith
@@ -114,24 +114,24 @@ pub even_high : (n : ℕ) → even n ≤ n + 1
 even_high n = omega arith
 
 -- one more value, which fits into its entry or stands at the next even place
-value_span : (order : Order) (draft : Draft) (start at values : ℕ) (slot : Slot) (slots : List Slot) → IsKnown slot.source
+value_span : (order : Order) (draft : Draft) (start at values : ℕ) (slot : Slot) (slots : List Slot) → IsKnown slot.content
     → ((v : ℕ) → Spans v (value_parts order (written draft start (at + 12) v slots)) (after_values v slots))
-    → (fits : Bool) → nat_le (source_len slot.source) 4 ≡ fits
+    → (fits : Bool) → nat_le (content_len slot.content) 4 ≡ fits
     → Spans values (value_parts order (written draft start at values (slot ∷ slots))) (after_values values (slot ∷ slots))
 value_span order draft start at values slot slots h more true e =
-    let same : nat_le (value_len (value_of draft start slot.source)) 4 ≡ true = ap (λ n. nat_le n 4) (length-value_of draft start slot.source) ∙ e in
+    let same : nat_le (value_len (value_of draft start slot.content)) 4 ≡ true = ap (λ n. nat_le n 4) (length-value_of draft start slot.content) ∙ e in
     rw (same, e) (more values)
 value_span order draft start at values slot slots h more false e =
-    let same : nat_le (value_len (value_of draft start slot.source)) 4 ≡ false = ap (λ n. nat_le n 4) (length-value_of draft start slot.source) ∙ e in
-    let len : length (encode order (value_of draft start slot.source)) ≡ source_len slot.source =
-    length-encode order (value_of draft start slot.source) (known_value draft start slot.source h) ∙ length-value_of draft start slot.source in
-    rw (same, e) (even_low values, even_high values, rw len (more (even values + source_len slot.source)))
+    let same : nat_le (value_len (value_of draft start slot.content)) 4 ≡ false = ap (λ n. nat_le n 4) (length-value_of draft start slot.content) ∙ e in
+    let len : length (encode order (value_of draft start slot.content)) ≡ content_len slot.content =
+    length-encode order (value_of draft start slot.content) (known_value draft start slot.content h) ∙ length-value_of draft start slot.content in
+    rw (same, e) (even_low values, even_high values, rw len (more (even values + content_len slot.content)))
 
 pub values_span : (order : Order) (draft : Draft) (start at values : ℕ) (slots : List Slot) → AllKnown slots
     → Spans values (value_parts order (written draft start at values slots)) (after_values values slots)
 values_span order draft start at values [] h = refl
 values_span order draft start at values (slot ∷ slots) h =
-    value_span order draft start at values slot slots h.0 (λ v. values_span order draft start (at + 12) v slots h.1) (nat_le (source_len slot.source) 4) refl
+    value_span order draft start at values slot slots h.0 (λ v. values_span order draft start (at + 12) v slots h.1) (nat_le (content_len slot.content) 4) refl
 
 pub blocks_span : (place : ℕ) (texts : List (List ℕ)) → Spans place (block_parts place texts) (after_blocks place texts)
 blocks_span place [] = refl

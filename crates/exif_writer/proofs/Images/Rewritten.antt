@@ -11,7 +11,7 @@ use Rattle.exif_table.specs.declared.context.Context.{Context}
 use Rattle.exif_table.specs.declared.context.Context.TheVariants.{Tiff, Exif, Gps, Interop}
 use Rattle.exif_types.specs.declared.field.Field.{Field}
 use Rattle.exif_writer.specs.Groups.{Group, Entry, empty_group, is_ignored, changed, with_entry, with_strips, with_tiles, with_jpeg, entry_of, pushed, strips_set, tiles_set, jpeg_set, single, blocks_in, pushed_in}
-use Rattle.exif_writer.specs.Slots.{Draft, draft_of, Slot, Source, Known, PlacesOf, LengthsOf, PlaceOf, known, in_tag_order, set_slots, block_slots, block_list, pointer_slots, slots_of, tiff_slots, exif_slots, gps_slots, interop_slots, source_len}
+use Rattle.exif_writer.specs.Slots.{Draft, draft_of, Slot, Content, Known, PlacesOf, LengthsOf, PlaceOf, known, in_tag_order, set_slots, block_slots, block_list, pointer_slots, slots_of, tiff_slots, exif_slots, gps_slots, interop_slots, content_len}
 use Rattle.exif_writer.specs.declared.block_kind.BlockKind.{BlockKind}
 use Rattle.exif_writer.specs.declared.block_kind.BlockKind.TheVariants.{Strips, Tiles, Jpeg}
 use Rattle.exif_writer.specs.Places.{written, draft_end, even, after_value, value_of, directory_place, values_place}
@@ -42,20 +42,20 @@ abbrev pub AllNumbered : ℕ → List Field → Type 0
 AllNumbered ifd fields = AllByRecursion (λ field. field.ifd_num.0 ≡ ifd) fields
 
 module _ (draft : Draft) (start ifd : ℕ) where
-  source_numbered : (fields : Context → List Field) → ((child : Context) → AllNumbered ifd (fields child)) → (here : Context) (tag place : ℕ) (source : Source)
-      → AllNumbered ifd (entry_fields fields here ifd (record { tag = tag; source = source; value = value_of draft start source; place = place }))
-  source_numbered fields h here tag place (Known value) = (refl, tt)
-  source_numbered fields h here tag place (PlacesOf kind lengths) = (refl, tt)
-  source_numbered fields h here tag place (LengthsOf kind lengths) = (refl, tt)
-  source_numbered fields h here tag place (PlaceOf child) = h child
+  content_numbered : (fields : Context → List Field) → ((child : Context) → AllNumbered ifd (fields child)) → (here : Context) (tag place : ℕ) (content : Content)
+      → AllNumbered ifd (entry_fields fields here ifd (record { tag = tag; content = content; value = value_of draft start content; place = place }))
+  content_numbered fields h here tag place (Known value) = (refl, tt)
+  content_numbered fields h here tag place (PlacesOf kind lengths) = (refl, tt)
+  content_numbered fields h here tag place (LengthsOf kind lengths) = (refl, tt)
+  content_numbered fields h here tag place (PlaceOf child) = h child
 
   entries_numbered : (fields : Context → List Field) → ((child : Context) → AllNumbered ifd (fields child)) → (here : Context) (at values : ℕ) (slots : List Slot)
       → AllNumbered ifd (flat_map (entry_fields fields here ifd) (written draft start at values slots))
   entries_numbered fields h here at values [] = tt
   entries_numbered fields h here at values (slot ∷ slots) =
       all_append (λ field. field.ifd_num.0 ≡ ifd) _ _
-      (source_numbered fields h here slot.tag (if nat_le (source_len slot.source) 4 then at + 8 else even values) slot.source)
-      (entries_numbered fields h here (at + 12) (after_value values (source_len slot.source)) slots)
+      (content_numbered fields h here slot.tag (if nat_le (content_len slot.content) 4 then at + 8 else even values) slot.content)
+      (entries_numbered fields h here (at + 12) (after_value values (content_len slot.content)) slots)
 
   pub fields_numbered : (depth : ℕ) (here : Context) → AllNumbered ifd (directory_fields draft start ifd depth here)
   fields_numbered zero here = tt
@@ -113,7 +113,7 @@ blocks_fail : (kind : BlockKind) (texts : Option (List (List ℕ))) → filter (
 blocks_fail kind None = refl
 blocks_fail kind (Some texts) = rw (places_ignored kind, lengths_ignored kind) refl
 
-pointer_fails : (context : Context) (tag : ℕ) (child : Context) (l : List Slot) → is_pushed context (record { tag = tag; source = PlaceOf child }) ≡ false
+pointer_fails : (context : Context) (tag : ℕ) (child : Context) (l : List Slot) → is_pushed context (record { tag = tag; content = PlaceOf child }) ≡ false
     → filter (is_pushed context) (pointer_slots tag child l) ≡ []
 pointer_fails context tag child [] h = refl
 pointer_fails context tag child (x ∷ l) h = rw h refl

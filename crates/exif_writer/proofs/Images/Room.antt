@@ -12,7 +12,7 @@ use Rattle.exif_writer.specs.declared.block_kind.BlockKind.{BlockKind}
 use Rattle.exif_writer.specs.declared.block_kind.BlockKind.TheVariants.{Strips, Tiles, Jpeg}
 use Rattle.exif_writer.specs.Encoding.{value_len}
 use Rattle.exif_types.specs.ValueTypes.{count_of}
-use Rattle.exif_writer.specs.Slots.{Draft, Slot, source_len}
+use Rattle.exif_writer.specs.Slots.{Draft, Slot, content_len}
 use Rattle.exif_writer.specs.Places.{even, after_value, after_values, after_blocks, tiff_place, exif_place, gps_place, interop_place, tiff_values, exif_values, gps_values, interop_values, strips_place, tiles_place, jpeg_place, draft_end, directory_place, values_place, blocks_place, drafts_end}
 use Rattle.exif_writer.specs.Refused.{is_unknown}
 
@@ -38,7 +38,7 @@ value_low place len = elim (nat_le len 4) as (λ b. place ≤ (if b then place e
 
 pub values_low : (place : ℕ) (slots : List Slot) → place ≤ after_values place slots
 values_low place [] = omega arith
-values_low place (slot ∷ slots) = le_trans (value_low place (source_len slot.source)) (values_low (after_value place (source_len slot.source)) slots)
+values_low place (slot ∷ slots) = le_trans (value_low place (content_len slot.content)) (values_low (after_value place (content_len slot.content)) slots)
 
 pub blocks_low : (place : ℕ) (texts : List (List ℕ)) → place ≤ after_blocks place texts
 blocks_low place [] = omega arith
@@ -52,11 +52,11 @@ value_room place len end h few = go (nat_le len 4) refl h
     go true e k = let low = leb-true len 4 e in omega arith
     go false e k = omega arith
 
-pub values_room : (place end : ℕ) (slots : List Slot) → after_values place slots ≤ end → 4 ≤ end → AllByRecursion (λ slot. source_len slot.source ≤ end) slots
+pub values_room : (place end : ℕ) (slots : List Slot) → after_values place slots ≤ end → 4 ≤ end → AllByRecursion (λ slot. content_len slot.content ≤ end) slots
 values_room place end [] h few = tt
 values_room place end (slot ∷ slots) h few = (
-  value_room place (source_len slot.source) end (le_trans (values_low (after_value place (source_len slot.source)) slots) h) few,
-  values_room (after_value place (source_len slot.source)) end slots h few,
+  value_room place (content_len slot.content) end (le_trans (values_low (after_value place (content_len slot.content)) slots) h) few,
+  values_room (after_value place (content_len slot.content)) end slots h few,
 )
 
 -- how many bytes blocks take

@@ -26,14 +26,14 @@ pub all_known : (P : Slot → Type 0) (entries : List Entry) → AllByRecursion 
 all_known P [] h = tt
 all_known P (entry ∷ entries) h = (h.0, all_known P entries h.1)
 
-pub all_pointer : (P : Slot → Type 0) (tag : ℕ) (child : Context) (slots : List Slot) → (0 < length slots → P (record { tag = tag; source = PlaceOf child }))
+pub all_pointer : (P : Slot → Type 0) (tag : ℕ) (child : Context) (slots : List Slot) → (0 < length slots → P (record { tag = tag; content = PlaceOf child }))
     → AllByRecursion P (pointer_slots tag child slots)
 all_pointer P tag child [] h = tt
 all_pointer P tag child (slot ∷ slots) h = (h (omega arith), tt)
 
 -- the pointer to a child
 abbrev pub pointer_to : ℕ → Context → Slot
-pointer_to tag child = record { tag = tag; source = PlaceOf child }
+pointer_to tag child = record { tag = tag; content = PlaceOf child }
 
 pub all_tiff : (P : Slot → Type 0) (group : Group) → AllByRecursion (λ entry. P (known entry)) group.tiff
     → ((kind : BlockKind) → AllByRecursion P (block_slots group kind))

@@ -112,13 +112,13 @@ known_moved place (Float xs) h = h
 known_moved place (Double xs) h = h
 known_moved place (Unknown type count old) h = h
 
-known_entries : (entries : List Entry) → AllByRecursion (λ entry. is_unknown entry.value ≡ false) entries → AllByRecursion (λ entry. IsKnown (known entry).source) entries
+known_entries : (entries : List Entry) → AllByRecursion (λ entry. is_unknown entry.value ≡ false) entries → AllByRecursion (λ entry. IsKnown (known entry).content) entries
 known_entries [] h = tt
 known_entries (entry ∷ entries) h = (known_moved 0 entry.value h.0, known_entries entries h.1)
 
 pub known_slots : (group : Group) → IsAccepted group → (context : Context) → AllKnown (slots_of group context)
 known_slots group h =
-    all_slots (λ context slot. IsKnown slot.source) group (λ context. known_entries (pushed_in group context) (h.known context))
+    all_slots (λ context slot. IsKnown slot.content) group (λ context. known_entries (pushed_in group context) (h.known context))
     (λ kind. known_blocks kind (blocks_in group kind))
     (λ some. tt) (λ some. tt) (λ some. tt)
 

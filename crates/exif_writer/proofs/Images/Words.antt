@@ -11,7 +11,7 @@ use Rattle.exif_types.specs.declared.field.Field.{Field}
 use Rattle.exif_writer.specs.declared.block_kind.BlockKind.{BlockKind}
 use Rattle.exif_tiff.specs.Trace.{Node, child_of, fields_of, faults_of}
 use Rattle.exif_writer.specs.Groups.{Group, pushed_in}
-use Rattle.exif_writer.specs.Slots.{Draft, Slot, Source, Known, PlacesOf, LengthsOf, PlaceOf, slots_of, tiff_slots}
+use Rattle.exif_writer.specs.Slots.{Draft, Slot, Content, Known, PlacesOf, LengthsOf, PlaceOf, slots_of, tiff_slots}
 use Rattle.exif_writer.specs.Places.{directory_place, blocks_place, entries_of}
 use Rattle.exif_writer.specs.Image.{Part, directory_text, value_parts, block_parts}
 use Rattle.exif_writer.specs.Refused.{is_unknown}
@@ -42,12 +42,12 @@ Fits (Double xs) = AllByRecursion (λ x. x < 256 ^ 8) xs
 Fits (Unknown type count place) = ⊥
 
 -- an entry's value isn't of an unknown type
-abbrev pub IsKnown : Source → Type 0
+abbrev pub IsKnown : Content → Type 0
 IsKnown (Known value) = is_unknown value ≡ false
-IsKnown source = ⊤
+IsKnown content = ⊤
 
 abbrev pub AllKnown : List Slot → Type 0
-AllKnown slots = AllByRecursion (λ slot. IsKnown slot.source) slots
+AllKnown slots = AllByRecursion (λ slot. IsKnown slot.content) slots
 
 -- a group in which no cause for a refusal lies
 pub record IsAccepted (group : Group) : Type 0 where
@@ -56,15 +56,15 @@ pub record IsAccepted (group : Group) : Type 0 where
   pub known : (context : Context) → AllByRecursion (λ entry. is_unknown entry.value ≡ false) (pushed_in group context)
 
 -- what stands in an entry is what the reader takes it for: a pointer names a child with entries, and nothing else is a pointer
-abbrev pub SourceFits : Draft → Context → ℕ → Source → Type 0
-SourceFits draft context tag (Known value) = Fits value × (child_of context tag ≡ None)
-SourceFits draft context tag (PlacesOf kind lengths) = (lengths ≡ map length (draft.blocks kind)) × (child_of context tag ≡ None)
-SourceFits draft context tag (LengthsOf kind lengths) = (lengths ≡ map length (draft.blocks kind)) × (child_of context tag ≡ None)
-SourceFits draft context tag (PlaceOf child) = (child_of context tag ≡ Some child) × (0 < length (draft.slots child))
+abbrev pub ContentFits : Draft → Context → ℕ → Content → Type 0
+ContentFits draft context tag (Known value) = Fits value × (child_of context tag ≡ None)
+ContentFits draft context tag (PlacesOf kind lengths) = (lengths ≡ map length (draft.blocks kind)) × (child_of context tag ≡ None)
+ContentFits draft context tag (LengthsOf kind lengths) = (lengths ≡ map length (draft.blocks kind)) × (child_of context tag ≡ None)
+ContentFits draft context tag (PlaceOf child) = (child_of context tag ≡ Some child) × (0 < length (draft.slots child))
 
 pub record SlotFits (draft : Draft) (context : Context) (slot : Slot) : Type 0 where
   pub tag : slot.tag < 256 ^ 2
-  pub source : SourceFits draft context slot.tag slot.source
+  pub content : ContentFits draft context slot.tag slot.content
 
 -- the nodes are these fields, and no fault
 pub record Gives (nodes : List Node) (fields : List Field) : Type 0 where
