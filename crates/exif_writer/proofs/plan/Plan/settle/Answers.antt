@@ -1,4 +1,4 @@
-use Rattle.exif_types.specs.declared.tag.Context.TheVariants.{Tiff, Exif, Gps, Interop}
+use Rattle.exif_table.specs.declared.context.Context.TheVariants.{Tiff, Exif, Gps, Interop}
 use Rattle.exif_writer.proofs.Settling.{settling}
 use Rattle.exif_writer.proofs.plan.Plan.settle.Goals as goal
 
