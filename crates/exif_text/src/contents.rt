@@ -32,6 +32,6 @@ pub enum Contents<'a> {
     Float(&'a [u32]),
     /// The bits of 64-bit floating point numbers.
     Double(&'a [u64]),
-    /// A value of another type: its type, its count and the place of its value element.
+    /// A value of another type: its type, its count and the offset of its value element.
     Unknown(u16, u32, u32),
 }

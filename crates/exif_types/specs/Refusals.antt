@@ -13,7 +13,7 @@ pub data Refusal : Type 0 where
   not_supported : List ℕ → Refusal
   unexpected_value : List ℕ → Refusal
 
--- the refusal that an error is; a device's error, want of memory and a partial result are none
+-- the refusal that an error is; a device's error, out of memory and a partial result are none
 abbrev pub refusal_of : Failure → Option Refusal
 refusal_of (error.InvalidFormat text) = Some (invalid_format text.now)
 refusal_of (error.NotFound what) = Some (not_found what.now)

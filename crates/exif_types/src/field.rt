@@ -19,7 +19,7 @@ pub struct Field {
 }
 
 impl Field {
-    /// An equal field. The only error is want of memory.
+    /// An equal field. The only error is out of memory.
     pub fn clone(&self, alloc: Global) -> Result<Field, Error>
         ensures equal { IfOk result (λ copy. copy ≡ self.now) }
         ensures memory { IfErr result (λ e. e ≡ Error.OutOfMemory) }

@@ -52,7 +52,7 @@ impl Tag {
     }
 
     /// What stands for the value where the tag is absent: `None` where the standard gives nothing,
-    /// leaves it open or lets the rest of the data decide. The only error is want of memory.
+    /// leaves it open or lets the rest of the data decide. The only error is out of memory.
     pub fn default_value(&self, alloc: Global) -> Result<Option<Value>, Error>
         ensures value { IfOk result (λ value. value ≡ default_of self.now) }
         ensures memory { IfErr result (λ e. e ≡ Error.OutOfMemory) }

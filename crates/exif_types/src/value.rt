@@ -26,7 +26,7 @@ pub enum Value {
     Rational(Items<Rational>),
     /// Signed bytes.
     SByte(Items<i8>),
-    /// Bytes of any meaning, and the place in the data where they begin.
+    /// Bytes of any meaning, and the offset in the data where they begin.
     Undefined(Items<u8>, u32),
     /// Signed 16-bit numbers.
     SShort(Items<i16>),
@@ -38,7 +38,7 @@ pub enum Value {
     Float(Items<u32>),
     /// The bits of 64-bit floating point numbers (IEEE 754).
     Double(Items<u64>),
-    /// A type that is not known: its number, the count, and the place of the value element.
+    /// A type that is not known: its number, the count, and the offset of the value element.
     Unknown(u16, u32, u32),
 }
 
@@ -118,7 +118,7 @@ impl Value {
         u32::try_from(length).ok()
     }
 
-    /// An equal value. The only error is want of memory.
+    /// An equal value. The only error is out of memory.
     pub fn clone(&self, alloc: Global) -> Result<Value, Error>
         ensures equal { IfOk result (λ copy. copy ≡ self.now) }
         ensures memory { IfErr result (λ e. e ≡ Error.OutOfMemory) }
