@@ -11,8 +11,8 @@ use Rattle.exif_writer.specs.Groups.{Group, pushed_in}
 use Rattle.exif_writer.specs.Counting.{entry_count, tiff_count}
 use Rattle.exif_writer.specs.Refused.{group_fault, any_unknown, any_over, contexts, is_unknown}
 use Rattle.exif_writer.proofs.Images.Counting.{count_is}
-use Rattle.exif_writer.specs.Views.{entries_in}
-use Rattle.exif_writer.specs.Sending.{sum_of, texts_of}
+use Rattle.exif_writer.specs.Views.{entries_in, blocks_of}
+use Rattle.exif_writer.specs.Sending.{sum_of}
 use Rattle.exif_writer.specs.Places.{after_blocks}
 use Rattle.exif_writer.proofs.Running.{up_to, sum_append}
 
@@ -22,7 +22,7 @@ count_low zero count h = absurd (omega arith)
 count_low (suc n) count h = omega arith
 
 -- where blocks end
-pub end_is_sum : (place : ℕ) (texts : List (Bor (List ℕ))) → after_blocks place (texts_of texts) ≡ place + sum_of texts
+pub end_is_sum : (place : ℕ) (texts : List (Bor (List ℕ))) → after_blocks place (blocks_of texts) ≡ place + sum_of texts
 end_is_sum place [] = omega arith
 end_is_sum place (text ∷ texts) = let e = end_is_sum (place + length text.now) texts in omega arith
 

@@ -12,7 +12,8 @@ use Rattle.exif_writer.specs.declared.plan.Slot.{Slot}
 use Rattle.exif_writer.specs.declared.plan.Plan.{Plan}
 use Rattle.exif_writer.specs.declared.plan.Content.{Content}
 use Rattle.exif_writer.specs.declared.plan.Content.TheVariants.{Known, PlacesOf, LengthsOf, PlaceOf}
-use Rattle.exif_writer.specs.Sending.{lens, texts_of, block_place, context_place, settled, symbol_of, symbol, content_type, content_count, content_size, slot_text, after_slot, IsSettled, AreSettled, entries_text, slots_text, values_text, blocks_text}
+use Rattle.exif_writer.specs.Sending.{lens, block_place, context_place, settled, symbol_of, symbol, content_type, content_count, content_size, slot_text, after_slot, IsSettled, AreSettled, entries_text, slots_text, values_text, blocks_text}
+use Rattle.exif_writer.specs.Views.{blocks_of}
 use Rattle.exif_writer.specs.Plans.{plan_text, plans_text, sent_image}
 use Rattle.exif_writer.specs.Drafts.{places_of, IsPlan, IsSettledPlan, ArePlans}
 use Rattle.exif_writer.proofs.Settling.{zeros_before}
@@ -35,11 +36,11 @@ use Rattle.exif_writer.specs.Places.{written, even, after_value, value_of, block
 use Rattle.exif_writer.proofs.Images.Words.{IsKnown, AllKnown}
 
 -- blocks
-pub laid_blocks : (place : ℕ) (texts : List (Bor (List ℕ))) → laid place (block_parts place (texts_of texts)) ≡ blocks_text texts
+pub laid_blocks : (place : ℕ) (texts : List (Bor (List ℕ))) → laid place (block_parts place (blocks_of texts)) ≡ blocks_text texts
 laid_blocks place [] = refl
 laid_blocks place (t ∷ texts) =
     let none : place - place ≡ 0 = omega arith in
-    (λ i. replicate (none i) 0 ++ (t.now ++ laid (place + length t.now) (block_parts (place + length t.now) (texts_of texts))))
+    (λ i. replicate (none i) 0 ++ (t.now ++ laid (place + length t.now) (block_parts (place + length t.now) (blocks_of texts))))
     ∙ ap (λ r. t.now ++ r) (laid_blocks (place + length t.now) texts)
 
 -- the places of a plan are those of a draft
@@ -202,7 +203,7 @@ module _ (order : Order) (draft : Draft) (start next : ℕ) (plan : Plan) (whole
       (λ i. laid from (value_parts order (written draft start at from ((sym e) i))))
       ∙ values_are order draft start plan.places are at from slots (let P : List format.Slot → Type 0 = AllKnown in subst P (sym e) known) (subst P k s)
 
-  blocks_laid : (place : ℕ) (texts : List (Bor (List ℕ))) (held : List (List ℕ)) → texts_of texts ≡ held → laid place (block_parts place held) ≡ blocks_text texts
+  blocks_laid : (place : ℕ) (texts : List (Bor (List ℕ))) (held : List (List ℕ)) → blocks_of texts ≡ held → laid place (block_parts place held) ≡ blocks_text texts
   blocks_laid place texts held e = (λ i. laid place (block_parts place ((sym e) i))) ∙ laid_blocks place texts
 
   tiff_laid : 0 < length (draft.slots Tiff)

@@ -6,7 +6,8 @@ use Rattle.exif_writer.specs.Slots.{Draft}
 use Rattle.exif_writer.specs.Places.{tiff_place, exif_place, gps_place, interop_place, tiff_values, exif_values, gps_values, interop_values, strips_place, tiles_place, jpeg_place, draft_end, next_place}
 use Rattle.exif_writer.specs.declared.plan.Places.{Places}
 use Rattle.exif_writer.specs.declared.plan.Plan.{Plan}
-use Rattle.exif_writer.specs.Sending.{symbol, texts_of, AreSettled}
+use Rattle.exif_writer.specs.Sending.{symbol, AreSettled}
+use Rattle.exif_writer.specs.Views.{blocks_of}
 
 -- the places of a draft, as a plan has them
 abbrev pub places_of : Draft → ℕ → ℕ → Places
@@ -34,9 +35,9 @@ pub record IsPlan (draft : Draft) (start next : ℕ) (plan : Plan) : Type 0 wher
   pub exif : map symbol plan.exif.items ≡ draft.slots Exif
   pub gps : map symbol plan.gps.items ≡ draft.slots Gps
   pub interop : map symbol plan.interop.items ≡ draft.slots Interop
-  pub strips : texts_of plan.strips.now ≡ draft.blocks Strips
-  pub tiles : texts_of plan.tiles.now ≡ draft.blocks Tiles
-  pub jpeg : texts_of plan.jpeg.now ≡ draft.blocks Jpeg
+  pub strips : blocks_of plan.strips.now ≡ draft.blocks Strips
+  pub tiles : blocks_of plan.tiles.now ≡ draft.blocks Tiles
+  pub jpeg : blocks_of plan.jpeg.now ≡ draft.blocks Jpeg
 
 -- such a plan whose sizes and places are settled
 pub record IsSettledPlan (draft : Draft) (start next : ℕ) (plan : Plan) : Type 0 where

@@ -20,17 +20,15 @@ use Rattle.exif_types.specs.FieldTypes.{unit}
 use Rattle.exif_base.specs.declared.endian.Order.{Order}
 use Rattle.exif_writer.specs.Places.{places_from, even, after_value}
 use Rattle.exif_writer.specs.Refused.{is_unknown}
+use Rattle.exif_writer.specs.Views.{blocks_of}
 
--- what borrowed texts hold, how long each is, and all of them
-abbrev pub texts_of : List (Bor (List ℕ)) → List (List ℕ)
-texts_of texts = map (λ text. text.now) texts
-
+-- how long borrowed blocks are, and all of them
 abbrev pub lens : List (Bor (List ℕ)) → List ℕ
-lens texts = map length (texts_of texts)
+lens blocks = map length (blocks_of blocks)
 
 abbrev pub sum_of : List (Bor (List ℕ)) → ℕ
 sum_of [] = 0
-sum_of (text ∷ texts) = length text.now + sum_of texts
+sum_of (block ∷ blocks) = length block.now + sum_of blocks
 
 abbrev pub block_place : Places → BlockKind → ℕ
 block_place places Strips = places.strips
@@ -46,22 +44,22 @@ context_place places Interop = places.interop
 -- the value of an entry
 abbrev pub settled : Places → Content → Value
 settled places (Known value) = moved_to 0 value.now
-settled places (PlacesOf blocks texts) = Long (places_from (block_place places blocks) (lens texts.now))
-settled places (LengthsOf kind texts) = Long (lens texts.now)
+settled places (PlacesOf kind blocks) = Long (places_from (block_place places kind) (lens blocks.now))
+settled places (LengthsOf kind blocks) = Long (lens blocks.now)
 settled places (PlaceOf context) = Long (context_place places context ∷ [])
 
 -- the places and lengths of blocks fit into 32 bits
 abbrev pub Settles : Places → Content → Type 0
 Settles places (Known value) = ⊤
-Settles places (PlacesOf blocks texts) = block_place places blocks + sum_of texts.now ≤ 4294967295
-Settles places (LengthsOf kind texts) = sum_of texts.now ≤ 4294967295
+Settles places (PlacesOf kind blocks) = block_place places kind + sum_of blocks.now ≤ 4294967295
+Settles places (LengthsOf kind blocks) = sum_of blocks.now ≤ 4294967295
 Settles places (PlaceOf context) = ⊤
 
 -- where the value comes from, in the words of images
 abbrev pub symbol_of : Content → format.Content
 symbol_of (Known value) = format.Known (moved_to 0 value.now)
-symbol_of (PlacesOf blocks texts) = format.PlacesOf blocks (lens texts.now)
-symbol_of (LengthsOf kind texts) = format.LengthsOf kind (lens texts.now)
+symbol_of (PlacesOf kind blocks) = format.PlacesOf kind (lens blocks.now)
+symbol_of (LengthsOf kind blocks) = format.LengthsOf kind (lens blocks.now)
 symbol_of (PlaceOf context) = format.PlaceOf context
 
 abbrev pub symbol : Slot → format.Slot
@@ -70,14 +68,14 @@ symbol slot = record { tag = slot.tag; content = symbol_of slot.content }
 -- the value's type, how many members and how many bytes it has
 abbrev pub content_type : Content → ℕ
 content_type (Known value) = type_number value.now
-content_type (PlacesOf blocks texts) = 4
-content_type (LengthsOf kind texts) = 4
+content_type (PlacesOf kind blocks) = 4
+content_type (LengthsOf kind blocks) = 4
 content_type (PlaceOf context) = 4
 
 abbrev pub content_count : Content → ℕ
 content_count (Known value) = count_of value.now
-content_count (PlacesOf blocks texts) = length texts.now
-content_count (LengthsOf kind texts) = length texts.now
+content_count (PlacesOf kind blocks) = length blocks.now
+content_count (LengthsOf kind blocks) = length blocks.now
 content_count (PlaceOf context) = 1
 
 abbrev pub content_size : Content → ℕ
@@ -85,8 +83,8 @@ content_size content = unit (content_type content) * content_count content
 
 abbrev pub IsKnownContent : Content → Type 0
 IsKnownContent (Known value) = is_unknown value.now ≡ false
-IsKnownContent (PlacesOf blocks texts) = ⊤
-IsKnownContent (LengthsOf kind texts) = ⊤
+IsKnownContent (PlacesOf kind blocks) = ⊤
+IsKnownContent (LengthsOf kind blocks) = ⊤
 IsKnownContent (PlaceOf context) = ⊤
 
 -- the last four bytes of an entry: its value, or the place where it stands
@@ -158,4 +156,4 @@ abbrev pub values_text : Order → Places → List Slot → List ℕ
 values_text order places slots = flat_map (value_text order places) slots
 
 abbrev pub blocks_text : List (Bor (List ℕ)) → List ℕ
-blocks_text texts = flat_map (λ text. text.now) texts
+blocks_text blocks = flat_map (λ block. block.now) blocks

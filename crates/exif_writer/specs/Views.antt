@@ -13,14 +13,15 @@ use Rattle.exif_writer.specs.Groups.{Group, Entry, empty_group, entry_of}
 abbrev pub entries_in : List (Bor Field) → List Entry
 entries_in fields = map (λ field. entry_of field.now) fields
 
-abbrev pub texts_in : Bor (List (Bor (List ℕ))) → List (List ℕ)
-texts_in texts = map (λ text. text.now) texts.now
+-- borrowed blocks
+abbrev pub blocks_of : List (Bor (List ℕ)) → List (List ℕ)
+blocks_of blocks = map (λ block. block.now) blocks
 
 abbrev pub set_in : Option (Bor (List (Bor (List ℕ)))) → Option (List (List ℕ))
-set_in set = option_map (λ texts. map (λ text. text.now) texts.now) set
+set_in set = option_map (λ blocks. blocks_of blocks.now) set
 
 abbrev pub block_in : Option (Bor (List ℕ)) → Option (List ℕ)
-block_in block = option_map (λ text. text.now) block
+block_in block = option_map (λ bytes. bytes.now) block
 
 -- the groups with new empty ones up to a number
 abbrev pub grown : ℕ → List Group → List Group

@@ -46,28 +46,28 @@ impl Places {
     }
 }
 
-// Sends the places of texts that stand one behind the other.
-fn send_places<W: Sink>(out: &mut W, order: Order, first: u32, texts: &[&[u8]]) -> io::Result<()>
-    requires { first + sum_of texts.now ≤ 4294967295 }
+// Sends the places of blocks that stand one behind the other.
+fn send_places<W: Sink>(out: &mut W, order: Order, first: u32, blocks: &[&[u8]]) -> io::Result<()>
+    requires { first + sum_of blocks.now ≤ 4294967295 }
     ensures sends { Sends W.Sink out.old out.new result
-        (flat_map (spelled order 4) (places_from first (lens texts.now))) }
+        (flat_map (spelled order 4) (places_from first (lens blocks.now))) }
 {
     let mut place = first;
-    for text in texts {
+    for block in blocks {
         send_u32(out, order, place)?;
-        place += text.len() as u32;
+        place += block.len() as u32;
     }
     Ok(())
 }
 
-// Sends the lengths of texts.
-fn send_lengths<W: Sink>(out: &mut W, order: Order, texts: &[&[u8]]) -> io::Result<()>
-    requires { sum_of texts.now ≤ 4294967295 }
+// Sends the lengths of blocks.
+fn send_lengths<W: Sink>(out: &mut W, order: Order, blocks: &[&[u8]]) -> io::Result<()>
+    requires { sum_of blocks.now ≤ 4294967295 }
     ensures sends { Sends W.Sink out.old out.new result
-        (flat_map (spelled order 4) (lens texts.now)) }
+        (flat_map (spelled order 4) (lens blocks.now)) }
 {
-    for text in texts {
-        send_u32(out, order, text.len() as u32)?;
+    for block in blocks {
+        send_u32(out, order, block.len() as u32)?;
     }
     Ok(())
 }
@@ -82,8 +82,8 @@ impl<'a> Content<'a> {
     {
         match self {
             Content::Known(value) => send_value(out, order, value),
-            Content::PlacesOf(kind, texts) => send_places(out, order, places.block(*kind), texts),
-            Content::LengthsOf(_, texts) => send_lengths(out, order, texts),
+            Content::PlacesOf(kind, blocks) => send_places(out, order, places.block(*kind), blocks),
+            Content::LengthsOf(_, blocks) => send_lengths(out, order, blocks),
             Content::PlaceOf(context) => send_u32(out, order, places.context(*context)),
         }
     }
@@ -109,7 +109,7 @@ impl<'a> Content<'a> {
     {
         match self {
             Content::Known(value) => value.count().unwrap(),
-            Content::PlacesOf(_, texts) | Content::LengthsOf(_, texts) => texts.len() as u32,
+            Content::PlacesOf(_, blocks) | Content::LengthsOf(_, blocks) => blocks.len() as u32,
             Content::PlaceOf(_) => 1,
         }
     }
@@ -122,7 +122,7 @@ impl<'a> Content<'a> {
     {
         match self {
             Content::Known(value) => value_size(value).unwrap(),
-            Content::PlacesOf(_, texts) | Content::LengthsOf(_, texts) => 4 * texts.len() as u32,
+            Content::PlacesOf(_, blocks) | Content::LengthsOf(_, blocks) => 4 * blocks.len() as u32,
             Content::PlaceOf(_) => 4,
         }
     }
@@ -221,11 +221,11 @@ pub fn send_values<W: Sink>(
 }
 
 /// Sends blocks one behind the other.
-pub fn send_blocks<W: Sink>(out: &mut W, texts: &[&[u8]]) -> io::Result<()>
-    ensures sends { Sends W.Sink out.old out.new result (blocks_text texts.now) }
+pub fn send_blocks<W: Sink>(out: &mut W, blocks: &[&[u8]]) -> io::Result<()>
+    ensures sends { Sends W.Sink out.old out.new result (blocks_text blocks.now) }
 {
-    for text in texts {
-        send_all(out, text)?;
+    for block in blocks {
+        send_all(out, block)?;
     }
     Ok(())
 }

@@ -2,8 +2,7 @@
 
 ghost use Rattle.std.specs.Prelude.{◌≡◌, OnOk, OnErr};
 ghost use Rattle.exif_writer.specs.Groups.{empty_group, blocks_in, pushed_in, with_entry, with_strips, with_tiles, with_jpeg, entry_of, is_ignored};
-ghost use Rattle.exif_writer.specs.Sending.{texts_of};
-ghost use Rattle.exif_writer.specs.Views.{entries_in, texts_in, set_in};
+ghost use Rattle.exif_writer.specs.Views.{blocks_of, entries_in, set_in};
 ghost use Rattle.exif_writer.specs.Slots.{block_list};
 
 use crate::block_kind::BlockKind;
@@ -75,7 +74,7 @@ impl<'a> Ifd<'a> {
 
     /// The blocks of a kind, none where they are not set.
     pub fn blocks(&self, kind: BlockKind) -> &[&[u8]]
-        ensures { texts_of result.now ≡ block_list (blocks_in self.now kind) }
+        ensures { blocks_of result.now ≡ block_list (blocks_in self.now kind) }
     {
         self.set(kind).unwrap_or(&[])
     }
@@ -96,14 +95,14 @@ impl<'a> Ifd<'a> {
 
     /// Sets the strips.
     pub fn set_strips(&mut self, strips: &'a [&'a [u8]])
-        ensures { self.new ≡ with_strips (texts_in strips.entry) self.old }
+        ensures { self.new ≡ with_strips (blocks_of strips.entry.now) self.old }
     {
         self.strips = Some(strips);
     }
 
     /// Sets the tiles.
     pub fn set_tiles(&mut self, tiles: &'a [&'a [u8]])
-        ensures { self.new ≡ with_tiles (texts_in tiles.entry) self.old }
+        ensures { self.new ≡ with_tiles (blocks_of tiles.entry.now) self.old }
     {
         self.tiles = Some(tiles);
     }

@@ -31,11 +31,11 @@ fn push_blocks<'a>(
 ) -> Result<(), AllocError>
     ensures { OnOk result (map symbol slots.new.items ≡ map symbol slots.old.items ++ set_slots kind (set_in set.entry)) }
 {
-    let Some(texts) = set else {
+    let Some(blocks) = set else {
         return Ok(());
     };
-    slots.push(Slot::new(places_tag(kind), Content::PlacesOf(kind, texts)))?;
-    slots.push(Slot::new(lengths_tag(kind), Content::LengthsOf(kind, texts)))?;
+    slots.push(Slot::new(places_tag(kind), Content::PlacesOf(kind, blocks)))?;
+    slots.push(Slot::new(lengths_tag(kind), Content::LengthsOf(kind, blocks)))?;
     Ok(())
 }
 

@@ -60,10 +60,10 @@ impl Tail {
         ensures over { IfNone result ((slots : List Slot) → Tells self slots → 2 ^ 32 ≤ span (slots ++ set_slots kind (set_in set.entry))) }
         ensures told { IfSome result (λ tail. (slots : List Slot) → Tells self slots → Tells tail (slots ++ set_slots kind (set_in set.entry))) }
     {
-        let Some(texts) = set else {
+        let Some(blocks) = set else {
             return Some(self);
         };
-        let size = items_size(4, texts.len())?;
+        let size = items_size(4, blocks.len())?;
         self.with(places_tag(kind), size)?
             .with(lengths_tag(kind), size)
     }

@@ -5,7 +5,7 @@ ghost use Rattle.std.specs.Prelude.{◌≡◌, ◌+◌, ◌*◌, ◌<◌, ◌≤
 ghost use Rattle.exif_writer.specs.Encoding.{value_len};
 ghost use Rattle.exif_writer.specs.Places.{after_blocks};
 ghost use Rattle.exif_writer.specs.Refused.{is_unknown};
-ghost use Rattle.exif_writer.specs.Sending.{texts_of};
+ghost use Rattle.exif_writer.specs.Views.{blocks_of};
 
 use exif_types::Value;
 
@@ -34,12 +34,12 @@ pub fn value_size(value: &Value) -> Option<u32>
 }
 
 /// Where blocks end that begin at a place.
-pub fn blocks_end(place: u32, texts: &[&[u8]]) -> Option<u32>
-    ensures { SomeIff result (after_blocks place (texts_of texts.now) < 2 ^ 32) (after_blocks place (texts_of texts.now)) }
+pub fn blocks_end(place: u32, blocks: &[&[u8]]) -> Option<u32>
+    ensures { SomeIff result (after_blocks place (blocks_of blocks.now) < 2 ^ 32) (after_blocks place (blocks_of blocks.now)) }
 {
     let mut end = place;
-    for text in texts {
-        end = end_of(end, text.len())?;
+    for block in blocks {
+        end = end_of(end, block.len())?;
     }
     Some(end)
 }

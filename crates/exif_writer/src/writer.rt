@@ -14,7 +14,7 @@ ghost use Rattle.exif_writer.specs.Rewriting.{RewritesSame, RewritesInEachOrder,
 ghost use Rattle.exif_writer.specs.Refused.{write_fault};
 ghost use Rattle.exif_writer.specs.WriteFaults.{write_refusal};
 ghost use Rattle.exif_writer.specs.ReadBack.{ContainsItself};
-ghost use Rattle.exif_writer.specs.Views.{texts_in, grown, written_order};
+ghost use Rattle.exif_writer.specs.Views.{blocks_of, grown, written_order};
 
 use crate::groups::{Ifd, is_own};
 use crate::image::send_image;
@@ -120,7 +120,7 @@ impl<'a> Writer<'a> {
     /// memory, and it leaves the writer as it was.
     pub fn set_strips(&mut self, strips: &'a [&'a [u8]], ifd_num: In) -> Result<(), Error>
         ensures set { OnOk result
-            (self.new ≡ strips_set (texts_in strips.entry) ifd_num.0 self.old) }
+            (self.new ≡ strips_set (blocks_of strips.entry.now) ifd_num.0 self.old) }
         ensures kept { OnErr result (self.new ≡ self.old) }
         ensures memory { IfErr result (λ e. e ≡ Error.OutOfMemory) }
     {
@@ -133,7 +133,7 @@ impl<'a> Writer<'a> {
     /// Sets the tiles of a directory, in place of any that were set. The only error is want of
     /// memory, and it leaves the writer as it was.
     pub fn set_tiles(&mut self, tiles: &'a [&'a [u8]], ifd_num: In) -> Result<(), Error>
-        ensures set { OnOk result (self.new ≡ tiles_set (texts_in tiles.entry) ifd_num.0 self.old) }
+        ensures set { OnOk result (self.new ≡ tiles_set (blocks_of tiles.entry.now) ifd_num.0 self.old) }
         ensures kept { OnErr result (self.new ≡ self.old) }
         ensures memory { IfErr result (λ e. e ≡ Error.OutOfMemory) }
     {

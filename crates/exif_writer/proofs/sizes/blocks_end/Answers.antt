@@ -7,17 +7,17 @@ use Rattle.exif_writer.proofs.sizes.blocks_end.Goals as goal
 
 pub returns-in_err-end : goal.returns-in_err-end
 returns-in_err-end c =
-    let end = end_is_sum c.args.place c.args.texts.now in
-    let room = sum_within c.args.texts.now c.loop-text.text-index (get_or c.args.texts.now c.loop-text.text-index no_text) no_text c.loop-text-test.true refl in
+    let end = end_is_sum c.args.place c.args.blocks.now in
+    let room = sum_within c.args.blocks.now c.loop-block.block-index (get_or c.args.blocks.now c.loop-block.block-index no_text) no_text c.loop-block-test.true refl in
     search rules
 
-pub loop-text-preserved : goal.loop-text-preserved
-loop-text-preserved c =
-    let more = sum_more c.args.texts.now c.loop-text.text-index (get_or c.args.texts.now c.loop-text.text-index no_text) no_text c.loop-text-test.true refl in
+pub loop-block-preserved : goal.loop-block-preserved
+loop-block-preserved c =
+    let more = sum_more c.args.blocks.now c.loop-block.block-index (get_or c.args.blocks.now c.loop-block.block-index no_text) no_text c.loop-block-test.true refl in
     search rules
 
 pub returns : goal.returns
 returns c =
-    let end = end_is_sum c.args.place c.args.texts.now in
-    let all = ap sum_of (take_all c.loop-text.text-index c.args.texts.now c.loop-text-test.false) in
+    let end = end_is_sum c.args.place c.args.blocks.now in
+    let all = ap sum_of (take_all c.loop-block.block-index c.args.blocks.now c.loop-block-test.false) in
     search rules

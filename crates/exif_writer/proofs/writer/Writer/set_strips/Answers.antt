@@ -1,17 +1,17 @@
 use Rattle.std.proofs.Common.{◌∙◌, ap}
 use Rattle.exif_writer.specs.Groups.{with_strips, changed}
-use Rattle.exif_writer.specs.Views.{texts_in, grown}
+use Rattle.exif_writer.specs.Views.{blocks_of, grown}
 use Rattle.exif_writer.proofs.Growth.{changed_by, changed_ranged, strips_ranged, ranged_as}
 use Rattle.exif_writer.proofs.writer.Writer.set_strips.Goals as goal
 
 pub invariant_of-self-2 : goal.invariant_of-self-2
 invariant_of-self-2 c =
-    ranged_as _ (changed c.args.ifd_num.0 (with_strips (texts_in c.args.strips)) c.self.inside.ifds.items)
-    (changed_by c.args.ifd_num.0 c.from-number.result (with_strips (texts_in c.args.strips)) c.self.inside.ifds.items _ _ _
+    ranged_as _ (changed c.args.ifd_num.0 (with_strips (blocks_of c.args.strips.now)) c.self.inside.ifds.items)
+    (changed_by c.args.ifd_num.0 c.from-number.result (with_strips (blocks_of c.args.strips.now)) c.self.inside.ifds.items _ _ _
     c.from-number.ensures c.in_ok-grow.ensures.made c.index_mut.ensures.value c.set_strips.ensures)
-    (changed_ranged c.args.ifd_num.0 (with_strips (texts_in c.args.strips)) c.self.inside.ifds.items (strips_ranged (texts_in c.args.strips)) c.self.invariant)
+    (changed_ranged c.args.ifd_num.0 (with_strips (blocks_of c.args.strips.now)) c.self.inside.ifds.items (strips_ranged (blocks_of c.args.strips.now)) c.self.invariant)
 
 pub returns-clause-set : goal.returns-clause-set
 returns-clause-set c =
-    changed_by c.args.ifd_num.0 c.from-number.result (with_strips (texts_in c.args.strips)) c.args.self.now _ _ _
+    changed_by c.args.ifd_num.0 c.from-number.result (with_strips (blocks_of c.args.strips.now)) c.args.self.now _ _ _
     c.from-number.ensures (c.in_ok-grow.ensures.made ∙ ap (grown c.from-number.result) c.self.view_is) c.index_mut.ensures.value c.set_strips.ensures
