@@ -3,20 +3,13 @@
 #![tactic(auto)]
 
 pub mod block_kind;
-mod counts;
-mod directory;
-mod forward;
-mod groups;
-mod image;
+mod ifd;
 mod item;
 pub mod laws;
-mod make;
 mod measure;
-mod places;
 mod plan;
-mod planning;
 mod ranges;
-mod sizes;
+mod send;
 pub mod write_fault;
 mod writer;
 

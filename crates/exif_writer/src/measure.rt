@@ -1,17 +1,56 @@
-//! Where the values of a directory end, counted entry by entry in any order of tags, without memory.
+//! Why nothing is written, and where everything would stand, measured without memory.
 
-ghost use Rattle.std.specs.Prelude.{◌≡◌, ◌+◌, ◌-◌, ◌%◌, ◌^◌, ◌<◌, ◌≤◌, ◌++◌, [], ◌∷◌, List, map, false, SomeIff, IfSome, IfNone};
+ghost use Rattle.std.specs.Prelude.{◌≡◌, ◌+◌, ◌*◌, ◌<◌, ◌≤◌, ◌^◌, false, length, SomeIff, ◌-◌, ◌%◌, ◌++◌, [], ◌∷◌, List, map, IfSome, IfNone, None, IfOk};
+ghost use Rattle.exif_writer.specs.Encoding.{value_len};
+ghost use Rattle.exif_writer.specs.Places.{after_blocks, after_values, directory_len, draft_end, drafts_end};
+ghost use Rattle.exif_writer.specs.Refused.{is_unknown, any_unknown, group_fault, first_group_fault, write_fault};
+ghost use Rattle.exif_writer.specs.Views.{blocks_of, set_in, entries_in};
 ghost use Rattle.exif_writer.specs.Tails.{Tells};
-ghost use Rattle.exif_writer.specs.Views.{set_in, entries_in};
 ghost use Rattle.exif_writer.specs.Measuring.{span};
-ghost use Rattle.exif_writer.specs.Places.{after_values};
-ghost use Rattle.exif_writer.specs.Refused.{any_unknown};
-ghost use Rattle.exif_writer.specs.Slots.{Slot, known, set_slots, content_len, in_tag_order};
+ghost use Rattle.exif_writer.specs.Slots.{Slot, known, set_slots, content_len, in_tag_order, draft_of, slots_of, unsorted};
+ghost use Rattle.exif_writer.specs.Drafts.{places_of};
+ghost use Rattle.exif_writer.specs.Counting.{counted_len};
 
 use crate::block_kind::BlockKind;
-use crate::plan::{lengths_tag, places_tag};
-use crate::sizes::{end_of, items_size, value_size};
-use exif_types::Field;
+use crate::ifd::Ifd;
+use crate::plan::{Places, lengths_tag, places_tag};
+use crate::write_fault::WriteFault;
+use exif_types::{Context, Field, Value};
+
+/// The end of so many bytes that begin at a place.
+pub fn end_of(place: u32, len: usize) -> Option<u32>
+    ensures { SomeIff result (place + len < 2 ^ 32) (place + len) }
+{
+    place.checked_add(u32::try_from(len).ok()?)
+}
+
+/// How many bytes items of a few bytes each take.
+pub fn items_size(unit: u32, count: usize) -> Option<u32>
+    requires { 1 ≤ unit }
+    ensures { SomeIff result (unit * count < 2 ^ 32) (unit * count) }
+{
+    unit.checked_mul(u32::try_from(count).ok()?)
+}
+
+/// How many bytes a value of a known type takes.
+pub fn value_size(value: &Value) -> Option<u32>
+    requires { is_unknown value.now ≡ false }
+    ensures { SomeIff result (value_len value.now < 2 ^ 32) (value_len value.now) }
+{
+    let unit = value.field_type()?.unit_length();
+    unit.checked_mul(value.count()?)
+}
+
+/// Where blocks end that begin at a place.
+pub fn blocks_end(place: u32, blocks: &[&[u8]]) -> Option<u32>
+    ensures { SomeIff result (after_blocks place (blocks_of blocks.now) < 2 ^ 32) (after_blocks place (blocks_of blocks.now)) }
+{
+    let mut end = place;
+    for block in blocks {
+        end = end_of(end, block.len())?;
+    }
+    Some(end)
+}
 
 /// What is known of the values of entries that don't fit into them.
 #[derive(Clone, Copy, Debug)]
@@ -90,4 +129,127 @@ pub fn tail_of(fields: &[&Field]) -> Option<Tail>
         tail = tail.with(field.tag.1, value_size(&field.value)?)?;
     }
     Some(tail)
+}
+
+// The length of a directory of so many entries; one with none isn't there.
+fn directory_len(entries: usize) -> usize
+    requires { entries ≤ 65535 }
+    ensures { result ≡ counted_len entries }
+{
+    if entries == 0 { 0 } else { 6 + 12 * entries }
+}
+
+// Where the directory of a context ends that begins at a place.
+fn directory_end(ifd: &Ifd, context: Context, place: u32) -> Option<u32>
+    requires { group_fault ifd.now ≡ None }
+    ensures { SomeIff result (place + directory_len (slots_of ifd.now context) < 2 ^ 32) (place + directory_len (slots_of ifd.now context)) }
+{
+    end_of(place, directory_len(ifd.count(context)))
+}
+
+// What is known of the values of a context: those of pushed fields and of strips and tiles, since
+// all others stand in their entries.
+fn context_tail(ifd: &Ifd, context: Context) -> Option<Tail>
+    requires { group_fault ifd.now ≡ None }
+    ensures over { IfNone result (2 ^ 32 ≤ span (unsorted ifd.now context)) }
+    ensures told { IfSome result (λ tail. Tells tail (unsorted ifd.now context)) }
+{
+    let tail = tail_of(ifd.fields(context))?;
+    match context {
+        Context::Tiff => tail
+            .with_blocks(BlockKind::Strips, ifd.set(BlockKind::Strips))?
+            .with_blocks(BlockKind::Tiles, ifd.set(BlockKind::Tiles)),
+        Context::Exif | Context::Gps | Context::Interop => Some(tail),
+    }
+}
+
+// Where the values of a context end that begin at a place.
+fn values_end(ifd: &Ifd, context: Context, place: u32) -> Option<u32>
+    requires fault { group_fault ifd.now ≡ None }
+    requires place { 0 < place }
+    ensures { SomeIff result (after_values place (slots_of ifd.now context) < 2 ^ 32) (after_values place (slots_of ifd.now context)) }
+{
+    context_tail(ifd, context)?.end(place)
+}
+
+/// The places of the parts of the directory, its children and its blocks, which begin at a
+/// place; that of the next directory is left open.
+pub fn places(ifd: &Ifd, start: u32) -> Option<Places>
+    requires fault { group_fault ifd.now ≡ None }
+    requires start { 0 < start }
+    ensures { SomeIff result (draft_end (draft_of ifd.now) start < 2 ^ 32) (places_of (draft_of ifd.now) start 0) }
+{
+    let tiff = end_of(start, (start % 2) as usize)?;
+    let exif = directory_end(ifd, Context::Tiff, tiff)?;
+    let gps = directory_end(ifd, Context::Exif, exif)?;
+    let interop = directory_end(ifd, Context::Gps, gps)?;
+    let tiff_values = directory_end(ifd, Context::Interop, interop)?;
+    let exif_values = values_end(ifd, Context::Tiff, tiff_values)?;
+    let gps_values = values_end(ifd, Context::Exif, exif_values)?;
+    let interop_values = values_end(ifd, Context::Gps, gps_values)?;
+    let strips = values_end(ifd, Context::Interop, interop_values)?;
+    let tiles = blocks_end(strips, ifd.blocks(BlockKind::Strips))?;
+    let jpeg = blocks_end(tiles, ifd.blocks(BlockKind::Tiles))?;
+    let end = blocks_end(jpeg, ifd.blocks(BlockKind::Jpeg))?;
+    Some(Places {
+        start,
+        tiff,
+        exif,
+        gps,
+        interop,
+        tiff_values,
+        exif_values,
+        gps_values,
+        interop_values,
+        strips,
+        tiles,
+        jpeg,
+        end,
+        next: 0,
+    })
+}
+
+/// The place of the first directory, right behind the header.
+pub const FIRST: u32 = 8;
+
+// The cause of the first directory that has one.
+fn first_fault(ifds: &[Ifd]) -> Option<WriteFault>
+    ensures { result ≡ first_group_fault ifds.now }
+{
+    for ifd in ifds {
+        let fault = ifd.fault();
+        if fault.is_some() {
+            return fault;
+        }
+    }
+    None
+}
+
+// Where the image ends, if places of 32 bits reach there.
+fn image_end(ifds: &[Ifd]) -> Option<u32>
+    requires { first_group_fault ifds.now ≡ None }
+    ensures { SomeIff result (drafts_end 8 (map draft_of ifds.now) < 2 ^ 32) (drafts_end 8 (map draft_of ifds.now)) }
+{
+    let mut end = FIRST;
+    for ifd in ifds {
+        end = places(ifd, end)?.end;
+    }
+    Some(end)
+}
+
+/// Why nothing is written. It takes no memory.
+pub fn write_fault(ifds: &[Ifd]) -> Option<WriteFault>
+    ensures { result ≡ write_fault ifds.now }
+{
+    if ifds.is_empty() {
+        return Some(WriteFault::NoDirectory);
+    }
+    let fault = first_fault(ifds);
+    if fault.is_some() {
+        return fault;
+    }
+    match image_end(ifds) {
+        Some(_) => None,
+        None => Some(WriteFault::OffsetTooLarge),
+    }
 }

@@ -1,16 +1,20 @@
-//! What is known of an image before its first byte is sent.
+//! What is known of an image before its first byte is sent. All the memory of writing is taken here.
 
-ghost use Rattle.std.specs.Prelude.{ℕ, ◌≡◌, ◌≤◌, map, OnOk};
+ghost use Rattle.std.specs.Prelude.{ℕ, ◌≡◌, ◌≤◌, map, OnOk, ◌++◌, IfOk, length, None};
 ghost use Rattle.std.specs.List.{AllByRecursion};
-ghost use Rattle.exif_writer.specs.Sending.{symbol, symbol_of, settle, settle_slot, after_slot, values_end, IsMeasurable};
+ghost use Rattle.exif_writer.specs.Sending.{symbol, symbol_of, IsKnownContent, content_type, content_count, content_size, settle, settle_slot, after_slot, values_end, IsMeasurable};
 ghost use Rattle.exif_writer.specs.Groups.{places_tag, lengths_tag};
-ghost use Rattle.exif_writer.specs.Slots.{Draft, in_tag_order};
-ghost use Rattle.exif_writer.specs.Drafts.{IsPlan, IsSettledPlan};
+ghost use Rattle.exif_writer.specs.Slots.{Draft, in_tag_order, draft_of, known, set_slots, pointer_slots};
+ghost use Rattle.exif_writer.specs.Drafts.{IsPlan, IsSettledPlan, places_of, ArePlans};
 ghost use Rattle.exif_writer.specs.Plans.{IsReadyPlan};
+ghost use Rattle.exif_writer.specs.Views.{set_in, entries_in};
+ghost use Rattle.exif_writer.specs.Refused.{write_fault};
 
 use crate::block_kind::BlockKind;
-use exif_types::{Context, Value};
-use std::alloc::AllocError;
+use crate::ifd::Ifd;
+use crate::measure::{FIRST, places, value_size};
+use exif_types::{Context, Field, FieldType, Value};
+use std::alloc::{AllocError, Global};
 
 /// The places of the parts of one directory of the chain and its children.
 #[derive(Clone, Copy, Debug)]
@@ -56,6 +60,45 @@ pub enum Content<'a> {
     LengthsOf(BlockKind, &'a [&'a [u8]]),
     /// The place of a child directory.
     PlaceOf(Context),
+}
+
+impl<'a> Content<'a> {
+    /// The number of the value's type.
+    pub fn type_number(&self) -> u16
+        ensures { result ≡ content_type self.now }
+    {
+        match self {
+            Content::Known(value) => value.type_number(),
+            Content::PlacesOf(_, _) | Content::LengthsOf(_, _) | Content::PlaceOf(_) => {
+                FieldType::Long.number()
+            }
+        }
+    }
+
+    /// How many items the value has.
+    pub fn count(&self) -> u32
+        requires { content_count self.now ≤ 4294967295 }
+        ensures { result ≡ content_count self.now }
+    {
+        match self {
+            Content::Known(value) => value.count().unwrap(),
+            Content::PlacesOf(_, blocks) | Content::LengthsOf(_, blocks) => blocks.len() as u32,
+            Content::PlaceOf(_) => 1,
+        }
+    }
+
+    /// How many bytes the value takes.
+    pub fn size(&self) -> u32
+        requires known { IsKnownContent self.now }
+        requires room { content_size self.now ≤ 4294967295 }
+        ensures { result ≡ content_size self.now }
+    {
+        match self {
+            Content::Known(value) => value_size(value).unwrap(),
+            Content::PlacesOf(_, blocks) | Content::LengthsOf(_, blocks) => 4 * blocks.len() as u32,
+            Content::PlaceOf(_) => 4,
+        }
+    }
 }
 
 /// An entry of a directory.
@@ -181,4 +224,105 @@ pub fn lengths_tag(kind: BlockKind) -> u16
         BlockKind::Tiles => 0x145,
         BlockKind::Jpeg => 0x202,
     }
+}
+
+// Entries of pushed fields, as they came.
+fn known_slots<'a>(alloc: Global, fields: &[&'a Field]) -> Result<Vec<Slot<'a>>, AllocError>
+    ensures { IfOk result (λ slots. map symbol slots.items ≡ map known (entries_in fields.now)) }
+{
+    let mut slots = Vec::new(alloc);
+    for field in fields {
+        slots.push(Slot::new(field.tag.1, Content::Known(&field.value)))?;
+    }
+    Ok(slots)
+}
+
+// Adds the two entries of blocks that are set.
+fn push_blocks<'a>(
+    slots: &mut Vec<Slot<'a>>,
+    kind: BlockKind,
+    set: Option<&'a [&'a [u8]]>,
+) -> Result<(), AllocError>
+    ensures { OnOk result (map symbol slots.new.items ≡ map symbol slots.old.items ++ set_slots kind (set_in set.entry)) }
+{
+    let Some(blocks) = set else {
+        return Ok(());
+    };
+    slots.push(Slot::new(places_tag(kind), Content::PlacesOf(kind, blocks)))?;
+    slots.push(Slot::new(lengths_tag(kind), Content::LengthsOf(kind, blocks)))?;
+    Ok(())
+}
+
+// Adds the pointer to a child directory that has entries.
+fn push_pointer<'a>(
+    slots: &mut Vec<Slot<'a>>,
+    tag: u16,
+    child: Context,
+    entries: &[Slot<'a>],
+) -> Result<(), AllocError>
+    ensures { OnOk result (map symbol slots.new.items ≡ map symbol slots.old.items ++ pointer_slots tag child (map symbol entries.now)) }
+{
+    if entries.is_empty() {
+        return Ok(());
+    }
+    slots.push(Slot::new(tag, Content::PlaceOf(child)))?;
+    Ok(())
+}
+
+// The entries of a directory of pushed fields alone, in tag order.
+fn sorted_slots<'a>(alloc: Global, fields: &[&'a Field]) -> Result<Vec<Slot<'a>>, AllocError>
+    ensures { IfOk result (λ slots. map symbol slots.items ≡ in_tag_order (map known (entries_in fields.now))) }
+{
+    let mut slots = known_slots(alloc, fields)?;
+    sort(&mut slots)?;
+    Ok(slots)
+}
+
+// The plan of what stands at these places.
+fn plan_of<'b>(alloc: Global, ifd: &'b Ifd, places: Places) -> Result<Plan<'b>, AllocError>
+    requires { places ≡ places_of (draft_of ifd.now) places.start places.next }
+    ensures { IfOk result (IsPlan (draft_of ifd.now) places.start places.next) }
+{
+    let gps = sorted_slots(alloc, ifd.fields(Context::Gps))?;
+    let interop = sorted_slots(alloc, ifd.fields(Context::Interop))?;
+    let mut exif = known_slots(alloc, ifd.fields(Context::Exif))?;
+    push_pointer(&mut exif, 0xa005, Context::Interop, interop.as_slice())?;
+    sort(&mut exif)?;
+    let mut tiff = known_slots(alloc, ifd.fields(Context::Tiff))?;
+    push_blocks(&mut tiff, BlockKind::Strips, ifd.set(BlockKind::Strips))?;
+    push_blocks(&mut tiff, BlockKind::Tiles, ifd.set(BlockKind::Tiles))?;
+    push_blocks(&mut tiff, BlockKind::Jpeg, ifd.set(BlockKind::Jpeg))?;
+    push_pointer(&mut tiff, 0x8769, Context::Exif, exif.as_slice())?;
+    push_pointer(&mut tiff, 0x8825, Context::Gps, gps.as_slice())?;
+    sort(&mut tiff)?;
+    Ok(Plan {
+        places,
+        tiff,
+        exif,
+        gps,
+        interop,
+        strips: ifd.blocks(BlockKind::Strips),
+        tiles: ifd.blocks(BlockKind::Tiles),
+        jpeg: ifd.blocks(BlockKind::Jpeg),
+    })
+}
+
+/// The plans of directories that can be written. All the memory of writing is taken here.
+pub fn plans<'b>(alloc: Global, ifds: &'b [Ifd]) -> Result<Vec<Plan<'b>>, AllocError>
+    requires { write_fault ifds.now ≡ None }
+    ensures { IfOk result (λ plans. ArePlans 8 (map draft_of ifds.now) plans.items) }
+{
+    let mut plans = Vec::with_capacity(alloc, ifds.len())?;
+    let mut start = FIRST;
+    for (index, ifd) in ifds.iter().enumerate() {
+        let mut places = places(ifd, start).unwrap();
+        start = places.end;
+        if index + 1 < ifds.len() {
+            places.next = start + start % 2;
+        }
+        let mut plan = plan_of(alloc, ifd, places)?;
+        plan.settle();
+        plans.push(plan)?;
+    }
+    Ok(plans)
 }

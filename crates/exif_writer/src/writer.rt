@@ -16,11 +16,12 @@ ghost use Rattle.exif_writer.specs.WriteFaults.{write_refusal};
 ghost use Rattle.exif_writer.specs.ReadBack.{ContainsItself};
 ghost use Rattle.exif_writer.specs.Views.{blocks_of, grown, written_order};
 
-use crate::groups::{Ifd, is_own};
-use crate::image::send_image;
+use crate::ifd::{Ifd, is_own};
 use crate::laws::{images_are_canonical, images_are_laid_out, images_read_back};
-use crate::planning::{plans, write_fault};
+use crate::measure::write_fault;
+use crate::plan::plans;
 use crate::ranges::show_field_fits;
+use crate::send::send_image;
 use exif_base::{Order, Sink};
 use exif_containers::laws::tiff_data_stand_alone;
 use exif_types::{Error, Field, In};

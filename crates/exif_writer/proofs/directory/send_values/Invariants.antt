@@ -1,7 +1,0 @@
-use Rattle.std.proofs.Common.{take}
-use Rattle.exif_writer.specs.Sending.{values_text}
-use Rattle.exif_writer.proofs.Sending.{HasSent}
-use Rattle.exif_writer.proofs.directory.send_values.Given as goal
-
-abbrev pub invariant-loop-slot : goal.invariant-loop-slot
-invariant-loop-slot g l = HasSent g.W.Sink l.initial.out l.out (values_text l.order l.places (take l.slot-index l.slots))

@@ -1,0 +1,25 @@
+use Rattle.exif_writer.specs.Sending.{slot_text, IsReady}
+use Rattle.exif_writer.proofs.Sending.{sends_none, sends_member, sends_stop_member, sends_members}
+use Rattle.exif_writer.proofs.SizeSteps.{all_at}
+use Rattle.exif_writer.proofs.send.send_entries.Goals as goal
+
+pub loop-slot-init : goal.loop-slot-init
+loop-slot-init g c = sends_none
+
+pub send-requires : goal.send-requires
+send-requires g c =
+    all_at (IsReady c.args.places.now) c.args.slots.now c.loop-slot.slot-index c.slot-item.result c.slot-item.result c.requires c.loop-slot-test.true c.slot-item.is
+
+pub loop-slot-preserved : goal.loop-slot-preserved
+loop-slot-preserved g c =
+    sends_member (slot_text c.args.order c.args.places.now) c.args.slots.now c.loop-slot.slot-index c.slot-item.result c.slot-item.result
+    c.loop-slot-test.true c.slot-item.is c.loop-slot.invariant c.in_ok-send.ensures.sends
+
+pub returns-in_err-send : goal.returns-in_err-send
+returns-in_err-send g c = record {
+  sends = sends_stop_member (slot_text c.args.order c.args.places.now) c.args.slots.now c.loop-slot.slot-index c.slot-item.result c.slot-item.result
+      c.loop-slot-test.true c.slot-item.is c.loop-slot.invariant c.in_err-send.ensures.sends c.from_residual.ensures.0;
+}
+
+pub returns : goal.returns
+returns g c = record { sends = sends_members (slot_text c.args.order c.args.places.now) c.args.slots.now c.loop-slot.slot-index c.loop-slot-test.false c.loop-slot.invariant }

@@ -1,0 +1,274 @@
+//! Plans, sent strictly forward.
+
+ghost use Rattle.std.specs.Prelude.{◌≡◌, ◌+◌, ◌*◌, ◌++◌, ◌^◌, ◌<◌, ◌≤◌, length, map, false};
+ghost use Rattle.std.specs.List.{flat_map, AllByRecursion};
+ghost use Rattle.exif_writer.specs.Sending.{block_place, context_place, lens, sum_of, settled, Settles, element, slot_text, IsReady, entries_text, slots_text, value_text, values_text, blocks_text};
+ghost use Rattle.exif_writer.specs.Encoding.{spelled, encode};
+ghost use Rattle.exif_writer.specs.Places.{places_from};
+ghost use Rattle.exif_writer.specs.Image.{header_text, order_mark};
+ghost use Rattle.exif_base.specs.Sent.{Sends};
+ghost use Rattle.exif_writer.specs.Plans.{IsReadyPlan, directories_text, plan_values_text, plan_blocks_text, plan_text, plans_text, sent_image};
+
+use crate::block_kind::BlockKind;
+use crate::item::{send_u16, send_u32, send_value, send_zeros};
+use crate::plan::{Content, Places, Plan, Slot};
+use exif_base::{Order, Sink, send_all};
+use exif_types::Context;
+use std::io;
+
+impl Places {
+    // Where the blocks of a kind begin.
+    fn block(&self, kind: BlockKind) -> u32
+        ensures { result ≡ block_place self.now kind }
+    {
+        match kind {
+            BlockKind::Strips => self.strips,
+            BlockKind::Tiles => self.tiles,
+            BlockKind::Jpeg => self.jpeg,
+        }
+    }
+
+    // Where the directory of a context stands.
+    fn context(&self, context: Context) -> u32
+        ensures { result ≡ context_place self.now context }
+    {
+        match context {
+            Context::Tiff => self.tiff,
+            Context::Exif => self.exif,
+            Context::Gps => self.gps,
+            Context::Interop => self.interop,
+        }
+    }
+}
+
+// Sends the places of blocks that stand one behind the other.
+fn send_places<W: Sink>(out: &mut W, order: Order, first: u32, blocks: &[&[u8]]) -> io::Result<()>
+    requires { first + sum_of blocks.now ≤ 4294967295 }
+    ensures sends { Sends W.Sink out.old out.new result
+        (flat_map (spelled order 4) (places_from first (lens blocks.now))) }
+{
+    let mut place = first;
+    for block in blocks {
+        send_u32(out, order, place)?;
+        place += block.len() as u32;
+    }
+    Ok(())
+}
+
+// Sends the lengths of blocks.
+fn send_lengths<W: Sink>(out: &mut W, order: Order, blocks: &[&[u8]]) -> io::Result<()>
+    requires { sum_of blocks.now ≤ 4294967295 }
+    ensures sends { Sends W.Sink out.old out.new result
+        (flat_map (spelled order 4) (lens blocks.now)) }
+{
+    for block in blocks {
+        send_u32(out, order, block.len() as u32)?;
+    }
+    Ok(())
+}
+
+#[tactic(auto, using(crate::proofs::Moved::encode_moved))]
+impl<'a> Content<'a> {
+    // Sends the bytes of the value.
+    fn send<W: Sink>(&self, out: &mut W, order: Order, places: &Places) -> io::Result<()>
+        requires { Settles places.now self.now }
+        ensures sends { Sends W.Sink out.old out.new result
+            (encode order (settled places.now self.now)) }
+    {
+        match self {
+            Content::Known(value) => send_value(out, order, value),
+            Content::PlacesOf(kind, blocks) => send_places(out, order, places.block(*kind), blocks),
+            Content::LengthsOf(_, blocks) => send_lengths(out, order, blocks),
+            Content::PlaceOf(context) => send_u32(out, order, places.context(*context)),
+        }
+    }
+}
+
+#[tactic(auto, using(crate::proofs::SizeSteps::count_within))]
+impl<'a> Slot<'a> {
+    // Sends the last four bytes of the entry.
+    fn send_element<W: Sink>(&self, out: &mut W, order: Order, places: &Places) -> io::Result<()>
+        requires { Settles places.now self.now.content }
+        ensures sends { Sends W.Sink out.old out.new result (element order places.now self.now) }
+    {
+        if self.size <= 4 {
+            self.content.send(out, order, places)?;
+            send_zeros(out, (4 - self.size) as usize)
+        } else {
+            send_u32(out, order, self.place)
+        }
+    }
+
+    // Sends the entry.
+    fn send<W: Sink>(&self, out: &mut W, order: Order, places: &Places) -> io::Result<()>
+        requires { IsReady places.now self.now }
+        ensures sends { Sends W.Sink out.old out.new result (slot_text order places.now self.now) }
+    {
+        send_u16(out, order, self.tag)?;
+        send_u16(out, order, self.content.type_number())?;
+        send_u32(out, order, self.content.count())?;
+        self.send_element(out, order, places)
+    }
+
+    // Sends the value, if it isn't in its entry.
+    fn send_value<W: Sink>(&self, out: &mut W, order: Order, places: &Places) -> io::Result<()>
+        requires { IsReady places.now self.now }
+        ensures sends { Sends W.Sink out.old out.new result (value_text order places.now self.now) }
+    {
+        if self.size <= 4 {
+            return Ok(());
+        }
+        send_zeros(out, usize::from(self.padded))?;
+        self.content.send(out, order, places)
+    }
+}
+
+// Sends the entries of a directory.
+fn send_entries<W: Sink>(
+    out: &mut W,
+    order: Order,
+    places: &Places,
+    slots: &[Slot],
+) -> io::Result<()>
+    requires { AllByRecursion (IsReady places.now) slots.now }
+    ensures sends { Sends W.Sink out.old out.new result (entries_text order places.now slots.now) }
+{
+    for slot in slots {
+        slot.send(out, order, places)?;
+    }
+    Ok(())
+}
+
+/// Sends a directory, if it has entries.
+pub fn send_directory<W: Sink>(
+    out: &mut W,
+    order: Order,
+    places: &Places,
+    slots: &[Slot],
+    next: u32,
+) -> io::Result<()>
+    requires few { length slots.now ≤ 65535 }
+    requires ready { AllByRecursion (IsReady places.now) slots.now }
+    ensures sends { Sends W.Sink out.old out.new result
+        (slots_text order places.now next slots.now) }
+{
+    if slots.is_empty() {
+        return Ok(());
+    }
+    send_u16(out, order, slots.len() as u16)?;
+    send_entries(out, order, places, slots)?;
+    send_u32(out, order, next)
+}
+
+/// Sends the values of a directory that aren't in its entries.
+pub fn send_values<W: Sink>(
+    out: &mut W,
+    order: Order,
+    places: &Places,
+    slots: &[Slot],
+) -> io::Result<()>
+    requires { AllByRecursion (IsReady places.now) slots.now }
+    ensures sends { Sends W.Sink out.old out.new result (values_text order places.now slots.now) }
+{
+    for slot in slots {
+        slot.send_value(out, order, places)?;
+    }
+    Ok(())
+}
+
+/// Sends blocks one behind the other.
+pub fn send_blocks<W: Sink>(out: &mut W, blocks: &[&[u8]]) -> io::Result<()>
+    ensures sends { Sends W.Sink out.old out.new result (blocks_text blocks.now) }
+{
+    for block in blocks {
+        send_all(out, block)?;
+    }
+    Ok(())
+}
+
+impl<'a> Plan<'a> {
+    // Sends the four directories, behind a zero where the first needs one.
+    fn send_directories<W: Sink>(&self, out: &mut W, order: Order) -> io::Result<()>
+        requires { IsReadyPlan self.now }
+        ensures sends { Sends W.Sink out.old out.new result (directories_text order self.now) }
+    {
+        let places = &self.places;
+        send_zeros(out, (places.start % 2) as usize)?;
+        send_directory(out, order, places, self.tiff.as_slice(), places.next)?;
+        send_directory(out, order, places, self.exif.as_slice(), 0)?;
+        send_directory(out, order, places, self.gps.as_slice(), 0)?;
+        send_directory(out, order, places, self.interop.as_slice(), 0)
+    }
+
+    // Sends the values that aren't in their entries.
+    fn send_values<W: Sink>(&self, out: &mut W, order: Order) -> io::Result<()>
+        requires { IsReadyPlan self.now }
+        ensures sends { Sends W.Sink out.old out.new result (plan_values_text order self.now) }
+    {
+        let places = &self.places;
+        send_values(out, order, places, self.tiff.as_slice())?;
+        send_values(out, order, places, self.exif.as_slice())?;
+        send_values(out, order, places, self.gps.as_slice())?;
+        send_values(out, order, places, self.interop.as_slice())
+    }
+
+    // Sends the blocks.
+    fn send_blocks<W: Sink>(&self, out: &mut W) -> io::Result<()>
+        ensures sends { Sends W.Sink out.old out.new result (plan_blocks_text self.now) }
+    {
+        send_blocks(out, self.strips)?;
+        send_blocks(out, self.tiles)?;
+        send_blocks(out, self.jpeg)
+    }
+
+    // Sends all parts.
+    fn send<W: Sink>(&self, out: &mut W, order: Order) -> io::Result<()>
+        requires { IsReadyPlan self.now }
+        ensures sends { Sends W.Sink out.old out.new result (plan_text order self.now) }
+    {
+        self.send_directories(out, order)?;
+        self.send_values(out, order)?;
+        self.send_blocks(out)
+    }
+}
+
+// The two bytes that say a byte order.
+fn order_mark(order: Order) -> [u8; 2]
+    ensures { result ≡ order_mark order }
+{
+    match order {
+        Order::Big => *b"MM",
+        Order::Little => *b"II",
+    }
+}
+
+// Sends the byte order, the number 42 and the place of the first directory.
+fn send_header<W: Sink>(out: &mut W, order: Order) -> io::Result<()>
+    ensures sends { Sends W.Sink out.old out.new result (header_text order) }
+{
+    send_all(out, &order_mark(order))?;
+    send_u16(out, order, 42)?;
+    send_u32(out, order, 8)
+}
+
+// Sends the plans one behind the other.
+fn send_plans<'a, W: Sink>(out: &mut W, order: Order, plans: &[Plan<'a>]) -> io::Result<()>
+    requires { AllByRecursion IsReadyPlan plans.now }
+    ensures sends { Sends W.Sink out.old out.new result (plans_text order plans.now) }
+{
+    for plan in plans {
+        plan.send(out, order)?;
+    }
+    Ok(())
+}
+
+/// Sends an image and flushes once.
+pub fn send_image<'a, W: Sink>(out: &mut W, order: Order, plans: &[Plan<'a>]) -> io::Result<()>
+    requires { AllByRecursion IsReadyPlan plans.now }
+    ensures sends { Sends W.Sink out.old out.new result (sent_image order plans.now) }
+{
+    send_header(out, order)?;
+    send_plans(out, order, plans)?;
+    out.flush()?;
+    Ok(())
+}
