@@ -1,6 +1,5 @@
 //! The text of a value by the kind of its tag.
 
-ghost use Rattle.std.specs.Prelude.{◌≡◌};
 ghost use Rattle.std.specs.Fmt.{WritesOnOk};
 ghost use Rattle.exif_text.specs.Contents.{contents_view};
 ghost use Rattle.exif_text.specs.Kinds.{date_value_text, value_text};

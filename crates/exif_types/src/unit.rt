@@ -8,7 +8,7 @@ ghost use Rattle.exif_types.specs.Defaults.{default_as};
 ghost use Rattle.exif_types.specs.Lookup.{last_named};
 ghost use Rattle.exif_types.specs.Units.{default_text, missing_text, pieces_text, shown_or, sibling_text};
 
-use crate::{Context, Exif, Field, In, Rational, Tag};
+use crate::{Exif, Field, In, Rational, Tag};
 use exif_table::{DefaultValue, UnitPiece};
 use exif_text::{Contents, write_value};
 use std::fmt;

@@ -1,8 +1,7 @@
 //! The types and counts of values (TIFF 6.0, section 2).
 
-use crate::{FieldType, Rational, Value};
+use crate::{Rational, Value};
 use exif_base::Items;
-use std::alloc::{AllocError, Global};
 use std::process::Abort;
 use std::test::Fail;
 
