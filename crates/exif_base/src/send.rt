@@ -8,8 +8,8 @@ use std::io::ErrorKind;
 
 /// Puts all the bytes, in as many puts as the sink needs.
 ///
-/// An error of the sink ends it at once, `Interrupted` too. A put that takes none of some bytes is an
-/// error of kind `WriteZero`. After an error exactly a front of the bytes was taken.
+/// An error of the sink ends it at once, `Interrupted` too. A put that takes none of some bytes is
+/// an error of kind `WriteZero`. After an error exactly a front of the bytes was taken.
 #[tactic(auto, using(crate::proofs::Sent::front_taken))]
 pub fn send_all<W: Sink>(sink: &mut W, bytes: &[u8]) -> io::Result<()>
     ensures sends { Sends W.Sink sink.old sink.new result bytes.now }

@@ -1,4 +1,5 @@
-//! The Exif data of a HEIF file in memory (ISO/IEC 14496-12:2015, 4.2; ISO/IEC 23008-12:2017, A.2.1).
+//! The Exif data of a HEIF file in memory (ISO/IEC 14496-12:2015, 4.2; ISO/IEC 23008-12:2017,
+//! A.2.1).
 #![tactic(auto)]
 
 mod exif;
