@@ -6,7 +6,6 @@ use Rattle.std.proofs.lemmas.Bool.{ne_eqb}
 use Rattle.std.proofs.lemmas.List.Elements.{All-tail}
 use Rattle.std.proofs.lemmas.List.{length-take-le, take-append-drop, drop-drop}
 use Rattle.exif_base.specs.Told.{Skips}
-use Rattle.std.specs.Io.KnownBytes.{Consumes}
 use Rattle.byteorder.specs.Endian.{ReadsNumber, big_number}
 use Rattle.exif_containers.specs.Jpeg.{from_mark}
 use Rattle.exif_base.specs.Scan.{PassesOthers}

@@ -1,10 +1,9 @@
 -- The Exif data of a HEIF file are refused by a named refusal only.
-use Rattle.std.proofs.Common.{◌≡◌, ℕ, zero, suc, ◌+◌, ◌-◌, ◌^◌, Bool, true, false, cond, eqb, leb, ltb, not, ◌&&◌, ◌||◌, List, [], ◌∷◌, ◌++◌, length, Option, Some, None, Result, Ok, Err, IfErr, IfSome, MatchOption, refl, subst, arith}
+use Rattle.std.proofs.Common.{ℕ, zero, suc, ◌+◌, ◌-◌, ◌^◌, Bool, true, false, cond, eqb, leb, ltb, not, ◌&&◌, ◌||◌, List, [], ◌∷◌, ◌++◌, length, Option, Some, None, Result, Ok, Err, IfErr, IfSome, refl, arith}
 use Rattle.std.specs.List.{Contains, find, list_any}
 use Rattle.byteorder.specs.Endian.{big_number}
 use Rattle.std.specs.Prelude.{unwrap_or}
-use Rattle.exif_types.specs.Failures.{Failure}
-use Rattle.exif_types.specs.Refusals.{Refusal, refusal_of, IsInterrupted, ◌>>=◌, Fails, all_pass, joined, last_read, or_refuse, unless_refused, Front}
+use Rattle.exif_types.specs.Refusals.{Refusal, ◌>>=◌, all_pass, joined, last_read, or_refuse, unless_refused, Front}
 use Rattle.exif_isobmff.specs.HeifRefusals.{heif_refusals, too_small, broken_file, no_exif, unsupported_infe}
 use Rattle.exif_isobmff.specs.declared.kind.Kind.{Kind}
 use Rattle.exif_isobmff.specs.declared.kind.Kind.TheVariants.{FileType, ItemInfo, ItemInfoEntry}
