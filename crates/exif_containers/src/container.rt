@@ -1,15 +1,11 @@
 //! The Exif data of a stream, whatever container it is.
 
-ghost use Rattle.std.specs.Prelude.{◌≡◌, ◌<◌, ◌≤◌, ◌++◌, length, min, take, is_err, IfOk, IfErr, IfSome};
+ghost use Rattle.std.specs.Prelude.{◌≡◌, ◌<◌, ◌≤◌, length, min, take, is_err, IfOk, IfErr, IfSome};
 ghost use Rattle.std.specs.Io.KnownBytes.{Consumes, IsAtEnd};
 ghost use Rattle.exif_base.specs.Reads.{Counts};
 ghost use Rattle.exif_types.specs.Refusals.{Gives, is_io};
 ghost use Rattle.exif_containers.specs.Answer.{IsNamed};
-ghost use Rattle.exif_containers.specs.Container.{answer_as, begins_tiff, container_answer, container_refusals, data_of, format_in};
-ghost use Rattle.exif_isobmff.specs.Heif.{exif_of};
-ghost use Rattle.exif_isobmff.specs.HeifRefusals.{heif_refusals};
-ghost use Rattle.exif_containers.specs.Jpeg.{jpeg_answer, jpeg_refusals};
-ghost use Rattle.exif_containers.specs.Webp.{webp_answer, webp_refusals};
+ghost use Rattle.exif_containers.specs.Container.{answer_as, begins_tiff, container_answer, container_refusals, format_in};
 
 use crate::isobmff::{self, is_heif};
 use crate::jpeg::{self, is_jpeg};

@@ -1,6 +1,6 @@
 //! The bytes of an item.
 
-ghost use Rattle.std.specs.Prelude.{◌≡◌, false, [], IfOk};
+ghost use Rattle.std.specs.Prelude.{◌≡◌, false, []};
 ghost use Rattle.std.specs.Option.{option_map};
 ghost use Rattle.exif_types.specs.Refusals.{Answers, Gives, is_io};
 ghost use Rattle.exif_isobmff.specs.Places.{location_view, file_extent, idat_extent, extent_bytes, gathered, item_bytes};

@@ -1,6 +1,6 @@
 //! The boxes of a file.
 
-ghost use Rattle.std.specs.Prelude.{◌≡◌, ℕ, Ok, length, ◌≤◌, take, drop};
+ghost use Rattle.std.specs.Prelude.{◌≡◌, Ok};
 ghost use Rattle.std.specs.List.{list_any};
 ghost use Rattle.exif_types.specs.Refusals.{Answers, Takes};
 ghost use Rattle.exif_isobmff.specs.HeifFile.{file_box_at, fours, is_heif_brand, has_heif_brand, brand_checked, whole, passed, meta_body, begins_heif};

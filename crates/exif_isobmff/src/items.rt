@@ -1,6 +1,6 @@
 //! Which item holds the Exif data.
 
-ghost use Rattle.std.specs.Prelude.{◌≡◌, ℕ, Option, Ok, option_to_list};
+ghost use Rattle.std.specs.Prelude.{Option, Ok, option_to_list};
 ghost use Rattle.exif_types.specs.Refusals.{Answers, last_read};
 ghost use Rattle.exif_isobmff.specs.Items.{exif_number, exif_numbers};
 ghost use Rattle.exif_isobmff.specs.Boxes.{whole_part, read_one, from_count};

@@ -1,6 +1,6 @@
 //! Where an item is.
 
-ghost use Rattle.std.specs.Prelude.{◌≡◌, false, ◌+◌, ◌*◌, ℕ, Option, None, Ok, option_to_list};
+ghost use Rattle.std.specs.Prelude.{◌≡◌, false, ◌+◌, ◌*◌, Option, None, Ok};
 ghost use Rattle.std.specs.Option.{option_map};
 ghost use Rattle.exif_types.specs.Refusals.{Gives, Takes, TakesIfRoom, is_io, last_read};
 ghost use Rattle.exif_isobmff.specs.Boxes.{number_at, pass_at, times, times_joined};

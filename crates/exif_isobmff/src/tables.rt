@@ -1,6 +1,6 @@
 //! What counts among the children of `meta`.
 
-ghost use Rattle.std.specs.Prelude.{◌≡◌, ℕ, Ok};
+ghost use Rattle.std.specs.Prelude.{Ok};
 ghost use Rattle.exif_types.specs.Refusals.{Answers};
 ghost use Rattle.exif_isobmff.specs.Boxes.{children};
 ghost use Rattle.exif_isobmff.specs.Heif.{tables_of, meta_tables};
