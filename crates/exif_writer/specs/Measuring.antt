@@ -1,7 +1,11 @@
 -- The length of values, measured over entries in any order of tags.
-use Rattle.std.specs.Prelude.{ℕ, ◌+◌, ◌-◌, ◌%◌, nat_le, nat_lt, List, [], ◌∷◌, Bool, Option, Some, None, if◌then◌else◌}
+use Rattle.std.specs.Prelude.{SomeIff, ◌<◌, ◌^◌, ℕ, ◌+◌, ◌-◌, ◌%◌, nat_le, nat_lt, List, [], ◌∷◌, Bool, Option, Some, None, if◌then◌else◌}
 use Rattle.exif_writer.specs.Slots.{Slot, content_len}
 use Rattle.exif_writer.specs.Places.{even}
+
+-- a number is answered where 32 bits hold it
+abbrev pub MeasuredAs : Option ℕ → ℕ → Type 0
+MeasuredAs answer n = SomeIff answer (n < 2 ^ 32) n
 
 -- the value stands in its entry
 abbrev pub fits : Slot → Bool

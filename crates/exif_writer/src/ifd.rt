@@ -34,7 +34,15 @@ impl<'a> Model for Ifd<'a> {
 
     ghost Value = { Group };
 
-    ghost view = { λ g. record { tiff = entries_in g.tiff.items; exif = entries_in g.exif.items; gps = entries_in g.gps.items; interop = entries_in g.interop.items; strips = set_in g.strips; tiles = set_in g.tiles; jpeg = block_in g.jpeg } };
+    ghost view = { λ ifd. record {
+      tiff = entries_in ifd.tiff.items;
+      exif = entries_in ifd.exif.items;
+      gps = entries_in ifd.gps.items;
+      interop = entries_in ifd.interop.items;
+      strips = set_in ifd.strips;
+      tiles = set_in ifd.tiles;
+      jpeg = block_in ifd.jpeg;
+    } };
 }
 
 impl<'a> Ifd<'a> {
@@ -85,7 +93,8 @@ impl<'a> Ifd<'a> {
 
     /// Adds a field to the directory of its context.
     pub fn push(&mut self, field: &'a Field) -> Result<(), AllocError>
-        ensures pushed { OnOk result (self.new ≡ with_entry field.now.tag.0 (entry_of field.now) self.old) }
+        ensures pushed { OnOk result
+            (self.new ≡ with_entry field.now.tag.0 (entry_of field.now) self.old) }
         ensures kept { OnErr result (self.new ≡ self.old) }
     {
         match field.tag.0 {
@@ -195,7 +204,8 @@ impl<'a> Ifd<'a> {
 
     // Whether a directory has more entries than its count of 16 bits can say.
     fn is_over(&self) -> bool
-        ensures { result ≡ list_any (λ context. nat_lt 65535 (entry_count self.now context)) contexts }
+        ensures { result
+            ≡ list_any (λ context. nat_lt 65535 (entry_count self.now context)) contexts }
     {
         self.count(Context::Tiff) > 65535
             || self.count(Context::Exif) > 65535

@@ -146,7 +146,8 @@ impl Item for Rational {
 }
 
 impl Item for SRational {
-    ghost spelled = { λ order x. spelled order 4 (cast_unsigned w32 x.num) ++ spelled order 4 (cast_unsigned w32 x.denom) };
+    ghost spelled = { λ order x. spelled order 4 (cast_unsigned w32 x.num)
+        ++ spelled order 4 (cast_unsigned w32 x.denom) };
 
     fn send<W: Sink>(&self, out: &mut W, order: Order) -> io::Result<()> {
         send_u32(out, order, self.num.cast_unsigned())?;

@@ -1,5 +1,5 @@
-//! Fields and blocks written as one TIFF image: the definition of images, the laws of what they hold,
-//! and the writer that sends them.
+//! Fields and blocks written as one TIFF image: the definition of images, the laws of what they
+//! hold, and the writer that sends them.
 #![tactic(auto)]
 
 pub mod block_kind;

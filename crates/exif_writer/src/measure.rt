@@ -6,7 +6,7 @@ ghost use Rattle.exif_writer.specs.Places.{after_blocks, after_values, directory
 ghost use Rattle.exif_writer.specs.Refused.{is_unknown, any_unknown, group_fault, first_group_fault, write_fault};
 ghost use Rattle.exif_writer.specs.Views.{blocks_of, set_in, entries_in};
 ghost use Rattle.exif_writer.specs.Tails.{Tells};
-ghost use Rattle.exif_writer.specs.Measuring.{span};
+ghost use Rattle.exif_writer.specs.Measuring.{MeasuredAs, span};
 ghost use Rattle.exif_writer.specs.Slots.{Slot, known, set_slots, content_len, in_tag_order, draft_of, slots_of, unsorted};
 ghost use Rattle.exif_writer.specs.Drafts.{places_of};
 ghost use Rattle.exif_writer.specs.Counting.{counted_len};
@@ -19,7 +19,7 @@ use exif_types::{Context, Field, Value};
 
 /// The end of so many bytes that begin at a place.
 pub fn end_of(place: u32, len: usize) -> Option<u32>
-    ensures { SomeIff result (place + len < 2 ^ 32) (place + len) }
+    ensures { MeasuredAs result (place + len) }
 {
     place.checked_add(u32::try_from(len).ok()?)
 }
@@ -27,7 +27,7 @@ pub fn end_of(place: u32, len: usize) -> Option<u32>
 /// How many bytes items of a few bytes each take.
 pub fn items_size(unit: u32, count: usize) -> Option<u32>
     requires { 1 ≤ unit }
-    ensures { SomeIff result (unit * count < 2 ^ 32) (unit * count) }
+    ensures { MeasuredAs result (unit * count) }
 {
     unit.checked_mul(u32::try_from(count).ok()?)
 }
@@ -35,7 +35,7 @@ pub fn items_size(unit: u32, count: usize) -> Option<u32>
 /// How many bytes a value of a known type takes.
 pub fn value_size(value: &Value) -> Option<u32>
     requires { is_unknown value.now ≡ false }
-    ensures { SomeIff result (value_len value.now < 2 ^ 32) (value_len value.now) }
+    ensures { MeasuredAs result (value_len value.now) }
 {
     let unit = value.field_type()?.unit_length();
     unit.checked_mul(value.count()?)
@@ -43,7 +43,7 @@ pub fn value_size(value: &Value) -> Option<u32>
 
 /// Where blocks end that begin at a place.
 pub fn blocks_end(place: u32, blocks: &[&[u8]]) -> Option<u32>
-    ensures { SomeIff result (after_blocks place (blocks_of blocks.now) < 2 ^ 32) (after_blocks place (blocks_of blocks.now)) }
+    ensures { MeasuredAs result (after_blocks place (blocks_of blocks.now)) }
 {
     let mut end = place;
     for block in blocks {
@@ -59,9 +59,10 @@ pub struct Tail {
     last: Option<(u16, u32)>,
 }
 
-// The end of so many bytes that begin at an even place, less the zero that makes the last ones even.
+// The end of so many bytes that begin at an even place, less the zero that makes the last ones
+// even.
 fn even_end(place: u32, bytes: u32, last: u32) -> Option<u32>
-    ensures { SomeIff result (place + place % 2 + bytes - last % 2 < 2 ^ 32) (place + place % 2 + bytes - last % 2) }
+    ensures { MeasuredAs result (place + place % 2 + bytes - last % 2) }
 {
     let end = u64::from(place) + u64::from(place % 2) + u64::from(bytes);
     u32::try_from(end.saturating_sub(u64::from(last % 2))).ok()
@@ -80,8 +81,12 @@ impl Tail {
 
     // Counts an entry with a tag whose value takes so many bytes.
     fn with(self, tag: u16, size: u32) -> Option<Tail>
-        ensures over { IfNone result ((slots : List Slot) (slot : Slot) → Tells self slots → content_len slot.content ≡ size → 2 ^ 32 ≤ span (slots ++ slot ∷ [])) }
-        ensures told { IfSome result (λ tail. (slots : List Slot) (slot : Slot) → Tells self slots → slot.tag ≡ tag → content_len slot.content ≡ size → Tells tail (slots ++ slot ∷ [])) }
+        ensures over { IfNone result ((slots : List Slot) (slot : Slot)
+            → Tells self slots → content_len slot.content ≡ size
+            → 2 ^ 32 ≤ span (slots ++ slot ∷ [])) }
+        ensures told { IfSome result (λ tail. (slots : List Slot) (slot : Slot)
+            → Tells self slots → slot.tag ≡ tag → content_len slot.content ≡ size
+            → Tells tail (slots ++ slot ∷ [])) }
     {
         if size <= 4 {
             return Some(self);
@@ -96,8 +101,10 @@ impl Tail {
 
     /// Counts the two entries of blocks that are set.
     pub fn with_blocks(self, kind: BlockKind, set: Option<&[&[u8]]>) -> Option<Tail>
-        ensures over { IfNone result ((slots : List Slot) → Tells self slots → 2 ^ 32 ≤ span (slots ++ set_slots kind (set_in set.entry))) }
-        ensures told { IfSome result (λ tail. (slots : List Slot) → Tells self slots → Tells tail (slots ++ set_slots kind (set_in set.entry))) }
+        ensures over { IfNone result ((slots : List Slot) → Tells self slots
+            → 2 ^ 32 ≤ span (slots ++ set_slots kind (set_in set.entry))) }
+        ensures told { IfSome result (λ tail. (slots : List Slot) → Tells self slots
+            → Tells tail (slots ++ set_slots kind (set_in set.entry))) }
     {
         let Some(blocks) = set else {
             return Some(self);
@@ -109,7 +116,8 @@ impl Tail {
 
     /// Where the values end that begin at a place.
     pub fn end(&self, place: u32) -> Option<u32>
-        ensures { (slots : List Slot) → Tells self.now slots → SomeIff result (after_values place (in_tag_order slots) < 2 ^ 32) (after_values place (in_tag_order slots)) }
+        ensures { (slots : List Slot) → Tells self.now slots
+            → MeasuredAs result (after_values place (in_tag_order slots)) }
     {
         match self.last {
             None => Some(place),
@@ -142,7 +150,7 @@ fn directory_len(entries: usize) -> usize
 // Where the directory of a context ends that begins at a place.
 fn directory_end(ifd: &Ifd, context: Context, place: u32) -> Option<u32>
     requires { group_fault ifd.now ≡ None }
-    ensures { SomeIff result (place + directory_len (slots_of ifd.now context) < 2 ^ 32) (place + directory_len (slots_of ifd.now context)) }
+    ensures { MeasuredAs result (place + directory_len (slots_of ifd.now context)) }
 {
     end_of(place, directory_len(ifd.count(context)))
 }
@@ -167,7 +175,7 @@ fn context_tail(ifd: &Ifd, context: Context) -> Option<Tail>
 fn values_end(ifd: &Ifd, context: Context, place: u32) -> Option<u32>
     requires fault { group_fault ifd.now ≡ None }
     requires place { 0 < place }
-    ensures { SomeIff result (after_values place (slots_of ifd.now context) < 2 ^ 32) (after_values place (slots_of ifd.now context)) }
+    ensures { MeasuredAs result (after_values place (slots_of ifd.now context)) }
 {
     context_tail(ifd, context)?.end(place)
 }
@@ -177,7 +185,8 @@ fn values_end(ifd: &Ifd, context: Context, place: u32) -> Option<u32>
 pub fn places(ifd: &Ifd, start: u32) -> Option<Places>
     requires fault { group_fault ifd.now ≡ None }
     requires start { 0 < start }
-    ensures { SomeIff result (draft_end (draft_of ifd.now) start < 2 ^ 32) (places_of (draft_of ifd.now) start 0) }
+    ensures { SomeIff result (draft_end (draft_of ifd.now) start < 2 ^ 32)
+        (places_of (draft_of ifd.now) start 0) }
 {
     let tiff = end_of(start, (start % 2) as usize)?;
     let exif = directory_end(ifd, Context::Tiff, tiff)?;
@@ -228,7 +237,7 @@ fn first_fault(ifds: &[Ifd]) -> Option<WriteFault>
 // Where the image ends, if places of 32 bits reach there.
 fn image_end(ifds: &[Ifd]) -> Option<u32>
     requires { first_group_fault ifds.now ≡ None }
-    ensures { SomeIff result (drafts_end 8 (map draft_of ifds.now) < 2 ^ 32) (drafts_end 8 (map draft_of ifds.now)) }
+    ensures { MeasuredAs result (drafts_end 8 (map draft_of ifds.now)) }
 {
     let mut end = FIRST;
     for ifd in ifds {

@@ -1,4 +1,5 @@
-//! What is known of an image before its first byte is sent. All the memory of writing is taken here.
+//! What is known of an image before its first byte is sent. All the memory of writing is taken
+//! here.
 
 ghost use Rattle.std.specs.Prelude.{ℕ, ◌≡◌, ◌≤◌, map, OnOk, ◌++◌, IfOk, length, None};
 ghost use Rattle.std.specs.List.{AllByRecursion};
@@ -13,7 +14,7 @@ ghost use Rattle.exif_writer.specs.Refused.{write_fault};
 use crate::block_kind::BlockKind;
 use crate::ifd::Ifd;
 use crate::measure::{FIRST, places, value_size};
-use exif_types::{Context, Field, FieldType, Value};
+use exif_types::{Context, Field, FieldType, Tag, Value};
 use std::alloc::{AllocError, Global};
 
 /// The places of the parts of one directory of the chain and its children.
@@ -209,9 +210,9 @@ pub fn places_tag(kind: BlockKind) -> u16
     ensures { result ≡ places_tag kind }
 {
     match kind {
-        BlockKind::Strips => 0x111,
-        BlockKind::Tiles => 0x144,
-        BlockKind::Jpeg => 0x201,
+        BlockKind::Strips => Tag::StripOffsets.number(),
+        BlockKind::Tiles => Tag::TileOffsets.number(),
+        BlockKind::Jpeg => Tag::JPEGInterchangeFormat.number(),
     }
 }
 
@@ -220,9 +221,9 @@ pub fn lengths_tag(kind: BlockKind) -> u16
     ensures { result ≡ lengths_tag kind }
 {
     match kind {
-        BlockKind::Strips => 0x117,
-        BlockKind::Tiles => 0x145,
-        BlockKind::Jpeg => 0x202,
+        BlockKind::Strips => Tag::StripByteCounts.number(),
+        BlockKind::Tiles => Tag::TileByteCounts.number(),
+        BlockKind::Jpeg => Tag::JPEGInterchangeFormatLength.number(),
     }
 }
 
@@ -243,7 +244,8 @@ fn push_blocks<'a>(
     kind: BlockKind,
     set: Option<&'a [&'a [u8]]>,
 ) -> Result<(), AllocError>
-    ensures { OnOk result (map symbol slots.new.items ≡ map symbol slots.old.items ++ set_slots kind (set_in set.entry)) }
+    ensures { OnOk result (map symbol slots.new.items
+        ≡ map symbol slots.old.items ++ set_slots kind (set_in set.entry)) }
 {
     let Some(blocks) = set else {
         return Ok(());
@@ -256,22 +258,24 @@ fn push_blocks<'a>(
 // Adds the pointer to a child directory that has entries.
 fn push_pointer<'a>(
     slots: &mut Vec<Slot<'a>>,
-    tag: u16,
+    tag: Tag,
     child: Context,
     entries: &[Slot<'a>],
 ) -> Result<(), AllocError>
-    ensures { OnOk result (map symbol slots.new.items ≡ map symbol slots.old.items ++ pointer_slots tag child (map symbol entries.now)) }
+    ensures { OnOk result (map symbol slots.new.items
+        ≡ map symbol slots.old.items ++ pointer_slots tag.1 child (map symbol entries.now)) }
 {
     if entries.is_empty() {
         return Ok(());
     }
-    slots.push(Slot::new(tag, Content::PlaceOf(child)))?;
+    slots.push(Slot::new(tag.number(), Content::PlaceOf(child)))?;
     Ok(())
 }
 
 // The entries of a directory of pushed fields alone, in tag order.
 fn sorted_slots<'a>(alloc: Global, fields: &[&'a Field]) -> Result<Vec<Slot<'a>>, AllocError>
-    ensures { IfOk result (λ slots. map symbol slots.items ≡ in_tag_order (map known (entries_in fields.now))) }
+    ensures { IfOk result (λ slots. map symbol slots.items
+        ≡ in_tag_order (map known (entries_in fields.now))) }
 {
     let mut slots = known_slots(alloc, fields)?;
     sort(&mut slots)?;
@@ -286,14 +290,29 @@ fn plan_of<'b>(alloc: Global, ifd: &'b Ifd, places: Places) -> Result<Plan<'b>, 
     let gps = sorted_slots(alloc, ifd.fields(Context::Gps))?;
     let interop = sorted_slots(alloc, ifd.fields(Context::Interop))?;
     let mut exif = known_slots(alloc, ifd.fields(Context::Exif))?;
-    push_pointer(&mut exif, 0xa005, Context::Interop, interop.as_slice())?;
+    push_pointer(
+        &mut exif,
+        Tag::InteropIFDPointer,
+        Context::Interop,
+        interop.as_slice(),
+    )?;
     sort(&mut exif)?;
     let mut tiff = known_slots(alloc, ifd.fields(Context::Tiff))?;
     push_blocks(&mut tiff, BlockKind::Strips, ifd.set(BlockKind::Strips))?;
     push_blocks(&mut tiff, BlockKind::Tiles, ifd.set(BlockKind::Tiles))?;
     push_blocks(&mut tiff, BlockKind::Jpeg, ifd.set(BlockKind::Jpeg))?;
-    push_pointer(&mut tiff, 0x8769, Context::Exif, exif.as_slice())?;
-    push_pointer(&mut tiff, 0x8825, Context::Gps, gps.as_slice())?;
+    push_pointer(
+        &mut tiff,
+        Tag::ExifIFDPointer,
+        Context::Exif,
+        exif.as_slice(),
+    )?;
+    push_pointer(
+        &mut tiff,
+        Tag::GPSInfoIFDPointer,
+        Context::Gps,
+        gps.as_slice(),
+    )?;
     sort(&mut tiff)?;
     Ok(Plan {
         places,

@@ -96,7 +96,7 @@ impl<'a> Writer<'a> {
     }
 
     /// Adds a field to the directory that its context and number name. A field that the writer
-    /// makes itself, as a pointer or the places of strips, is ignored. The only error is want of
+    /// makes itself, as a pointer or the places of strips, is ignored. The only error is to be out of
     /// memory, and it leaves the writer as it was.
     pub fn push_field(&mut self, field: &'a Field) -> Result<(), Error>
         ensures pushed { OnOk result (self.new ≡ pushed field.now self.old) }
@@ -117,7 +117,7 @@ impl<'a> Writer<'a> {
         Ok(())
     }
 
-    /// Sets the strips of a directory, in place of any that were set. The only error is want of
+    /// Sets the strips of a directory, in place of any that were set. The only error is to be out of
     /// memory, and it leaves the writer as it was.
     pub fn set_strips(&mut self, strips: &'a [&'a [u8]], ifd_num: In) -> Result<(), Error>
         ensures set { OnOk result
@@ -131,10 +131,11 @@ impl<'a> Writer<'a> {
         Ok(())
     }
 
-    /// Sets the tiles of a directory, in place of any that were set. The only error is want of
+    /// Sets the tiles of a directory, in place of any that were set. The only error is to be out of
     /// memory, and it leaves the writer as it was.
     pub fn set_tiles(&mut self, tiles: &'a [&'a [u8]], ifd_num: In) -> Result<(), Error>
-        ensures set { OnOk result (self.new ≡ tiles_set (blocks_of tiles.entry.now) ifd_num.0 self.old) }
+        ensures set { OnOk result
+            (self.new ≡ tiles_set (blocks_of tiles.entry.now) ifd_num.0 self.old) }
         ensures kept { OnErr result (self.new ≡ self.old) }
         ensures memory { IfErr result (λ e. e ≡ Error.OutOfMemory) }
     {
@@ -144,7 +145,7 @@ impl<'a> Writer<'a> {
         Ok(())
     }
 
-    /// Sets the JPEG of a directory, in place of one that was set. The only error is want of
+    /// Sets the JPEG of a directory, in place of one that was set. The only error is to be out of
     /// memory, and it leaves the writer as it was.
     pub fn set_jpeg(&mut self, jpeg: &'a [u8], ifd_num: In) -> Result<(), Error>
         ensures set { OnOk result (self.new ≡ jpeg_set jpeg.now ifd_num.0 self.old) }
@@ -163,7 +164,7 @@ impl<'a> Writer<'a> {
     /// It is refused where there is no directory, and else for the first directory of the chain
     /// that has no entry, a directory of more than 65,535 entries or a value of an unknown type,
     /// and else where the image is longer than 4,294,967,295 bytes. These refusals take no
-    /// memory. After them and after want of memory nothing was sent, and after an error of the
+    /// memory. After them and where memory runs out nothing was sent, and after an error of the
     /// sink exactly a beginning of the image.
     pub fn write<W: Sink>(&mut self, out: &mut W, little_endian: bool) -> Result<(), Error>
         ensures same { self.new ≡ self.old }
