@@ -1,34 +1,33 @@
 -- Values whose place is forgotten, and settled values.
-use Rattle.std.proofs.Common.{◌≡◌, ℕ, suc, ◌+◌, ◌<◌, ◌≤◌, length, arith, List, [], ◌∷◌, ◌++◌, take, drop, get_or, refl, ap, ◌∙◌}
-use Rattle.std.proofs.lemmas.List.{length-append}
-use Rattle.std.proofs.lemmas.List.Concat.{flat_map-append}
-use Rattle.std.specs.List.{flat_map}
+use Rattle.std.proofs.Common.{◌≡◌, ℕ, suc, ◌+◌, length, List, [], ◌∷◌, refl, ap}
 use denote.Ref.{Bor}
 use Rattle.exif_writer.specs.Sending.{lens}
-use Rattle.exif_writer.proofs.Loops.{around}
 use Rattle.exif_base.specs.declared.endian.Order.{Order}
 use Rattle.exif_types.specs.declared.value.Value.{Value}
 use Rattle.exif_types.specs.declared.value.Value.TheVariants.{Byte, Ascii, Short, Long, Rational, SByte, Undefined, SShort, SLong, SRational, Float, Double, Unknown}
 use Rattle.exif_writer.specs.Encoding.{encode, value_len, moved_to}
-use Rattle.exif_types.specs.Texts.{ended}
 use Rattle.exif_types.specs.ValueTypes.{count_of, type_number}
 use Rattle.exif_writer.specs.Refused.{is_unknown}
 use Rattle.exif_writer.specs.Places.{places_from}
 
+-- what holds of a value that stays and of bytes with another place holds of each value that is moved
+pub moved_by : (P : Value → Value → Type 0) → ((value : Value) → P value value) → ((xs : List ℕ) (old new : ℕ) → P (Undefined xs old) (Undefined xs new)) → (place : ℕ) (value : Value) → P value (moved_to place value)
+moved_by P stays bytes place (Byte xs) = stays (Byte xs)
+moved_by P stays bytes place (Ascii xs) = stays (Ascii xs)
+moved_by P stays bytes place (Short xs) = stays (Short xs)
+moved_by P stays bytes place (Long xs) = stays (Long xs)
+moved_by P stays bytes place (Rational xs) = stays (Rational xs)
+moved_by P stays bytes place (SByte xs) = stays (SByte xs)
+moved_by P stays bytes place (Undefined xs old) = bytes xs old place
+moved_by P stays bytes place (SShort xs) = stays (SShort xs)
+moved_by P stays bytes place (SLong xs) = stays (SLong xs)
+moved_by P stays bytes place (SRational xs) = stays (SRational xs)
+moved_by P stays bytes place (Float xs) = stays (Float xs)
+moved_by P stays bytes place (Double xs) = stays (Double xs)
+moved_by P stays bytes place (Unknown type count old) = stays (Unknown type count old)
+
 pub encode_moved : (order : Order) (value : Value) (place : ℕ) → encode order (moved_to place value) ≡ encode order value
-encode_moved order (Byte xs) place = refl
-encode_moved order (Ascii xs) place = refl
-encode_moved order (Short xs) place = refl
-encode_moved order (Long xs) place = refl
-encode_moved order (Rational xs) place = refl
-encode_moved order (SByte xs) place = refl
-encode_moved order (Undefined xs old) place = refl
-encode_moved order (SShort xs) place = refl
-encode_moved order (SLong xs) place = refl
-encode_moved order (SRational xs) place = refl
-encode_moved order (Float xs) place = refl
-encode_moved order (Double xs) place = refl
-encode_moved order (Unknown type count old) place = refl
+encode_moved order value place = moved_by (λ v m. encode order m ≡ encode order v) (λ v. refl) (λ xs old new. refl) place value
 
 -- what a move leaves alone
 pub record Same (value moved : Value) : Type 0 where
@@ -38,30 +37,11 @@ pub record Same (value moved : Value) : Type 0 where
   pub len : value_len moved ≡ value_len value
 
 pub same_moved : (value : Value) (place : ℕ) → Same value (moved_to place value)
-same_moved (Byte xs) place = record { type = refl; count = refl; unknown = refl; len = refl }
-same_moved (Ascii xs) place = record { type = refl; count = refl; unknown = refl; len = refl }
-same_moved (Short xs) place = record { type = refl; count = refl; unknown = refl; len = refl }
-same_moved (Long xs) place = record { type = refl; count = refl; unknown = refl; len = refl }
-same_moved (Rational xs) place = record { type = refl; count = refl; unknown = refl; len = refl }
-same_moved (SByte xs) place = record { type = refl; count = refl; unknown = refl; len = refl }
-same_moved (Undefined xs old) place = record { type = refl; count = refl; unknown = refl; len = refl }
-same_moved (SShort xs) place = record { type = refl; count = refl; unknown = refl; len = refl }
-same_moved (SLong xs) place = record { type = refl; count = refl; unknown = refl; len = refl }
-same_moved (SRational xs) place = record { type = refl; count = refl; unknown = refl; len = refl }
-same_moved (Float xs) place = record { type = refl; count = refl; unknown = refl; len = refl }
-same_moved (Double xs) place = record { type = refl; count = refl; unknown = refl; len = refl }
-same_moved (Unknown type count old) place = record { type = refl; count = refl; unknown = refl; len = refl }
+same_moved value place =
+    moved_by Same (λ v. record { type = refl; count = refl; unknown = refl; len = refl }) (λ xs old new. record { type = refl; count = refl; unknown = refl; len = refl }) place value
 
--- the texts before one, and that one, are part of all
-pub texts_within : (xs : List (List ℕ)) (i : ℕ) (x d : List ℕ) → i < length xs → x ≡ get_or xs i d
-    → length (flat_map ended (take i xs)) + (length x + 1) ≤ length (flat_map ended xs)
-texts_within xs i x d h e =
-    let k : length (flat_map ended xs) ≡ length (flat_map ended (take i xs)) + length (ended x ++ flat_map ended (drop (i + 1) xs)) =
-    ap (λ r. length (flat_map ended r)) (around xs i x d h e) ∙ ap length (flat_map-append ended (take i xs) (x ∷ drop (i + 1) xs))
-    ∙ length-append (flat_map ended (take i xs)) (ended x ++ flat_map ended (drop (i + 1) xs)) in
-    let a = length-append (ended x) (flat_map ended (drop (i + 1) xs)) in
-    let b : length (ended x) ≡ length x + 1 = length-append x (0 ∷ []) in
-    omega arith
+pub moved_twice : (p q : ℕ) (value : Value) → moved_to p (moved_to q value) ≡ moved_to p value
+moved_twice p q value = moved_by (λ v m. moved_to p m ≡ moved_to p v) (λ v. refl) (λ xs old new. refl) q value
 
 pub places_length : (place : ℕ) (texts : List (Bor (List ℕ))) → length (places_from place (lens texts)) ≡ length texts
 places_length place [] = refl

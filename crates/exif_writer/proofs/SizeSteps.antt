@@ -1,8 +1,9 @@
 -- Sizes of values.
-use Rattle.std.proofs.Common.{◌≡◌, Some, None, ℕ, zero, suc, ◌+◌, ◌*◌, ◌<◌, ◌≤◌, List, [], ◌∷◌, ◌++◌, length, take, drop, get_or, arith, refl, sym, ap, subst, ◌∙◌, false, true}
+use Rattle.std.proofs.Common.{◌≡◌, Some, ℕ, zero, suc, ◌+◌, ◌<◌, ◌≤◌, List, [], ◌∷◌, ◌++◌, length, take, drop, get_or, arith, refl, sym, ap, subst, ◌∙◌, false, true}
 use Rattle.std.specs.Prelude.{if◌then◌else◌, nat_le, ◌-◌, replicate}
 use Rattle.exif_writer.specs.declared.plan.Places.{Places}
 use Rattle.exif_writer.specs.declared.plan.Slot.{Slot}
+use Rattle.exif_writer.proofs.Images.Room.{count_within as value_within}
 use Rattle.exif_writer.proofs.Loops.{around}
 use Rattle.exif_writer.proofs.Running.{state-append}
 use Rattle.std.specs.List.{AllByRecursion}
@@ -12,30 +13,13 @@ use Rattle.exif_writer.specs.Sending.{content_count, content_size, IsKnownConten
 use Rattle.std.proofs.lemmas.Bool.{le-leb, lt-leb}
 use Rattle.exif_base.specs.declared.endian.Order.{Order}
 use Rattle.exif_writer.specs.Encoding.{spelled, encode}
-use Rattle.exif_types.specs.ValueTypes.{count_of, type_number, field_type_of}
+use Rattle.exif_types.specs.ValueTypes.{type_number, field_type_of}
 use Rattle.exif_types.specs.declared.field_type.FieldType.{FieldType}
 use Rattle.exif_types.specs.declared.field_type.FieldType.TheVariants as field_type
 use Rattle.exif_types.specs.declared.value.Value.{Value}
 use Rattle.exif_types.specs.declared.value.Value.TheVariants.{Byte, Ascii, Short, Long, Rational, SByte, Undefined, SShort, SLong, SRational, Float, Double, Unknown}
 use Rattle.exif_types.specs.FieldTypes.{unit, unit_length}
-use Rattle.exif_writer.specs.Refused.{is_unknown}
 use Rattle.exif_writer.specs.Places.{even}
-
--- a value of a known type has no more members than bytes
-pub value_within : (value : Value) → is_unknown value ≡ false → count_of value ≤ unit (type_number value) * count_of value
-value_within (Byte xs) h = omega arith
-value_within (Ascii xs) h = omega arith
-value_within (Short xs) h = omega arith
-value_within (Long xs) h = omega arith
-value_within (Rational xs) h = omega arith
-value_within (SByte xs) h = omega arith
-value_within (Undefined xs old) h = omega arith
-value_within (SShort xs) h = omega arith
-value_within (SLong xs) h = omega arith
-value_within (SRational xs) h = omega arith
-value_within (Float xs) h = omega arith
-value_within (Double xs) h = omega arith
-value_within (Unknown type count old) h = absurd cc
 
 -- a known type and its unit
 pub known_unit : (value : Value) (type : FieldType) → field_type_of value ≡ Some type → unit (type_number value) ≡ unit_length type
@@ -52,21 +36,6 @@ known_unit (SRational xs) type h = let e : field_type.SRational ≡ type = cc in
 known_unit (Float xs) type h = let e : field_type.Float ≡ type = cc in ap unit_length e
 known_unit (Double xs) type h = let e : field_type.Double ≡ type = cc in ap unit_length e
 known_unit (Unknown type count old) other h = absurd cc
-
-pub never_untyped : (value : Value) → is_unknown value ≡ false → field_type_of value ≡ None → ⊥
-never_untyped (Byte xs) h e = cc
-never_untyped (Ascii xs) h e = cc
-never_untyped (Short xs) h e = cc
-never_untyped (Long xs) h e = cc
-never_untyped (Rational xs) h e = cc
-never_untyped (SByte xs) h e = cc
-never_untyped (Undefined xs old) h e = cc
-never_untyped (SShort xs) h e = cc
-never_untyped (SLong xs) h e = cc
-never_untyped (SRational xs) h e = cc
-never_untyped (Float xs) h e = cc
-never_untyped (Double xs) h e = cc
-never_untyped (Unknown type count old) h e = cc
 
 pub count_within : (content : Content) → IsKnownContent content → content_count content ≤ content_size content
 count_within (Known value) h = value_within value.now h

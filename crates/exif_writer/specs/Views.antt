@@ -1,11 +1,10 @@
 -- What a writer's borrowed fields and blocks hold.
 use Rattle.std.specs.Prelude.{ℕ, suc, ◌-◌, List, ◌++◌, length, replicate, map, Option}
-use Rattle.std.specs.Prelude.{◌≡◌, Some, Bool, true, false}
+use Rattle.std.specs.Prelude.{◌≡◌, Some}
 use Rattle.std.specs.Io.KnownBytes.{Appends}
 use Rattle.exif_writer.specs.Image.{image}
 use Rattle.std.specs.Option.{option_map}
 use Rattle.exif_base.specs.declared.endian.Order.{Order}
-use Rattle.exif_base.specs.declared.endian.Order.TheVariants.{Big, Little}
 use denote.Ref.{Bor}
 use Rattle.exif_types.specs.declared.field.Field.{Field}
 use Rattle.exif_writer.specs.Groups.{Group, Entry, empty_group, entry_of}
@@ -26,11 +25,6 @@ block_in block = option_map (λ bytes. bytes.now) block
 -- the groups with new empty ones up to a number
 abbrev pub grown : ℕ → List Group → List Group
 grown ifd groups = groups ++ replicate (suc ifd - length groups) empty_group
-
--- the byte order that a write is asked for
-abbrev pub written_order : Bool → Order
-written_order true = Little
-written_order false = Big
 
 -- two writes in this order that both sent the image sent the same bytes
 abbrev pub WritesAgree : Order → List Group → Type 0

@@ -3,6 +3,7 @@
 ghost use Rattle.std.specs.Prelude.{◌≡◌, ◌<◌, ◌≤◌, [], length, None, Some, false, IfSome, OnOk, OnErr, IfErr, IsErrAnd};
 ghost use Rattle.std.specs.Io.KnownBytes.{Appends, Keeps};
 ghost use Rattle.exif_base.specs.Device.{count_after};
+ghost use Rattle.exif_base.specs.Orders.{order_named};
 ghost use Rattle.exif_base.specs.Sent.{SendsFront};
 ghost use Rattle.exif_types.specs.Refusals.{IsInterrupted, is_io, is_io_error, refusal_of};
 ghost use Rattle.exif_writer.specs.Groups.{pushed, strips_set, tiles_set, jpeg_set};
@@ -14,7 +15,7 @@ ghost use Rattle.exif_writer.specs.Rewriting.{RewritesSame, RewritesInEachOrder,
 ghost use Rattle.exif_writer.specs.Refused.{write_fault};
 ghost use Rattle.exif_writer.specs.WriteFaults.{write_refusal};
 ghost use Rattle.exif_writer.specs.ReadBack.{ContainsItself};
-ghost use Rattle.exif_writer.specs.Views.{blocks_of, grown, written_order};
+ghost use Rattle.exif_writer.specs.Views.{blocks_of, grown};
 
 use crate::ifd::{Ifd, is_own};
 use crate::laws::{images_are_canonical, images_are_laid_out, images_read_back};
@@ -49,7 +50,7 @@ impl<'a> Model for Writer<'a> {
 
 // The byte order that is asked for.
 fn order_of(little_endian: bool) -> Order
-    ensures { result ≡ written_order little_endian }
+    ensures { result ≡ order_named little_endian }
 {
     if little_endian {
         Order::Little
@@ -170,7 +171,7 @@ impl<'a> Writer<'a> {
         ensures same { self.new ≡ self.old }
         ensures sent { OnOk result
             (Appends (W.taken out.old) (W.taken out.new)
-            (image (written_order little_endian) self.old)) }
+            (image (order_named little_endian) self.old)) }
         ensures accepted { OnOk result (write_fault self.old ≡ None) }
         ensures refused { IfSome (write_fault self.old)
             (λ cause. IsErrAnd result (λ e. refusal_of e ≡ Some (write_refusal cause))) }
@@ -179,26 +180,26 @@ impl<'a> Writer<'a> {
             (λ e. is_io_error e ≡ false → Keeps (W.taken out.old) (W.taken out.new)) }
         ensures front { OnErr result
             (SendsFront (W.taken out.old) (W.taken out.new)
-            (image (written_order little_endian) self.old)) }
+            (image (order_named little_endian) self.old)) }
         ensures count { W.failures out.new ≡ count_after (is_io result) (W.failures out.old) }
         ensures through { W.through out.new ≡ W.through out.old }
         ensures ranged { AreRanged self.old }
-        ensures laid_out { OnOk result (LaidOut (written_order little_endian) self.old) }
-        ensures length { OnOk result (LengthIsEnd (written_order little_endian) self.old) }
+        ensures laid_out { OnOk result (LaidOut (order_named little_endian) self.old) }
+        ensures length { OnOk result (LengthIsEnd (order_named little_endian) self.old) }
         ensures contained { OnOk result
-            (ContainsItself (image (written_order little_endian) self.old)) }
-        ensures blocks { OnOk result (BlocksStand (written_order little_endian) self.old) }
+            (ContainsItself (image (order_named little_endian) self.old)) }
+        ensures blocks { OnOk result (BlocksStand (order_named little_endian) self.old) }
         ensures read_back { OnOk result
             (HavePlainTexts self.old → length self.old ≤ 8
-            → ReadsBack (written_order little_endian) self.old) }
+            → ReadsBack (order_named little_endian) self.old) }
         ensures first_eight { OnOk result
-            (HavePlainTexts self.old → ReadsFirstEight (written_order little_endian) self.old) }
-        ensures rewriting { OnOk result (RewritesSame (written_order little_endian) self.old) }
+            (HavePlainTexts self.old → ReadsFirstEight (order_named little_endian) self.old) }
+        ensures rewriting { OnOk result (RewritesSame (order_named little_endian) self.old) }
         ensures each_order { OnOk result (HavePlainTexts self.old → length self.old ≤ 8
-            → RewritesInEachOrder (written_order little_endian) self.old) }
+            → RewritesInEachOrder (order_named little_endian) self.old) }
         ensures equality { OnOk result
             (HavePlainTexts self.old → length self.old ≤ 8
-            → EqualByContents (written_order little_endian) self.old) }
+            → EqualByContents (order_named little_endian) self.old) }
         ensures lengths { OnOk result (LengthsAgree self.old) }
         ensures orders { OnOk result (HavePlainTexts self.old → OrdersAgree self.old) }
     {
@@ -224,19 +225,19 @@ impl<'a> Writer<'a> {
     // the writer's invariant.
     fn show_laws(&self, little_endian: bool)
         requires { write_fault self.now ≡ None }
-        ensures laid_out { LaidOut (written_order little_endian) self.now }
-        ensures length { LengthIsEnd (written_order little_endian) self.now }
-        ensures contained { ContainsItself (image (written_order little_endian) self.now) }
-        ensures blocks { BlocksStand (written_order little_endian) self.now }
+        ensures laid_out { LaidOut (order_named little_endian) self.now }
+        ensures length { LengthIsEnd (order_named little_endian) self.now }
+        ensures contained { ContainsItself (image (order_named little_endian) self.now) }
+        ensures blocks { BlocksStand (order_named little_endian) self.now }
         ensures read_back { HavePlainTexts self.now → length self.now ≤ 8
-            → ReadsBack (written_order little_endian) self.now }
+            → ReadsBack (order_named little_endian) self.now }
         ensures first_eight { HavePlainTexts self.now
-            → ReadsFirstEight (written_order little_endian) self.now }
-        ensures rewriting { RewritesSame (written_order little_endian) self.now }
+            → ReadsFirstEight (order_named little_endian) self.now }
+        ensures rewriting { RewritesSame (order_named little_endian) self.now }
         ensures each_order { HavePlainTexts self.now → length self.now ≤ 8
-            → RewritesInEachOrder (written_order little_endian) self.now }
+            → RewritesInEachOrder (order_named little_endian) self.now }
         ensures equality { HavePlainTexts self.now → length self.now ≤ 8
-            → EqualByContents (written_order little_endian) self.now }
+            → EqualByContents (order_named little_endian) self.now }
         ensures lengths { LengthsAgree self.now }
         ensures orders { HavePlainTexts self.now → OrdersAgree self.now }
     {

@@ -1,4 +1,5 @@
 -- In groups that a writer may hold, which are written and whose texts hold no zero byte, each entry of each directory is read as what it is.
+use Rattle.exif_writer.proofs.Moved.{moved_by}
 use Rattle.std.proofs.Common.{◌≡◌, ℕ, ◌<◌, ◌^◌, List, [], ◌∷◌, length, refl, sym, ap, arith, false, map, Option, Some, None}
 use Rattle.std.specs.Prelude.{◌==◌}
 use Rattle.std.specs.List.{AllByRecursion}
@@ -35,19 +36,7 @@ fits_of (Double xs) r z u = each_of _ xs r
 fits_of (Unknown type count place) r z u = absurd cc
 
 fits_moved : (place : ℕ) (value : Value) → Fits value → Fits (moved_to place value)
-fits_moved place (Byte xs) h = h
-fits_moved place (Ascii xs) h = h
-fits_moved place (Short xs) h = h
-fits_moved place (Long xs) h = h
-fits_moved place (Rational xs) h = h
-fits_moved place (SByte xs) h = h
-fits_moved place (Undefined xs old) h = h
-fits_moved place (SShort xs) h = h
-fits_moved place (SLong xs) h = h
-fits_moved place (SRational xs) h = h
-fits_moved place (Float xs) h = h
-fits_moved place (Double xs) h = h
-fits_moved place (Unknown type count old) h = h
+fits_moved place value = moved_by (λ v m. Fits v → Fits m) (λ v h. h) (λ xs old new h. h) place value
 
 -- a tag that isn't the writer's own is no pointer
 no_pointer : (context : Context) (tag : ℕ) → is_ignored context tag ≡ false → child_of context tag ≡ None

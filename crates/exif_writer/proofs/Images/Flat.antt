@@ -1,12 +1,11 @@
 -- What the flat fields of a draft add to a directory when they are pushed: the entries that were pushed there, in tag order.
+use Rattle.exif_writer.proofs.Moved.{moved_twice}
 use Rattle.std.proofs.Common.{◌≡◌, ℕ, suc, ◌+◌, List, [], ◌∷◌, ◌++◌, refl, ap, ◌∙◌, Bool, true, false, cond}
 use Rattle.std.specs.Prelude.{if◌then◌else◌, ◌==◌, nat_le, not}
 use Rattle.std.specs.List.{AllByRecursion, flat_map, filter}
 use Rattle.std.proofs.lemmas.Bool.{eq-eqb}
 use Rattle.std.proofs.lemmas.List.{append-nil}
 use Rattle.std.proofs.lemmas.List.Concat.{flat_map-append}
-use Rattle.exif_types.specs.declared.value.Value.{Value}
-use Rattle.exif_types.specs.declared.value.Value.TheVariants.{Byte, Ascii, Short, Long, Rational, SByte, Undefined, SShort, SLong, SRational, Float, Double, Unknown}
 use Rattle.exif_writer.specs.Encoding.{moved_to}
 use Rattle.exif_types.specs.Lookup.{context_eq}
 use Rattle.exif_table.specs.declared.context.Context.{Context}
@@ -16,21 +15,6 @@ use Rattle.exif_writer.specs.Slots.{Draft, Slot, Content, Known, PlacesOf, Lengt
 use Rattle.exif_writer.specs.Places.{written, directory_place, values_place, after_value, value_of, even}
 use Rattle.exif_writer.specs.Flat.{entry_fields, directory_fields}
 use Rattle.exif_writer.proofs.Images.Pushing.{added}
-
-pub moved_twice : (p q : ℕ) (value : Value) → moved_to p (moved_to q value) ≡ moved_to p value
-moved_twice p q (Byte xs) = refl
-moved_twice p q (Ascii xs) = refl
-moved_twice p q (Short xs) = refl
-moved_twice p q (Long xs) = refl
-moved_twice p q (Rational xs) = refl
-moved_twice p q (SByte xs) = refl
-moved_twice p q (Undefined xs old) = refl
-moved_twice p q (SShort xs) = refl
-moved_twice p q (SLong xs) = refl
-moved_twice p q (SRational xs) = refl
-moved_twice p q (Float xs) = refl
-moved_twice p q (Double xs) = refl
-moved_twice p q (Unknown type count old) = refl
 
 -- A slot holds no old place, and what the writer made itself has a tag of its own.
 abbrev pub IsSettled : Context → Slot → Type 0

@@ -1,11 +1,11 @@
 -- Scrubbing what was read.
+use Rattle.exif_writer.proofs.Moved.{same_moved}
 use Rattle.std.proofs.Common.{◌≡◌, ◌∙◌, ℕ, ◌<◌, List, [], ◌∷◌, refl, sym, ap, arith, Bool, true, false}
 use Rattle.std.specs.Prelude.{◌&&◌, not}
 use Rattle.std.specs.List.{AllByRecursion, filter}
 use Rattle.std.proofs.lemmas.List.Elements.{All-filter, All-contains, filter_passes}
 use Rattle.exif_types.specs.Sound.{HasPlainTexts, IsRead}
 use Rattle.exif_types.specs.declared.value.Value.{Value}
-use Rattle.exif_types.specs.declared.value.Value.TheVariants.{Byte, Ascii, Short, Long, Rational, SByte, Undefined, SShort, SLong, SRational, Float, Double, Unknown}
 use Rattle.exif_types.specs.declared.field.Field.{Field}
 use Rattle.exif_writer.specs.Encoding.{moved_to}
 use Rattle.exif_writer.specs.Flat.{flat}
@@ -30,19 +30,7 @@ neither : (a b : Bool) → a ≡ false → b ≡ false → (not a && not b) ≡ 
 neither a b h k = rw (h, k) refl
 
 unknown_moved : (place : ℕ) (value : Value) → is_unknown (moved_to place value) ≡ is_unknown value
-unknown_moved place (Byte xs) = refl
-unknown_moved place (Ascii xs) = refl
-unknown_moved place (Short xs) = refl
-unknown_moved place (Long xs) = refl
-unknown_moved place (Rational xs) = refl
-unknown_moved place (SByte xs) = refl
-unknown_moved place (Undefined xs old) = refl
-unknown_moved place (SShort xs) = refl
-unknown_moved place (SLong xs) = refl
-unknown_moved place (SRational xs) = refl
-unknown_moved place (Float xs) = refl
-unknown_moved place (Double xs) = refl
-unknown_moved place (Unknown type count old) = refl
+unknown_moved place value = (same_moved value place).unknown
 
 all_pass : {X : Type 0} (test : X → Bool) (xs : List X) → AllByRecursion (λ x. test x ≡ true) xs → filter test xs ≡ xs
 all_pass test [] h = refl

@@ -1,4 +1,6 @@
 -- What an image that is written is: its parts stand side by side, each at its place.
+use Rattle.std.proofs.Common.{◌∙◌}
+use Rattle.exif_writer.proofs.Moved.{same_moved}
 use Rattle.std.proofs.Common.{◌≡◌, ℕ, ◌+◌, ◌<◌, ◌≤◌, List, [], ◌∷◌, length, refl, subst, arith, Bool, true, false, map, Option, Some, None}
 use Rattle.std.specs.Prelude.{if◌then◌else◌, ◌==◌, nat_lt, ◌||◌, slice_index}
 use Rattle.std.proofs.lemmas.Bool.{eqb-false, ltb-false}
@@ -6,7 +8,6 @@ use Rattle.std.specs.List.{AllByRecursion, list_any}
 use Rattle.exif_base.specs.declared.endian.Order.{Order}
 use Rattle.exif_base.specs.declared.endian.Order.TheVariants.{Big, Little}
 use Rattle.exif_types.specs.declared.value.Value.{Value}
-use Rattle.exif_types.specs.declared.value.Value.TheVariants.{Byte, Ascii, Short, Long, Rational, SByte, Undefined, SShort, SLong, SRational, Float, Double, Unknown}
 use Rattle.exif_writer.specs.Encoding.{moved_to}
 use Rattle.exif_table.specs.declared.context.Context.{Context}
 use Rattle.exif_table.specs.declared.context.Context.TheVariants.{Tiff, Exif, Gps, Interop}
@@ -98,19 +99,7 @@ known_blocks kind None = tt
 known_blocks kind (Some texts) = (tt, (tt, tt))
 
 known_moved : (place : ℕ) (value : Value) → is_unknown value ≡ false → is_unknown (moved_to place value) ≡ false
-known_moved place (Byte xs) h = h
-known_moved place (Ascii xs) h = h
-known_moved place (Short xs) h = h
-known_moved place (Long xs) h = h
-known_moved place (Rational xs) h = h
-known_moved place (SByte xs) h = h
-known_moved place (Undefined xs old) h = h
-known_moved place (SShort xs) h = h
-known_moved place (SLong xs) h = h
-known_moved place (SRational xs) h = h
-known_moved place (Float xs) h = h
-known_moved place (Double xs) h = h
-known_moved place (Unknown type count old) h = h
+known_moved place value h = (same_moved value place).unknown ∙ h
 
 known_entries : (entries : List Entry) → AllByRecursion (λ entry. is_unknown entry.value ≡ false) entries → AllByRecursion (λ entry. IsKnown (known entry).content) entries
 known_entries [] h = tt
