@@ -1,8 +1,7 @@
 -- What the public calls say of data.
-use Rattle.std.specs.Prelude.{◌≡◌, ℕ, Bool, map, List, Option, Result, Ok, Err, IsOk, MatchOption, Vec, if◌then◌else◌}
+use Rattle.std.specs.Prelude.{◌≡◌, ℕ, Bool, map, List, Option, Result, Ok, Err, IsOk, MatchOption, Vec}
 use Rattle.std.specs.Global.{Global}
-use Rattle.exif_base.specs.declared.endian.Order.{Order}
-use Rattle.exif_base.specs.declared.endian.Order.TheVariants.{Big, Little}
+use Rattle.exif_base.specs.Orders.{order_named}
 use Rattle.exif_types.specs.Contents.{ExifContents}
 use Rattle.exif_types.specs.Failures.{Failure, bytes_of}
 use Rattle.exif_types.specs.Refusals.{Refusal, refusal_of}
@@ -17,10 +16,6 @@ use Rattle.exif_tiff.specs.declared.fault.Fault.{Fault}
 pub record Mode : Type 0 where
   pub lenient : Bool
   pub limit : Option ℕ
-
--- the order of data that are little endian or not
-abbrev pub order_named : Bool → Order
-order_named little_endian = if little_endian then Little else Big
 
 -- the contents are those of the data
 abbrev pub HoldsData : ExifContents → List ℕ → Type 0

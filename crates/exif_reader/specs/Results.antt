@@ -1,6 +1,6 @@
 -- How a result of the code says an answer.
-use Rattle.std.specs.Prelude.{◌≡◌, ℕ, if◌then◌else◌, List, Result, Ok, Err, IsOk}
-use Rattle.exif_base.specs.declared.endian.Order.TheVariants.{Big, Little}
+use Rattle.std.specs.Prelude.{◌≡◌, ℕ, List, Result, Ok, Err, IsOk}
+use Rattle.exif_base.specs.Orders.{order_named}
 use Rattle.exif_tiff.specs.Trace.{header}
 use Rattle.exif_tiff.specs.Answers.{Answer, Refused, shown}
 use Rattle.exif_reader.specs.declared.stop.Stop.{Stop}
@@ -20,5 +20,5 @@ AsksMemory _ bytes = Unit {0}
 
 -- the order of the data
 abbrev pub SaysOrder : Result Parsed Stop → List ℕ → Type 0
-SaysOrder (Ok parsed) bytes = header bytes ≡ Ok (if parsed.little_endian then Little else Big)
+SaysOrder (Ok parsed) bytes = header bytes ≡ Ok (order_named parsed.little_endian)
 SaysOrder _ bytes = Unit {0}

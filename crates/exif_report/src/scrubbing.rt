@@ -10,7 +10,7 @@ ghost use Rattle.exif_writer.specs.Refused.{write_fault};
 ghost use Rattle.exif_writer.specs.Rewriting.{pushed_all};
 ghost use Rattle.exif_writer.specs.Scrubbing.{is_kept, kept, scrubbed, IsScrubbed, LeavesKept};
 ghost use Rattle.exif_writer.specs.WriteFaults.{write_refusal};
-ghost use Rattle.exif_writer.specs.Views.{written_order};
+ghost use Rattle.exif_base.specs.Orders.{order_named};
 
 use exif::experimental::Writer;
 use exif::laws::scrubbing_twice_is_once;
@@ -51,8 +51,8 @@ pub fn scrub<W: Sink>(
     little_endian: bool,
 ) -> Result<(), Error>
     ensures sent { OnOk result (Appends (W.taken out.old) (W.taken out.new)
-        (image (written_order little_endian) (scrubbed exif.now.fields))) }
-    ensures scrubbed { OnOk result (IsScrubbed (written_order little_endian) exif.now.fields) }
+        (image (order_named little_endian) (scrubbed exif.now.fields))) }
+    ensures scrubbed { OnOk result (IsScrubbed (order_named little_endian) exif.now.fields) }
     ensures leaves { LeavesKept exif.now.fields }
     ensures accepted { OnOk result (write_fault (scrubbed exif.now.fields) ≡ None) }
     ensures refused { IfSome (write_fault (scrubbed exif.now.fields))
@@ -63,7 +63,7 @@ pub fn scrub<W: Sink>(
     ensures kept { IfErr result
         (λ e. is_io_error e ≡ false → Keeps (W.taken out.old) (W.taken out.new)) }
     ensures front { OnErr result (SendsFront (W.taken out.old) (W.taken out.new)
-        (image (written_order little_endian) (scrubbed exif.now.fields))) }
+        (image (order_named little_endian) (scrubbed exif.now.fields))) }
     ensures count { W.failures out.new ≡ count_after (is_io result) (W.failures out.old) }
     ensures through { W.through out.new ≡ W.through out.old }
 {

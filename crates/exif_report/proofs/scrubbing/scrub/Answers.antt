@@ -5,7 +5,7 @@ use Rattle.exif_writer.specs.Ranged.{AreRanged}
 use Rattle.exif_writer.specs.Refused.{write_fault}
 use Rattle.exif_writer.specs.Rewriting.{pushed_all}
 use Rattle.exif_writer.specs.Scrubbing.{kept, scrubbed, IsScrubbed}
-use Rattle.exif_writer.specs.Views.{written_order}
+use Rattle.exif_base.specs.Orders.{order_named}
 use Rattle.exif_report.proofs.Findings.{on_err}
 use Rattle.exif_base.proofs.Sent.{keeps_same, front_none}
 use Rattle.exif_report.proofs.scrubbing.scrub.Goals as goal
@@ -24,5 +24,5 @@ returns-clause-scrubbed g c =
     let same : c.push_kept.new.writer ≡ scrubbed fields = c.in_ok-push_kept.ensures.pushed ∙ ap (pushed_all (kept fields)) c.new-writer.ensures in
     let R : List Group → Type 0 = AreRanged in
     let F : List Group → Type 0 = λ groups. write_fault groups ≡ None in
-    on_ok c.write.result (write_fault c.push_kept.new.writer ≡ None) (IsScrubbed (written_order c.args.little_endian) fields) c.write.ensures.accepted
-    (λ accepted. c.scrubbing_twice_is_once.ensures.images (written_order c.args.little_endian) fields c.fields.ensures.read (subst R same c.write.ensures.ranged) (subst F same accepted))
+    on_ok c.write.result (write_fault c.push_kept.new.writer ≡ None) (IsScrubbed (order_named c.args.little_endian) fields) c.write.ensures.accepted
+    (λ accepted. c.scrubbing_twice_is_once.ensures.images (order_named c.args.little_endian) fields c.fields.ensures.read (subst R same c.write.ensures.ranged) (subst F same accepted))
