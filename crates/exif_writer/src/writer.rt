@@ -97,8 +97,8 @@ impl<'a> Writer<'a> {
     }
 
     /// Adds a field to the directory that its context and number name. A field that the writer
-    /// makes itself, as a pointer or the places of strips, is ignored. The only error is to be out of
-    /// memory, and it leaves the writer as it was.
+    /// makes itself, as a pointer or the places of strips, is ignored. The only error is
+    /// `OutOfMemory`, and it leaves the writer as it was.
     pub fn push_field(&mut self, field: &'a Field) -> Result<(), Error>
         ensures pushed { OnOk result (self.new ≡ pushed field.now self.old) }
         ensures kept { OnErr result (self.new ≡ self.old) }
@@ -118,8 +118,8 @@ impl<'a> Writer<'a> {
         Ok(())
     }
 
-    /// Sets the strips of a directory, in place of any that were set. The only error is to be out of
-    /// memory, and it leaves the writer as it was.
+    /// Sets the strips of a directory, in place of any that were set. The only error is
+    /// `OutOfMemory`, and it leaves the writer as it was.
     pub fn set_strips(&mut self, strips: &'a [&'a [u8]], ifd_num: In) -> Result<(), Error>
         ensures set { OnOk result
             (self.new ≡ strips_set (blocks_of strips.entry.now) ifd_num.0 self.old) }
@@ -132,8 +132,8 @@ impl<'a> Writer<'a> {
         Ok(())
     }
 
-    /// Sets the tiles of a directory, in place of any that were set. The only error is to be out of
-    /// memory, and it leaves the writer as it was.
+    /// Sets the tiles of a directory, in place of any that were set. The only error is
+    /// `OutOfMemory`, and it leaves the writer as it was.
     pub fn set_tiles(&mut self, tiles: &'a [&'a [u8]], ifd_num: In) -> Result<(), Error>
         ensures set { OnOk result
             (self.new ≡ tiles_set (blocks_of tiles.entry.now) ifd_num.0 self.old) }
@@ -146,8 +146,8 @@ impl<'a> Writer<'a> {
         Ok(())
     }
 
-    /// Sets the JPEG of a directory, in place of one that was set. The only error is to be out of
-    /// memory, and it leaves the writer as it was.
+    /// Sets the JPEG of a directory, in place of one that was set. The only error is
+    /// `OutOfMemory`, and it leaves the writer as it was.
     pub fn set_jpeg(&mut self, jpeg: &'a [u8], ifd_num: In) -> Result<(), Error>
         ensures set { OnOk result (self.new ≡ jpeg_set jpeg.now ifd_num.0 self.old) }
         ensures kept { OnErr result (self.new ≡ self.old) }
