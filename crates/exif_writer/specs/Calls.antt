@@ -41,7 +41,8 @@ field_pushed (SetJpeg jpeg ifd) = None
 -- whether a field is an entry of the directory with a number and a context
 abbrev pub goes_into : ℕ → Context → Field → Bool
 goes_into ifd context field =
-    not (is_ignored field.tag.0 field.tag.1) && ((field.ifd_num.0 == ifd) && context_eq field.tag.0 context)
+    not (is_ignored field.tag.0 field.tag.1)
+    && ((field.ifd_num.0 == ifd) && context_eq field.tag.0 context)
 
 -- the entries of that directory: what is pushed into it, in push order
 abbrev pub entries_into : ℕ → Context → List Field → List Entry

@@ -53,4 +53,5 @@ ArePlans start [] [] = Unit {0}
 ArePlans start [] (plan ∷ plans) = ⊥
 ArePlans start (draft ∷ drafts) [] = ⊥
 ArePlans start (draft ∷ drafts) (plan ∷ plans) =
-    IsSettledPlan draft start (next_place (draft_end draft start) drafts) plan × ArePlans (draft_end draft start) drafts plans
+    IsSettledPlan draft start (next_place (draft_end draft start) drafts) plan
+    × ArePlans (draft_end draft start) drafts plans

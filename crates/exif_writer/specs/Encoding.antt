@@ -27,7 +27,10 @@ encode order (SByte xs) = flat_map (λ x. cast_unsigned w8 x ∷ []) xs
 encode order (Undefined xs place) = xs
 encode order (SShort xs) = flat_map (λ x. spelled order 2 (cast_unsigned w16 x)) xs
 encode order (SLong xs) = flat_map (λ x. spelled order 4 (cast_unsigned w32 x)) xs
-encode order (SRational xs) = flat_map (λ x. spelled order 4 (cast_unsigned w32 x.num) ++ spelled order 4 (cast_unsigned w32 x.denom)) xs
+encode order (SRational xs) =
+    flat_map
+    (λ x. spelled order 4 (cast_unsigned w32 x.num) ++ spelled order 4 (cast_unsigned w32 x.denom))
+    xs
 encode order (Float xs) = flat_map (spelled order 4) xs
 encode order (Double xs) = flat_map (spelled order 8) xs
 encode order (Unknown type count place) = []

@@ -1,4 +1,5 @@
--- The fields of groups as they stand in their image, those of a child in place of the pointer to it.
+-- The fields of groups as they stand in their image, those of a child in place of the pointer to
+-- it.
 use Rattle.std.specs.Prelude.{ℕ, zero, suc, List, [], ◌∷◌, ◌++◌, map}
 use Rattle.std.specs.List.{flat_map}
 use Rattle.exif_types.specs.declared.value.Value.{Value}
@@ -13,7 +14,8 @@ use Rattle.exif_writer.specs.Places.{Written, entries_of, draft_end}
 
 -- the field with a value that a directory has under a tag
 abbrev pub field_of : Context → ℕ → ℕ → Value → Field
-field_of context tag ifd value = record { tag = record { 0 = context; 1 = tag }; ifd_num = record { 0 = ifd }; value = value }
+field_of context tag ifd value =
+    record { tag = record { 0 = context; 1 = tag }; ifd_num = record { 0 = ifd }; value = value }
 
 -- the fields of an entry; an undefined value has the place where its bytes stand
 abbrev pub entry_fields : (Context → List Field) → Context → ℕ → Written → List Field
@@ -27,13 +29,15 @@ entry_fields inner context ifd entry =
 abbrev pub directory_fields : Draft → ℕ → ℕ → ℕ → Context → List Field
 directory_fields draft start ifd zero context = []
 directory_fields draft start ifd (suc depth) context =
-    flat_map (entry_fields (directory_fields draft start ifd depth) context ifd) (entries_of draft start context)
+    flat_map (entry_fields (directory_fields draft start ifd depth) context ifd)
+    (entries_of draft start context)
 
 -- the fields of drafts from a place on, of which the first has the number ifd
 abbrev pub flat_from : ℕ → ℕ → List Draft → List Field
 flat_from ifd start [] = []
 flat_from ifd start (draft ∷ drafts) =
-    directory_fields draft start ifd (depth_of Tiff) Tiff ++ flat_from (suc ifd) (draft_end draft start) drafts
+    directory_fields draft start ifd (depth_of Tiff) Tiff
+    ++ flat_from (suc ifd) (draft_end draft start) drafts
 
 -- all the fields; the first directory stands behind the 8 bytes of the header
 unfoldable pub flat : List Group → List Field

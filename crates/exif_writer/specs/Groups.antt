@@ -1,4 +1,5 @@
--- What the calls on a writer say: for each directory of the chain its pushed entries by context, and its blocks (TIFF 6.0, section 2; Exif 2.32, 4.6.3).
+-- What the calls on a writer say: for each directory of the chain its pushed entries by context,
+-- and its blocks (TIFF 6.0, section 2; Exif 2.32, 4.6.3).
 use Rattle.std.specs.Prelude.{ℕ, zero, suc, ◌==◌, Bool, List, [], ◌∷◌, ◌++◌, Option, Some, None, if◌then◌else◌}
 use Rattle.std.specs.List.{list_any}
 use Rattle.exif_types.specs.declared.value.Value.{Value}
@@ -24,7 +25,16 @@ pub record Group : Type 0 where
   pub jpeg : Option (List ℕ)
 
 abbrev pub empty_group : Group
-empty_group = record { tiff = []; exif = []; gps = []; interop = []; strips = None; tiles = None; jpeg = None }
+empty_group =
+    record {
+      tiff = [];
+      exif = [];
+      gps = [];
+      interop = [];
+      strips = None;
+      tiles = None;
+      jpeg = None;
+    }
 
 -- what is pushed in a context
 abbrev pub pushed_in : Group → Context → List Entry

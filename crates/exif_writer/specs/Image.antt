@@ -1,4 +1,5 @@
--- The image of groups: its parts, what they say and where they stand (TIFF 6.0, section 2; Exif 2.32, 4.5.2).
+-- The image of groups: its parts, what they say and where they stand (TIFF 6.0, section 2;
+-- Exif 2.32, 4.5.2).
 use Rattle.std.specs.Prelude.{ℕ, ◌+◌, ◌-◌, nat_le, List, [], ◌∷◌, ◌++◌, length, map, replicate, if◌then◌else◌}
 use Rattle.std.specs.List.{flat_map}
 use Rattle.exif_base.specs.declared.endian.Order.{Order}
@@ -19,17 +20,24 @@ pub record Part : Type 0 where
 -- the 12 bytes of an entry
 abbrev pub entry_text : Order → Written → List ℕ
 entry_text order entry =
-    spelled order 2 entry.tag ++ (spelled order 2 (type_number entry.value) ++ (spelled order 4 (count_of entry.value)
-    ++ (if nat_le (value_len entry.value) 4 then encode order entry.value ++ replicate (4 - value_len entry.value) 0 else spelled order 4 entry.place)))
+    spelled order 2 entry.tag
+    ++ (spelled order 2 (type_number entry.value)
+    ++ (spelled order 4 (count_of entry.value)
+    ++ (if nat_le (value_len entry.value) 4
+    then encode order entry.value ++ replicate (4 - value_len entry.value) 0
+    else spelled order 4 entry.place)))
 
 -- a directory: the count, the entries, and the place of the next one
 abbrev pub directory_text : Order → ℕ → List Written → List ℕ
-directory_text order next entries = spelled order 2 (length entries) ++ (flat_map (entry_text order) entries ++ spelled order 4 next)
+directory_text order next entries =
+    spelled order 2 (length entries)
+    ++ (flat_map (entry_text order) entries ++ spelled order 4 next)
 
 -- a directory with no entries isn't there
 abbrev pub directory_part : Order → ℕ → ℕ → List Written → List Part
 directory_part order place next [] = []
-directory_part order place next (entry ∷ entries) = record { place = place; text = directory_text order next (entry ∷ entries) } ∷ []
+directory_part order place next (entry ∷ entries) =
+    record { place = place; text = directory_text order next (entry ∷ entries) } ∷ []
 
 -- the values that don't fit into their entries
 abbrev pub value_parts : Order → List Written → List Part
@@ -40,9 +48,11 @@ value_parts order (entry ∷ entries) =
 
 abbrev pub block_parts : ℕ → List (List ℕ) → List Part
 block_parts place [] = []
-block_parts place (text ∷ texts) = record { place = place; text = text } ∷ block_parts (place + length text) texts
+block_parts place (text ∷ texts) =
+    record { place = place; text = text } ∷ block_parts (place + length text) texts
 
--- the parts of a draft that begins at `start`, `next` being the place of the next directory of the chain
+-- the parts of a draft that begins at `start`, `next` being the place of the next directory of the
+-- chain
 unfoldable pub draft_parts : Order → Draft → ℕ → ℕ → List Part
 draft_parts order draft start next =
     directory_part order (tiff_place draft start) next (entries_of draft start Tiff)
@@ -77,7 +87,8 @@ parts order drafts = record { place = 0; text = header_text order } ∷ parts_fr
 -- the bytes from `place` on that have each part's text at its place, and zero elsewhere
 abbrev pub laid : ℕ → List Part → List ℕ
 laid place [] = []
-laid place (part ∷ parts) = replicate (part.place - place) 0 ++ (part.text ++ laid (part.place + length part.text) parts)
+laid place (part ∷ parts) =
+    replicate (part.place - place) 0 ++ (part.text ++ laid (part.place + length part.text) parts)
 
 -- the bytes that groups are written as, in an order
 unfoldable pub image : Order → List Group → List ℕ

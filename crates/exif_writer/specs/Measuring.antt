@@ -26,7 +26,8 @@ abbrev pub last_out : List Slot → Option Slot
 last_out [] = None
 last_out (slot ∷ slots) = if fits slot then last_out slots else later slot (last_out slots)
 
--- where values end that begin at a place and take so many bytes, each made even but for the last one's own length
+-- where values end that begin at a place and take so many bytes, each made even but for the last
+-- one's own length
 abbrev pub end_from : ℕ → ℕ → Option Slot → ℕ
 end_from place bytes None = place
 end_from place bytes (Some last) = even place + bytes - content_len last.content % 2

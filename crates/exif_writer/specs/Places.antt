@@ -1,4 +1,5 @@
--- Where the parts of an image stand (TIFF 6.0, section 2, "Value/Offset": places of values are even).
+-- Where the parts of an image stand (TIFF 6.0, section 2, "Value/Offset": places of values are
+-- even).
 use Rattle.std.specs.Prelude.{ℕ, suc, ◌+◌, ◌*◌, ◌%◌, nat_le, List, [], ◌∷◌, length, if◌then◌else◌}
 use Rattle.exif_types.specs.declared.value.Value.{Value}
 use Rattle.exif_types.specs.declared.value.Value.TheVariants.{Long}
@@ -17,21 +18,24 @@ directory_len (slot ∷ slots) = 6 + 12 * suc (length slots)
 abbrev pub even : ℕ → ℕ
 even place = place + place % 2
 
--- where the values end after one of some length, which stands in its entry or at the next even place
+-- where the values end after one of some length, which stands in its entry or at the next even
+-- place
 abbrev pub after_value : ℕ → ℕ → ℕ
 after_value place len = if nat_le len 4 then place else even place + len
 
 -- where the values of entries end that begin at a place
 abbrev pub after_values : ℕ → List Slot → ℕ
 after_values place [] = place
-after_values place (slot ∷ slots) = after_values (after_value place (content_len slot.content)) slots
+after_values place (slot ∷ slots) =
+    after_values (after_value place (content_len slot.content)) slots
 
 -- where blocks end that begin at a place
 abbrev pub after_blocks : ℕ → List (List ℕ) → ℕ
 after_blocks place [] = place
 after_blocks place (text ∷ texts) = after_blocks (place + length text) texts
 
--- The places of a draft whose first free place is `start`: each is the end of what stands before it.
+-- The places of a draft whose first free place is `start`: each is the end of what stands before
+-- it.
 module _ (draft : Draft) (start : ℕ) where
   unfoldable pub tiff_place : ℕ
   tiff_place = even start
@@ -104,7 +108,8 @@ places_from place (len ∷ lengths) = place ∷ places_from (place + len) length
 -- the value of an entry, once the places are settled
 abbrev pub value_of : Draft → ℕ → Content → Value
 value_of draft start (Known value) = value
-value_of draft start (PlacesOf kind lengths) = Long (places_from (blocks_place draft start kind) lengths)
+value_of draft start (PlacesOf kind lengths) =
+    Long (places_from (blocks_place draft start kind) lengths)
 value_of draft start (LengthsOf kind lengths) = Long lengths
 value_of draft start (PlaceOf context) = Long (directory_place draft start context ∷ [])
 
@@ -115,13 +120,20 @@ pub record Written : Type 0 where
   pub value : Value
   pub place : ℕ
 
--- the entries of a directory; the first one stands at `at`, and the values that don't fit into their entries from `values` on
+-- the entries of a directory; the first one stands at `at`, and the values that don't fit into
+-- their entries from `values` on
 abbrev pub written : Draft → ℕ → ℕ → ℕ → List Slot → List Written
 written draft start at values [] = []
 written draft start at values (slot ∷ slots) =
-    record { tag = slot.tag; content = slot.content; value = value_of draft start slot.content; place = if nat_le (content_len slot.content) 4 then at + 8 else even values }
+    record {
+      tag = slot.tag;
+      content = slot.content;
+      value = value_of draft start slot.content;
+      place = if nat_le (content_len slot.content) 4 then at + 8 else even values;
+    }
     ∷ written draft start (at + 12) (after_value values (content_len slot.content)) slots
 
 abbrev pub entries_of : Draft → ℕ → Context → List Written
 entries_of draft start context =
-    written draft start (directory_place draft start context + 2) (values_place draft start context) (draft.slots context)
+    written draft start (directory_place draft start context + 2)
+    (values_place draft start context) (draft.slots context)

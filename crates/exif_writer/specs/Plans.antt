@@ -36,10 +36,12 @@ plan_values_text order plan =
     ++ values_text order plan.places plan.interop.items))
 
 abbrev pub plan_blocks_text : Plan → List ℕ
-plan_blocks_text plan = blocks_text plan.strips.now ++ (blocks_text plan.tiles.now ++ blocks_text plan.jpeg.now)
+plan_blocks_text plan =
+    blocks_text plan.strips.now ++ (blocks_text plan.tiles.now ++ blocks_text plan.jpeg.now)
 
 abbrev pub plan_text : Order → Plan → List ℕ
-plan_text order plan = directories_text order plan ++ (plan_values_text order plan ++ plan_blocks_text plan)
+plan_text order plan =
+    directories_text order plan ++ (plan_values_text order plan ++ plan_blocks_text plan)
 
 abbrev pub plans_text : Order → List Plan → List ℕ
 plans_text order plans = flat_map (plan_text order) plans

@@ -18,7 +18,8 @@ use Rattle.exif_writer.specs.Slots.{Slot, known, in_tag_order}
 -- pushed fields with plain texts leave plain groups plain
 abbrev pub PushesPlainTexts : List Field → List Group → Type 0
 PushesPlainTexts fields groups =
-    All (λ field. HasPlainTexts field.value) fields → HavePlainTexts groups → HavePlainTexts (pushed_all fields groups)
+    All (λ field. HasPlainTexts field.value) fields → HavePlainTexts groups
+    → HavePlainTexts (pushed_all fields groups)
 
 -- a field of numbers that fit their types, as each field of a program
 pub record IsFieldRanged (field : Field) : Type 0 where
@@ -27,12 +28,14 @@ pub record IsFieldRanged (field : Field) : Type 0 where
 
 -- pushed fields of numbers that fit leave such groups such
 abbrev pub PushesRanged : List Field → List Group → Type 0
-PushesRanged fields groups = All IsFieldRanged fields → AreRanged groups → AreRanged (pushed_all fields groups)
+PushesRanged fields groups =
+    All IsFieldRanged fields → AreRanged groups → AreRanged (pushed_all fields groups)
 
 -- fields with numbers of directories below n make no more than n directories
 abbrev pub PushesFew : ℕ → List Field → List Group → Type 0
 PushesFew n fields groups =
-    All (λ field. field.ifd_num.0 < n) fields → length groups ≤ n → length (pushed_all fields groups) ≤ n
+    All (λ field. field.ifd_num.0 < n) fields → length groups ≤ n
+    → length (pushed_all fields groups) ≤ n
 
 -- no blocks are set
 abbrev pub HaveNoBlocks : List Group → Type 0
@@ -46,7 +49,8 @@ PushesNoBlocks fields groups = HaveNoBlocks groups → HaveNoBlocks (pushed_all 
 abbrev pub SetsNothing : List Group → List Group → Type 0
 SetsNothing from groups = HaveNoBlocks from → all_blocks_set 0 from groups ≡ groups
 
--- the field holds a pushed entry of its directory, an undefined value with the place where it stands now
+-- the field holds a pushed entry of its directory, an undefined value with the place where it
+-- stands now
 pub record IsPushed (groups : List Group) (field : Field) : Type 0 where
   pub entry : Entry
   pub place : ℕ
@@ -64,7 +68,8 @@ pub record NamesBlocks (groups : List Group) (field : Field) : Type 0 where
 
 -- an image has no other fields
 abbrev pub HasPushedAndBlocks : List Group → Type 0
-HasPushedAndBlocks groups = All (λ field. IsPushed groups field ⊎ NamesBlocks groups field) (flat groups)
+HasPushedAndBlocks groups =
+    All (λ field. IsPushed groups field ⊎ NamesBlocks groups field) (flat groups)
 
 -- the field is one of a list, an undefined value with another place
 pub record IsMoved (fields : List Field) (field : Field) : Type 0 where
@@ -77,7 +82,8 @@ pub record IsMoved (fields : List Field) (field : Field) : Type 0 where
 abbrev pub HasPushedAlone : List Field → Type 0
 HasPushedAlone fields = All (IsMoved fields) (flat (pushed_all fields []))
 
--- what fields push into a directory, as it is written in their order: an old place of an undefined value says nothing
+-- what fields push into a directory, as it is written in their order: an old place of an undefined
+-- value says nothing
 abbrev pub slots_into : ℕ → Context → List Field → List Slot
 slots_into ifd context fields = map known (entries_into ifd context fields)
 

@@ -9,7 +9,8 @@ use Rattle.exif_table.specs.declared.context.Context.{Context}
 use Rattle.exif_writer.specs.Groups.{Group, Entry, is_ignored, pushed_in}
 use Rattle.exif_writer.specs.Refused.{write_fault}
 
--- each number of the value fits its type, as in any value of a program; bytes are written as they are, and nothing is asked of them
+-- each number of the value fits its type, as in any value of a program; bytes are written as they
+-- are, and nothing is asked of them
 abbrev pub IsRanged : Value → Type 0
 IsRanged (Short xs) = All (λ x. x < 2 ^ 16) xs
 IsRanged (Long xs) = All (λ x. x < 2 ^ 32) xs
@@ -22,7 +23,8 @@ IsRanged (Float xs) = All (λ x. x < 2 ^ 32) xs
 IsRanged (Double xs) = All (λ x. x < 2 ^ 64) xs
 IsRanged value = ⊤
 
--- an entry as a writer may hold it: of numbers that fit, under a tag that is none of the writer's own
+-- an entry as a writer may hold it: of numbers that fit, under a tag that is none of the writer's
+-- own
 pub record IsEntry (context : Context) (entry : Entry) : Type 0 where
   pub tag : entry.tag < 2 ^ 16
   pub value : IsRanged entry.value
@@ -30,11 +32,15 @@ pub record IsEntry (context : Context) (entry : Entry) : Type 0 where
 
 -- all pushed entries are such
 abbrev pub AreRanged : List Group → Type 0
-AreRanged groups = All (λ group. (context : Context) → All (IsEntry context) (pushed_in group context)) groups
+AreRanged groups =
+    All (λ group. (context : Context) → All (IsEntry context) (pushed_in group context)) groups
 
 -- no pushed text holds a zero byte
 abbrev pub HavePlainTexts : List Group → Type 0
-HavePlainTexts groups = All (λ group. (context : Context) → All (λ entry. HasPlainTexts entry.value) (pushed_in group context)) groups
+HavePlainTexts groups =
+    All
+    (λ group. (context : Context)
+    → All (λ entry. HasPlainTexts entry.value) (pushed_in group context)) groups
 
 -- groups that are written, and read back as they were
 pub record AreReadable (groups : List Group) : Type 0 where

@@ -30,18 +30,22 @@ unfoldable pub group_fault : Group → Option WriteFault
 group_fault group =
     if length (tiff_slots group) == 0 then Some EmptyDirectory
     else (if any_over group then Some TooManyFields
-    else (if list_any (λ context. any_unknown (pushed_in group context)) contexts then Some UnknownType else None))
+    else (if list_any (λ context. any_unknown (pushed_in group context)) contexts
+    then Some UnknownType else None))
 
 -- that of the first group with a cause
 abbrev pub first_group_fault : List Group → Option WriteFault
 first_group_fault [] = None
-first_group_fault (group ∷ groups) = elim (group_fault group) [ Some cause ↦ Some cause | None ↦ first_group_fault groups ]
+first_group_fault (group ∷ groups) =
+    elim (group_fault group) [ Some cause ↦ Some cause | None ↦ first_group_fault groups ]
 
--- the cause for which nothing is written of the groups; where there is no other, the image may be too long
+-- the cause for which nothing is written of the groups; where there is no other, the image may be
+-- too long
 unfoldable pub write_fault : List Group → Option WriteFault
 write_fault [] = Some NoDirectory
 write_fault (group ∷ groups) =
     elim (first_group_fault (group ∷ groups)) [
       | Some cause ↦ Some cause
-      | None ↦ if nat_lt 4294967295 (drafts_end 8 (map draft_of (group ∷ groups))) then Some OffsetTooLarge else None
+      | None ↦ if nat_lt 4294967295 (drafts_end 8 (map draft_of (group ∷ groups)))
+          then Some OffsetTooLarge else None
     ]

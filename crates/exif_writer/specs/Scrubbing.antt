@@ -1,4 +1,5 @@
--- Scrubbing: fields written again without the place where a picture was taken and without values of unknown types.
+-- Scrubbing: fields written again without the place where a picture was taken and without values of
+-- unknown types.
 use Rattle.std.specs.Prelude.{◌≡◌, ◌&&◌, ◌≤◌, not, Bool, true, false, List, [], length, None}
 use Rattle.std.specs.List.{All, filter}
 use Rattle.exif_base.specs.declared.endian.Order.{Order}
@@ -33,7 +34,8 @@ kept fields = filter is_kept fields
 abbrev pub scrubbed : List Field → List Group
 scrubbed fields = pushed_all (kept fields) []
 
--- what scrubbing leaves of fields that were read: texts and directories that are read back, and only what it keeps
+-- what scrubbing leaves of fields that were read: texts and directories that are read back, and
+-- only what it keeps
 pub record LeavesKept (fields : List Field) : Type 0 where
   pub plain : HavePlainTexts (scrubbed fields)
   pub few : length (scrubbed fields) ≤ 8
@@ -50,7 +52,8 @@ ScrubsOnce order fields =
     RewritesSame order (scrubbed fields)
     → image order (scrubbed (flat (scrubbed fields))) ≡ image order (scrubbed fields)
 
--- what scrubbing promises of the image: it is read as what is kept, and scrubbed again it is the same
+-- what scrubbing promises of the image: it is read as what is kept, and scrubbed again it is the
+-- same
 pub record IsScrubbed (order : Order) (fields : List Field) : Type 0 where
   pub readable : AreReadable (scrubbed fields)
   pub reads_back : ReadsBack order (scrubbed fields)
@@ -59,4 +62,5 @@ pub record IsScrubbed (order : Order) (fields : List Field) : Type 0 where
 -- so where the scrubbed groups are such as a writer holds, and are not refused
 abbrev pub Scrubs : Order → List Field → Type 0
 Scrubs order fields =
-    All IsRead fields → AreRanged (scrubbed fields) → write_fault (scrubbed fields) ≡ None → IsScrubbed order fields
+    All IsRead fields → AreRanged (scrubbed fields) → write_fault (scrubbed fields) ≡ None
+    → IsScrubbed order fields

@@ -44,7 +44,8 @@ context_place places Interop = places.interop
 -- the value of an entry
 abbrev pub settled : Places → Content → Value
 settled places (Known value) = moved_to 0 value.now
-settled places (PlacesOf kind blocks) = Long (places_from (block_place places kind) (lens blocks.now))
+settled places (PlacesOf kind blocks) =
+    Long (places_from (block_place places kind) (lens blocks.now))
 settled places (LengthsOf kind blocks) = Long (lens blocks.now)
 settled places (PlaceOf context) = Long (context_place places context ∷ [])
 
@@ -90,15 +91,19 @@ IsKnownContent (PlaceOf context) = ⊤
 -- the last four bytes of an entry: its value, or the place where it stands
 abbrev pub element : Order → Places → Slot → List ℕ
 element order places slot =
-    if nat_le slot.size 4 then encode order (settled places slot.content) ++ replicate (4 - slot.size) 0
+    if nat_le slot.size 4
+    then encode order (settled places slot.content) ++ replicate (4 - slot.size) 0
     else spelled order 4 slot.place
 
 -- the 12 bytes of an entry
 abbrev pub slot_text : Order → Places → Slot → List ℕ
 slot_text order places slot =
-    spelled order 2 slot.tag ++ (spelled order 2 (content_type slot.content) ++ (spelled order 4 (content_count slot.content) ++ element order places slot))
+    spelled order 2 slot.tag
+    ++ (spelled order 2 (content_type slot.content)
+    ++ (spelled order 4 (content_count slot.content) ++ element order places slot))
 
--- a slot that can be settled and sent: its value is of a known type, and its numbers fit into 32 bits
+-- a slot that can be settled and sent: its value is of a known type, and its numbers fit into 32
+-- bits
 pub record IsReady (places : Places) (slot : Slot) : Type 0 where
   pub settles : Settles places slot.content
   pub known : IsKnownContent slot.content
@@ -111,11 +116,16 @@ after_slot start slot = after_value start (content_size slot.content)
 abbrev pub values_end : ℕ → List Slot → ℕ
 values_end start slots = state after_slot start slots
 
--- a slot with its size, and with the place of its value where that isn't in the entry and may stand from a place on
+-- a slot with its size, and with the place of its value where that isn't in the entry and may stand
+-- from a place on
 abbrev pub settle_slot : ℕ → Slot → Slot
 settle_slot start slot =
     if nat_le (content_size slot.content) 4 then record slot { size = content_size slot.content }
-    else record slot { size = content_size slot.content; place = even start; padded = start % 2 == 1 }
+    else record slot {
+      size = content_size slot.content;
+      place = even start;
+      padded = start % 2 == 1;
+    }
 
 -- a slot whose size can be settled
 pub record IsMeasurable (slot : Slot) : Type 0 where
@@ -145,12 +155,15 @@ entries_text order places slots = flat_map (slot_text order places) slots
 abbrev pub slots_text : Order → Places → ℕ → List Slot → List ℕ
 slots_text order places next [] = []
 slots_text order places next (slot ∷ slots) =
-    spelled order 2 (length (slot ∷ slots)) ++ (entries_text order places (slot ∷ slots) ++ spelled order 4 next)
+    spelled order 2 (length (slot ∷ slots))
+    ++ (entries_text order places (slot ∷ slots) ++ spelled order 4 next)
 
 -- a value that isn't in its entry, behind a zero where it needs one
 abbrev pub value_text : Order → Places → Slot → List ℕ
 value_text order places slot =
-    if nat_le slot.size 4 then [] else replicate (if slot.padded then 1 else 0) 0 ++ encode order (settled places slot.content)
+    if nat_le slot.size 4
+    then []
+    else replicate (if slot.padded then 1 else 0) 0 ++ encode order (settled places slot.content)
 
 abbrev pub values_text : Order → Places → List Slot → List ℕ
 values_text order places slots = flat_map (value_text order places) slots

@@ -1,4 +1,5 @@
--- The entries of directories in the order in which they are written, before any place is settled (TIFF 6.0, section 2, "Sort Order"; Exif 2.32, 4.6.3).
+-- The entries of directories in the order in which they are written, before any place is settled
+-- (TIFF 6.0, section 2, "Sort Order"; Exif 2.32, 4.6.3).
 use Rattle.std.specs.Prelude.{ℕ, ◌*◌, nat_le, List, [], ◌∷◌, ◌++◌, length, map, Option, Some, None, if◌then◌else◌}
 use Rattle.exif_types.specs.declared.value.Value.{Value}
 use Rattle.exif_table.specs.declared.context.Context.{Context}
@@ -8,7 +9,8 @@ use Rattle.exif_writer.specs.declared.block_kind.BlockKind.TheVariants.{Strips, 
 use Rattle.exif_writer.specs.Groups.{Group, Entry, blocks_in, places_tag, lengths_tag}
 use Rattle.exif_writer.specs.Encoding.{value_len, moved_to}
 
--- where an entry's value comes from: it is known, or the places or the lengths of blocks of these lengths, or the place of a child directory
+-- where an entry's value comes from: it is known, or the places or the lengths of blocks of these
+-- lengths, or the place of a child directory
 pub data Content : Type 0 where
   Known : Value → Content
   PlacesOf : BlockKind → List ℕ → Content
@@ -27,7 +29,8 @@ known entry = record { tag = entry.tag; content = Known (moved_to 0 entry.value)
 -- a slot before the first one that has a greater tag, or an equal one
 abbrev pub inserted : Slot → List Slot → List Slot
 inserted slot [] = slot ∷ []
-inserted slot (next ∷ slots) = if nat_le slot.tag next.tag then slot ∷ next ∷ slots else next ∷ inserted slot slots
+inserted slot (next ∷ slots) =
+    if nat_le slot.tag next.tag then slot ∷ next ∷ slots else next ∷ inserted slot slots
 
 -- in tag order, equal tags in the order in which they came
 abbrev pub in_tag_order : List Slot → List Slot
@@ -49,7 +52,8 @@ abbrev pub pointer_slots : ℕ → Context → List Slot → List Slot
 pointer_slots tag child [] = []
 pointer_slots tag child (slot ∷ slots) = record { tag = tag; content = PlaceOf child } ∷ []
 
--- the entries of each directory: pushed ones, the blocks' and pointers; those that come together, and those as they are written
+-- the entries of each directory: pushed ones, the blocks' and pointers; those that come together,
+-- and those as they are written
 unfoldable pub interop_slots : Group → List Slot
 interop_slots group = in_tag_order (map known group.interop)
 
@@ -97,7 +101,8 @@ pub record Draft : Type 0 where
   pub blocks : BlockKind → List (List ℕ)
 
 abbrev pub draft_of : Group → Draft
-draft_of group = record { slots = slots_of group; blocks = λ kind. block_list (blocks_in group kind) }
+draft_of group =
+    record { slots = slots_of group; blocks = λ kind. block_list (blocks_in group kind) }
 
 -- how many bytes the value of an entry takes
 abbrev pub content_len : Content → ℕ

@@ -1,4 +1,5 @@
--- The messages of the causes for which nothing is written, and the errors that they are answered as.
+-- The messages of the causes for which nothing is written, and the errors that they are answered
+-- as.
 use Rattle.std.specs.Prelude.{ℕ, List, codes}
 use Rattle.exif_types.specs.Refusals.{Refusal, invalid_format, too_big, not_supported}
 use Rattle.exif_writer.specs.declared.write_fault.WriteFault.{WriteFault}
