@@ -1,7 +1,8 @@
 -- A group changed in grown groups is a change of the groups; and what that keeps of ranges.
-use Rattle.std.proofs.Common.{◌≡◌, ℕ, zero, suc, ◌+◌, ◌-◌, ◌≤◌, List, [], ◌∷◌, ◌++◌, length, get_or, set, take, replicate, refl, sym, ap, subst, ◌∙◌, arith, Result, Ok, Err, All}
+use Rattle.std.proofs.Common.{◌≡◌, ℕ, zero, suc, ◌+◌, ◌-◌, ◌≤◌, List, [], ◌∷◌, ◌++◌, length, get_or, set, take, replicate, refl, sym, ap, subst, ◌∙◌, arith, Result, Ok, Err}
 use Rattle.std.proofs.lemmas.List.{append-nil, append_assoc, replicate_more, take_at, set-get_or}
-use Rattle.std.proofs.lemmas.List.Elements.{All-nil, All-cons, All-head, All-tail, All-append}
+use Rattle.std.specs.List.{AllByRecursion}
+use Rattle.exif_tiff.proofs.Members.{all_append}
 use Rattle.std.specs.Prelude.{Bool, true, false, not, if◌then◌else◌, OnOk, OnErr, is_err}
 use Rattle.exif_table.specs.declared.context.Context.{Context}
 use Rattle.exif_table.specs.declared.context.Context.TheVariants.{Tiff, Exif, Gps, Interop}
@@ -45,26 +46,24 @@ changed_by n m f old items x y k e r c =
 
 -- the entries of a group are such that a writer may hold them
 abbrev pub GroupIsRanged : Group → Type 0
-GroupIsRanged group = (context : Context) → All (IsEntry context) (pushed_in group context)
+GroupIsRanged group = (context : Context) → AllByRecursion (IsEntry context) (pushed_in group context)
 
 empty_ranged : GroupIsRanged empty_group
-empty_ranged Tiff = All-nil (IsEntry Tiff)
-empty_ranged Exif = All-nil (IsEntry Exif)
-empty_ranged Gps = All-nil (IsEntry Gps)
-empty_ranged Interop = All-nil (IsEntry Interop)
+empty_ranged Tiff = tt
+empty_ranged Exif = tt
+empty_ranged Gps = tt
+empty_ranged Interop = tt
 
 pub none_ranged : AreRanged []
-none_ranged = All-nil GroupIsRanged
+none_ranged = tt
 
 -- a change of one group that keeps its ranges keeps those of all
 pub changed_ranged : (n : ℕ) (f : Group → Group) (groups : List Group) → ((group : Group) → GroupIsRanged group → GroupIsRanged (f group))
     → AreRanged groups → AreRanged (changed n f groups)
-changed_ranged zero f [] keep h = All-cons GroupIsRanged (f empty_group) [] (keep empty_group empty_ranged) h
-changed_ranged zero f (group ∷ groups) keep h =
-    All-cons GroupIsRanged (f group) groups (keep group (All-head GroupIsRanged group groups h)) (All-tail GroupIsRanged group groups h)
-changed_ranged (suc n) f [] keep h = All-cons GroupIsRanged empty_group (changed n f []) empty_ranged (changed_ranged n f [] keep h)
-changed_ranged (suc n) f (group ∷ groups) keep h =
-    All-cons GroupIsRanged group (changed n f groups) (All-head GroupIsRanged group groups h) (changed_ranged n f groups keep (All-tail GroupIsRanged group groups h))
+changed_ranged zero f [] keep h = (keep empty_group empty_ranged, h)
+changed_ranged zero f (group ∷ groups) keep h = (keep group h.0, h.1)
+changed_ranged (suc n) f [] keep h = (empty_ranged, changed_ranged n f [] keep h)
+changed_ranged (suc n) f (group ∷ groups) keep h = (h.0, changed_ranged n f groups keep h.1)
 
 pub strips_ranged : (strips : List (List ℕ)) (group : Group) → GroupIsRanged group → GroupIsRanged (with_strips strips group)
 strips_ranged strips group h Tiff = h Tiff
@@ -84,9 +83,8 @@ jpeg_ranged jpeg group h Exif = h Exif
 jpeg_ranged jpeg group h Gps = h Gps
 jpeg_ranged jpeg group h Interop = h Interop
 
-one_more : (context : Context) (entries : List Entry) (entry : Entry) → IsEntry context entry → All (IsEntry context) entries → All (IsEntry context) (entries ++ entry ∷ [])
-one_more context entries entry e h =
-    All-append (IsEntry context) entries (entry ∷ []) h (All-cons (IsEntry context) entry [] e (All-nil (IsEntry context)))
+one_more : (context : Context) (entries : List Entry) (entry : Entry) → IsEntry context entry → AllByRecursion (IsEntry context) entries → AllByRecursion (IsEntry context) (entries ++ entry ∷ [])
+one_more context entries entry e h = all_append (IsEntry context) entries (entry ∷ []) h (e, tt)
 
 pub entry_ranged : (here : Context) (entry : Entry) → IsEntry here entry → (group : Group) → GroupIsRanged group → GroupIsRanged (with_entry here entry group)
 entry_ranged Tiff entry e group h Tiff = one_more Tiff group.tiff entry e (h Tiff)

@@ -1,6 +1,6 @@
 -- Groups of numbers that fit their types, and of plain texts.
 use Rattle.std.specs.Prelude.{◌≡◌, ◌<◌, ◌≤◌, ◌^◌, false, List, length, None, ⊤, FitsSigned}
-use Rattle.std.specs.List.{All}
+use Rattle.std.specs.List.{All, AllByRecursion}
 use Rattle.std.specs.Int.{w8, w16, w32}
 use Rattle.exif_types.specs.Sound.{HasPlainTexts}
 use Rattle.exif_types.specs.declared.value.Value.{Value}
@@ -33,14 +33,17 @@ pub record IsEntry (context : Context) (entry : Entry) : Type 0 where
 -- all pushed entries are such
 abbrev pub AreRanged : List Group → Type 0
 AreRanged groups =
-    All (λ group. (context : Context) → All (IsEntry context) (pushed_in group context)) groups
+    AllByRecursion
+    (λ group. (context : Context) → AllByRecursion (IsEntry context) (pushed_in group context))
+    groups
 
 -- no pushed text holds a zero byte
 abbrev pub HavePlainTexts : List Group → Type 0
 HavePlainTexts groups =
-    All
+    AllByRecursion
     (λ group. (context : Context)
-    → All (λ entry. HasPlainTexts entry.value) (pushed_in group context)) groups
+    → AllByRecursion (λ entry. HasPlainTexts entry.value) (pushed_in group context))
+    groups
 
 -- groups that are written, and read back as they were
 pub record AreReadable (groups : List Group) : Type 0 where

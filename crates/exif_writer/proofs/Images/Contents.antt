@@ -18,9 +18,9 @@ use Rattle.exif_writer.specs.Places.{blocks_place, places_from, draft_end, next_
 use Rattle.exif_writer.specs.Flat.{flat, flat_from, directory_fields}
 use Rattle.exif_writer.specs.Refused.{write_fault}
 use Rattle.exif_writer.specs.Layout.{Stands, BlocksNamed, BlocksStand, fields_under}
-use Rattle.exif_writer.proofs.Images.Words.{AllStand, AreGroups, HaveNoZero}
+use Rattle.exif_writer.proofs.Images.Words.{AllStand}
 use Rattle.exif_base.specs.Orders.{number_of}
-use Rattle.exif_writer.specs.Ranged.{IsEntry}
+use Rattle.exif_writer.specs.Ranged.{IsEntry, AreRanged, HavePlainTexts, AreReadable}
 use Rattle.exif_writer.specs.ReadBack.{first_eight}
 use Rattle.exif_writer.specs.Rewriting.{all_blocks, blocks_set, all_blocks_set, set_if, pushed_all}
 use Rattle.exif_tiff.proofs.Members.{all_left, all_right}
@@ -49,11 +49,11 @@ zip_stand : (bytes : List ℕ) (place : ℕ) (texts : List (List ℕ)) → AllSt
 zip_stand bytes place [] h = tt
 zip_stand bytes place (text ∷ texts) h = (h.0, zip_stand bytes (place + length text) texts h.1)
 
-entries_at : (groups : List Group) (m : ℕ) → m < length groups → AreGroups groups → (context : Context) → AllByRecursion (IsEntry context) (pushed_in (group_at groups m) context)
+entries_at : (groups : List Group) (m : ℕ) → m < length groups → AreRanged groups → (context : Context) → AllByRecursion (IsEntry context) (pushed_in (group_at groups m) context)
 entries_at groups m h ranged =
     all_at (λ group. (context : Context) → AllByRecursion (IsEntry context) (pushed_in group context)) groups m h ranged
 
-pub blocks_stand : (order : Order) (groups : List Group) → AreGroups groups → write_fault groups ≡ None → BlocksStand order groups
+pub blocks_stand : (order : Order) (groups : List Group) → AreRanged groups → write_fault groups ≡ None → BlocksStand order groups
 blocks_stand order groups ranged written ifd kind texts h is =
     let stands = parts_stand order groups (not_refused groups written).each in
     let group : Group = group_at groups ifd in
@@ -106,7 +106,7 @@ same_option bytes fs gs ifd kind (Some x) (Some y) e s n t m =
     let lengths : map length x ≡ map length y = ap longs (sym one.lengths_named ∙ ap (fields_under (lengths_tag kind) ifd) e ∙ two.lengths_named) in
     ap Some (same_texts bytes two.places x y lengths (rw places at one.stand) two.stand)
 
-nothing_under : (groups : List Group) (ifd : ℕ) (kind : BlockKind) → ifd < length groups → AreGroups groups → blocks_in (group_at groups ifd) kind ≡ None
+nothing_under : (groups : List Group) (ifd : ℕ) (kind : BlockKind) → ifd < length groups → AreRanged groups → blocks_in (group_at groups ifd) kind ≡ None
     → fields_under (places_tag kind) ifd (flat groups) ≡ []
 nothing_under groups ifd kind h ranged is =
     places_under groups ifd kind h (entries_at groups ifd h ranged Tiff)
@@ -129,28 +129,21 @@ over_none count [] h = omega arith
 over_none zero (group ∷ groups) h = absurd cc
 over_none (suc count) (group ∷ groups) h = let k = over_none count groups h in omega arith
 
--- groups that can be written and are read back as they were, with the words of the proofs
-pub record Readable (groups : List Group) : Type 0 where
-  pub ranged : AreGroups groups
-  pub clean : HaveNoZero groups
-  pub few : length groups ≤ 8
-  pub written : write_fault groups ≡ None
-
-fewer : (order : Order) (groups others : List Group) → Readable groups → Readable others → image order groups ≡ image order others → length others ≤ length groups
+fewer : (order : Order) (groups others : List Group) → AreReadable groups → AreReadable others → image order groups ≡ image order others → length others ≤ length groups
 fewer order groups others h k e =
     over_none (length groups) others
-    (sym (image_chain order others (length groups) k.ranged k.clean k.written).failed
+    (sym (image_chain order others (length groups) k.ranged k.plain k.written).failed
     ∙ ap (λ bytes. faults_of (chain_nodes (length groups) (number_of order) bytes 0 8)) (sym e)
-    ∙ (image_chain order groups (length groups) h.ranged h.clean h.written).failed ∙ faults_under (length groups) groups (omega arith))
+    ∙ (image_chain order groups (length groups) h.ranged h.plain h.written).failed ∙ faults_under (length groups) groups (omega arith))
 
-same_contents : (order : Order) (groups others : List Group) → Readable groups → Readable others → image order groups ≡ image order others
+same_contents : (order : Order) (groups others : List Group) → AreReadable groups → AreReadable others → image order groups ≡ image order others
     → (flat groups ≡ flat others) × (all_blocks groups ≡ all_blocks others)
 same_contents order groups others h k e =
     let a = fewer order groups others h k e in
     let b = fewer order others groups k h (sym e) in
     let n : length groups ≡ length others = omega arith in
     let flats : flat groups ≡ flat others =
-    sym (read_back order groups h.ranged h.clean h.few h.written).seen ∙ ap (λ bytes. fields_of (ordered_trace (number_of order) bytes)) e ∙ (read_back order others k.ranged k.clean k.few k.written).seen in
+    sym (read_back order groups h.ranged h.plain h.few h.written).seen ∙ ap (λ bytes. fields_of (ordered_trace (number_of order) bytes)) e ∙ (read_back order others k.ranged k.plain k.few k.written).seen in
     let same : (m : ℕ) → m < length others → (kind : BlockKind) → blocks_in (group_at groups m) kind ≡ blocks_in (group_at others m) kind =
     λ m low kind. same_option (image order others) (flat groups) (flat others) m kind _ _ flats
     (λ texts is. rw e at (blocks_stand order groups h.ranged h.written m kind texts (omega arith) is)) (nothing_under groups m kind (omega arith) h.ranged)
@@ -172,7 +165,7 @@ same_set (x ∷ xs) (y ∷ ys) n groups e =
     ap (λ g. all_blocks_set (suc n) xs g) one ∙ same_set xs ys (suc n) (blocks_set y n groups) rest
 
 -- Images in one byte order are equal exactly where their fields and their blocks are.
-pub same_images : (order : Order) (groups others : List Group) → Readable groups → Readable others
+pub same_images : (order : Order) (groups others : List Group) → AreReadable groups → AreReadable others
     → (image order groups ≡ image order others) ↔ ((flat groups ≡ flat others) × (all_blocks groups ≡ all_blocks others))
 same_images order groups others h k = (
   same_contents order groups others h k,
@@ -214,7 +207,7 @@ flat_front (group ∷ groups) (suc count) n start =
     ++ flat_front groups count (suc n) (draft_end (draft_of group) start) i))
 
 -- An image of more than eight groups is read as the part of its flat fields below the ninth, and one fault.
-pub reads_front : (order : Order) (groups : List Group) → AreGroups groups → HaveNoZero groups → write_fault groups ≡ None
+pub reads_front : (order : Order) (groups : List Group) → AreRanged groups → HavePlainTexts groups → write_fault groups ≡ None
     → Leaves (ordered_trace (number_of order) (image order groups)) (first_eight (flat groups)) (faults_over 8 groups)
 unfolding flat
 reads_front order groups ranged clean h =

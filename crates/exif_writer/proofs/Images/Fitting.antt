@@ -1,8 +1,11 @@
--- In groups that a writer may hold, which are written and whose texts hold no zero byte, each entry of each directory is read as what it is.
+-- In groups that a writer may hold, which are written and whose texts hold no zero byte, each entry
+-- of each directory is read as what it is.
+use Rattle.exif_types.specs.Sound.{HasPlainTexts}
 use Rattle.exif_writer.proofs.Moved.{moved_by}
 use Rattle.std.proofs.Common.{◌≡◌, ℕ, ◌<◌, ◌^◌, List, [], ◌∷◌, length, refl, sym, ap, arith, false, map, Option, Some, None}
-use Rattle.std.specs.Prelude.{◌==◌}
-use Rattle.std.specs.List.{AllByRecursion}
+use Rattle.std.specs.Prelude.{◌==◌, ◌≢◌}
+use Rattle.std.specs.List.{All, AllByRecursion}
+use Rattle.std.proofs.lemmas.List.Elements.{All-head, All-tail}
 use Rattle.exif_types.specs.declared.value.Value.{Value}
 use Rattle.exif_types.specs.declared.value.Value.TheVariants.{Byte, Ascii, Short, Long, Rational, SByte, Undefined, SShort, SLong, SRational, Float, Double, Unknown}
 use Rattle.exif_writer.specs.Encoding.{moved_to}
@@ -14,15 +17,21 @@ use Rattle.exif_writer.specs.Slots.{Draft, draft_of, known, set_slots, block_lis
 use Rattle.exif_writer.specs.declared.block_kind.BlockKind.{BlockKind}
 use Rattle.exif_writer.specs.declared.block_kind.BlockKind.TheVariants.{Strips, Tiles, Jpeg}
 use Rattle.exif_writer.specs.Refused.{is_unknown}
-use Rattle.exif_writer.proofs.Images.Words.{Fits, HasNoZero, IsAccepted, SlotFits}
+use Rattle.exif_writer.proofs.Images.Words.{Fits, IsAccepted, IsPlain, SlotFits}
 use Rattle.exif_writer.specs.Ranged.{IsRanged, IsEntry}
 use Rattle.exif_tiff.proofs.Members.{each_of}
 use Rattle.exif_writer.proofs.Images.Slots.{all_slots}
 use Rattle.exif_writer.proofs.Images.Whole.{or_false}
 
-fits_of : (value : Value) → IsRanged value → HasNoZero value → is_unknown value ≡ false → Fits value
+each_text : (texts : List (List ℕ)) → All (All (λ b. b ≢ 0)) texts → AllByRecursion IsPlain texts
+each_text [] h = tt
+each_text (text ∷ texts) h =
+    let plain : List ℕ → Type 0 = All (λ b. b ≢ 0) in
+    (each_of (λ b. b ≢ 0) text (All-head plain text texts h), each_text texts (All-tail plain text texts h))
+
+fits_of : (value : Value) → IsRanged value → HasPlainTexts value → is_unknown value ≡ false → Fits value
 fits_of (Byte xs) r z u = tt
-fits_of (Ascii xs) r z u = z
+fits_of (Ascii xs) r z u = each_text xs z
 fits_of (Short xs) r z u = each_of _ xs r
 fits_of (Long xs) r z u = each_of _ xs r
 fits_of (Rational xs) r z u = each_of _ xs r
@@ -55,7 +64,7 @@ no_pointer Gps tag h = refl
 no_pointer Interop tag h = refl
 
 pushed_fit : (draft : Draft) (context : Context) (entries : List Entry) → AllByRecursion (IsEntry context) entries
-    → AllByRecursion (λ entry. HasNoZero entry.value) entries → AllByRecursion (λ entry. is_unknown entry.value ≡ false) entries
+    → AllByRecursion (λ entry. HasPlainTexts entry.value) entries → AllByRecursion (λ entry. is_unknown entry.value ≡ false) entries
     → AllByRecursion (λ entry. SlotFits draft context (known entry)) entries
 pushed_fit draft context [] r z u = tt
 pushed_fit draft context (entry ∷ entries) r z u = (
@@ -74,7 +83,7 @@ blocks_fit draft kind (Some texts) p l a b e = (
 
 pub slots_fit : (group : Group)
     → ((context : Context) → AllByRecursion (IsEntry context) (pushed_in group context))
-    → ((context : Context) → AllByRecursion (λ entry. HasNoZero entry.value) (pushed_in group context)) → IsAccepted group
+    → ((context : Context) → AllByRecursion (λ entry. HasPlainTexts entry.value) (pushed_in group context)) → IsAccepted group
     → (context : Context) → AllByRecursion (SlotFits (draft_of group) context) (slots_of group context)
 slots_fit group entries clean accepted =
     all_slots (SlotFits (draft_of group)) group

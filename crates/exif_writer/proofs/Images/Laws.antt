@@ -23,54 +23,11 @@ use Rattle.exif_writer.specs.Ranged.{IsEntry, AreRanged, HavePlainTexts, AreRead
 use Rattle.exif_writer.specs.Layout.{Stands, IsOutside, LaidOut, LengthIsEnd, BlocksStand}
 use Rattle.exif_writer.specs.ReadBack.{ReadsBack, ReadsFirstEight, first_eight}
 use Rattle.exif_writer.specs.Rewriting.{RewritesSame, RewritesInEachOrder, pushed_all, all_blocks_set, EqualByContents, LengthsAgree, OrdersAgree}
-use Rattle.exif_writer.proofs.Images.Words.{IsPlain, HasNoZero, AreGroups, HaveNoZero}
 use Rattle.exif_tiff.proofs.Members.{each_of, all_of}
 use Rattle.exif_writer.proofs.Images.Whole.{not_refused, length-image, parts_span, parts_stand, pads_zero}
 use Rattle.exif_writer.proofs.Images.ReadBack.{Leaves, image_answer, image_leaves, read_back, faults_more}
 use Rattle.exif_writer.proofs.Images.Rewritten.{rewrites_same}
-use Rattle.exif_writer.proofs.Images.Contents.{Readable, blocks_stand, same_images, reads_front}
-
-each_text : (texts : List (List ℕ)) → All (All (λ b. b ≢ 0)) texts → AllByRecursion IsPlain texts
-each_text [] h = tt
-each_text (text ∷ texts) h =
-    let plain : List ℕ → Type 0 = All (λ b. b ≢ 0) in
-    (each_of (λ b. b ≢ 0) text (All-head plain text texts h), each_text texts (All-tail plain text texts h))
-
-no_zero : (value : Value) → HasPlainTexts value → HasNoZero value
-no_zero (Byte xs) h = tt
-no_zero (Ascii xs) h = each_text xs h
-no_zero (Short xs) h = tt
-no_zero (Long xs) h = tt
-no_zero (Rational xs) h = tt
-no_zero (SByte xs) h = tt
-no_zero (Undefined xs place) h = tt
-no_zero (SShort xs) h = tt
-no_zero (SLong xs) h = tt
-no_zero (SRational xs) h = tt
-no_zero (Float xs) h = tt
-no_zero (Double xs) h = tt
-no_zero (Unknown type count place) h = tt
-
-entries_clean : (entries : List Entry) → All (λ entry. HasPlainTexts entry.value) entries → AllByRecursion (λ entry. HasNoZero entry.value) entries
-entries_clean [] h = tt
-entries_clean (entry ∷ entries) h =
-    let plain : Entry → Type 0 = λ entry. HasPlainTexts entry.value in
-    (no_zero entry.value (All-head plain entry entries h), entries_clean entries (All-tail plain entry entries h))
-
-ranged_groups : (groups : List Group) → AreRanged groups → AreGroups groups
-ranged_groups [] h = tt
-ranged_groups (group ∷ groups) h =
-    let ranged : Group → Type 0 = λ group. (context : Context) → All (IsEntry context) (pushed_in group context) in
-    ((λ context. each_of (IsEntry context) (pushed_in group context) (All-head ranged group groups h context)), ranged_groups groups (All-tail ranged group groups h))
-
-clean_groups : (groups : List Group) → HavePlainTexts groups → HaveNoZero groups
-clean_groups [] h = tt
-clean_groups (group ∷ groups) h =
-    let plain : Group → Type 0 = λ group. (context : Context) → All (λ entry. HasPlainTexts entry.value) (pushed_in group context) in
-    ((λ context. entries_clean (pushed_in group context) (All-head plain group groups h context)), clean_groups groups (All-tail plain group groups h))
-
-readable : (groups : List Group) → AreReadable groups → Readable groups
-readable groups h = record { ranged = ranged_groups groups h.ranged; clean = clean_groups groups h.plain; few = h.few; written = h.written }
+use Rattle.exif_writer.proofs.Images.Contents.{blocks_stand, same_images, reads_front}
 
 pub laid_out : (order : Order) (groups : List Group) → write_fault groups ≡ None → LaidOut order groups
 laid_out order groups h =
@@ -89,7 +46,7 @@ length_is_end order groups h =
     record { end = end; small = omega arith }
 
 pub blocks_named : (order : Order) (groups : List Group) → AreRanged groups → write_fault groups ≡ None → BlocksStand order groups
-blocks_named order groups ranged h = blocks_stand order groups (ranged_groups groups ranged) h
+blocks_named order groups ranged h = blocks_stand order groups ranged h
 
 whole : (lenient : Bool) (fields : List Field) → answer_of lenient (record { fields = fields; faults = [] }) ≡ Whole fields
 whole true fields = refl
@@ -97,12 +54,11 @@ whole false fields = refl
 
 pub reads_back : (order : Order) (groups : List Group) → AreReadable groups → ReadsBack order groups
 reads_back order groups h lenient =
-    let r = readable groups h in
-    image_answer order groups (flat groups) [] h.written (read_back order groups r.ranged r.clean r.few r.written) lenient ∙ whole lenient (flat groups)
+    image_answer order groups (flat groups) [] h.written (read_back order groups h.ranged h.plain h.few h.written) lenient ∙ whole lenient (flat groups)
 
 pub reads_first_eight : (order : Order) (groups : List Group) → AreRanged groups → HavePlainTexts groups → write_fault groups ≡ None → ReadsFirstEight order groups
 reads_first_eight order groups ranged plain h many =
-    let leaves = reads_front order groups (ranged_groups groups ranged) (clean_groups groups plain) h in
+    let leaves = reads_front order groups ranged plain h in
     let fields : List Field = first_eight (flat groups) in
     let one : Leaves (ordered_trace (number_of order) (image order groups)) fields (TooManyDirectories ∷ []) =
     record { seen = leaves.seen; failed = leaves.failed ∙ faults_more 8 groups many } in (
@@ -111,7 +67,7 @@ reads_first_eight order groups ranged plain h many =
     )
 
 pub rewrites : (order : Order) (groups : List Group) → AreRanged groups → write_fault groups ≡ None → RewritesSame order groups
-rewrites order groups ranged h = rewrites_same order groups (ranged_groups groups ranged) h
+rewrites order groups ranged h = rewrites_same order groups ranged h
 
 pub rewrites_in_each_order : (order : Order) (groups : List Group) → AreReadable groups → RewritesInEachOrder order groups
 rewrites_in_each_order order groups h lenient fields other read =
@@ -120,7 +76,7 @@ rewrites_in_each_order order groups h lenient fields other read =
     ap (λ fs. image other (all_blocks_set 0 groups (pushed_all fs []))) exact ∙ rewrites other groups h.ranged h.written
 
 pub equal_by_contents : (order : Order) (groups : List Group) → AreReadable groups → EqualByContents order groups
-equal_by_contents order groups h others k = same_images order groups others (readable groups h) (readable others k)
+equal_by_contents order groups h others k = same_images order groups others h k
 
 pub lengths_agree : (groups : List Group) → write_fault groups ≡ None → LengthsAgree groups
 lengths_agree groups h =
@@ -129,6 +85,4 @@ lengths_agree groups h =
 
 pub orders_agree : (groups : List Group) → AreRanged groups → HavePlainTexts groups → write_fault groups ≡ None → OrdersAgree groups
 orders_agree groups ranged plain h lenient =
-    let r = ranged_groups groups ranged in
-    let c = clean_groups groups plain in
-    image_answer Big groups _ _ h (image_leaves Big groups r c h) lenient ∙ sym (image_answer Little groups _ _ h (image_leaves Little groups r c h) lenient)
+    image_answer Big groups _ _ h (image_leaves Big groups ranged plain h) lenient ∙ sym (image_answer Little groups _ _ h (image_leaves Little groups ranged plain h) lenient)

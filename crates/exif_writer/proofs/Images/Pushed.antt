@@ -68,20 +68,18 @@ module _ (Q : ℕ → Context → Entry → Type 0) where
 
 -- the same of each member, and of the directory with each number
 entries_from : (Q : Context → Entry → Type 0) (groups : List Group)
-    → All (λ group. (context : Context) → All (Q context) (pushed_in group context)) groups → EntriesHave (λ m. Q) groups
-entries_from Q groups h m context = go groups m (each_of (λ group. (context : Context) → All (Q context) (pushed_in group context)) groups h)
+    → AllByRecursion (λ group. (context : Context) → AllByRecursion (Q context) (pushed_in group context)) groups → EntriesHave (λ m. Q) groups
+entries_from Q groups h m context = go groups m h
   where
-    go : (groups : List Group) (m : ℕ) → AllByRecursion (λ group. (context : Context) → All (Q context) (pushed_in group context)) groups → AllByRecursion (Q context) (pushed_in (group_at groups m) context)
+    go : (groups : List Group) (m : ℕ) → AllByRecursion (λ group. (context : Context) → AllByRecursion (Q context) (pushed_in group context)) groups → AllByRecursion (Q context) (pushed_in (group_at groups m) context)
     go [] m h = empty_have (λ m. Q) m context
-    go (group ∷ groups) zero h = each_of (Q context) (pushed_in group context) (h.0 context)
+    go (group ∷ groups) zero h = h.0 context
     go (group ∷ groups) (suc m) h = go groups m h.1
 
 entries_to : (Q : Context → Entry → Type 0) (groups : List Group) → EntriesHave (λ m. Q) groups
-    → All (λ group. (context : Context) → All (Q context) (pushed_in group context)) groups
+    → AllByRecursion (λ group. (context : Context) → AllByRecursion (Q context) (pushed_in group context)) groups
 entries_to Q groups h =
-    all_of (λ group. (context : Context) → All (Q context) (pushed_in group context)) groups
-    (all_by_number (λ group. (context : Context) → All (Q context) (pushed_in group context)) groups
-    (λ m k context. all_of (Q context) (pushed_in (group_at groups m) context) (h m context)))
+    all_by_number (λ group. (context : Context) → AllByRecursion (Q context) (pushed_in group context)) groups (λ m k context. h m context)
 
 pub weaker : {X : Type 0} (P Q : X → Type 0) → ((x : X) → P x → Q x) → (xs : List X) → AllByRecursion P xs → AllByRecursion Q xs
 weaker P Q f [] h = tt

@@ -14,6 +14,7 @@ use Rattle.exif_tiff.specs.declared.fault.Fault.{Fault}
 use Rattle.exif_tiff.specs.declared.fault.Fault.TheVariants.{TooManyDirectories}
 use Rattle.exif_tiff.specs.Trace.{Node, Met, directory_end, directory_nodes, chain_nodes, chain_after, fields_of, faults_of, order_of, header, ordered_trace, content_of, limited}
 use Rattle.exif_tiff.specs.Answers.{Answer, Refused, raw_answer, answer_of}
+use Rattle.exif_writer.specs.Ranged.{AreRanged, HavePlainTexts}
 use Rattle.exif_writer.specs.Groups.{Group}
 use Rattle.exif_writer.specs.Slots.{draft_of}
 use Rattle.exif_writer.specs.Places.{even, tiff_place, draft_end, next_place}
@@ -22,7 +23,7 @@ use Rattle.exif_writer.specs.Flat.{flat_from, flat}
 use Rattle.exif_writer.specs.Refused.{write_fault}
 use Rattle.exif_writer.specs.Layout.{Stands, Spans}
 use Rattle.exif_tiff.proofs.ReportBound.{fields-append, faults-append}
-use Rattle.exif_writer.proofs.Images.Words.{AllStand, DraftStands, IsAccepted, AreGroups, HaveNoZero}
+use Rattle.exif_writer.proofs.Images.Words.{AllStand, DraftStands, IsAccepted}
 use Rattle.exif_tiff.proofs.Members.{all_left, all_right}
 use Rattle.exif_writer.proofs.Images.Places.{draft_spans}
 use Rattle.exif_writer.proofs.Images.Whole.{known_slots, not_refused, length-image, parts_stand}
@@ -76,7 +77,7 @@ module _ (order : Order) (bytes : List ℕ) (small : length bytes < 256 ^ 4) whe
       let within = (first.directory Tiff h.0.some).within in
       omega arith
 
-  pub chain_leaves : (groups : List Group) (count ifd start : ℕ) → 0 < start → AllByRecursion IsAccepted groups → AreGroups groups → HaveNoZero groups
+  pub chain_leaves : (groups : List Group) (count ifd start : ℕ) → 0 < start → AllByRecursion IsAccepted groups → AreRanged groups → HavePlainTexts groups
       → AllStand bytes (parts_from order start (map draft_of groups))
       → Leaves (chain_nodes count (number_of order) bytes ifd (next_place start (map draft_of groups))) (flat_from ifd start (map draft_of (take count groups))) (faults_over count groups)
   unfolding tiff_place
@@ -137,7 +138,7 @@ image_header order groups h =
     (image_order order groups) (image_mark order groups)
 
 -- a chain that is followed for some directories
-pub image_chain : (order : Order) (groups : List Group) (count : ℕ) → AreGroups groups → HaveNoZero groups → write_fault groups ≡ None
+pub image_chain : (order : Order) (groups : List Group) (count : ℕ) → AreRanged groups → HavePlainTexts groups → write_fault groups ≡ None
     → Leaves (chain_nodes count (number_of order) (image order groups) 0 8) (flat (take count groups)) (faults_over count groups)
 unfolding write_fault image flat
 image_chain order [] count ranged clean h = absurd cc
@@ -150,7 +151,7 @@ image_chain order (group ∷ groups) count ranged clean h =
     chain_leaves order (image order all) (omega arith) all count 0 8 (omega arith) accepted.each ranged clean stands.1
 
 -- The fields of an image are the flat ones of the first eight groups, and the only fault is that there are more.
-pub image_leaves : (order : Order) (groups : List Group) → AreGroups groups → HaveNoZero groups → write_fault groups ≡ None
+pub image_leaves : (order : Order) (groups : List Group) → AreRanged groups → HavePlainTexts groups → write_fault groups ≡ None
     → Leaves (ordered_trace (number_of order) (image order groups)) (flat (take 8 groups)) (faults_over 8 groups)
 unfolding ordered_trace
 image_leaves order groups ranged clean h = rw (image_first order groups) (image_chain order groups 8 ranged clean h)
@@ -176,7 +177,7 @@ faults_more zero (group ∷ groups) h = refl
 faults_more (suc count) (group ∷ groups) h = faults_more count groups (omega arith)
 
 -- An image of at most eight groups is read as its flat fields, and no fault.
-pub read_back : (order : Order) (groups : List Group) → AreGroups groups → HaveNoZero groups → length groups ≤ 8 → write_fault groups ≡ None
+pub read_back : (order : Order) (groups : List Group) → AreRanged groups → HavePlainTexts groups → length groups ≤ 8 → write_fault groups ≡ None
     → Leaves (ordered_trace (number_of order) (image order groups)) (flat groups) []
 read_back order groups ranged clean few h =
     let leaves = image_leaves order groups ranged clean h in

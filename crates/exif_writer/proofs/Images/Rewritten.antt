@@ -18,8 +18,8 @@ use Rattle.exif_writer.specs.Places.{written, draft_end, even, after_value, valu
 use Rattle.exif_writer.specs.Flat.{entry_fields, directory_fields, flat_from, flat}
 use Rattle.exif_writer.specs.Refused.{write_fault}
 use Rattle.exif_writer.specs.Image.{parts, laid, image}
-use Rattle.exif_writer.specs.Ranged.{IsEntry}
-use Rattle.exif_writer.proofs.Images.Words.{IsAccepted, AreGroups}
+use Rattle.exif_writer.specs.Ranged.{IsEntry, AreRanged}
+use Rattle.exif_writer.proofs.Images.Words.{IsAccepted}
 use Rattle.exif_writer.specs.Rewriting.{pushed_all, set_if, blocks_set, all_blocks_set, rewritten, RewritesSame}
 use Rattle.exif_tiff.proofs.Members.{all_append}
 use Rattle.exif_writer.proofs.Images.Whole.{not_refused}
@@ -288,7 +288,7 @@ all_at P (group ∷ groups) zero h a = a.0
 all_at P (group ∷ groups) (suc m) h a = all_at P groups m (omega arith) a.1
 
 -- the last group stands, since its directory has an entry
-length-rewritten : (groups : List Group) → AreGroups groups → AllByRecursion IsAccepted groups → length (rewritten groups) ≡ length groups
+length-rewritten : (groups : List Group) → AreRanged groups → AllByRecursion IsAccepted groups → length (rewritten groups) ≡ length groups
 unfolding flat
 length-rewritten [] ranged h = refl
 length-rewritten (first ∷ more) ranged h =
@@ -318,12 +318,12 @@ same_drafts (x ∷ xs) [] n h = absurd (omega arith)
 same_drafts (x ∷ xs) (y ∷ ys) n h = λ i. h 0 (omega arith) i ∷ same_drafts xs ys (omega arith) (λ m k. h (suc m) (omega arith)) i
 
 -- what is written of the groups that are made again is what was written
-pub rewritten_drafts : (groups : List Group) → AreGroups groups → AllByRecursion IsAccepted groups → map draft_of (rewritten groups) ≡ map draft_of groups
+pub rewritten_drafts : (groups : List Group) → AreRanged groups → AllByRecursion IsAccepted groups → map draft_of (rewritten groups) ≡ map draft_of groups
 rewritten_drafts groups ranged h =
     same_drafts (rewritten groups) groups (length-rewritten groups ranged h)
     (λ m k. same_draft _ _ (rewritten_at groups m k (all_at (λ group. (context : Context) → AllByRecursion (IsEntry context) (pushed_in group context)) groups m k ranged)))
 
 -- Rewriting what an image holds gives the same image.
-pub rewrites_same : (order : Order) (groups : List Group) → AreGroups groups → write_fault groups ≡ None → RewritesSame order groups
+pub rewrites_same : (order : Order) (groups : List Group) → AreRanged groups → write_fault groups ≡ None → RewritesSame order groups
 unfolding image
 rewrites_same order groups ranged h = ap (λ drafts. laid 0 (parts order drafts)) (rewritten_drafts groups ranged (not_refused groups h).each)

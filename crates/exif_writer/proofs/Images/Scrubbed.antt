@@ -56,7 +56,7 @@ scrubs_to_kept fields read =
     record {
       plain = pushes_plain (kept fields) []
           (all_of (λ field. HasPlainTexts field.value) (kept fields) (weaker IsRead (λ field. HasPlainTexts field.value) (λ field h. h.plain) (kept fields) each))
-          (λ k d h. absurd (omega arith));
+          tt;
       few = pushes_few 8 (kept fields) []
           (all_of (λ field. field.ifd_num.0 < 8) (kept fields) (weaker IsRead (λ field. field.ifd_num.0 < 8) (λ field h. h.number) (kept fields) each)) (omega arith);
       without_gps = all_of (λ field. is_gps field.tag.0 ≡ false) (flat (scrubbed fields))

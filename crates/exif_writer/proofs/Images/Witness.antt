@@ -33,7 +33,7 @@ picture_ranged : AreRanged (scrubbed a_picture)
 picture_ranged =
     pushes_ranged (kept a_picture) []
     (all_of IsFieldRanged (kept a_picture) (record { tag = omega arith; value = tt }, (record { tag = omega arith; value = tt }, tt)))
-    (λ k d h. absurd (omega arith))
+    tt
 
 picture_scrubbed : (order : Order) → IsScrubbed order a_picture
 picture_scrubbed order = scrubs order a_picture picture_read picture_ranged a_picture_written

@@ -15,7 +15,6 @@ use Rattle.exif_writer.specs.Slots.{Draft, Slot, Content, Known, PlacesOf, Lengt
 use Rattle.exif_writer.specs.Places.{directory_place, blocks_place, entries_of}
 use Rattle.exif_writer.specs.Image.{Part, directory_text, value_parts, block_parts}
 use Rattle.exif_writer.specs.Refused.{is_unknown}
-use Rattle.exif_writer.specs.Ranged.{IsEntry}
 use Rattle.exif_writer.specs.Layout.{Stands}
 
 abbrev pub AllStand : List ℕ → List Part → Type 0
@@ -84,15 +83,3 @@ pub record DraftStands (order : Order) (bytes : List ℕ) (draft : Draft) (start
       → Stands bytes (directory_place draft start context) (directory_text order (next_of next context) (entries_of draft start context))
   pub values : (context : Context) → AllStand bytes (value_parts order (entries_of draft start context))
   pub blocks : (kind : BlockKind) → AllStand bytes (block_parts (blocks_place draft start kind) (draft.blocks kind))
-
--- the pushed entries of each group are such that a writer may hold them
-abbrev pub AreGroups : List Group → Type 0
-AreGroups groups = AllByRecursion (λ group. (context : Context) → AllByRecursion (IsEntry context) (pushed_in group context)) groups
-
--- no text of a value holds a zero byte
-abbrev pub HasNoZero : Value → Type 0
-HasNoZero (Ascii xs) = AllByRecursion IsPlain xs
-HasNoZero value = ⊤
-
-abbrev pub HaveNoZero : List Group → Type 0
-HaveNoZero groups = AllByRecursion (λ group. (context : Context) → AllByRecursion (λ entry. HasNoZero entry.value) (pushed_in group context)) groups
