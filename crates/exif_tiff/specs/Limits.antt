@@ -35,7 +35,7 @@ LimitIsMet n bytes =
 abbrev pub AnswersWithin : ℕ → List ℕ → Type 0
 AnswersWithin n bytes =
     (lenient : Bool) → visits_of (trace bytes) ≤ n
-        → raw_answer lenient (Some n) bytes ≡ raw_answer lenient None bytes
+    → raw_answer lenient (Some n) bytes ≡ raw_answer lenient None bytes
 
 -- past it lenient reading answers what stood before the cut, and the fault of the limit behind the
 -- faults
@@ -43,7 +43,7 @@ abbrev pub LenientAnswersCut : ℕ → List ℕ → Type 0
 LenientAnswersCut n bytes =
     (found : IsCut n (trace bytes))
     → raw_answer true (Some n) bytes
-        ≡ Partial (fields_of found.front) (faults_of found.front ++ TooManyEntries ∷ [])
+    ≡ Partial (fields_of found.front) (faults_of found.front ++ TooManyEntries ∷ [])
 
 -- strict reading refuses for the limit exactly where there are more entries and no fault stands
 -- before the cut

@@ -10,7 +10,7 @@ use Rattle.exif_tiff.specs.Answers.{Whole, raw_answer, shown}
 abbrev pub ShowsReadFields : Bool → Option ℕ → List ℕ → Type 0
 ShowsReadFields lenient limit bytes =
     (fields : List Field) (faults : List Fault)
-        → raw_answer lenient limit bytes ≡ shown fields faults → All IsRead fields
+    → raw_answer lenient limit bytes ≡ shown fields faults → All IsRead fields
 
 -- strict reading shows fields only where there is no fault
 abbrev pub ShowsNoFault : Option ℕ → List ℕ → Type 0

@@ -56,7 +56,7 @@ FaultsAreSoftUnder limit bytes =
 abbrev pub PassesSoftFaults : Option ℕ → List ℕ → Type 0
 PassesSoftFaults limit bytes =
     (fields : List Field) (faults : List Fault)
-        → raw_answer true limit bytes ≡ Partial fields faults
+    → raw_answer true limit bytes ≡ Partial fields faults
     → All (λ fault. is_soft_under limit fault ≡ true) faults
 
 -- a refusal is the header's fault, or in strict mode a soft one

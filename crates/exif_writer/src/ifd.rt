@@ -132,14 +132,18 @@ impl<'a> Ifd<'a> {
 pub fn is_own(tag: Tag) -> bool
     ensures { result ≡ is_ignored tag.0 tag.1 }
 {
-    match tag.0 {
-        Context::Tiff => matches!(
-            tag.1,
-            0x111 | 0x117 | 0x144 | 0x145 | 0x201 | 0x202 | 0x8769 | 0x8825
-        ),
-        Context::Exif => tag.1 == 0xa005,
-        Context::Gps | Context::Interop => false,
-    }
+    matches!(
+        tag,
+        Tag::StripOffsets
+            | Tag::StripByteCounts
+            | Tag::TileOffsets
+            | Tag::TileByteCounts
+            | Tag::JPEGInterchangeFormat
+            | Tag::JPEGInterchangeFormatLength
+            | Tag::ExifIFDPointer
+            | Tag::GPSInfoIFDPointer
+            | Tag::InteropIFDPointer
+    )
 }
 
 // The pointer to a directory of so many entries.
