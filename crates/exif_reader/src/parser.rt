@@ -93,7 +93,7 @@ impl Parser {
     }
 
     /// Reads the chain of directories from a place on, each entry in one turn.
-    #[tactic(auto, using(crate::proofs::Turns::counts_turns))]
+    #[tactic(auto, using(crate::proofs::ParserTurns::counts_turns))]
     pub fn chain<E: Endian>(
         &mut self,
         alloc: Global,

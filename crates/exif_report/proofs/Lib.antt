@@ -1,2 +1,2 @@
-pub mod Findings
-pub mod Writing
+pub mod ReportingFindings
+pub mod ReportingLines

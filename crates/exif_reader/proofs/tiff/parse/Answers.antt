@@ -1,7 +1,7 @@
 use Rattle.std.proofs.Common.{sym, subst}
 use Rattle.exif_tiff.specs.Answers.{Answer}
 use Rattle.exif_reader.specs.Results.{Says}
-use Rattle.exif_reader.proofs.Unlimited.{unlimited}
+use Rattle.exif_reader.proofs.TiffLimits.{unlimited}
 use Rattle.exif_reader.proofs.tiff.parse.Goals as goal
 
 pub returns-clause-says : goal.returns-clause-says

@@ -1,5 +1,5 @@
 use Rattle.std.proofs.Common.{None}
-use Rattle.exif_reader.proofs.Bounded.{is_bounded, parses_bounded}
+use Rattle.exif_reader.proofs.ReaderBounds.{is_bounded, parses_bounded}
 use Rattle.exif_reader.proofs.tiff.parse_exif.Goals as goal
 
 pub returns-clause-bounded : goal.returns-clause-bounded

@@ -3,8 +3,8 @@ use Rattle.std.proofs.lemmas.Result.{err_from_is_err_and}
 use Rattle.exif_tiff.specs.Trace.{content_of, cut, ordered_trace}
 use Rattle.exif_tiff.specs.Answers.{answer_of}
 use Rattle.exif_reader.specs.Running.{outcome}
-use Rattle.exif_reader.proofs.Answered.{answered, says_stop}
-use Rattle.exif_reader.proofs.Outcomes.{met_noted}
+use Rattle.exif_reader.proofs.TiffAnswers.{answered, says_stop}
+use Rattle.exif_reader.proofs.TiffOutcomes.{met_noted}
 use Rattle.exif_reader.proofs.tiff.parse_in.Goals as goal
 use Rattle.exif_reader.proofs.tiff.parse_in.Goals.{in-Ok, in-Err-Fault+in_ok-met-in-Err-Fault}
 

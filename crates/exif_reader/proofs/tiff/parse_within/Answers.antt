@@ -1,5 +1,5 @@
 use Rattle.std.proofs.Common.{Some, sym, ◌∙◌}
-use Rattle.exif_reader.proofs.Answered.{raw_right, raw_wrong}
+use Rattle.exif_reader.proofs.TiffAnswers.{raw_right, raw_wrong}
 use Rattle.exif_reader.proofs.tiff.parse_within.Goals as goal
 
 pub returns-in-Ok-Big-clause-says : goal.returns-in-Ok-Big-clause-says

@@ -1,5 +1,5 @@
 use Rattle.std.proofs.Common.{refl}
-use Rattle.exif_report.proofs.Findings.{other_error, own_other}
+use Rattle.exif_report.proofs.ReportingFindings.{other_error, own_other}
 use Rattle.exif_report.proofs.reporting.found_of.Goals as goal
 
 pub returns-in_default : goal.returns-in_default

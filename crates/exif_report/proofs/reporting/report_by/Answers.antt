@@ -3,7 +3,7 @@ use Rattle.std.proofs.lemmas.Result.{err_from_is_err_and}
 use Rattle.exif_reader.specs.Files.{file_answer}
 use Rattle.exif_tiff.specs.Answers.{raw_answer}
 use Rattle.exif_containers.specs.Container.{container_answer}
-use Rattle.exif_report.proofs.Findings.{found, reports_whole, reports_front, reports_none, some_whole, some_front, some_none}
+use Rattle.exif_report.proofs.ReportingFindings.{found, reports_whole, reports_front, reports_none, some_whole, some_front, some_none}
 use Rattle.exif_report.proofs.reporting.report_by.Goals as goal
 
 pub returns-in_err-exif-clause-reports : goal.returns-in_err-exif-clause-reports

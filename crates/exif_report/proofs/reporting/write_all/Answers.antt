@@ -2,7 +2,7 @@ use Rattle.std.proofs.Common.{◌∙◌}
 use Rattle.std.proofs.lemmas.Result.{err_from_is_err_and}
 use Rattle.std.specs.List.{flat_map}
 use Rattle.exif_report.specs.Lines.{error_line}
-use Rattle.exif_report.proofs.Writing.{writes_then, writes_stop, writes_kept}
+use Rattle.exif_report.proofs.ReportingLines.{writes_then, writes_stop, writes_kept}
 use Rattle.exif_report.proofs.reporting.write_all.Goals as goal
 
 pub returns-in_err-write_fields : goal.returns-in_err-write_fields

@@ -1,7 +1,7 @@
 use Rattle.std.proofs.Common.{refl, ◌∙◌}
 use Rattle.std.proofs.lemmas.Result.{err_from_is_err_and}
 use Rattle.exif_report.specs.Lines.{error_line}
-use Rattle.exif_report.proofs.Writing.{sends_none, sends_member, sends_stop_member, sends_members, writes_members, writes_sent}
+use Rattle.exif_report.proofs.ReportingLines.{sends_none, sends_member, sends_stop_member, sends_members, writes_members, writes_sent}
 use Rattle.exif_report.proofs.reporting.write_errors.Goals as goal
 
 pub loop-error-init : goal.loop-error-init

@@ -1,7 +1,7 @@
 use Rattle.std.proofs.Common.{take}
 use Rattle.std.specs.List.{flat_map}
 use Rattle.exif_report.specs.Lines.{error_line}
-use Rattle.exif_report.proofs.Writing.{HasSent}
+use Rattle.exif_report.proofs.ReportingLines.{HasSent}
 use Rattle.exif_report.proofs.reporting.write_errors.Given as goal
 
 -- the lines so far were sent

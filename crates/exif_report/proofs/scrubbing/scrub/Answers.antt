@@ -6,7 +6,7 @@ use Rattle.exif_writer.specs.Refused.{write_fault}
 use Rattle.exif_writer.specs.Rewriting.{pushed_all}
 use Rattle.exif_writer.specs.Scrubbing.{kept, scrubbed, IsScrubbed}
 use Rattle.exif_base.specs.Orders.{order_named}
-use Rattle.exif_report.proofs.Findings.{on_err}
+use Rattle.exif_report.proofs.ReportingFindings.{on_err}
 use Rattle.exif_base.proofs.Sent.{keeps_same, front_none}
 use Rattle.exif_report.proofs.scrubbing.scrub.Goals as goal
 

@@ -1,4 +1,4 @@
-use Rattle.exif_show.proofs.Saying.{says_whole, says_front, says_none}
+use Rattle.exif_show.proofs.ProgramSaying.{says_whole, says_front, says_none}
 use Rattle.exif_base.proofs.Sent.{keeps_same, appends_kept, front_all}
 use Rattle.exif_show.proofs.program.say.Goals as goal
 

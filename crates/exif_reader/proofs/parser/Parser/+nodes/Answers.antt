@@ -3,8 +3,8 @@ use Rattle.std.proofs.Math.Nat.{sub-zero}
 use Rattle.std.proofs.lemmas.Result.{err_from_is_err_and}
 use Rattle.exif_tiff.specs.Trace.{Node, directory_nodes, entry_nodes, depth_of}
 use Rattle.exif_reader.specs.Running.{run}
-use Rattle.exif_reader.proofs.RunSteps.{directory_unfold}
-use Rattle.exif_reader.proofs.FollowSteps.{loop_on, loop_stop, pointer_stop, pointer_fault, end_next, end_fault}
+use Rattle.exif_reader.proofs.ParserRuns.{directory_unfold}
+use Rattle.exif_reader.proofs.ParserFollows.{loop_on, loop_stop, pointer_stop, pointer_fault, end_next, end_fault}
 use Rattle.exif_reader.proofs.parser.Parser.+nodes.Goals as goal
 
 pub directory-loop-init : goal.directory-loop-init

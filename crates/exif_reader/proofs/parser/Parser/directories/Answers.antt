@@ -1,6 +1,6 @@
 use Rattle.std.proofs.Common.{sym, ◌∙◌}
 use Rattle.std.proofs.lemmas.Result.{err_from_is_err_and}
-use Rattle.exif_reader.proofs.FollowSteps.{chain_on, chain_stop, chain_fault}
+use Rattle.exif_reader.proofs.ParserFollows.{chain_on, chain_stop, chain_fault}
 use Rattle.exif_reader.proofs.parser.Parser.directories.Goals as goal
 
 pub returns-in_err-directory : goal.returns-in_err-directory

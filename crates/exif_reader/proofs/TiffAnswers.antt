@@ -11,7 +11,7 @@ use Rattle.exif_reader.specs.Results.{Says}
 use Rattle.exif_reader.specs.Stops.{Follows}
 use Rattle.exif_reader.specs.declared.stop.Stop.{Stop}
 use Rattle.exif_reader.specs.declared.stop.Stop.TheVariants as stop
-use Rattle.exif_reader.proofs.Outcomes.{outcome_run, met_refused}
+use Rattle.exif_reader.proofs.TiffOutcomes.{outcome_run, met_refused}
 
 -- a header that is right leads to the directories
 pub raw_right : (lenient : Bool) (limit : Option ℕ) (bytes : List ℕ) (order : Order) → header bytes ≡ Ok order → raw_answer lenient limit bytes ≡ answer_of lenient (content_of (limited limit (ordered_trace (number_of order) bytes)))

@@ -12,7 +12,7 @@ use Rattle.exif_reader.specs.Stops.{Follows}
 use Rattle.exif_reader.specs.declared.stop.Stop.{Stop}
 use Rattle.exif_reader.specs.declared.stop.Stop.TheVariants as stop
 use Rattle.exif_tiff.specs.declared.fault.Fault.{Fault}
-use Rattle.exif_reader.proofs.RunSteps.{run-append, run_on, run_stop, run_one, spaced_step}
+use Rattle.exif_reader.proofs.ParserRuns.{run-append, run_on, run_stop, run_one, spaced_step}
 
 -- a stop in the first piece is a stop of the whole
 pub follows_stop : (e : Stop) (new : Progress) (xs ys : List Node) (p : Progress) (all : Progress × Option Fault) → run (xs ++ ys) p ≡ all → Follows (Err e) new (run xs p) → Follows (Err e) new all
