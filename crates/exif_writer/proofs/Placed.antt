@@ -1,42 +1,71 @@
 -- The places of a draft, each from the one before.
-use Rattle.std.proofs.Common.{◌≡◌, ℕ, ◌+◌, ◌%◌, ◌≤◌, refl, arith}
+use Rattle.std.proofs.Common.{◌≡◌, ℕ, ◌+◌, ◌%◌, ◌≤◌, ◌<◌, ◌^◌, List, ◌∙◌, ap, refl, arith}
 use Rattle.exif_table.specs.declared.context.Context.TheVariants.{Tiff, Exif, Gps, Interop}
 use Rattle.exif_writer.specs.declared.block_kind.BlockKind.TheVariants.{Strips, Tiles, Jpeg}
 use Rattle.exif_writer.specs.Slots.{Draft}
 use Rattle.exif_writer.specs.Places.{directory_len, after_values, after_blocks, tiff_place, exif_place, gps_place, interop_place, tiff_values, exif_values, gps_values, interop_values, strips_place, tiles_place, jpeg_place, draft_end}
 use Rattle.exif_writer.proofs.Images.Room.{places_grow}
 
--- what each place is
-pub record PlacesAre (draft : Draft) (start : ℕ) : Type 0 where
-  pub at_tiff : start + start % 2 ≡ tiff_place draft start
-  pub at_exif : tiff_place draft start + directory_len (draft.slots Tiff) ≡ exif_place draft start
-  pub at_gps : exif_place draft start + directory_len (draft.slots Exif) ≡ gps_place draft start
-  pub at_interop : gps_place draft start + directory_len (draft.slots Gps) ≡ interop_place draft start
-  pub at_tiff_values : interop_place draft start + directory_len (draft.slots Interop) ≡ tiff_values draft start
-  pub at_exif_values : after_values (tiff_values draft start) (draft.slots Tiff) ≡ exif_values draft start
-  pub at_gps_values : after_values (exif_values draft start) (draft.slots Exif) ≡ gps_values draft start
-  pub at_interop_values : after_values (gps_values draft start) (draft.slots Gps) ≡ interop_values draft start
-  pub at_strips : after_values (interop_values draft start) (draft.slots Interop) ≡ strips_place draft start
-  pub at_tiles : after_blocks (strips_place draft start) (draft.blocks Strips) ≡ tiles_place draft start
-  pub at_jpeg : after_blocks (tiles_place draft start) (draft.blocks Tiles) ≡ jpeg_place draft start
-  pub at_end : after_blocks (jpeg_place draft start) (draft.blocks Jpeg) ≡ draft_end draft start
+-- Each place, from the one before it.
+module _ (draft : Draft) (start : ℕ) where
+  pub tiff_is : start + start % 2 ≡ tiff_place draft start
+  unfolding tiff_place
+  tiff_is = refl
 
-pub places_are : (draft : Draft) (start : ℕ) → PlacesAre draft start
-unfolding tiff_place exif_place gps_place interop_place tiff_values exif_values gps_values interop_values strips_place tiles_place jpeg_place draft_end
-places_are draft start = record {
-  at_tiff = refl;
-  at_exif = refl;
-  at_gps = refl;
-  at_interop = refl;
-  at_tiff_values = refl;
-  at_exif_values = refl;
-  at_gps_values = refl;
-  at_interop_values = refl;
-  at_strips = refl;
-  at_tiles = refl;
-  at_jpeg = refl;
-  at_end = refl;
-}
+  -- the directories end behind all of them
+  pub directories_are : tiff_values draft start ≡ start + start % 2 + directory_len (draft.slots Tiff) + directory_len (draft.slots Exif)
+      + directory_len (draft.slots Gps) + directory_len (draft.slots Interop)
+  unfolding tiff_place exif_place gps_place interop_place tiff_values
+  directories_are = refl
+
+  -- the places of the directories
+  pub exif_place_at : {a : ℕ} → a ≡ directory_len (draft.slots Tiff) → start + start % 2 + a ≡ exif_place draft start
+  unfolding tiff_place exif_place
+  exif_place_at a = λ i. start + start % 2 + a i
+
+  pub gps_place_at : {a b : ℕ} → a ≡ directory_len (draft.slots Tiff) → b ≡ directory_len (draft.slots Exif) → start + start % 2 + a + b ≡ gps_place draft start
+  unfolding tiff_place exif_place gps_place
+  gps_place_at a b = λ i. start + start % 2 + a i + b i
+
+  pub interop_place_at : {a b c : ℕ} → a ≡ directory_len (draft.slots Tiff) → b ≡ directory_len (draft.slots Exif) → c ≡ directory_len (draft.slots Gps)
+      → start + start % 2 + a + b + c ≡ interop_place draft start
+  unfolding tiff_place exif_place gps_place interop_place
+  interop_place_at a b c = λ i. start + start % 2 + a i + b i + c i
+
+  pub tiff_values_at : {a b c d : ℕ} → a ≡ directory_len (draft.slots Tiff) → b ≡ directory_len (draft.slots Exif) → c ≡ directory_len (draft.slots Gps)
+      → d ≡ directory_len (draft.slots Interop) → start + start % 2 + a + b + c + d ≡ tiff_values draft start
+  unfolding tiff_place exif_place gps_place interop_place tiff_values
+  tiff_values_at a b c d = λ i. start + start % 2 + a i + b i + c i + d i
+
+  -- the ends of the values
+  pub exif_at : {tiff exif : ℕ} → tiff ≡ tiff_values draft start → exif ≡ after_values tiff (draft.slots Tiff) → exif ≡ exif_values draft start
+  unfolding exif_values
+  exif_at t e = e ∙ ap (λ p. after_values p (draft.slots Tiff)) t
+
+  pub gps_at : {exif gps : ℕ} → exif ≡ exif_values draft start → gps ≡ after_values exif (draft.slots Exif) → gps ≡ gps_values draft start
+  unfolding gps_values
+  gps_at t e = e ∙ ap (λ p. after_values p (draft.slots Exif)) t
+
+  pub interop_at : {gps interop : ℕ} → gps ≡ gps_values draft start → interop ≡ after_values gps (draft.slots Gps) → interop ≡ interop_values draft start
+  unfolding interop_values
+  interop_at t e = e ∙ ap (λ p. after_values p (draft.slots Gps)) t
+
+  pub strips_at : {interop strips : ℕ} → interop ≡ interop_values draft start → strips ≡ after_values interop (draft.slots Interop) → strips ≡ strips_place draft start
+  unfolding strips_place
+  strips_at t e = e ∙ ap (λ p. after_values p (draft.slots Interop)) t
+
+  -- the ends of the blocks
+  pub tiles_at : {strips tiles : ℕ} {blocks : List (List ℕ)} → strips ≡ strips_place draft start → blocks ≡ draft.blocks Strips → tiles ≡ after_blocks strips blocks → tiles ≡ tiles_place draft start
+  unfolding tiles_place
+  tiles_at t b e = e ∙ (λ i. after_blocks (t i) (b i))
+
+  pub jpeg_at : {tiles jpeg : ℕ} {blocks : List (List ℕ)} → tiles ≡ tiles_place draft start → blocks ≡ draft.blocks Tiles → jpeg ≡ after_blocks tiles blocks → jpeg ≡ jpeg_place draft start
+  unfolding jpeg_place
+  jpeg_at t b e = e ∙ (λ i. after_blocks (t i) (b i))
+
+  pub end_at : {jpeg end : ℕ} {blocks : List (List ℕ)} → jpeg ≡ jpeg_place draft start → blocks ≡ draft.blocks Jpeg → end ≡ after_blocks jpeg blocks → end ≡ draft_end draft start
+  unfolding draft_end
+  end_at t b e = e ∙ (λ i. after_blocks (t i) (b i))
 
 -- each place lies between the start and the end
 pub record IsBetween (start end place : ℕ) : Type 0 where
@@ -83,4 +112,32 @@ places_within draft start =
       in_strips = record { low = omega arith; high = omega arith };
       in_tiles = record { low = omega arith; high = omega arith };
       in_jpeg = record { low = omega arith; high = omega arith };
+    }
+
+-- 32 bits hold the places of the directories where they hold the end
+pub directories_fit : (draft : Draft) (start : ℕ) → draft_end draft start < 2 ^ 32
+    → start + start % 2 + directory_len (draft.slots Tiff) + directory_len (draft.slots Exif) + directory_len (draft.slots Gps) + directory_len (draft.slots Interop) < 2 ^ 32
+directories_fit draft start h = let e = directories_are draft start in let w = (places_within draft start).in_tiff_values.high in omega arith
+
+-- each place of values lies between the start and the end of the values
+pub record ValuesWithin (draft : Draft) (start : ℕ) : Type 0 where
+  pub in_tiff : IsBetween start (strips_place draft start) (tiff_values draft start)
+  pub in_exif : IsBetween start (strips_place draft start) (exif_values draft start)
+  pub in_gps : IsBetween start (strips_place draft start) (gps_values draft start)
+  pub in_interop : IsBetween start (strips_place draft start) (interop_values draft start)
+
+pub all_values_within : (draft : Draft) (start : ℕ) → ValuesWithin draft start
+all_values_within draft start =
+    let w = places_within draft start in
+    let a0 = w.in_tiff_values.low in
+    let g = places_grow draft start in
+    let a5 = g.exif_values_up in
+    let a6 = g.gps_values_up in
+    let a7 = g.interop_values_up in
+    let a8 = g.strips_up in
+    record {
+      in_tiff = record { low = omega arith; high = omega arith };
+      in_exif = record { low = omega arith; high = omega arith };
+      in_gps = record { low = omega arith; high = omega arith };
+      in_interop = record { low = omega arith; high = omega arith };
     }

@@ -1,12 +1,12 @@
 -- The cause of a list of groups, and the plans of its drafts, one group after another.
 use Rattle.std.proofs.Common.{◌≡◌, ℕ, zero, suc, ◌+◌, ◌<◌, ◌≤◌, ◌^◌, List, [], ◌∷◌, ◌++◌, length, map, take, drop, get_or, refl, sym, ap, subst, ◌∙◌, arith, append_assoc, true, false, Option, Some, None}
-use Rattle.std.specs.Prelude.{if◌then◌else◌, nat_lt, is_some, SomeIff, IsSome, ◌==◌}
-use Rattle.std.proofs.lemmas.Bool.{lt-ltb, le-ltb, eqb-true}
+use Rattle.std.specs.Prelude.{if◌then◌else◌, nat_lt, is_some, SomeIff, IsSome, Bool, ◌==◌}
+use Rattle.std.proofs.lemmas.Bool.{lt-ltb, le-ltb, eqb-true, eqb-false}
 use Rattle.exif_writer.specs.declared.write_fault.WriteFault.{WriteFault}
 use Rattle.exif_writer.specs.declared.write_fault.WriteFault.TheVariants.{NoDirectory, OffsetTooLarge}
-use Rattle.exif_writer.specs.Drafts.{IsSettledPlan, ArePlans}
+use Rattle.exif_writer.specs.Drafts.{HasRoom, IsSettledPlan, ArePlans, next_of}
 use Rattle.exif_writer.specs.declared.plan.Plan.{Plan}
-use Rattle.exif_writer.proofs.Placed.{places_are, places_within}
+use Rattle.exif_writer.proofs.Placed.{tiff_is, places_within}
 use Rattle.std.proofs.lemmas.List.{append-nil, drop_more, drop_all}
 use Rattle.exif_writer.specs.Groups.{Group, empty_group}
 use Rattle.exif_writer.specs.Places.{draft_end, drafts_end, next_place, even}
@@ -120,20 +120,22 @@ refused_never groups cause h e s near =
     sym (by_first groups None h (sym e ∙ none_of cause s) ∙ rw (le-ltb 4294967295 (drafts_end 8 (map draft_of groups)) (omega arith)) refl)
 
 -- where the next directory stands
-pub next_some : (end : ℕ) (groups : List Group) (i : ℕ) → i + 1 < length groups → even end ≡ next_place end (map draft_of (drop (i + 1) groups))
-next_some end groups i h =
+pub next_is : (end : ℕ) (groups : List Group) (i : ℕ) (last : Bool) → last ≡ (i + 1 == length groups) → i < length groups
+    → next_of end last ≡ next_place end (map draft_of (drop (i + 1) groups))
+next_is end groups i true e h =
+    let all = eqb-true (i + 1) (length groups) (sym e) in
+    sym (ap (λ r. next_place end (map draft_of r)) (drop_all (i + 1) groups (omega arith)))
+next_is end groups i false e h =
     let d : Group = get_or groups (i + 1) empty_group in
-    sym (ap (λ r. next_place end (map draft_of r)) (drop_more groups (i + 1) empty_group h))
-
-pub next_none : (end : ℕ) (groups : List Group) (i : ℕ) → length groups ≤ i + 1 → 0 ≡ next_place end (map draft_of (drop (i + 1) groups))
-next_none end groups i h = sym (ap (λ r. next_place end (map draft_of r)) (drop_all (i + 1) groups h))
+    let more = eqb-false (i + 1) (length groups) (sym e) in
+    sym (ap (λ r. next_place end (map draft_of r)) (drop_more groups (i + 1) empty_group (omega arith)))
 
 -- it stands before the end of the image
 pub next_within : (groups : List Group) (i : ℕ) → i < length groups → even (drafts_end 8 (map draft_of (take i groups))) ≤ drafts_end 8 (map draft_of groups)
 next_within groups i h =
     let x : Group = get_or groups i empty_group in
     let start : ℕ = drafts_end 8 (map draft_of (take i groups)) in
-    let at = (places_are (draft_of x) start).at_tiff in
+    let at = tiff_is (draft_of x) start in
     let high = (places_within (draft_of x) start).in_tiff.high in
     let within = ends_within 8 groups i x empty_group h refl in
     omega arith
@@ -184,11 +186,23 @@ written_within groups i start x d h k e s =
     let same = ap (draft_end (draft_of x)) s in
     omega arith
 
+-- each group can be planned where the one before it ends
+pub has_room : (groups : List Group) (i start : ℕ) (x d : Group) (last : Bool) → write_fault groups ≡ None → last ≡ (i + 1 == length groups) → i < length groups → x ≡ get_or groups i d
+    → start ≡ drafts_end 8 (map draft_of (take i groups)) → HasRoom x start last
+has_room groups i start x d last h e k at s =
+    record { fault = fault_at groups i x d (written_clean groups h) k at; end = written_within groups i start x d h k at s; next = next_room last e }
+  where
+    next_room : (l : Bool) → l ≡ (i + 1 == length groups) → next_of (draft_end (draft_of x) start) l < 2 ^ 32
+    next_room true e = omega arith
+    next_room false e =
+        let more = eqb-false (i + 1) (length groups) (sym e) in
+        let end = ends_more 8 groups i x d k at in
+        let same = ap (draft_end (draft_of x)) s in
+        let within = next_within groups (i + 1) (omega arith) in
+        let small = (not_refused groups h).small in
+        omega arith
+
 -- an answer that there is
 pub some_of : {T : Type 0} (P : Type 0) (v : T) (o : Option T) → SomeIff o P v → P → IsSome o
 some_of P v None h p = absurd (h p)
 some_of P v (Some x) h p = refl
-
-pub value_of_some : {T : Type 0} (P : Type 0) (v : T) (o : Option T) (x : T) → SomeIff o P v → o ≡ Some x → x ≡ v
-value_of_some P v None x h e = absurd cc
-value_of_some P v (Some y) x h e = (let k : y ≡ x = cc in sym k ∙ h.1)

@@ -22,8 +22,8 @@ use Rattle.exif_writer.proofs.Images.Words.{IsAccepted, IsKnown, AllKnown}
 use Rattle.exif_writer.proofs.Laid.{ArePlaces, are_places, size_is, IsSendable, image_is}
 use Rattle.exif_writer.proofs.Moved.{same_moved}
 use Rattle.exif_writer.specs.Drafts.{IsPlan, ArePlans}
-use Rattle.exif_writer.specs.Plans.{IsReadyDirectory, IsReadyPlan, sent_image}
-use Rattle.exif_writer.specs.Sending.{lens, sum_of, symbol, symbol_of, content_size, Settles, IsKnownContent, IsReady, values_end}
+use Rattle.exif_writer.specs.Plans.{CanSettle, IsReadyDirectory, IsReadyPlan, sent_image}
+use Rattle.exif_writer.specs.Sending.{lens, sum_of, symbol, symbol_of, content_size, Settles, IsKnownContent, IsMeasurable, IsReady, values_end}
 use Rattle.exif_writer.specs.declared.plan.Places.{Places}
 use Rattle.exif_writer.specs.declared.plan.Plan.{Plan}
 use Rattle.exif_writer.specs.declared.plan.Slot.{Slot}
@@ -60,11 +60,15 @@ len_total [] = refl
 len_total (text ∷ texts) = ap (λ n. length text + n) (len_total texts)
 
 -- where values end, of plans and of drafts
-ends_same : (values : ℕ) (slots : List Slot) → values_end values slots ≡ after_values values (map symbol slots)
+pub ends_same : (values : ℕ) (slots : List Slot) → values_end values slots ≡ after_values values (map symbol slots)
 ends_same values [] = refl
 ends_same values (slot ∷ slots) =
     ends_same (after_value values (content_size slot.content)) slots
     ∙ (λ i. after_values (after_value values ((sym (size_is slot.content)) i)) (map symbol slots))
+
+pub ends_at : (place : ℕ) {end : ℕ} {lent items : List Slot} {symbols : List format.Slot} → lent ≡ items → map symbol items ≡ symbols → end ≡ values_end place lent
+    → end ≡ after_values place symbols
+ends_at place {lent = lent} l s e = e ∙ ends_same place lent ∙ ap (after_values place) (ap (map symbol) l ∙ s)
 
 symbols_length : (slots : List Slot) → length (map symbol slots) ≡ length slots
 symbols_length [] = refl
@@ -75,6 +79,29 @@ known_content (Known value) k = sym (same_moved value.now 0).unknown ∙ k
 known_content (PlacesOf kind texts) k = tt
 known_content (LengthsOf kind texts) k = tt
 known_content (PlaceOf context) k = tt
+
+-- a directory of a group that is accepted, whose draft ends where 32 bits reach
+module _ (group : Group) (start : ℕ) (h : IsAccepted group) (room : draft_end (draft_of group) start ≤ 4294967295) where
+  measurable_slots : (slots : List Slot) → AllKnown (map symbol slots) → AllByRecursion (λ slot. content_len slot.content ≤ 4294967295) (map symbol slots)
+      → AllByRecursion IsMeasurable slots
+  measurable_slots [] b c = tt
+  measurable_slots (slot ∷ slots) b c = (
+    record { known = known_content slot.content b.0; room = (let size = size_is slot.content in let low = c.0 in omega arith) },
+    measurable_slots slots b.1 c.1,
+  )
+
+  pub can_settle : (context : Context) (slots : List Slot) (values : ℕ) → map symbol slots ≡ slots_of group context → values ≡ values_place (draft_of group) start context
+      → CanSettle values slots
+  can_settle context slots values e v =
+      let ends : after_values (values_place (draft_of group) start context) (slots_of group context) ≤ 4294967295 = le_trans (values_within (draft_of group) start context) room in
+      let B : List format.Slot → Type 0 = AllKnown in
+      let C : List format.Slot → Type 0 = AllByRecursion (λ slot. content_len slot.content ≤ 4294967295) in
+      let same : values_end values slots ≡ after_values (values_place (draft_of group) start context) (slots_of group context) = ends_same values slots ∙ (λ i. after_values (v i) (e i)) in
+      record {
+        measurable = measurable_slots slots (subst B (sym e) (known_slots group h context))
+            (subst C (sym e) (values_room (values_place (draft_of group) start context) 4294967295 (slots_of group context) ends (omega arith)));
+        room = omega arith;
+      }
 
 -- the plan of a group that is accepted, whose draft ends where 32 bits reach
 module _ (group : Group) (start next : ℕ) (plan : Plan) (is : IsPlan (draft_of group) start next plan) (h : IsAccepted group)
@@ -95,33 +122,22 @@ module _ (group : Group) (start next : ℕ) (plan : Plan) (is : IsPlan (draft_of
       omega arith
   settles (PlaceOf context) e = tt
 
-  ready_slots : (slots : List Slot) → AllByRecursion (λ slot. Holds group slot.content) (map symbol slots) → AllKnown (map symbol slots)
-      → AllByRecursion (λ slot. content_len slot.content ≤ 4294967295) (map symbol slots) → AllByRecursion (IsReady plan.places) slots
-  ready_slots [] a b c = tt
-  ready_slots (slot ∷ slots) a b c = (
-    record {
-      settles = settles slot.content a.0;
-      known = known_content slot.content b.0;
-      room = (let size = size_is slot.content in let low = c.0 in omega arith);
-    },
-    ready_slots slots a.1 b.1 c.1,
-  )
+  ready_slots : (slots : List Slot) → AllByRecursion (λ slot. Holds group slot.content) (map symbol slots) → AllByRecursion IsMeasurable slots
+      → AllByRecursion (IsReady plan.places) slots
+  ready_slots [] a b = tt
+  ready_slots (slot ∷ slots) a b = (record { settles = settles slot.content a.0; known = b.0.known; room = b.0.room }, ready_slots slots a.1 b.1)
 
   ready_directory : (context : Context) (slots : List Slot) (values : ℕ) → map symbol slots ≡ slots_of group context → values ≡ values_place (draft_of group) start context
       → IsReadyDirectory plan.places values slots
   ready_directory context slots values e v =
-      let ends : after_values (values_place (draft_of group) start context) (slots_of group context) ≤ 4294967295 = le_trans (values_within (draft_of group) start context) room in
+      let can = can_settle group start h room context slots values e v in
       let A : List format.Slot → Type 0 = AllByRecursion (λ slot. Holds group slot.content) in
-      let B : List format.Slot → Type 0 = AllKnown in
-      let C : List format.Slot → Type 0 = AllByRecursion (λ slot. content_len slot.content ≤ 4294967295) in
-      let same : values_end values slots ≡ after_values (values_place (draft_of group) start context) (slots_of group context) = ends_same values slots ∙ (λ i. after_values (v i) (e i)) in
       let few = h.few context in
       let count : length slots ≡ length (slots_of group context) = sym (symbols_length slots) ∙ ap length e in
       record {
         few = omega arith;
-        ready = ready_slots slots (subst A (sym e) (held group context)) (subst B (sym e) (known_slots group h context))
-            (subst C (sym e) (values_room (values_place (draft_of group) start context) 4294967295 (slots_of group context) ends (omega arith)));
-        room = omega arith;
+        ready = ready_slots slots (subst A (sym e) (held group context)) can.measurable;
+        room = can.room;
       }
 
   pub ready_plan : IsReadyPlan plan

@@ -1,7 +1,6 @@
 -- Slots settled one after the other.
 use Rattle.std.proofs.Common.{◌≡◌, ℕ, zero, suc, ◌+◌, ◌%◌, ◌<◌, ◌≤◌, List, [], ◌∷◌, ◌++◌, length, map, take, drop, get_or, refl, sym, ap, subst, ◌∙◌, arith, Bool, true, false}
 use Rattle.std.specs.Prelude.{if◌then◌else◌, nat_le, ◌==◌}
-use Rattle.std.specs.List.{AllByRecursion}
 use Rattle.std.proofs.Math.ListN.{set}
 use Rattle.std.proofs.lemmas.Bool.{true≢false}
 use Rattle.std.proofs.lemmas.List.{append-nil, take_all, drop_all, with_items_is}
@@ -10,8 +9,7 @@ use Rattle.std.specs.declared.vec.Vec.{Vec}
 use mir.Val.{bool_byte}
 use Rattle.exif_writer.specs.Slots as format
 use Rattle.exif_writer.specs.Places.{even, after_value}
-use Rattle.exif_writer.specs.Sending.{content_size, symbol, after_slot, values_end, settle_slot, settle, IsSettled, AreSettled, IsMeasurable, IsReady}
-use Rattle.exif_writer.specs.declared.plan.Places.{Places}
+use Rattle.exif_writer.specs.Sending.{content_size, symbol, after_slot, values_end, settle_slot, settle, IsSettled, AreSettled}
 use Rattle.exif_writer.specs.declared.plan.Slot.{Slot}
 
 -- the next slot is still as it was
@@ -59,11 +57,6 @@ settle_are start (slot ∷ slots) =
     let same : after_slot start slot ≡ after_slot start (settle_slot start slot) = ap (λ content. after_value start (content_size content)) (sym (content_same start slot)) in
     (settled_by start slot (nat_le (content_size slot.content) 4) refl, subst P same (settle_are (after_slot start slot) slots))
 
--- slots that can be sent can be settled
-pub measurable : (places : Places) (slots : List Slot) → AllByRecursion (IsReady places) slots → AllByRecursion IsMeasurable slots
-measurable places [] h = tt
-measurable places (slot ∷ slots) h = (record { known = h.0.known; room = h.0.room }, measurable places slots h.1)
-
 -- the zero before a value
 pub zeros_before : (start : ℕ) → start % 2 ≡ (if (start % 2 == 1) then 1 else 0)
 zeros_before start = one_bit (start % 2) (omega arith)
@@ -87,7 +80,7 @@ pub record IsSettling (start : ℕ) (symbols : List format.Slot) (slots : List S
   pub same : map symbol slots ≡ symbols
   pub are : AreSettled start slots
 
-pub settling : {Z : Type 0} (start : ℕ) (symbols : List format.Slot) (old : Vec Slot Z) (lent new : List Slot) → map symbol old.items ≡ symbols → lent ≡ old.items → new ≡ settle start lent
+settling : {Z : Type 0} (start : ℕ) (symbols : List format.Slot) (old : Vec Slot Z) (lent new : List Slot) → map symbol old.items ≡ symbols → lent ≡ old.items → new ≡ settle start lent
     → IsSettling start symbols (with_items old new).items
 settling start symbols old lent new same lend e =
     let is : new ≡ settle start old.items = e ∙ ap (settle start) lend in
@@ -95,3 +88,9 @@ settling start symbols old lent new same lend e =
     let whole : (with_items old new).items ≡ settle start old.items = with_items_is old new len ∙ is in
     let P : List Slot → Type 0 = AreSettled start in
     record { same = ap (map symbol) whole ∙ settle_same start old.items ∙ same; are = subst P (sym whole) (settle_are start old.items) }
+
+pub settling_at : {Z : Type 0} {start place : ℕ} {symbols : List format.Slot} → start ≡ place → (old : Vec Slot Z) {lent : List Slot} (new : List Slot) → map symbol old.items ≡ symbols → lent ≡ old.items
+    → new ≡ settle start lent → IsSettling place symbols (with_items old new).items
+settling_at {start = start} {symbols = symbols} at old {lent = lent} new same lend e =
+    let P : ℕ → Type 0 = λ p. IsSettling p symbols (with_items old new).items in
+    subst P at (settling start symbols old lent new same lend e)

@@ -1,10 +1,13 @@
 -- The plans of drafts: where everything of a draft stands, its entries and its blocks.
-use Rattle.std.specs.Prelude.{ℕ, ◌≡◌, List, [], ◌∷◌, map}
+use Rattle.std.specs.Prelude.{ℕ, ◌≡◌, ◌<◌, ◌^◌, Bool, None, if◌then◌else◌, List, [], ◌∷◌, map}
 use Rattle.exif_table.specs.declared.context.Context.TheVariants.{Tiff, Exif, Gps, Interop}
 use Rattle.exif_writer.specs.declared.block_kind.BlockKind.TheVariants.{Strips, Tiles, Jpeg}
-use Rattle.exif_writer.specs.Slots.{Draft}
-use Rattle.exif_writer.specs.Places.{tiff_place, exif_place, gps_place, interop_place, tiff_values, exif_values, gps_values, interop_values, strips_place, tiles_place, jpeg_place, draft_end, next_place}
+use Rattle.exif_writer.specs.Slots.{Draft, draft_of}
+use Rattle.exif_writer.specs.Groups.{Group}
+use Rattle.exif_writer.specs.Refused.{group_fault}
+use Rattle.exif_writer.specs.Places.{even, tiff_place, exif_place, gps_place, interop_place, tiff_values, exif_values, gps_values, interop_values, strips_place, tiles_place, jpeg_place, draft_end, next_place}
 use Rattle.exif_writer.specs.declared.plan.Places.{Places}
+use Rattle.exif_writer.specs.declared.plan.Directories.{Directories}
 use Rattle.exif_writer.specs.declared.plan.Plan.{Plan}
 use Rattle.exif_writer.specs.Sending.{symbol, AreSettled}
 use Rattle.exif_writer.specs.Views.{blocks_of}
@@ -27,6 +30,31 @@ places_of draft start next = record {
   end = draft_end draft start;
   next = next;
 }
+
+-- the place of the next directory of the chain; behind the last one there is none
+abbrev pub next_of : ℕ → Bool → ℕ
+next_of end last = if last then 0 else even end
+
+-- a group without a cause not to be written, whose places 32 bits hold
+pub record HasRoom (group : Group) (start : ℕ) (last : Bool) : Type 0 where
+  pub fault : group_fault group ≡ None
+  pub end : draft_end (draft_of group) start < 2 ^ 32
+  pub next : next_of (draft_end (draft_of group) start) last < 2 ^ 32
+
+-- the entries of a draft's directories
+pub record AreDirectories (draft : Draft) (directories : Directories) : Type 0 where
+  pub tiff : map symbol directories.tiff.items ≡ draft.slots Tiff
+  pub exif : map symbol directories.exif.items ≡ draft.slots Exif
+  pub gps : map symbol directories.gps.items ≡ draft.slots Gps
+  pub interop : map symbol directories.interop.items ≡ draft.slots Interop
+
+-- such entries whose sizes and places are settled
+pub record AreSettledDirectories (draft : Draft) (start : ℕ) (directories : Directories) : Type 0 where
+  pub are : AreDirectories draft directories
+  pub tiff : AreSettled (tiff_values draft start) directories.tiff.items
+  pub exif : AreSettled (exif_values draft start) directories.exif.items
+  pub gps : AreSettled (gps_values draft start) directories.gps.items
+  pub interop : AreSettled (interop_values draft start) directories.interop.items
 
 -- the plan of a draft that begins at a place
 pub record IsPlan (draft : Draft) (start next : ℕ) (plan : Plan) : Type 0 where

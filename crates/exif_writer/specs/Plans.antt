@@ -4,9 +4,14 @@ use Rattle.std.specs.List.{AllByRecursion, flat_map}
 use Rattle.exif_writer.specs.declared.plan.Places.{Places}
 use Rattle.exif_writer.specs.declared.plan.Slot.{Slot}
 use Rattle.exif_writer.specs.declared.plan.Plan.{Plan}
-use Rattle.exif_writer.specs.Sending.{IsReady, values_end, slots_text, values_text, blocks_text}
+use Rattle.exif_writer.specs.Sending.{IsReady, IsMeasurable, values_end, slots_text, values_text, blocks_text}
 use Rattle.exif_base.specs.declared.endian.Order.{Order}
 use Rattle.exif_writer.specs.Image.{header_text}
+
+-- a directory whose values can be settled from a place on
+pub record CanSettle (values : ℕ) (slots : List Slot) : Type 0 where
+  pub measurable : AllByRecursion IsMeasurable slots
+  pub room : values_end values slots ≤ 4294967295
 
 -- a directory that can be sent, whose values stand from a place on
 pub record IsReadyDirectory (places : Places) (values : ℕ) (slots : List Slot) : Type 0 where

@@ -1,19 +1,18 @@
-//! Why nothing is written, and where everything would stand, measured without memory.
+//! Why nothing is written, and where the image would end, measured without memory.
 
 ghost use Rattle.std.specs.Prelude.{◌≡◌, ◌+◌, ◌*◌, ◌<◌, ◌≤◌, ◌^◌, false, length, SomeIff, ◌-◌, ◌%◌, ◌++◌, [], ◌∷◌, List, map, IfSome, IfNone, None, IfOk};
 ghost use Rattle.exif_writer.specs.Encoding.{value_len};
-ghost use Rattle.exif_writer.specs.Places.{after_blocks, after_values, directory_len, draft_end, drafts_end};
+ghost use Rattle.exif_writer.specs.Places.{after_blocks, after_values, directory_len, tiff_values, strips_place, draft_end, drafts_end};
 ghost use Rattle.exif_writer.specs.Refused.{is_unknown, any_unknown, group_fault, first_group_fault, write_fault};
 ghost use Rattle.exif_writer.specs.Views.{blocks_of, set_in, entries_in};
 ghost use Rattle.exif_writer.specs.Tails.{Tells};
 ghost use Rattle.exif_writer.specs.Measuring.{MeasuredAs, span};
 ghost use Rattle.exif_writer.specs.Slots.{Slot, known, set_slots, content_len, in_tag_order, draft_of, slots_of, unsorted};
-ghost use Rattle.exif_writer.specs.Drafts.{places_of};
 ghost use Rattle.exif_writer.specs.Counting.{counted_len};
 
 use crate::block_kind::BlockKind;
 use crate::ifd::Ifd;
-use crate::plan::{Places, lengths_tag, places_tag};
+use crate::plan::{lengths_tag, places_tag};
 use crate::write_fault::WriteFault;
 use exif_types::{Context, Field, Value};
 
@@ -140,19 +139,37 @@ pub fn tail_of(fields: &[&Field]) -> Option<Tail>
 }
 
 // The length of a directory of so many entries; one with none isn't there.
-fn directory_len(entries: usize) -> usize
+fn directory_len(entries: usize) -> u32
     requires { entries ≤ 65535 }
-    ensures { result ≡ counted_len entries }
+    ensures len { result ≡ counted_len entries }
+    ensures few { result ≤ 6 + 12 * 65535 }
 {
-    if entries == 0 { 0 } else { 6 + 12 * entries }
+    if entries == 0 {
+        0
+    } else {
+        6 + 12 * entries as u32
+    }
 }
 
-// Where the directory of a context ends that begins at a place.
-fn directory_end(ifd: &Ifd, context: Context, place: u32) -> Option<u32>
+/// The length of the directory of a context.
+pub fn context_len(ifd: &Ifd, context: Context) -> u32
     requires { group_fault ifd.now ≡ None }
-    ensures { MeasuredAs result (place + directory_len (slots_of ifd.now context)) }
+    ensures len { result ≡ directory_len (slots_of ifd.now context) }
+    ensures few { result ≤ 6 + 12 * 65535 }
 {
-    end_of(place, directory_len(ifd.count(context)))
+    directory_len(ifd.count(context))
+}
+
+// Where the directories end of a directory of the chain that begins at a place.
+fn directories_end(ifd: &Ifd, start: u32) -> Option<u32>
+    requires { group_fault ifd.now ≡ None }
+    ensures { MeasuredAs result (tiff_values (draft_of ifd.now) start) }
+{
+    let len = context_len(ifd, Context::Tiff)
+        + context_len(ifd, Context::Exif)
+        + context_len(ifd, Context::Gps)
+        + context_len(ifd, Context::Interop);
+    start.checked_add(start % 2 + len)
 }
 
 // What is known of the values of a context: those of pushed fields and of strips and tiles, since
@@ -180,42 +197,29 @@ fn values_end(ifd: &Ifd, context: Context, place: u32) -> Option<u32>
     context_tail(ifd, context)?.end(place)
 }
 
-/// The places of the parts of the directory, its children and its blocks, which begin at a
-/// place; that of the next directory is left open.
-pub fn places(ifd: &Ifd, start: u32) -> Option<Places>
+// Where the values of all its directories end.
+fn all_values_end(ifd: &Ifd, start: u32) -> Option<u32>
     requires fault { group_fault ifd.now ≡ None }
     requires start { 0 < start }
-    ensures { SomeIff result (draft_end (draft_of ifd.now) start < 2 ^ 32)
-        (places_of (draft_of ifd.now) start 0) }
+    ensures { MeasuredAs result (strips_place (draft_of ifd.now) start) }
 {
-    let tiff = end_of(start, (start % 2) as usize)?;
-    let exif = directory_end(ifd, Context::Tiff, tiff)?;
-    let gps = directory_end(ifd, Context::Exif, exif)?;
-    let interop = directory_end(ifd, Context::Gps, gps)?;
-    let tiff_values = directory_end(ifd, Context::Interop, interop)?;
-    let exif_values = values_end(ifd, Context::Tiff, tiff_values)?;
-    let gps_values = values_end(ifd, Context::Exif, exif_values)?;
-    let interop_values = values_end(ifd, Context::Gps, gps_values)?;
-    let strips = values_end(ifd, Context::Interop, interop_values)?;
+    let tiff = directories_end(ifd, start)?;
+    let exif = values_end(ifd, Context::Tiff, tiff)?;
+    let gps = values_end(ifd, Context::Exif, exif)?;
+    let interop = values_end(ifd, Context::Gps, gps)?;
+    values_end(ifd, Context::Interop, interop)
+}
+
+// Where a directory of the chain that begins at a place ends, with its children and its blocks.
+fn end(ifd: &Ifd, start: u32) -> Option<u32>
+    requires fault { group_fault ifd.now ≡ None }
+    requires start { 0 < start }
+    ensures { MeasuredAs result (draft_end (draft_of ifd.now) start) }
+{
+    let strips = all_values_end(ifd, start)?;
     let tiles = blocks_end(strips, ifd.blocks(BlockKind::Strips))?;
     let jpeg = blocks_end(tiles, ifd.blocks(BlockKind::Tiles))?;
-    let end = blocks_end(jpeg, ifd.blocks(BlockKind::Jpeg))?;
-    Some(Places {
-        start,
-        tiff,
-        exif,
-        gps,
-        interop,
-        tiff_values,
-        exif_values,
-        gps_values,
-        interop_values,
-        strips,
-        tiles,
-        jpeg,
-        end,
-        next: 0,
-    })
+    blocks_end(jpeg, ifd.blocks(BlockKind::Jpeg))
 }
 
 /// The place of the first directory, right behind the header.
@@ -239,11 +243,11 @@ fn image_end(ifds: &[Ifd]) -> Option<u32>
     requires { first_group_fault ifds.now ≡ None }
     ensures { MeasuredAs result (drafts_end 8 (map draft_of ifds.now)) }
 {
-    let mut end = FIRST;
+    let mut place = FIRST;
     for ifd in ifds {
-        end = places(ifd, end)?.end;
+        place = end(ifd, place)?;
     }
-    Some(end)
+    Some(place)
 }
 
 /// Why nothing is written. It takes no memory.

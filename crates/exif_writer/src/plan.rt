@@ -1,19 +1,19 @@
 //! What is known of an image before its first byte is sent. All the memory of writing is taken
 //! here.
 
-ghost use Rattle.std.specs.Prelude.{ℕ, ◌≡◌, ◌≤◌, map, OnOk, ◌++◌, IfOk, length, None};
-ghost use Rattle.std.specs.List.{AllByRecursion};
+ghost use Rattle.std.specs.Prelude.{◌≡◌, ◌≤◌, map, OnOk, ◌++◌, IfOk, length, None};
 ghost use Rattle.exif_writer.specs.Sending.{symbol, symbol_of, IsKnownContent, content_type, content_count, content_size, settle, settle_slot, after_slot, values_end, IsMeasurable};
+ghost use Rattle.exif_writer.specs.Places.{after_blocks, draft_end};
 ghost use Rattle.exif_writer.specs.Groups.{places_tag, lengths_tag};
-ghost use Rattle.exif_writer.specs.Slots.{Draft, in_tag_order, draft_of, known, set_slots, pointer_slots};
-ghost use Rattle.exif_writer.specs.Drafts.{IsPlan, IsSettledPlan, places_of, ArePlans};
-ghost use Rattle.exif_writer.specs.Plans.{IsReadyPlan};
-ghost use Rattle.exif_writer.specs.Views.{set_in, entries_in};
+ghost use Rattle.exif_writer.specs.Slots.{in_tag_order, draft_of, known, set_slots, pointer_slots};
+ghost use Rattle.exif_writer.specs.Drafts.{AreDirectories, AreSettledDirectories, HasRoom, IsSettledPlan, next_of, places_of, ArePlans};
+ghost use Rattle.exif_writer.specs.Plans.{CanSettle};
+ghost use Rattle.exif_writer.specs.Views.{blocks_of, set_in, entries_in};
 ghost use Rattle.exif_writer.specs.Refused.{write_fault};
 
 use crate::block_kind::BlockKind;
 use crate::ifd::Ifd;
-use crate::measure::{FIRST, places, value_size};
+use crate::measure::{FIRST, context_len, value_size};
 use exif_types::{Context, Field, FieldType, Tag, Value};
 use std::alloc::{AllocError, Global};
 
@@ -178,31 +178,30 @@ pub fn sort(slots: &mut Vec<Slot>) -> Result<(), AllocError>
     slots.sort_by_key(|slot| slot.tag)
 }
 
-/// Settles the sizes and the places of values that stand one behind the other from a place on.
-pub fn settle(slots: &mut [Slot], start: u32)
-    requires measurable { AllByRecursion IsMeasurable slots.old }
-    requires room { values_end start slots.old ≤ 4294967295 }
-    ensures { slots.new ≡ settle start slots.old }
+/// Settles the sizes and the places of values that stand one behind the other from a place on;
+/// answers where they end.
+pub fn settle(slots: &mut [Slot], start: u32) -> u32
+    requires { CanSettle start slots.old }
+    ensures settled { slots.new ≡ settle start slots.old }
+    ensures end { result ≡ values_end start slots.old }
 {
     let mut end = start;
     for slot in slots.iter_mut() {
         end = slot.settle(end);
     }
+    end
 }
 
-impl<'a> Plan<'a> {
-    /// Settles the sizes and the places of all values.
-    pub fn settle(&mut self)
-        requires { IsReadyPlan self.old }
-        ensures { (draft : Draft) (start next : ℕ)
-            → IsPlan draft start next self.old
-            → IsSettledPlan draft start next self.new }
-    {
-        settle(&mut self.tiff, self.places.tiff_values);
-        settle(&mut self.exif, self.places.exif_values);
-        settle(&mut self.gps, self.places.gps_values);
-        settle(&mut self.interop, self.places.interop_values);
+// Where blocks end that begin at a place.
+fn after_blocks(place: u32, blocks: &[&[u8]]) -> u32
+    requires { after_blocks place (blocks_of blocks.now) ≤ 4294967295 }
+    ensures { result ≡ after_blocks place (blocks_of blocks.now) }
+{
+    let mut end = place;
+    for block in blocks {
+        end += block.len() as u32;
     }
+    end
 }
 
 /// The tag under which the places of blocks stand.
@@ -282,10 +281,18 @@ fn sorted_slots<'a>(alloc: Global, fields: &[&'a Field]) -> Result<Vec<Slot<'a>>
     Ok(slots)
 }
 
-// The plan of what stands at these places.
-fn plan_of<'b>(alloc: Global, ifd: &'b Ifd, places: Places) -> Result<Plan<'b>, AllocError>
-    requires { places ≡ places_of (draft_of ifd.now) places.start places.next }
-    ensures { IfOk result (IsPlan (draft_of ifd.now) places.start places.next) }
+// The entries of a directory of the chain and of its children, in tag order.
+#[derive(Drop)]
+struct Directories<'a> {
+    tiff: Vec<Slot<'a>>,
+    exif: Vec<Slot<'a>>,
+    gps: Vec<Slot<'a>>,
+    interop: Vec<Slot<'a>>,
+}
+
+// Those of a directory whose sizes and places are not settled.
+fn directories_of<'b>(alloc: Global, ifd: &'b Ifd) -> Result<Directories<'b>, AllocError>
+    ensures { IfOk result (AreDirectories (draft_of ifd.now)) }
 {
     let gps = sorted_slots(alloc, ifd.fields(Context::Gps))?;
     let interop = sorted_slots(alloc, ifd.fields(Context::Interop))?;
@@ -314,12 +321,79 @@ fn plan_of<'b>(alloc: Global, ifd: &'b Ifd, places: Places) -> Result<Plan<'b>, 
         gps.as_slice(),
     )?;
     sort(&mut tiff)?;
-    Ok(Plan {
-        places,
+    Ok(Directories {
         tiff,
         exif,
         gps,
         interop,
+    })
+}
+
+// The place of the next directory of the chain; behind the last one there is none.
+fn next_of(end: u32, last: bool) -> u32
+    requires { next_of end last ≤ 4294967295 }
+    ensures { result ≡ next_of end last }
+{
+    if last { 0 } else { end + end % 2 }
+}
+
+impl<'a> Directories<'a> {
+    // Settles where everything stands from a place on.
+    fn settle(&mut self, ifd: &Ifd, start: u32, last: bool) -> Places
+        requires directories { AreDirectories (draft_of ifd.now) self.old }
+        requires room { HasRoom ifd.now start last }
+        ensures places { result
+            ≡ places_of (draft_of ifd.now) start
+            (next_of (draft_end (draft_of ifd.now) start) last) }
+        ensures settled { AreSettledDirectories (draft_of ifd.now) start self.new }
+    {
+        let tiff = start + start % 2;
+        let exif = tiff + context_len(ifd, Context::Tiff);
+        let gps = exif + context_len(ifd, Context::Exif);
+        let interop = gps + context_len(ifd, Context::Gps);
+        let tiff_values = interop + context_len(ifd, Context::Interop);
+        let exif_values = settle(&mut self.tiff, tiff_values);
+        let gps_values = settle(&mut self.exif, exif_values);
+        let interop_values = settle(&mut self.gps, gps_values);
+        let strips = settle(&mut self.interop, interop_values);
+        let tiles = after_blocks(strips, ifd.blocks(BlockKind::Strips));
+        let jpeg = after_blocks(tiles, ifd.blocks(BlockKind::Tiles));
+        let end = after_blocks(jpeg, ifd.blocks(BlockKind::Jpeg));
+        let next = next_of(end, last);
+        Places {
+            start,
+            tiff,
+            exif,
+            gps,
+            interop,
+            tiff_values,
+            exif_values,
+            gps_values,
+            interop_values,
+            strips,
+            tiles,
+            jpeg,
+            end,
+            next,
+        }
+    }
+}
+
+// The plan of a directory that begins at a place and is the last one of the chain, or not.
+fn plan_of<'b>(alloc: Global, ifd: &'b Ifd, start: u32, last: bool) -> Result<Plan<'b>, AllocError>
+    requires { HasRoom ifd.now start last }
+    ensures { IfOk result
+        (IsSettledPlan (draft_of ifd.now) start
+        (next_of (draft_end (draft_of ifd.now) start) last)) }
+{
+    let mut directories = directories_of(alloc, ifd)?;
+    let places = directories.settle(ifd, start, last);
+    Ok(Plan {
+        places,
+        tiff: directories.tiff,
+        exif: directories.exif,
+        gps: directories.gps,
+        interop: directories.interop,
         strips: ifd.blocks(BlockKind::Strips),
         tiles: ifd.blocks(BlockKind::Tiles),
         jpeg: ifd.blocks(BlockKind::Jpeg),
@@ -334,13 +408,8 @@ pub fn plans<'b>(alloc: Global, ifds: &'b [Ifd]) -> Result<Vec<Plan<'b>>, AllocE
     let mut plans = Vec::with_capacity(alloc, ifds.len())?;
     let mut start = FIRST;
     for (index, ifd) in ifds.iter().enumerate() {
-        let mut places = places(ifd, start).unwrap();
-        start = places.end;
-        if index + 1 < ifds.len() {
-            places.next = start + start % 2;
-        }
-        let mut plan = plan_of(alloc, ifd, places)?;
-        plan.settle();
+        let plan = plan_of(alloc, ifd, start, index + 1 == ifds.len())?;
+        start = plan.places.end;
         plans.push(plan)?;
     }
     Ok(plans)

@@ -5,6 +5,6 @@ use Rattle.exif_writer.proofs.measure.image_end.Given as goal
 
 abbrev pub invariant-loop-ifd : goal.invariant-loop-ifd
 invariant-loop-ifd l = record {
-  end : l.end ≡ drafts_end 8 (map draft_of (take l.ifd-index l.ifds));
-  fits : l.end < 2 ^ 32;
+  end : l.place ≡ drafts_end 8 (map draft_of (take l.ifd-index l.ifds));
+  fits : l.place < 2 ^ 32;
 }

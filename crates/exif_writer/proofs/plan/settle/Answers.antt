@@ -1,7 +1,8 @@
 use Rattle.std.proofs.Common.{◌≡◌, ◌∙◌, get_or, ap, arith}
 use Rattle.std.proofs.Math.ListN.{set}
 use Rattle.exif_writer.specs.declared.plan.Slot.{Slot}
-use Rattle.exif_writer.specs.Sending.{settle_slot, after_slot, IsMeasurable}
+use Rattle.std.proofs.lemmas.List.{take_all}
+use Rattle.exif_writer.specs.Sending.{values_end, settle_slot, after_slot, IsMeasurable}
 use Rattle.exif_writer.proofs.Running.{state_more}
 use Rattle.exif_writer.proofs.Settling.{settle_at, settle_more, settle_all}
 use Rattle.exif_writer.proofs.SizeSteps.{all_at, slot_within}
@@ -37,5 +38,8 @@ loop-slot-preserved c =
           (c.settle-end.ensures.slot ∙ (λ i. settle_slot (c.loop-slot.invariant.end i) (at i)));
     }
 
-pub returns : goal.returns
-returns c = c.loop-slot.invariant.settled ∙ settle_all c.args.start c.args.slots.now c.loop-slot.slot-index c.loop-slot-test.false
+pub returns-clause-settled : goal.returns-clause-settled
+returns-clause-settled c = c.loop-slot.invariant.settled ∙ settle_all c.args.start c.args.slots.now c.loop-slot.slot-index c.loop-slot-test.false
+
+pub returns-clause-end : goal.returns-clause-end
+returns-clause-end c = c.loop-slot.invariant.end ∙ ap (values_end c.args.start) (take_all c.loop-slot.slot-index c.args.slots.now c.loop-slot-test.false)

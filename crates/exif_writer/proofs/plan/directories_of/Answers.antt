@@ -3,7 +3,7 @@ use Rattle.exif_writer.specs.Sending.{symbol}
 use Rattle.exif_table.specs.declared.context.Context.TheVariants.{Exif, Gps, Interop}
 use Rattle.exif_writer.specs.declared.block_kind.BlockKind.TheVariants.{Strips, Tiles, Jpeg}
 use Rattle.exif_writer.specs.Slots.{in_tag_order, known, set_slots, pointer_slots, tiff_slots, exif_slots, gps_slots, interop_slots}
-use Rattle.exif_writer.proofs.plan.plan_of.Goals as goal
+use Rattle.exif_writer.proofs.plan.directories_of.Goals as goal
 
 pub returns : goal.returns
 unfolding tiff_slots exif_slots gps_slots interop_slots
@@ -23,12 +23,8 @@ returns c =
     let with_exif = c.in_ok-push_pointer-2.ensures ∙ (λ i. jpeg i ++ pointer_slots 0x8769 Exif (exif_inner i)) in
     let with_gps = c.in_ok-push_pointer-3.ensures ∙ (λ i. with_exif i ++ pointer_slots 0x8825 Gps (gps_inner i)) in
     record {
-      places = c.requires;
       tiff = c.in_ok-sort-2.ensures ∙ ap in_tag_order with_gps;
       exif = exif;
       gps = gps;
       interop = interop;
-      strips = c.blocks-2.ensures;
-      tiles = c.blocks-3.ensures;
-      jpeg = c.blocks-4.ensures;
     }
