@@ -67,6 +67,20 @@ module _ (draft : Draft) (start : ℕ) where
   unfolding draft_end
   end_at t b e = e ∙ (λ i. after_blocks (t i) (b i))
 
+-- the places of values, and the end of the last ones
+pub record AreValuesPlaces (draft : Draft) (start tiff_at exif_at gps_at interop_at strips_at : ℕ) : Type 0 where
+  pub tiff : tiff_at ≡ tiff_values draft start
+  pub exif : exif_at ≡ exif_values draft start
+  pub gps : gps_at ≡ gps_values draft start
+  pub interop : interop_at ≡ interop_values draft start
+  pub strips : strips_at ≡ strips_place draft start
+
+-- the ends of blocks
+pub record AreBlocksPlaces (draft : Draft) (start tiles_at jpeg_at end_at : ℕ) : Type 0 where
+  pub tiles : tiles_at ≡ tiles_place draft start
+  pub jpeg : jpeg_at ≡ jpeg_place draft start
+  pub end : end_at ≡ draft_end draft start
+
 -- each place lies between the start and the end
 pub record IsBetween (start end place : ℕ) : Type 0 where
   pub low : start ≤ place

@@ -1,13 +1,35 @@
-use Rattle.std.proofs.Common.{◌∙◌, ap, arith, map, refl}
+use Rattle.std.proofs.Common.{◌≡◌, ◌∙◌, ◌+◌, ◌%◌, ap, arith, map, refl}
 use Rattle.exif_table.specs.declared.context.Context.TheVariants.{Tiff, Exif, Gps, Interop}
 use Rattle.exif_writer.proofs.Images.Whole.{accepted}
-use Rattle.exif_writer.proofs.Placed.{tiff_is, exif_place_at, gps_place_at, interop_place_at, tiff_values_at, exif_at, gps_at, interop_at, strips_at, tiles_at, jpeg_at, end_at, directories_fit, places_within}
+use Rattle.exif_writer.proofs.Placed.{AreValuesPlaces, AreBlocksPlaces, tiff_is, exif_place_at, gps_place_at, interop_place_at, tiff_values_at, exif_at, gps_at, interop_at, strips_at, tiles_at, jpeg_at, end_at, directories_fit, places_within}
 use Rattle.exif_writer.proofs.Ready.{can_settle, ends_at}
 use Rattle.exif_writer.proofs.Settling.{settling_at}
 use Rattle.exif_writer.specs.Drafts.{next_of}
+use Rattle.exif_writer.specs.Places.{strips_place}
 use Rattle.exif_writer.specs.Sending.{symbol}
 use Rattle.exif_writer.specs.Slots.{draft_of}
 use Rattle.exif_writer.proofs.plan.Directories.settle.Goals as goal
+use Rattle.exif_writer.proofs.plan.Directories.settle.Goals.{After-settle-strips, After-after_blocks-end}
+
+-- the places of the values, once they are settled
+values_here : (c : After-settle-strips) → AreValuesPlaces (draft_of c.args.ifd.now) c.args.start
+    (c.args.start + c.args.start % 2 + c.context_len.result + c.context_len-2.result + c.context_len-3.result + c.context_len-4.result)
+    c.settle-exif_values.result c.settle-gps_values.result c.settle-interop_values.result c.settle-strips.result
+values_here c =
+    let tiff = tiff_values_at (draft_of c.args.ifd.now) c.args.start c.context_len.ensures.len c.context_len-2.ensures.len c.context_len-3.ensures.len c.context_len-4.ensures.len in
+    let exif = exif_at (draft_of c.args.ifd.now) c.args.start tiff (ends_at _ c.deref_mut.ensures.value c.requires.directories.tiff c.settle-exif_values.ensures.end) in
+    let gps = gps_at (draft_of c.args.ifd.now) c.args.start exif (ends_at _ c.deref_mut-2.ensures.value c.requires.directories.exif c.settle-gps_values.ensures.end) in
+    let interop = interop_at (draft_of c.args.ifd.now) c.args.start gps (ends_at _ c.deref_mut-3.ensures.value c.requires.directories.gps c.settle-interop_values.ensures.end) in
+    let strips = strips_at (draft_of c.args.ifd.now) c.args.start interop (ends_at _ c.deref_mut-4.ensures.value c.requires.directories.interop c.settle-strips.ensures.end) in
+    record { tiff = tiff; exif = exif; gps = gps; interop = interop; strips = strips }
+
+-- the ends of the blocks
+blocks_here : (c : After-after_blocks-end) → c.settle-strips.result ≡ strips_place (draft_of c.args.ifd.now) c.args.start → AreBlocksPlaces (draft_of c.args.ifd.now) c.args.start c.after_blocks-tiles.result c.after_blocks-jpeg.result c.after_blocks-end.result
+blocks_here c strips =
+    let tiles = tiles_at (draft_of c.args.ifd.now) c.args.start strips c.blocks-2.ensures c.after_blocks-tiles.ensures in
+    let jpeg = jpeg_at (draft_of c.args.ifd.now) c.args.start tiles c.blocks-3.ensures c.after_blocks-jpeg.ensures in
+    let end = end_at (draft_of c.args.ifd.now) c.args.start jpeg c.blocks-4.ensures c.after_blocks-end.ensures in
+    record { tiles = tiles; jpeg = jpeg; end = end }
 
 pub overflow_add-tiff : goal.overflow_add-tiff
 overflow_add-tiff c =
@@ -76,11 +98,7 @@ settle-strips-requires c =
 
 pub after_blocks-tiles-requires : goal.after_blocks-tiles-requires
 after_blocks-tiles-requires c =
-    let tiff = tiff_values_at (draft_of c.args.ifd.now) c.args.start c.context_len.ensures.len c.context_len-2.ensures.len c.context_len-3.ensures.len c.context_len-4.ensures.len in
-    let exif = exif_at (draft_of c.args.ifd.now) c.args.start tiff (ends_at _ c.deref_mut.ensures.value c.requires.directories.tiff c.settle-exif_values.ensures.end) in
-    let gps = gps_at (draft_of c.args.ifd.now) c.args.start exif (ends_at _ c.deref_mut-2.ensures.value c.requires.directories.exif c.settle-gps_values.ensures.end) in
-    let interop = interop_at (draft_of c.args.ifd.now) c.args.start gps (ends_at _ c.deref_mut-3.ensures.value c.requires.directories.gps c.settle-interop_values.ensures.end) in
-    let strips = strips_at (draft_of c.args.ifd.now) c.args.start interop (ends_at _ c.deref_mut-4.ensures.value c.requires.directories.interop c.settle-strips.ensures.end) in
+    let strips = (values_here (goal.at.after_blocks-tiles-requires c).After-settle-strips).strips in
     let tiles = tiles_at (draft_of c.args.ifd.now) c.args.start strips c.blocks-2.ensures refl in
     let within = (places_within (draft_of c.args.ifd.now) c.args.start).in_tiles.high in
     let room = c.requires.room.end in
@@ -88,11 +106,7 @@ after_blocks-tiles-requires c =
 
 pub after_blocks-jpeg-requires : goal.after_blocks-jpeg-requires
 after_blocks-jpeg-requires c =
-    let tiff = tiff_values_at (draft_of c.args.ifd.now) c.args.start c.context_len.ensures.len c.context_len-2.ensures.len c.context_len-3.ensures.len c.context_len-4.ensures.len in
-    let exif = exif_at (draft_of c.args.ifd.now) c.args.start tiff (ends_at _ c.deref_mut.ensures.value c.requires.directories.tiff c.settle-exif_values.ensures.end) in
-    let gps = gps_at (draft_of c.args.ifd.now) c.args.start exif (ends_at _ c.deref_mut-2.ensures.value c.requires.directories.exif c.settle-gps_values.ensures.end) in
-    let interop = interop_at (draft_of c.args.ifd.now) c.args.start gps (ends_at _ c.deref_mut-3.ensures.value c.requires.directories.gps c.settle-interop_values.ensures.end) in
-    let strips = strips_at (draft_of c.args.ifd.now) c.args.start interop (ends_at _ c.deref_mut-4.ensures.value c.requires.directories.interop c.settle-strips.ensures.end) in
+    let strips = (values_here (goal.at.after_blocks-jpeg-requires c).After-settle-strips).strips in
     let tiles = tiles_at (draft_of c.args.ifd.now) c.args.start strips c.blocks-2.ensures c.after_blocks-tiles.ensures in
     let jpeg = jpeg_at (draft_of c.args.ifd.now) c.args.start tiles c.blocks-3.ensures refl in
     let within = (places_within (draft_of c.args.ifd.now) c.args.start).in_jpeg.high in
@@ -101,11 +115,7 @@ after_blocks-jpeg-requires c =
 
 pub after_blocks-end-requires : goal.after_blocks-end-requires
 after_blocks-end-requires c =
-    let tiff = tiff_values_at (draft_of c.args.ifd.now) c.args.start c.context_len.ensures.len c.context_len-2.ensures.len c.context_len-3.ensures.len c.context_len-4.ensures.len in
-    let exif = exif_at (draft_of c.args.ifd.now) c.args.start tiff (ends_at _ c.deref_mut.ensures.value c.requires.directories.tiff c.settle-exif_values.ensures.end) in
-    let gps = gps_at (draft_of c.args.ifd.now) c.args.start exif (ends_at _ c.deref_mut-2.ensures.value c.requires.directories.exif c.settle-gps_values.ensures.end) in
-    let interop = interop_at (draft_of c.args.ifd.now) c.args.start gps (ends_at _ c.deref_mut-3.ensures.value c.requires.directories.gps c.settle-interop_values.ensures.end) in
-    let strips = strips_at (draft_of c.args.ifd.now) c.args.start interop (ends_at _ c.deref_mut-4.ensures.value c.requires.directories.interop c.settle-strips.ensures.end) in
+    let strips = (values_here (goal.at.after_blocks-end-requires c).After-settle-strips).strips in
     let tiles = tiles_at (draft_of c.args.ifd.now) c.args.start strips c.blocks-2.ensures c.after_blocks-tiles.ensures in
     let jpeg = jpeg_at (draft_of c.args.ifd.now) c.args.start tiles c.blocks-3.ensures c.after_blocks-jpeg.ensures in
     let end = end_at (draft_of c.args.ifd.now) c.args.start jpeg c.blocks-4.ensures refl in
@@ -114,59 +124,44 @@ after_blocks-end-requires c =
 
 pub next_of-next-requires : goal.next_of-next-requires
 next_of-next-requires c =
-    let tiff = tiff_values_at (draft_of c.args.ifd.now) c.args.start c.context_len.ensures.len c.context_len-2.ensures.len c.context_len-3.ensures.len c.context_len-4.ensures.len in
-    let exif = exif_at (draft_of c.args.ifd.now) c.args.start tiff (ends_at _ c.deref_mut.ensures.value c.requires.directories.tiff c.settle-exif_values.ensures.end) in
-    let gps = gps_at (draft_of c.args.ifd.now) c.args.start exif (ends_at _ c.deref_mut-2.ensures.value c.requires.directories.exif c.settle-gps_values.ensures.end) in
-    let interop = interop_at (draft_of c.args.ifd.now) c.args.start gps (ends_at _ c.deref_mut-3.ensures.value c.requires.directories.gps c.settle-interop_values.ensures.end) in
-    let strips = strips_at (draft_of c.args.ifd.now) c.args.start interop (ends_at _ c.deref_mut-4.ensures.value c.requires.directories.interop c.settle-strips.ensures.end) in
-    let tiles = tiles_at (draft_of c.args.ifd.now) c.args.start strips c.blocks-2.ensures c.after_blocks-tiles.ensures in
-    let jpeg = jpeg_at (draft_of c.args.ifd.now) c.args.start tiles c.blocks-3.ensures c.after_blocks-jpeg.ensures in
-    let end = end_at (draft_of c.args.ifd.now) c.args.start jpeg c.blocks-4.ensures c.after_blocks-end.ensures in
+    let strips = (values_here (goal.at.next_of-next-requires c).After-settle-strips).strips in
+    let end = (blocks_here (goal.at.next_of-next-requires c).After-after_blocks-end strips).end in
     let room = c.requires.room.next in
     let next = ap (λ e. next_of e c.args.last) end in
     omega arith
 
 pub returns-clause-places : goal.returns-clause-places
 returns-clause-places c =
-    let tiff = tiff_values_at (draft_of c.args.ifd.now) c.args.start c.context_len.ensures.len c.context_len-2.ensures.len c.context_len-3.ensures.len c.context_len-4.ensures.len in
-    let exif = exif_at (draft_of c.args.ifd.now) c.args.start tiff (ends_at _ c.deref_mut.ensures.value c.requires.directories.tiff c.settle-exif_values.ensures.end) in
-    let gps = gps_at (draft_of c.args.ifd.now) c.args.start exif (ends_at _ c.deref_mut-2.ensures.value c.requires.directories.exif c.settle-gps_values.ensures.end) in
-    let interop = interop_at (draft_of c.args.ifd.now) c.args.start gps (ends_at _ c.deref_mut-3.ensures.value c.requires.directories.gps c.settle-interop_values.ensures.end) in
-    let strips = strips_at (draft_of c.args.ifd.now) c.args.start interop (ends_at _ c.deref_mut-4.ensures.value c.requires.directories.interop c.settle-strips.ensures.end) in
-    let tiles = tiles_at (draft_of c.args.ifd.now) c.args.start strips c.blocks-2.ensures c.after_blocks-tiles.ensures in
-    let jpeg = jpeg_at (draft_of c.args.ifd.now) c.args.start tiles c.blocks-3.ensures c.after_blocks-jpeg.ensures in
-    let end = end_at (draft_of c.args.ifd.now) c.args.start jpeg c.blocks-4.ensures c.after_blocks-end.ensures in
+    let values = values_here (goal.at.returns-clause-places c).After-settle-strips in
+    let blocks = blocks_here (goal.at.returns-clause-places c).After-after_blocks-end values.strips in
     λ i. record {
       start = c.args.start;
       tiff = tiff_is (draft_of c.args.ifd.now) c.args.start i;
       exif = exif_place_at (draft_of c.args.ifd.now) c.args.start c.context_len.ensures.len i;
       gps = gps_place_at (draft_of c.args.ifd.now) c.args.start c.context_len.ensures.len c.context_len-2.ensures.len i;
       interop = interop_place_at (draft_of c.args.ifd.now) c.args.start c.context_len.ensures.len c.context_len-2.ensures.len c.context_len-3.ensures.len i;
-      tiff_values = tiff i;
-      exif_values = exif i;
-      gps_values = gps i;
-      interop_values = interop i;
-      strips = strips i;
-      tiles = tiles i;
-      jpeg = jpeg i;
-      end = end i;
-      next = (c.next_of-next.ensures ∙ ap (λ e. next_of e c.args.last) end) i;
+      tiff_values = values.tiff i;
+      exif_values = values.exif i;
+      gps_values = values.gps i;
+      interop_values = values.interop i;
+      strips = values.strips i;
+      tiles = blocks.tiles i;
+      jpeg = blocks.jpeg i;
+      end = blocks.end i;
+      next = (c.next_of-next.ensures ∙ ap (λ e. next_of e c.args.last) blocks.end) i;
     }
 
 pub returns-clause-settled : goal.returns-clause-settled
 returns-clause-settled c =
-    let tiff = tiff_values_at (draft_of c.args.ifd.now) c.args.start c.context_len.ensures.len c.context_len-2.ensures.len c.context_len-3.ensures.len c.context_len-4.ensures.len in
-    let exif = exif_at (draft_of c.args.ifd.now) c.args.start tiff (ends_at _ c.deref_mut.ensures.value c.requires.directories.tiff c.settle-exif_values.ensures.end) in
-    let gps = gps_at (draft_of c.args.ifd.now) c.args.start exif (ends_at _ c.deref_mut-2.ensures.value c.requires.directories.exif c.settle-gps_values.ensures.end) in
-    let interop = interop_at (draft_of c.args.ifd.now) c.args.start gps (ends_at _ c.deref_mut-3.ensures.value c.requires.directories.gps c.settle-interop_values.ensures.end) in
-    let tiff_slots = settling_at tiff c.args.self.now.tiff c.settle-exif_values.new.slots c.requires.directories.tiff c.deref_mut.ensures.value c.settle-exif_values.ensures.settled in
-    let exif_slots = settling_at exif c.args.self.now.exif c.settle-gps_values.new.slots c.requires.directories.exif c.deref_mut-2.ensures.value c.settle-gps_values.ensures.settled in
-    let gps_slots = settling_at gps c.args.self.now.gps c.settle-interop_values.new.slots c.requires.directories.gps c.deref_mut-3.ensures.value c.settle-interop_values.ensures.settled in
-    let interop_slots = settling_at interop c.args.self.now.interop c.settle-strips.new.slots c.requires.directories.interop c.deref_mut-4.ensures.value c.settle-strips.ensures.settled in
+    let values = values_here (goal.at.returns-clause-settled c).After-settle-strips in
+    let tiff = settling_at values.tiff c.args.self.now.tiff c.settle-exif_values.new.slots c.requires.directories.tiff c.deref_mut.ensures.value c.settle-exif_values.ensures.settled in
+    let exif = settling_at values.exif c.args.self.now.exif c.settle-gps_values.new.slots c.requires.directories.exif c.deref_mut-2.ensures.value c.settle-gps_values.ensures.settled in
+    let gps = settling_at values.gps c.args.self.now.gps c.settle-interop_values.new.slots c.requires.directories.gps c.deref_mut-3.ensures.value c.settle-interop_values.ensures.settled in
+    let interop = settling_at values.interop c.args.self.now.interop c.settle-strips.new.slots c.requires.directories.interop c.deref_mut-4.ensures.value c.settle-strips.ensures.settled in
     record {
-      are = record { tiff = tiff_slots.same; exif = exif_slots.same; gps = gps_slots.same; interop = interop_slots.same };
-      tiff = tiff_slots.are;
-      exif = exif_slots.are;
-      gps = gps_slots.are;
-      interop = interop_slots.are;
+      are = record { tiff = tiff.same; exif = exif.same; gps = gps.same; interop = interop.same };
+      tiff = tiff.are;
+      exif = exif.are;
+      gps = gps.are;
+      interop = interop.are;
     }
