@@ -49,7 +49,8 @@ pub record AreDirectories (draft : Draft) (directories : Directories) : Type 0 w
   pub interop : map symbol directories.interop.items ≡ draft.slots Interop
 
 -- such entries whose sizes and places are settled
-pub record AreSettledDirectories (draft : Draft) (start : ℕ) (directories : Directories) : Type 0 where
+pub record AreSettledDirectories (draft : Draft) (start : ℕ) (directories : Directories)
+    : Type 0 where
   pub are : AreDirectories draft directories
   pub tiff : AreSettled (tiff_values draft start) directories.tiff.items
   pub exif : AreSettled (exif_values draft start) directories.exif.items
