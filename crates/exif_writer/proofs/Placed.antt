@@ -88,13 +88,7 @@ pub record IsBetween (start end place : ℕ) : Type 0 where
 
 pub record PlacesWithin (draft : Draft) (start : ℕ) : Type 0 where
   pub in_tiff : IsBetween start (draft_end draft start) (tiff_place draft start)
-  pub in_exif : IsBetween start (draft_end draft start) (exif_place draft start)
-  pub in_gps : IsBetween start (draft_end draft start) (gps_place draft start)
-  pub in_interop : IsBetween start (draft_end draft start) (interop_place draft start)
   pub in_tiff_values : IsBetween start (draft_end draft start) (tiff_values draft start)
-  pub in_exif_values : IsBetween start (draft_end draft start) (exif_values draft start)
-  pub in_gps_values : IsBetween start (draft_end draft start) (gps_values draft start)
-  pub in_interop_values : IsBetween start (draft_end draft start) (interop_values draft start)
   pub in_strips : IsBetween start (draft_end draft start) (strips_place draft start)
   pub in_tiles : IsBetween start (draft_end draft start) (tiles_place draft start)
   pub in_jpeg : IsBetween start (draft_end draft start) (jpeg_place draft start)
@@ -116,13 +110,7 @@ places_within draft start =
     let a11 = g.end_up in
     record {
       in_tiff = record { low = omega arith; high = omega arith };
-      in_exif = record { low = omega arith; high = omega arith };
-      in_gps = record { low = omega arith; high = omega arith };
-      in_interop = record { low = omega arith; high = omega arith };
       in_tiff_values = record { low = omega arith; high = omega arith };
-      in_exif_values = record { low = omega arith; high = omega arith };
-      in_gps_values = record { low = omega arith; high = omega arith };
-      in_interop_values = record { low = omega arith; high = omega arith };
       in_strips = record { low = omega arith; high = omega arith };
       in_tiles = record { low = omega arith; high = omega arith };
       in_jpeg = record { low = omega arith; high = omega arith };
