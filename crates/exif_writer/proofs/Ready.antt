@@ -19,8 +19,8 @@ use Rattle.exif_writer.proofs.Images.Shares.{always}
 use Rattle.exif_writer.proofs.Images.Slots.{all_slots}
 use Rattle.exif_writer.proofs.Images.Whole.{known_slots, not_refused}
 use Rattle.exif_writer.proofs.Images.Words.{IsAccepted, IsKnown, AllKnown}
-use Rattle.exif_writer.proofs.Laid.{ArePlaces, are_places, size_is, IsSendable, image_is}
-use Rattle.exif_writer.proofs.Moved.{same_moved}
+use Rattle.exif_writer.proofs.SendLaid.{ArePlaces, are_places, size_is, IsSendable, image_is}
+use Rattle.exif_writer.proofs.SendMoved.{same_moved}
 use Rattle.exif_writer.specs.Drafts.{IsPlan, ArePlans}
 use Rattle.exif_writer.specs.Plans.{CanSettle, IsReadyDirectory, IsReadyPlan, sent_image}
 use Rattle.exif_writer.specs.Sending.{lens, sum_of, symbol, symbol_of, content_size, Settles, IsKnownContent, IsMeasurable, IsReady, values_end}

@@ -218,7 +218,7 @@ impl<'a> Ifd<'a> {
     }
 
     // Whether a value's type is not known.
-    #[tactic(auto, using(crate::proofs::Counted::unknown_in))]
+    #[tactic(auto, using(crate::proofs::IfdCounts::unknown_in))]
     fn has_unknown(&self) -> bool
         ensures { result ≡ list_any (λ context. any_unknown (pushed_in self.now context)) contexts }
     {

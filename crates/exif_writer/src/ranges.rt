@@ -66,7 +66,7 @@ impl Ranged for SRational {
 }
 
 // Each of the numbers fits.
-#[tactic(auto, using(crate::proofs::RangeSteps::all_more, crate::proofs::RangeSteps::all_taken))]
+#[tactic(auto, using(crate::proofs::RangesMembers::all_more, crate::proofs::RangesMembers::all_taken))]
 fn show_all<T: Ranged>(items: &[T])
     ensures { All T.fits items.now }
 {

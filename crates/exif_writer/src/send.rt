@@ -67,7 +67,7 @@ fn send_lengths<W: Sink>(out: &mut W, order: Order, blocks: &[&[u8]]) -> io::Res
     Ok(())
 }
 
-#[tactic(auto, using(crate::proofs::Moved::encode_moved))]
+#[tactic(auto, using(crate::proofs::SendMoved::encode_moved))]
 impl<'a> Content<'a> {
     // Sends the bytes of the value.
     fn send<W: Sink>(&self, out: &mut W, order: Order, places: &Places) -> io::Result<()>
@@ -84,7 +84,7 @@ impl<'a> Content<'a> {
     }
 }
 
-#[tactic(auto, using(crate::proofs::SizeSteps::count_within))]
+#[tactic(auto, using(crate::proofs::SendSizes::count_within))]
 impl<'a> Slot<'a> {
     // Sends the last four bytes of the entry.
     fn send_element<W: Sink>(&self, out: &mut W, order: Order, places: &Places) -> io::Result<()>

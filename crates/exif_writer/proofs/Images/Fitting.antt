@@ -1,7 +1,7 @@
 -- In groups that a writer may hold, which are written and whose texts hold no zero byte, each entry
 -- of each directory is read as what it is.
 use Rattle.exif_types.specs.Sound.{HasPlainTexts}
-use Rattle.exif_writer.proofs.Moved.{moved_by}
+use Rattle.exif_writer.proofs.SendMoved.{moved_by}
 use Rattle.std.proofs.Common.{◌≡◌, ℕ, ◌<◌, ◌^◌, List, [], ◌∷◌, length, refl, sym, ap, arith, false, map, Option, Some, None}
 use Rattle.std.specs.Prelude.{◌==◌, ◌≢◌}
 use Rattle.std.specs.List.{All, AllByRecursion}

@@ -1,5 +1,5 @@
 -- What the flat fields of a draft add to a directory when they are pushed: the entries that were pushed there, in tag order.
-use Rattle.exif_writer.proofs.Moved.{moved_twice}
+use Rattle.exif_writer.proofs.SendMoved.{moved_twice}
 use Rattle.std.proofs.Common.{◌≡◌, ℕ, suc, ◌+◌, List, [], ◌∷◌, ◌++◌, refl, ap, ◌∙◌, Bool, true, false, cond}
 use Rattle.std.specs.Prelude.{if◌then◌else◌, ◌==◌, nat_le, not}
 use Rattle.std.specs.List.{AllByRecursion, flat_map, filter}

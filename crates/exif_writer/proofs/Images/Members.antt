@@ -16,7 +16,7 @@ use Rattle.exif_writer.specs.Flat.{field_of, entry_fields, directory_fields, fla
 use Rattle.exif_tiff.proofs.Members.{all_append}
 use Rattle.exif_writer.proofs.Images.Slots.{all_slots}
 use Rattle.exif_writer.proofs.Images.Pushing.{group_at}
-use Rattle.exif_writer.proofs.Moved.{moved_twice}
+use Rattle.exif_writer.proofs.SendMoved.{moved_twice}
 
 -- what holds of a slot's field, wherever its value and its blocks stand
 abbrev SlotHas : (Field → Type 0) → ℕ → Context → Slot → Type 0

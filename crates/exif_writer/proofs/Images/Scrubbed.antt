@@ -1,5 +1,5 @@
 -- Scrubbing what was read.
-use Rattle.exif_writer.proofs.Moved.{same_moved}
+use Rattle.exif_writer.proofs.SendMoved.{same_moved}
 use Rattle.std.proofs.Common.{◌≡◌, ◌∙◌, ℕ, ◌<◌, List, [], ◌∷◌, refl, sym, ap, arith, Bool, true, false}
 use Rattle.std.specs.Prelude.{◌&&◌, not}
 use Rattle.std.specs.List.{AllByRecursion, filter}

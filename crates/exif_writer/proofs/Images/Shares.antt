@@ -13,7 +13,7 @@ use Rattle.exif_writer.specs.declared.block_kind.BlockKind.TheVariants.{Strips, 
 use Rattle.exif_tiff.proofs.Members.{all_append}
 use Rattle.exif_writer.proofs.Images.Slots.{all_known, all_slots, all_tiff, all_exif, all_gps, all_interop, pointer_to}
 use Rattle.exif_writer.proofs.Images.Sorting.{length-sorted}
-use Rattle.exif_writer.proofs.Moved.{moved_twice}
+use Rattle.exif_writer.proofs.SendMoved.{moved_twice}
 use Rattle.exif_writer.proofs.Images.Flat.{IsSettled, is_pushed, share, sum_of, sum_is, flat_nothing, flat_sorted, flat_filter}
 
 pub always : {X : Type 0} (P : X → Type 0) → ((x : X) → P x) → (l : List X) → AllByRecursion P l

@@ -1,6 +1,6 @@
 -- What an image that is written is: its parts stand side by side, each at its place.
 use Rattle.std.proofs.Common.{◌∙◌}
-use Rattle.exif_writer.proofs.Moved.{same_moved}
+use Rattle.exif_writer.proofs.SendMoved.{same_moved}
 use Rattle.std.proofs.Common.{◌≡◌, ℕ, ◌+◌, ◌<◌, ◌≤◌, List, [], ◌∷◌, length, refl, subst, arith, Bool, true, false, map, Option, Some, None}
 use Rattle.std.specs.Prelude.{if◌then◌else◌, ◌==◌, nat_lt, ◌||◌, slice_index}
 use Rattle.std.proofs.lemmas.Bool.{eqb-false, ltb-false}

@@ -1,5 +1,5 @@
 use Rattle.std.proofs.Common.{sym}
-use Rattle.exif_writer.proofs.Sending.{sends_none, sends_member, sends_stop_member, sends_members}
+use Rattle.exif_writer.proofs.SendChains.{sends_none, sends_member, sends_stop_member, sends_members}
 use Rattle.exif_writer.proofs.item.send_items.Goals as goal
 
 pub loop-item-init : goal.loop-item-init

@@ -1,6 +1,6 @@
 use Rattle.std.proofs.Common.{take}
 use Rattle.std.specs.List.{flat_map}
-use Rattle.exif_writer.proofs.Sending.{HasSent}
+use Rattle.exif_writer.proofs.SendChains.{HasSent}
 use Rattle.exif_writer.proofs.item.send_items.Given as goal
 
 abbrev pub invariant-loop-item : goal.invariant-loop-item

@@ -1,6 +1,6 @@
 use Rattle.std.proofs.Common.{arith, ap, map, ◌++◌}
 use Rattle.exif_writer.proofs.Images.Whole.{accepted}
-use Rattle.exif_writer.proofs.Tails.{all_known, none_map, some_map, pushed_front, tiff_fronts, tiff_told, other_told}
+use Rattle.exif_writer.proofs.MeasureTails.{all_known, none_map, some_map, pushed_front, tiff_fronts, tiff_told, other_told}
 use Rattle.exif_writer.specs.declared.block_kind.BlockKind.TheVariants.{Strips}
 use Rattle.exif_writer.specs.Measuring.{span}
 use Rattle.exif_writer.specs.Groups.{pushed_in}

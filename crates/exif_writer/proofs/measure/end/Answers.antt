@@ -1,7 +1,7 @@
 use Rattle.std.proofs.Common.{arith, refl, sym}
-use Rattle.exif_writer.proofs.Placed.{places_within, tiles_at, jpeg_at, end_at}
+use Rattle.exif_writer.proofs.PlanPlaces.{places_within, tiles_at, jpeg_at, end_at}
 use Rattle.exif_writer.specs.Slots.{draft_of}
-use Rattle.exif_writer.proofs.Tails.{at_least}
+use Rattle.exif_writer.proofs.MeasureTails.{at_least}
 use Rattle.exif_writer.proofs.measure.end.Goals as goal
 
 pub returns-in_err-strips : goal.returns-in_err-strips

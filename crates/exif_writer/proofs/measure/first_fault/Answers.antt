@@ -1,5 +1,5 @@
 use Rattle.std.proofs.Common.{◌∙◌, sym}
-use Rattle.exif_writer.proofs.Planned.{first_found, first_more}
+use Rattle.exif_writer.proofs.PlanChain.{first_found, first_more}
 use Rattle.exif_writer.proofs.measure.first_fault.Goals as goal
 
 pub returns-then-is_some : goal.returns-then-is_some

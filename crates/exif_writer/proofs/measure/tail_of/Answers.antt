@@ -1,5 +1,5 @@
 use Rattle.std.proofs.Common.{◌∙◌, ◌+◌, arith, ap, refl, sym, take}
-use Rattle.exif_writer.proofs.Tails.{of_fields, of_more, span_front, known_len, known_at, over_alone, at_least}
+use Rattle.exif_writer.proofs.MeasureTails.{of_fields, of_more, span_front, known_len, known_at, over_alone, at_least}
 use Rattle.exif_writer.specs.Encoding.{value_len}
 use Rattle.exif_writer.specs.Groups.{entry_of}
 use Rattle.exif_writer.specs.Measuring.{span}

@@ -3,7 +3,7 @@ use Rattle.std.specs.Prelude.{SomeIff}
 use Rattle.exif_types.specs.FieldTypes.{unit}
 use Rattle.exif_types.specs.ValueTypes.{count_of, field_type_of, type_number}
 use Rattle.exif_writer.specs.Encoding.{value_len}
-use Rattle.exif_writer.proofs.SizeSteps.{known_unit}
+use Rattle.exif_writer.proofs.SendSizes.{known_unit}
 use Rattle.exif_writer.proofs.measure.value_size.Goals as goal
 
 pub returns : goal.returns

@@ -1,6 +1,6 @@
 use Rattle.std.proofs.Common.{arith}
 use Rattle.exif_writer.proofs.Images.Counting.{slots_sorted}
-use Rattle.exif_writer.proofs.Tails.{span_beyond}
+use Rattle.exif_writer.proofs.MeasureTails.{span_beyond}
 use Rattle.exif_writer.specs.Slots.{unsorted}
 use Rattle.exif_writer.proofs.measure.values_end.Goals as goal
 

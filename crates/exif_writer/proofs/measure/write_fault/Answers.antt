@@ -1,5 +1,5 @@
 use Rattle.std.proofs.Common.{◌∙◌, sym}
-use Rattle.exif_writer.proofs.Planned.{refused_empty, some_groups, refused_first, refused_end, refused_never}
+use Rattle.exif_writer.proofs.PlanChain.{refused_empty, some_groups, refused_first, refused_end, refused_never}
 use Rattle.exif_writer.proofs.measure.write_fault.Goals as goal
 
 pub returns-then-is_empty : goal.returns-then-is_empty

@@ -1,5 +1,5 @@
 use Rattle.std.proofs.Common.{◌≡◌, ◌∙◌, ap, refl, sym}
-use Rattle.exif_writer.proofs.Planned.{has_room, ends_more, next_is, plans_more, plans_done}
+use Rattle.exif_writer.proofs.PlanChain.{has_room, ends_more, next_is, plans_more, plans_done}
 use Rattle.exif_writer.specs.Places.{draft_end}
 use Rattle.exif_writer.specs.Slots.{draft_of}
 use Rattle.exif_writer.proofs.plan.plans.Goals as goal

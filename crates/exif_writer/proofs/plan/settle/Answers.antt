@@ -3,9 +3,9 @@ use Rattle.std.proofs.Math.ListN.{set}
 use Rattle.exif_writer.specs.declared.plan.Slot.{Slot}
 use Rattle.std.proofs.lemmas.List.{take_all}
 use Rattle.exif_writer.specs.Sending.{values_end, settle_slot, after_slot, IsMeasurable}
-use Rattle.exif_writer.proofs.Running.{state_more}
-use Rattle.exif_writer.proofs.Settling.{settle_at, settle_more, settle_all}
-use Rattle.exif_writer.proofs.SizeSteps.{all_at, slot_within}
+use Rattle.exif_writer.proofs.SendRunning.{state_more}
+use Rattle.exif_writer.proofs.PlanSettling.{settle_at, settle_more, settle_all}
+use Rattle.exif_writer.proofs.SendSizes.{all_at, slot_within}
 use Rattle.exif_writer.proofs.plan.settle.Goals as goal
 
 pub settle-end-requires-clause-measurable : goal.settle-end-requires-clause-measurable

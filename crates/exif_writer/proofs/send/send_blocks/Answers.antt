@@ -1,6 +1,6 @@
 use Rattle.std.proofs.Common.{refl, get_or}
-use Rattle.exif_writer.proofs.Running.{no_text}
-use Rattle.exif_writer.proofs.Sending.{sends_none, sends_member, sends_stop_member, sends_members}
+use Rattle.exif_writer.proofs.SendRunning.{no_text}
+use Rattle.exif_writer.proofs.SendChains.{sends_none, sends_member, sends_stop_member, sends_members}
 use Rattle.exif_writer.proofs.send.send_blocks.Goals as goal
 
 pub loop-block-init : goal.loop-block-init

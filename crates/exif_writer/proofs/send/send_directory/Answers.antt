@@ -1,6 +1,6 @@
 use Rattle.std.proofs.Common.{◌<◌, length, rules}
-use Rattle.exif_writer.proofs.SizeSteps.{slots_text_some}
-use Rattle.exif_writer.proofs.Sending.{sends_then, sends_stop}
+use Rattle.exif_writer.proofs.SendSizes.{slots_text_some}
+use Rattle.exif_writer.proofs.SendChains.{sends_then, sends_stop}
 use Rattle.exif_writer.proofs.send.send_directory.Goals as goal
 
 pub returns-in_err-send_u16 : goal.returns-in_err-send_u16

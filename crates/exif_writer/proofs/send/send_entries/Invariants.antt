@@ -1,6 +1,6 @@
 use Rattle.std.proofs.Common.{take}
 use Rattle.exif_writer.specs.Sending.{entries_text}
-use Rattle.exif_writer.proofs.Sending.{HasSent}
+use Rattle.exif_writer.proofs.SendChains.{HasSent}
 use Rattle.exif_writer.proofs.send.send_entries.Given as goal
 
 abbrev pub invariant-loop-slot : goal.invariant-loop-slot

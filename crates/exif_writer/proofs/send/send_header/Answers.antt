@@ -1,4 +1,4 @@
-use Rattle.exif_writer.proofs.Sending.{sends_then, sends_stop}
+use Rattle.exif_writer.proofs.SendChains.{sends_then, sends_stop}
 use Rattle.exif_writer.proofs.send.send_header.Goals as goal
 
 pub returns-in_err-send_all : goal.returns-in_err-send_all

@@ -1,4 +1,4 @@
-use Rattle.exif_writer.proofs.Sending.{sends_then, sends_stop, sends_failed, sends_kept}
+use Rattle.exif_writer.proofs.SendChains.{sends_then, sends_stop, sends_failed, sends_kept}
 use Rattle.exif_writer.proofs.send.send_image.Goals as goal
 
 pub returns-in_err-send_header : goal.returns-in_err-send_header

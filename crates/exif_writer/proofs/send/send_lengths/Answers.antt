@@ -1,6 +1,6 @@
 use Rattle.std.proofs.Common.{length, arith, refl, sym, get_or}
-use Rattle.exif_writer.proofs.Running.{lengths_text, sum_within, no_text}
-use Rattle.exif_writer.proofs.Sending.{sends_none, sends_member, sends_stop_member, sends_members}
+use Rattle.exif_writer.proofs.SendRunning.{lengths_text, sum_within, no_text}
+use Rattle.exif_writer.proofs.SendChains.{sends_none, sends_member, sends_stop_member, sends_members}
 use Rattle.exif_writer.proofs.send.send_lengths.Goals as goal
 use Rattle.exif_writer.specs.Encoding.{spelled}
 

@@ -1,6 +1,6 @@
 use Rattle.std.proofs.Common.{◌+◌, length, arith, refl, sym, take, get_or}
-use Rattle.exif_writer.proofs.Running.{runs_member, runs_stop, runs_all, state_more, run_places, state_sum, sum_within, no_text}
-use Rattle.exif_writer.proofs.Sending.{sends_none}
+use Rattle.exif_writer.proofs.SendRunning.{runs_member, runs_stop, runs_all, state_more, run_places, state_sum, sum_within, no_text}
+use Rattle.exif_writer.proofs.SendChains.{sends_none}
 use Rattle.exif_writer.proofs.send.send_places.Goals as goal
 use Rattle.exif_writer.specs.Encoding.{spelled}
 

@@ -1,6 +1,6 @@
 use Rattle.std.proofs.Common.{◌≡◌, ◌+◌, length, take}
 use Rattle.exif_writer.specs.Running.{run, state}
-use Rattle.exif_writer.proofs.Sending.{HasSent}
+use Rattle.exif_writer.proofs.SendChains.{HasSent}
 use Rattle.exif_writer.proofs.send.send_places.Given as goal
 use Rattle.exif_writer.specs.Encoding.{spelled}
 

@@ -1,6 +1,6 @@
 use Rattle.exif_writer.specs.Plans.{plan_text, IsReadyPlan}
-use Rattle.exif_writer.proofs.Sending.{sends_none, sends_member, sends_stop_member, sends_members}
-use Rattle.exif_writer.proofs.SizeSteps.{all_at}
+use Rattle.exif_writer.proofs.SendChains.{sends_none, sends_member, sends_stop_member, sends_members}
+use Rattle.exif_writer.proofs.SendSizes.{all_at}
 use Rattle.exif_writer.proofs.send.send_plans.Goals as goal
 
 pub loop-plan-init : goal.loop-plan-init

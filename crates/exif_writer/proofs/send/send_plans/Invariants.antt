@@ -1,6 +1,6 @@
 use Rattle.std.proofs.Common.{take}
 use Rattle.exif_writer.specs.Plans.{plans_text}
-use Rattle.exif_writer.proofs.Sending.{HasSent}
+use Rattle.exif_writer.proofs.SendChains.{HasSent}
 use Rattle.exif_writer.proofs.send.send_plans.Given as goal
 
 abbrev pub invariant-loop-plan : goal.invariant-loop-plan

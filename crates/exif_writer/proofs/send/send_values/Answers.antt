@@ -1,6 +1,6 @@
 use Rattle.exif_writer.specs.Sending.{value_text, IsReady}
-use Rattle.exif_writer.proofs.Sending.{sends_none, sends_member, sends_stop_member, sends_members}
-use Rattle.exif_writer.proofs.SizeSteps.{all_at}
+use Rattle.exif_writer.proofs.SendChains.{sends_none, sends_member, sends_stop_member, sends_members}
+use Rattle.exif_writer.proofs.SendSizes.{all_at}
 use Rattle.exif_writer.proofs.send.send_values.Goals as goal
 
 pub loop-slot-init : goal.loop-slot-init

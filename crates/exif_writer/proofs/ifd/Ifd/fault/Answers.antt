@@ -1,5 +1,5 @@
 use Rattle.std.proofs.Common.{◌∙◌, arith, sym, true, false}
-use Rattle.exif_writer.proofs.Counted.{fault_empty, fault_over, fault_of_types}
+use Rattle.exif_writer.proofs.IfdCounts.{fault_empty, fault_over, fault_of_types}
 use Rattle.exif_writer.proofs.ifd.Ifd.fault.Goals as goal
 
 pub returns-then-tiff_count-eq0 : goal.returns-then-tiff_count-eq0

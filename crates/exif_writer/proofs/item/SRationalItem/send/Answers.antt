@@ -1,6 +1,6 @@
 use Rattle.std.proofs.Common.{◌≡◌, rules}
 use Rattle.std.specs.Int.{w32, cast_unsigned}
-use Rattle.exif_writer.proofs.Sending.{sends_then, sends_stop}
+use Rattle.exif_writer.proofs.SendChains.{sends_then, sends_stop}
 use Rattle.exif_writer.proofs.item.SRationalItem.send.Goals as goal
 
 pub returns-in_err-send_u32 : goal.returns-in_err-send_u32

@@ -1,5 +1,5 @@
 use Rattle.std.proofs.Common.{rules}
-use Rattle.exif_writer.proofs.Measured.{told_none, told_some}
+use Rattle.exif_writer.proofs.MeasureSteps.{told_none, told_some}
 use Rattle.exif_writer.proofs.measure.Tail.end.Goals as goal
 
 pub returns-in-None : goal.returns-in-None

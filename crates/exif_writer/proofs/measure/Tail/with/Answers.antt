@@ -1,6 +1,6 @@
 use Rattle.std.proofs.Common.{arith, refl}
-use Rattle.exif_writer.proofs.Measured.{tells_small, tells_first, tells_newer, tells_older}
-use Rattle.exif_writer.proofs.Tails.{over_one}
+use Rattle.exif_writer.proofs.MeasureSteps.{tells_small, tells_first, tells_newer, tells_older}
+use Rattle.exif_writer.proofs.MeasureTails.{over_one}
 use Rattle.exif_writer.proofs.measure.Tail.with.Goals as goal
 
 pub returns-then-size-le4-clause-told : goal.returns-then-size-le4-clause-told

@@ -1,5 +1,5 @@
 use Rattle.std.proofs.Common.{[], ◌∷◌, ◌++◌, arith, sym}
-use Rattle.exif_writer.proofs.Tails.{place_slot, length_slot, slot_len, over_many, span_first, pushed_two, none_map, some_map}
+use Rattle.exif_writer.proofs.MeasureTails.{place_slot, length_slot, slot_len, over_many, span_first, pushed_two, none_map, some_map}
 use Rattle.exif_writer.proofs.measure.Tail.with_blocks.Goals as goal
 
 pub returns-in_err-size-clause-over : goal.returns-in_err-size-clause-over

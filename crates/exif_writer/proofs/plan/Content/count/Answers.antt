@@ -1,7 +1,7 @@
 use Rattle.std.proofs.Common.{◌≡◌, ap, arith}
 use Rattle.exif_types.specs.ValueTypes.{count_of}
 use Rattle.exif_writer.specs.Sending.{content_count}
-use Rattle.exif_writer.proofs.Planned.{some_of}
+use Rattle.exif_writer.proofs.PlanChain.{some_of}
 use Rattle.exif_writer.proofs.plan.Content.count.Goals as goal
 
 pub unwrap-requires : goal.unwrap-requires

@@ -1,4 +1,4 @@
-use Rattle.exif_writer.proofs.Sending.{sends_then, sends_stop}
+use Rattle.exif_writer.proofs.SendChains.{sends_then, sends_stop}
 use Rattle.exif_writer.proofs.plan.Plan.send_directories.Goals as goal
 
 pub returns-in_err-send_zeros : goal.returns-in_err-send_zeros

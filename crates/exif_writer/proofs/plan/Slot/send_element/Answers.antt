@@ -1,5 +1,5 @@
-use Rattle.exif_writer.proofs.SizeSteps.{element_inside}
-use Rattle.exif_writer.proofs.Sending.{sends_then, sends_stop}
+use Rattle.exif_writer.proofs.SendSizes.{element_inside}
+use Rattle.exif_writer.proofs.SendChains.{sends_then, sends_stop}
 use Rattle.exif_writer.proofs.plan.Slot.send_element.Goals as goal
 
 pub returns-in_err-send : goal.returns-in_err-send

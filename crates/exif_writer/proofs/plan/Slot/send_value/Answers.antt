@@ -1,6 +1,6 @@
-use Rattle.exif_writer.proofs.Settling.{one_if}
-use Rattle.exif_writer.proofs.SizeSteps.{value_outside}
-use Rattle.exif_writer.proofs.Sending.{sends_then, sends_stop}
+use Rattle.exif_writer.proofs.PlanSettling.{one_if}
+use Rattle.exif_writer.proofs.SendSizes.{value_outside}
+use Rattle.exif_writer.proofs.SendChains.{sends_then, sends_stop}
 use Rattle.exif_writer.proofs.plan.Slot.send_value.Goals as goal
 
 pub returns-in_err-send_zeros : goal.returns-in_err-send_zeros

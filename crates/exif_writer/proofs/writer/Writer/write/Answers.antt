@@ -4,7 +4,7 @@ use Rattle.exif_writer.specs.Refused.{write_fault}
 use Rattle.exif_writer.specs.Slots.{draft_of}
 use Rattle.exif_writer.specs.Drafts.{ArePlans}
 use Rattle.exif_writer.proofs.Ready.{ready_plans, sent_is}
-use Rattle.exif_writer.proofs.Running.{on_err}
+use Rattle.exif_writer.proofs.SendRunning.{on_err}
 use Rattle.exif_writer.proofs.writer.Writer.write.Goals as goal
 
 pub send_image-requires : goal.send_image-requires

@@ -6,7 +6,7 @@ use Rattle.exif_writer.specs.declared.write_fault.WriteFault.{WriteFault}
 use Rattle.exif_writer.specs.declared.write_fault.WriteFault.TheVariants.{NoDirectory, OffsetTooLarge}
 use Rattle.exif_writer.specs.Drafts.{HasRoom, IsSettledPlan, ArePlans, next_of}
 use Rattle.exif_writer.specs.declared.plan.Plan.{Plan}
-use Rattle.exif_writer.proofs.Placed.{tiff_is, places_within}
+use Rattle.exif_writer.proofs.PlanPlaces.{tiff_is, places_within}
 use Rattle.std.proofs.lemmas.List.{append-nil, drop_more, drop_all}
 use Rattle.exif_writer.specs.Groups.{Group, empty_group}
 use Rattle.exif_writer.specs.Places.{draft_end, drafts_end, next_place, even}
@@ -14,8 +14,8 @@ use Rattle.exif_writer.specs.Refused.{group_fault, first_group_fault, write_faul
 use Rattle.exif_writer.specs.Slots.{Draft, draft_of}
 use Rattle.exif_writer.proofs.Images.Room.{drafts_low}
 use Rattle.exif_writer.proofs.Images.Whole.{first_none, not_refused}
-use Rattle.exif_writer.proofs.Loops.{around}
-use Rattle.exif_writer.proofs.Running.{up_to}
+use Rattle.exif_writer.proofs.SendMembers.{around}
+use Rattle.exif_writer.proofs.SendRunning.{up_to}
 
 -- groups without a cause before others
 first_step : (x : Group) (xs ys : List Group) (cause : Option WriteFault) → group_fault x ≡ cause

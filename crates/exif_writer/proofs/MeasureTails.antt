@@ -10,15 +10,15 @@ use Rattle.exif_writer.proofs.Images.Exact as exact
 use Rattle.exif_writer.specs.declared.measure.Tail.{Tail}
 use Rattle.exif_writer.specs.Tails.{Tells}
 use Rattle.exif_writer.specs.Views.{entries_in}
-use Rattle.exif_writer.proofs.Running.{up_to}
-use Rattle.exif_writer.proofs.Moved.{same_moved, lens_length}
+use Rattle.exif_writer.proofs.SendRunning.{up_to}
+use Rattle.exif_writer.proofs.SendMoved.{same_moved, lens_length}
 use Rattle.exif_writer.specs.Sending.{lens}
 use Rattle.exif_writer.specs.declared.block_kind.BlockKind.{BlockKind}
 use Rattle.exif_writer.specs.declared.block_kind.BlockKind.TheVariants.{Strips, Tiles, Jpeg}
 use Rattle.exif_table.specs.declared.context.Context.{Context}
 use Rattle.exif_table.specs.declared.context.Context.TheVariants.{Tiff, Exif, Gps, Interop}
 use Rattle.exif_writer.proofs.Images.Counting.{values_end_is}
-use Rattle.exif_writer.proofs.Measured.{tells_small}
+use Rattle.exif_writer.proofs.MeasureSteps.{tells_small}
 use Rattle.exif_writer.specs.Groups.{Group, Entry, pushed_in, entry_of, places_tag, lengths_tag, single}
 use Rattle.exif_writer.specs.Encoding.{value_len}
 use Rattle.exif_writer.specs.Measuring.{span, last_out, end_from}

@@ -14,7 +14,7 @@ use Rattle.exif_writer.proofs.Images.Counting.{count_is}
 use Rattle.exif_writer.specs.Views.{entries_in, blocks_of}
 use Rattle.exif_writer.specs.Sending.{sum_of}
 use Rattle.exif_writer.specs.Places.{after_blocks}
-use Rattle.exif_writer.proofs.Running.{up_to, sum_append}
+use Rattle.exif_writer.proofs.SendRunning.{up_to, sum_append}
 
 -- a product is no less than its second factor
 pub count_low : (unit count : ℕ) → 1 ≤ unit → count ≤ unit * count

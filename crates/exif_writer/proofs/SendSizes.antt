@@ -4,8 +4,8 @@ use Rattle.std.specs.Prelude.{if◌then◌else◌, nat_le, ◌-◌, replicate}
 use Rattle.exif_writer.specs.declared.plan.Places.{Places}
 use Rattle.exif_writer.specs.declared.plan.Slot.{Slot}
 use Rattle.exif_writer.proofs.Images.Room.{count_within as value_within}
-use Rattle.exif_writer.proofs.Loops.{around}
-use Rattle.exif_writer.proofs.Running.{state-append}
+use Rattle.exif_writer.proofs.SendMembers.{around}
+use Rattle.exif_writer.proofs.SendRunning.{state-append}
 use Rattle.std.specs.List.{AllByRecursion}
 use Rattle.exif_writer.specs.declared.plan.Content.{Content}
 use Rattle.exif_writer.specs.declared.plan.Content.TheVariants.{Known, PlacesOf, LengthsOf, PlaceOf}

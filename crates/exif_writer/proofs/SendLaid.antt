@@ -16,9 +16,9 @@ use Rattle.exif_writer.specs.Sending.{lens, block_place, context_place, settled,
 use Rattle.exif_writer.specs.Views.{blocks_of}
 use Rattle.exif_writer.specs.Plans.{plan_text, plans_text, sent_image}
 use Rattle.exif_writer.specs.Drafts.{places_of, IsPlan, IsSettledPlan, ArePlans}
-use Rattle.exif_writer.proofs.Settling.{zeros_before}
+use Rattle.exif_writer.proofs.PlanSettling.{zeros_before}
 use Rattle.exif_writer.proofs.Images.Laid.{joined, length_header}
-use Rattle.exif_writer.proofs.Moved.{same_moved, places_length, lens_length}
+use Rattle.exif_writer.proofs.SendMoved.{same_moved, places_length, lens_length}
 use Rattle.exif_base.specs.declared.endian.Order.{Order}
 use Rattle.exif_writer.specs.declared.block_kind.BlockKind.{BlockKind}
 use Rattle.exif_writer.specs.declared.block_kind.BlockKind.TheVariants.{Strips, Tiles, Jpeg}
