@@ -8,8 +8,6 @@ pub mod items;
 pub mod read;
 pub mod scan;
 pub mod send;
-#[cfg(test)]
-mod tests;
 
 pub use device::{Counted, Sink, Source};
 pub use endian::{BigEndian, Endian, LittleEndian, Order};

@@ -8,8 +8,6 @@ pub mod container;
 pub mod isobmff;
 pub mod jpeg;
 pub mod laws;
-#[cfg(test)]
-mod tests;
 pub mod util;
 pub mod webp;
 

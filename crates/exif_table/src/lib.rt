@@ -14,6 +14,3 @@ pub use fixed::{Choice, FixedTexts, fixed_texts};
 pub use kind::TextKind;
 pub use lookup::find_row;
 pub use row::{DefaultValue, Row, UnitPiece};
-
-#[cfg(test)]
-mod tests;

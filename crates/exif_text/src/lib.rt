@@ -31,6 +31,3 @@ pub use plain::PlainText;
 pub use quoted::Quoted;
 pub use rational::{Rational, SRational};
 pub use unsigned::Numbers;
-
-#[cfg(test)]
-mod tests;

@@ -33,6 +33,3 @@ pub use tag::Tag;
 pub use unit::{DisplayValueUnit, ProvideUnit};
 pub use unsigned::{UIntIter, UIntValue};
 pub use value::Value;
-
-#[cfg(test)]
-mod tests;

@@ -2,8 +2,8 @@
 //! texts at values that they don't take.
 
 use super::kinds::{assert_fractions, assert_shorts, assert_text, assert_texts, assert_undefined};
-use crate::contents::Contents;
 use exif_table::TextKind;
+use exif_text::Contents;
 use std::alloc::AllocError;
 
 // A kind, a number with its text, and what the kind is called.

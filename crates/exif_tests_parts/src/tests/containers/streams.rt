@@ -1,11 +1,12 @@
 //! JPEG streams and WebP files.
 
-use super::{Answer, is_answer, is_fault, one_byte};
-use crate::get_exif_attr_from_jpeg;
-use crate::jpeg::{get_exif_attr, is_jpeg};
-use crate::util::read_all;
-use crate::webp::{self, is_webp};
+use super::super::devices::one_byte;
+use super::{Answer, is_answer, is_fault};
 use exif_base::{Blocks, Counted, Source};
+use exif_containers::get_exif_attr_from_jpeg;
+use exif_containers::jpeg::{get_exif_attr, is_jpeg};
+use exif_containers::util::read_all;
+use exif_containers::webp::{self, is_webp};
 use exif_types::Error;
 use std::alloc::Global;
 use std::io::ErrorKind;

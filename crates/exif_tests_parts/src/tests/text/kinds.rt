@@ -1,9 +1,7 @@
 //! Texts by kind.
 
-use crate::contents::Contents;
-use crate::kinds::write_value;
-use crate::rational::{Rational, SRational};
 use exif_table::TextKind;
+use exif_text::{Contents, Rational, SRational, write_value};
 use std::alloc::AllocError;
 use std::fmt;
 use std::process::Abort;

@@ -1,12 +1,9 @@
 //! Fractions, quoted and plain texts.
 
-use crate::contents::Contents;
-use crate::laws::{is_same_rational, is_same_srational};
-use crate::plain::PlainText;
-use crate::quoted::Quoted;
-use crate::rational::{Rational, SRational};
 use arrayvec::ArrayString;
 use exif_base::Items;
+use exif_text::laws::{is_same_rational, is_same_srational};
+use exif_text::{Contents, PlainText, Quoted, Rational, SRational};
 use std::alloc::AllocError;
 use std::fmt::Write;
 use std::process::Abort;

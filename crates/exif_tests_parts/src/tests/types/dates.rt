@@ -1,6 +1,6 @@
 //! Dates, their parts and their refusals.
 
-use crate::{DateTime, Error};
+use exif_types::{DateTime, Error};
 use std::process::Abort;
 use std::test::Fail;
 

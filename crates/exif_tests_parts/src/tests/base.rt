@@ -1,95 +1,16 @@
 //! Devices that give or take a byte a call and fail at a given call; each public call once.
 
-use crate::device::{Counted, Sink, Source};
-use crate::endian::{BigEndian, Endian, LittleEndian, Order};
-use crate::items::Items;
-use crate::read::{
-    ReadFault, discard_exact, read_exact, read_exact_len, read_front, read_to_end, read8, read16,
-    read64,
+use super::devices::{dripping, one_byte};
+use exif_base::{
+    BigEndian, Blocks, Counted, Endian, Exact, Items, LittleEndian, Order, ReadFault, Scan, Sink,
+    Source, discard_exact, read_exact, read_exact_len, read_front, read_to_end, read8, read16,
+    read64, send_all,
 };
-use crate::scan::{Blocks, Exact, Scan};
-use crate::send::send_all;
 use std::alloc::AllocError;
 use std::io;
-use std::io::{Cursor, ErrorKind, Read, Write};
+use std::io::{Cursor, ErrorKind};
 use std::process::Abort;
 use std::test::Fail;
-
-/// A reader of one byte a call, which fails from some call on and counts its failures.
-#[derive(Drop)]
-struct OneByte<'a> {
-    bytes: &'a [u8],
-    good_calls: usize,
-    kind: ErrorKind,
-    failures: u32,
-}
-
-impl Read for OneByte<'_> {
-    fn read(&mut self, buf: &mut [u8]) -> io::Result<usize> {
-        if self.good_calls == 0 {
-            self.failures = self.failures.saturating_add(1);
-            return Err(io::Error::new(self.kind, "the reader failed"));
-        }
-        self.good_calls -= 1;
-        let bytes: &[u8] = self.bytes;
-        if bytes.is_empty() || buf.is_empty() {
-            return Ok(0);
-        }
-        buf[0] = bytes[0];
-        self.bytes = &bytes[1..];
-        Ok(1)
-    }
-}
-
-fn one_byte(bytes: &[u8], good_calls: usize, kind: ErrorKind) -> Counted<OneByte<'_>> {
-    Counted::new(OneByte {
-        bytes,
-        good_calls,
-        kind,
-        failures: 0,
-    })
-}
-
-/// A writer of one byte a call, which fails from some call on and counts its failures.
-#[derive(Drop)]
-struct Drip {
-    room: [u8; 8],
-    taken: usize,
-    good_calls: usize,
-    kind: ErrorKind,
-    failures: u32,
-}
-
-impl Write for Drip {
-    fn write(&mut self, buf: &[u8]) -> io::Result<usize> {
-        self.flush()?;
-        if buf.is_empty() || self.taken >= self.room.len() {
-            return Ok(0);
-        }
-        self.room[self.taken] = buf[0];
-        self.taken += 1;
-        Ok(1)
-    }
-
-    fn flush(&mut self) -> io::Result<()> {
-        if self.good_calls == 0 {
-            self.failures = self.failures.saturating_add(1);
-            return Err(io::Error::new(self.kind, "the writer failed"));
-        }
-        self.good_calls -= 1;
-        Ok(())
-    }
-}
-
-fn dripping(good_calls: usize, kind: ErrorKind) -> Counted<Drip> {
-    Counted::new(Drip {
-        room: [0u8; 8],
-        taken: 0,
-        good_calls,
-        kind,
-        failures: 0,
-    })
-}
 
 const DIGITS: &[u8] = b"0123456789";
 

@@ -3,10 +3,8 @@
 use super::lines::{
     EXIF_DESCRIPTIONS, GPS_DESCRIPTIONS, GPS_REFERENCES, INTEROP_DESCRIPTIONS, TIFF_DESCRIPTIONS,
 };
-use crate::Context;
-use crate::lookup::find_row;
-use crate::row::Row;
-use crate::rows::rows;
+use exif_table::rows::rows;
+use exif_table::{Context, Row, find_row};
 use std::alloc::{AllocError, Global};
 use std::process::Abort;
 

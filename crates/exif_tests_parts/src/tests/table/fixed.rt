@@ -2,8 +2,7 @@
 
 use super::lines::{FIXED, ORIENTATIONS};
 use super::words::{WORDS, kind_of};
-use crate::fixed::{Choice, FixedTexts, fixed_texts};
-use crate::kind::TextKind;
+use exif_table::{Choice, FixedTexts, TextKind, fixed_texts};
 use std::alloc::{AllocError, Global};
 use std::process::Abort;
 

@@ -1,8 +1,9 @@
 //! HEIF files: worked rows, files that are refused for one reason each, and files at the edges.
 
-use super::{Answer, is_answer, is_fault, one_byte};
-use crate::isobmff::{get_exif_attr, is_heif};
+use super::super::devices::one_byte;
+use super::{Answer, is_answer, is_fault};
 use exif_base::{Counted, discard_exact};
+use exif_containers::isobmff::{get_exif_attr, is_heif};
 use std::io::ErrorKind;
 use std::test::Fail;
 

@@ -2,10 +2,8 @@
 
 use super::lines::{EXIF, GPS, INTEROP, TIFF};
 use super::words::word_of;
-use crate::Context;
-use crate::lookup::find_row;
-use crate::row::{DefaultValue, Row, UnitPiece};
-use crate::rows::rows;
+use exif_table::rows::rows;
+use exif_table::{Context, DefaultValue, Row, UnitPiece, find_row};
 use std::alloc::{AllocError, Global};
 use std::process::Abort;
 

@@ -1,11 +1,11 @@
 //! The laws at values of each kind: what their functions answer.
 
-use crate::laws::{
+use exif_base::Items;
+use exif_types::laws::{
     contexts_agree, directories_agree, get_field_gives_the_last, get_uint_gives_the_item,
     tags_agree,
 };
-use crate::{Context, In, Tag, Value, exif_from_parts};
-use exif_base::Items;
+use exif_types::{Context, In, Tag, Value, exif_from_parts};
 use std::alloc::AllocError;
 use std::cmp::Ordering;
 use std::hash::{DefaultHasher, Hasher};

@@ -1,7 +1,7 @@
 //! The debug texts of fields, of values of each kind, and of unsigned numbers.
 
-use crate::{Field, In, Rational, SRational, Tag, Value};
 use exif_base::Items;
+use exif_types::{Field, In, Rational, SRational, Tag, Value};
 use std::alloc::AllocError;
 use std::process::Abort;
 use std::test::Fail;

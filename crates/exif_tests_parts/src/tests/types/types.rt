@@ -1,7 +1,7 @@
 //! The types and counts of values (TIFF 6.0, section 2).
 
-use crate::{Rational, Value};
 use exif_base::Items;
+use exif_types::{Rational, Value};
 use std::process::Abort;
 use std::test::Fail;
 

@@ -1,7 +1,7 @@
 //! Tags by name.
 
-use crate::{Context, In, Rational, Tag, Value};
 use exif_base::Items;
+use exif_types::{Context, In, Rational, Tag, Value};
 use std::alloc::AllocError;
 use std::process::Abort;
 use std::test::Fail;

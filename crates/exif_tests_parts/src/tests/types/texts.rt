@@ -3,8 +3,8 @@
 ghost use Rattle.std.specs.Prelude.{◌≡◌, IfOk};
 ghost use Rattle.exif_types.specs.Sound.{IsRead};
 
-use crate::{Context, Field, In, Rational, SRational, Tag, Value, exif_from_parts};
 use exif_base::Items;
+use exif_types::{Context, Field, In, Rational, SRational, Tag, Value, exif_from_parts};
 use std::alloc::{AllocError, Global};
 use std::process::Abort;
 use std::test::Fail;

@@ -3,5 +3,5 @@
 mod descriptions;
 mod fixed;
 mod lines;
-mod table;
+mod rows;
 mod words;

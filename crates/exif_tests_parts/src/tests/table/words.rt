@@ -1,6 +1,6 @@
 //! The words of the kinds of texts.
 
-use crate::kind::TextKind;
+use exif_table::TextKind;
 
 pub(super) static WORDS: [(TextKind, &str); 53] = [
     (TextKind::Plain, ""),

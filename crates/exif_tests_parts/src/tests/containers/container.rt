@@ -1,8 +1,9 @@
 //! Streams of every container, chosen by their first 4096 bytes.
 
-use super::{Answer, is_answer, is_fault, one_byte};
-use crate::container::{exif_attr_of_stream, is_tiff};
+use super::super::devices::one_byte;
+use super::{Answer, is_answer, is_fault};
 use exif_base::Counted;
+use exif_containers::container::{exif_attr_of_stream, is_tiff};
 use std::alloc::{AllocError, Global};
 use std::io::ErrorKind;
 use std::test::Fail;

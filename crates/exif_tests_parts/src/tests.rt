@@ -1,0 +1,8 @@
+//! A folder for each part: `exif_base`, `exif_table`, `exif_text`, `exif_types`, `exif_containers`.
+
+mod base;
+mod containers;
+mod devices;
+mod table;
+mod text;
+mod types;

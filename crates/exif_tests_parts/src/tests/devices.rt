@@ -1,0 +1,83 @@
+//! Readers that give and writers that take one byte a call, and fail from some call on.
+
+use exif_base::Counted;
+use std::io;
+use std::io::{ErrorKind, Read, Write};
+
+/// A reader of one byte a call, which fails from some call on and counts its failures.
+#[derive(Drop)]
+pub struct OneByte<'a> {
+    bytes: &'a [u8],
+    good_calls: usize,
+    kind: ErrorKind,
+    pub failures: u32,
+}
+
+impl Read for OneByte<'_> {
+    fn read(&mut self, buf: &mut [u8]) -> io::Result<usize> {
+        if self.good_calls == 0 {
+            self.failures = self.failures.saturating_add(1);
+            return Err(io::Error::new(self.kind, "the reader failed"));
+        }
+        self.good_calls -= 1;
+        let bytes: &[u8] = self.bytes;
+        if bytes.is_empty() || buf.is_empty() {
+            return Ok(0);
+        }
+        buf[0] = bytes[0];
+        self.bytes = &bytes[1..];
+        Ok(1)
+    }
+}
+
+/// A counted reader of one byte a call, with so many good calls.
+pub fn one_byte(bytes: &[u8], good_calls: usize, kind: ErrorKind) -> Counted<OneByte<'_>> {
+    Counted::new(OneByte {
+        bytes,
+        good_calls,
+        kind,
+        failures: 0,
+    })
+}
+
+/// A writer of one byte a call, which fails from some call on and counts its failures.
+#[derive(Drop)]
+pub struct Drip {
+    pub room: [u8; 8],
+    taken: usize,
+    good_calls: usize,
+    kind: ErrorKind,
+    pub failures: u32,
+}
+
+impl Write for Drip {
+    fn write(&mut self, buf: &[u8]) -> io::Result<usize> {
+        self.flush()?;
+        if buf.is_empty() || self.taken >= self.room.len() {
+            return Ok(0);
+        }
+        self.room[self.taken] = buf[0];
+        self.taken += 1;
+        Ok(1)
+    }
+
+    fn flush(&mut self) -> io::Result<()> {
+        if self.good_calls == 0 {
+            self.failures = self.failures.saturating_add(1);
+            return Err(io::Error::new(self.kind, "the writer failed"));
+        }
+        self.good_calls -= 1;
+        Ok(())
+    }
+}
+
+/// A counted writer of one byte a call, with so many good calls.
+pub fn dripping(good_calls: usize, kind: ErrorKind) -> Counted<Drip> {
+    Counted::new(Drip {
+        room: [0u8; 8],
+        taken: 0,
+        good_calls,
+        kind,
+        failures: 0,
+    })
+}
