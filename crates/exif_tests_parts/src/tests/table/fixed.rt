@@ -38,7 +38,10 @@ fn check_kind(rt: &(impl Abort + AllocGlobal), head: &str, line: &str) -> Result
     let Some((word, name)) = head.split_once(" [") else {
         panic!(rt; "a kind without a name");
     };
-    let Some(texts) = kind_of(word).and_then(fixed_texts) else {
+    let Some(kind) = kind_of(word) else {
+        panic!(rt; "a word of no kind");
+    };
+    let Some(texts) = fixed_texts(kind) else {
         panic!(rt; "a kind without texts");
     };
     assert_eq!(rt; texts.name, name.trim_end_matches(']'));
