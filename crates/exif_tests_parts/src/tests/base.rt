@@ -14,35 +14,81 @@ use std::test::Fail;
 
 const DIGITS: &[u8] = b"0123456789";
 
-fn reads_all<R: Source>(
-    rt: &impl Abort,
-    source: &mut R,
-    rest: &mut Vec<u8>,
-) -> Result<(), ReadFault> {
+/// The kinds of errors that devices fail with.
+const KINDS: [ErrorKind; 2] = [ErrorKind::Interrupted, ErrorKind::UnexpectedEof];
+
+/// The kind of the reader's error, where that is the fault.
+fn kind_of<T: Drop>(read: Result<T, ReadFault>) -> Option<ErrorKind> {
+    match read {
+        Err(ReadFault::Io(e)) => Some(e.kind()),
+        _ => None,
+    }
+}
+
+/// Whether the bytes ended too early.
+fn is_end<T: Drop>(read: Result<T, ReadFault>) -> bool {
+    matches!(read, Err(ReadFault::End))
+}
+
+/// The kind of a device's error, where there is one.
+fn error_of<T: Drop>(answer: io::Result<T>) -> Option<ErrorKind> {
+    match answer {
+        Ok(_) => None,
+        Err(e) => Some(e.kind()),
+    }
+}
+
+/// Reads the first seven digits.
+fn reads_front<R: Source>(rt: &impl Abort, source: &mut R) -> Result<(), ReadFault> {
     assert_eq!(rt; read8(source)?, b'0');
     assert_eq!(rt; read16(source)?, 0x3132);
     discard_exact(source, 2)?;
     let mut pair = [0u8; 2];
     read_exact(source, &mut pair)?;
     assert!(rt; pair == *b"56");
+    Ok(())
+}
+
+/// Reads the other three, and no more.
+fn reads_rest<R: Source>(
+    rt: &impl Abort,
+    source: &mut R,
+    rest: &mut Vec<u8>,
+) -> Result<(), ReadFault> {
     read_exact_len(source, rest, 1)?;
     read_to_end(source, rest)?;
     assert_eq!(rt; rest.as_slice(), b"789".as_slice());
-    assert!(rt; matches!(read_exact_len(source, rest, 1), Err(ReadFault::End)));
-    assert!(rt; matches!(discard_exact(source, u64::MAX), Err(ReadFault::End)));
+    assert!(rt; is_end(read_exact_len(source, rest, 1)));
+    assert!(rt; is_end(discard_exact(source, u64::MAX)));
+    Ok(())
+}
+
+/// Reads all ten digits.
+fn reads_all<R: Source>(rt: &(impl Abort + AllocGlobal), source: &mut R) -> Result<(), ReadFault> {
+    reads_front(rt, source)?;
+    reads_rest(rt, source, &mut Vec::new(rt.alloc()))
+}
+
+#[test]
+fn reads_from_a_slice(rt: HostRuntime) -> Result<(), Fail> {
+    let mut slice = Counted::new(DIGITS);
+    reads_all(&rt, &mut slice)?;
+    assert!(rt; slice.into_inner().is_empty());
     Ok(())
 }
 
 #[test]
-fn reads_from_each_kind_of_reader(rt: HostRuntime) -> Result<(), Fail> {
-    let mut slice = Counted::new(DIGITS);
-    reads_all(&rt, &mut slice, &mut Vec::new(rt.alloc()))?;
-    assert!(rt; slice.into_inner().is_empty());
+fn reads_from_a_cursor(rt: HostRuntime) -> Result<(), Fail> {
     let mut cursor = Counted::new(Cursor::new(DIGITS));
-    reads_all(&rt, &mut cursor, &mut Vec::new(rt.alloc()))?;
+    reads_all(&rt, &mut cursor)?;
     assert_eq!(rt; cursor.into_inner().position(), 10);
+    Ok(())
+}
+
+#[test]
+fn reads_from_a_slow_reader(rt: HostRuntime) -> Result<(), Fail> {
     let mut slow = one_byte(DIGITS, 100, ErrorKind::Other);
-    reads_all(&rt, &mut slow, &mut Vec::new(rt.alloc()))?;
+    reads_all(&rt, &mut slow)?;
     assert_eq!(rt; slow.into_inner().failures, 0);
     Ok(())
 }
@@ -57,28 +103,28 @@ fn reads_numbers_and_fronts(rt: HostRuntime) -> Result<(), Fail> {
     assert_eq!(rt; room[0], 0x2a);
     assert_eq!(rt; read_front(&mut Counted::new(bytes), &mut room)?, 3);
     assert!(rt; room == *b"\x01\x23\x45");
-    assert!(rt; matches!(read16(&mut source), Err(ReadFault::End)));
+    assert!(rt; is_end(read16(&mut source)));
     Ok(())
 }
 
-/// The kind of the reader's error, where that is the fault.
-fn kind_of<T: Drop>(read: Result<T, ReadFault>) -> Option<ErrorKind> {
-    match read {
-        Err(ReadFault::Io(e)) => Some(e.kind()),
-        _ => None,
-    }
-}
-
 #[test]
-fn a_failing_reader_is_asked_no_more(rt: HostRuntime) -> Result<(), Fail> {
-    for kind in [ErrorKind::Interrupted, ErrorKind::UnexpectedEof] {
-        let mut list = Vec::new(rt.alloc());
+fn a_failing_reader_is_asked_no_more(rt: HostRuntime) {
+    for kind in KINDS {
         let mut source = one_byte(DIGITS, 1, kind);
         assert_eq!(rt; kind_of(read16(&mut source)), Some(kind));
         assert_eq!(rt; source.into_inner().failures, 1);
         let mut source = one_byte(DIGITS, 2, kind);
         assert_eq!(rt; kind_of(discard_exact(&mut source, 3)), Some(kind));
         assert_eq!(rt; source.into_inner().failures, 1);
+        let front = read_front(&mut one_byte(DIGITS, 0, kind), &mut [0u8; 1]);
+        assert_eq!(rt; error_of(front), Some(kind));
+    }
+}
+
+#[test]
+fn a_reader_that_fails_at_a_list_is_asked_no_more(rt: HostRuntime) {
+    for kind in KINDS {
+        let mut list = Vec::new(rt.alloc());
         let mut source = one_byte(DIGITS, 2, kind);
         assert_eq!(rt;
             kind_of(read_exact_len(&mut source, &mut list, 3)),
@@ -86,86 +132,110 @@ fn a_failing_reader_is_asked_no_more(rt: HostRuntime) -> Result<(), Fail> {
         );
         assert_eq!(rt; kind_of(read_to_end(&mut source, &mut list)), Some(kind));
         assert_eq!(rt; source.into_inner().failures, 2);
-        let front = read_front(&mut one_byte(DIGITS, 0, kind), &mut [0u8; 1]);
-        assert!(rt; matches!(&front, Err(e) if e.kind() == kind));
     }
-    Ok(())
 }
 
 #[test]
-fn sends_to_each_kind_of_writer(rt: HostRuntime) -> Result<(), Fail> {
+fn sends_to_a_vector(rt: HostRuntime) -> Result<(), Fail> {
     let mut vector = Counted::new(Vec::new(rt.alloc()));
     send_all(&mut vector, b"abc")?;
     vector.flush()?;
     assert_eq!(rt; vector.into_inner().as_slice(), b"abc".as_slice());
+    Ok(())
+}
+
+#[test]
+fn sends_to_a_slow_writer(rt: HostRuntime) -> Result<(), Fail> {
     let mut slow = dripping(100, ErrorKind::Other);
     send_all(&mut slow, b"abcdefgh")?;
     assert!(rt; slow.into_inner().room == *b"abcdefgh");
-    for kind in [ErrorKind::Interrupted, ErrorKind::UnexpectedEof] {
+    Ok(())
+}
+
+#[test]
+fn sends_to_writers_that_fail(rt: HostRuntime) {
+    for kind in KINDS {
         let mut failing = dripping(2, kind);
-        let sent = send_all(&mut failing, b"abcdefgh");
-        assert!(rt; matches!(&sent, Err(e) if e.kind() == kind));
+        assert_eq!(rt; error_of(send_all(&mut failing, b"abcdefgh")), Some(kind));
         let inner = failing.into_inner();
         assert!(rt; inner.room == *b"ab\0\0\0\0\0\0");
         assert_eq!(rt; inner.failures, 1);
-        assert!(rt; matches!(dripping(0, kind).flush(), Err(e) if e.kind() == kind));
+        assert_eq!(rt; error_of(dripping(0, kind).flush()), Some(kind));
     }
     let mut none = [0u8; 0];
     let stuck = send_all(&mut Counted::new(&mut none[..]), b"a");
-    assert!(rt; matches!(&stuck, Err(e) if e.kind() == ErrorKind::WriteZero));
+    assert_eq!(rt; error_of(stuck), Some(ErrorKind::WriteZero));
+}
+
+#[test]
+fn exact_reads_pass_through(rt: HostRuntime) -> Result<(), Fail> {
+    reads_all(&rt, &mut Exact::new(&mut Counted::new(DIGITS)))?;
+    let mut source = Counted::new(DIGITS);
+    assert_eq!(rt; Exact::new(&mut source).pass_others(b'4', 9), 0);
     Ok(())
 }
 
 #[test]
 fn bytes_at_hand_come_first(rt: HostRuntime) -> Result<(), Fail> {
-    let mut list = Vec::new(rt.alloc());
-    let mut source = Counted::new(DIGITS);
-    reads_all(&rt, &mut Exact::new(&mut source), &mut Vec::new(rt.alloc()))?;
     let mut source = one_byte(b"3456789", 100, ErrorKind::Other);
     let mut block = *b"012.";
-    reads_all(
-        &rt,
-        &mut Blocks::new(&mut block, 3, &mut source),
-        &mut Vec::new(rt.alloc()),
-    )?;
+    reads_all(&rt, &mut Blocks::new(&mut block, 3, &mut source))?;
+    Ok(())
+}
+
+#[test]
+fn bytes_at_hand_are_passed(rt: HostRuntime) -> Result<(), Fail> {
     let mut source = Counted::new(b"89".as_slice());
     let mut block = *b"01234567";
     let mut blocks = Blocks::new(&mut block, 8, &mut source);
     assert_eq!(rt; blocks.pass_others(b'4', 3), 3);
     assert_eq!(rt; blocks.pass_others(b'4', 9), 1);
     assert_eq!(rt; blocks.pass_others(b'4', 9), 0);
+    let mut list = Vec::new(rt.alloc());
     read_to_end(&mut blocks, &mut list)?;
     assert_eq!(rt; list.as_slice(), b"456789".as_slice());
-    assert_eq!(rt;
-        Exact::new(&mut Counted::new(DIGITS)).pass_others(b'4', 9),
-        0
-    );
     Ok(())
+}
+
+/// The numbers of 16, 32 and 64 bits behind the first byte.
+fn numbers_behind<E: Endian>(buf: &[u8; 9]) -> (u16, u32, u64) {
+    (E::loadu16(buf, 1), E::loadu32(buf, 1), E::loadu64(buf, 1))
 }
 
 #[test]
 fn loads_in_both_orders(rt: HostRuntime) {
-    let buf: &[u8] = b"\xff\x80\x01\x02\x03\x04\x05\x06\x07";
-    assert_eq!(rt; BigEndian::loadu16(buf, 1), 0x8001);
-    assert_eq!(rt; LittleEndian::loadu16(buf, 1), 0x0180);
-    assert_eq!(rt; BigEndian::loadu32(buf, 1), 0x8001_0203);
-    assert_eq!(rt; LittleEndian::loadu32(buf, 1), 0x0302_0180);
-    assert_eq!(rt; BigEndian::loadu64(buf, 1), 0x8001_0203_0405_0607);
-    assert_eq!(rt; LittleEndian::loadu64(buf, 1), 0x0706_0504_0302_0180);
+    let buf = b"\xff\x80\x01\x02\x03\x04\x05\x06\x07";
+    assert_eq!(rt;
+        numbers_behind::<BigEndian>(buf),
+        (0x8001, 0x8001_0203, 0x8001_0203_0405_0607)
+    );
+    assert_eq!(rt;
+        numbers_behind::<LittleEndian>(buf),
+        (0x0180, 0x0302_0180, 0x0706_0504_0302_0180)
+    );
     assert!(rt; Order::Big != Order::Little);
 }
 
 #[test]
-fn lists_and_faults(rt: HostRuntime) -> Result<(), Fail> {
+fn lists(rt: HostRuntime) -> Result<(), Fail> {
     let items = Items::from_slice(rt.alloc(), &[3u16, 5])?;
-    let copy = items.clone(rt.alloc())?;
-    assert!(rt; copy == items && !copy.is_empty());
     assert_eq!(rt; items.len(), 2);
     assert_eq!(rt; items.as_slice(), [3u16, 5].as_slice());
+    let copy = items.clone(rt.alloc())?;
+    assert!(rt; copy == items && !copy.is_empty());
     let again: Items<u16> = items.into_vec().into();
     assert!(rt; Items::from_vec(again.into_vec()) == copy);
-    let text = format!(in rt.alloc(); "{copy:?} {:?}", ReadFault::from(AllocError))?;
-    assert_eq!(rt; text.as_str(), "[3, 5] OutOfMemory");
+    assert_eq!(rt; format!(in rt.alloc(); "{copy:?}")?.as_str(), "[3, 5]");
+    Ok(())
+}
+
+#[test]
+fn faults(rt: HostRuntime) -> Result<(), Fail> {
+    let memory = ReadFault::from(AllocError);
+    assert_eq!(rt;
+        format!(in rt.alloc(); "{memory:?}")?.as_str(),
+        "OutOfMemory"
+    );
     let broken = ReadFault::from(io::Error::new(ErrorKind::Other, "broken"));
     assert!(rt; matches!(broken, ReadFault::Io(_)));
     Ok(())
