@@ -10,14 +10,21 @@ use std::io::ErrorKind;
 /// What an example's bytes give: a payload, or the text of the refusal.
 type Answer = Result<&'static [u8], &'static str>;
 
+/// The text of a refusal.
+fn refusal(error: &Error) -> Option<&'static str> {
+    match error {
+        Error::InvalidFormat(text) => Some(*text),
+        Error::NotFound(what) => Some(*what),
+        Error::NotSupported(text) => Some(*text),
+        _ => None,
+    }
+}
+
 /// Whether a result is this answer.
-fn is_answer(got: &Result<Vec<u8>, Error>, want: Result<&[u8], &str>) -> bool {
-    match (got, want) {
-        (Ok(payload), Ok(bytes)) => payload.as_slice() == bytes,
-        (Err(Error::InvalidFormat(text)), Err(wanted)) => *text == wanted,
-        (Err(Error::NotFound(what)), Err(wanted)) => *what == wanted,
-        (Err(Error::NotSupported(text)), Err(wanted)) => *text == wanted,
-        _ => false,
+fn is_answer(got: &Result<Vec<u8>, Error>, want: Answer) -> bool {
+    match got {
+        Ok(payload) => want == Ok(payload.as_slice()),
+        Err(error) => refusal(error).is_some_and(|text| want == Err(text)),
     }
 }
 

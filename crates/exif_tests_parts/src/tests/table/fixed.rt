@@ -6,6 +6,16 @@ use exif_table::{Choice, FixedTexts, TextKind, fixed_texts};
 use std::alloc::{AllocError, Global};
 use std::process::Abort;
 
+/// What chooses a text, a letter or a number.
+fn push_key(line: &mut String, chosen_by: Choice, key: u32) -> Result<(), AllocError> {
+    if chosen_by == Choice::Letter {
+        if let Ok(letter) = u8::try_from(key) {
+            return line.push(char::from(letter));
+        }
+    }
+    write!(line, "{key}")
+}
+
 /// The texts behind what chooses them.
 fn entries(alloc: Global, texts: &FixedTexts) -> Result<String, AllocError> {
     let mut line = String::new(alloc);
@@ -14,10 +24,7 @@ fn entries(alloc: Global, texts: &FixedTexts) -> Result<String, AllocError> {
             line.push_str(", ")?;
         }
         let (key, text) = (entry.0, entry.1);
-        match (texts.chosen_by, u8::try_from(key)) {
-            (Choice::Letter, Ok(letter)) => line.push(char::from(letter))?,
-            _ => write!(line, "{key}")?,
-        }
+        push_key(&mut line, texts.chosen_by, key)?;
         write!(line, " {text}")?;
     }
     Ok(line)

@@ -60,16 +60,20 @@ pub(super) static WORDS: [(TextKind, &str); 53] = [
 
 /// The word of a kind.
 pub(super) fn word_of(kind: TextKind) -> &'static str {
-    match WORDS.iter().find(|entry| entry.0 == kind) {
-        Some(entry) => entry.1,
-        None => "",
+    for entry in &WORDS {
+        if entry.0 == kind {
+            return entry.1;
+        }
     }
+    ""
 }
 
 /// The kind that a word names.
 pub(super) fn kind_of(word: &str) -> Option<TextKind> {
-    match WORDS.iter().find(|entry| entry.1 == word) {
-        Some(entry) => Some(entry.0),
-        None => None,
+    for entry in &WORDS {
+        if entry.1 == word {
+            return Some(entry.0);
+        }
     }
+    None
 }

@@ -1,7 +1,6 @@
-//! Each kind of fixed texts at a value that has one and at one that has none, and kinds of other
-//! texts at values that they don't take.
+//! Each kind of fixed texts at a value that has one and at one that has none.
 
-use super::kinds::{assert_fractions, assert_shorts, assert_text, assert_texts, assert_undefined};
+use super::kinds::{Case, assert_cases, assert_text};
 use exif_table::TextKind;
 use exif_text::Contents;
 use std::alloc::AllocError;
@@ -122,9 +121,9 @@ fn chosen_by_a_number(rt: HostRuntime) -> Result<(), AllocError> {
     let alloc = rt.alloc();
     assert_eq!(rt; BY_NUMBER.len(), 24);
     for (kind, number, text, name) in BY_NUMBER {
+        assert_text(&rt, *kind, Contents::Short(&[*number]), *text)?;
         let reserved = format!(in alloc; "[reserved {name} {NONE}]")?;
-        let cases: [(&[u16], &str); 2] = [(&[*number], *text), (&[NONE], reserved.as_str())];
-        assert_shorts(&rt, *kind, &cases)?;
+        assert_text(&rt, *kind, Contents::Short(&[NONE]), reserved.as_str())?;
     }
     Ok(())
 }
@@ -163,47 +162,72 @@ fn chosen_by_a_letter(rt: HostRuntime) -> Result<(), AllocError> {
     let alloc = rt.alloc();
     assert_eq!(rt; BY_LETTER.len(), 5);
     for (kind, letter, text, name) in BY_LETTER {
+        assert_text(&rt, *kind, Contents::Text(letter.as_bytes()), *text)?;
         let reserved = format!(in alloc; "[reserved {name} \"?\"]")?;
-        assert_texts(&rt, *kind, &[(*letter, *text), ("?", reserved.as_str())])?;
+        assert_text(&rt, *kind, Contents::Text(b"?"), reserved.as_str())?;
     }
     Ok(())
 }
 
+const BY_BYTE: [Case; 5] = [
+    (TextKind::FileSource, Contents::Undefined(b"\0"), "others"),
+    (
+        TextKind::FileSource,
+        Contents::Undefined(b"\x02"),
+        "reflective scanner",
+    ),
+    (
+        TextKind::FileSource,
+        Contents::Undefined(b"\x04"),
+        "[reserved file source 0x04]",
+    ),
+    (
+        TextKind::SceneType,
+        Contents::Undefined(b"\x01"),
+        "directly photographed image",
+    ),
+    (
+        TextKind::SceneType,
+        Contents::Undefined(b"\x02"),
+        "[reserved scene type 0x02]",
+    ),
+];
+
 #[test]
 fn chosen_by_a_byte(rt: HostRuntime) -> Result<(), AllocError> {
-    let source = [
-        ("\0", "others"),
-        ("\x02", "reflective scanner"),
-        ("\x04", "[reserved file source 0x04]"),
-    ];
-    assert_undefined(&rt, TextKind::FileSource, &source)?;
-    let scene = [
-        ("\x01", "directly photographed image"),
-        ("\x02", "[reserved scene type 0x02]"),
-    ];
-    assert_undefined(&rt, TextKind::SceneType, &scene)
+    assert_cases(&rt, &BY_BYTE)
 }
+
+const SAMPLINGS: [Case; 6] = [
+    (
+        TextKind::YCbCrSubSampling,
+        Contents::Short(&[1, 1]),
+        "full horizontally, full vertically (4:4:4)",
+    ),
+    (
+        TextKind::YCbCrSubSampling,
+        Contents::Short(&[2, 1]),
+        "half horizontally, full vertically (4:2:2)",
+    ),
+    (
+        TextKind::YCbCrSubSampling,
+        Contents::Short(&[2, 2]),
+        "half horizontally, half vertically (4:2:0)",
+    ),
+    (
+        TextKind::YCbCrSubSampling,
+        Contents::Short(&[4, 1]),
+        "quarter horizontally, full vertically (4:1:1)",
+    ),
+    (
+        TextKind::YCbCrSubSampling,
+        Contents::Short(&[4, 2]),
+        "quarter horizontally, half vertically",
+    ),
+    (TextKind::YCbCrSubSampling, Contents::Short(&[1, 2]), "1, 2"),
+];
 
 #[test]
 fn samplings(rt: HostRuntime) -> Result<(), AllocError> {
-    let cases: [(&[u16], &str); 6] = [
-        (&[1, 1], "full horizontally, full vertically (4:4:4)"),
-        (&[2, 1], "half horizontally, full vertically (4:2:2)"),
-        (&[2, 2], "half horizontally, half vertically (4:2:0)"),
-        (&[4, 1], "quarter horizontally, full vertically (4:1:1)"),
-        (&[4, 2], "quarter horizontally, half vertically"),
-        (&[1, 2], "1, 2"),
-    ];
-    assert_shorts(&rt, TextKind::YCbCrSubSampling, &cases)
-}
-
-#[test]
-fn values_that_are_not_taken(rt: HostRuntime) -> Result<(), AllocError> {
-    assert_fractions(&rt, TextKind::GpsDegrees, &[(10, 1), (0, 1)], "10/1, 0/1")?;
-    assert_fractions(&rt, TextKind::LensSpecification, &[(24, 1)], "24/1")?;
-    assert_fractions(&rt, TextKind::Flash, &[(25, 1)], "25/1")?;
-    assert_undefined(&rt, TextKind::InteropVersion, &[("010", "0x303130")])?;
-    assert_texts(&rt, TextKind::ComponentsConfiguration, &[("a", "\"a\"")])?;
-    assert_texts(&rt, TextKind::UndefinedText, &[("a", "\"a\"")])?;
-    assert_text(&rt, TextKind::Plain, Contents::Byte(&[1, 2]), "1, 2")
+    assert_cases(&rt, &SAMPLINGS)
 }

@@ -1,4 +1,4 @@
-//! Texts by kind.
+//! Texts by kind, and kinds at values that they don't take.
 
 use exif_table::TextKind;
 use exif_text::{Contents, Rational, SRational, write_value};
@@ -29,258 +29,316 @@ pub fn assert_text(
     Ok(())
 }
 
-pub fn assert_fractions(
-    rt: &(impl Abort + AllocGlobal),
-    kind: TextKind,
-    pairs: &[(u32, u32)],
-    text: &str,
-) -> Result<(), AllocError> {
-    let mut fractions = Vec::new(rt.alloc());
-    for pair in pairs {
-        fractions.push(Rational::from(*pair))?;
-    }
-    assert_text(rt, kind, Contents::Rational(&fractions), text)
-}
+/// A kind, a value, and its text.
+pub type Case = (TextKind, Contents<'static>, &'static str);
 
-pub fn assert_shorts(
-    rt: &(impl Abort + AllocGlobal),
-    kind: TextKind,
-    cases: &[(&[u16], &str)],
-) -> Result<(), AllocError> {
-    for case in cases {
-        assert_text(rt, kind, Contents::Short(case.0), case.1)?;
+pub fn assert_cases(rt: &(impl Abort + AllocGlobal), cases: &[Case]) -> Result<(), AllocError> {
+    for (kind, contents, text) in cases {
+        assert_text(rt, *kind, *contents, *text)?;
     }
     Ok(())
 }
 
-pub fn assert_texts(
-    rt: &(impl Abort + AllocGlobal),
-    kind: TextKind,
-    cases: &[(&str, &str)],
-) -> Result<(), AllocError> {
-    for case in cases {
-        assert_text(rt, kind, Contents::Text(case.0.as_bytes()), case.1)?;
-    }
-    Ok(())
+/// Fractions of these numbers.
+macro_rules! fractions {
+    ($(($num:expr, $denom:expr)),*) => {
+        Contents::Rational(&[$(Rational { num: $num, denom: $denom }),*])
+    };
 }
 
-pub fn assert_undefined(
-    rt: &(impl Abort + AllocGlobal),
-    kind: TextKind,
-    cases: &[(&str, &str)],
-) -> Result<(), AllocError> {
-    for case in cases {
-        assert_text(rt, kind, Contents::Undefined(case.0.as_bytes()), case.1)?;
-    }
-    Ok(())
-}
+const DECIMALS: [Case; 13] = [
+    (TextKind::Decimal, fractions![(72, 1), (1, 2)], "72, 0.5"),
+    (
+        TextKind::OptionalDecimal,
+        fractions![(5, 4294967295)],
+        "unknown",
+    ),
+    (
+        TextKind::OptionalDecimal,
+        fractions![(5, 4), (1, 1)],
+        "1.25",
+    ),
+    (TextKind::OptionalDecimal, fractions![], ""),
+    (TextKind::SubjectDistance, fractions![(0, 1)], "unknown"),
+    (
+        TextKind::SubjectDistance,
+        fractions![(4294967295, 1)],
+        "infinity",
+    ),
+    (
+        TextKind::SubjectDistance,
+        fractions![(5, 2), (1, 1)],
+        "2.5, 1",
+    ),
+    (TextKind::DigitalZoomRatio, fractions![(0, 1)], "unused"),
+    (TextKind::DigitalZoomRatio, fractions![(3, 2)], "1.5"),
+    (TextKind::DateTime, fractions![(3, 2)], "3/2"),
+    (TextKind::OptionalDecimal, SIGNED, "unknown"),
+    (TextKind::Decimal, SIGNED, "-1, 0.333333333"),
+    (TextKind::Decimal, Contents::Short(&[7, 8]), "7, 8"),
+];
+
+const SIGNED: Contents<'static> = Contents::SRational(&[
+    SRational { num: 1, denom: -1 },
+    SRational { num: 1, denom: 3 },
+]);
 
 #[test]
 fn decimals_of_fractions(rt: HostRuntime) -> Result<(), AllocError> {
-    assert_fractions(&rt, TextKind::Decimal, &[(72, 1), (1, 2)], "72, 0.5")?;
-    assert_fractions(
-        &rt,
-        TextKind::OptionalDecimal,
-        &[(5, 4294967295)],
-        "unknown",
-    )?;
-    assert_fractions(&rt, TextKind::OptionalDecimal, &[(5, 4), (1, 1)], "1.25")?;
-    assert_fractions(&rt, TextKind::OptionalDecimal, &[], "")?;
-    assert_fractions(&rt, TextKind::SubjectDistance, &[(0, 1)], "unknown")?;
-    assert_fractions(
-        &rt,
-        TextKind::SubjectDistance,
-        &[(4294967295, 1)],
-        "infinity",
-    )?;
-    assert_fractions(&rt, TextKind::SubjectDistance, &[(5, 2), (1, 1)], "2.5, 1")?;
-    assert_fractions(&rt, TextKind::DigitalZoomRatio, &[(0, 1)], "unused")?;
-    assert_fractions(&rt, TextKind::DigitalZoomRatio, &[(3, 2)], "1.5")?;
-    assert_fractions(&rt, TextKind::DateTime, &[(3, 2)], "3/2")?;
-    let signed = [SRational::from((1, -1)), SRational::from((1, 3))];
-    assert_text(
-        &rt,
-        TextKind::OptionalDecimal,
-        Contents::SRational(&signed),
-        "unknown",
-    )?;
-    assert_text(
-        &rt,
-        TextKind::Decimal,
-        Contents::SRational(&signed),
-        "-1, 0.333333333",
-    )?;
-    assert_text(&rt, TextKind::Decimal, Contents::Short(&[7, 8]), "7, 8")
+    assert_cases(&rt, &DECIMALS)
 }
+
+const TIMES_AND_LENSES: [Case; 9] = [
+    (TextKind::ExposureTime, fractions![(1, 3)], "1/3"),
+    (TextKind::ExposureTime, fractions![(2, 3)], "1/1.5"),
+    (TextKind::ExposureTime, fractions![(0, 1)], "0/1"),
+    (TextKind::ExposureTime, fractions![(5, 0)], "5/0"),
+    (TextKind::ExposureTime, fractions![(5, 2)], "2.5"),
+    (
+        TextKind::GpsTimeStamp,
+        fractions![(9, 1), (5, 1), (61, 2)],
+        "09:05:30.5",
+    ),
+    (
+        TextKind::GpsTimeStamp,
+        fractions![(9, 1), (5, 1)],
+        "9/1, 5/1",
+    ),
+    (
+        TextKind::GpsDegrees,
+        fractions![(10, 1), (0, 1), (1, 10)],
+        "10 deg 0 min 0.1 sec",
+    ),
+    (
+        TextKind::LensSpecification,
+        fractions![(24, 1), (70, 1), (28, 10), (28, 0)],
+        "24-70 mm, f/2.8-28/0",
+    ),
+];
 
 #[test]
 fn times_and_lenses(rt: HostRuntime) -> Result<(), AllocError> {
-    assert_fractions(&rt, TextKind::ExposureTime, &[(1, 3)], "1/3")?;
-    assert_fractions(&rt, TextKind::ExposureTime, &[(2, 3)], "1/1.5")?;
-    assert_fractions(&rt, TextKind::ExposureTime, &[(0, 1)], "0/1")?;
-    assert_fractions(&rt, TextKind::ExposureTime, &[(5, 0)], "5/0")?;
-    assert_fractions(&rt, TextKind::ExposureTime, &[(5, 2)], "2.5")?;
-    let clock = [(9, 1), (5, 1), (61, 2)];
-    assert_fractions(&rt, TextKind::GpsTimeStamp, &clock, "09:05:30.5")?;
-    assert_fractions(&rt, TextKind::GpsTimeStamp, &[(9, 1), (5, 1)], "9/1, 5/1")?;
-    let degrees = [(10, 1), (0, 1), (1, 10)];
-    assert_fractions(&rt, TextKind::GpsDegrees, &degrees, "10 deg 0 min 0.1 sec")?;
-    let lens = [(24, 1), (70, 1), (28, 10), (28, 0)];
-    assert_fractions(
-        &rt,
-        TextKind::LensSpecification,
-        &lens,
-        "24-70 mm, f/2.8-28/0",
-    )
+    assert_cases(&rt, &TIMES_AND_LENSES)
 }
 
-#[test]
-fn texts_of_numbers(rt: HostRuntime) -> Result<(), AllocError> {
-    assert_shorts(
-        &rt,
-        TextKind::FocalLength35mm,
-        &[(&[0], "unknown"), (&[35], "35"), (&[], "")],
-    )?;
-    assert_shorts(
-        &rt,
+const NUMBERS: [Case; 19] = [
+    (TextKind::FocalLength35mm, Contents::Short(&[0]), "unknown"),
+    (TextKind::FocalLength35mm, Contents::Short(&[35]), "35"),
+    (TextKind::FocalLength35mm, Contents::Short(&[]), ""),
+    (
         TextKind::YCbCrSubSampling,
-        &[
-            (&[2, 1], "half horizontally, full vertically (4:2:2)"),
-            (&[4, 4], "quarter horizontally, quarter vertically"),
-            (&[3, 1], "3, 1"),
-        ],
-    )?;
-    assert_shorts(
-        &rt,
+        Contents::Short(&[2, 1]),
+        "half horizontally, full vertically (4:2:2)",
+    ),
+    (
+        TextKind::YCbCrSubSampling,
+        Contents::Short(&[4, 4]),
+        "quarter horizontally, quarter vertically",
+    ),
+    (TextKind::YCbCrSubSampling, Contents::Short(&[3, 1]), "3, 1"),
+    (
         TextKind::SubjectArea,
-        &[
-            (&[1, 2, 3, 4, 5], "rectangle (x=1, y=2, w=3, h=4)"),
-            (&[1, 2, 3], "circle (x=1, y=2, d=3)"),
-            (&[1, 2], "point (x=1, y=2)"),
-            (&[1], "1"),
-        ],
-    )?;
-    assert_shorts(
-        &rt,
+        Contents::Short(&[1, 2, 3, 4, 5]),
+        "rectangle (x=1, y=2, w=3, h=4)",
+    ),
+    (
+        TextKind::SubjectArea,
+        Contents::Short(&[1, 2, 3]),
+        "circle (x=1, y=2, d=3)",
+    ),
+    (
+        TextKind::SubjectArea,
+        Contents::Short(&[1, 2]),
+        "point (x=1, y=2)",
+    ),
+    (TextKind::SubjectArea, Contents::Short(&[1]), "1"),
+    (
         TextKind::CompositeImageCounts,
-        &[(&[3, 2], "total 3, used 2"), (&[3], "3")],
-    )?;
-    assert_shorts(
-        &rt,
+        Contents::Short(&[3, 2]),
+        "total 3, used 2",
+    ),
+    (TextKind::CompositeImageCounts, Contents::Short(&[3]), "3"),
+    (
         TextKind::Flash,
-        &[
-            (&[25], "fired, no return light detection function, auto"),
-            (
-                &[0xff64],
-                "not fired, return light not detected, auto mode 0 (unknown), no function present, red-eye reduction, unknown MSB bits",
-            ),
-        ],
-    )?;
-    assert_shorts(
-        &rt,
+        Contents::Short(&[25]),
+        "fired, no return light detection function, auto",
+    ),
+    (
+        TextKind::Flash,
+        Contents::Short(&[0xff64]),
+        "not fired, return light not detected, auto mode 0 (unknown), no function present, red-eye reduction, unknown MSB bits",
+    ),
+    (
         TextKind::Orientation,
-        &[
-            (&[1], "row 0 at top and column 0 at left"),
-            (&[9], "[reserved orientation 9]"),
-            (&[], "[reserved orientation ]"),
-        ],
-    )?;
-    assert_text(
-        &rt,
+        Contents::Short(&[1]),
+        "row 0 at top and column 0 at left",
+    ),
+    (
+        TextKind::Orientation,
+        Contents::Short(&[9]),
+        "[reserved orientation 9]",
+    ),
+    (
+        TextKind::Orientation,
+        Contents::Short(&[]),
+        "[reserved orientation ]",
+    ),
+    (
         TextKind::GpsVersion,
         Contents::Byte(&[2, 3, 0, 0]),
         "2.3.0.0",
-    )?;
-    assert_text(
-        &rt,
-        TextKind::GpsVersion,
-        Contents::Byte(&[2, 3, 0]),
-        "2, 3, 0",
-    )
+    ),
+    (TextKind::GpsVersion, Contents::Byte(&[2, 3, 0]), "2, 3, 0"),
+];
+
+#[test]
+fn texts_of_numbers(rt: HostRuntime) -> Result<(), AllocError> {
+    assert_cases(&rt, &NUMBERS)
 }
+
+const BYTES: [Case; 15] = [
+    (TextKind::ExifVersion, Contents::Undefined(b"0231"), "2.31"),
+    (TextKind::ExifVersion, Contents::Undefined(b"0230"), "2.3"),
+    (TextKind::ExifVersion, Contents::Undefined(b"0205"), "2.05"),
+    (TextKind::ExifVersion, Contents::Undefined(b"1000"), "10.0"),
+    (
+        TextKind::ExifVersion,
+        Contents::Undefined(b"023"),
+        "0x303233",
+    ),
+    (
+        TextKind::ExifVersion,
+        Contents::Undefined(b"02x1"),
+        "0x30327831",
+    ),
+    (
+        TextKind::InteropVersion,
+        Contents::Undefined(b"0100"),
+        "1.00",
+    ),
+    (
+        TextKind::InteropVersion,
+        Contents::Undefined(b"0231"),
+        "2.31",
+    ),
+    (
+        TextKind::ComponentsConfiguration,
+        Contents::Undefined(b"\x01\x02\x03\0"),
+        "YCbCr_",
+    ),
+    (
+        TextKind::ComponentsConfiguration,
+        Contents::Undefined(b"\x04\x05\x06\x07"),
+        "RGB?",
+    ),
+    (
+        TextKind::ComponentsConfiguration,
+        Contents::Undefined(b""),
+        "",
+    ),
+    (
+        TextKind::UndefinedText,
+        Contents::Undefined(b"GPS\0"),
+        "\"GPS\\x00\"",
+    ),
+    (
+        TextKind::FileSource,
+        Contents::Undefined(b"\x03"),
+        "digital still camera",
+    ),
+    (
+        TextKind::FileSource,
+        Contents::Undefined(b"\x09"),
+        "[reserved file source 0x09]",
+    ),
+    (
+        TextKind::SceneType,
+        Contents::Undefined(b""),
+        "[reserved scene type 0x]",
+    ),
+];
 
 #[test]
 fn texts_of_bytes(rt: HostRuntime) -> Result<(), AllocError> {
-    assert_undefined(
-        &rt,
-        TextKind::ExifVersion,
-        &[
-            ("0231", "2.31"),
-            ("0230", "2.3"),
-            ("0205", "2.05"),
-            ("1000", "10.0"),
-            ("023", "0x303233"),
-            ("02x1", "0x30327831"),
-        ],
-    )?;
-    assert_undefined(
-        &rt,
-        TextKind::InteropVersion,
-        &[("0100", "1.00"), ("0231", "2.31")],
-    )?;
-    assert_undefined(
-        &rt,
-        TextKind::ComponentsConfiguration,
-        &[
-            ("\x01\x02\x03\0", "YCbCr_"),
-            ("\x04\x05\x06\x07", "RGB?"),
-            ("", ""),
-        ],
-    )?;
-    assert_undefined(&rt, TextKind::UndefinedText, &[("GPS\0", "\"GPS\\x00\"")])?;
-    assert_undefined(
-        &rt,
-        TextKind::FileSource,
-        &[
-            ("\x03", "digital still camera"),
-            ("\x09", "[reserved file source 0x09]"),
-        ],
-    )?;
-    assert_undefined(
-        &rt,
-        TextKind::SceneType,
-        &[("", "[reserved scene type 0x]")],
-    )
+    assert_cases(&rt, &BYTES)
 }
 
-#[test]
-fn texts_of_texts(rt: HostRuntime) -> Result<(), AllocError> {
-    assert_texts(
-        &rt,
+const TEXTS: [Case; 13] = [
+    (
         TextKind::DateTime,
-        &[
-            ("2016:05:04 03:02:01", "2016-05-04 03:02:01"),
-            ("    :  :     :  :  ", "unknown"),
-            ("today", "\"today\""),
-        ],
-    )?;
-    assert_texts(
-        &rt,
+        Contents::Text(b"2016:05:04 03:02:01"),
+        "2016-05-04 03:02:01",
+    ),
+    (
+        TextKind::DateTime,
+        Contents::Text(b"    :  :     :  :  "),
+        "unknown",
+    ),
+    (TextKind::DateTime, Contents::Text(b"today"), "\"today\""),
+    (
         TextKind::GpsDateStamp,
-        &[
-            ("2016:05:04", "2016-05-04"),
-            ("2016:05:0x", "\"2016:05:0x\""),
-            ("2016-05-04", "\"2016-05-04\""),
-        ],
-    )?;
-    assert_texts(
-        &rt,
-        TextKind::GpsLatLongRef,
-        &[("N", "N"), ("n", "\"n\""), ("NN", "\"NN\"")],
-    )?;
-    assert_texts(
-        &rt,
+        Contents::Text(b"2016:05:04"),
+        "2016-05-04",
+    ),
+    (
+        TextKind::GpsDateStamp,
+        Contents::Text(b"2016:05:0x"),
+        "\"2016:05:0x\"",
+    ),
+    (
+        TextKind::GpsDateStamp,
+        Contents::Text(b"2016-05-04"),
+        "\"2016-05-04\"",
+    ),
+    (TextKind::GpsLatLongRef, Contents::Text(b"N"), "N"),
+    (TextKind::GpsLatLongRef, Contents::Text(b"n"), "\"n\""),
+    (TextKind::GpsLatLongRef, Contents::Text(b"NN"), "\"NN\""),
+    (TextKind::GpsSpeedRef, Contents::Text(b"K"), "km/h"),
+    (
         TextKind::GpsSpeedRef,
-        &[
-            ("K", "km/h"),
-            ("X", "[reserved GPS speed ref \"X\"]"),
-            ("KK", "[reserved GPS speed ref \"KK\"]"),
-        ],
-    )?;
-    assert_text(
-        &rt,
+        Contents::Text(b"X"),
+        "[reserved GPS speed ref \"X\"]",
+    ),
+    (
+        TextKind::GpsSpeedRef,
+        Contents::Text(b"KK"),
+        "[reserved GPS speed ref \"KK\"]",
+    ),
+    (
         TextKind::GpsStatus,
         Contents::Byte(&[65]),
         "[reserved GPS status 65]",
-    )
+    ),
+];
+
+#[test]
+fn texts_of_texts(rt: HostRuntime) -> Result<(), AllocError> {
+    assert_cases(&rt, &TEXTS)
+}
+
+const NOT_TAKEN: [Case; 7] = [
+    (
+        TextKind::GpsDegrees,
+        fractions![(10, 1), (0, 1)],
+        "10/1, 0/1",
+    ),
+    (TextKind::LensSpecification, fractions![(24, 1)], "24/1"),
+    (TextKind::Flash, fractions![(25, 1)], "25/1"),
+    (
+        TextKind::InteropVersion,
+        Contents::Undefined(b"010"),
+        "0x303130",
+    ),
+    (
+        TextKind::ComponentsConfiguration,
+        Contents::Text(b"a"),
+        "\"a\"",
+    ),
+    (TextKind::UndefinedText, Contents::Text(b"a"), "\"a\""),
+    (TextKind::Plain, Contents::Byte(&[1, 2]), "1, 2"),
+];
+
+#[test]
+fn values_that_are_not_taken(rt: HostRuntime) -> Result<(), AllocError> {
+    assert_cases(&rt, &NOT_TAKEN)
 }

@@ -96,51 +96,54 @@ fn assert_plain(
     Ok(())
 }
 
-#[test]
-fn plain_lists(rt: HostRuntime) -> Result<(), AllocError> {
-    assert_plain(&rt, Contents::Byte(&[2, 3, 0, 0]), "2, 3, 0, 0")?;
-    assert_plain(&rt, Contents::Byte(&[]), "")?;
-    assert_plain(&rt, Contents::Short(&[65535]), "65535")?;
-    assert_plain(&rt, Contents::Long(&[154, 4]), "154, 4")?;
-    assert_plain(&rt, Contents::SByte(&[-128, 127]), "-128, 127")?;
-    assert_plain(&rt, Contents::SShort(&[-32768, 0]), "-32768, 0")?;
-    assert_plain(&rt, Contents::SLong(&[-19088744]), "-19088744")
-}
-
-#[test]
-fn plain_fractions(rt: HostRuntime) -> Result<(), AllocError> {
-    let fractions = [Rational::from((1, 3)), Rational::from((5, 0))];
-    assert_plain(&rt, Contents::Rational(&fractions), "1/3, 5/0")?;
-    let signed = [SRational::from((-1, 3))];
-    assert_plain(&rt, Contents::SRational(&signed), "-1/3")?;
-    assert_plain(&rt, Contents::SRational(&signed[1..]), "")
-}
-
-#[test]
-fn plain_bytes(rt: HostRuntime) -> Result<(), AllocError> {
-    let alloc = rt.alloc();
-    let texts = [
-        Items::from_slice(alloc, b"a")?,
-        Items::from_slice(alloc, b"")?,
-    ];
-    assert_plain(&rt, Contents::Ascii(&texts), "\"a\", \"\"")?;
-    assert_plain(&rt, Contents::Ascii(&[]), "")?;
-    assert_plain(&rt, Contents::Text(b"K"), "\"K\"")?;
-    assert_plain(&rt, Contents::Undefined(b"\0\x02\x03\x02"), "0x00020302")?;
-    assert_plain(&rt, Contents::Undefined(&[]), "0x")?;
-    assert_plain(&rt, Contents::Float(&[0x40200000]), "0x40200000")?;
-    assert_plain(
-        &rt,
-        Contents::Float(&[1, 0xdeadbeef]),
-        "0x00000001, 0xdeadbeef",
-    )?;
-    assert_plain(
-        &rt,
+const PLAIN: [(Contents<'static>, &str); 17] = [
+    (Contents::Byte(&[2, 3, 0, 0]), "2, 3, 0, 0"),
+    (Contents::Byte(&[]), ""),
+    (Contents::Short(&[65535]), "65535"),
+    (Contents::Long(&[154, 4]), "154, 4"),
+    (Contents::SByte(&[-128, 127]), "-128, 127"),
+    (Contents::SShort(&[-32768, 0]), "-32768, 0"),
+    (Contents::SLong(&[-19088744]), "-19088744"),
+    (
+        Contents::Rational(&[Rational { num: 1, denom: 3 }, Rational { num: 5, denom: 0 }]),
+        "1/3, 5/0",
+    ),
+    (
+        Contents::SRational(&[SRational { num: -1, denom: 3 }]),
+        "-1/3",
+    ),
+    (Contents::SRational(&[]), ""),
+    (Contents::Text(b"K"), "\"K\""),
+    (Contents::Undefined(b"\0\x02\x03\x02"), "0x00020302"),
+    (Contents::Undefined(&[]), "0x"),
+    (Contents::Float(&[0x40200000]), "0x40200000"),
+    (Contents::Float(&[1, 0xdeadbeef]), "0x00000001, 0xdeadbeef"),
+    (
         Contents::Double(&[0xf, 0]),
         "0x000000000000000f, 0x0000000000000000",
-    )?;
-    let unknown = "unknown value (type=65535, count=1, offset=0x12)";
-    assert_plain(&rt, Contents::Unknown(65535, 1, 18), unknown)
+    ),
+    (
+        Contents::Unknown(65535, 1, 18),
+        "unknown value (type=65535, count=1, offset=0x12)",
+    ),
+];
+
+#[test]
+fn plain_texts(rt: HostRuntime) -> Result<(), AllocError> {
+    for (contents, text) in PLAIN {
+        assert_plain(&rt, contents, text)?;
+    }
+    Ok(())
+}
+
+#[test]
+fn plain_lists_of_texts(rt: HostRuntime) -> Result<(), AllocError> {
+    let texts = [
+        Items::from_slice(rt.alloc(), b"a")?,
+        Items::from_slice(rt.alloc(), b"")?,
+    ];
+    assert_plain(&rt, Contents::Ascii(&texts), "\"a\", \"\"")?;
+    assert_plain(&rt, Contents::Ascii(&[]), "")
 }
 
 #[test]

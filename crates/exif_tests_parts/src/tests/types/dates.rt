@@ -17,14 +17,8 @@ fn assert_refused(
     }
 }
 
-#[test]
-fn a_date_is_read_and_shown(rt: HostRuntime) -> Result<(), Fail> {
-    let alloc = rt.alloc();
-    let mut date = DateTime::from_ascii(b"2016:05:04 03:02:01")?;
-    assert_eq!(rt;
-        format!(in alloc; "{date}|{date:30}|")?.as_str(),
-        "2016-05-04 03:02:01|2016-05-04 03:02:01|"
-    );
+// Reads parts of seconds one after another; the last are 987000 nanoseconds.
+fn read_subsecs(rt: &(impl Abort + AllocGlobal), date: &mut DateTime) -> Result<(), Fail> {
     for (text, nanosecond) in [
         ("9876543219", Some(987654321)),
         ("", None),
@@ -35,17 +29,40 @@ fn a_date_is_read_and_shown(rt: HostRuntime) -> Result<(), Fail> {
         date.parse_subsec(text.as_bytes())?;
         assert_eq!(rt; date.nanosecond, nanosecond);
     }
+    Ok(())
+}
+
+// Reads two offsets; the last is -6039 minutes.
+fn read_offsets(rt: &(impl Abort + AllocGlobal), date: &mut DateTime) -> Result<(), Fail> {
     date.parse_offset(b"+09:30 more")?;
     assert_eq!(rt; date.offset, Some(570));
     date.parse_offset(b"-99:99")?;
     assert_eq!(rt; date.offset, Some(-6039));
+    Ok(())
+}
+
+#[test]
+fn a_date_is_read_and_shown(rt: HostRuntime) -> Result<(), Fail> {
+    let date = DateTime::from_ascii(b"2016:05:04 03:02:01")?;
+    assert_eq!(rt;
+        format!(in rt.alloc(); "{date}|{date:30}|")?.as_str(),
+        "2016-05-04 03:02:01|2016-05-04 03:02:01|"
+    );
+    Ok(())
+}
+
+#[test]
+fn what_is_refused_changes_nothing(rt: HostRuntime) -> Result<(), Fail> {
+    let mut date = DateTime::from_ascii(b"2016:05:04 03:02:01")?;
+    read_subsecs(&rt, &mut date)?;
+    read_offsets(&rt, &mut date)?;
     assert_refused(&rt, date.parse_offset(b"+01:2x"), false, "Not a number");
     assert_refused(&rt, date.parse_subsec(b"12x"), false, "Not a number");
     assert_eq!(rt; (date.nanosecond, date.offset), (Some(987000), Some(-6039)));
     date.parse_subsec(b" ")?;
     assert_eq!(rt; date.nanosecond, None);
     assert_eq!(rt;
-        format!(in alloc; "{date:?}")?.as_str(),
+        format!(in rt.alloc(); "{date:?}")?.as_str(),
         "DateTime { year: 2016, month: 5, day: 4, hour: 3, minute: 2, second: 1, nanosecond: None, offset: Some(-6039) }"
     );
     Ok(())

@@ -4,7 +4,7 @@ ghost use Rattle.std.specs.Prelude.{◌≡◌, IfOk};
 ghost use Rattle.exif_types.specs.Sound.{IsRead};
 
 use exif_base::Items;
-use exif_types::{Context, Field, In, Rational, SRational, Tag, Value, exif_from_parts};
+use exif_types::{Context, Exif, Field, In, Rational, SRational, Tag, Value, exif_from_parts};
 use std::alloc::{AllocError, Global};
 use std::process::Abort;
 use std::test::Fail;
@@ -52,9 +52,10 @@ fn text(alloc: Global, tag: Tag, bytes: &[u8]) -> Result<Field, AllocError> {
 // The text of the field without its unit.
 fn assert_value(
     rt: &(impl Abort + AllocGlobal),
-    field: &Field,
+    field: Result<Field, AllocError>,
     text: &str,
 ) -> Result<(), AllocError> {
+    let field = field?;
     let shown = field.display_value();
     let value = field.value.display_as(field.tag);
     let copy = value;
@@ -70,9 +71,10 @@ fn assert_value(
 // The text of the field with its unit, where no other fields are known.
 fn assert_alone(
     rt: &(impl Abort + AllocGlobal),
-    field: &Field,
+    field: Result<Field, AllocError>,
     text: &str,
 ) -> Result<(), AllocError> {
+    let field = field?;
     let shown = field.display_value().with_unit(());
     let alloc = rt.alloc();
     assert_eq!(rt; format!(in alloc; "{shown}")?.as_str(), text);
@@ -84,50 +86,66 @@ fn assert_alone(
 // The text of the field with its unit, where one other field is known.
 fn assert_beside(
     rt: &(impl Abort + AllocGlobal),
-    field: &Field,
-    other: &Field,
+    field: Result<Field, AllocError>,
+    other: Result<Field, AllocError>,
     text: &str,
 ) -> Result<(), AllocError> {
-    let shown = field.display_value().with_unit(other);
+    let (field, other) = (field?, other?);
+    let shown = field.display_value().with_unit(&other);
     assert_eq!(rt; format!(in rt.alloc(); "{shown}")?.as_str(), text);
+    Ok(())
+}
+
+#[test]
+fn decimals_in_a_row(rt: HostRuntime) -> Result<(), AllocError> {
+    let steep = SRational::from((10, -4)).decimal();
+    let whole = SRational::from((-2147483648, -1)).decimal();
+    let long = Rational::from((4294967295, 7)).decimal();
+    assert_eq!(rt;
+        format!(in rt.alloc(); "{steep} {whole} {long}")?.as_str(),
+        "-2.5 2147483648 613566756.428571428"
+    );
     Ok(())
 }
 
 #[test]
 fn values_by_their_tags(rt: HostRuntime) -> Result<(), AllocError> {
     let alloc = rt.alloc();
-    let steep = SRational::from((10, -4)).decimal();
-    let whole = SRational::from((-2147483648, -1)).decimal();
-    let long = Rational::from((4294967295, 7)).decimal();
-    assert_eq!(rt;
-        format!(in alloc; "{steep} {whole} {long}")?.as_str(),
-        "-2.5 2147483648 613566756.428571428"
-    );
-    assert_value(&rt, &signed(alloc, Tag::BrightnessValue, 7, -1)?, "unknown")?;
-    assert_value(&rt, &signed(alloc, Tag::BrightnessValue, 0, 0)?, "0/0")?;
+    assert_value(&rt, signed(alloc, Tag::BrightnessValue, 7, -1), "unknown")?;
+    assert_value(&rt, signed(alloc, Tag::BrightnessValue, 0, 0), "0/0")?;
     for (tag, bytes, shown) in [
         (Tag::ExifVersion, b"0231", "2.31"),
         (Tag::ExifVersion, b"0230", "2.3"),
         (Tag::InteroperabilityVersion, b"0100", "1.00"),
         (Tag::ComponentsConfiguration, b"\x01\x02\x03\0", "YCbCr_"),
     ] {
-        assert_value(&rt, &undefined(alloc, tag, bytes)?, shown)?;
+        assert_value(&rt, undefined(alloc, tag, bytes), shown)?;
     }
     let lens = [(24, 1), (70, 1), (28, 10), (28, 10)];
-    let lens = fractions(alloc, Tag::LensSpecification, &lens)?;
-    assert_value(&rt, &lens, "24-70 mm, f/2.8-2.8")?;
-    let area = shorts(alloc, Tag::SubjectArea, &[1, 2, 3, 4])?;
-    assert_value(&rt, &area, "rectangle (x=1, y=2, w=3, h=4)")?;
-    let stamp = text(alloc, Tag::GPSDateStamp, b"2016:05:04")?;
-    assert_value(&rt, &stamp, "2016-05-04")?;
-    let blank = text(alloc, Tag::DateTime, b"                   ")?;
-    assert_value(&rt, &blank, "unknown")?;
-    let title = text(alloc, Tag::ImageDescription, b"a \"\\b\"\n")?;
-    assert_value(&rt, &title, "\"a \\\"\\\\b\\\"\\x0a\"")
+    let lens = fractions(alloc, Tag::LensSpecification, &lens);
+    assert_value(&rt, lens, "24-70 mm, f/2.8-2.8")?;
+    let area = shorts(alloc, Tag::SubjectArea, &[1, 2, 3, 4]);
+    assert_value(&rt, area, "rectangle (x=1, y=2, w=3, h=4)")
 }
 
 #[test]
-fn values_with_units(rt: HostRuntime) -> Result<(), AllocError> {
+fn texts_by_their_tags(rt: HostRuntime) -> Result<(), AllocError> {
+    for (tag, bytes, shown) in [
+        (Tag::GPSDateStamp, b"2016:05:04".as_slice(), "2016-05-04"),
+        (Tag::DateTime, b"                   ".as_slice(), "unknown"),
+        (
+            Tag::ImageDescription,
+            b"a \"\\b\"\n".as_slice(),
+            "\"a \\\"\\\\b\\\"\\x0a\"",
+        ),
+    ] {
+        assert_value(&rt, text(rt.alloc(), tag, bytes), shown)?;
+    }
+    Ok(())
+}
+
+#[test]
+fn fractions_with_units(rt: HostRuntime) -> Result<(), AllocError> {
     let alloc = rt.alloc();
     for (tag, pair, shown) in [
         (Tag::ExposureTime, (1, 3), "1/3 s"),
@@ -137,14 +155,19 @@ fn values_with_units(rt: HostRuntime) -> Result<(), AllocError> {
         (Tag::FNumber, (28, 10), "f/2.8"),
         (Tag::GPSSpeed, (5, 1), "5 km/h"),
     ] {
-        assert_alone(&rt, &fractions(alloc, tag, &[pair])?, shown)?;
+        assert_alone(&rt, fractions(alloc, tag, &[pair]), shown)?;
     }
-    let bias = signed(alloc, Tag::ExposureBiasValue, -1, 3)?;
-    assert_alone(&rt, &bias, "-0.333333333 EV")?;
-    let bias = signed(alloc, Tag::ExposureBiasValue, -1, 2000000000)?;
-    assert_alone(&rt, &bias, "0 EV")?;
-    let stamp = fractions(alloc, Tag::GPSTimeStamp, &[(9, 1), (5, 1), (61, 2)])?;
-    assert_alone(&rt, &stamp, "09:05:30.5")?;
+    let bias = signed(alloc, Tag::ExposureBiasValue, -1, 3);
+    assert_alone(&rt, bias, "-0.333333333 EV")?;
+    let bias = signed(alloc, Tag::ExposureBiasValue, -1, 2000000000);
+    assert_alone(&rt, bias, "0 EV")?;
+    let stamp = fractions(alloc, Tag::GPSTimeStamp, &[(9, 1), (5, 1), (61, 2)]);
+    assert_alone(&rt, stamp, "09:05:30.5")
+}
+
+#[test]
+fn numbers_with_units(rt: HostRuntime) -> Result<(), AllocError> {
+    let alloc = rt.alloc();
     for (tag, number, shown) in [
         (Tag::Orientation, 9, "[reserved orientation 9]"),
         (
@@ -155,46 +178,62 @@ fn values_with_units(rt: HostRuntime) -> Result<(), AllocError> {
         (Tag::FocalLengthIn35mmFilm, 24, "24 mm"),
         (Tag::FocalLengthIn35mmFilm, 0, "unknown mm"),
     ] {
-        assert_alone(&rt, &shorts(alloc, tag, &[number])?, shown)?;
+        assert_alone(&rt, shorts(alloc, tag, &[number]), shown)?;
     }
     let bits = Value::Float(Items::from_slice(alloc, &[0x40200000])?);
-    assert_alone(&rt, &field(Tag(Context::Tiff, 65000), bits), "0x40200000")
+    assert_alone(
+        &rt,
+        Ok(field(Tag(Context::Tiff, 65000), bits)),
+        "0x40200000",
+    )
+}
+
+// The unit of resolutions, as another directory has it.
+fn thumbnail_unit(alloc: Global) -> Result<Field, AllocError> {
+    let mut unit = shorts(alloc, Tag::ResolutionUnit, &[3])?;
+    unit.ifd_num = In::THUMBNAIL;
+    Ok(unit)
 }
 
 #[test]
-fn units_of_other_fields(rt: HostRuntime) -> Result<(), AllocError> {
+fn units_of_resolutions(rt: HostRuntime) -> Result<(), AllocError> {
     let alloc = rt.alloc();
-    let resolution = fractions(alloc, Tag::XResolution, &[(72, 1)])?;
-    let mut unit = shorts(alloc, Tag::ResolutionUnit, &[3])?;
-    assert_beside(&rt, &resolution, &unit, "72 pixels per cm")?;
-    unit.ifd_num = In::THUMBNAIL;
-    assert_beside(&rt, &resolution, &unit, "72 pixels per inch")?;
-    let unit = text(alloc, Tag::ResolutionUnit, b"cm")?;
-    assert_beside(
-        &rt,
-        &resolution,
-        &unit,
-        "72 pixels per [reserved resolution unit \"cm\"]",
-    )?;
-    let latitude = fractions(alloc, Tag::GPSLatitude, &[(10, 1), (0, 1), (1, 10)])?;
-    assert_alone(
-        &rt,
-        &latitude,
-        "10 deg 0 min 0.1 sec [GPSLatitudeRef missing]",
-    )?;
-    let altitude = fractions(alloc, Tag::GPSAltitude, &[(1, 2)])?;
+    let resolution = fractions(alloc, Tag::XResolution, &[(72, 1)]);
+    let unit = shorts(alloc, Tag::ResolutionUnit, &[3]);
+    assert_beside(&rt, resolution, unit, "72 pixels per cm")?;
+    let resolution = fractions(alloc, Tag::XResolution, &[(72, 1)]);
+    assert_beside(&rt, resolution, thumbnail_unit(alloc), "72 pixels per inch")?;
+    let resolution = fractions(alloc, Tag::XResolution, &[(72, 1)]);
+    let unit = text(alloc, Tag::ResolutionUnit, b"cm");
+    let shown = "72 pixels per [reserved resolution unit \"cm\"]";
+    assert_beside(&rt, resolution, unit, shown)
+}
+
+#[test]
+fn units_of_places(rt: HostRuntime) -> Result<(), AllocError> {
+    let alloc = rt.alloc();
+    let latitude = fractions(alloc, Tag::GPSLatitude, &[(10, 1), (0, 1), (1, 10)]);
+    let shown = "10 deg 0 min 0.1 sec [GPSLatitudeRef missing]";
+    assert_alone(&rt, latitude, shown)?;
     let below = Value::Byte(Items::from_slice(alloc, &[1])?);
-    let below = field(Tag::GPSAltitudeRef, below);
-    assert_beside(&rt, &altitude, &below, "0.5 meters below sea level")
+    let below = Ok(field(Tag::GPSAltitudeRef, below));
+    let altitude = fractions(alloc, Tag::GPSAltitude, &[(1, 2)]);
+    assert_beside(&rt, altitude, below, "0.5 meters below sea level")
+}
+
+// Two units of resolutions, that were read one behind the other.
+fn two_units(alloc: Global) -> Result<Exif, AllocError> {
+    let mut fields = Vec::new(alloc);
+    fields.push(shorts(alloc, Tag::ResolutionUnit, &[2])?)?;
+    fields.push(shorts(alloc, Tag::ResolutionUnit, &[3])?)?;
+    let exif = exif_from_parts(alloc, Vec::new(alloc), fields, false)?;
+    Ok(exif)
 }
 
 #[test]
 fn units_of_the_fields_that_were_read(rt: HostRuntime) -> Result<(), Fail> {
     let alloc = rt.alloc();
-    let mut fields = Vec::new(alloc);
-    fields.push(shorts(alloc, Tag::ResolutionUnit, &[2])?)?;
-    fields.push(shorts(alloc, Tag::ResolutionUnit, &[3])?)?;
-    let exif = exif_from_parts(alloc, Vec::new(alloc), fields, false)?;
+    let exif = two_units(alloc)?;
     let mut resolution = fractions(alloc, Tag::YResolution, &[(300, 1)])?;
     for (directory, shown) in [
         (In::PRIMARY, "300 pixels per cm"),
