@@ -14,7 +14,7 @@ const NO_EXIF: Answer = Err("HEIF");
 
 const TIFF: &[u8] = b"MM\0*\0\0\0\x08";
 
-const ROWS: [(&[u8], Answer); 12] = [
+static ROWS: [(&[u8], Answer); 12] = [
     (b"", UNKNOWN),
     (b"\x89PNG\x0d\x0a\x1a\x0a", UNKNOWN),
     (b"MM*\0", UNKNOWN),
@@ -31,7 +31,8 @@ const ROWS: [(&[u8], Answer); 12] = [
 
 #[test]
 fn rows(rt: HostRuntime) {
-    for (bytes, want) in ROWS {
+    for row in &ROWS {
+        let (bytes, want) = *row;
         let whole = exif_attr_of_stream(rt.alloc(), &mut Counted::new(bytes));
         assert!(rt; is_answer(&whole, want));
         let mut slow = one_byte(bytes, 100, ErrorKind::Other);
@@ -67,7 +68,8 @@ fn four_thousand_and_ninety_six_bytes_choose(rt: HostRuntime) -> Result<(), Fail
 #[test]
 fn a_reader_fails_at_each_call(rt: HostRuntime) {
     for kind in [ErrorKind::Interrupted, ErrorKind::UnexpectedEof] {
-        for (bytes, _) in ROWS {
+        for row in &ROWS {
+            let bytes = row.0;
             for calls in 0..bytes.len() {
                 let mut source = one_byte(bytes, calls, kind);
                 assert!(rt; is_fault(&exif_attr_of_stream(rt.alloc(), &mut source), kind));

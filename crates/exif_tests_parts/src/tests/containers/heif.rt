@@ -62,7 +62,7 @@ const FTYP: &[u8] = b"\0\0\0\x14ftypmif1\0\0\0\0mif1";
 const WHOLE: &[u8] =
     b"\0\0\0\x09XXXXx\0\0\0\x14ftypmif1\0\0\0\0mif1\0\0\0Wmeta\0\0\0\0\0\0\0\x18iloc\x01\0\0\0\0\0\0\x01\x1e\x1d\0\x01\0\0\0\x01\0\0\0\x22iinf\0\0\0\0\0\x01\0\0\0\x14infe\x02\0\0\0\x1e\x1d\0\0Exif\0\0\0\x11idat\0\0\0\x01xabcd";
 
-const ROWS: [(&[u8], Answer); 63] = [
+static ROWS: [(&[u8], Answer); 63] = [
     // whole in idat
     (WHOLE, Ok(b"abcd")),
     // past the file
@@ -339,7 +339,8 @@ const ROWS: [(&[u8], Answer); 63] = [
 
 #[test]
 fn rows(rt: HostRuntime) {
-    for (bytes, want) in ROWS {
+    for row in &ROWS {
+        let (bytes, want) = *row;
         let whole = get_exif_attr(rt.alloc(), &mut Counted::new(bytes));
         assert!(rt; is_answer(&whole, want));
         let mut slow = one_byte(bytes, 1000, ErrorKind::Other);

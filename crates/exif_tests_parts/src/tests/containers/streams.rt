@@ -22,7 +22,7 @@ const SECOND_SEGMENT: &[u8] = b"\xff\xd8\xff\xe1\0\x04ab\xff\xe1\0\x09Exif\0\0Z"
 
 const SECOND_CHUNK: &[u8] = b"RIFF\x17\0\0\0WEBPwhat\0\0\0\0EXIF\x03\0\0\0abc";
 
-const JPEG_ROWS: [(&[u8], Answer); 11] = [
+static JPEG_ROWS: [(&[u8], Answer); 11] = [
     (b"\xff\xd8\x01\x02\x03\xff\0\xff\xd9", Err("JPEG")),
     (b"\xff\xd8\xff\xe1\0\x08\x03\x04", BROKEN_JPEG),
     (
@@ -39,7 +39,7 @@ const JPEG_ROWS: [(&[u8], Answer); 11] = [
     (b"\xff\xd8\xff\xe1\0\x08Exif\0\0\xff\xd9", Ok(b"")),
 ];
 
-const WEBP_ROWS: [(&[u8], Answer); 11] = [
+static WEBP_ROWS: [(&[u8], Answer); 11] = [
     (SECOND_CHUNK, Ok(b"abc")),
     (
         b"RIFF\x0e\0\0\0WEBPwhat\x02\0\0\0abEXIF\x02\0\0\0cd",
@@ -64,7 +64,8 @@ fn by_blocks<R: Source>(alloc: Global, source: &mut R) -> Result<Vec<u8>, Error>
 
 #[test]
 fn jpeg_rows(rt: HostRuntime) {
-    for (bytes, want) in JPEG_ROWS {
+    for row in &JPEG_ROWS {
+        let (bytes, want) = *row;
         let whole = get_exif_attr_from_jpeg(rt.alloc(), &mut Counted::new(bytes));
         assert!(rt; is_answer(&whole, want));
         let mut slow = one_byte(bytes, 100, ErrorKind::Other);
@@ -88,7 +89,8 @@ fn jpeg_leaves_what_follows(rt: HostRuntime) -> Result<(), Fail> {
 
 #[test]
 fn webp_rows(rt: HostRuntime) {
-    for (bytes, want) in WEBP_ROWS {
+    for row in &WEBP_ROWS {
+        let (bytes, want) = *row;
         let whole = webp::get_exif_attr(rt.alloc(), &mut Counted::new(bytes));
         assert!(rt; is_answer(&whole, want));
         let mut slow = one_byte(bytes, 100, ErrorKind::Other);

@@ -1,6 +1,6 @@
 //! Each kind of fixed texts at a value that has one and at one that has none.
 
-use super::kinds::{Case, assert_cases, assert_text};
+use super::kinds::{Case, Held, assert_cases, assert_text};
 use exif_table::TextKind;
 use exif_text::Contents;
 use std::alloc::AllocError;
@@ -169,26 +169,26 @@ fn chosen_by_a_letter(rt: HostRuntime) -> Result<(), AllocError> {
     Ok(())
 }
 
-const BY_BYTE: [Case; 5] = [
-    (TextKind::FileSource, Contents::Undefined(b"\0"), "others"),
+static BY_BYTE: [Case; 5] = [
+    (TextKind::FileSource, Held::Undefined(b"\0"), "others"),
     (
         TextKind::FileSource,
-        Contents::Undefined(b"\x02"),
+        Held::Undefined(b"\x02"),
         "reflective scanner",
     ),
     (
         TextKind::FileSource,
-        Contents::Undefined(b"\x04"),
+        Held::Undefined(b"\x04"),
         "[reserved file source 0x04]",
     ),
     (
         TextKind::SceneType,
-        Contents::Undefined(b"\x01"),
+        Held::Undefined(b"\x01"),
         "directly photographed image",
     ),
     (
         TextKind::SceneType,
-        Contents::Undefined(b"\x02"),
+        Held::Undefined(b"\x02"),
         "[reserved scene type 0x02]",
     ),
 ];
@@ -198,33 +198,33 @@ fn chosen_by_a_byte(rt: HostRuntime) -> Result<(), AllocError> {
     assert_cases(&rt, &BY_BYTE)
 }
 
-const SAMPLINGS: [Case; 6] = [
+static SAMPLINGS: [Case; 6] = [
     (
         TextKind::YCbCrSubSampling,
-        Contents::Short(&[1, 1]),
+        Held::Shorts(&[1, 1]),
         "full horizontally, full vertically (4:4:4)",
     ),
     (
         TextKind::YCbCrSubSampling,
-        Contents::Short(&[2, 1]),
+        Held::Shorts(&[2, 1]),
         "half horizontally, full vertically (4:2:2)",
     ),
     (
         TextKind::YCbCrSubSampling,
-        Contents::Short(&[2, 2]),
+        Held::Shorts(&[2, 2]),
         "half horizontally, half vertically (4:2:0)",
     ),
     (
         TextKind::YCbCrSubSampling,
-        Contents::Short(&[4, 1]),
+        Held::Shorts(&[4, 1]),
         "quarter horizontally, full vertically (4:1:1)",
     ),
     (
         TextKind::YCbCrSubSampling,
-        Contents::Short(&[4, 2]),
+        Held::Shorts(&[4, 2]),
         "quarter horizontally, half vertically",
     ),
-    (TextKind::YCbCrSubSampling, Contents::Short(&[1, 2]), "1, 2"),
+    (TextKind::YCbCrSubSampling, Held::Shorts(&[1, 2]), "1, 2"),
 ];
 
 #[test]
