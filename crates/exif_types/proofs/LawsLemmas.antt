@@ -13,17 +13,17 @@ use Rattle.exif_types.specs.FieldEq.{ifd_Decides, tag_Decides}
 use Rattle.exif_types.specs.ValueEq.{both}
 
 -- the first of two
-abbrev or_else : {X : Type 0} → Option X → Option X → Option X
+abbrev pub or_else : {X : Type 0} → Option X → Option X → Option X
 or_else None o = o
 or_else (Some x) o = Some x
 
 -- the test decides the name
-named_Decides : (tag : Tag) (ifd_num : In) (f : Field) → Decides (is_named tag ifd_num f) (HasName tag ifd_num f)
+pub named_Decides : (tag : Tag) (ifd_num : In) (f : Field) → Decides (is_named tag ifd_num f) (HasName tag ifd_num f)
 named_Decides tag ifd_num f =
     both (tag_eq f.tag tag) (f.ifd_num.0 == ifd_num.0) (tag_Decides f.tag tag) (ifd_Decides f.ifd_num ifd_num)
 
 -- a search of a list with one item more
-find_one_more : {X : Type 0} (p : X → Bool) (ys : List X) (x : X) → find p (ys ++ x ∷ []) ≡ or_else (find p ys) (cond (p x) (Some x) None)
+pub find_one_more : {X : Type 0} (p : X → Bool) (ys : List X) (x : X) → find p (ys ++ x ∷ []) ≡ or_else (find p ys) (cond (p x) (Some x) None)
 find_one_more p [] x = refl
 find_one_more {X} p (y ∷ ys) x =
     elim (p y) as (λ b. cond b (Some y) (find p (ys ++ x ∷ [])) ≡ or_else (cond b (Some y) (find p ys)) (cond (p x) (Some x) None))

@@ -1,22 +1,39 @@
--- Places of fields in their list, by tag and directory.
-use Rattle.std.specs.Prelude.{◌≡◌, ℕ, ◌<◌, List, length, slice_get, Option, None, MatchOption}
-use Rattle.std.specs.declared.cmp.Ordering.{Ordering}
-use Rattle.std.specs.BTreeMap.{get}
+-- Fields by directory, tag and place.
+use Rattle.std.specs.Prelude.{ℕ, ◌+◌, ◌*◌, ◌-◌, ◌^◌, ◌<◌, ◌≤◌, List, [], ◌∷◌, length, All}
+use Rattle.std.specs.List.Sorted.{IsPermutation, IsNonDecreasing, IsPartitionPoint}
+use Rattle.exif_table.specs.Contexts.{context_rank}
 use Rattle.exif_types.specs.declared.tag.Tag.{Tag}
 use Rattle.exif_types.specs.declared.ifd.In.{In}
 use Rattle.exif_types.specs.declared.field.Field.{Field}
-use Rattle.exif_types.specs.declared.index.FieldKey.{FieldKey}
 use Rattle.exif_types.specs.declared.index.FieldIndex.{FieldIndex}
-use Rattle.exif_types.specs.Lookup.{last_named}
 
--- the place that an index has for a tag and a directory
-abbrev pub place_in : (FieldKey → FieldKey → Ordering) → FieldIndex → Tag → In → Option ℕ
-place_in cmp index tag ifd_num = get cmp index.places (record { ifd_num = ifd_num; tag = tag })
+-- what a field is looked up by, as one number: its directory, then its context, then its tag's
+-- number
+abbrev pub key_of : Tag → In → ℕ
+key_of tag ifd_num = (ifd_num.0 * 4 + context_rank tag.0) * 2 ^ 16 + tag.1
 
--- there is a place exactly for the tags and directories of the fields, and there stands the last
--- such field
-abbrev pub Locates : (FieldKey → FieldKey → Ordering) → FieldIndex → List Field → Type 0
-Locates cmp index fields =
-    (tag : Tag) (ifd_num : In) → MatchOption (place_in cmp index tag ifd_num)
-    (last_named fields tag ifd_num ≡ None)
-    (λ place. (place < length fields) × (slice_get fields place ≡ last_named fields tag ifd_num))
+-- a field as one number: its key, then its place
+abbrev pub entry_of : ℕ → ℕ → ℕ
+entry_of key place = key * 2 ^ 64 + place
+
+-- the greatest entry of a key
+abbrev pub greatest_of : ℕ → ℕ
+greatest_of key = entry_of key (2 ^ 64 - 1)
+
+-- the numbers up to a bound end here, and all behind are above it
+abbrev pub EndsUpTo : ℕ → List ℕ → ℕ → Type 0
+EndsUpTo bound numbers end = IsPartitionPoint (λ n. n ≤ bound) (λ n. bound < n) numbers end
+
+-- the entries of fields, of which the first stands at this place
+abbrev pub entries_from : ℕ → List Field → List ℕ
+entries_from place [] = []
+entries_from place (field ∷ fields) =
+    entry_of (key_of field.tag field.ifd_num) place ∷ entries_from (place + 1) fields
+
+-- an index has the entries of the fields, and they ascend
+pub record Indexes (index : FieldIndex) (fields : List Field) : Type 0 where
+  pub entries : IsPermutation (entries_from 0 fields) index.entries.items
+  pub ascending : IsNonDecreasing index.entries.items
+  -- each tag's number is one of 16 bits, each place one of 64
+  pub numbers : All (λ field. field.tag.1 < 2 ^ 16) fields
+  pub places : length fields ≤ 2 ^ 64

@@ -5,7 +5,7 @@ ghost use Rattle.std.specs.Option.{option_copied};
 ghost use Rattle.exif_types.specs.Lookup.{last_named};
 ghost use Rattle.exif_types.specs.Sound.{IsRead};
 
-use crate::index::{FieldIndex, FieldKey};
+use crate::index::FieldIndex;
 use crate::{Field, Fields, In, Tag};
 use std::alloc::{AllocError, Global};
 use std::marker::Model;
@@ -24,7 +24,7 @@ impl Model for Exif {
     ghost use Rattle.std.specs.Prelude.{All};
     ghost use Rattle.exif_types.specs.Sound.{IsRead};
     ghost use Rattle.exif_types.specs.Contents.{ExifContents};
-    ghost use Rattle.exif_types.specs.Located.{Locates};
+    ghost use Rattle.exif_types.specs.Located.{Indexes};
 
     ghost Value = { ExifContents };
 
@@ -34,8 +34,7 @@ impl Model for Exif {
       little_endian = a.little_endian;
     } };
 
-    ghost invariant = { λ a. All IsRead a.fields.items
-        × Locates ⟦<FieldKey as Ord>⟧.cmp a.index a.fields.items };
+    ghost invariant = { λ a. All IsRead a.fields.items × Indexes a.index a.fields.items };
 }
 
 /// The data, the fields that were read of them, and whether they are little endian.
@@ -78,8 +77,7 @@ impl Exif {
     pub fn get_field(&self, tag: Tag, ifd_num: In) -> Option<&Field>
         ensures { option_copied result ≡ last_named self.now.fields tag ifd_num }
     {
-        let place = self.index.place_of(tag, ifd_num)?;
-        self.fields.get(place)
+        self.index.last_named(&self.fields, tag, ifd_num)
     }
 
     /// Whether the data are little endian.

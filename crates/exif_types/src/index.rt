@@ -1,46 +1,83 @@
 //! The places of fields by directory and tag.
 
-ghost use Rattle.std.specs.Prelude.{◌≡◌, IfOk};
+ghost use Rattle.std.specs.Prelude.{◌≡◌, ◌<◌, ◌≤◌, ◌^◌, length, IfOk};
+ghost use Rattle.std.specs.Option.{option_copied};
+ghost use Rattle.exif_table.specs.Contexts.{context_rank};
+ghost use Rattle.exif_types.specs.Lookup.{last_named};
+ghost use Rattle.exif_types.specs.Located.{key_of, entry_of};
 
-use crate::{Field, In, Tag};
+use crate::{Context, Field, In, Tag};
 use std::alloc::{AllocError, Global};
-use std::collections::BTreeMap;
 
-/// What a field is looked up by.
-#[derive(Clone, Copy, Debug, PartialEq, Eq, PartialOrd, Ord)]
-pub struct FieldKey {
-    pub ifd_num: In,
-    pub tag: Tag,
-}
-
-/// The place of the last field with each key.
+/// The fields of a list by directory, tag and place: an entry for each, in ascending order.
 #[derive(Drop)]
 pub struct FieldIndex {
-    places: BTreeMap<FieldKey, usize>,
+    entries: Vec<u128>,
+}
+
+// The place of a context in the order of contexts.
+fn rank(context: Context) -> u64
+    ensures value { result ≡ context_rank context }
+    ensures small { result < 4 }
+{
+    match context {
+        Context::Tiff => 0,
+        Context::Exif => 1,
+        Context::Gps => 2,
+        Context::Interop => 3,
+    }
+}
+
+// What a field is looked up by, as one number.
+fn key_of(tag: Tag, ifd_num: In) -> u64
+    ensures value { result ≡ key_of tag ifd_num }
+    ensures number { tag.1 < 2 ^ 16 }
+{
+    (ifd_num.0 as u64 * 4 + rank(tag.0)) * 65536 + tag.1 as u64
+}
+
+// A field with this key at this place, as one number.
+fn entry_of(key: u64, place: usize) -> u128
+    ensures { result ≡ entry_of key place }
+{
+    key as u128 * (1 << 64) + place as u128
 }
 
 impl FieldIndex {
-    ghost use Rattle.exif_types.specs.Located.{Locates, place_in};
+    ghost use Rattle.std.specs.List.Sorted.{IsNonDecreasing};
+    ghost use Rattle.exif_types.specs.Located.{EndsUpTo, Indexes, greatest_of};
 
     /// The index of a list of fields.
     pub fn of(alloc: Global, fields: &[Field]) -> Result<FieldIndex, AllocError>
-        ensures { IfOk result (λ index. Locates ⟦<FieldKey as Ord>⟧.cmp index fields.now) }
+        ensures { IfOk result (λ index. Indexes index fields.now) }
     {
-        let mut places = BTreeMap::new(alloc);
+        let mut entries = Vec::with_capacity(alloc, fields.len())?;
         for (place, field) in fields.iter().enumerate() {
-            let key = FieldKey {
-                ifd_num: field.ifd_num,
-                tag: field.tag,
-            };
-            places.insert(key, place)?;
+            entries.push(entry_of(key_of(field.tag, field.ifd_num), place))?;
         }
-        Ok(FieldIndex { places })
+        entries.sort()?;
+        Ok(FieldIndex { entries })
     }
 
-    /// The place of the last field with this tag and this directory.
-    pub fn place_of(&self, tag: Tag, ifd_num: In) -> Option<usize>
-        ensures { result ≡ place_in ⟦<FieldKey as Ord>⟧.cmp self.now tag ifd_num }
+    // How many entries there are up to the greatest of a key.
+    fn count_up_to(&self, key: u64) -> usize
+        requires { IsNonDecreasing self.now.entries.items }
+        ensures within { result ≤ length self.now.entries.items }
+        ensures parted { EndsUpTo (greatest_of key) self.now.entries.items result }
     {
-        self.places.get(&FieldKey { ifd_num, tag }).copied()
+        let greatest = entry_of(key, usize::MAX);
+        self.entries.partition_point(|entry| *entry <= greatest)
+    }
+
+    /// The last field of the list with this tag and this directory.
+    pub fn last_named<'a>(&self, fields: &'a [Field], tag: Tag, ifd_num: In) -> Option<&'a Field>
+        requires { Indexes self.now fields.now }
+        ensures { option_copied result ≡ last_named fields.now tag ifd_num }
+    {
+        let key = key_of(tag, ifd_num);
+        let last = self.count_up_to(key).checked_sub(1)?;
+        let entry = self.entries.get(last)?;
+        let place = entry.checked_sub(entry_of(key, 0))?;
+        fields.get(place as usize)
     }
 }

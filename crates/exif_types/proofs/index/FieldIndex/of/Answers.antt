@@ -1,13 +1,10 @@
-use Rattle.std.proofs.Common.{◌≡◌, ◌+◌, ◌∷◌, [], ◌++◌, Some, take, length, arith, sym, ap, ◌∙◌}
-use Rattle.std.specs.BTreeMap.{Updates}
+use Rattle.std.proofs.Common.{rules, ◌≡◌, ◌+◌, ◌∷◌, ◌<◌, ◌^◌, [], ◌++◌, take, length, refl, arith, sym, ap, ◌∙◌}
 use Rattle.std.proofs.lemmas.List.{take_more, take_all, length-take-le}
+use Rattle.std.proofs.lemmas.List.Elements.{All-push}
+use Rattle.std.proofs.lemmas.List.Sorted.{IsNonDecreasingBy-from_sort}
 use Rattle.exif_types.specs.declared.field.Field.{Field}
-use Rattle.exif_types.proofs.IndexLemmas.{key_cmp}
-use Rattle.exif_types.proofs.IndexLemmas.{locates_none, locates_more}
+use Rattle.exif_types.proofs.IndexLemmas.{entries_push}
 use Rattle.exif_types.proofs.index.FieldIndex.of.Goals as goal
-
-pub loop-place-init : goal.loop-place-init
-loop-place-init c = locates_none c.new-places.result c.new-places.ensures.empty
 
 pub loop-place-preserved : goal.loop-place-preserved
 loop-place-preserved c =
@@ -16,8 +13,18 @@ loop-place-preserved c =
     let next : take (c.loop-place.place + 1) c.args.fields.now ≡ before ++ field ∷ [] =
     take_more c.args.fields.now c.loop-place.place field c.loop-place-test.true ∙ ap (λ x. before ++ x ∷ []) (sym c.index-fields-place.is) in
     let count : length before ≡ c.loop-place.place = length-take-le c.loop-place.place c.args.fields.now (omega arith) in
-    let update : Updates key_cmp c.loop-place.places c.insert.new.self (record { ifd_num = field.ifd_num; tag = field.tag }) (Some (length before)) = rw count c.in_ok-insert.ensures.updates in
-    rw next (locates_more c.loop-place.places c.insert.new.self before field c.loop-place.invariant update)
+    let more = entries_push before field in
+    rw next (record {
+      entries = rw (c.in_ok-push.ensures.items, c.loop-place.invariant.entries, c.entry_of.ensures, c.key_of.ensures.value, more, count) refl;
+      numbers = All-push (λ f. f.tag.1 < 2 ^ 16) before field c.loop-place.invariant.numbers c.key_of.ensures.number;
+    })
 
 pub returns : goal.returns
-returns c = rw (take_all c.loop-place.place c.args.fields.now c.loop-place-test.false) at c.loop-place.invariant
+returns c =
+    let all = take_all c.loop-place.place c.args.fields.now c.loop-place-test.false in
+    record {
+      entries = rw (c.loop-place.invariant.entries, all) at c.in_ok-sort.ensures.permutation;
+      ascending = IsNonDecreasingBy-from_sort (λ x. x) _ c.in_ok-sort.ensures.sorted;
+      numbers = rw all at c.loop-place.invariant.numbers;
+      places = search rules;
+    }

@@ -1,8 +1,11 @@
-use Rattle.std.proofs.Common.{take}
-use Rattle.exif_types.specs.Located.{Locates}
-use Rattle.exif_types.proofs.IndexLemmas.{key_cmp}
+use Rattle.std.proofs.Common.{◌≡◌, ◌<◌, ◌^◌, take}
+use Rattle.std.specs.Prelude.{All}
+use Rattle.exif_types.specs.Located.{entries_from}
 use Rattle.exif_types.proofs.index.FieldIndex.of.Given as goal
 
--- the fields so far are in the index
+-- the entries of the fields so far
 abbrev pub invariant-loop-place : goal.invariant-loop-place
-invariant-loop-place l = Locates key_cmp (record { places = l.places }) (take l.place l.fields)
+invariant-loop-place l = record {
+  entries : l.entries.items ≡ entries_from 0 (take l.place l.fields);
+  numbers : All (λ field. field.tag.1 < 2 ^ 16) (take l.place l.fields);
+}
