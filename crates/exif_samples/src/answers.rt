@@ -1,0 +1,117 @@
+//! What an answer is, and whether it is the wanted one.
+
+use exif::{Error, Exif};
+use std::alloc::Global;
+use std::fmt::{Debug, Display};
+use std::io::ErrorKind;
+use std::test::Fail;
+
+/// The kind of a device's error, if that is the answer.
+pub fn kind_of<T: Drop>(answer: &Result<T, Error>) -> Option<ErrorKind> {
+    match answer {
+        Err(Error::Io(cause)) => Some(cause.kind()),
+        _ => None,
+    }
+}
+
+/// The message of a refusal, if that is the answer. This takes no memory.
+pub fn reason<T: Drop>(answer: &Result<T, Error>) -> Option<&'static str> {
+    match answer {
+        Err(Error::InvalidFormat(text)) => Some(*text),
+        Err(Error::NotFound(what)) => Some(*what),
+        Err(Error::NotSupported(text)) => Some(*text),
+        _ => None,
+    }
+}
+
+/// How a value is shown.
+pub fn shown<T: Display>(alloc: Global, value: &T) -> Result<String, Fail> {
+    Ok(format!(in alloc; "{value}")?)
+}
+
+/// How a value is shown for debugging.
+pub fn debugged<T: Debug>(alloc: Global, value: &T) -> Result<String, Fail> {
+    Ok(format!(in alloc; "{value:?}")?)
+}
+
+/// How an error is shown.
+pub fn text_of(alloc: Global, error: &Error) -> Result<String, Fail> {
+    shown(alloc, error)
+}
+
+/// Whether an error is shown as this text.
+pub fn is_shown(alloc: Global, error: &Error, text: &str) -> bool {
+    match format!(in alloc; "{error}") {
+        Ok(shown) => shown.as_str() == text,
+        Err(_no_memory) => false,
+    }
+}
+
+/// Whether an answer is a device's error of a kind, or none where none is named.
+pub fn ends_with(answer: &Result<(), Error>, kind: Option<ErrorKind>) -> bool {
+    kind_of(answer) == kind && answer.is_ok() == kind.is_none()
+}
+
+/// Fails where an answer is not a device's error of a kind.
+pub fn fails_with<T: Drop>(
+    answer: &Result<T, Error>,
+    kind: ErrorKind,
+    good_calls: usize,
+) -> Result<(), Fail> {
+    let found = kind_of(answer);
+    if found == Some(kind) {
+        Ok(())
+    } else {
+        Err(Fail::new(format_args!("{found:?} in place of {kind:?} after {good_calls} calls")))
+    }
+}
+
+/// Fails where a text is not the wanted one.
+pub fn is_text(found: &str, wanted: &str) -> Result<(), Fail> {
+    if found == wanted {
+        Ok(())
+    } else {
+        Err(Fail::new(format_args!("{found:?} in place of {wanted:?}")))
+    }
+}
+
+/// Fails where bytes are not the wanted ones.
+pub fn are_bytes(found: &[u8], wanted: &[u8]) -> Result<(), Fail> {
+    if found == wanted {
+        Ok(())
+    } else {
+        Err(Fail::new(format_args!("{found:?} in place of {wanted:?}")))
+    }
+}
+
+/// Fails where an error is not shown as this text.
+pub fn reads(alloc: Global, error: &Error, wanted: &str) -> Result<(), Fail> {
+    let shown = text_of(alloc, error)?;
+    is_text(shown.as_str(), wanted)
+}
+
+/// Fails where a value is not shown for debugging as this text.
+pub fn debugs<T: Debug>(alloc: Global, value: &T, wanted: &str) -> Result<(), Fail> {
+    let shown = debugged(alloc, value)?;
+    is_text(shown.as_str(), wanted)
+}
+
+/// How many fields and how many faults an answer has, if it has fields.
+pub fn counts(answer: Result<Exif, Error>) -> Option<(usize, usize)> {
+    match distilled(answer) {
+        Ok((exif, faults)) => Some((exif.fields().len(), faults)),
+        Err(_other) => None,
+    }
+}
+
+/// The fields of an answer, and how many faults were passed over.
+pub fn distilled(answer: Result<Exif, Error>) -> Result<(Exif, usize), Error> {
+    match answer {
+        Ok(exif) => Ok((exif, 0)),
+        Err(Error::PartialResult(partial)) => {
+            let (exif, faults) = partial.into_inner();
+            Ok((exif, faults.len()))
+        }
+        Err(other) => Err(other),
+    }
+}

@@ -1,0 +1,123 @@
+//! Devices that give or take one byte a call, and fail after some good calls; and one that only
+//! counts.
+
+use std::alloc::Global;
+use std::io;
+use std::io::{ErrorKind, Read, Write};
+
+/// The kinds of errors that devices fail with.
+pub const KINDS: [ErrorKind; 3] = [
+    ErrorKind::Other,
+    ErrorKind::Interrupted,
+    ErrorKind::UnexpectedEof,
+];
+
+/// A reader of one byte a call, which fails once its good calls are used up.
+#[derive(Drop)]
+pub struct Slow<'a> {
+    bytes: &'a [u8],
+    good_calls: usize,
+    kind: ErrorKind,
+}
+
+impl<'a> Slow<'a> {
+    /// A reader of these bytes. After so many good calls each call fails with an error of a kind.
+    pub fn new(bytes: &'a [u8], good_calls: usize, kind: ErrorKind) -> Slow<'a> {
+        Slow {
+            bytes,
+            good_calls,
+            kind,
+        }
+    }
+}
+
+impl Read for Slow<'_> {
+    fn read(&mut self, buf: &mut [u8]) -> io::Result<usize> {
+        if self.good_calls == 0 {
+            return Err(io::Error::new(self.kind, "the reader failed"));
+        }
+        self.good_calls -= 1;
+        let bytes: &[u8] = self.bytes;
+        if bytes.is_empty() || buf.is_empty() {
+            return Ok(0);
+        }
+        buf[0] = bytes[0];
+        self.bytes = &bytes[1..];
+        Ok(1)
+    }
+}
+
+/// A writer of one byte a call, which fails once its good calls are used up.
+#[derive(Drop)]
+pub struct Drip {
+    /// The bytes that were taken.
+    pub taken: Vec<u8>,
+    good_calls: usize,
+    kind: Option<ErrorKind>,
+}
+
+impl Drip {
+    /// A writer that after so many good calls fails with an error of a kind, or takes nothing.
+    pub fn new(alloc: Global, good_calls: usize, kind: Option<ErrorKind>) -> Drip {
+        Drip {
+            taken: Vec::new(alloc),
+            good_calls,
+            kind,
+        }
+    }
+
+    // One call less, or the answer that a call has once they are used up.
+    fn call(&mut self) -> io::Result<bool> {
+        if self.good_calls > 0 {
+            self.good_calls -= 1;
+            return Ok(true);
+        }
+        match self.kind {
+            Some(kind) => Err(io::Error::new(kind, "the writer failed")),
+            None => Ok(false),
+        }
+    }
+}
+
+impl Write for Drip {
+    fn write(&mut self, buf: &[u8]) -> io::Result<usize> {
+        if !self.call()? || buf.is_empty() {
+            return Ok(0);
+        }
+        self.taken.push(buf[0])?;
+        Ok(1)
+    }
+
+    fn flush(&mut self) -> io::Result<()> {
+        self.call()?;
+        Ok(())
+    }
+}
+
+/// A writer that takes each slice whole and keeps none of it.
+#[derive(Drop)]
+pub struct Counting {
+    /// How many bytes were taken.
+    pub bytes: u64,
+    /// How many calls took them.
+    pub calls: u64,
+}
+
+impl Counting {
+    /// A writer that was not called yet.
+    pub fn new() -> Counting {
+        Counting { bytes: 0, calls: 0 }
+    }
+}
+
+impl Write for Counting {
+    fn write(&mut self, buf: &[u8]) -> io::Result<usize> {
+        self.bytes = self.bytes.wrapping_add(buf.len() as u64);
+        self.calls = self.calls.wrapping_add(1);
+        Ok(buf.len())
+    }
+
+    fn flush(&mut self) -> io::Result<()> {
+        Ok(())
+    }
+}

@@ -1,0 +1,66 @@
+//! What a field that was found is.
+
+use exif::{Field, In, Tag, Value};
+
+// The value of a field, if it has this tag in this directory.
+fn value_of(found: Option<&Field>, tag: Tag, ifd_num: In) -> Option<&Value> {
+    let field = found?;
+    if field.tag == tag && field.ifd_num == ifd_num {
+        Some(&field.value)
+    } else {
+        None
+    }
+}
+
+/// Whether a field has one whole number, which is this.
+pub fn is_number(found: Option<&Field>, tag: Tag, ifd_num: In, number: u32) -> bool {
+    match value_of(found, tag, ifd_num) {
+        Some(value) => value.get_uint(0) == Some(number) && value.get_uint(1).is_none(),
+        None => false,
+    }
+}
+
+/// Whether a field of the first directory has a list of whole numbers, and none in it.
+pub fn is_no_number(found: Option<&Field>, tag: Tag) -> bool {
+    match value_of(found, tag, In::PRIMARY) {
+        Some(value) => matches!(value, Value::Long(_)) && value.get_uint(0).is_none(),
+        None => false,
+    }
+}
+
+/// Whether a field is the version of Exif, whose bytes stand at a place of the image.
+pub fn is_version(found: Option<&Field>, at: u32) -> bool {
+    is_undefined(found, Tag::ExifVersion, b"0231", at)
+}
+
+/// Whether a field of the first directory has one text, which is this.
+pub fn is_text(found: Option<&Field>, tag: Tag, text: &[u8]) -> bool {
+    match value_of(found, tag, In::PRIMARY) {
+        Some(Value::Ascii(texts)) => { texts.len() == 1 && texts.as_slice()[0].as_slice() == text }
+        _ => false,
+    }
+}
+
+/// Whether a field of the first directory has these bytes.
+pub fn is_bytes(found: Option<&Field>, tag: Tag, bytes: &[u8]) -> bool {
+    match value_of(found, tag, In::PRIMARY) {
+        Some(Value::Byte(found)) => found.as_slice() == bytes,
+        _ => false,
+    }
+}
+
+/// Whether a field of the first directory has undefined bytes, these, which stand at a place.
+pub fn is_undefined(found: Option<&Field>, tag: Tag, bytes: &[u8], at: u32) -> bool {
+    match value_of(found, tag, In::PRIMARY) {
+        Some(Value::Undefined(found, place)) => found.as_slice() == bytes && *place == at,
+        _ => false,
+    }
+}
+
+/// Whether a field of the first directory has one signed number, which is this.
+pub fn is_signed_number(found: Option<&Field>, tag: Tag, number: i32) -> bool {
+    match value_of(found, tag, In::PRIMARY) {
+        Some(Value::SLong(numbers)) => numbers.as_slice() == [number].as_slice(),
+        _ => false,
+    }
+}

@@ -1,0 +1,6 @@
+//! What is answered, written and kept where memory runs short.
+
+mod memory;
+mod shortage;
+mod skips;
+mod write_memory;

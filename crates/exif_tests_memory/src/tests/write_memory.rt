@@ -1,0 +1,157 @@
+//! What a writer does where memory is refused: all of it, or what is behind some request.
+//! `shortage` says which allocator these tests need.
+
+use super::shortage::{Outcome, in_turn, take_most, take_rest};
+use exif::experimental::Writer;
+use exif::{Error, Exif, Field, In, Tag, Value};
+use exif_samples::answers::{are_bytes, kind_of, reason};
+use exif_samples::readings::read_strictly;
+use exif_samples::writings::{
+    description, field, four_fields, is_image, push_all, scrub_into, write_into, written,
+};
+use exif_samples::{files, images};
+use std::alloc::Global;
+use std::io::ErrorKind;
+use std::process::Abort;
+use std::test::Fail;
+
+// What a write comes to that is to send these bytes. Where memory runs out, nothing was sent.
+fn writing(writer: &mut Writer, bytes: &[u8]) -> Outcome {
+    let mut room = [0u8; 256];
+    let (answer, rest) = write_into(writer, &mut room[..]);
+    let length = 256usize.saturating_sub(rest.len());
+    match answer {
+        Ok(()) => Outcome::answered(&room[..length] == bytes),
+        Err(Error::OutOfMemory) if length == 0 => Outcome::Wants,
+        Err(_error) => Outcome::Wrong,
+    }
+}
+
+#[test]
+fn writing_runs_out_of_memory(rt: HostRuntime) -> Result<(), Fail> {
+    let alloc = rt.alloc();
+    let fields = four_fields(alloc)?;
+    let mut writer = Writer::new(alloc);
+    push_all(&mut writer, fields.as_slice())?;
+    writer.set_jpeg(b"JPEG", In::THUMBNAIL)?;
+    let wants = in_turn(&rt, || writing(&mut writer, files::EVERY_DIRECTORY))?;
+    assert!(rt; wants > 0);
+    Ok(())
+}
+
+// What scrubbing comes to that is to send these bytes. Where memory runs out, nothing was sent.
+fn scrubbing(alloc: Global, exif: &Exif, bytes: &[u8]) -> Outcome {
+    let mut room = [0u8; 256];
+    let (answer, rest) = scrub_into(alloc, exif, &mut room[..]);
+    let length = 256usize.saturating_sub(rest.len());
+    match answer {
+        Ok(()) => Outcome::answered(&room[..length] == bytes),
+        Err(Error::OutOfMemory) if length == 0 => Outcome::Wants,
+        Err(_error) => Outcome::Wrong,
+    }
+}
+
+#[test]
+fn scrubbing_runs_out_of_memory(rt: HostRuntime) -> Result<(), Fail> {
+    let alloc = rt.alloc();
+    let exif = read_strictly(alloc, files::EVERY_DIRECTORY)?;
+    let wants = in_turn(&rt, || scrubbing(alloc, &exif, images::SCRUBBED_BIG))?;
+    assert!(rt; wants > 0);
+    Ok(())
+}
+
+// Changes the sixth directory in one of the four ways.
+fn change<'a>(writer: &mut Writer<'a>, field: &'a Field, way: u8) -> Result<(), Error> {
+    match way {
+        0 => writer.push_field(field),
+        1 => writer.set_strips(&[b"STRIP"], In(5)),
+        2 => writer.set_tiles(&[b"TILE"], In(5)),
+        _ => writer.set_jpeg(b"JPEG", In(5)),
+    }
+}
+
+// Each refused change leaves the writer as it was, until one is not refused. Gives how many were.
+fn refused_changes(rt: &(impl Abort + AllocGlobal), later: &Field, way: u8) -> Result<u16, Fail> {
+    let alloc = rt.alloc();
+    let field = description(alloc, In::PRIMARY, b"Sample")?;
+    let mut writer = Writer::new(alloc);
+    writer.push_field(&field)?;
+    let _most = take_most(alloc)?;
+    for step in 0..1000u16 {
+        let rest = take_rest(alloc, 16 * step)?;
+        let answer = change(&mut writer, later, way);
+        drop(rest);
+        match answer {
+            Ok(()) => return Ok(step),
+            Err(Error::OutOfMemory) => {}
+            Err(_error) => panic!(rt; "another error"),
+        }
+        assert!(rt; is_image(alloc, &mut writer, files::DESCRIBED_BIG)?);
+    }
+    panic!(rt; "memory was never enough");
+}
+
+#[test]
+fn refused_changes_leave_the_writer(rt: HostRuntime) -> Result<(), Fail> {
+    let later = description(rt.alloc(), In(5), b"later")?;
+    for way in 0..4u8 {
+        assert!(rt; refused_changes(&rt, &later, way)? > 0);
+    }
+    Ok(())
+}
+
+// Whether with all memory refused a write is refused for a reason.
+fn is_refused(
+    rt: &(impl Abort + AllocGlobal),
+    writer: &mut Writer,
+    text: &str,
+) -> Result<bool, Fail> {
+    let alloc = rt.alloc();
+    let mut room = [0u8; 8];
+    let most = take_most(alloc)?;
+    let rest = take_rest(alloc, 0)?;
+    let (answer, _room) = write_into(writer, &mut room[..]);
+    drop(rest);
+    drop(most);
+    Ok(reason(&answer) == Some(text))
+}
+
+#[test]
+fn refusals_take_no_memory(rt: HostRuntime) -> Result<(), Fail> {
+    let alloc = rt.alloc();
+    let unknown = field(Tag::ImageWidth, In::PRIMARY, Value::Unknown(65535, 1, 18));
+    let mut writer = Writer::new(alloc);
+    assert!(rt; is_refused(&rt, &mut writer, "At least one IFD must exist")?);
+    writer.push_field(&unknown)?;
+    assert!(rt; is_refused(&rt, &mut writer, "Cannot write unknown field types")?);
+    Ok(())
+}
+
+#[test]
+fn empty_directories_are_refused_without_memory(rt: HostRuntime) -> Result<(), Fail> {
+    let mut writer = Writer::new(rt.alloc());
+    writer.set_jpeg(b"JPEG", In::THUMBNAIL)?;
+    assert!(rt; is_refused(&rt, &mut writer, "IFD must not be empty")?);
+    Ok(())
+}
+
+// The directory of a strip of 40,000 bytes.
+const LONG_STRIP: &[u8] =
+    b"MM\0*\0\0\0\x08\0\x02\x01\x11\0\x04\0\0\0\x01\0\0\0\x26\x01\x17\0\x04\0\0\0\x01\0\0\x9c\x40\0\0\0\0";
+
+#[test]
+fn a_writer_over_memory_fails_where_its_memory_does(rt: HostRuntime) -> Result<(), Fail> {
+    let alloc = rt.alloc();
+    let mut strip = Vec::new(alloc);
+    strip.resize(40_000, b' ')?;
+    let strips: [&[u8]; 1] = [strip.as_slice()];
+    let mut writer = Writer::new(alloc);
+    writer.set_strips(&strips, In::PRIMARY)?;
+    let most = take_most(alloc)?;
+    let rest = take_rest(alloc, 8192)?;
+    let (answer, sent) = written(alloc, &mut writer, false);
+    drop(rest);
+    drop(most);
+    assert_eq!(rt; kind_of(&answer), Some(ErrorKind::OutOfMemory));
+    are_bytes(sent.as_slice(), LONG_STRIP)
+}

@@ -1,0 +1,13 @@
+//! What is read of small files, and what is said of them.
+
+mod containers;
+mod devices;
+mod fields;
+mod limits;
+mod names;
+mod parsing;
+mod partial;
+mod reports;
+mod streams;
+mod support;
+mod units;

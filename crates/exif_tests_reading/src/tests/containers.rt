@@ -1,0 +1,173 @@
+//! Exif data in JPEG, WebP and HEIF files, by way of the report and the reader.
+
+use super::support::writes;
+use exif::{Context, Exif, Reader, Tag};
+use exif_samples::answers::{are_bytes, distilled, fails_with, reads};
+use exif_samples::devices::{KINDS, Slow};
+use exif_samples::files;
+use exif_samples::found::{is_signed_number, is_text, is_undefined};
+use exif_samples::readings::{answer_of, reader_of, slow_answer, slow_report};
+use exif_samples::streams::{Container, attr};
+use std::alloc::Global;
+use std::io::ErrorKind;
+use std::process::Abort;
+use std::test::Fail;
+
+const DESCRIPTION: &str = "ImageDescription primary \"Sample\"\n";
+
+const UNKNOWN: &str = "Unknown image format";
+
+const NO_EXIF: &str = "No Exif data found in HEIF";
+
+// A report from a reader of one byte a call writes the description.
+fn is_reported_slowly(rt: &(impl Abort + AllocGlobal), bytes: &[u8]) -> Result<(), Fail> {
+    let slow = Slow::new(bytes, bytes.len() + 9, ErrorKind::Other);
+    let (answer, written) = slow_report(rt.alloc(), slow, false);
+    assert_eq!(rt; answer?, 0);
+    are_bytes(written.as_slice(), DESCRIPTION.as_bytes())
+}
+
+#[test]
+fn each_container_is_read(rt: HostRuntime) -> Result<(), Fail> {
+    for bytes in [files::JPEG, files::WEBP, files::HEIF] {
+        writes(&rt, bytes, false, DESCRIPTION)?;
+        writes(&rt, bytes, true, DESCRIPTION)?;
+        is_reported_slowly(&rt, bytes)?;
+    }
+    Ok(())
+}
+
+// The reading of a file is refused with this text in either mode.
+fn is_refused(alloc: Global, bytes: &[u8], text: &str) -> Result<(), Fail> {
+    for lenient in [false, true] {
+        match answer_of(alloc, &reader_of(lenient), bytes) {
+            Ok(_exif) => return Err(Fail::new("a broken file was read")),
+            Err(error) => reads(alloc, &error, text)?,
+        }
+    }
+    Ok(())
+}
+
+// The first box of a HEIF file is refused with this text behind a box of so many zeros.
+fn is_refused_behind(alloc: Global, head: &[u8], zeros: usize, text: &str) -> Result<(), Fail> {
+    let mut bytes = Vec::from_slice(alloc, head)?;
+    for _ in 0..zeros {
+        bytes.push(0)?;
+    }
+    bytes.extend_from_slice(files::HEIF_BRANDS)?;
+    is_refused(alloc, bytes.as_slice(), text)
+}
+
+#[test]
+fn refusals_of_containers(rt: HostRuntime) -> Result<(), Fail> {
+    let alloc = rt.alloc();
+    for (bytes, text) in [
+        (b"".as_slice(), UNKNOWN),
+        (b"\x89PNG\x0d\x0a\x1a\x0a", UNKNOWN),
+        (b"\xff", UNKNOWN),
+        (b"MM*\0\0\0\0\x08", UNKNOWN),
+        (b"II*\0", "Truncated TIFF header"),
+        (files::HEIF_BOX_CUT, NO_EXIF),
+        (files::HEIF_SHORT_DATA, "Truncated TIFF header"),
+        (files::HEIF_EMPTY_ITEM, "ExifDataBlock too small"),
+        (b"\xff\xd8\xff\xd9", "No Exif data found in JPEG"),
+        (b"\xff\xd8\xff", "Broken JPEG file"),
+        (b"RIFF\x04\0\0\0WEBP", "No Exif data found in WebP"),
+    ] {
+        is_refused(alloc, bytes, text)?;
+    }
+    is_refused_behind(alloc, b"\0\0\x0f\xfafree", 4082, UNKNOWN)?;
+    is_refused_behind(alloc, b"\0\0\x0f\xecfree", 4068, NO_EXIF)
+}
+
+// Reading fails with the error of the device, wherever it fails.
+fn fails_at_each_call(
+    alloc: Global,
+    reader: &Reader,
+    bytes: &[u8],
+    kind: ErrorKind,
+) -> Result<(), Fail> {
+    for good_calls in 0..bytes.len() + 1 {
+        let answer = slow_answer(alloc, reader, Slow::new(bytes, good_calls, kind));
+        fails_with(&answer, kind, good_calls)?;
+    }
+    Ok(())
+}
+
+// Whether the description alone was read.
+fn is_the_description(exif: &Exif) -> bool {
+    let found = exif.fields().next();
+    exif.fields().len() == 1 && is_text(found, Tag::ImageDescription, b"Sample")
+}
+
+// Reading gives the description where the device doesn't fail.
+fn gives_the_description(
+    rt: &(impl Abort + AllocGlobal),
+    reader: &Reader,
+    bytes: &[u8],
+    kind: ErrorKind,
+) -> Result<(), Fail> {
+    let slow = Slow::new(bytes, bytes.len() + 9, kind);
+    let exif = slow_answer(rt.alloc(), reader, slow)?;
+    assert!(rt; is_the_description(&exif));
+    Ok(())
+}
+
+#[test]
+fn a_reader_that_fails_is_no_broken_file(rt: HostRuntime) -> Result<(), Fail> {
+    let reader = reader_of(true);
+    for bytes in [
+        files::JPEG,
+        files::WEBP,
+        files::HEIF,
+        files::DESCRIBED_BIG,
+        files::DESCRIBED_LITTLE,
+    ] {
+        for kind in KINDS {
+            fails_at_each_call(rt.alloc(), &reader, bytes, kind)?;
+            gives_the_description(&rt, &reader, bytes, kind)?;
+        }
+    }
+    Ok(())
+}
+
+// Whether these are the two fields of the file with a wrong next place.
+fn are_of_wrong_next(exif: &Exif) -> bool {
+    let version = exif.fields().next();
+    let number = exif.fields().nth(1);
+    exif.fields().len() == 2
+        && is_undefined(version, Tag::ExifVersion, b"\0\x02\x03\x02", 0x30)
+        && is_signed_number(number, Tag(Context::Tiff, 65000), -19088744)
+}
+
+// Reading gives the two fields and the two faults where the device doesn't fail.
+fn gives_fields_and_faults(
+    rt: &(impl Abort + AllocGlobal),
+    reader: &Reader,
+    kind: ErrorKind,
+) -> Result<(), Fail> {
+    let bytes = files::WRONG_NEXT;
+    let slow = Slow::new(bytes, bytes.len() + 9, kind);
+    let (exif, faults) = distilled(slow_answer(rt.alloc(), reader, slow))?;
+    assert!(rt; faults == 2 && are_of_wrong_next(&exif));
+    Ok(())
+}
+
+#[test]
+fn a_reader_that_fails_is_no_fault_of_a_directory(rt: HostRuntime) -> Result<(), Fail> {
+    let reader = reader_of(true);
+    for kind in KINDS {
+        fails_at_each_call(rt.alloc(), &reader, files::WRONG_NEXT, kind)?;
+        gives_fields_and_faults(&rt, &reader, kind)?;
+    }
+    Ok(())
+}
+
+#[test]
+fn what_follows_the_segment_is_left(rt: HostRuntime) -> Result<(), Fail> {
+    let bytes = b"\xff\xd8\xff\xe1\0\x0aExif\0\0\xbe\xad\xff\xd9";
+    let (given, left) = attr(rt.alloc(), Container::Jpeg, bytes);
+    let payload = given?;
+    are_bytes(payload.as_slice(), b"\xbe\xad")?;
+    are_bytes(left, b"\xff\xd9")
+}

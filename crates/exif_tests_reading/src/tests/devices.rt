@@ -1,0 +1,72 @@
+//! Reports from readers that give one byte a call or fail, and to such writers.
+
+use exif_samples::answers::{are_bytes, fails_with};
+use exif_samples::devices::{Drip, KINDS, Slow};
+use exif_samples::files;
+use exif_samples::readings::{dripping_report, slow_report};
+use std::alloc::Global;
+use std::io::ErrorKind;
+use std::test::Fail;
+
+const DESCRIPTION: &[u8] = b"ImageDescription primary \"Sample\"\n";
+
+// The report of a reader that fails is its error, and nothing is written.
+fn writes_nothing(alloc: Global, good_calls: usize, kind: ErrorKind) -> Result<(), Fail> {
+    let slow = Slow::new(files::DESCRIBED_BIG, good_calls, kind);
+    let (answer, written) = slow_report(alloc, slow, true);
+    fails_with(&answer, kind, good_calls)?;
+    are_bytes(written.as_slice(), b"")
+}
+
+#[test]
+fn readers(rt: HostRuntime) -> Result<(), Fail> {
+    let alloc = rt.alloc();
+    let bytes = files::DESCRIBED_BIG;
+    for kind in KINDS {
+        for good_calls in 0..bytes.len() + 1 {
+            writes_nothing(alloc, good_calls, kind)?;
+        }
+    }
+    let slow = Slow::new(bytes, bytes.len() + 9, ErrorKind::Other);
+    let (answer, written) = slow_report(alloc, slow, false);
+    assert_eq!(rt; answer?, 0);
+    are_bytes(written.as_slice(), DESCRIPTION)
+}
+
+// The report to a writer of so many good calls is an error of a kind, and these bytes were taken.
+fn leaves(
+    alloc: Global,
+    good_calls: usize,
+    fault: Option<ErrorKind>,
+    kind: ErrorKind,
+    bytes: &[u8],
+) -> Result<(), Fail> {
+    let drip = Drip::new(alloc, good_calls, fault);
+    let (answer, out) = dripping_report(alloc, files::DESCRIBED_BIG, drip);
+    fails_with(&answer, kind, good_calls)?;
+    are_bytes(out.taken.as_slice(), bytes)
+}
+
+#[test]
+fn writers(rt: HostRuntime) -> Result<(), Fail> {
+    let alloc = rt.alloc();
+    for kind in KINDS {
+        // Each byte takes a call.
+        for good_calls in 0..DESCRIPTION.len() {
+            leaves(
+                alloc,
+                good_calls,
+                Some(kind),
+                kind,
+                &DESCRIPTION[..good_calls],
+            )?;
+        }
+        // The last call is the flush.
+        leaves(alloc, DESCRIPTION.len(), Some(kind), kind, DESCRIPTION)?;
+    }
+    leaves(alloc, 3, None, ErrorKind::WriteZero, &DESCRIPTION[..3])?;
+    let drip = Drip::new(alloc, DESCRIPTION.len() + 1, Some(ErrorKind::Other));
+    let (answer, out) = dripping_report(alloc, files::DESCRIBED_BIG, drip);
+    assert_eq!(rt; answer?, 0);
+    are_bytes(out.taken.as_slice(), DESCRIPTION)
+}

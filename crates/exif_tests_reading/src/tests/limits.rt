@@ -1,0 +1,129 @@
+//! The limit on visited entries, and how many entries there are to visit.
+
+use exif::Reader;
+use exif_samples::answers::{counts, is_text};
+use exif_samples::files;
+use exif_samples::readings::{raw_answer, read, reader_of, refusal, reported, shared_children};
+use std::alloc::Global;
+use std::process::Abort;
+use std::test::Fail;
+
+const LIMIT: &str = "Limit the IFD entry count";
+
+const CHAIN: &str = "Limit the IFD count to 8";
+
+// A lenient reader with a limit.
+fn limited(limit: u64) -> Reader {
+    let mut reader = Reader::new();
+    reader.continue_on_error(true).limit_entries(limit);
+    reader
+}
+
+// Whether the texts of faults are these.
+fn are_texts(found: &[String], wanted: &[&str]) -> bool {
+    for (text, expected) in found.iter().zip(wanted) {
+        if text.as_str() != *expected {
+            return false;
+        }
+    }
+    found.len() == wanted.len()
+}
+
+// Whether lenient reading with a limit gives so many fields, and these faults.
+fn gives(
+    alloc: Global,
+    bytes: &[u8],
+    limit: u64,
+    fields: usize,
+    faults: &[&str],
+) -> Result<bool, Fail> {
+    let (exif, found) = read(alloc, &limited(limit), bytes)?;
+    Ok(exif.fields().len() == fields && are_texts(found.as_slice(), faults))
+}
+
+// Strict reading with a limit gives this fault or none.
+fn stops_at(alloc: Global, bytes: &[u8], limit: u64, first: Option<&str>) -> Result<(), Fail> {
+    let mut strict = Reader::new();
+    strict.limit_entries(limit);
+    let refusal = refusal(alloc, &strict, bytes)?;
+    match (refusal, first) {
+        (Some(text), Some(fault)) => is_text(text.as_str(), fault),
+        (None, None) => Ok(()),
+        _ => Err(Fail::new("strict and lenient differ")),
+    }
+}
+
+// What is read with a limit: so many fields, and these faults, of which strict reading gives the
+// first.
+fn cut(
+    rt: &(impl Abort + AllocGlobal),
+    bytes: &[u8],
+    limit: u64,
+    fields: usize,
+    faults: &[&str],
+) -> Result<(), Fail> {
+    assert!(rt; gives(rt.alloc(), bytes, limit, fields, faults)?);
+    let (answer, _written) = reported(rt.alloc(), bytes, true, Some(limit));
+    assert_eq!(rt; answer?, faults.len() as u64);
+    stops_at(rt.alloc(), bytes, limit, faults.first().copied())
+}
+
+#[test]
+fn limits_cut_the_reading(rt: HostRuntime) -> Result<(), Fail> {
+    let three = shared_children(rt.alloc(), 3, 0)?;
+    cut(&rt, files::SHARED_CHILD, 6, 4, &[])?;
+    cut(&rt, files::SHARED_CHILD, 5, 3, &[LIMIT])?;
+    cut(&rt, files::SHARED_CHILD, 0, 0, &[LIMIT])?;
+    cut(
+        &rt,
+        files::WRONG_NEXT,
+        2,
+        1,
+        &["Unexpected next IFD", LIMIT],
+    )?;
+    cut(&rt, files::WRONG_NEXT, 1, 0, &[LIMIT])?;
+    cut(&rt, files::CIRCLE, 3, 3, &[LIMIT])?;
+    cut(&rt, files::CIRCLE, 8, 8, &[CHAIN])?;
+    cut(&rt, three.as_slice(), 38, 26, &[LIMIT])?;
+    cut(&rt, three.as_slice(), 39, 27, &[])?;
+    cut(&rt, files::NOTHING, 0, 0, &[])
+}
+
+// How many fields and faults are read leniently.
+fn counted(alloc: Global, bytes: &[u8]) -> Result<(usize, usize), Fail> {
+    let answer = raw_answer(alloc, &reader_of(true), bytes);
+    Ok(counts(answer).ok_or("no fields")?)
+}
+
+// How many fields and faults are read leniently with a limit.
+fn counted_within(alloc: Global, bytes: &[u8], limit: u64) -> Result<(usize, usize), Fail> {
+    let answer = raw_answer(alloc, &limited(limit), bytes);
+    Ok(counts(answer).ok_or("no fields")?)
+}
+
+// The last fault with a limit is that of the limit.
+fn ends_at_the_limit(alloc: Global, bytes: &[u8], limit: u64) -> Result<(), Fail> {
+    let (_exif, found) = read(alloc, &limited(limit), bytes)?;
+    let last = found.last().ok_or("no fault")?;
+    is_text(last.as_str(), LIMIT)
+}
+
+#[test]
+fn shared_children_are_read_each_time(rt: HostRuntime) -> Result<(), Fail> {
+    let alloc = rt.alloc();
+    for (count, next, length, visits, wanted) in [
+        (0, 0, 26, 0, (0, 0)),
+        (3, 0, 134, 39, (27, 0)),
+        (3, 8, 134, 312, (216, 1)),
+        (40, 0, 1466, 65640, (64000, 0)),
+    ] {
+        let bytes = shared_children(alloc, count, next)?;
+        assert_eq!(rt; bytes.len(), length);
+        assert_eq!(rt; counted(alloc, bytes.as_slice())?, wanted);
+        assert_eq!(rt; counted_within(alloc, bytes.as_slice(), visits)?, wanted);
+        if visits > 0 {
+            ends_at_the_limit(alloc, bytes.as_slice(), visits - 1)?;
+        }
+    }
+    Ok(())
+}

@@ -1,0 +1,9 @@
+//! What is written, and what is read of it again.
+
+mod carried;
+mod debug;
+mod rewriting;
+mod scrubbing;
+mod write_devices;
+mod write_refusals;
+mod writing;

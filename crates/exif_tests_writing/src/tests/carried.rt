@@ -1,0 +1,88 @@
+//! Images that were written, and are read from files of each kind.
+
+use exif::experimental::Writer;
+use exif::{Exif, In, Reader, Tag};
+use exif_samples::answers::are_bytes;
+use exif_samples::found::{is_bytes, is_number, is_text, is_version};
+use exif_samples::readings::answer_of;
+use exif_samples::writings::{four_fields, image, push_all};
+use std::alloc::{AllocError, Global};
+use std::process::Abort;
+use std::test::Fail;
+
+// The image of four fields and a thumbnail.
+fn written(alloc: Global, little_endian: bool) -> Result<Vec<u8>, Fail> {
+    let fields = four_fields(alloc)?;
+    let mut writer = Writer::new(alloc);
+    push_all(&mut writer, fields.as_slice())?;
+    writer.set_jpeg(b"JPEG", In::THUMBNAIL)?;
+    Ok(image(alloc, &mut writer, little_endian)?)
+}
+
+// An image behind the head of a file.
+fn carried(alloc: Global, head: &[u8], image: &[u8]) -> Result<Vec<u8>, AllocError> {
+    let mut file = Vec::from_slice(alloc, head)?;
+    file.extend_from_slice(image)?;
+    Ok(file)
+}
+
+// Whether these are the four fields, and the place and the length of the thumbnail.
+fn is_what_was_written(exif: &Exif) -> bool {
+    let thumbnail = In::THUMBNAIL;
+    exif.fields().len() == 6
+        && is_text(exif.fields().next(), Tag::ImageDescription, b"Sample")
+        && is_version(exif.fields().nth(1), 0x3c)
+        && is_text(exif.fields().nth(2), Tag::InteroperabilityIndex, b"ABC")
+        && is_bytes(exif.fields().nth(3), Tag::GPSVersionID, b"\x02\x03\0\0")
+        && is_number(
+            exif.fields().nth(4),
+            Tag::JPEGInterchangeFormat,
+            thumbnail,
+            154,
+        )
+        && is_number(
+            exif.fields().nth(5),
+            Tag::JPEGInterchangeFormatLength,
+            thumbnail,
+            4,
+        )
+}
+
+// A file behind a head is read as its image.
+fn is_read_behind(
+    rt: &(impl Abort + AllocGlobal),
+    head: &[u8],
+    image: &[u8],
+    little_endian: bool,
+) -> Result<(), Fail> {
+    let alloc = rt.alloc();
+    let file = carried(alloc, head, image)?;
+    let exif = answer_of(alloc, &Reader::new(), file.as_slice())?;
+    assert_eq!(rt; exif.little_endian(), little_endian);
+    assert!(rt; is_what_was_written(&exif));
+    are_bytes(exif.buf(), image)
+}
+
+// What was written in a byte order is read behind each head: of TIFF data, of a JPEG stream with a
+// segment of 166 bytes, and of a WebP file with a chunk of 158.
+fn is_read(rt: &(impl Abort + AllocGlobal), little_endian: bool) -> Result<(), Fail> {
+    let image = written(rt.alloc(), little_endian)?;
+    for head in [
+        b"".as_slice(),
+        b"\xff\xd8\xff\xe1\0\xa6Exif\0\0",
+        b"RIFF\xaa\0\0\0WEBPEXIF\x9e\0\0\0",
+    ] {
+        is_read_behind(rt, head, image.as_slice(), little_endian)?;
+    }
+    Ok(())
+}
+
+#[test]
+fn big_endian(rt: HostRuntime) -> Result<(), Fail> {
+    is_read(&rt, false)
+}
+
+#[test]
+fn little_endian(rt: HostRuntime) -> Result<(), Fail> {
+    is_read(&rt, true)
+}

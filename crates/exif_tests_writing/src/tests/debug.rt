@@ -1,0 +1,39 @@
+//! The debug texts of writers.
+
+use exif::experimental::Writer;
+use exif::{In, Items, Tag, Value};
+use exif_samples::answers::debugs;
+use exif_samples::writings::field;
+use std::test::Fail;
+
+const NOTHING: &str = "Writer { alloc: Global, ifds: [] }";
+
+const FIELDS: &str =
+    "Writer { alloc: Global, ifds: [Ifd { tiff: [Field { tag: Tag(Tiff, 256), ifd_num: In(0), value: Short([20]) }], exif: [], gps: [], interop: [], strips: None, tiles: None, jpeg: None }] }";
+
+const BLOCKS: &str =
+    "Writer { alloc: Global, ifds: [Ifd { tiff: [], exif: [], gps: [], interop: [], strips: Some([[65]]), tiles: Some([]), jpeg: Some([255, 216]) }] }";
+
+#[test]
+fn a_writer_of_nothing(rt: HostRuntime) -> Result<(), Fail> {
+    debugs(rt.alloc(), &Writer::new(rt.alloc()), NOTHING)
+}
+
+#[test]
+fn a_writer_of_fields(rt: HostRuntime) -> Result<(), Fail> {
+    let alloc = rt.alloc();
+    let width = Value::Short(Items::from_slice(alloc, &[20])?);
+    let width = field(Tag::ImageWidth, In::PRIMARY, width);
+    let mut writer = Writer::new(alloc);
+    writer.push_field(&width)?;
+    debugs(alloc, &writer, FIELDS)
+}
+
+#[test]
+fn a_writer_of_blocks(rt: HostRuntime) -> Result<(), Fail> {
+    let mut writer = Writer::new(rt.alloc());
+    writer.set_strips(&[b"A"], In::PRIMARY)?;
+    writer.set_tiles(&[], In::PRIMARY)?;
+    writer.set_jpeg(b"\xff\xd8", In::PRIMARY)?;
+    debugs(rt.alloc(), &writer, BLOCKS)
+}

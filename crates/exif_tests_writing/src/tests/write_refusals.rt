@@ -1,0 +1,158 @@
+//! For what nothing is written.
+
+use exif::experimental::Writer;
+use exif::{Field, In, Tag, Value};
+use exif_samples::answers::is_shown;
+use exif_samples::files;
+use exif_samples::readings::read_strictly;
+use exif_samples::writings::{counted_write, description, field, image, text, writer_of};
+use std::alloc::{AllocError, Global};
+use std::test::Fail;
+
+// Whether nothing is sent, for a reason.
+fn is_refused(alloc: Global, writer: &mut Writer, reason: &str) -> bool {
+    let (answer, sent) = counted_write(writer);
+    match answer {
+        Ok(()) => false,
+        Err(error) => sent.bytes == 0 && sent.calls == 0 && is_shown(alloc, &error, reason),
+    }
+}
+
+// A field with a value of an unknown type.
+fn unknown(ifd_num: In) -> Field {
+    field(Tag::ImageWidth, ifd_num, Value::Unknown(65535, 1, 18))
+}
+
+#[test]
+fn no_directory(rt: HostRuntime) -> Result<(), Fail> {
+    let alloc = rt.alloc();
+    let own = text(alloc, Tag::StripOffsets, In::PRIMARY, b"of places")?;
+    let mut writer = Writer::new(alloc);
+    assert!(rt; is_refused(alloc, &mut writer, "At least one IFD must exist"));
+    writer.push_field(&own)?;
+    assert!(rt; is_refused(alloc, &mut writer, "At least one IFD must exist"));
+    Ok(())
+}
+
+#[test]
+fn an_empty_directory(rt: HostRuntime) -> Result<(), Fail> {
+    let alloc = rt.alloc();
+    let mut writer = Writer::new(alloc);
+    writer.set_jpeg(b"JPEG", In::THUMBNAIL)?;
+    assert!(rt; is_refused(alloc, &mut writer, "IFD must not be empty"));
+    Ok(())
+}
+
+#[test]
+fn the_first_directory_with_a_cause(rt: HostRuntime) -> Result<(), Fail> {
+    let alloc = rt.alloc();
+    let first = unknown(In::PRIMARY);
+    let mut writer = Writer::new(alloc);
+    writer.push_field(&first)?;
+    writer.set_jpeg(b"JPEG", In(2))?;
+    assert!(rt; is_refused(alloc, &mut writer, "Cannot write unknown field types"));
+    Ok(())
+}
+
+#[test]
+fn an_empty_directory_before_an_unknown_type(rt: HostRuntime) -> Result<(), Fail> {
+    let alloc = rt.alloc();
+    let described = description(alloc, In::PRIMARY, b"p")?;
+    let third = unknown(In(2));
+    let mut writer = Writer::new(alloc);
+    writer.push_field(&described)?;
+    writer.push_field(&third)?;
+    assert!(rt; is_refused(alloc, &mut writer, "IFD must not be empty"));
+    Ok(())
+}
+
+#[test]
+fn unknown_types_that_were_read(rt: HostRuntime) -> Result<(), Fail> {
+    let alloc = rt.alloc();
+    let exif = read_strictly(alloc, files::UNKNOWN_TYPE)?;
+    let mut writer = writer_of(alloc, &exif)?;
+    assert!(rt; is_refused(alloc, &mut writer, "Cannot write unknown field types"));
+    Ok(())
+}
+
+// A writer into which a field was pushed so many times.
+fn crowded<'a>(alloc: Global, field: &'a Field, times: u32) -> Result<Writer<'a>, Fail> {
+    let mut writer = Writer::new(alloc);
+    for _pushed in 0..times {
+        writer.push_field(field)?;
+    }
+    Ok(writer)
+}
+
+#[test]
+fn as_many_fields_as_a_count_can_say(rt: HostRuntime) -> Result<(), Fail> {
+    let alloc = rt.alloc();
+    let described = description(alloc, In::PRIMARY, b"p")?;
+    let mut writer = crowded(alloc, &described, 65_535)?;
+    assert_eq!(rt; image(alloc, &mut writer, true)?.len(), 8 + 6 + 12 * 65_535);
+    Ok(())
+}
+
+#[test]
+fn one_field_more(rt: HostRuntime) -> Result<(), Fail> {
+    let alloc = rt.alloc();
+    let described = description(alloc, In::PRIMARY, b"p")?;
+    let mut writer = crowded(alloc, &described, 65_536)?;
+    assert!(rt; is_refused(alloc, &mut writer, "Too many fields in an IFD"));
+    Ok(())
+}
+
+#[test]
+fn too_many_fields_of_an_unknown_type(rt: HostRuntime) -> Result<(), Fail> {
+    let alloc = rt.alloc();
+    let strange = unknown(In::PRIMARY);
+    let mut writer = crowded(alloc, &strange, 65_536)?;
+    assert!(rt; is_refused(alloc, &mut writer, "Too many fields in an IFD"));
+    Ok(())
+}
+
+const STRIP: usize = 1 << 20;
+
+// A block of so many spaces.
+fn block(alloc: Global, len: usize) -> Result<Vec<u8>, AllocError> {
+    let mut block = Vec::with_capacity(alloc, len)?;
+    block.resize(len, b' ')?;
+    Ok(block)
+}
+
+// 4096 strips that are one block, the last of them so long.
+fn strips<'a>(alloc: Global, block: &'a Vec<u8>, last: usize) -> Result<Vec<&'a [u8]>, AllocError> {
+    let mut strips: Vec<&'a [u8]> = Vec::with_capacity(alloc, 4096)?;
+    for _strip in 1..4096u32 {
+        strips.push(block.as_slice())?;
+    }
+    strips.push(block.get(..last).unwrap_or(b""))?;
+    Ok(strips)
+}
+
+#[test]
+fn images_past_four_gigabytes(rt: HostRuntime) -> Result<(), Fail> {
+    let alloc = rt.alloc();
+    let block = block(alloc, STRIP)?;
+    let one_more = strips(alloc, &block, 1_015_770)?;
+    let whole = strips(alloc, &block, STRIP)?;
+    let mut writer = Writer::new(alloc);
+    writer.set_strips(one_more.as_slice(), In::PRIMARY)?;
+    assert!(rt; is_refused(alloc, &mut writer, "Offset too large"));
+    writer.set_strips(whole.as_slice(), In::PRIMARY)?;
+    assert!(rt; is_refused(alloc, &mut writer, "Offset too large"));
+    Ok(())
+}
+
+#[test]
+fn the_longest_image(rt: HostRuntime) -> Result<(), Fail> {
+    let alloc = rt.alloc();
+    let block = block(alloc, STRIP)?;
+    let strips = strips(alloc, &block, 1_015_769)?;
+    let mut writer = Writer::new(alloc);
+    writer.set_strips(strips.as_slice(), In::PRIMARY)?;
+    let (answer, sent) = counted_write(&mut writer);
+    answer?;
+    assert_eq!(rt; sent.bytes, 4_294_967_295);
+    Ok(())
+}

@@ -1,0 +1,175 @@
+//! Images, byte for byte.
+
+use exif::experimental::Writer;
+use exif::{Context, Error, Field, In, Items, Rational, SRational, Tag, Value};
+use exif_samples::answers::are_bytes;
+use exif_samples::writings::{
+    description, descriptions, field, four_fields, image, is_image, push_all, version,
+};
+use exif_samples::{files, images};
+use std::alloc::{AllocError, Global};
+use std::test::Fail;
+
+#[test]
+fn one_description(rt: HostRuntime) -> Result<(), Fail> {
+    let alloc = rt.alloc();
+    let field = description(alloc, In::PRIMARY, b"Sample")?;
+    let mut writer = Writer::new(alloc);
+    writer.push_field(&field)?;
+    assert!(rt; is_image(alloc, &mut writer, files::DESCRIBED_BIG)?);
+    let little = image(alloc, &mut writer, true)?;
+    are_bytes(little.as_slice(), files::DESCRIBED_LITTLE)?;
+    assert!(rt; is_image(alloc, &mut writer, files::DESCRIBED_BIG)?);
+    Ok(())
+}
+
+#[test]
+fn four_directories(rt: HostRuntime) -> Result<(), Fail> {
+    let alloc = rt.alloc();
+    let fields = four_fields(alloc)?;
+    let mut writer = Writer::new(alloc);
+    push_all(&mut writer, fields.as_slice())?;
+    writer.set_jpeg(b"JPEG", In::THUMBNAIL)?;
+    assert_eq!(rt; files::EVERY_DIRECTORY.len(), 158);
+    assert!(rt; is_image(alloc, &mut writer, files::EVERY_DIRECTORY)?);
+    Ok(())
+}
+
+#[test]
+fn strips_that_were_set_last(rt: HostRuntime) -> Result<(), Fail> {
+    let alloc = rt.alloc();
+    let tif = description(alloc, In::PRIMARY, b"tif")?;
+    let mut writer = Writer::new(alloc);
+    writer.push_field(&tif)?;
+    writer.set_strips(&[b"of another length"], In::THUMBNAIL)?;
+    writer.set_strips(&[b"STRIP"], In::THUMBNAIL)?;
+    assert!(rt; is_image(alloc, &mut writer, images::STRIP)?);
+    Ok(())
+}
+
+#[test]
+fn no_strips(rt: HostRuntime) -> Result<(), Fail> {
+    let alloc = rt.alloc();
+    let mut writer = Writer::new(alloc);
+    writer.set_strips(&[], In::PRIMARY)?;
+    assert!(rt; is_image(alloc, &mut writer, images::NO_STRIPS)?);
+    Ok(())
+}
+
+#[test]
+fn a_tile(rt: HostRuntime) -> Result<(), Fail> {
+    let alloc = rt.alloc();
+    let mut writer = Writer::new(alloc);
+    writer.set_tiles(&[b"TILE"], In::PRIMARY)?;
+    assert!(rt; is_image(alloc, &mut writer, images::TILE)?);
+    Ok(())
+}
+
+#[test]
+fn a_thumbnail(rt: HostRuntime) -> Result<(), Fail> {
+    let alloc = rt.alloc();
+    let jpg = description(alloc, In::PRIMARY, b"jpg")?;
+    let mut writer = Writer::new(alloc);
+    writer.push_field(&jpg)?;
+    writer.set_jpeg(b"JPEG", In::THUMBNAIL)?;
+    assert!(rt; is_image(alloc, &mut writer, images::THUMBNAIL)?);
+    Ok(())
+}
+
+#[test]
+fn directories_of_the_chain(rt: HostRuntime) -> Result<(), Fail> {
+    let alloc = rt.alloc();
+    let fields = descriptions(alloc, &[b"p", b"t", b"2"])?;
+    let mut writer = Writer::new(alloc);
+    push_all(&mut writer, fields.as_slice())?;
+    assert!(rt; is_image(alloc, &mut writer, images::THREE_DIRECTORIES)?);
+    Ok(())
+}
+
+#[test]
+fn children(rt: HostRuntime) -> Result<(), Fail> {
+    let alloc = rt.alloc();
+    let version = version(alloc)?;
+    let mut writer = Writer::new(alloc);
+    writer.push_field(&version)?;
+    assert!(rt; is_image(alloc, &mut writer, images::VERSION)?);
+    Ok(())
+}
+
+#[test]
+fn a_number_of_another_directory(rt: HostRuntime) -> Result<(), Fail> {
+    let alloc = rt.alloc();
+    let five = Value::Short(Items::from_slice(alloc, &[5])?);
+    let number = field(Tag(Context::Exif, 0x111), In::PRIMARY, five);
+    let mut writer = Writer::new(alloc);
+    writer.push_field(&number)?;
+    assert!(rt; is_image(alloc, &mut writer, images::STRIPS_NUMBER_IN_EXIF)?);
+    Ok(())
+}
+
+// Two texts of one letter.
+fn two_texts(alloc: Global) -> Result<Value, AllocError> {
+    let mut texts = Vec::with_capacity(alloc, 2)?;
+    texts.push(Items::from_slice(alloc, b"a")?)?;
+    texts.push(Items::from_slice(alloc, b"b")?)?;
+    Ok(Value::Ascii(Items::from_vec(texts)))
+}
+
+// The image of one field without its header, count and next place, big endian.
+fn entry_of(alloc: Global, field: &Field) -> Result<Vec<u8>, Error> {
+    let mut writer = Writer::new(alloc);
+    writer.push_field(field)?;
+    let bytes = image(alloc, &mut writer, false)?;
+    let mut entry = Vec::from_slice(alloc, bytes.get(10..22).unwrap_or(b""))?;
+    entry.extend_from_slice(bytes.get(26..).unwrap_or(b""))?;
+    Ok(entry)
+}
+
+// A value is written as this entry, and what stands behind it.
+fn is_entry(alloc: Global, value: Value, bytes: &[u8]) -> Result<(), Fail> {
+    let field = field(Tag(Context::Tiff, 0xfde8), In::PRIMARY, value);
+    let entry = entry_of(alloc, &field)?;
+    are_bytes(entry.as_slice(), bytes)
+}
+
+// The value of a type of numbers or texts, by its number.
+fn value(alloc: Global, kind: u8) -> Result<Value, AllocError> {
+    Ok(match kind {
+        1 => Value::Byte(Items::from_slice(alloc, b"\x01\x02")?),
+        2 => two_texts(alloc)?,
+        3 => Value::Short(Items::from_slice(alloc, &[0x0102, 0x0304])?),
+        4 => Value::Long(Items::from_slice(alloc, &[0x0102_0304])?),
+        6 => Value::SByte(Items::from_slice(alloc, &[-2, -128])?),
+        _ => Value::Double(Items::from_slice(alloc, &[0x4004_0000_0000_0000])?),
+    })
+}
+
+// The value of a type of fractions, by its number.
+fn fraction(alloc: Global, kind: u8) -> Result<Value, AllocError> {
+    Ok(match kind {
+        5 => Value::Rational(Items::from_slice(alloc, &[Rational { num: 1, denom: 2 }])?),
+        _ => Value::SRational(Items::from_slice(alloc, &[SRational { num: -1, denom: -2 }])?),
+    })
+}
+
+#[test]
+fn values_of_all_widths(rt: HostRuntime) -> Result<(), Fail> {
+    let alloc = rt.alloc();
+    for (kind, entry) in [
+        (1, b"\xfd\xe8\0\x01\0\0\0\x02\x01\x02\0\0".as_slice()),
+        (2, b"\xfd\xe8\0\x02\0\0\0\x04a\0b\0"),
+        (3, b"\xfd\xe8\0\x03\0\0\0\x02\x01\x02\x03\x04"),
+        (4, b"\xfd\xe8\0\x04\0\0\0\x01\x01\x02\x03\x04"),
+        (6, b"\xfd\xe8\0\x06\0\0\0\x02\xfe\x80\0\0"),
+        (
+            12,
+            b"\xfd\xe8\0\x0c\0\0\0\x01\0\0\0\x1a\x40\x04\0\0\0\0\0\0",
+        ),
+    ] {
+        is_entry(alloc, value(alloc, kind)?, entry)?;
+    }
+    let half = b"\xfd\xe8\0\x05\0\0\0\x01\0\0\0\x1a\0\0\0\x01\0\0\0\x02";
+    is_entry(alloc, fraction(alloc, 5)?, half)?;
+    let signed = b"\xfd\xe8\0\x0a\0\0\0\x01\0\0\0\x1a\xff\xff\xff\xff\xff\xff\xff\xfe";
+    is_entry(alloc, fraction(alloc, 10)?, signed)
+}
