@@ -1,9 +1,11 @@
 -- Steps along lists of items and of texts in TIFF data.
-use Rattle.std.proofs.Common.{◌≡◌, ℕ, suc, ◌+◌, ◌-◌, ◌*◌, ◌<◌, List, ◌∷◌, ◌++◌, [], append_assoc, refl, ◌∙◌, ap, arith, zero, length, get_or, take, ◌≢◌}
+use Rattle.std.proofs.Common.{◌≡◌, ℕ, suc, ◌+◌, ◌-◌, ◌*◌, ◌<◌, ◌==◌, Bool, true, false, cond, List, ◌∷◌, ◌++◌, [], append_assoc, refl, ◌∙◌, ap, sym, subst, arith, length, ◌≢◌}
+use Rattle.std.specs.List.{slice_split, onto_first}
+use Rattle.std.proofs.lemmas.List.Splits.{length-slice_split}
 use Rattle.std.proofs.Math.Nat.{mul-suc}
 use Rattle.exif_base.specs.Bytes.{items_at}
 use Rattle.std.proofs.lemmas.Bool.Decides.{nat_tests}
-use Rattle.exif_types.specs.Texts.{without_empty_last}
+use Rattle.exif_types.specs.Texts.{texts, without_empty_last}
 
 -- the items that are left after i begin with the one at hand
 pub items_at_step : {X : Type 0} (item : ℕ → X) (unit count i p : ℕ) → i < count → items_at item unit (count - i) p ≡ item p ∷ items_at item unit (count - (i + 1)) (p + unit)
@@ -22,23 +24,51 @@ pub push_step : {X : Type 0} (item : ℕ → X) (unit count i p w : ℕ) (old ne
 push_step item unit count i p w old new all x h ew ex en e =
     rw (en, ex, ew, append_assoc) (rw (items_at_step item unit count i p h) at e)
 
--- an empty last text is left out
-pub drops_empty : (xs : List (List ℕ)) (n : ℕ) (x : List ℕ) → length xs ≡ suc n → x ≡ get_or xs n x → length x ≡ 0 → take n xs ≡ without_empty_last xs
-drops_empty [] n x e g h = absurd (omega arith)
-drops_empty (y ∷ []) zero x e g h = let k : length y ≡ 0 = rw g at h in rw k refl
-drops_empty (y ∷ []) (suc n) x e g h = absurd (omega arith)
-drops_empty (y ∷ z ∷ zs) zero x e g h = absurd (omega arith)
-drops_empty (y ∷ z ∷ zs) (suc n) x e g h = ap (λ ts. y ∷ ts) (drops_empty (z ∷ zs) n x (omega arith) g h)
+-- ---- texts
 
--- any other list of texts stays as it is
-pub keeps_full : (xs : List (List ℕ)) (n : ℕ) (x : List ℕ) → length xs ≡ suc n → x ≡ get_or xs n x → length x ≢ 0 → xs ≡ without_empty_last xs
-keeps_full [] n x e g h = absurd (omega arith)
-keeps_full (y ∷ []) zero x e g h = let k : length y ≢ 0 = λ q. h (ap length g ∙ q) in grind (arith, nat_tests)
-keeps_full (y ∷ []) (suc n) x e g h = absurd (omega arith)
-keeps_full (y ∷ z ∷ zs) zero x e g h = absurd (omega arith)
-keeps_full (y ∷ z ∷ zs) (suc n) x e g h = ap (λ ts. y ∷ ts) (keeps_full (z ∷ zs) n x (omega arith) g h)
+-- the parts of bytes at their zero bytes
+abbrev pub split : List ℕ → List (List ℕ)
+split = slice_split (λ b. b == 0)
 
--- no texts stay no texts
-pub keeps_none : (xs : List (List ℕ)) → length xs ≡ 0 → xs ≡ without_empty_last xs
-keeps_none [] e = refl
-keeps_none (x ∷ xs) e = absurd (omega arith)
+-- an empty text behind others is left out
+drops_last : (ts : List (List ℕ)) → without_empty_last (ts ++ [] ∷ []) ≡ ts
+drops_last [] = refl
+drops_last (t ∷ []) = refl
+drops_last (t ∷ u ∷ ts) = ap (λ us. t ∷ us) (drops_last (u ∷ ts))
+
+-- a part behind the others stays there where the first grows
+behind : (b : Bool) (x : ℕ) (ts : List (List ℕ)) → 0 < length ts
+    → cond b ([] ∷ (ts ++ [] ∷ [])) (onto_first x (ts ++ [] ∷ [])) ≡ cond b ([] ∷ ts) (onto_first x ts) ++ [] ∷ []
+behind b x [] some = absurd (omega arith)
+behind true x (t ∷ ts) some = refl
+behind false x (t ∷ ts) some = refl
+
+splits_ended : (xs : List ℕ) → split (xs ++ 0 ∷ []) ≡ split xs ++ [] ∷ []
+splits_ended [] = refl
+splits_ended (x ∷ xs) =
+    ap (λ ts. cond (x == 0) ([] ∷ ts) (onto_first x ts)) (splits_ended xs)
+    ∙ behind (x == 0) x (split xs) (omega (arith, length-slice_split (λ b. b == 0) xs))
+
+-- the texts of bytes that end with a zero byte
+pub texts_ended : (bs xs : List ℕ) (x : ℕ) → bs ≡ xs ++ x ∷ [] → x ≡ 0 → split xs ≡ texts bs
+texts_ended bs xs x is zero =
+    sym (ap texts is ∙ (ap (λ y. texts (xs ++ y ∷ [])) zero ∙ (ap without_empty_last (splits_ended xs) ∙ drops_last (split xs))))
+
+-- texts of which the last is not empty stay as they are where the first grows
+kept_onto : (b : Bool) (x : ℕ) (ts : List (List ℕ)) → 0 < length ts → without_empty_last ts ≡ ts
+    → without_empty_last (cond b ([] ∷ ts) (onto_first x ts)) ≡ cond b ([] ∷ ts) (onto_first x ts)
+kept_onto b x [] some e = absurd (omega arith)
+kept_onto true x (t ∷ ts) some e = ap (λ us. [] ∷ us) e
+kept_onto false x (t ∷ []) some e =
+    let full : (length (x ∷ t) == 0) ≡ false = grind (arith, nat_tests) in rw full refl
+kept_onto false x (t ∷ u ∷ ts) some e =
+    let tail : without_empty_last (u ∷ ts) ≡ u ∷ ts = cc in ap (λ us. (x ∷ t) ∷ us) tail
+
+splits_full : (xs : List ℕ) (x : ℕ) → x ≢ 0 → without_empty_last (split (xs ++ x ∷ [])) ≡ split (xs ++ x ∷ [])
+splits_full [] x n = let e : (x == 0) ≡ false = grind (arith, nat_tests) in rw e refl
+splits_full (y ∷ xs) x n =
+    kept_onto (y == 0) y (split (xs ++ x ∷ [])) (omega (arith, length-slice_split (λ b. b == 0) (xs ++ x ∷ []))) (splits_full xs x n)
+
+-- the texts of bytes that end otherwise
+pub texts_full : (bs xs : List ℕ) (x : ℕ) → bs ≡ xs ++ x ∷ [] → x ≢ 0 → split bs ≡ texts bs
+texts_full bs xs x is full = subst (λ ys. split ys ≡ texts ys) (sym is) (sym (splits_full xs x full))

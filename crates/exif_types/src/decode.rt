@@ -6,7 +6,7 @@ ghost use Rattle.std.specs.Int.{w8, w16, w32, cast_signed};
 ghost use Rattle.exif_base.specs.Bytes.{Reading, number_at, items_at};
 ghost use Rattle.exif_types.specs.Rationals.{rational_at, srational_at};
 ghost use Rattle.exif_types.specs.FieldTypes.{unit_length};
-ghost use Rattle.exif_types.specs.Texts.{texts, without_empty_last};
+ghost use Rattle.exif_types.specs.Texts.{texts};
 ghost use Rattle.exif_types.specs.Decode.{decode_as};
 
 use crate::{FieldType, Rational, SRational, Value};
@@ -151,34 +151,27 @@ fn decode_items<T: Item, E: Endian>(
     Ok(Items::from_vec(items))
 }
 
-// The texts of bytes, each up to a zero byte or the end.
-fn parts_of(alloc: Global, bytes: &[u8]) -> Result<Vec<Items<u8>>, AllocError>
-    ensures { IfOk result (λ parts. parts.items ≡ slice_split (λ b. b == 0) bytes.now) }
+// The parts of bytes, each up to a zero byte or the end.
+fn parts_of(alloc: Global, bytes: &[u8]) -> Result<Items<Items<u8>>, AllocError>
+    ensures { IfOk result (λ parts. parts ≡ slice_split (λ b. b == 0) bytes.now) }
 {
-    let mut parts = Vec::new(alloc);
+    let zeros = bytes.iter().filter(|b| **b == 0).count();
+    let mut parts = Vec::with_capacity(alloc, zeros + 1)?;
     for part in bytes.split(|b| *b == 0) {
         parts.push(Items::from_slice(alloc, part)?)?;
     }
-    Ok(parts)
-}
-
-// Takes off an empty last text.
-fn drop_empty_last(texts: &mut Vec<Items<u8>>)
-    ensures { texts.new.items ≡ without_empty_last texts.old.items }
-{
-    let count = texts.len();
-    if count > 0 && texts[count - 1].is_empty() {
-        texts.truncate(count - 1);
-    }
+    Ok(Items::from_vec(parts))
 }
 
 // The texts of bytes, each up to a zero byte; an empty last one is left out.
 fn texts_of(alloc: Global, bytes: &[u8]) -> Result<Items<Items<u8>>, AllocError>
     ensures { IfOk result (λ found. found ≡ texts bytes.now) }
 {
-    let mut found = parts_of(alloc, bytes)?;
-    drop_empty_last(&mut found);
-    Ok(Items::from_vec(found))
+    let Some((last, front)) = bytes.split_last() else {
+        return Ok(Items::from_vec(Vec::new(alloc)));
+    };
+    let ended = if *last == 0 { front } else { bytes };
+    parts_of(alloc, ended)
 }
 
 /// The value of a type that `count` items from a place on spell.
