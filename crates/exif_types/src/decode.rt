@@ -151,12 +151,11 @@ fn decode_items<T: Item, E: Endian>(
     Ok(Items::from_vec(items))
 }
 
-// The parts of bytes, each up to a zero byte or the end.
+// The parts of bytes, each up to a zero byte or the end: mostly one, which has just its room.
 fn parts_of(alloc: Global, bytes: &[u8]) -> Result<Items<Items<u8>>, AllocError>
     ensures { IfOk result (λ parts. parts ≡ slice_split (λ b. b == 0) bytes.now) }
 {
-    let zeros = bytes.iter().filter(|b| **b == 0).count();
-    let mut parts = Vec::with_capacity(alloc, zeros + 1)?;
+    let mut parts = Vec::with_capacity(alloc, 1)?;
     for part in bytes.split(|b| *b == 0) {
         parts.push(Items::from_slice(alloc, part)?)?;
     }
