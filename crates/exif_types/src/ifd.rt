@@ -1,7 +1,7 @@
 //! Numbers of the directories in a chain (TIFF 6.0, section 2, "Multiple images").
 
-ghost use Rattle.std.specs.Prelude.{◌≡◌, Some, unwrap_or};
-ghost use Rattle.std.specs.Fmt.{spec_align, spec_width};
+ghost use Rattle.std.specs.Prelude.{◌≡◌, ◌++◌, Some, codes, unwrap_or};
+ghost use Rattle.std.specs.Fmt.{decimal, spec_align, spec_width};
 ghost use Rattle.std.specs.declared.fmt.Alignment.TheVariants.{Left};
 ghost use Rattle.exif_text.specs.Pad.{pad};
 
@@ -16,8 +16,6 @@ use std::fmt;
 pub struct In(pub u16);
 
 impl In {
-    ghost use Rattle.exif_types.specs.IfdTexts.{ifd_text};
-
     /// The first directory: the image itself.
     pub const PRIMARY: In = In(0);
     /// The second directory: its thumbnail.
@@ -30,19 +28,13 @@ impl In {
         self.0
     }
 
-    // The name of one of the first two, else `IFD` and the number, of at most five digits.
-    fn text(self) -> ArrayString<9>
-        ensures { result.bytes ≡ ifd_text self.0 }
+    // The name of any but the first two: `IFD` and the number, of at most five digits.
+    fn numbered_text(self) -> ArrayString<8>
+        ensures { result.bytes ≡ codes "IFD" ++ decimal self.0 }
     {
         let mut text = ArrayString::new();
-        match self.0 {
-            0 => text.push_str("primary"),
-            1 => text.push_str("thumbnail"),
-            number => {
-                text.push_str("IFD");
-                text.push_str(Buffer::new().format(number));
-            }
-        }
+        text.push_str("IFD");
+        text.push_str(Buffer::new().format(self.0));
         text
     }
 }
@@ -56,6 +48,10 @@ impl fmt::Display for In {
         (unwrap_or (spec_width spec) 0) (unwrap_or (spec_align spec) Left)) };
 
     fn fmt<W: fmt::Write>(&self, f: &mut fmt::Formatter<W>) -> fmt::Result {
-        write_padded(f, self.text().as_str(), fmt::Alignment::Left)
+        match self.0 {
+            0 => write_padded(f, "primary", fmt::Alignment::Left),
+            1 => write_padded(f, "thumbnail", fmt::Alignment::Left),
+            _ => write_padded(f, self.numbered_text().as_str(), fmt::Alignment::Left),
+        }
     }
 }
