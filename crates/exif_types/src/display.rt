@@ -29,15 +29,25 @@ impl fmt::Display for Display<'_> {
 }
 
 impl Value {
+    ghost use Rattle.exif_text.specs.Kinds.{value_text};
+    ghost use Rattle.exif_types.specs.PlainValues.{plain_of};
     ghost use Rattle.exif_types.specs.ValueTexts.{shown_text};
 
     /// The value as a tag shows it. It takes no memory.
-    #[tactic(auto, unfolding(crate::specs::ValueTexts::shown_text, crate::specs::ValueTexts::text_of))]
+    #[tactic(auto, unfolding(crate::specs::ValueTexts::text_of))]
     pub fn display_as(&self, tag: Tag) -> Display<'_>
         ensures { shown_text result ≡ text_of tag self.now }
     {
+        self.display_by(tag.text_kind())
+    }
+
+    // The value as this kind shows it.
+    #[tactic(auto, unfolding(crate::specs::ValueTexts::shown_text))]
+    pub(crate) fn display_by(&self, kind: TextKind) -> Display<'_>
+        ensures { shown_text result ≡ value_text kind (plain_of self.now) }
+    {
         Display {
-            kind: tag.text_kind(),
+            kind,
             contents: self.contents(),
         }
     }

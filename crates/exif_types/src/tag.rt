@@ -73,13 +73,14 @@ impl Tag {
         }
     }
 
-    // The pieces of the tag's value with its unit.
-    pub(crate) fn unit(self) -> &'static [UnitPiece<'static>]
-        ensures { map piece_view result.now ≡ unit_of self }
+    // How the tag's value is shown, and the pieces of it with its unit.
+    pub(crate) fn kind_and_unit(self) -> (TextKind, &'static [UnitPiece<'static>])
+        ensures kind { result.0 ≡ kind_of self }
+        ensures unit { map piece_view result.1.now ≡ unit_of self }
     {
         match self.row() {
-            Some(row) => row.unit,
-            None => &[],
+            Some(row) => (row.kind, row.unit),
+            None => (TextKind::Plain, &[]),
         }
     }
 

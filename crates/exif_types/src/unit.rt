@@ -7,8 +7,9 @@ ghost use Rattle.exif_table.specs.View.{default_view, piece_view};
 ghost use Rattle.exif_types.specs.Defaults.{default_as};
 ghost use Rattle.exif_types.specs.Lookup.{last_named};
 ghost use Rattle.exif_types.specs.Units.{default_text, missing_text, pieces_text, shown_or, sibling_text};
+ghost use Rattle.exif_types.specs.ValueTexts.{shown_text, text_of};
 
-use crate::{Exif, Field, In, Rational, Tag};
+use crate::{Display, Exif, Field, In, Rational, Tag};
 use exif_table::{DefaultValue, UnitPiece};
 use exif_text::{Contents, write_value};
 use std::fmt;
@@ -84,29 +85,33 @@ impl<'a, T: ProvideUnit<'a>> fmt::Display for DisplayValueUnit<'a, T> {
 
     ghost output = { λ d. Some (unit_text d.field (T.fields d.unit)) };
 
-    #[tactic(auto, unfolding(crate::specs::Units::unit_text))]
+    #[tactic(auto, unfolding(crate::specs::Units::unit_text, crate::specs::ValueTexts::text_of))]
     fn fmt<W: fmt::Write>(&self, f: &mut fmt::Formatter<W>) -> fmt::Result {
         let field = self.field;
-        write_pieces(f, field.tag.unit(), field, self.unit)
+        let (kind, pieces) = field.tag.kind_and_unit();
+        let shown = field.value.display_by(kind);
+        write_pieces(f, pieces, shown, field, self.unit)
     }
 }
 
-// Writes the value of a field among the pieces of its unit.
+// Writes the value of a field, which is shown so, among the pieces of its unit.
 fn write_pieces<'a, T: ProvideUnit<'a>, W: fmt::Write>(
     f: &mut fmt::Formatter<W>,
     pieces: &[UnitPiece<'_>],
+    shown: Display<'_>,
     field: &Field,
     unit: T,
 ) -> fmt::Result
+    requires { shown_text shown ≡ text_of field.now.tag field.now.value }
     ensures { WritesOnOk W.write_str_gives f.old result
         (pieces_text field.now (T.fields unit) (map piece_view pieces.now)) f.new }
 {
     if pieces.is_empty() {
-        return write!(f, "{}", field.display_value());
+        return write!(f, "{shown}");
     }
     for piece in pieces {
         match *piece {
-            UnitPiece::Value => write!(f, "{}", field.display_value())?,
+            UnitPiece::Value => write!(f, "{shown}")?,
             UnitPiece::Str(text) => f.write_str(text)?,
             UnitPiece::Tag(context, number) => {
                 write_sibling(f, Tag(context, number), field.ifd_num, unit)?;
