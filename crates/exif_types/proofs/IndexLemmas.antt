@@ -148,7 +148,7 @@ only_entries p (g ∷ fs) =
 -- ---- the search
 
 -- the parts of an entry that is up to the greatest of a key, and no less than its least
-one_key : (k key j place last : ℕ) → j < 2 ^ 64 → last ≡ entry_of k (0 + j) → last ≡ entry_of key 0 + place → last ≤ entry_of key (2 ^ 64 - 1)
+one_key : (k key j place last : ℕ) → j < 2 ^ 43 → last ≡ entry_of k (0 + j) → last ≡ entry_of key 0 + place → last ≤ entry_of key (2 ^ 43 - 1)
     → (k ≡ key) × (j ≡ place)
 one_key k key j place last small a b c = (omega (arith, small, a, b, c), omega (arith, small, a, b, c))
 
@@ -178,6 +178,18 @@ named_stands index fields tag ifd_num end s j f h n =
     let before : c.0 < end =
     lt_of_not-le (λ b. let above = rw c.2 at (s.3.1 c.0 e b c.1) in absurd (omega (arith, above, small))) in
     (c.0, before, λ d. get_or_default xs c.0 d e c.1 ∙ c.2)
+
+-- no field stands in a directory behind the first eight
+pub none_behind : (index : FieldIndex) (fields : List Field) (tag : Tag) (ifd_num : In) → Indexes index fields → 8 ≤ ifd_num.0
+    → last_named fields tag ifd_num ≡ None
+none_behind index fields tag ifd_num i h =
+    none_passes (is_named tag ifd_num) fields
+    (λ j f _ g n.
+    let w = slice_get_within fields j f g in
+    let low : f.ifd_num.0 < 8 = rw (get_or_from_slice_get fields j f f g) at (i.directories j f w) in
+    let same = (named_Decides tag ifd_num f).0 n in
+    let e : f.ifd_num.0 ≡ ifd_num.0 = ap (λ x. x.0) same.1 in
+    absurd (omega (arith, low, e, h)))
 
 -- no entry is up to the greatest
 pub none_ends : (index : FieldIndex) (fields : List Field) (tag : Tag) (ifd_num : In) (end : ℕ) → Searched index fields tag ifd_num end

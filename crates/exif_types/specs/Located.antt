@@ -14,11 +14,11 @@ key_of tag ifd_num = (ifd_num.0 * 4 + context_rank tag.0) * 2 ^ 16 + tag.1
 
 -- a field as one number: its key, then its place
 abbrev pub entry_of : ℕ → ℕ → ℕ
-entry_of key place = key * 2 ^ 64 + place
+entry_of key place = key * 2 ^ 43 + place
 
 -- the greatest entry of a key
 abbrev pub greatest_of : ℕ → ℕ
-greatest_of key = entry_of key (2 ^ 64 - 1)
+greatest_of key = entry_of key (2 ^ 43 - 1)
 
 -- the numbers up to a bound end here, and all behind are above it
 abbrev pub EndsUpTo : ℕ → List ℕ → ℕ → Type 0
@@ -34,6 +34,7 @@ entries_from place (field ∷ fields) =
 pub record Indexes (index : FieldIndex) (fields : List Field) : Type 0 where
   pub entries : IsPermutation (entries_from 0 fields) index.entries.items
   pub ascending : IsNonDecreasing index.entries.items
-  -- each tag's number is one of 16 bits, each place one of 64
+  -- each directory is one of the first eight, each tag's number one of 16 bits, each place one of 43
+  pub directories : All (λ field. field.ifd_num.0 < 8) fields
   pub numbers : All (λ field. field.tag.1 < 2 ^ 16) fields
-  pub places : length fields ≤ 2 ^ 64
+  pub places : length fields ≤ 2 ^ 43

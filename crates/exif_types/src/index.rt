@@ -1,10 +1,11 @@
 //! The places of fields by directory and tag.
 
-ghost use Rattle.std.specs.Prelude.{◌≡◌, ◌<◌, ◌≤◌, ◌^◌, length, IfOk};
+ghost use Rattle.std.specs.Prelude.{◌≡◌, ◌<◌, ◌≤◌, ◌^◌, All, length, IfOk};
 ghost use Rattle.std.specs.Option.{option_copied};
 ghost use Rattle.exif_table.specs.Contexts.{context_rank};
 ghost use Rattle.exif_types.specs.Lookup.{last_named};
 ghost use Rattle.exif_types.specs.Located.{key_of, entry_of};
+ghost use Rattle.exif_types.specs.Sound.{IsRead};
 
 use crate::{Context, Field, In, Tag};
 use std::alloc::{AllocError, Global};
@@ -12,7 +13,7 @@ use std::alloc::{AllocError, Global};
 /// The fields of a list by directory, tag and place: an entry for each, in ascending order.
 #[derive(Drop)]
 pub struct FieldIndex {
-    entries: Vec<u128>,
+    entries: Vec<u64>,
 }
 
 // The place of a context in the order of contexts.
@@ -28,44 +29,53 @@ fn rank(context: Context) -> u64
     }
 }
 
-// What a field is looked up by, as one number.
+// What a field is looked up by, as one number of 21 bits.
 fn key_of(tag: Tag, ifd_num: In) -> u64
+    requires { ifd_num.0 < 8 }
     ensures value { result ≡ key_of tag ifd_num }
+    ensures small { result < 2 ^ 21 }
     ensures number { tag.1 < 2 ^ 16 }
 {
     (ifd_num.0 as u64 * 4 + rank(tag.0)) * 65536 + tag.1 as u64
 }
 
 // A field with this key at this place, as one number.
-fn entry_of(key: u64, place: usize) -> u128
+fn entry_of(key: u64, place: u64) -> u64
+    requires key { key < 2 ^ 21 }
+    requires place { place < 2 ^ 43 }
     ensures { result ≡ entry_of key place }
 {
-    key as u128 * (1 << 64) + place as u128
+    key * (1 << 43) + place
 }
 
 impl FieldIndex {
     ghost use Rattle.std.specs.List.Sorted.{IsNonDecreasing};
     ghost use Rattle.exif_types.specs.Located.{EndsUpTo, Indexes, greatest_of};
 
-    /// The index of a list of fields.
+    /// The index of a list of fields. There is no memory for a list of 2^43 fields or more.
     pub fn of(alloc: Global, fields: &[Field]) -> Result<FieldIndex, AllocError>
+        requires { All IsRead fields.now }
         ensures { IfOk result (λ index. Indexes index fields.now) }
     {
+        if fields.len() >= 1 << 43 {
+            return Err(AllocError);
+        }
         let mut entries = Vec::with_capacity(alloc, fields.len())?;
         for (place, field) in fields.iter().enumerate() {
-            entries.push(entry_of(key_of(field.tag, field.ifd_num), place))?;
+            entries.push(entry_of(key_of(field.tag, field.ifd_num), place as u64))?;
         }
-        entries.sort()?;
+        entries.sort_unstable();
         Ok(FieldIndex { entries })
     }
 
     // How many entries there are up to the greatest of a key.
     fn count_up_to(&self, key: u64) -> usize
-        requires { IsNonDecreasing self.now.entries.items }
+        requires key { key < 2 ^ 21 }
+        requires ascending { IsNonDecreasing self.now.entries.items }
         ensures within { result ≤ length self.now.entries.items }
         ensures parted { EndsUpTo (greatest_of key) self.now.entries.items result }
     {
-        let greatest = entry_of(key, usize::MAX);
+        let greatest = entry_of(key, (1 << 43) - 1);
         self.entries.partition_point(|entry| *entry <= greatest)
     }
 
@@ -74,6 +84,9 @@ impl FieldIndex {
         requires { Indexes self.now fields.now }
         ensures { option_copied result ≡ last_named fields.now tag ifd_num }
     {
+        if ifd_num.0 >= 8 {
+            return None;
+        }
         let key = key_of(tag, ifd_num);
         let last = self.count_up_to(key).checked_sub(1)?;
         let entry = self.entries.get(last)?;

@@ -3,8 +3,12 @@ use Rattle.std.specs.Prelude.{slice_get}
 use Rattle.std.specs.Option.{option_copied}
 use Rattle.std.proofs.Math.Nat.{lt_of_not-le}
 use Rattle.exif_types.specs.Located.{entry_of, key_of}
-use Rattle.exif_types.proofs.IndexLemmas.{searched, none_ends, none_reaches, last_small, last_found, got_is}
+use Rattle.exif_types.proofs.IndexLemmas.{searched, none_behind, none_ends, none_reaches, last_found, got_is}
 use Rattle.exif_types.proofs.index.FieldIndex.last_named.Goals as goal
+
+pub returns-then-ifd_num-ge8 : goal.returns-then-ifd_num-ge8
+returns-then-ifd_num-ge8 c =
+    sym (none_behind c.args.self.now c.args.fields.now c.args.tag c.args.ifd_num c.requires c.if-ifd_num-ge8.true)
 
 pub returns-in_err-last : goal.returns-in_err-last
 returns-in_err-last c =
@@ -21,16 +25,6 @@ returns-in_err-place c =
     let is = rw (c.deref.ensures.value, c.in_ok-last.ensures.1) at (sym c.in_ok-entry.ensures.lookup.1) in
     let low = rw (c.entry_of.ensures, c.key_of-key.ensures.value) at (lt_of_not-le c.in_err-place.ensures) in
     rw c.from_residual-in_err-place.ensures (sym (none_reaches c.args.self.now c.args.fields.now c.args.tag c.args.ifd_num _ _ s is low))
-
-pub overflow_cast-place : goal.overflow_cast-place
-overflow_cast-place c =
-    let key = c.key_of-key.ensures in
-    let count = c.count_up_to.ensures in
-    let s = searched c.args.self.now c.args.fields.now c.args.tag c.args.ifd_num _ _ c.requires key.value key.number count.within count.parted in
-    let is = rw (c.deref.ensures.value, c.in_ok-last.ensures.1) at (sym c.in_ok-entry.ensures.lookup.1) in
-    let small = last_small c.args.self.now c.args.fields.now c.args.tag c.args.ifd_num _ _ s is (omega (arith, c.in_ok-last.ensures.0)) in
-    let place = rw (c.entry_of.ensures, c.key_of-key.ensures.value) at c.in_ok-place.ensures.1 in
-    omega (arith, small, place)
 
 pub returns : goal.returns
 returns c =

@@ -1,8 +1,9 @@
 use Rattle.std.proofs.Common.{rules, ◌≡◌, ◌+◌, ◌∷◌, ◌<◌, ◌^◌, [], ◌++◌, take, length, refl, arith, sym, ap, ◌∙◌}
 use Rattle.std.proofs.lemmas.List.{take_more, take_all, length-take-le}
-use Rattle.std.proofs.lemmas.List.Elements.{All-push}
+use Rattle.std.proofs.lemmas.List.Elements.{All-push, All-weaker}
 use Rattle.std.proofs.lemmas.List.Sorted.{IsNonDecreasingBy-from_sort}
 use Rattle.exif_types.specs.declared.field.Field.{Field}
+use Rattle.exif_types.specs.Sound.{IsRead}
 use Rattle.exif_types.proofs.IndexLemmas.{entries_push}
 use Rattle.exif_types.proofs.index.FieldIndex.of.Goals as goal
 
@@ -23,8 +24,9 @@ pub returns : goal.returns
 returns c =
     let all = take_all c.loop-place.place c.args.fields.now c.loop-place-test.false in
     record {
-      entries = rw (c.loop-place.invariant.entries, all) at c.in_ok-sort.ensures.permutation;
-      ascending = IsNonDecreasingBy-from_sort (λ x. x) _ c.in_ok-sort.ensures.sorted;
+      entries = rw (c.loop-place.invariant.entries, all) at c.sort_unstable.ensures.permutation;
+      ascending = IsNonDecreasingBy-from_sort (λ x. x) _ c.sort_unstable.ensures.sorted;
+      directories = All-weaker IsRead (λ f. f.ifd_num.0 < 8) (λ f h. h.number) _ c.requires;
       numbers = rw all at c.loop-place.invariant.numbers;
       places = search rules;
     }
