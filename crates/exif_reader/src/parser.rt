@@ -1,6 +1,6 @@
 //! The parser of directories: one pass over the data, strict or lenient.
 
-ghost use Rattle.std.specs.Prelude.{◌≡◌, ◌≤◌, ◌<◌, ◌+◌, ◌^◌, ◌-◌, length, []};
+ghost use Rattle.std.specs.Prelude.{◌≡◌, ◌≤◌, ◌<◌, ◌+◌, ◌^◌, ◌-◌, length, [], OnOk};
 ghost use Rattle.exif_tiff.specs.Trace.{directory_nodes, entry_nodes, pointer_nodes, chain_nodes, depth_of};
 ghost use Rattle.exif_reader.specs.Running.{run, on_visit, on_found, on_met};
 ghost use Rattle.exif_reader.specs.Stops.{Follows, CountsTurns};
@@ -10,7 +10,7 @@ use crate::stop::Stop;
 use exif_base::Endian;
 use exif_tiff::Fault;
 use exif_types::{Context, Field, In, Tag};
-use std::alloc::Global;
+use std::alloc::{AllocError, Global};
 use std::marker::Model;
 
 /// A parser of directories, with what it has read, and how many entries it may still visit.
@@ -71,6 +71,14 @@ impl Parser {
         }
         self.left -= 1;
         Ok(())
+    }
+
+    // Makes room for the fields of so many entries, but for none that may not be visited.
+    fn make_room(&mut self, entries: usize) -> Result<(), AllocError>
+        ensures { OnOk result (self.new ≡ self.old) }
+    {
+        let visited = (entries as u64).min(self.left);
+        self.fields.reserve(visited as usize)
     }
 
     // Keeps a field.
@@ -154,8 +162,10 @@ impl Parser {
             (run (directory_nodes (depth_of context) E.number_of bytes.now ifd_num.0 context place)
             self.old) }
     {
+        let entries = whole_entries::<E>(bytes, place);
+        self.make_room(entries)?;
         let mut at = place as usize + 2;
-        for _ in 0..whole_entries::<E>(bytes, place) {
+        for _ in 0..entries {
             self.entry::<E>(alloc, bytes, context, ifd_num, at)?;
             at += 12;
         }
