@@ -1,10 +1,10 @@
 -- One step after another on told bytes.
-use Rattle.std.proofs.Common.{◌≡◌, ℕ, ◌+◌, ◌-◌, ◌≤◌, List, ◌++◌, length, take, drop, Option, None, Some, ap, sym, ◌∙◌, refl, arith, append_assoc, length-append, length-drop}
-use Rattle.std.proofs.Math.Seq.{take-append-add}
+use Rattle.std.proofs.Common.{◌≡◌, ℕ, ◌+◌, ◌-◌, ◌<◌, ◌≤◌, List, ◌++◌, length, take, drop, Option, None, Some, ap, sym, ◌∙◌, refl, arith, append_assoc, length-append, length-drop}
+use Rattle.std.proofs.Math.Seq.{take-add, take-append-add}
 use Rattle.std.proofs.lemmas.List.{length-take-le, take-append-le, drop-drop, drop_at}
 use borrow.Rule.Slice.PartMut.{put_mid, post_of}
-use Rattle.std.specs.Io.KnownBytes.{Consumes}
-use Rattle.exif_base.specs.Told.{Skips}
+use Rattle.std.specs.Io.KnownBytes.{Consumes, IsAtEnd}
+use Rattle.exif_base.specs.Told.{HasFewer, Skips}
 
 -- bytes, and then more bytes
 pub consumes_append : (a b c : Option (List ℕ)) (xs ys : List ℕ) → Consumes a b xs → Consumes b c ys → Consumes a c (xs ++ ys)
@@ -25,9 +25,26 @@ skips_more (Some p) (Some q) (Some r) m k bs h e s =
       sym (ap (λ t. drop t p) (sym s) ∙ sym (drop-drop (length bs) m p) ∙ ap (drop (length bs)) rest ∙ drop_at bs r (length bs) refl),
     )
 
+-- a skip that fell short found all that was left
+pub skipped_short : (a b : Option (List ℕ)) (n len : ℕ) → n < len → Skips a b n → IsAtEnd b → HasFewer a len
+skipped_short None b n len h k e = tt
+skipped_short (Some p) None n len h k e = absurd k
+skipped_short (Some p) (Some q) n len h k e =
+    let none : length p - n ≡ 0 = sym (length-drop n p) ∙ ap length (sym k.1 ∙ e) in
+    omega arith
+
 -- after a read of n bytes into the part from place `at` on
 pub take_filled : (at k n : ℕ) (old new : List ℕ) → at ≤ length old → n ≤ length new → take (at + n) (put_mid at k old new) ≡ take at old ++ take n new
 take_filled at k n old new h f =
     ap (λ m. take (m + n) (put_mid at k old new)) (sym (length-take-le at old h))
     ∙ take-append-add (take at old) (new ++ post_of at k old) n
     ∙ ap (λ t. take at old ++ t) (take-append-le n new (post_of at k old) f)
+
+-- a list was filled so far, and then by n bytes more
+pub filled_more : (a b c : Option (List ℕ)) (start bytes old new : List ℕ) (filled n : ℕ) → take filled new ≡ take filled old → take filled old ≡ start ++ bytes
+    → Consumes a b bytes → Consumes b c (take n (drop filled new)) → (more : List ℕ) × Consumes a c more × (take (filled + n) new ≡ start ++ more)
+filled_more a b c start bytes old new filled n front before h k = (
+  bytes ++ take n (drop filled new),
+  consumes_append a b c _ _ h k,
+  take-add filled n new ∙ ap (λ t. t ++ take n (drop filled new)) (front ∙ before) ∙ append_assoc start bytes _,
+)

@@ -1,10 +1,11 @@
 -- The bytes at hand in a block.
-use Rattle.std.proofs.Common.{◌≡◌, ◌≢◌, ℕ, ◌+◌, ◌-◌, ◌<◌, ◌≤◌, min, List, [], ◌++◌, length, take, drop, slice_index, Option, None, Some, ap, sym, ◌∙◌, arith, append_assoc, length-drop}
+use Rattle.std.proofs.Common.{◌≡◌, ◌≢◌, ℕ, ◌+◌, ◌-◌, ◌<◌, ◌≤◌, min, List, [], ◌++◌, length, take, drop, slice_index, Option, None, Some, ap, sym, ◌∙◌, arith, append_assoc, length-append, length-drop}
 use Rattle.std.proofs.Math.ListN.{drop_of_length-le}
-use Rattle.std.proofs.lemmas.List.{take_at, take-append-drop, length-take-le, drop-drop, drop-take, get_or-take, get_or-drop}
+use Rattle.std.proofs.lemmas.List.{drop_at, take_at, take-append-drop, length-take-le, drop-drop, drop-take, get_or-take, get_or-drop}
 use Rattle.std.proofs.lemmas.Grind.{get_or_default_zero}
 use Rattle.std.specs.Io.KnownBytes.{Consumes, IsAtEnd, Keeps, prepend_known}
 use Rattle.exif_base.specs.Scan.{PassesOthers}
+use Rattle.exif_base.specs.Told.{Skips}
 
 length_at_hand : (at end : ℕ) (block : List ℕ) → end ≤ length block → length (drop at (take end block)) ≡ end - at
 length_at_hand at end block h = length-drop at (take end block) ∙ ap (λ t. t - at) (length-take-le end block h)
@@ -75,3 +76,17 @@ pub at_hand_end : (left : Option (List ℕ)) (block : List ℕ) (at end n room :
 at_hand_end left block at end n room h l ends m z some =
     let len : length (take end block) ≤ at + n = omega (arith, length-take-le end block l) in
     none_at_hand (drop (at + n) (take end block)) left (drop_of_length-le (take end block) len) (ends (omega arith))
+
+-- what was at hand was skipped, and more behind it
+pub at_hand_skipped : (block head : List ℕ) (left after : Option (List ℕ)) (at end n k len : ℕ) → end ≤ length block
+    → n ≡ min (end - at) len → n ≢ len → head ≡ drop n (drop at (take end block)) → Skips left after k
+    → Skips (prepend_known (drop at (take end block)) left) (prepend_known head after) (n + k)
+at_hand_skipped block head None after at end n k len l m short e h = tt
+at_hand_skipped block head (Some xs) None at end n k len l m short e h = absurd h
+at_hand_skipped block head (Some xs) (Some ys) at end n k len l m short e h =
+    let old = drop at (take end block) in
+    let all : length old ≡ n = omega (arith, length_at_hand at end block l) in
+    let none : head ≡ [] = e ∙ drop_of_length-le old (omega arith) in (
+      omega (arith, length-append old xs),
+      ap (λ t. t ++ ys) none ∙ h.1 ∙ ap (drop k) (sym (drop_at old xs n all)) ∙ drop-drop k n (old ++ xs),
+    )

@@ -7,5 +7,6 @@ pub mod Orders
 pub mod ReadFaults
 pub mod Reads
 pub mod Scan
+pub mod Seekable
 pub mod Sent
 pub mod Told

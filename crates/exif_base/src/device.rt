@@ -1,13 +1,17 @@
 //! Where bytes come from and go to: readers and writers that count their failures.
 
-ghost use Rattle.std.specs.Prelude.{◌≡◌, ℕ, List, [], Option, length, is_err, true};
+ghost use Rattle.std.specs.Prelude.{◌≡◌, ◌<◌, ◌≤◌, ℕ, List, [], Option, length, is_err, IfOk, true};
 ghost use Rattle.std.specs.Io.{ReadsAtMost, WritesAtMost};
-ghost use Rattle.std.specs.Io.KnownBytes.{Keeps, ReadConsumes, WriteAppends};
+ghost use Rattle.std.specs.Io.KnownBytes.{IsAtEnd, Keeps, ReadConsumes, WriteAppends};
 ghost use Rattle.exif_base.specs.Device.{count_after, put_failed};
+ghost use Rattle.exif_base.specs.Told.{Skips};
 ghost use Rattle.exif_base.specs.Counted.{counted_inner, counted_failures};
 
 use std::io;
 use std::io::{Read, Write};
+
+// How many bytes a skip that reads takes at a time.
+const BLOCK: usize = 4096;
 
 /// What gives bytes. `Ok(0)` into room is the end.
 pub trait Source {
@@ -28,6 +32,31 @@ pub trait Source {
         ensures bytes { ReadConsumes (left self.old) (left self.new) result buf.new }
         ensures count { failures self.new ≡ count_after (is_err result) (failures self.old) }
         ensures same { through self.new ≡ through self.old };
+
+    /// Takes the next `len` bytes and forgets them, without memory. Answers how many: fewer only
+    /// where the bytes end.
+    ///
+    /// After an error, how many were taken is left open. A source that can pass over bytes without
+    /// reading them does it here.
+    fn skip(&mut self, len: u64) -> io::Result<u64>
+        ensures bound { IfOk result (λ n. n ≤ len) }
+        ensures bytes { IfOk result (Skips (left self.old) (left self.new)) }
+        ensures end { IfOk result (λ n. n < len → IsAtEnd (left self.new)) }
+        ensures count { failures self.new ≡ count_after (is_err result) (failures self.old) }
+        ensures same { through self.new ≡ through self.old }
+    {
+        let mut block = [0u8; BLOCK];
+        let mut rest = len;
+        while rest > 0 {
+            let room = rest.min(BLOCK as u64) as usize;
+            let n = self.fetch(&mut block[..room])?;
+            if n == 0 {
+                return Ok(len - rest);
+            }
+            rest -= n as u64;
+        }
+        Ok(len)
+    }
 }
 
 /// What takes bytes. `Ok(0)` of some bytes is a failure.

@@ -7,6 +7,7 @@ pub mod endian;
 pub mod items;
 pub mod read;
 pub mod scan;
+pub mod seekable;
 pub mod send;
 
 pub use device::{Counted, Sink, Source};
@@ -17,4 +18,5 @@ pub use read::{
     read64,
 };
 pub use scan::{Blocks, Exact, Scan};
+pub use seekable::{ReadSeek, Seekable};
 pub use send::send_all;

@@ -52,6 +52,10 @@ impl<'a, R: Source> Source for Exact<'a, R> {
     fn fetch(&mut self, buf: &mut [u8]) -> io::Result<usize> {
         self.source.fetch(buf)
     }
+
+    fn skip(&mut self, len: u64) -> io::Result<u64> {
+        self.source.skip(len)
+    }
 }
 
 impl<'a, R: Source> Scan for Exact<'a, R> {
@@ -100,6 +104,18 @@ impl<'a, R> Blocks<'a, R> {
             → slice_index self.now.block.now (self.now.at + k) ≢ stop }
     {
         others_at_front(self.block, self.at, self.end, stop, most)
+    }
+
+    // Takes bytes at hand, at most `most`, and answers how many.
+    fn skip_at_hand(&mut self, most: u64) -> u64
+        ensures count { result ≡ min (self.old.end - self.old.at) most }
+        ensures at_hand { at_hand self.new ≡ drop result (at_hand self.old) }
+        ensures source { blocks_source self.new ≡ blocks_source self.old }
+        ensures same { blocks_name self.new ≡ blocks_name self.old }
+    {
+        let n = most.min((self.end - self.at) as u64);
+        self.at += n as usize;
+        n
     }
 
     // Copies as many bytes at hand as there is room for, and answers how many.
@@ -154,6 +170,15 @@ impl<'a, R: Source> Source for Blocks<'a, R> {
         let n = self.copy_at_hand(buf);
         self.at += n;
         Ok(n)
+    }
+
+    fn skip(&mut self, len: u64) -> io::Result<u64> {
+        let n = self.skip_at_hand(len);
+        if n == len {
+            return Ok(n);
+        }
+        let behind = self.source.skip(len - n)?;
+        Ok(n + behind)
     }
 }
 

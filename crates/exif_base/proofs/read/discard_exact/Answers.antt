@@ -1,11 +1,11 @@
-use Rattle.std.proofs.Common.{arith, rules}
-use Rattle.exif_base.proofs.ReadSteps.{skips_more}
+use Rattle.std.proofs.Common.{rules}
+use Rattle.exif_base.proofs.ReadSteps.{skipped_short}
 use Rattle.exif_base.proofs.read.discard_exact.Goals as goal
 
-pub loop-rest-preserved : goal.loop-rest-preserved
-loop-rest-preserved g c = record {
-  in_range = search rules;
-  taken = skips_more _ _ _ _ _ _ c.loop-rest.invariant.taken c.in_ok-n.ensures.taken (omega (arith, c.in_ok-n.ensures.some));
+pub returns-then-n-len-clause-reads : goal.returns-then-n-len-clause-reads
+returns-then-n-len-clause-reads g c = record {
+  end = skipped_short _ _ _ _ c.if-n-len.true c.in_ok-n.ensures.bytes (c.in_ok-n.ensures.end c.if-n-len.true);
+  at_end = c.in_ok-n.ensures.end c.if-n-len.true;
   count = search rules;
   same = search rules;
 }
