@@ -5,10 +5,10 @@ mod program;
 #[cfg(test)]
 mod tests;
 
-use exif::{Counted, Error};
+use exif::{Counted, Error, Seekable};
 use program::{mode, say, show};
 use std::fs::File;
-use std::io::BufWriter;
+use std::io::{BufWriter, Seek};
 use std::process::ExitCode;
 use std::{env, io};
 
@@ -29,8 +29,19 @@ fn main(rt: HostRuntime) -> io::Result<ExitCode> {
             return Ok(ExitCode::from(1));
         }
     };
-    let mut reader = Counted::new(file);
     let mut out = Counted::new(BufWriter::new(rt.alloc(), rt.stdout())?);
-    let status = show(rt.alloc(), &mut reader, &mut out, &mut err, lenient);
+    let status = if seeks(&file) {
+        let mut reader = Seekable::new(file);
+        show(rt.alloc(), &mut reader, &mut out, &mut err, lenient)
+    } else {
+        let mut reader = Counted::new(file);
+        show(rt.alloc(), &mut reader, &mut out, &mut err, lenient)
+    };
     Ok(ExitCode::from(status))
+}
+
+// Whether the file seeks, which a pipe does not.
+fn seeks(file: &File) -> bool {
+    let mut stream = file;
+    stream.stream_position().is_ok()
 }
