@@ -73,12 +73,14 @@ impl Parser {
         Ok(())
     }
 
-    // Makes room for the fields of so many entries, but for none that may not be visited.
+    // Makes room for the fields of so many entries, but for none that may not be visited: as much
+    // as a list has that grew to them one by one.
     fn make_room(&mut self, entries: usize) -> Result<(), AllocError>
+        requires { entries < 2 ^ 32 }
         ensures { OnOk result (self.new ≡ self.old) }
     {
         let visited = (entries as u64).min(self.left);
-        self.fields.reserve(visited as usize)
+        self.fields.reserve(visited.next_power_of_two() as usize)
     }
 
     // Keeps a field.
