@@ -3,6 +3,7 @@
 mod base;
 mod containers;
 mod devices;
+mod skips;
 mod table;
 mod text;
 mod types;

@@ -1,8 +1,9 @@
-//! Readers that give and writers that take one byte a call, and fail from some call on.
+//! Readers that give and writers that take one byte a call, and readers that seek, which fail from
+//! some call on.
 
-use exif_base::Counted;
+use exif_base::{Counted, ReadSeek, Seekable};
 use std::io;
-use std::io::{ErrorKind, Read, Write};
+use std::io::{Cursor, ErrorKind, Read, Seek, SeekFrom, Write};
 
 /// A reader of one byte a call, which fails from some call on and counts its failures.
 #[derive(Drop)]
@@ -76,6 +77,55 @@ pub fn dripping(good_calls: usize, kind: ErrorKind) -> Counted<Drip> {
     Counted::new(Drip {
         room: [0u8; 8],
         taken: 0,
+        good_calls,
+        kind,
+        failures: 0,
+    })
+}
+
+/// A reader that seeks, fails from some call on and counts its failures.
+#[derive(Drop)]
+pub struct Stream<'a> {
+    cursor: Cursor<&'a [u8]>,
+    good_calls: usize,
+    kind: ErrorKind,
+    pub failures: u32,
+}
+
+impl Stream<'_> {
+    // One call more, where it is a good one.
+    fn call(&mut self) -> io::Result<()> {
+        if self.good_calls == 0 {
+            self.failures = self.failures.saturating_add(1);
+            return Err(io::Error::new(self.kind, "the stream failed"));
+        }
+        self.good_calls -= 1;
+        Ok(())
+    }
+}
+
+impl Read for Stream<'_> {
+    fn read(&mut self, buf: &mut [u8]) -> io::Result<usize> {
+        self.call()?;
+        self.cursor.read(buf)
+    }
+}
+
+impl Seek for Stream<'_> {
+    fn seek(&mut self, to: SeekFrom) -> io::Result<u64> {
+        self.call()?;
+        self.cursor.seek(to)
+    }
+}
+
+impl ReadSeek for Stream<'_> {
+    fn reads_in_place(&self) {}
+}
+
+/// A reader that seeks, with so many good calls.
+pub fn seeking(bytes: &[u8], good_calls: usize, kind: ErrorKind) -> Seekable<Stream<'_>> {
+    Seekable::new(Stream {
+        cursor: Cursor::new(bytes),
         good_calls,
         kind,
         failures: 0,

@@ -1,0 +1,136 @@
+//! Skips of each source: of nothing, to the end, past it, and where a device fails.
+
+use super::devices::{one_byte, seeking};
+use exif_base::{
+    Blocks, Counted, Exact, ReadFault, Seekable, Source, discard_exact, read_to_end, read8,
+};
+use std::io;
+use std::io::{Cursor, ErrorKind};
+use std::process::Abort;
+use std::test::Fail;
+
+const DIGITS: &[u8] = b"0123456789";
+
+/// Skips among ten digits, up to their end and no further.
+fn skips_to_the_end<R: Source>(rt: &impl Abort, source: &mut R) -> Result<(), ReadFault> {
+    assert_eq!(rt; source.skip(0)?, 0);
+    assert_eq!(rt; source.skip(3)?, 3);
+    assert_eq!(rt; read8(source)?, b'3');
+    assert_eq!(rt; source.skip(5)?, 5);
+    assert_eq!(rt; read8(source)?, b'9');
+    assert_eq!(rt; source.skip(0)?, 0);
+    assert_eq!(rt; source.skip(1)?, 0);
+    Ok(())
+}
+
+/// Skips past the end of ten digits.
+fn skips_past_the_end<R: Source>(rt: &impl Abort, source: &mut R) -> Result<(), ReadFault> {
+    assert_eq!(rt; source.skip(8)?, 8);
+    assert_eq!(rt; source.skip(u64::MAX)?, 2);
+    assert_eq!(rt; source.skip(u64::MAX)?, 0);
+    assert!(rt; matches!(read8(source), Err(ReadFault::End)));
+    Ok(())
+}
+
+/// The kind of the error that a skip of three bytes answers, where it fails.
+fn kind_of_skip<R: Source>(source: &mut R) -> Option<ErrorKind> {
+    source.skip(3).err().map(|e| e.kind())
+}
+
+#[test]
+fn a_source_that_only_reads(rt: HostRuntime) -> Result<(), Fail> {
+    skips_to_the_end(&rt, &mut Counted::new(DIGITS))?;
+    skips_past_the_end(&rt, &mut Counted::new(DIGITS))?;
+    Ok(())
+}
+
+#[test]
+fn a_slow_source(rt: HostRuntime) -> Result<(), Fail> {
+    skips_to_the_end(&rt, &mut one_byte(DIGITS, 100, ErrorKind::Other))?;
+    skips_past_the_end(&rt, &mut one_byte(DIGITS, 100, ErrorKind::Other))?;
+    Ok(())
+}
+
+#[test]
+fn a_source_of_more_than_a_block(rt: HostRuntime) -> Result<(), Fail> {
+    let bytes = [7u8; 10_000];
+    let mut source = Counted::new(bytes.as_slice());
+    assert_eq!(rt; source.skip(9_999)?, 9_999);
+    assert_eq!(rt; source.skip(9_999)?, 1);
+    Ok(())
+}
+
+#[test]
+fn exact_hands_skips_on(rt: HostRuntime) -> Result<(), Fail> {
+    skips_to_the_end(&rt, &mut Exact::new(&mut Counted::new(DIGITS)))?;
+    skips_past_the_end(&rt, &mut Exact::new(&mut Counted::new(DIGITS)))?;
+    Ok(())
+}
+
+#[test]
+fn blocks_skip_what_is_at_hand(rt: HostRuntime) -> Result<(), Fail> {
+    let mut block = *b"01234...";
+    let mut source = Counted::new(b"56789".as_slice());
+    skips_to_the_end(&rt, &mut Blocks::new(&mut block, 5, &mut source))?;
+    let mut block = *b"0123456789";
+    let mut source = Counted::new(b"".as_slice());
+    skips_past_the_end(&rt, &mut Blocks::new(&mut block, 10, &mut source))?;
+    Ok(())
+}
+
+#[test]
+fn blocks_hand_on_the_rest(rt: HostRuntime) -> Result<(), Fail> {
+    let mut block = *b"01";
+    let mut source = Seekable::new(Cursor::new(b"23456789".as_slice()));
+    skips_past_the_end(&rt, &mut Blocks::new(&mut block, 2, &mut source))?;
+    assert_eq!(rt; source.into_inner().position(), 8);
+    Ok(())
+}
+
+#[test]
+fn a_source_that_seeks(rt: HostRuntime) -> Result<(), Fail> {
+    skips_to_the_end(&rt, &mut Seekable::new(Cursor::new(DIGITS)))?;
+    skips_past_the_end(&rt, &mut Seekable::new(Cursor::new(DIGITS)))?;
+    let mut behind = Cursor::new(DIGITS);
+    behind.set_position(20);
+    assert_eq!(rt; Seekable::new(behind).skip(1)?, 0);
+    Ok(())
+}
+
+#[test]
+fn a_source_that_seeks_is_read(rt: HostRuntime) -> Result<(), Fail> {
+    let mut source = Seekable::new(Cursor::new(DIGITS));
+    discard_exact(&mut source, 7)?;
+    let mut rest = Vec::new(rt.alloc());
+    read_to_end(&mut source, &mut rest)?;
+    assert_eq!(rt; rest.as_slice(), b"789".as_slice());
+    assert_eq!(rt; source.into_inner().position(), 10);
+    Ok(())
+}
+
+#[test]
+fn a_skip_that_fails(rt: HostRuntime) {
+    let kind = ErrorKind::Interrupted;
+    let mut source = one_byte(DIGITS, 2, kind);
+    assert_eq!(rt; kind_of_skip(&mut source), Some(kind));
+    assert_eq!(rt; source.into_inner().failures, 1);
+}
+
+#[test]
+fn a_seek_that_fails(rt: HostRuntime) {
+    let kind = ErrorKind::Interrupted;
+    for good_calls in 0..3 {
+        let mut source = seeking(DIGITS, good_calls, kind);
+        assert_eq!(rt; kind_of_skip(&mut source), Some(kind));
+        assert_eq!(rt; source.into_inner().failures, 1);
+    }
+    assert_eq!(rt; kind_of_skip(&mut seeking(DIGITS, 3, kind)), None);
+}
+
+#[test]
+fn a_read_that_fails_behind_a_seek(rt: HostRuntime) {
+    let kind = ErrorKind::UnexpectedEof;
+    let mut source = seeking(b"01", 3, kind);
+    assert_eq!(rt; kind_of_skip(&mut source), Some(kind));
+    assert_eq!(rt; source.into_inner().failures, 1);
+}
