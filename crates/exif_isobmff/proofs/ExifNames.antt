@@ -16,7 +16,7 @@ use Rattle.exif_isobmff.specs.Boxes.{Part, Parts, and_then, bytes_at, pass_at, n
 use Rattle.exif_isobmff.specs.Items.{entry_width, exif_number, exif_numbers}
 use Rattle.exif_isobmff.specs.Places.{Place, sized_at, extent_at, method_at, item_width, item_head_at, location_at, locations, sizes, file_extent, idat_extent, extent_bytes, gathered, item_bytes}
 use Rattle.exif_isobmff.specs.HeifFile.{file_box_at, file_boxes, has_heif_brand, whole, checked, before_meta, is_meta, is_ftyp, meta_body}
-use Rattle.exif_isobmff.specs.Heif.{tables_of, meta_tables, after_header, exif_block, exif_of}
+use Rattle.exif_isobmff.specs.Heif.{tables_of, meta_tables, after_header, exif_place, exif_block, exif_of}
 
 -- an answer that is refused by a named refusal only
 abbrev pub Only : {A : Type 0} → Result A Refusal → Type 0
@@ -189,12 +189,12 @@ extent_bytes_only : (within : Within) (bytes : List ℕ) (base : ℕ) (e : Exten
 extent_bytes_only File bytes base e = file_extent_only bytes base e
 extent_bytes_only ItemDataBox bytes base e = idat_extent_only bytes base e
 
-gathered_only : (bytes_of : Extent → Result (List ℕ) Refusal) → ((e : Extent) → Only (bytes_of e)) → (front : List ℕ) (es : List Extent) → Only (gathered bytes_of front es)
+pub gathered_only : (bytes_of : Extent → Result (List ℕ) Refusal) → ((e : Extent) → Only (bytes_of e)) → (front : List ℕ) (es : List Extent) → Only (gathered bytes_of front es)
 gathered_only bytes_of h front [] = tt
 gathered_only bytes_of h front (e ∷ es) =
     only_then (bytes_of e) _ (h e) (λ bytes. only_if (ltb 65535 (length (front ++ bytes))) _ _ (23, omega arith, refl) (gathered_only bytes_of h (front ++ bytes) es))
 
-item_bytes_only : (file : List ℕ) (idat : Option (List ℕ)) (p : Place) → Only (item_bytes file idat p)
+pub item_bytes_only : (file : List ℕ) (idat : Option (List ℕ)) (p : Place) → Only (item_bytes file idat p)
 unfolding item_bytes
 item_bytes_only file idat p =
     only_if (eqb p.method 0) _ _ (gathered_only (extent_bytes File file p.base) (extent_bytes_only File file p.base) [] p.extents)
@@ -218,7 +218,7 @@ unwrap_only : (o : Option Refusal) → IfSome o (Contains heif_refusals) → Con
 unwrap_only None h = (16, omega arith, refl)
 unwrap_only (Some r) h = h
 
-meta_body_only : (file : List ℕ) → Only (meta_body file)
+pub meta_body_only : (file : List ℕ) → Only (meta_body file)
 unfolding meta_body
 meta_body_only file =
     let parts = file_boxes file in
@@ -236,19 +236,24 @@ unfolding meta_tables
 meta_tables_only body =
     only_then (version_at body) _ (version_only body) (λ v. only_if (eqb v.0 0) _ _ (tables_only (children v.1) (all_boxes_end box_at box_only v.1)) (6, omega arith, refl))
 
-after_header_only : (block : List ℕ) → Only (after_header block)
+pub after_header_only : (block : List ℕ) → Only (after_header block)
 unfolding after_header
 after_header_only block =
     only_if (ltb (length block) 4) _ _ (24, omega arith, refl) (only_if (ltb (length block - 4) (big_number 4 block)) _ _ (25, omega arith, refl) tt)
 
-exif_block_only : (file meta : List ℕ) → Only (exif_block file meta)
-unfolding exif_block
-exif_block_only file meta =
+-- where the Exif item is, is refused by a refusal of the list
+pub exif_place_only : (meta : List ℕ) → Only (exif_place meta)
+unfolding exif_place
+exif_place_only meta =
     only_then (meta_tables meta) _ (meta_tables_only meta) (λ t.
     only_then (or_refuse t.item _) _ (or_only t.item _ (16, omega arith, refl)) (λ item.
     only_then (or_refuse t.iloc _) _ (or_only t.iloc _ (15, omega arith, refl)) (λ iloc.
     only_then (last_read None (locations item iloc)) _ (last_only None (locations item iloc) (locations_only item iloc)) (λ found.
-    only_then (or_refuse found _) _ (or_only found _ (14, omega arith, refl)) (λ place. item_bytes_only file t.idat place)))))
+    only_then (or_refuse found _) _ (or_only found _ (14, omega arith, refl)) (λ place. tt)))))
+
+exif_block_only : (file meta : List ℕ) → Only (exif_block file meta)
+unfolding exif_block
+exif_block_only file meta = only_then (exif_place meta) _ (exif_place_only meta) (λ found. item_bytes_only file found.idat found.place)
 
 -- the Exif data of a file are refused by a refusal of the list
 pub exif_of_only : (file : List ℕ) → Only (exif_of file)

@@ -11,7 +11,7 @@ use Rattle.exif_isobmff.specs.declared.kind.Kind.TheVariants.{FileType, Meta, It
 use Rattle.exif_types.specs.Refusals.{Refusal, refusal_of, ◌>>=◌, Refuses, all_pass, or_refuse, Front}
 use Rattle.exif_isobmff.specs.HeifRefusals.{no_exif, meta_before_ftyp, broken_file}
 use Rattle.exif_isobmff.specs.Boxes.{Part, Parts, before, and_then, all_boxes, children, whole_part, box_at, header_len, header_at}
-use Rattle.exif_isobmff.specs.HeifFile.{file_box_at, file_boxes, fours, is_heif_brand, has_heif_brand, is_meta, is_ftyp, checked, passed, before_meta, whole}
+use Rattle.exif_isobmff.specs.HeifFile.{file_box_at, file_boxes, fours, is_heif_brand, has_heif_brand, is_meta, is_ftyp, checked, passed, before_meta, whole, meta_from}
 use Rattle.exif_isobmff.proofs.Refusing.{refuses_along}
 use Rattle.exif_isobmff.proofs.SplitterBoxes.{Shortens, all_boxes_more, all_boxes_end, bind_ok, when_ok, ok_same, header_rest, eight, after, box_shorter}
 
@@ -56,12 +56,6 @@ file_box_shorter text p rest e =
 -- what the boxes answer, where an `ftyp` was seen before or not
 abbrev pub each_checked : List Part → Result (Unit {0}) Refusal
 each_checked ps = all_pass (λ p. checked p.kind p.len p.body) ps
-
--- the body of the `meta` from here on, where an `ftyp` was seen or not
-abbrev pub meta_from : Bool → Parts → Result (List ℕ) Refusal
-meta_from seen parts =
-    each_checked (before_meta parts.whole) >>= λ u. or_refuse (find is_meta parts.whole) (unwrap_or parts.fault no_exif)
-    >>= λ meta. cond (seen || list_any is_ftyp (before_meta parts.whole)) (whole meta.len meta.body) (Err meta_before_ftyp)
 
 or_swap : (seen t a : Bool) → (seen || (t || a)) ≡ ((t || seen) || a)
 or_swap true true a = refl

@@ -13,11 +13,11 @@ use Rattle.exif_isobmff.specs.declared.splitter.Header.{Header}
 use Rattle.exif_isobmff.specs.HeifRefusals.{broken_file, invalid_size, seek_too_large, meta_before_ftyp, no_exif}
 use Rattle.exif_isobmff.specs.Kinds.{kind_of, same_kind}
 use Rattle.exif_isobmff.specs.Boxes.{Part, Parts, before, and_then, box_size, header_len, header_at, all_boxes}
-use Rattle.exif_isobmff.specs.HeifFile.{file_box_at, file_boxes, brand_checked, whole, checked, passed, meta_body}
+use Rattle.exif_isobmff.specs.HeifFile.{file_box_at, file_boxes, brand_checked, whole, checked, passed, meta_body, meta_from}
 use Rattle.exif_isobmff.specs.BoxGrammar.{BoxHeader, print_header, type_of, said_size, IsHeader, BoxTree, print_box, IsBox, box_part, AreBoxes, NoBox, cut, cut_large, too_long, too_short, print_no_box, IsNoBox, Parent, filled, broken}
 use Rattle.exif_isobmff.specs.FileGrammar.{said_len, end_parts, FileBoxesAreRead, IsMeta, IsFtyp, IsOther, Passed, ftyp, other, passed_box, IsPassed, is_ftyp, print_passed, ArePassed, FrontTree, FileEnd, meta, wrong_ftyp, large, cut_meta, cut_ftyp, cut_other, no_header, no_meta, print_file_end, IsHeadless, headless_refusal, IsFileEnd, end_says, MetaIsFound, IsAFront}
 use Rattle.exif_isobmff.proofs.SplitterBoxes.{all_boxes_end, all_boxes_more}
-use Rattle.exif_isobmff.proofs.FileBoxes.{box_of, file_box_shorter, meta_from, file_more, file_found, file_done}
+use Rattle.exif_isobmff.proofs.FileBoxes.{box_of, file_box_shorter, file_more, file_found, file_done}
 use Rattle.exif_isobmff.proofs.LawsBoxes.{head_of, head-read, header-reads, header-some, no_box-some, Boxed, Unboxed, boxed-shorter, place, two-number}
 use Rattle.exif_isobmff.proofs.LawsBrands.{is-not, said-checked, checked-said}
 

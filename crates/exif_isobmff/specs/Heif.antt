@@ -7,7 +7,7 @@ use Rattle.exif_types.specs.Refusals.{Refusal, ◌>>=◌, last_read, or_refuse}
 use Rattle.exif_isobmff.specs.HeifRefusals.{no_exif, no_iloc, no_matching_item, unsupported_meta, block_too_small, invalid_header_offset}
 use Rattle.exif_isobmff.specs.Boxes.{Parts, version_at, children, bodies, read_each}
 use Rattle.exif_isobmff.specs.Items.{exif_numbers}
-use Rattle.exif_isobmff.specs.Places.{locations, item_bytes}
+use Rattle.exif_isobmff.specs.Places.{Place, locations, item_bytes}
 use Rattle.exif_isobmff.specs.HeifFile.{meta_body}
 
 -- what counts among the children of `meta`: the last Exif item over all `iinf`, the last `iloc` and
@@ -40,15 +40,24 @@ after_header block =
     (if nat_lt (length block - 4) (big_number 4 block) then Err invalid_header_offset else
     Ok (drop (4 + big_number 4 block) block))
 
--- the bytes of the Exif item
-unfoldable pub exif_block : List ℕ → List ℕ → Result (List ℕ) Refusal
-exif_block file meta = do
+-- where the Exif item is, and the data beside the items
+pub record ExifPlace : Type 0 where
+  pub place : Place
+  pub idat : Option (List ℕ)
+
+-- where the Exif item is, as `meta` says
+unfoldable pub exif_place : List ℕ → Result ExifPlace Refusal
+exif_place meta = do
   tables ← meta_tables meta
   item ← or_refuse tables.item no_exif
   iloc ← or_refuse tables.iloc no_iloc
   found ← last_read None (locations item iloc)
-  location ← or_refuse found no_matching_item
-  item_bytes file tables.idat location
+  place ← or_refuse found no_matching_item
+  Ok (record { place = place; idat = tables.idat })
+
+-- the bytes of the Exif item
+unfoldable pub exif_block : List ℕ → List ℕ → Result (List ℕ) Refusal
+exif_block file meta = exif_place meta >>= λ found. item_bytes file found.idat found.place
 
 -- the Exif data of a file, or why there are none
 unfoldable pub exif_of : List ℕ → Result (List ℕ) Refusal

@@ -65,14 +65,22 @@ abbrev pub before_meta : List Part → List Part
 before_meta [] = []
 before_meta (p ∷ ps) = if is_meta p then [] else p ∷ before_meta ps
 
--- the body of the first `meta`, which stands behind an `ftyp`
-unfoldable pub meta_body : List ℕ → Result (List ℕ) Refusal
-meta_body file = do
-  let parts = file_boxes file
+-- the body of the first `meta` of the boxes that are left, which stands behind an `ftyp`, seen
+-- before these or among them
+abbrev pub meta_from : Bool → Parts → Result (List ℕ) Refusal
+meta_from seen parts = do
   let front = before_meta parts.whole
   passed ← all_pass (λ p. checked p.kind p.len p.body) front
   meta ← or_refuse (find is_meta parts.whole) (unwrap_or parts.fault no_exif)
-  if list_any is_ftyp front then whole meta.len meta.body else Err meta_before_ftyp
+  if seen || list_any is_ftyp front then whole meta.len meta.body else Err meta_before_ftyp
+
+-- the same of the bytes that are left
+abbrev pub meta_in : Bool → List ℕ → Result (List ℕ) Refusal
+meta_in seen rest = meta_from seen (file_boxes rest)
+
+-- the body of the first `meta`, which stands behind an `ftyp`
+unfoldable pub meta_body : List ℕ → Result (List ℕ) Refusal
+meta_body file = meta_in false file
 
 -- bytes of a HEIF file: boxes, each whole, up to a first `ftyp` that has a brand
 unfoldable pub begins_heif : List ℕ → Bool

@@ -6,6 +6,7 @@ pub mod Heif
 pub mod HeifFile
 pub mod HeifRefusals
 pub mod ItemGrammar
+pub mod ItemView
 pub mod Items
 pub mod Kinds
 pub mod PlaceGrammar

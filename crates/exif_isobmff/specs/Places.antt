@@ -94,6 +94,12 @@ locations wanted body = do
       number_at (item_width version.0) packed.1
   times_joined count.0 (location_at wanted version.0 (sizes version.0 packed.0)) count.1
 
+-- what an extent of this length has of the bytes from its place on; length 0 runs to their end
+abbrev pub extent_front : ℕ → List ℕ → Result (List ℕ) Refusal
+extent_front len bytes =
+    if len == 0 then Ok bytes else
+    (if nat_lt (length bytes) len then Err broken_file else Ok (take len bytes))
+
 -- the bytes of an extent of the file; length 0 runs to its end
 unfoldable pub file_extent : List ℕ → ℕ → Extent → Result (List ℕ) Refusal
 file_extent file base e =

@@ -2,20 +2,30 @@
 
 ghost use Rattle.std.specs.Prelude.{◌≡◌, false};
 ghost use Rattle.exif_types.specs.Refusals.{Gives, is_io};
-ghost use Rattle.exif_isobmff.specs.Heif.{exif_block, exif_of};
+ghost use Rattle.exif_isobmff.specs.Heif.{exif_block, exif_of, exif_place};
+ghost use Rattle.exif_isobmff.specs.ItemView.{item_view};
 
 use crate::BoxSplitter;
 use crate::extents::{after_header, item_bytes};
 use crate::file::meta_body;
-use crate::locations::item_location;
+use crate::locations::{Location, item_location};
 use crate::tables::{Tables, meta_tables};
 use exif_types::Error;
 use std::alloc::Global;
 
-// The bytes of the Exif item.
-#[tactic(auto, unfolding(crate::specs::Heif::exif_block))]
-fn exif_block(alloc: Global, file: &[u8], meta: &[u8]) -> Result<Vec<u8>, Error>
-    ensures gives { Gives (λ v. v.items) result (exif_block file.now meta.now) }
+/// The item that holds the Exif data: where its bytes are, and the body of the `idat` beside it.
+#[derive(Drop)]
+pub struct ExifItem<'a> {
+    /// Where its bytes are.
+    pub location: Location,
+    /// The data beside the items.
+    pub idat: Option<&'a [u8]>,
+}
+
+/// The Exif item of the body of a `meta`.
+#[tactic(auto, unfolding(crate::specs::Heif::exif_place))]
+pub fn find_exif(alloc: Global, meta: &[u8]) -> Result<ExifItem, Error>
+    ensures gives { Gives item_view result (exif_place meta.now) }
     ensures no_io { is_io result ≡ false }
 {
     let Tables { item, iloc, idat } = meta_tables(BoxSplitter::new(meta))?;
@@ -28,6 +38,16 @@ fn exif_block(alloc: Global, file: &[u8], meta: &[u8]) -> Result<Vec<u8>, Error>
     let Some(location) = item_location(alloc, iloc, item)? else {
         return Err(Error::InvalidFormat("No matching item in ItemLocationBox"));
     };
+    Ok(ExifItem { location, idat })
+}
+
+// The bytes of the Exif item.
+#[tactic(auto, unfolding(crate::specs::Heif::exif_block))]
+fn exif_block(alloc: Global, file: &[u8], meta: &[u8]) -> Result<Vec<u8>, Error>
+    ensures gives { Gives (λ v. v.items) result (exif_block file.now meta.now) }
+    ensures no_io { is_io result ≡ false }
+{
+    let ExifItem { location, idat } = find_exif(alloc, meta)?;
     item_bytes(alloc, file, idat, &location)
 }
 

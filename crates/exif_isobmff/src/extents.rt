@@ -3,7 +3,7 @@
 ghost use Rattle.std.specs.Prelude.{◌≡◌, false, []};
 ghost use Rattle.std.specs.Option.{option_map};
 ghost use Rattle.exif_types.specs.Refusals.{Answers, Gives, is_io};
-ghost use Rattle.exif_isobmff.specs.Places.{location_view, file_extent, idat_extent, extent_bytes, gathered, item_bytes};
+ghost use Rattle.exif_isobmff.specs.Places.{location_view, extent_front, file_extent, idat_extent, extent_bytes, gathered, item_bytes};
 ghost use Rattle.exif_isobmff.specs.Heif.{after_header};
 
 use crate::locations::{Extent, Location};
@@ -20,7 +20,21 @@ pub enum Within {
     ItemDataBox,
 }
 
-const MAX_EXIF_SIZE: usize = 65535;
+/// The most bytes that an item may have.
+pub const MAX_EXIF_SIZE: usize = 65535;
+
+/// What an extent of this length has of the bytes from its place on; length 0 runs to their end.
+pub fn extent_front(len: u64, bytes: &[u8]) -> Result<&[u8], Error>
+    ensures { Answers (λ b. b.now) result (extent_front len bytes.now) }
+{
+    if len == 0 {
+        return Ok(bytes);
+    }
+    if (bytes.len() as u64) < len {
+        return Err(Error::InvalidFormat("Broken HEIF file"));
+    }
+    Ok(&bytes[..len as usize])
+}
 
 // The bytes of an extent of the file.
 #[tactic(auto, unfolding(crate::specs::Places::file_extent))]
@@ -30,14 +44,7 @@ fn file_extent(file: &[u8], base: u64, extent: Extent) -> Result<&[u8], Error>
     let Some(from) = base.checked_add(extent.offset) else {
         return Err(Error::InvalidFormat("Invalid offset"));
     };
-    let rest = &file[file.len().min(from as usize)..];
-    if extent.len == 0 {
-        return Ok(rest);
-    }
-    if (rest.len() as u64) < extent.len {
-        return Err(Error::InvalidFormat("Broken HEIF file"));
-    }
-    Ok(&rest[..extent.len as usize])
+    extent_front(extent.len, &file[file.len().min(from as usize)..])
 }
 
 // The bytes of an extent of the item data box.

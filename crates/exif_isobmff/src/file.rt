@@ -86,8 +86,8 @@ fn check_brand(body: &[u8]) -> Result<(), Error>
     Ok(())
 }
 
-// Passes over a box before `meta`; the answer is whether an `ftyp` was seen.
-fn pass(kind: Kind, len: u64, body: &[u8], seen: bool) -> Result<bool, Error>
+/// Passes over a box before `meta`; the answer is whether an `ftyp` was seen.
+pub fn pass(kind: Kind, len: u64, body: &[u8], seen: bool) -> Result<bool, Error>
     ensures { Answers (λ b. b) result (passed seen kind len body.now) }
 {
     if let Kind::FileType = kind {

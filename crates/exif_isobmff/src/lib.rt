@@ -12,7 +12,9 @@ mod locations;
 mod splitter;
 mod tables;
 
-pub use exif::exif_of_file;
-pub use file::is_heif;
+pub use exif::{ExifItem, exif_of_file, find_exif};
+pub use extents::{MAX_EXIF_SIZE, after_header, extent_front, item_bytes};
+pub use file::{is_heif, pass};
 pub use kind::Kind;
+pub use locations::{Extent, Location};
 pub use splitter::{BoxSplitter, Header};

@@ -2,9 +2,9 @@ use Rattle.std.proofs.Common.{◌≡◌, ◌<◌, length, sym, ◌∙◌, ap, ar
 use Rattle.std.proofs.lemmas.Result.{err_from_is_err_and}
 use Rattle.std.proofs.lemmas.Bool.Decides.{nat_tests}
 use Rattle.exif_isobmff.specs.HeifRefusals.{meta_before_ftyp}
-use Rattle.exif_isobmff.specs.HeifFile.{file_boxes, meta_body, whole}
+use Rattle.exif_isobmff.specs.HeifFile.{file_boxes, meta_body, whole, meta_from}
 use Rattle.exif_isobmff.specs.FileBoxView.{file_box_view}
-use Rattle.exif_isobmff.proofs.FileBoxes.{meta_from, file_box_shorter, file_cut, file_failed, file_went_on, file_found, file_done}
+use Rattle.exif_isobmff.proofs.FileBoxes.{file_box_shorter, file_cut, file_failed, file_went_on, file_found, file_done}
 use Rattle.exif_isobmff.proofs.file.meta_body.Goals as goal
 
 pub loop-boxes-init : goal.loop-boxes-init

@@ -1,6 +1,5 @@
 use Rattle.std.proofs.Common.{◌≡◌, length}
-use Rattle.exif_isobmff.specs.HeifFile.{file_boxes, meta_body}
-use Rattle.exif_isobmff.proofs.FileBoxes.{meta_from}
+use Rattle.exif_isobmff.specs.HeifFile.{file_boxes, meta_body, meta_from}
 use Rattle.exif_isobmff.proofs.file.meta_body.Given as goal
 
 -- what the boxes that are left answer is the answer
