@@ -20,10 +20,12 @@ use Rattle.exif_isobmff.proofs.SplitterBoxes.{all_boxes_end, all_boxes_more, box
 abbrev pub head_of : List ℕ → Header × List ℕ
 head_of text = (record { kind = kind_of (take 4 (drop 4 text)); len = box_size text - header_len text }, drop (header_len text) text)
 
-abbrev with_body : Kind → List ℕ × List ℕ → Front Part
+-- a box of this type
+abbrev pub with_body : Kind → List ℕ × List ℕ → Front Part
 with_body kind body = Ok (whole_part kind body.0, body.1)
 
-abbrev after_head : Header × List ℕ → Front Part
+-- the box behind a header
+abbrev pub after_head : Header × List ℕ → Front Part
 after_head header = bytes_at header.0.len header.1 >>= with_body header.0.kind
 
 -- a header whose size is no less than its own is read
@@ -31,7 +33,8 @@ pub head-read : (text : List ℕ) → header_len text ≤ box_size text → head
 unfolding header_at
 head-read text h = ap (λ t. cond t (Err invalid_size) (Ok (head_of text))) (le-ltb (box_size text) (header_len text) h)
 
-box-headed : (text : List ℕ) → header_len text ≤ length text → box_at text ≡ (header_at text >>= after_head)
+-- a box with a whole header
+pub box-headed : (text : List ℕ) → header_len text ≤ length text → box_at text ≡ (header_at text >>= after_head)
 unfolding box_at
 box-headed text h = ap (λ t. cond t (header_at text >>= after_head) (Err too_small)) (le-leb (header_len text) (length text) h)
 

@@ -30,7 +30,8 @@ file-headed : (text : List ℕ) → header_len text ≤ length text → file_box
 unfolding file_box_at
 file-headed text h = ap (λ t. cond t (header_at text >>= file_after) (Err broken_file)) (le-leb (header_len text) (length text) h)
 
-file-read : (text behind : List ℕ) (kind : Kind) (n : ℕ) → header_len text ≤ length text → header_len text ≤ box_size text → drop (header_len text) text ≡ behind
+-- the box of a header at the front of a text
+pub file-read : (text behind : List ℕ) (kind : Kind) (n : ℕ) → header_len text ≤ length text → header_len text ≤ box_size text → drop (header_len text) text ≡ behind
     → kind_of (take 4 (drop 4 text)) ≡ kind → box_size text - header_len text ≡ n → file_box_at text ≡ Ok (box_of kind n (take n behind), drop n behind)
 file-read text behind kind n h k e f g =
     file-headed text h ∙ ap (λ r. r >>= file_after) (head-read text k)

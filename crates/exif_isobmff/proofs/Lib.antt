@@ -1,5 +1,6 @@
 pub mod ExifNames
 pub mod FileBoxes
+pub mod FrontBoxes
 pub mod ItemsBoxes
 pub mod LawsBoxes
 pub mod LawsBrands

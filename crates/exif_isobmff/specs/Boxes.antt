@@ -1,5 +1,5 @@
 -- Boxes (ISO/IEC 14496-12:2015, 4.2).
-use Rattle.std.specs.Prelude.{ℕ, zero, suc, ◌-◌, ◌==◌, nat_lt, nat_le, if◌then◌else◌, List, [], ◌∷◌, length, take, drop, slice_index, map, Option, Some, None, Result, Ok, Err}
+use Rattle.std.specs.Prelude.{ℕ, zero, suc, ◌-◌, ◌==◌, ◌&&◌, Bool, not, nat_lt, nat_le, if◌then◌else◌, List, [], ◌∷◌, length, take, drop, slice_index, map, Option, Some, None, Result, Ok, Err}
 use Rattle.std.specs.List.{filter, flat_map}
 use Rattle.byteorder.specs.Endian.{big_number}
 use Rattle.exif_isobmff.specs.declared.kind.Kind.{Kind}
@@ -56,6 +56,10 @@ abbrev pub box_size : List ℕ → ℕ
 box_size text =
     let size = big_number 4 text in
     if size == 0 then length text else (if size == 1 then big_number 8 (drop 8 text) else size)
+
+-- a box says its size, and does not run to the end of the text
+abbrev pub sizes_itself : List ℕ → Bool
+sizes_itself text = nat_le 4 (length text) && not (big_number 4 text == 0)
 
 -- how many bytes of it are size and type
 abbrev pub header_len : List ℕ → ℕ

@@ -5,6 +5,7 @@
 mod exif;
 mod extents;
 mod file;
+mod front;
 mod items;
 mod kind;
 pub mod laws;
@@ -14,7 +15,8 @@ mod tables;
 
 pub use exif::{ExifItem, exif_of_file, find_exif};
 pub use extents::{MAX_EXIF_SIZE, after_header, extent_front, item_bytes};
-pub use file::{is_heif, pass};
+pub use file::is_heif;
+pub use front::settled_meta;
 pub use kind::Kind;
 pub use locations::{Extent, Location};
 pub use splitter::{BoxSplitter, Header};

@@ -1,0 +1,10 @@
+use Rattle.std.proofs.Common.{◌≡◌, ℕ, List, ◌++◌, length}
+use Rattle.exif_isobmff.specs.HeifFile.{meta_body, meta_in}
+use Rattle.exif_isobmff.proofs.front.settled_meta.Given as goal
+
+-- whatever follows, what the boxes that are left answer is the answer
+abbrev pub invariant-loop-rest : goal.invariant-loop-rest
+invariant-loop-rest l = (more : List ℕ) → meta_in l.seen (l.rest ++ more) ≡ meta_body (l.front ++ more)
+
+abbrev pub decreases-loop-rest : goal.decreases-loop-rest
+decreases-loop-rest l = length l.rest
