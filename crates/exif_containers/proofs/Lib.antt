@@ -1,5 +1,7 @@
 pub mod ContainerNames
 pub mod ContainerSteps
+pub mod IsobmffExtents
+pub mod IsobmffFile
 pub mod IsobmffNames
 pub mod JpegCalls
 pub mod JpegMoves

@@ -1,5 +1,6 @@
 pub mod Answer
 pub mod Container
+pub mod HeifSteps
 pub mod Jpeg
 pub mod JpegGrammar
 pub mod Webp

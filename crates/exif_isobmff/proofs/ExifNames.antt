@@ -22,11 +22,13 @@ use Rattle.exif_isobmff.specs.Heif.{tables_of, meta_tables, after_header, exif_p
 abbrev pub Only : {A : Type 0} → Result A Refusal → Type 0
 Only answer = IfErr answer (Contains heif_refusals)
 
-only_then : {A B : Type 0} (x : Result A Refusal) (f : A → Result B Refusal) → Only x → ((a : A) → Only (f a)) → Only (x >>= f)
+-- a step, and what follows it
+pub only_then : {A B : Type 0} (x : Result A Refusal) (f : A → Result B Refusal) → Only x → ((a : A) → Only (f a)) → Only (x >>= f)
 only_then (Ok a) f h k = k a
 only_then (Err r) f h k = h
 
-only_if : {A : Type 0} (b : Bool) (x y : Result A Refusal) → Only x → Only y → Only (cond b x y)
+-- one of two answers
+pub only_if : {A : Type 0} (b : Bool) (x y : Result A Refusal) → Only x → Only y → Only (cond b x y)
 only_if true x y h k = h
 only_if false x y h k = k
 

@@ -1,7 +1,7 @@
 use Rattle.std.proofs.lemmas.Result.{err_from_is_err_and}
 use Rattle.exif_isobmff.proofs.ExifNames.{exif_of_only}
 use Rattle.exif_containers.proofs.IsobmffNames.{fails_named}
-use Rattle.exif_containers.proofs.isobmff.get_exif_attr.Goals as goal
+use Rattle.exif_containers.proofs.isobmff.exif_of_whole.Goals as goal
 
 pub returns-in_err-payload-clause-named : goal.returns-in_err-payload-clause-named
 returns-in_err-payload-clause-named g c =

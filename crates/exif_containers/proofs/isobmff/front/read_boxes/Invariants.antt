@@ -1,0 +1,13 @@
+use Rattle.std.proofs.Common.{◌≡◌, ◌-◌, ◌^◌, vec_len}
+use Rattle.exif_containers.specs.HeifSteps.{GoesOn}
+use Rattle.exif_containers.proofs.isobmff.front.read_boxes.Given as goal
+
+abbrev pub invariant-loop : goal.invariant-loop
+invariant-loop g l = record {
+  read : GoesOn (g.R.Source.left l.fn.source) (g.R.Source.left l.source) l.fn.bytes.items l.bytes.items;
+  count : g.R.Source.failures l.source ≡ g.R.Source.failures l.fn.source;
+  same : g.R.Source.through l.source ≡ g.R.Source.through l.fn.source;
+}
+
+abbrev pub decreases-loop : goal.decreases-loop
+decreases-loop g l = 2 ^ 63 - vec_len l.bytes

@@ -1,0 +1,125 @@
+//! The bytes of the Exif item, which are read from the file as far as its extents need.
+
+ghost use Rattle.std.specs.Prelude.{◌≡◌, ◌≤◌, ◌++◌, length, drop, None, IfOk, IfErr, IfSome, true, false};
+ghost use Rattle.exif_base.specs.Reads.{Counts};
+ghost use Rattle.exif_base.specs.Told.{HasFewer, Skips};
+ghost use Rattle.exif_types.specs.Refusals.{Gives, IsInterrupted, is_io};
+ghost use Rattle.exif_isobmff.specs.Places.{item_bytes, location_view};
+ghost use Rattle.exif_isobmff.specs.HeifRefusals.{heif_refusals};
+ghost use Rattle.exif_containers.specs.Answer.{IsNamed};
+ghost use Rattle.exif_containers.specs.HeifSteps.{PlaceIsReached, one_part};
+
+use super::front::{read_at_most, read_rest};
+use crate::util::skip;
+use exif_base::{ReadFault, Source, discard_exact};
+use exif_isobmff::{Location, MAX_EXIF_SIZE, extent_front, item_bytes};
+use exif_types::Error;
+use std::alloc::Global;
+
+// One byte more than an item may have.
+const TOO_MANY: u64 = MAX_EXIF_SIZE as u64 + 1;
+
+// Passes over so many bytes, without memory, and answers whether the file goes on so far.
+fn pass_over<R: Source>(source: &mut R, len: u64) -> Result<bool, Error>
+    ensures passed { IfOk result
+        (λ whole. whole ≡ true → Skips (R.left source.old) (R.left source.new) len) }
+    ensures end { IfOk result (λ whole. whole ≡ false → HasFewer (R.left source.old) len) }
+    ensures interrupted { IfErr result IsInterrupted }
+    ensures counts { Counts R.Source source.old source.new (is_io result) }
+{
+    match discard_exact(source, len) {
+        Ok(()) => Ok(true),
+        Err(ReadFault::End) => Ok(false),
+        Err(ReadFault::Io(cause)) => Err(Error::Io(cause)),
+        Err(ReadFault::OutOfMemory) => Err(Error::OutOfMemory),
+    }
+}
+
+// Where a place of the file stands in the bytes that are kept of it, or none where the file ends
+// in front of it. Bytes in front of a place that was not read yet are no longer kept.
+fn reach<R: Source>(source: &mut R, bytes: &mut Vec<u8>, place: u64) -> Result<Option<usize>, Error>
+    ensures reached { IfOk result (λ start. PlaceIsReached place start
+        (R.left source.old) (R.left source.new) bytes.old.items bytes.new.items) }
+    ensures start { IfOk result (λ start. IfSome start (λ at. at ≤ length bytes.new.items)) }
+    ensures interrupted { IfErr result IsInterrupted }
+    ensures counts { Counts R.Source source.old source.new (is_io result) }
+{
+    let read = bytes.len() as u64;
+    if place < read {
+        return Ok(Some(place as usize));
+    }
+    if !pass_over(source, place - read)? {
+        return Ok(None);
+    }
+    bytes.clear();
+    Ok(Some(0))
+}
+
+// The bytes of an item of one extent, among those from its place on.
+fn part_of(alloc: Global, len: u64, bytes: &[u8]) -> Result<Vec<u8>, Error>
+    ensures gives { Gives (λ v. v.items) result (one_part len bytes.now) }
+    ensures no_io { is_io result ≡ false }
+{
+    let part = extent_front(len, bytes)?;
+    if part.len() > MAX_EXIF_SIZE {
+        return Err(Error::InvalidFormat("Exif data too large"));
+    }
+    Ok(Vec::from_slice(alloc, part)?)
+}
+
+// The bytes of an item of one extent, which begins at this place.
+//
+// An extent that is too long is passed over: only whether the file reaches its end counts.
+fn one_extent<R: Source>(
+    alloc: Global,
+    source: &mut R,
+    front: Vec<u8>,
+    place: u64,
+    len: u64,
+) -> Result<Vec<u8>, Error>
+    ensures gives { IfSome (R.left source.old) (λ rest. Gives (λ v. v.items) result
+        (one_part len (drop place (front.items ++ rest)))) }
+    ensures named { IfErr result (IsNamed heif_refusals) }
+    ensures counts { Counts R.Source source.old source.new (is_io result) }
+{
+    let mut bytes = front;
+    let Some(start) = reach(source, &mut bytes, place)? else {
+        return part_of(alloc, len, &[]);
+    };
+    let at_hand = (bytes.len() - start) as u64;
+    if len > TOO_MANY {
+        skip(source, len.saturating_sub(at_hand), "Broken HEIF file")?;
+        return Err(Error::InvalidFormat("Exif data too large"));
+    }
+    let wanted = if len == 0 { TOO_MANY } else { len };
+    let _whole = read_at_most(source, &mut bytes, wanted.saturating_sub(at_hand))?;
+    part_of(alloc, len, &bytes[start..])
+}
+
+/// The bytes of an item in the file, where the front of the file was read.
+///
+/// An item of one extent is read by need. Else what is left of the file is read first.
+pub fn bytes_in_file<R: Source>(
+    alloc: Global,
+    source: &mut R,
+    front: Vec<u8>,
+    location: &Location,
+) -> Result<Vec<u8>, Error>
+    requires { location.now.method ≡ 0 }
+    ensures gives { IfSome (R.left source.old) (λ rest. Gives (λ v. v.items) result
+        (item_bytes (front.items ++ rest) None (location_view location.now))) }
+    ensures named { IfErr result (IsNamed heif_refusals) }
+    ensures counts { Counts R.Source source.old source.new (is_io result) }
+{
+    if location.extents.len() != 1 {
+        let mut file = front;
+        read_rest(source, &mut file)?;
+        let found = item_bytes(alloc, &file, None, location)?;
+        return Ok(found);
+    }
+    let extent = location.extents[0];
+    let Some(place) = location.base.checked_add(extent.offset) else {
+        return Err(Error::InvalidFormat("Invalid offset"));
+    };
+    one_extent(alloc, source, front, place, extent.len)
+}

@@ -1,0 +1,130 @@
+//! The front of a HEIF file, up to the end of its `meta`, box by box.
+
+ghost use Rattle.std.specs.Prelude.{◌≡◌, ◌≤◌, ◌<◌, ◌+◌, length, OnOk, IfOk, IfErr, IfSome, true, false};
+ghost use Rattle.std.specs.Io.KnownBytes.{IsAtEnd};
+ghost use Rattle.exif_base.specs.Reads.{Counts};
+ghost use Rattle.exif_base.specs.Told.{TakesAll};
+ghost use Rattle.exif_types.specs.Refusals.{IsInterrupted, is_io};
+ghost use Rattle.exif_containers.specs.HeifSteps.{GoesOn};
+
+use exif_base::{ReadFault, Source, read_front, read_to_end};
+use exif_isobmff::{BoxSplitter, Kind};
+use exif_types::Error;
+
+// How many bytes go through the stack at a time.
+const BLOCK: usize = 4096;
+
+// Reads at most as many bytes as there are in the block, and answers whether it was filled.
+fn read_block<R: Source>(
+    source: &mut R,
+    bytes: &mut Vec<u8>,
+    block: &mut [u8],
+) -> Result<bool, Error>
+    ensures read { OnOk result
+        (GoesOn (R.left source.old) (R.left source.new) bytes.old.items bytes.new.items) }
+    ensures len { length block.new ≡ length block.old }
+    ensures grows { IfOk result (λ filled. filled ≡ true
+        → length bytes.old.items + length block.old ≤ length bytes.new.items) }
+    ensures kept { OnOk result (length bytes.old.items ≤ length bytes.new.items) }
+    ensures end { IfOk result (λ filled. filled ≡ false → IsAtEnd (R.left source.new)) }
+    ensures interrupted { IfErr result IsInterrupted }
+    ensures counts { Counts R.Source source.old source.new (is_io result) }
+{
+    let n = read_front(source, block)?;
+    bytes.extend_from_slice(&block[..n])?;
+    Ok(n == block.len())
+}
+
+/// Reads so many bytes, or as far as they go, and answers whether all came.
+pub fn read_at_most<R: Source>(source: &mut R, bytes: &mut Vec<u8>, len: u64) -> Result<bool, Error>
+    ensures read { OnOk result
+        (GoesOn (R.left source.old) (R.left source.new) bytes.old.items bytes.new.items) }
+    ensures grows { IfOk result (λ whole. whole ≡ true
+        → length bytes.old.items + len ≤ length bytes.new.items) }
+    ensures kept { OnOk result (length bytes.old.items ≤ length bytes.new.items) }
+    ensures end { IfOk result (λ whole. whole ≡ false → IsAtEnd (R.left source.new)) }
+    ensures interrupted { IfErr result IsInterrupted }
+    ensures counts { Counts R.Source source.old source.new (is_io result) }
+{
+    let mut block = [0u8; BLOCK];
+    let mut missing = len;
+    while missing > 0 {
+        let room = missing.min(BLOCK as u64) as usize;
+        if !read_block(source, bytes, &mut block[..room])? {
+            return Ok(false);
+        }
+        missing -= room as u64;
+    }
+    Ok(true)
+}
+
+/// Reads all bytes that are left.
+pub fn read_rest<R: Source>(source: &mut R, bytes: &mut Vec<u8>) -> Result<(), Error>
+    ensures read { OnOk result (TakesAll (R.left source.old) bytes.old.items bytes.new.items) }
+    ensures interrupted { IfErr result IsInterrupted }
+    ensures counts { Counts R.Source source.old source.new (is_io result) }
+{
+    match read_to_end(source, bytes) {
+        Ok(()) => Ok(()),
+        Err(ReadFault::Io(cause)) => Err(Error::Io(cause)),
+        Err(ReadFault::End | ReadFault::OutOfMemory) => Err(Error::OutOfMemory),
+    }
+}
+
+// The type of the next box and the length of its body, where both are said.
+fn header<R: Source>(source: &mut R, bytes: &mut Vec<u8>) -> Result<Option<(Kind, u64)>, Error>
+    ensures read { OnOk result
+        (GoesOn (R.left source.old) (R.left source.new) bytes.old.items bytes.new.items) }
+    ensures grows { IfOk result
+        (λ h. IfSome h (λ _. length bytes.old.items < length bytes.new.items)) }
+    ensures interrupted { IfErr result IsInterrupted }
+    ensures counts { Counts R.Source source.old source.new (is_io result) }
+{
+    let start = bytes.len();
+    if !read_at_most(source, bytes, 8)? {
+        return Ok(None);
+    }
+    let mut head = BoxSplitter::new(&bytes[start..]);
+    if !head.has_header() && !read_at_most(source, bytes, 8)? {
+        return Ok(None);
+    }
+    Ok(said_header(&bytes[start..]))
+}
+
+// The header that these bytes are, of a box that says its size.
+fn said_header(bytes: &[u8]) -> Option<(Kind, u64)> {
+    let mut head = BoxSplitter::new(bytes);
+    if !head.has_header() || bytes[..4] == [0; 4] {
+        return None;
+    }
+    let header = head.header().ok()?;
+    Some((header.kind, header.len))
+}
+
+// Reads the next box, and answers whether another may follow it before the end of `meta`.
+fn next_box<R: Source>(source: &mut R, bytes: &mut Vec<u8>) -> Result<bool, Error>
+    ensures read { OnOk result
+        (GoesOn (R.left source.old) (R.left source.new) bytes.old.items bytes.new.items) }
+    ensures grows { IfOk result
+        (λ more. more ≡ true → length bytes.old.items < length bytes.new.items) }
+    ensures interrupted { IfErr result IsInterrupted }
+    ensures counts { Counts R.Source source.old source.new (is_io result) }
+{
+    let Some((kind, len)) = header(source, bytes)? else {
+        return Ok(false);
+    };
+    let whole = read_at_most(source, bytes, len)?;
+    Ok(whole && kind != Kind::Meta)
+}
+
+/// Reads the boxes of a file up to the end of the first `meta`, or as far as boxes go that say
+/// their size.
+pub fn read_boxes<R: Source>(source: &mut R, bytes: &mut Vec<u8>) -> Result<(), Error>
+    ensures read { OnOk result
+        (GoesOn (R.left source.old) (R.left source.new) bytes.old.items bytes.new.items) }
+    ensures interrupted { IfErr result IsInterrupted }
+    ensures counts { Counts R.Source source.old source.new (is_io result) }
+{
+    while next_box(source, bytes)? {}
+    Ok(())
+}
