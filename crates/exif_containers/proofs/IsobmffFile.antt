@@ -1,14 +1,13 @@
 -- The Exif data of a file, where the front of it settles its `meta`.
 use Rattle.std.proofs.Common.{◌≡◌, ℕ, eqb, Bool, true, false, List, [], ◌++◌, Option, None, Some, Result, Ok, IfSome, refl, sym, ap, ◌∙◌, subst}
 use Rattle.std.proofs.lemmas.Bool.{eqb-true}
-use Rattle.exif_base.specs.Told.{TakesAll}
 use Rattle.exif_types.specs.Failures.{Failure}
 use Rattle.exif_types.specs.Refusals.{Refusal, ◌>>=◌, Fails}
 use Rattle.exif_isobmff.specs.HeifFile.{meta_body}
 use Rattle.exif_isobmff.specs.Places.{Place, item_bytes}
 use Rattle.exif_isobmff.specs.Heif.{ExifPlace, exif_place, exif_block, after_header, exif_of}
 use Rattle.exif_isobmff.proofs.Refusing.{fails_along}
-use Rattle.exif_containers.specs.HeifSteps.{GoesOn, payload_at}
+use Rattle.exif_containers.specs.HeifSteps.{payload_at}
 
 -- what follows for each file follows where one is told
 pub along : (a : Option (List ℕ)) (P Q : List ℕ → Type 0) → ((xs : List ℕ) → P xs → Q xs) → IfSome a P → IfSome a Q

@@ -132,14 +132,14 @@ fn webp_files(rt: HostRuntime) -> Result<(), Fail> {
 
 #[test]
 fn heif(rt: HostRuntime) -> Result<(), Fail> {
-    for (bytes, wanted) in [
-        (files::HEIF_SHORT_DATA, Ok(b"abcd".as_slice())),
-        (files::HEIF_EMPTY_ITEM, Err("ExifDataBlock too small")),
-        (files::HEIF_BOX_CUT, Err("No Exif data found in HEIF")),
-        (b"\0\0\0\x08XXX", Err("Broken HEIF file")),
+    for (bytes, more, wanted) in [
+        (files::HEIF_SHORT_DATA, 0, Ok(b"abcd".as_slice())),
+        (files::HEIF_EMPTY_ITEM, 1, Err("ExifDataBlock too small")),
+        (files::HEIF_BOX_CUT, 2, Err("No Exif data found in HEIF")),
+        (b"\0\0\0\x08XXX", 2, Err("Broken HEIF file")),
     ] {
-        // The whole stream is read, and one call tells of its end.
-        fails_at_each_call(rt.alloc(), Container::Heif, bytes, bytes.len() + 1, wanted)?;
+        // Where the bytes end too early, a call tells so, and where boxes end, another.
+        fails_at_each_call(rt.alloc(), Container::Heif, bytes, bytes.len() + more, wanted)?;
     }
     Ok(())
 }
