@@ -1,6 +1,6 @@
 -- One step after another on told bytes.
 use Rattle.std.proofs.Common.{◌≡◌, ℕ, ◌+◌, ◌-◌, ◌<◌, ◌≤◌, List, ◌++◌, length, take, drop, Option, None, Some, ap, sym, ◌∙◌, refl, arith, append_assoc, length-append, length-drop}
-use Rattle.std.proofs.Math.Seq.{take-add, take-append-add}
+use Rattle.std.proofs.Math.Seq.{take-append-add}
 use Rattle.std.proofs.lemmas.List.{length-take-le, take-append-le, drop-drop, drop_at}
 use borrow.Rule.Slice.PartMut.{put_mid, post_of}
 use Rattle.std.specs.Io.KnownBytes.{Consumes, IsAtEnd}
@@ -39,12 +39,3 @@ take_filled at k n old new h f =
     ap (λ m. take (m + n) (put_mid at k old new)) (sym (length-take-le at old h))
     ∙ take-append-add (take at old) (new ++ post_of at k old) n
     ∙ ap (λ t. take at old ++ t) (take-append-le n new (post_of at k old) f)
-
--- a list was filled so far, and then by n bytes more
-pub filled_more : (a b c : Option (List ℕ)) (start bytes old new : List ℕ) (filled n : ℕ) → take filled new ≡ take filled old → take filled old ≡ start ++ bytes
-    → Consumes a b bytes → Consumes b c (take n (drop filled new)) → (more : List ℕ) × Consumes a c more × (take (filled + n) new ≡ start ++ more)
-filled_more a b c start bytes old new filled n front before h k = (
-  bytes ++ take n (drop filled new),
-  consumes_append a b c _ _ h k,
-  take-add filled n new ∙ ap (λ t. t ++ take n (drop filled new)) (front ∙ before) ∙ append_assoc start bytes _,
-)

@@ -1,8 +1,8 @@
 //! Reads and skips, which keep apart the end of the bytes, a reader's error and out of memory.
 
-ghost use Rattle.std.specs.Prelude.{◌≡◌, ◌≢◌, ◌<◌, ◌≤◌, ◌∷◌, [], ◌++◌, ◌+◌, List, ℕ, length, take, drop, vec_len, Err, OnOk, OnErr, IfOk, is_err};
+ghost use Rattle.std.specs.Prelude.{◌≡◌, ◌≢◌, ◌<◌, ◌≤◌, ◌∷◌, [], ◌++◌, List, ℕ, length, take, Err, OnOk, IfOk, is_err};
 ghost use Rattle.std.specs.Io.{StartsWith};
-ghost use Rattle.std.specs.Io.KnownBytes.{Consumes, IsAtEnd, Keeps};
+ghost use Rattle.std.specs.Io.KnownBytes.{Consumes, IsAtEnd};
 ghost use Rattle.byteorder.specs.Endian.{ReadsNumber, big_number};
 ghost use Rattle.exif_base.specs.ReadFaults.{is_io_fault};
 ghost use Rattle.exif_base.specs.Reads.{Counts, Reads};
@@ -112,6 +112,34 @@ pub fn read64<R: Source>(source: &mut R) -> Result<u64, ReadFault>
     Ok(BigEndian::loadu64(&bytes, 0))
 }
 
+// How many bytes go through the stack at a time.
+const BLOCK: usize = 4096;
+
+// How many of a whole stream, of which there may be many.
+const LONG_BLOCK: usize = 16384;
+
+// One fetch of at least one byte and at most `most`, to the front of the block.
+fn fetch_some<R: Source>(
+    source: &mut R,
+    block: &mut [u8; BLOCK],
+    most: u64,
+) -> Result<usize, ReadFault>
+    requires { 0 < most }
+    ensures some { IfOk result
+        (λ n. (0 < n) × (n ≤ most) × (n ≤ BLOCK) × (length (take n block.new) ≡ n)) }
+    ensures taken { IfOk result
+        (λ n. Consumes (R.left source.old) (R.left source.new) (take n block.new)) }
+    ensures reads { Reads R.Source source.old source.new 1 result }
+    ensures no_memory { result ≢ Err OutOfMemory }
+{
+    let room = most.min(BLOCK as u64) as usize;
+    let n = source.fetch(&mut block[..room])?;
+    if n == 0 {
+        return Err(ReadFault::End);
+    }
+    Ok(n)
+}
+
 /// Takes the next `len` bytes and forgets them, without memory. Faults are those of `read_exact`.
 pub fn discard_exact<R: Source>(source: &mut R, len: u64) -> Result<(), ReadFault>
     ensures taken { OnOk result (Skips (R.left source.old) (R.left source.new) len) }
@@ -123,97 +151,6 @@ pub fn discard_exact<R: Source>(source: &mut R, len: u64) -> Result<(), ReadFaul
         return Err(ReadFault::End);
     }
     Ok(())
-}
-
-// How many bytes a list makes room for at first, and at most, before they come.
-const FIRST_STEP: usize = 4096;
-
-const LONGEST_STEP: usize = 16384;
-
-// One fetch behind the first `filled` bytes of the list, into room for this many.
-fn fetch_behind<R: Source>(
-    source: &mut R,
-    buf: &mut Vec<u8>,
-    filled: usize,
-    room: usize,
-) -> Result<usize, ReadFault>
-    requires filled { filled ≤ vec_len buf.old }
-    requires some { 0 < room }
-    requires step { room ≤ LONGEST_STEP }
-    ensures bound { IfOk result (λ n. n ≤ room) }
-    ensures within { filled ≤ vec_len buf.new }
-    ensures front { take filled buf.new.items ≡ take filled buf.old.items }
-    ensures fits { IfOk result (λ n. filled + n ≤ vec_len buf.new) }
-    ensures taken { IfOk result (λ n. Consumes (R.left source.old) (R.left source.new)
-        (take n (drop filled buf.new.items))) }
-    ensures end { IfOk result (λ n. n ≡ 0 → IsAtEnd (R.left source.new)) }
-    ensures err { OnErr result (Keeps (R.left source.old) (R.left source.new)) }
-    ensures no_end { result ≢ Err End }
-    ensures counts { Counts R.Source source.old source.new (is_io_fault result) }
-{
-    let end = filled + room;
-    if buf.len() < end {
-        buf.resize(end, 0)?;
-    }
-    let n = source.fetch(&mut buf[filled..end])?;
-    Ok(n)
-}
-
-// Takes at most `most` bytes, and puts them behind those of the list. Answers where they end there:
-// what stands behind is no byte of the source.
-fn fill_behind<R: Source>(
-    source: &mut R,
-    buf: &mut Vec<u8>,
-    most: u64,
-) -> (usize, Result<(), ReadFault>)
-    ensures within { result.0 ≤ vec_len buf.new }
-    ensures taken { (bytes : List ℕ) × Consumes (R.left source.old) (R.left source.new) bytes
-        × (take result.0 buf.new.items ≡ buf.old.items ++ bytes) }
-    ensures bound { result.0 ≤ vec_len buf.old + most }
-    ensures end { OnOk result.1
-        (result.0 < vec_len buf.old + most → IsAtEnd (R.left source.new)) }
-    ensures no_end { result.1 ≢ Err End }
-    ensures counts { Counts R.Source source.old source.new (is_io_fault result.1) }
-{
-    let mut filled = buf.len();
-    let mut step = FIRST_STEP;
-    let mut rest = most;
-    while rest > 0 {
-        let room = rest.min(step as u64) as usize;
-        match fetch_behind(source, buf, filled, room) {
-            Ok(n) => {
-                if n == 0 {
-                    return (filled, Ok(()));
-                }
-                filled += n;
-                rest -= n as u64;
-                if n == step {
-                    step = (step * 2).min(LONGEST_STEP);
-                }
-            }
-            Err(fault) => return (filled, Err(fault)),
-        }
-    }
-    (filled, Ok(()))
-}
-
-// Puts the next bytes at the end of the list, at most `most`. Answers how many: fewer only where the
-// bytes end.
-fn read_up_to<R: Source>(source: &mut R, buf: &mut Vec<u8>, most: u64) -> Result<u64, ReadFault>
-    ensures taken { IfOk result (λ n. (bytes : List ℕ)
-        × Consumes (R.left source.old) (R.left source.new) bytes
-        × (length bytes ≡ n) × (buf.new.items ≡ buf.old.items ++ bytes)) }
-    ensures bound { IfOk result (λ n. n ≤ most) }
-    ensures end { IfOk result (λ n. n < most → IsAtEnd (R.left source.new)) }
-    ensures no_end { result ≢ Err End }
-    ensures kept { StartsWith buf.new.items buf.old.items }
-    ensures counts { Counts R.Source source.old source.new (is_io_fault result) }
-{
-    let start = buf.len();
-    let (end, result) = fill_behind(source, buf, most);
-    buf.truncate(end);
-    result?;
-    Ok((end - start) as u64)
 }
 
 /// Puts the next `len` bytes at the end of the list.
@@ -231,9 +168,12 @@ pub fn read_exact_len<R: Source>(
     ensures reads { Reads R.Source source.old source.new len result }
     ensures kept { StartsWith buf.new.items buf.old.items }
 {
-    let n = read_up_to(source, buf, len)?;
-    if n < len {
-        return Err(ReadFault::End);
+    let mut block = [0u8; BLOCK];
+    let mut missing = len;
+    while missing > 0 {
+        let n = fetch_some(source, &mut block, missing)?;
+        buf.extend_from_slice(&block[..n])?;
+        missing -= n as u64;
     }
     Ok(())
 }
@@ -248,7 +188,12 @@ pub fn read_to_end<R: Source>(source: &mut R, buf: &mut Vec<u8>) -> Result<(), R
     ensures kept { StartsWith buf.new.items buf.old.items }
     ensures counts { Counts R.Source source.old source.new (is_io_fault result) }
 {
-    // A list never holds so many, so they ended.
-    read_up_to(source, buf, u64::MAX)?;
-    Ok(())
+    let mut block = [0u8; LONG_BLOCK];
+    loop {
+        let n = source.fetch(&mut block)?;
+        if n == 0 {
+            return Ok(());
+        }
+        buf.extend_from_slice(&block[..n])?;
+    }
 }
