@@ -34,7 +34,7 @@ entries_from place (field ∷ fields) =
 pub record Indexes (index : FieldIndex) (fields : List Field) : Type 0 where
   pub entries : IsPermutation (entries_from 0 fields) index.entries.items
   pub ascending : IsNonDecreasing index.entries.items
-  -- each directory is one of the first eight, each tag's number one of 16 bits, each place one of 43
+  -- each directory is one of the first eight, each tag's number has 16 bits, each place 43
   pub directories : All (λ field. field.ifd_num.0 < 8) fields
   pub numbers : All (λ field. field.tag.1 < 2 ^ 16) fields
   pub places : length fields ≤ 2 ^ 43
