@@ -84,14 +84,14 @@ fn header<R: Source>(source: &mut R, bytes: &mut Vec<u8>) -> Result<Option<(Kind
     if !read_at_most(source, bytes, 8)? {
         return Ok(None);
     }
-    let mut head = BoxSplitter::new(&bytes[start..]);
-    if !head.has_header() && !read_at_most(source, bytes, 8)? {
+    let whole = BoxSplitter::new(&bytes[start..]).has_header();
+    if !whole && !read_at_most(source, bytes, 8)? {
         return Ok(None);
     }
     Ok(said_header(&bytes[start..]))
 }
 
-// The header that these bytes are, of a box that says its size.
+// The type of a box and the length of its body, of a header that says its size.
 fn said_header(bytes: &[u8]) -> Option<(Kind, u64)> {
     let mut head = BoxSplitter::new(bytes);
     if !head.has_header() || bytes[..4] == [0; 4] {
