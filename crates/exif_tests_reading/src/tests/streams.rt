@@ -139,7 +139,13 @@ fn heif(rt: HostRuntime) -> Result<(), Fail> {
         (b"\0\0\0\x08XXX", 2, Err("Broken HEIF file")),
     ] {
         // Where the bytes end too early, a call tells so, and where boxes end, another.
-        fails_at_each_call(rt.alloc(), Container::Heif, bytes, bytes.len() + more, wanted)?;
+        fails_at_each_call(
+            rt.alloc(),
+            Container::Heif,
+            bytes,
+            bytes.len() + more,
+            wanted,
+        )?;
     }
     Ok(())
 }
