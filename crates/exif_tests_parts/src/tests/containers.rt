@@ -2,6 +2,7 @@
 
 mod container;
 mod heif;
+mod heif_places;
 mod streams;
 
 use exif_types::Error;
