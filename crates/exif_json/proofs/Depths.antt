@@ -1,0 +1,81 @@
+-- How deep the object of a file nests, and what its text is read as.
+use Rattle.std.proofs.Common.{◌≡◌, ℕ, List, [], ◌∷◌, ◌++◌, ◌≤◌, map, Some, Ok, Result, option_and_then, Bool, true, false, if◌then◌else◌, nat_lt, ◌^◌, ap, sym, ◌∙◌, arith, append-nil}
+use Rattle.std.specs.Str.{is_utf8}
+use Rattle.json.specs.Json as J
+use Rattle.json.specs.Json.{Json, document, if_last, max_depth, value}
+use Rattle.json.specs.Lex.{tokens}
+use Rattle.json.specs.Print.{print}
+use Rattle.json.specs.Tree.{depth, items_depth, json_tokens}
+use Rattle.json.specs.Written.{Written}
+use Rattle.json.proofs.Printed.Trees.{value-json_tokens}
+use Rattle.exif_types.specs.declared.field.Field.{Field}
+use Rattle.exif_types.specs.declared.value.Value.{Value}
+use Rattle.exif_types.specs.declared.value.Value.TheVariants as V
+use Rattle.exif_types.specs.Contents.{ExifContents}
+use Rattle.exif_types.specs.Failures.{Failure}
+use Rattle.exif_types.specs.ValueTypes.{count_of}
+use Rattle.exif_json.specs.Prints.{Prints}
+use Rattle.exif_json.specs.declared.files.Format.{Format}
+use Rattle.exif_json.specs.Fields.{count_json, field_json}
+use Rattle.exif_json.specs.Files.{answer_json, fault_json, refusal_json}
+use Rattle.exif_json.specs.Texts.{latin1_json, text_json}
+use Rattle.exif_json.specs.Trees.{items_of, signed, unsigned}
+use Rattle.exif_json.specs.Values.{bits_json, rational_json, srational_json, value_json}
+
+-- a text whose tokens are those of a value is that value
+read_back : (text : List ℕ) (tree : Json) → tokens text ≡ json_tokens tree → depth tree ≤ max_depth → document text ≡ Some tree
+read_back text tree same shallow =
+    ap (option_and_then (λ p. if_last p.0 p.1))
+    (ap (value max_depth) (same ∙ sym (append-nil (json_tokens tree))) ∙ value-json_tokens tree max_depth [] shallow)
+
+-- the text of one value that was written
+pub finished : {A E : Type 0} {a : A} (text : List ℕ) (start now : Written) (tree : Json) → start.before ≡ [] → start.tokens ≡ []
+    → (let r : Result A E = Ok a in Prints r start now (json_tokens tree))
+    → text ≡ now.before ++ print now.tokens → tokens (print now.tokens) ≡ now.tokens → depth tree ≤ max_depth → document text ≡ Some tree
+finished text start now tree none empty prints is read shallow =
+    let alone : text ≡ print now.tokens = is ∙ ap (λ b. b ++ print now.tokens) (prints.before ∙ none) in
+    let same : tokens text ≡ json_tokens tree =
+    ap tokens alone ∙ (read ∙ (prints.written ∙ ap (λ ts. ts ++ json_tokens tree) empty)) in
+    read_back text tree same shallow
+
+-- the items of an array of shallow values
+items_shallow : {X : Type 0} (json : X → Json) (d : ℕ) → ((x : X) → depth (json x) ≤ d) → (xs : List X) → items_depth (items_of (map json xs)) ≤ d
+items_shallow json d shallow [] = omega arith
+items_shallow json d shallow (x ∷ xs) = omega (arith, shallow x, items_shallow json d shallow xs)
+
+-- either of two shallow values
+either_shallow : (b : Bool) (x y : Json) (d : ℕ) → depth x ≤ d → depth y ≤ d → depth (if b then x else y) ≤ d
+either_shallow true x y d h k = h
+either_shallow false x y d h k = k
+
+text_shallow : (bytes : List ℕ) → depth (text_json bytes) ≤ 1
+text_shallow bytes = either_shallow (is_utf8 bytes) (J.string bytes) (latin1_json bytes) 1 (omega arith) (omega arith)
+
+count_shallow : (v : Value) → depth (count_json v) ≤ 0
+count_shallow v = either_shallow (nat_lt (count_of v) (2 ^ 32)) (unsigned (count_of v)) J.null 0 (omega arith) (omega arith)
+
+value_shallow : (v : Value) → depth (value_json v) ≤ 2
+value_shallow (V.Byte xs) = omega (arith, items_shallow unsigned 0 (λ x. omega arith) xs)
+value_shallow (V.Ascii xs) = omega (arith, items_shallow text_json 1 text_shallow xs)
+value_shallow (V.Short xs) = omega (arith, items_shallow unsigned 0 (λ x. omega arith) xs)
+value_shallow (V.Long xs) = omega (arith, items_shallow unsigned 0 (λ x. omega arith) xs)
+value_shallow (V.Rational xs) = omega (arith, items_shallow rational_json 1 (λ x. omega arith) xs)
+value_shallow (V.SByte xs) = omega (arith, items_shallow signed 0 (λ x. omega arith) xs)
+value_shallow (V.Undefined xs place) = omega arith
+value_shallow (V.SShort xs) = omega (arith, items_shallow signed 0 (λ x. omega arith) xs)
+value_shallow (V.SLong xs) = omega (arith, items_shallow signed 0 (λ x. omega arith) xs)
+value_shallow (V.SRational xs) = omega (arith, items_shallow srational_json 1 (λ x. omega arith) xs)
+value_shallow (V.Float xs) = omega (arith, items_shallow (bits_json 8) 0 (λ x. omega arith) xs)
+value_shallow (V.Double xs) = omega (arith, items_shallow (bits_json 16) 0 (λ x. omega arith) xs)
+value_shallow (V.Unknown type count place) = omega arith
+
+field_shallow : (fields : List Field) (f : Field) → depth (field_json fields f) ≤ 3
+unfolding field_json
+field_shallow fields f = omega (arith, value_shallow f.value, count_shallow f.value)
+
+pub answer_shallow : (path : List ℕ) (format : Format) (exif : ExifContents) (faults : List Failure) → depth (answer_json path format exif faults) ≤ max_depth
+answer_shallow path format exif faults =
+    omega (arith, text_shallow path, items_shallow (field_json exif.fields) 3 (field_shallow exif.fields) exif.fields, items_shallow fault_json 0 (λ x. omega arith) faults)
+
+pub refusal_shallow : (path said : List ℕ) → depth (refusal_json path said) ≤ max_depth
+refusal_shallow path said = omega (arith, text_shallow path)

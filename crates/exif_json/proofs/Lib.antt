@@ -1,0 +1,4 @@
+pub mod Depths
+pub mod Encodings
+pub mod Faults
+pub mod Prints

@@ -1,0 +1,71 @@
+//! Fields of the data.
+
+ghost use Rattle.std.specs.Prelude.{◌≡◌, ◌++◌, map};
+ghost use Rattle.json.specs.Tree.{json_tokens};
+ghost use Rattle.exif_json.specs.Fields.{contents_members, count_json, field_json, fields_json, name_members};
+ghost use Rattle.exif_json.specs.Prints.{Prints};
+ghost use Rattle.exif_json.specs.Trees.{parts_tokens};
+
+use crate::printer::Printer;
+use crate::values::write_value;
+use exif::{Exif, Field, Value};
+use exif_types::fields_left;
+use std::alloc::AllocError;
+
+/// Writes the members that tell the field's place: its context, its tag and its directory.
+fn write_name(printer: &mut Printer, field: &Field) -> Result<(), AllocError>
+    ensures { Prints result printer.old.out printer.new.out (parts_tokens (name_members field.now)) }
+{
+    printer.text_member("context", field.tag.context().name())?;
+    printer.number_member("tag", u64::from(field.tag.number()))?;
+    printer.shown_member("name", field.tag)?;
+    printer.number_member("directory", u64::from(field.ifd_num.index()))
+}
+
+/// Writes how many items a value has.
+fn write_count(printer: &mut Printer, value: &Value) -> Result<(), AllocError>
+    ensures { Prints result printer.old.out printer.new.out (json_tokens (count_json value.now)) }
+{
+    match value.count() {
+        Some(count) => printer.out.u64(u64::from(count)),
+        None => printer.out.null(),
+    }
+}
+
+/// Writes the members that tell what the field holds: its type, its count, its value and how it
+/// is printed with its unit.
+fn write_contents(printer: &mut Printer, exif: &Exif, field: &Field) -> Result<(), AllocError>
+    ensures { Prints result printer.old.out printer.new.out
+        (parts_tokens (contents_members exif.now.fields field.now)) }
+{
+    let value = &field.value;
+    printer.number_member("type", u64::from(value.type_number()))?;
+    printer.out.key("count")?;
+    write_count(printer, value)?;
+    printer.out.key("value")?;
+    write_value(printer, value)?;
+    printer.shown_member("text", field.display_value().with_unit(exif))
+}
+
+/// Writes an object for a field, whose unit is looked up among those of `exif`.
+fn write_field(printer: &mut Printer, exif: &Exif, field: &Field) -> Result<(), AllocError>
+    ensures { Prints result printer.old.out printer.new.out
+        (json_tokens (field_json exif.now.fields field.now)) }
+{
+    printer.out.begin_object()?;
+    write_name(printer, field)?;
+    write_contents(printer, exif, field)?;
+    printer.out.end_object()
+}
+
+/// Writes an array of the fields.
+pub(crate) fn write_fields(printer: &mut Printer, exif: &Exif) -> Result<(), AllocError>
+    ensures { Prints result printer.old.out printer.new.out
+        (json_tokens (fields_json exif.now.fields)) }
+{
+    printer.out.begin_array()?;
+    for field in fields_left(&exif.fields()) {
+        write_field(printer, exif, field)?;
+    }
+    printer.out.end_array()
+}

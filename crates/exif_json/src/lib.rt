@@ -1,0 +1,11 @@
+//! The JSON of what was read of a picture: one object a file.
+#![tactic(auto)]
+
+mod fields;
+mod files;
+mod items;
+mod printer;
+mod texts;
+mod values;
+
+pub use files::{Format, read_json, refusal_json};

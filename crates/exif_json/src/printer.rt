@@ -1,0 +1,90 @@
+//! Writing tokens, with room for one text at a time.
+
+ghost use Rattle.std.specs.Prelude.{◌≡◌, ◌++◌, [], ◌∷◌, Some, OnOk, List, ℕ};
+ghost use Rattle.json.specs.Json as J;
+ghost use Rattle.std.specs.Str.{IsUtf8};
+ghost use Rattle.json.specs.Lex.{tokens};
+ghost use Rattle.json.specs.Print.{print};
+ghost use Rattle.json.specs.Token as T;
+ghost use Rattle.json.specs.Tree.{json_tokens};
+ghost use Rattle.std.specs.Fmt.{decimal};
+ghost use Rattle.exif_json.specs.Prints.{Prints};
+
+use json::Writer;
+use std::alloc::{AllocError, Global};
+use std::fmt::{Display, Write};
+
+/// What is written, and the text that is being made.
+#[derive(Drop)]
+pub(crate) struct Printer {
+    pub(crate) out: Writer,
+    pub(crate) text: String,
+}
+
+impl Printer {
+    pub(crate) fn new(alloc: Global) -> Printer
+        ensures before { result.out.before ≡ [] }
+        ensures tokens { result.out.tokens ≡ [] }
+    {
+        Printer {
+            out: Writer::new(Vec::new(alloc)),
+            text: String::new(alloc),
+        }
+    }
+
+    /// The text of what was written.
+    pub(crate) fn finish(self) -> Vec<u8>
+        ensures text { result.items ≡ self.out.before ++ print self.out.tokens }
+        ensures tokens { tokens (print self.out.tokens) ≡ self.out.tokens }
+        ensures utf8 { IsUtf8 (print self.out.tokens) }
+    {
+        let Printer { out, .. } = self;
+        out.into_inner()
+    }
+
+    /// Writes a string of what is shown.
+    pub(crate) fn shown<D: Display + Drop>(&mut self, item: D) -> Result<(), AllocError>
+        ensures prints { (text : List ℕ) → D.output item ≡ Some text
+            → Prints result self.old.out self.new.out (json_tokens (J.string text)) }
+        ensures before { OnOk result (self.new.out.before ≡ self.old.out.before) }
+    {
+        self.text.clear();
+        match write!(self.text, "{item}") {
+            Ok(()) => self.out.string(&self.text),
+            Err(_) => Err(AllocError),
+        }
+    }
+
+    /// Writes a name and a number.
+    pub(crate) fn number_member(&mut self, name: &str, number: u64) -> Result<(), AllocError>
+        ensures { Prints result self.old.out self.new.out
+            (T.key name.now ∷ json_tokens (J.number (decimal number))) }
+    {
+        self.out.key(name)?;
+        self.out.u64(number)
+    }
+
+    /// Writes a name and a text.
+    pub(crate) fn text_member(&mut self, name: &str, text: &str) -> Result<(), AllocError>
+        ensures { Prints result self.old.out self.new.out
+            (T.key name.now ∷ json_tokens (J.string text.now)) }
+    {
+        self.out.key(name)?;
+        self.out.string(text)
+    }
+
+    /// Writes a name and a string of what is shown.
+    pub(crate) fn shown_member<D: Display + Drop>(
+        &mut self,
+        name: &str,
+        item: D,
+    ) -> Result<(), AllocError>
+        ensures prints { (text : List ℕ) → D.output item ≡ Some text
+            → Prints result self.old.out self.new.out
+            (T.key name.now ∷ json_tokens (J.string text)) }
+        ensures before { OnOk result (self.new.out.before ≡ self.old.out.before) }
+    {
+        self.out.key(name)?;
+        self.shown(item)
+    }
+}
