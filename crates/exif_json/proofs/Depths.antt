@@ -1,11 +1,11 @@
 -- How deep the object of a file nests, and what its text is read as.
-use Rattle.std.proofs.Common.{◌≡◌, ℕ, List, [], ◌∷◌, ◌++◌, ◌≤◌, map, Some, Ok, Result, option_and_then, Bool, true, false, if◌then◌else◌, nat_lt, ◌^◌, ap, sym, ◌∙◌, arith, append-nil}
+use Rattle.std.proofs.Common.{◌≡◌, ℕ, List, [], ◌∷◌, ◌++◌, ◌≤◌, map, Some, None, Option, Ok, Result, option_and_then, Bool, true, false, if◌then◌else◌, nat_lt, ◌^◌, ap, sym, ◌∙◌, arith, append-nil}
 use Rattle.std.specs.Str.{is_utf8}
 use Rattle.json.specs.Json as J
 use Rattle.json.specs.Json.{Json, document, if_last, max_depth, value}
 use Rattle.json.specs.Lex.{tokens}
 use Rattle.json.specs.Print.{print}
-use Rattle.json.specs.Tree.{depth, items_depth, json_tokens}
+use Rattle.json.specs.Tree.{depth, items_depth, json_tokens, members_depth}
 use Rattle.json.specs.Written.{Written}
 use Rattle.json.proofs.Printed.Trees.{value-json_tokens}
 use Rattle.exif_types.specs.declared.field.Field.{Field}
@@ -18,8 +18,10 @@ use Rattle.exif_json.specs.Prints.{Prints}
 use Rattle.exif_json.specs.declared.files.Format.{Format}
 use Rattle.exif_json.specs.Fields.{count_json, field_json}
 use Rattle.exif_json.specs.Files.{answer_json, fault_json, refusal_json}
+use Rattle.exif_json.specs.Places.{Degrees}
+use Rattle.exif_json.specs.Summaries.{camera_members, date_json, degrees_json, maybe, place_members, size_members, standing_members, summary_json}
 use Rattle.exif_json.specs.Texts.{latin1_json, text_json}
-use Rattle.exif_json.specs.Trees.{items_of, signed, unsigned}
+use Rattle.exif_json.specs.Trees.{items_of, members_of, signed, unsigned}
 use Rattle.exif_json.specs.Values.{bits_json, rational_json, srational_json, value_json}
 
 -- a text whose tokens are those of a value is that value
@@ -73,9 +75,41 @@ field_shallow : (fields : List Field) (f : Field) → depth (field_json fields f
 unfolding field_json
 field_shallow fields f = omega (arith, value_shallow f.value, count_shallow f.value)
 
+-- no member of an object is deeper
+record AreShallow (d : ℕ) (members : List (List ℕ × Json)) : Type 0 where
+  within : members_depth (members_of members) ≤ d
+
+-- members of two lists
+both_shallow : (d : ℕ) (first rest : List (List ℕ × Json)) → AreShallow d first → AreShallow d rest → AreShallow d (first ++ rest)
+both_shallow d [] rest h k = k
+both_shallow d (m ∷ ms) rest h k =
+    record { within = omega (arith, h.within, (both_shallow d ms rest (record { within = omega (arith, h.within) }) k).within) }
+
+maybe_shallow : {A : Type 0} (d : ℕ) (name : List ℕ) (json : A → Json) (o : Option A) → ((x : A) → depth (json x) ≤ d) → AreShallow d (maybe name json o)
+maybe_shallow d name json None h = record { within = omega arith }
+maybe_shallow d name json (Some x) h = record { within = omega (arith, h x) }
+
+number_shallow : (name : List ℕ) (o : Option ℕ) → AreShallow 1 (maybe name unsigned o)
+number_shallow name o = maybe_shallow 1 name unsigned o (λ x. omega arith)
+
+degrees_shallow : (name : List ℕ) (o : Option Degrees) → AreShallow 1 (maybe name degrees_json o)
+degrees_shallow name o = maybe_shallow 1 name degrees_json o (λ x. omega arith)
+
+texts_shallow : (name : List ℕ) (o : Option (List ℕ)) → AreShallow 1 (maybe name text_json o)
+texts_shallow name o = maybe_shallow 1 name text_json o text_shallow
+
+summary_shallow : (fields : List Field) → depth (summary_json fields) ≤ 2
+summary_shallow fields =
+    let standing : AreShallow 1 (standing_members fields) = both_shallow 1 _ _ (number_shallow _ _) (maybe_shallow 1 _ date_json _ (λ x. omega arith)) in
+    let place : AreShallow 1 (place_members fields) = both_shallow 1 _ _ (degrees_shallow _ _) (degrees_shallow _ _) in
+    let camera : AreShallow 1 (camera_members fields) = both_shallow 1 _ _ (texts_shallow _ _) (texts_shallow _ _) in
+    let size : AreShallow 1 (size_members fields) = both_shallow 1 _ _ (number_shallow _ _) (number_shallow _ _) in
+    let all = both_shallow 1 _ _ standing (both_shallow 1 _ _ place (both_shallow 1 _ _ camera size)) in
+    omega (arith, all.within)
+
 pub answer_shallow : (path : List ℕ) (format : Format) (exif : ExifContents) (faults : List Failure) → depth (answer_json path format exif faults) ≤ max_depth
 answer_shallow path format exif faults =
-    omega (arith, text_shallow path, items_shallow (field_json exif.fields) 3 (field_shallow exif.fields) exif.fields, items_shallow fault_json 0 (λ x. omega arith) faults)
+    omega (arith, text_shallow path, summary_shallow exif.fields, items_shallow (field_json exif.fields) 3 (field_shallow exif.fields) exif.fields, items_shallow fault_json 0 (λ x. omega arith) faults)
 
 pub refusal_shallow : (path said : List ℕ) → depth (refusal_json path said) ≤ max_depth
 refusal_shallow path said = omega (arith, text_shallow path)

@@ -1,4 +1,6 @@
 pub mod Depths
 pub mod Encodings
 pub mod Faults
+pub mod Numerals
 pub mod Prints
+pub mod Rounding

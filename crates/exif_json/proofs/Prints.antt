@@ -116,3 +116,13 @@ listed_all {X = X} (Ok a) json items i old start now new opened kept all so_far 
       before = before ∙ (so_far.before ∙ kept);
     }
 listed_all (Err e) json items i old start now new opened kept all so_far closed before = record { written = tt; before = tt }
+
+-- some members, and then others
+pub parts_then : {A B E : Type 0} {x : B} {r : Result A E} {old mid new : Written} (first rest : List (List ℕ × Json))
+    → (let s : Result B E = Ok x in Prints s old mid (parts_tokens first)) → Prints r mid new (parts_tokens rest)
+    → Prints r old new (parts_tokens (first ++ rest))
+parts_then first rest h k = prints_same (parts_append first rest) (prints_then h k)
+
+-- the members of an object between the braces
+pub object_of : (members : List (List ℕ × Json)) → T.begin_object ∷ (parts_tokens members ++ (T.end_object ∷ [])) ≡ json_tokens (object members)
+object_of members = ap (λ ts. T.begin_object ∷ ts) (sym (tokens_of_members members))

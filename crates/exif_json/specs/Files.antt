@@ -9,6 +9,7 @@ use Rattle.exif_json.specs.declared.files.Format.TheVariants.{Tiff, Jpeg, Heif, 
 use Rattle.exif_json.specs.Trees.{array, object}
 use Rattle.exif_json.specs.Texts.{text_json}
 use Rattle.exif_json.specs.Fields.{fields_json}
+use Rattle.exif_json.specs.Summaries.{summary_json}
 
 -- the name of a format
 abbrev pub format_name : Format → List ℕ
@@ -38,6 +39,7 @@ abbrev pub answer_members : Format → ExifContents → List Failure → List (L
 answer_members format exif faults =
     (codes "format", J.string (format_name format))
     ∷ (codes "byte_order", J.string (order_name exif.little_endian))
+    ∷ (codes "summary", summary_json exif.fields)
     ∷ (codes "fields", fields_json exif.fields)
     ∷ (codes "faults", faults_json faults) ∷ []
 

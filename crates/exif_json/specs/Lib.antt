@@ -1,6 +1,11 @@
 pub mod Prints
+pub mod Seen
+pub mod Summaries
 pub mod Trees
 pub mod Texts
 pub mod Values
+pub mod Dates
 pub mod Fields
 pub mod Files
+pub mod Finding
+pub mod Places

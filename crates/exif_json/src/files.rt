@@ -12,6 +12,7 @@ ghost use Rattle.exif_json.specs.Trees.{parts_tokens};
 
 use crate::fields::write_fields;
 use crate::printer::Printer;
+use crate::summary::write_summary;
 use crate::texts::write_text;
 use exif::{Error, Exif};
 use std::alloc::{AllocError, Global};
@@ -95,6 +96,8 @@ fn write_answer(
 {
     printer.text_member("format", format.name())?;
     printer.text_member("byte_order", order_of(exif))?;
+    printer.out.key("summary")?;
+    write_summary(printer, exif)?;
     printer.out.key("fields")?;
     write_fields(printer, exif)?;
     printer.out.key("faults")?;

@@ -5,6 +5,7 @@ mod fields;
 mod files;
 mod items;
 mod printer;
+mod summary;
 mod texts;
 mod values;
 

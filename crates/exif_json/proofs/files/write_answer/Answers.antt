@@ -10,5 +10,7 @@ returns c =
     prints_then (rw c.name.ensures at c.in_ok-text_member.ensures)
     (prints_then (rw c.order_of.ensures at c.in_ok-text_member-2.ensures)
     (writes_then c.in_ok-key.ensures
+    (prints_then c.in_ok-write_summary.ensures
+    (writes_then c.in_ok-key-2.ensures
     (prints_then c.in_ok-write_fields.ensures
-    (writes_then c.in_ok-key-2.ensures (prints_same (sym (append-nil (json_tokens (faults_json c.args.faults.now)))) c.write_faults.ensures)))))
+    (writes_then c.in_ok-key-3.ensures (prints_same (sym (append-nil (json_tokens (faults_json c.args.faults.now)))) c.write_faults.ensures)))))))

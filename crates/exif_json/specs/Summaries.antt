@@ -1,0 +1,58 @@
+-- What people ask of a picture first.
+use Rattle.std.specs.Prelude.{ℕ, List, [], ◌∷◌, ◌++◌, codes, Option, Some, None}
+use Rattle.json.specs.Json as J
+use Rattle.json.specs.Json.{Json}
+use Rattle.exif_table.specs.declared.context.Context.TheVariants.{Tiff, Exif}
+use Rattle.exif_types.specs.declared.datetime.DateTime.{DateTime}
+use Rattle.exif_types.specs.declared.field.Field.{Field}
+use Rattle.exif_json.specs.Dates.{date_taken, iso_text}
+use Rattle.exif_json.specs.Finding.{degrees_of, number_of, orientation_of, text_found}
+use Rattle.exif_json.specs.Places.{Degrees, degrees_text, latitude, longitude}
+use Rattle.exif_json.specs.Texts.{text_json}
+use Rattle.exif_json.specs.Trees.{object, unsigned}
+
+-- a number of the picture's own size, else of the image's
+abbrev pub either_number : Option ℕ → Option ℕ → Option ℕ
+either_number (Some n) other = Some n
+either_number None other = other
+
+-- a member where there is something to tell
+abbrev pub maybe : {A : Type 0} → List ℕ → (A → Json) → Option A → List (List ℕ × Json)
+maybe name json None = []
+maybe name json (Some x) = (name, json x) ∷ []
+
+abbrev pub degrees_json : Degrees → Json
+degrees_json d = J.number (degrees_text d.negative d.units)
+
+abbrev pub date_json : DateTime → Json
+date_json d = J.string (iso_text d)
+
+-- how it stands and when it was taken
+abbrev pub standing_members : List Field → List (List ℕ × Json)
+standing_members fields =
+    maybe (codes "orientation") unsigned (orientation_of fields)
+    ++ maybe (codes "date_taken") date_json (date_taken fields)
+
+-- where it was taken
+abbrev pub place_members : List Field → List (List ℕ × Json)
+place_members fields =
+    maybe (codes "latitude") degrees_json (degrees_of fields latitude)
+    ++ maybe (codes "longitude") degrees_json (degrees_of fields longitude)
+
+-- by which camera
+abbrev pub camera_members : List Field → List (List ℕ × Json)
+camera_members fields =
+    maybe (codes "make") text_json (text_found fields Tiff 271)
+    ++ maybe (codes "model") text_json (text_found fields Tiff 272)
+
+-- its width and its height
+abbrev pub size_members : List Field → List (List ℕ × Json)
+size_members fields =
+    maybe (codes "width") unsigned
+    (either_number (number_of fields Exif 40962) (number_of fields Tiff 256))
+    ++ maybe (codes "height") unsigned
+    (either_number (number_of fields Exif 40963) (number_of fields Tiff 257))
+
+abbrev pub summary_json : List Field → Json
+summary_json fields = object (standing_members fields
+    ++ (place_members fields ++ (camera_members fields ++ size_members fields)))
