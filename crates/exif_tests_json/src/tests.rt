@@ -1,0 +1,6 @@
+//! What is told of small files in JSON.
+
+mod objects;
+mod odd;
+mod picture;
+mod types;
