@@ -15,7 +15,7 @@ use Rattle.exif_types.specs.Contents.{ExifContents}
 use Rattle.exif_types.specs.Failures.{Failure}
 use Rattle.exif_types.specs.ValueTypes.{count_of}
 use Rattle.exif_json.specs.Prints.{Prints}
-use Rattle.exif_json.specs.declared.files.Format.{Format}
+use Rattle.exif_containers.specs.declared.container.Format.{Format}
 use Rattle.exif_json.specs.Fields.{count_json, field_json}
 use Rattle.exif_json.specs.Files.{answer_json, fault_json, refusal_json}
 use Rattle.exif_json.specs.Places.{Degrees}

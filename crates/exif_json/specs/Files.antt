@@ -4,8 +4,8 @@ use Rattle.json.specs.Json as J
 use Rattle.json.specs.Json.{Json}
 use Rattle.exif_types.specs.Contents.{ExifContents}
 use Rattle.exif_types.specs.Failures.{Failure, told_text, bytes_of}
-use Rattle.exif_json.specs.declared.files.Format.{Format}
-use Rattle.exif_json.specs.declared.files.Format.TheVariants.{Tiff, Jpeg, Heif, Webp}
+use Rattle.exif_containers.specs.declared.container.Format.{Format}
+use Rattle.exif_containers.specs.declared.container.Format.TheVariants.{Tiff, Jpeg, Heif, WebP}
 use Rattle.exif_json.specs.Trees.{array, object}
 use Rattle.exif_json.specs.Texts.{text_json}
 use Rattle.exif_json.specs.Fields.{fields_json}
@@ -16,7 +16,7 @@ abbrev pub format_name : Format → List ℕ
 format_name Tiff = codes "TIFF"
 format_name Jpeg = codes "JPEG"
 format_name Heif = codes "HEIF"
-format_name Webp = codes "WebP"
+format_name WebP = codes "WebP"
 
 -- the name of an order of bytes
 abbrev pub order_name : Bool → List ℕ

@@ -15,32 +15,18 @@ use crate::printer::Printer;
 use crate::summary::write_summary;
 use crate::texts::write_text;
 use exif::{Error, Exif};
+use exif_containers::container::Format;
 use std::alloc::{AllocError, Global};
 
-/// What holds the Exif data.
-#[derive(Clone, Copy, Debug, PartialEq, Eq)]
-pub enum Format {
-    /// TIFF data by themselves.
-    Tiff,
-    /// A JPEG stream.
-    Jpeg,
-    /// A HEIF file.
-    Heif,
-    /// A WebP file.
-    Webp,
-}
-
-impl Format {
-    /// Its name in JSON.
-    pub fn name(self) -> &'static str
-        ensures { result.now ≡ format_name self }
-    {
-        match self {
-            Format::Tiff => "TIFF",
-            Format::Jpeg => "JPEG",
-            Format::Heif => "HEIF",
-            Format::Webp => "WebP",
-        }
+/// The name of what holds the Exif data.
+fn name_of(format: Format) -> &'static str
+    ensures { result.now ≡ format_name format }
+{
+    match format {
+        Format::Tiff => "TIFF",
+        Format::Jpeg => "JPEG",
+        Format::Heif => "HEIF",
+        Format::WebP => "WebP",
     }
 }
 
@@ -94,7 +80,7 @@ fn write_answer(
     ensures { Prints result printer.old.out printer.new.out
         (parts_tokens (answer_members format exif.now faults.now)) }
 {
-    printer.text_member("format", format.name())?;
+    printer.text_member("format", name_of(format))?;
     printer.text_member("byte_order", order_of(exif))?;
     printer.out.key("summary")?;
     write_summary(printer, exif)?;

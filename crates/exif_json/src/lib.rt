@@ -9,4 +9,4 @@ mod summary;
 mod texts;
 mod values;
 
-pub use files::{Format, read_json, refusal_json};
+pub use files::{read_json, refusal_json};

@@ -2,8 +2,10 @@
 
 use super::{odd, picture, types};
 use exif::Error;
-use exif_json::{Format, read_json, refusal_json};
+use exif_containers::container::{Format, format_of};
+use exif_json::{read_json, refusal_json};
 use exif_samples::answers::are_bytes;
+use exif_samples::files;
 use exif_samples::readings::{answer_of, reader_of};
 use std::alloc::Global;
 use std::test::Fail;
@@ -60,13 +62,25 @@ fn the_pole_and_half_a_unit_are_told(rt: HostRuntime) -> Result<(), Fail> {
 
 #[test]
 fn each_format_has_its_name(rt: HostRuntime) -> Result<(), Fail> {
-    for (format, name) in [
-        (Format::Tiff, "TIFF"),
-        (Format::Jpeg, "JPEG"),
-        (Format::Heif, "HEIF"),
-        (Format::Webp, "WebP"),
+    for (file, name) in [
+        (files::JPEG, "JPEG"),
+        (files::HEIF, "HEIF"),
+        (files::WEBP, "WebP"),
     ] {
-        are_bytes(format.name().as_bytes(), name.as_bytes())?;
+        has_name(rt.alloc(), file, name)?;
     }
     Ok(())
+}
+
+// The object of a file names its format.
+fn has_name(alloc: Global, file: &[u8], name: &str) -> Result<(), Fail> {
+    let Some(format) = format_of(file) else {
+        return Err(Fail::new("no format is recognised"));
+    };
+    let exif = answer_of(alloc, &reader_of(false), file)?;
+    let text = read_json(alloc, b"", format, &exif, &[])?;
+    match text.as_slice().get(21..21 + name.len()) {
+        Some(found) => are_bytes(found, name.as_bytes()),
+        None => Err(Fail::new("the object is too short")),
+    }
 }

@@ -7,7 +7,7 @@ use Rattle.exif_json.proofs.files.write_answer.Goals as goal
 
 pub returns : goal.returns
 returns c =
-    prints_then (rw c.name.ensures at c.in_ok-text_member.ensures)
+    prints_then (rw c.name_of.ensures at c.in_ok-text_member.ensures)
     (prints_then (rw c.order_of.ensures at c.in_ok-text_member-2.ensures)
     (writes_then c.in_ok-key.ensures
     (prints_then c.in_ok-write_summary.ensures
