@@ -15,17 +15,17 @@ use Rattle.exif_containers.proofs.JpegUnits.{unit-alone, unit-segment, answer-fi
 
 -- ---- a unit is read back
 
-after_marks-fill : (n code : ℕ) (ys : List ℕ) → code ≢ 255 → after_marks (replicate n 255 ++ (code ∷ ys)) ≡ code ∷ ys
+pub after_marks-fill : (n code : ℕ) (ys : List ℕ) → code ≢ 255 → after_marks (replicate n 255 ++ (code ∷ ys)) ≡ code ∷ ys
 after_marks-fill zero code ys h = ap (λ t. cond t (after_marks ys) (code ∷ ys)) (ne_eqb code 255 h)
 after_marks-fill (suc n) code ys h = after_marks-fill n code ys h
 
-from_code-brought : (code : ℕ) (b : Brought) (rest : List ℕ) → IsBrought code b
+pub from_code-brought : (code : ℕ) (b : Brought) (rest : List ℕ) → IsBrought code b
     → unit_from_code (code ∷ (print_brought b ++ rest)) ≡ Some (record { code = code; body = print_brought b; rest = rest })
 from_code-brought code nothing rest h = unit-alone code rest h
 from_code-brought code (sized high low content) rest h = unit-segment code high low content rest h.0 (omega (arith, h.1))
 from_code-brought code (exif high low payload) rest h = unit-segment code high low (exif_id ++ payload) rest (ap stands_alone h.0) (omega (arith, h.1))
 
-first_unit-print : (u : UnitTree) (rest : List ℕ) → IsUnit u
+pub first_unit-print : (u : UnitTree) (rest : List ℕ) → IsUnit u
     → first_unit (print_unit u ++ rest) ≡ Some (record { code = u.code; body = print_brought u.brought; rest = rest })
 first_unit-print u rest h =
     ap first_unit (append_assoc u.passed (255 ∷ (replicate u.fill 255 ++ (u.code ∷ print_brought u.brought))) rest)
@@ -158,10 +158,10 @@ from_code-brings code bytes v = by (stands_alone code) refl
 
 -- a whole unit, as a tree
 pub record Tree (bytes : List ℕ) (v : JpegUnit) : Type 0 where
-  tree : UnitTree
-  is : IsUnit tree
-  whole : bytes ≡ print_unit tree ++ v.rest
-  unit_is : v ≡ record { code = tree.code; body = print_brought tree.brought; rest = v.rest }
+  pub tree : UnitTree
+  pub is : IsUnit tree
+  pub whole : bytes ≡ print_unit tree ++ v.rest
+  pub unit_is : v ≡ record { code = tree.code; body = print_brought tree.brought; rest = v.rest }
 
 none-no_unit : (bytes : List ℕ) (v : JpegUnit) → from_mark bytes ≡ [] → first_unit bytes ≡ Some v → ⊥
 none-no_unit bytes v e h = let k : unit_from_code (after_marks []) ≡ Some v = ap (λ t. unit_from_code (after_marks t)) (sym e) ∙ h in cc
@@ -195,7 +195,7 @@ tree-at_mark bytes rest v e h = at (after_marks rest) refl
     at [] is = let k : unit_from_code [] ≡ Some v = ap unit_from_code (sym is) ∙ here in absurd (cc)
     at (code ∷ behind) is = tree-at_code bytes rest behind code v e is (ap unit_from_code (sym is) ∙ here)
 
-tree-of_unit : (bytes : List ℕ) (v : JpegUnit) → first_unit bytes ≡ Some v → Tree bytes v
+pub tree-of_unit : (bytes : List ℕ) (v : JpegUnit) → first_unit bytes ≡ Some v → Tree bytes v
 tree-of_unit bytes v h = elim (from_mark-begins bytes) [
   | inl none ↦ absurd (none-no_unit bytes v none h)
   | inr some ↦ tree-at_mark bytes some.0 v some.1 h

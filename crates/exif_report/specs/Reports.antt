@@ -1,9 +1,8 @@
 -- What a report says of an answer.
-use Rattle.std.specs.Prelude.{◌≡◌, ℕ, Bool, ◌||◌, List, [], ◌++◌, length, map, ◌⊎◌, Option, Some, Result, Ok, Err, Vec}
+use Rattle.std.specs.Prelude.{◌≡◌, ℕ, List, [], ◌++◌, length, map, ◌⊎◌, Option, Some, Result, Ok, Err, Vec}
 use Rattle.std.specs.Global.{Global}
 use Rattle.std.specs.List.{flat_map, Contains}
 use Rattle.std.specs.Io.KnownBytes.{Appends, Keeps}
-use Rattle.exif_base.specs.Device.{count_after}
 use Rattle.exif_base.specs.Sent.{SendsFront}
 use Rattle.exif_types.specs.Contents.{ExifContents}
 use Rattle.exif_types.specs.Failures.{Failure, told_text, bytes_of}
@@ -36,12 +35,6 @@ report_text (Err r) = []
 -- what the data of a container answer
 abbrev pub given_by : (List ℕ → Answer) → Result (List ℕ) Refusal → Result Answer Refusal
 given_by answer container = container >>= λ bytes. Ok (answer bytes)
-
--- each count rose by one or stayed, and some rose exactly where a device's error was answered
-abbrev pub CountsBoth : ℕ → ℕ → ℕ → ℕ → Bool → Type 0
-CountsBoth read read' written written' io =
-    (r w : Bool) × (read' ≡ count_after r read) × (written' ≡ count_after w written)
-    × (io ≡ (r || w))
 
 -- the container or its data are refused with this error
 abbrev pub IsRefusedAs : Result Answer Refusal → Failure → Type 0

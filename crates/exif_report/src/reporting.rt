@@ -3,7 +3,7 @@
 ghost use Rattle.std.specs.Prelude.{◌≡◌, ◌<◌, ◌++◌, All, ℕ, List, OnOk, OnErr, IfOk, IfErr, IfSome, None, Some, Result, Ok, Err};
 ghost use Rattle.std.specs.List.{flat_map};
 ghost use Rattle.std.specs.Io.KnownBytes.{Appends, Keeps};
-ghost use Rattle.exif_base.specs.Device.{count_after};
+ghost use Rattle.exif_base.specs.Device.{CountsBoth, count_after};
 ghost use Rattle.exif_base.specs.Sent.{SendsFront};
 ghost use Rattle.exif_types.specs.Failures.{IsInvalidFormat};
 ghost use Rattle.exif_types.specs.Refusals.{Refusal, is_io, is_io_error, IsInterrupted};
@@ -11,7 +11,7 @@ ghost use Rattle.exif_tiff.specs.Answers.{Answer, raw_answer};
 ghost use Rattle.exif_reader.specs.Files.{AnswersOwnData, ReadsContainer, file_answer};
 ghost use Rattle.exif_report.specs.Lines.{field_line, error_line};
 ghost use Rattle.exif_report.specs.Writes.{Writes};
-ghost use Rattle.exif_report.specs.Reports.{Finds, FindsOwn, Reports, ReportsSome, CountsBoth, given_by};
+ghost use Rattle.exif_report.specs.Reports.{Finds, FindsOwn, Reports, ReportsSome, given_by};
 
 use crate::lines::{set_error_line, set_field_line};
 use exif::{Error, Exif, Field, Reader, Sink, Source};

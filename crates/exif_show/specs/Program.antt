@@ -2,12 +2,13 @@
 use Rattle.std.specs.Prelude.{◌≡◌, ◌<◌, ℕ, Bool, true, false, ◌==◌, if◌then◌else◌, List, [], ◌∷◌, ◌++◌, codes, Option, Some, None, Result, Ok, Err, IfSome}
 use Rattle.std.specs.Str.{bytes_eq}
 use Rattle.std.specs.Io.KnownBytes.{Appends, Keeps}
+use Rattle.exif_base.specs.Device.{CountsBoth}
 use Rattle.exif_base.specs.Sent.{SendsFront}
 use Rattle.exif_types.specs.Failures.{Failure, error_text}
 use Rattle.exif_types.specs.Refusals.{is_io}
 use Rattle.exif_tiff.specs.Answers.{raw_answer}
 use Rattle.exif_reader.specs.Files.{file_answer}
-use Rattle.exif_report.specs.Reports.{Reports, ReportsSome, CountsBoth}
+use Rattle.exif_report.specs.Reports.{Reports, ReportsSome}
 
 -- whether to pass over faults, and which argument is the file's path
 abbrev pub asked_by : List (List ℕ) → Option (Bool × ℕ)
