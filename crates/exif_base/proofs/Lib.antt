@@ -1,4 +1,5 @@
 pub mod EndianSteps
+pub mod Feeding
 pub mod ReadSteps
 pub mod ScanSteps
 pub mod Sending

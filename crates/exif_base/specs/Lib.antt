@@ -3,6 +3,7 @@ pub mod Bytes
 pub mod Counted
 pub mod Device
 pub mod Exact
+pub mod Input
 pub mod Orders
 pub mod ReadFaults
 pub mod Reads
