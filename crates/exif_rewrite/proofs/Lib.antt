@@ -1,0 +1,5 @@
+pub mod JpegAnswers
+pub mod JpegLaws
+pub mod JpegSteps
+pub mod JpegTokens
+pub mod Passing

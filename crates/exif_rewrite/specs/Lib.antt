@@ -1,0 +1,7 @@
+pub mod Faults
+pub mod JpegLaws
+pub mod JpegSteps
+pub mod JpegTokens
+pub mod Passing
+pub mod Rewriting
+pub mod RewrittenJpeg
