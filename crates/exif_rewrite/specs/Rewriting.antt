@@ -31,7 +31,3 @@ unless_refused (Some refusal) r = ends (refused_by refusal) []
 abbrev pub Follows : (List ℕ → Rewriting) → (List ℕ → Rewriting)
     → List ℕ → List ℕ → List ℕ → Type 0
 Follows f g bytes left sent = f bytes ≡ after sent (g left)
-
--- what bytes become is what was sent, and this ends it
-abbrev pub EndsAs : End → (List ℕ → Rewriting) → List ℕ → List ℕ → List ℕ → Type 0
-EndsAs end f bytes left sent = f bytes ≡ ends end sent

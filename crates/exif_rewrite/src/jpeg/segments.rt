@@ -104,7 +104,6 @@ pub fn check_unit(code: u8, body: &[u8]) -> Result<(), Fault>
 }
 
 /// Sends the segment of new Exif data.
-#[tactic(auto, using(exif_base::proofs::Sent::appends_more, exif_base::proofs::Sent::front_second, exif_base::proofs::Sent::front_first))]
 pub fn send_segment<W: Sink>(out: &mut W, payload: &[u8]) -> io::Result<()>
     requires { length payload.now ≤ 65527 }
     ensures sends { Sends W.Sink out.old out.new result (exif_segment payload.now) }
