@@ -25,8 +25,8 @@ enum Step {
 // What the end of the bytes is called.
 const BROKEN: &str = "Broken WebP file";
 
-// How many bytes a payload takes, its pad byte among them: there is none at the end of the body.
-fn padded_len(size: u64, room: u64) -> u64
+/// How many bytes a payload takes, its pad byte among them: there is none at the end of the body.
+pub fn padded_len(size: u64, room: u64) -> u64
     requires { size ≤ room }
     ensures value { result ≡ padded size room }
     ensures fits { result ≤ room }

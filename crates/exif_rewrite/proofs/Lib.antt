@@ -3,3 +3,4 @@ pub mod JpegLaws
 pub mod JpegSteps
 pub mod JpegTokens
 pub mod Passing
+pub mod WebpSteps

@@ -5,3 +5,7 @@ pub mod JpegTokens
 pub mod Passing
 pub mod Rewriting
 pub mod RewrittenJpeg
+pub mod RewrittenWebp
+pub mod WebpChunks
+pub mod WebpExamples
+pub mod WebpPlans

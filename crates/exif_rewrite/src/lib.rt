@@ -6,6 +6,8 @@ pub mod fault;
 pub mod jpeg;
 pub mod laws;
 pub mod remove;
+pub mod webp;
 
 pub use jpeg::{rewrite_jpeg, rewrite_jpeg_as_it_stands};
 pub use remove::{Ended, Remove};
+pub use webp::rewrite_webp;
