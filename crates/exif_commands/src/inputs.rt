@@ -1,0 +1,67 @@
+//! Files as they are read: a file that seeks costs what is read of it, anything else is taken into
+//! memory.
+
+use exif::{Counted, Error, Exif, Reader, Seekable};
+use exif_containers::container::{Format, format_of};
+use std::alloc::Global;
+use std::fs::File;
+use std::io::{self, Read, Seek, SeekFrom};
+
+// How many bytes tell the format of a file.
+const HEAD: usize = 4096;
+
+/// What is read.
+#[derive(Drop)]
+pub enum Input {
+    /// A file that seeks, at its start.
+    File(File),
+    /// All the bytes of anything else.
+    Bytes(Vec<u8>),
+}
+
+/// Opens a file, `-` for standard input.
+pub fn open(rt: &HostRuntime, path: &str) -> io::Result<Input> {
+    if path == "-" {
+        return Ok(Input::Bytes(read_all(rt.alloc(), rt.stdin())?));
+    }
+    let mut file = File::open(rt, path)?;
+    if file.seek(SeekFrom::Start(0)).is_ok() {
+        Ok(Input::File(file))
+    } else {
+        Ok(Input::Bytes(read_all(rt.alloc(), file)?))
+    }
+}
+
+fn read_all<R: Read + Drop>(alloc: Global, mut reader: R) -> io::Result<Vec<u8>> {
+    let mut bytes = Vec::new(alloc);
+    reader.read_to_end(&mut bytes)?;
+    Ok(bytes)
+}
+
+// The first bytes of a file, which stands at its start again.
+fn head_of(alloc: Global, file: &mut File) -> io::Result<Vec<u8>> {
+    let mut head = Vec::new(alloc);
+    file.take(HEAD as u64).read_to_end(&mut head)?;
+    file.seek(SeekFrom::Start(0))?;
+    Ok(head)
+}
+
+/// The format of what is read, and what a reader answers of it.
+pub fn read(
+    alloc: Global,
+    by: &Reader,
+    input: Input,
+) -> io::Result<(Option<Format>, Result<Exif, Error>)> {
+    match input {
+        Input::Bytes(bytes) => {
+            let format = format_of(bytes.as_slice());
+            let answer = by.read_from_container(alloc, &mut Counted::new(bytes.as_slice()));
+            Ok((format, answer))
+        }
+        Input::File(mut file) => {
+            let format = format_of(head_of(alloc, &mut file)?.as_slice());
+            let answer = by.read_from_container(alloc, &mut Seekable::new(file));
+            Ok((format, answer))
+        }
+    }
+}

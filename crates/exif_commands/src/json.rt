@@ -1,0 +1,50 @@
+//! The JSON object of a file.
+
+use crate::inputs::{Input, read};
+use crate::request::Request;
+use exif::{Error, Exif, Reader};
+use exif_containers::container::Format;
+use exif_json::{read_json, refusal_json};
+use std::alloc::{AllocError, Global};
+use std::io;
+
+/// The object of a file, and the file's status.
+pub fn object_of(
+    alloc: Global,
+    request: &Request<'_>,
+    path: &str,
+    input: io::Result<Input>,
+) -> Result<(Vec<u8>, u8), AllocError> {
+    let mut by = Reader::new();
+    by.continue_on_error(!request.strict)
+        .limit_entries(request.limit);
+    let read = match input {
+        Ok(input) => read(alloc, &by, input),
+        Err(cause) => Err(cause),
+    };
+    match read {
+        Ok((format, answer)) => answered(alloc, path.as_bytes(), format, answer),
+        Err(cause) => refused(alloc, path.as_bytes(), &Error::Io(cause)),
+    }
+}
+
+fn answered(
+    alloc: Global,
+    path: &[u8],
+    format: Option<Format>,
+    answer: Result<Exif, Error>,
+) -> Result<(Vec<u8>, u8), AllocError> {
+    let format = format.unwrap_or(Format::Tiff);
+    match answer {
+        Ok(exif) => Ok((read_json(alloc, path, format, &exif, &[])?, 0)),
+        Err(Error::PartialResult(partial)) => {
+            let (exif, faults) = partial.into_inner();
+            Ok((read_json(alloc, path, format, &exif, &faults)?, 3))
+        }
+        Err(error) => refused(alloc, path, &error),
+    }
+}
+
+fn refused(alloc: Global, path: &[u8], error: &Error) -> Result<(Vec<u8>, u8), AllocError> {
+    Ok((refusal_json(alloc, path, error)?, 1))
+}
