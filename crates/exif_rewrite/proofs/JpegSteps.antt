@@ -128,8 +128,7 @@ pub head_stopped : (e : Fault) (a p q : Option (List ℕ)) (remove : Remove) (ne
     → IfSome a (λ xs. SendsFront p q (outside k (before_mark xs))) → Stopped e a p q (rewriting remove new d)
 head_stopped e None p q remove new d k is none h = tt
 head_stopped e (Some x) p q remove new d k is none h =
-    let w = out_begins remove new d x in
-    (
+    let w = out_begins remove new d x in (
       rw (w.1 ∙ ap (λ t. outside t (before_mark x) ++ w.0) (sym is)) (front_first p q (outside k (before_mark x)) w.0 h),
       none_refused (fault_refusal e) (λ r. (rewriting remove new d x).end ≡ refused_by r) none,
     )
@@ -273,7 +272,7 @@ pub bare_finishes : (a p q : Option (List ℕ)) (remove : Remove) (new : List �
     → Appends p q (unit_text n code body) → Finishes finished a p q (unit_rewriting remove new d n code body)
 bare_finishes None p q remove new d n code body is none h = tt
 bare_finishes (Some x) p q remove new d n code body is none h =
-    rw is (refl, rw (none x ) (rw (append-nil (unit_text n 217 body)) (rw is at h)))
+    rw is (refl, rw (none x) (rw (append-nil (unit_text n 217 body)) (rw is at h)))
 
 -- ---- the body of a unit
 

@@ -319,8 +319,7 @@ all_bare new left d (unit n code body ∷ ts) put l =
 
 pub jpeg_bare : (put : Option (List ℕ)) (bytes : List ℕ) → HasOnlyBare put bytes
 jpeg_bare put bytes e =
-    let k = jpeg_filtered Metadata put bytes e in
-    (
+    let k = jpeg_filtered Metadata put bytes e in (
       rw k.tokens_are (all_bare (new_tokens put) (new_tokens put) false (image bytes) (is_put put) (inr refl)),
       k.bytes_are ∙ ap (λ l. 255 ∷ 216 ∷ l) (append-nil (text (image (jpeg_rewriting_of put bytes)))),
     )

@@ -12,7 +12,9 @@ use exif_types::Error;
 
 // The flags of a canvas: Exif data, XMP and alpha.
 const EXIF: u8 = 0x08;
+
 const XMP: u8 = 0x04;
+
 const ALPHA: u8 = 0x10;
 
 // The flags without one of them.
@@ -74,7 +76,11 @@ fn lossless(payload: &[u8]) -> Option<[u8; 10]>
         return None;
     }
     let bits = LittleEndian::loadu32(payload, 1);
-    let flags = if (bits / 268_435_456) % 2 == 1 { EXIF + ALPHA } else { EXIF };
+    let flags = if (bits / 268_435_456) % 2 == 1 {
+        EXIF + ALPHA
+    } else {
+        EXIF
+    };
     Some(extended(flags, bits % 16384 + 1, (bits / 16384) % 16384 + 1))
 }
 

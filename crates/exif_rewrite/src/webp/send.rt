@@ -67,12 +67,7 @@ fn send_settled<W: Sink>(out: &mut W, remove: Remove, put: bool, chunk: &Chunk) 
 }
 
 // Sends chunks with their flags right.
-fn send_chunks<W: Sink>(
-    out: &mut W,
-    remove: Remove,
-    put: bool,
-    chunks: &[Chunk],
-) -> io::Result<()>
+fn send_chunks<W: Sink>(out: &mut W, remove: Remove, put: bool, chunks: &[Chunk]) -> io::Result<()>
     ensures sends { Sends W.Sink out.old out.new result
         (flat_map (settled_text remove put) chunks.now) }
 {
