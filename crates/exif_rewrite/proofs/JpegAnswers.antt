@@ -1,5 +1,5 @@
 -- What a JPEG stream answers that was written again.
-use Rattle.std.proofs.Common.{◌≡◌, ◌≢◌, ℕ, zero, suc, ◌+◌, ◌*◌, ◌<◌, ◌≤◌, Bool, true, false, not, cond, eqb, ltb, ◌&&◌, ◌||◌, List, [], ◌∷◌, ◌++◌, length, drop, Option, None, Some, unwrap_or, ap, sym, ◌∙◌, refl, arith}
+use Rattle.std.proofs.Common.{◌≡◌, ◌≢◌, ℕ, zero, suc, ◌+◌, ◌*◌, ◌<◌, Bool, true, false, not, cond, eqb, ltb, ◌&&◌, ◌||◌, List, [], ◌∷◌, ◌++◌, length, drop, Option, None, Some, unwrap_or, ap, sym, ◌∙◌, refl, arith}
 use Rattle.std.specs.List.{All}
 use Rattle.std.specs.Option.{option_map}
 use Rattle.std.proofs.lemmas.Bool.{eqb-true}
@@ -13,7 +13,7 @@ use Rattle.exif_containers.proofs.LawsJpeg.{first_unit-print, tree-of_unit}
 use Rattle.exif_rewrite.specs.declared.remove.Remove.{Remove}
 use Rattle.exif_rewrite.specs.declared.remove.Remove.TheVariants.{Exif, Metadata}
 use Rattle.exif_rewrite.specs.Rewriting.{Rewriting, finished, refused_by, after, ends}
-use Rattle.exif_rewrite.specs.RewrittenJpeg.{too_large, behind, outside, passes, unit_refusal, stays, exif_segment, placed, still, rewriting, stream_rewriting}
+use Rattle.exif_rewrite.specs.RewrittenJpeg.{too_large, behind, outside, passes, stays, exif_segment, placed, still, rewriting, stream_rewriting}
 use Rattle.exif_rewrite.specs.JpegLaws.{IsAnswered}
 use Rattle.exif_rewrite.specs.JpegSteps.{unit_rewriting}
 use Rattle.exif_rewrite.proofs.JpegLaws.{rewriting_unit, bare, bare_unit, text_of, text_bare, Fits, high, low, size_is, segment_tree, segment_unit, form, large, never_cut, outside_others, refusal_in, stays_in, fits_where}

@@ -1,11 +1,11 @@
 -- A JPEG stream that is written again twice.
-use Rattle.std.proofs.Common.{◌≡◌, ◌≢◌, ◌⊎◌, inl, inr, ℕ, zero, suc, ◌+◌, ◌*◌, ◌/◌, ◌%◌, ◌<◌, ◌≤◌, Bool, true, false, cond, eqb, ltb, not, ◌&&◌, ◌||◌, List, [], ◌∷◌, ◌++◌, length, drop, replicate, Option, None, Some, ap, sym, ◌∙◌, refl, arith, add-one, append_assoc}
+use Rattle.std.proofs.Common.{◌≡◌, ◌≢◌, ◌⊎◌, inl, inr, ℕ, zero, suc, ◌+◌, ◌*◌, ◌/◌, ◌%◌, ◌<◌, ◌≤◌, Bool, true, false, cond, eqb, ltb, ◌&&◌, ◌||◌, List, [], ◌∷◌, ◌++◌, length, drop, replicate, Option, None, Some, ap, sym, ◌∙◌, refl, arith, add-one, append_assoc}
 use Rattle.std.specs.List.{All}
 use Rattle.std.proofs.lemmas.Bool.{eqb-true}
 use Rattle.std.proofs.lemmas.Bool.Decides.{nat_tests}
 use Rattle.std.proofs.lemmas.List.Elements.{All-nil}
 use Rattle.exif_types.specs.Refusals.{Refusal}
-use Rattle.exif_containers.specs.Jpeg.{JpegUnit, broken_jpeg, not_jpeg, invalid_length, stands_alone, first_unit}
+use Rattle.exif_containers.specs.Jpeg.{JpegUnit, not_jpeg, invalid_length, first_unit}
 use Rattle.exif_containers.specs.JpegGrammar.{exif, exif_id, UnitTree, print_brought, print_unit, IsUnit}
 use Rattle.exif_containers.proofs.JpegUnits.{rest-first_unit}
 use Rattle.exif_containers.proofs.LawsJpeg.{from_code-brought, tree-of_unit}

@@ -1,5 +1,5 @@
 -- The steps of a JPEG stream that is written again.
-use Rattle.std.proofs.Common.{◌≡◌, ◌≢◌, ℕ, zero, suc, ◌+◌, ◌-◌, ◌*◌, ◌<◌, ◌≤◌, max, Bool, true, false, cond, eqb, ltb, List, [], ◌∷◌, ◌++◌, length, take, drop, replicate, Option, None, Some, IfSome, MatchOption, Err, not, ◌&&◌, ◌||◌, ap, sym, ◌∙◌, refl, arith, add-one, append_assoc, append-nil}
+use Rattle.std.proofs.Common.{◌≡◌, ◌≢◌, ℕ, zero, suc, ◌+◌, ◌-◌, ◌*◌, ◌<◌, ◌≤◌, max, Bool, true, false, cond, eqb, List, [], ◌∷◌, ◌++◌, length, take, drop, replicate, Option, None, Some, IfSome, MatchOption, Err, not, ◌&&◌, ◌||◌, ap, sym, ◌∙◌, refl, arith, add-one, append_assoc, append-nil}
 use Rattle.std.specs.List.{All}
 use Rattle.std.proofs.lemmas.Bool.{ne_eqb}
 use Rattle.std.proofs.lemmas.Bool.Decides.{nat_tests}
@@ -30,11 +30,11 @@ use Rattle.exif_rewrite.specs.declared.fault.Stop.TheVariants as stop
 use Rattle.exif_rewrite.specs.declared.fault.Fault.{Fault}
 use Rattle.exif_rewrite.specs.declared.fault.Fault.TheVariants as fault
 use Rattle.exif_rewrite.specs.Faults.{OnEnd, fault_refusal, fault_of, IsErrorOf, rewriting_refusals}
-use Rattle.exif_rewrite.specs.Passing.{Passes, Finishes, StopsBy, Stopped, Goes, ToMark}
+use Rattle.exif_rewrite.specs.Passing.{Passes, Finishes, StopsBy, Stopped, ToMark}
 use Rattle.exif_rewrite.specs.Rewriting.{Rewriting, End, finished, cut_off, refused_by, after, ends, unless_refused, Follows}
 use Rattle.exif_rewrite.specs.RewrittenJpeg.{before_mark, marks, outside, passes, behind, unit_text, unit_refusal, kept, placed, still, rewritten_unit, rewritten_first, rewriting_within, rewriting, stream_rewriting}
 use Rattle.exif_rewrite.specs.JpegSteps.{Brings, unit_rewriting, IsEnded, as_it_stands, end_of, waits_in}
-use Rattle.exif_rewrite.proofs.Passing.{before_mark_others, outside_append, outside_none, passes_weaker, on_end, none_refused, follows_then, finishes_then, goes_then, stopped_then, follows_sent, follows_taken, stopped_front, stopped_idle, stopped_refused}
+use Rattle.exif_rewrite.proofs.Passing.{before_mark_others, outside_append, outside_none, passes_weaker, on_end, none_refused, follows_then, finishes_then, stopped_then, follows_sent, follows_taken, stopped_front, stopped_idle, stopped_refused}
 
 -- ---- the first unit, and what follows it
 

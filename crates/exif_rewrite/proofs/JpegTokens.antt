@@ -1,7 +1,6 @@
 -- The tokens and the bytes of a JPEG image that was written again.
 use Rattle.std.proofs.Common.{◌≡◌, ◌≢◌, ◌⊎◌, inl, inr, ℕ, zero, suc, ◌+◌, ◌<◌, ◌≤◌, Bool, true, false, cond, eqb, ltb, ◌&&◌, ◌||◌, List, [], ◌∷◌, ◌++◌, length, map, drop, Option, None, Some, ap, sym, subst, ◌∙◌, refl, arith, append_assoc, append-nil, replicate}
 use Rattle.std.specs.List.{All, flat_map}
-use Rattle.std.proofs.lemmas.Bool.{eqb-true}
 use Rattle.std.proofs.lemmas.List.Concat.{flat_map-append}
 use Rattle.exif_types.specs.Refusals.{Refusal}
 use Rattle.exif_containers.specs.Jpeg.{JpegUnit, not_jpeg, from_mark, after_marks, unit_from_code, first_unit}
@@ -12,7 +11,7 @@ use Rattle.exif_containers.proofs.LawsJpeg.{first_unit-print, tree-of_unit}
 use Rattle.exif_rewrite.specs.declared.remove.Remove.{Remove}
 use Rattle.exif_rewrite.specs.declared.remove.Remove.TheVariants.{Metadata}
 use Rattle.exif_rewrite.specs.Rewriting.{Rewriting, finished, refused_by, after, ends}
-use Rattle.exif_rewrite.specs.RewrittenJpeg.{too_large, before_mark, marks, behind, outside, passes, unit_text, stays, exif_segment, placed, still, rewriting, stream_rewriting, jpeg_rewriting}
+use Rattle.exif_rewrite.specs.RewrittenJpeg.{too_large, before_mark, marks, behind, outside, passes, exif_segment, placed, still, rewriting, stream_rewriting, jpeg_rewriting}
 use Rattle.exif_rewrite.specs.JpegSteps.{unit_rewriting}
 use Rattle.exif_rewrite.specs.JpegTokens.{Token, byte, unit, token_text, tokens_first, tokens_within, tokens, trailer_first, trailer_within, trailer, image, new_tokens, unit_stays, rewritten_tokens, IsFilter, IsFiltered, AreBare, HasOnlyBare}
 use Rattle.exif_rewrite.proofs.Passing.{before_mark_others}

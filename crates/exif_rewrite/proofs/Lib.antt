@@ -3,4 +3,5 @@ pub mod JpegLaws
 pub mod JpegSteps
 pub mod JpegTokens
 pub mod Passing
+pub mod WebpLaws
 pub mod WebpSteps

@@ -1,5 +1,5 @@
 -- One step after another between a source and a sink.
-use Rattle.std.proofs.Common.{◌≡◌, ◌≢◌, ℕ, zero, suc, ◌+◌, ◌-◌, ◌<◌, ◌≤◌, Bool, true, false, cond, List, [], ◌∷◌, ◌++◌, length, take, drop, replicate, Option, None, Some, IfSome, MatchOption, Result, Ok, Err, OnErr, ap, sym, ◌∙◌, refl, arith, append_assoc, append-nil}
+use Rattle.std.proofs.Common.{◌≡◌, ◌≢◌, ℕ, zero, suc, ◌+◌, ◌-◌, ◌<◌, ◌≤◌, Bool, true, false, cond, List, [], ◌∷◌, ◌++◌, length, take, drop, replicate, Option, None, Some, IfSome, MatchOption, Err, ap, sym, ◌∙◌, refl, arith, append_assoc, append-nil}
 use Rattle.std.specs.List.{All}
 use Rattle.std.proofs.lemmas.Bool.{ne_eqb}
 use Rattle.std.proofs.lemmas.List.{take-append-drop, take-take, replicate-append-replicate}
@@ -13,10 +13,9 @@ use Rattle.exif_containers.specs.Jpeg.{after_marks, from_mark}
 use Rattle.exif_containers.proofs.LimitedMoves.{from_mark-others}
 use Rattle.exif_rewrite.specs.declared.fault.Stop.{Stop}
 use Rattle.exif_rewrite.specs.declared.fault.Stop.TheVariants as stop
-use Rattle.exif_rewrite.specs.declared.fault.Fault.{Fault}
-use Rattle.exif_rewrite.specs.Faults.{OnEnd, fault_refusal}
+use Rattle.exif_rewrite.specs.Faults.{OnEnd}
 use Rattle.exif_rewrite.specs.Rewriting.{Rewriting, End, refused_by, after, Follows}
-use Rattle.exif_rewrite.specs.Passing.{Passes, Finishes, StopsBy, Stopped, Goes, Others, ToMark}
+use Rattle.exif_rewrite.specs.Passing.{Passes, Finishes, StopsBy, Goes, Others, ToMark}
 use Rattle.exif_rewrite.specs.RewrittenJpeg.{before_mark, outside, unit_text}
 
 -- ---- two steps

@@ -1,7 +1,7 @@
 -- What stops a rewriting, and how errors tell it.
-use Rattle.std.specs.Prelude.{◌≡◌, ℕ, List, [], ◌∷◌, Bool, true, false, ◌||◌, ⊤, Option, None, Some, Result, Ok, Err}
+use Rattle.std.specs.Prelude.{◌≡◌, List, [], ◌∷◌, Bool, true, false, ◌||◌, ⊤, Option, None, Some, Result, Ok, Err}
 use Rattle.exif_types.specs.Failures.{Failure}
-use Rattle.exif_types.specs.Refusals.{Refusal, refusal_of, is_io_error, IsInterrupted}
+use Rattle.exif_types.specs.Refusals.{Refusal, refusal_of, is_io_error}
 use Rattle.exif_containers.specs.Jpeg.{broken_jpeg, not_jpeg, unexpected_soi, invalid_length}
 use Rattle.exif_rewrite.specs.declared.fault.Stop.{Stop}
 use Rattle.exif_rewrite.specs.declared.fault.Stop.TheVariants as stop

@@ -1,7 +1,6 @@
 -- What the steps over a JPEG stream do.
 use Rattle.std.specs.Prelude.{◌≡◌, ◌<◌, ⊤, ℕ, Bool, List, [], ◌∷◌, ◌++◌, Option, Some}
-use Rattle.exif_types.specs.Refusals.{Refusal}
-use Rattle.exif_containers.specs.Jpeg.{JpegUnit, broken_jpeg, unit_from_code}
+use Rattle.exif_containers.specs.Jpeg.{broken_jpeg, unit_from_code}
 use Rattle.exif_rewrite.specs.declared.remove.Remove.{Remove}
 use Rattle.exif_rewrite.specs.declared.remove.Ended.{Ended}
 use Rattle.exif_rewrite.specs.declared.remove.Ended.TheVariants as ended
@@ -9,7 +8,7 @@ use Rattle.exif_rewrite.specs.declared.jpeg.units.Step.{Step}
 use Rattle.exif_rewrite.specs.declared.jpeg.units.Step.TheVariants as step
 use Rattle.exif_rewrite.specs.Passing.{Passes, Finishes}
 use Rattle.exif_rewrite.specs.Rewriting.{Rewriting, End, finished, cut_off, refused_by, Follows}
-use Rattle.exif_rewrite.specs.RewrittenJpeg.{exif_segment, rewriting, rewritten_unit, waiting}
+use Rattle.exif_rewrite.specs.RewrittenJpeg.{rewriting, rewritten_unit, waiting}
 
 -- what a unit and the bytes behind it become
 abbrev pub unit_rewriting : Remove → List ℕ → Bool → ℕ → ℕ → List ℕ → List ℕ → Rewriting

@@ -1,11 +1,11 @@
 -- A JPEG image as its tokens: bytes that stand in no unit, as those of scans, and units.
 use Rattle.std.specs.Prelude.{◌≡◌, ⊤, ℕ, zero, suc, List, [], ◌∷◌, ◌++◌, ◌⊎◌, length, map, drop, Bool, true, false, ◌||◌, ◌==◌, if◌then◌else◌, Option, None, Some}
 use Rattle.std.specs.List.{flat_map}
-use Rattle.exif_containers.specs.Jpeg.{JpegUnit, from_mark, stands_alone, first_unit}
+use Rattle.exif_containers.specs.Jpeg.{JpegUnit, from_mark, first_unit}
 use Rattle.exif_rewrite.specs.declared.remove.Remove.{Remove}
-use Rattle.exif_rewrite.specs.declared.remove.Remove.TheVariants.{Exif, Metadata}
+use Rattle.exif_rewrite.specs.declared.remove.Remove.TheVariants.{Metadata}
 use Rattle.exif_rewrite.specs.Rewriting.{finished}
-use Rattle.exif_rewrite.specs.RewrittenJpeg.{before_mark, behind, exif_segment, is_metadata, jpeg_rewriting, marks, outside, passes, placed, stays, still, unit_text}
+use Rattle.exif_rewrite.specs.RewrittenJpeg.{before_mark, behind, exif_segment, jpeg_rewriting, marks, passes, stays, unit_text}
 
 -- a byte, or so many ffs, a code and a body
 pub data Token : Type 0 where

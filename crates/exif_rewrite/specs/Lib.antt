@@ -8,4 +8,5 @@ pub mod RewrittenJpeg
 pub mod RewrittenWebp
 pub mod WebpChunks
 pub mod WebpExamples
+pub mod WebpLaws
 pub mod WebpPlans

@@ -4,8 +4,7 @@ use Rattle.std.specs.List.{All}
 use Rattle.std.specs.Io.KnownBytes.{Appends}
 use Rattle.exif_base.specs.Told.{WhereTold}
 use Rattle.exif_base.specs.Sent.{SendsFront}
-use Rattle.exif_types.specs.Failures.{Failure}
-use Rattle.exif_types.specs.Refusals.{Refusal, refusal_of, IsInterrupted}
+use Rattle.exif_types.specs.Refusals.{Refusal}
 use Rattle.exif_rewrite.specs.declared.fault.Fault.{Fault}
 use Rattle.exif_rewrite.specs.Faults.{fault_refusal}
 use Rattle.exif_rewrite.specs.Rewriting.{Rewriting, End, finished, refused_by, Follows}

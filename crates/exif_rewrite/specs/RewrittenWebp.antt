@@ -1,7 +1,7 @@
 -- A WebP file without its Exif data or without all metadata, and with new Exif data (WebP Container
 -- Specification, "Extended File Format", "Metadata", "Unknown Chunks"; RFC 6386, 9.1; WebP Lossless
 -- Bitstream Specification, 3).
-use Rattle.std.specs.Prelude.{ℕ, ◌+◌, ◌-◌, ◌*◌, ◌/◌, ◌%◌, ◌^◌, List, [], ◌∷◌, ◌++◌, length, map, take, drop, codes, nat_lt, nat_le, Bool, true, false, not, ◌||◌, ◌==◌, if◌then◌else◌, Option, None, Some, Result, Ok, Err}
+use Rattle.std.specs.Prelude.{ℕ, ◌+◌, ◌-◌, ◌*◌, ◌/◌, ◌%◌, List, [], ◌∷◌, ◌++◌, length, map, take, drop, codes, nat_lt, nat_le, Bool, true, false, not, ◌||◌, ◌==◌, if◌then◌else◌, Option, None, Some, Result, Ok, Err}
 use Rattle.std.specs.List.{filter}
 use Rattle.std.specs.Str.{bytes_eq}
 use Rattle.std.specs.Int.{to_le_bytes, w32}
@@ -11,7 +11,7 @@ use Rattle.exif_containers.specs.Webp.{broken_webp, not_webp, invalid_file_size,
 use Rattle.exif_rewrite.specs.declared.remove.Remove.{Remove}
 use Rattle.exif_rewrite.specs.declared.remove.Remove.TheVariants.{Exif, Metadata}
 use Rattle.exif_rewrite.specs.RewrittenJpeg.{too_large, behind}
-use Rattle.exif_rewrite.specs.WebpChunks.{Chunk, Body, file_body, chunks_text, file_text}
+use Rattle.exif_rewrite.specs.WebpChunks.{Chunk, file_body, chunks_text, file_text}
 
 -- no image header stands in front
 abbrev pub no_canvas : Refusal

@@ -1,5 +1,5 @@
 -- A WebP file as its chunks (WebP Container Specification, "RIFF File Format", "WebP File Header").
-use Rattle.std.specs.Prelude.{ℕ, zero, suc, ◌+◌, ◌-◌, ◌%◌, List, [], ◌∷◌, ◌++◌, length, take, drop, codes, nat_lt, not, ◌==◌, if◌then◌else◌, Result, Ok, Err}
+use Rattle.std.specs.Prelude.{ℕ, zero, suc, ◌-◌, ◌%◌, List, [], ◌∷◌, ◌++◌, length, take, drop, codes, nat_lt, not, ◌==◌, if◌then◌else◌, Result, Ok, Err}
 use Rattle.std.specs.List.{flat_map}
 use Rattle.std.specs.Int.{to_le_bytes, w32}
 use Rattle.byteorder.specs.Endian.{little_number}

@@ -1,5 +1,5 @@
 -- What a clause sees of a WebP file that is read, and of one that is to be written.
-use Rattle.std.specs.Prelude.{◌≡◌, ℕ, ◌+◌, Bool, List, ◌++◌, map, codes, Option, Result, Ok, Err, IfOk, MatchOption}
+use Rattle.std.specs.Prelude.{◌≡◌, ℕ, Bool, List, ◌++◌, map, codes, Option, Result, Ok, Err, IfOk, MatchOption}
 use Rattle.std.specs.Int.{to_le_bytes, w32}
 use Rattle.std.specs.List.{flat_map}
 use Rattle.exif_base.specs.Sent.{SendsFront}

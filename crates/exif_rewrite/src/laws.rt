@@ -4,6 +4,7 @@ ghost use Rattle.std.specs.Prelude.{ℕ, List, Option};
 ghost use Rattle.exif_rewrite.specs.declared.remove.Remove.{Remove};
 ghost use Rattle.exif_rewrite.specs.JpegTokens.{HasOnlyBare, IsFiltered};
 ghost use Rattle.exif_rewrite.specs.JpegLaws.{IsAnswered, IsStable};
+ghost use Rattle.exif_rewrite.specs.WebpLaws.{FileIsBare, FileIsFiltered};
 
 /// A JPEG stream that was written again stays as it is when it is so written again.
 pub fn jpeg_twice_is_once()
@@ -29,4 +30,18 @@ pub fn jpeg_keeps_what_stays()
 /// one, no byte outside units in front of the first scan, and nothing behind its image.
 pub fn jpeg_leaves_no_metadata()
     ensures { (put : Option (List ℕ)) (bytes : List ℕ) → HasOnlyBare put bytes }
+{}
+
+/// A WebP file that was written again has the chunks that stay, in their order, with their flags
+/// right, a canvas in front of them where one was made, and the new chunk behind them; and then what
+/// stays behind the body.
+pub fn webp_keeps_what_stays()
+    ensures { (remove : Remove) (put : Option (List ℕ)) (bytes : List ℕ)
+        → FileIsFiltered remove put bytes }
+{}
+
+/// A WebP file of which all metadata were taken out is the bytes of the image's chunks and of the
+/// new one, and nothing else.
+pub fn webp_leaves_no_metadata()
+    ensures { (put : Option (List ℕ)) (bytes : List ℕ) → FileIsBare put bytes }
 {}

@@ -1,7 +1,6 @@
 use Rattle.std.proofs.Common.{refl, take}
 use Rattle.std.proofs.lemmas.Result.{err_from_is_err_and}
 use Rattle.exif_containers.specs.declared.jpeg.TheConstants.{LIMIT}
-use Rattle.exif_rewrite.specs.declared.fault.Fault.TheVariants as fault
 use Rattle.exif_rewrite.specs.JpegSteps.{end_of}
 use Rattle.exif_rewrite.specs.RewrittenJpeg.{given_rewriting, waiting}
 use Rattle.exif_rewrite.proofs.JpegSteps.{standing_stopped, waiting_stopped, flush_stopped, standing_sent}

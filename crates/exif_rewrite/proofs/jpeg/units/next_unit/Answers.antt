@@ -1,4 +1,4 @@
-use Rattle.std.proofs.Common.{◌+◌, take, refl, rules}
+use Rattle.std.proofs.Common.{take, refl, rules}
 use Rattle.std.proofs.lemmas.Result.{err_from_is_err_and}
 use Rattle.exif_rewrite.specs.declared.fault.Fault.TheVariants as fault
 use Rattle.exif_rewrite.specs.RewrittenJpeg.{waiting}
