@@ -1,11 +1,11 @@
 -- The bytes at hand in a block.
-use Rattle.std.proofs.Common.{◌≡◌, ◌≢◌, ℕ, ◌+◌, ◌-◌, ◌<◌, ◌≤◌, min, List, [], ◌++◌, length, take, drop, slice_index, Option, None, Some, ap, sym, ◌∙◌, arith, append_assoc, length-append, length-drop}
+use Rattle.std.proofs.Common.{◌≡◌, ◌≢◌, ℕ, ◌+◌, ◌-◌, ◌<◌, ◌≤◌, min, List, [], ◌++◌, length, take, drop, slice_index, Option, None, Some, Result, Ok, Err, IfOk, ap, subst, sym, ◌∙◌, arith, append_assoc, length-append, length-drop}
 use Rattle.std.proofs.Math.ListN.{drop_of_length-le}
-use Rattle.std.proofs.lemmas.List.{drop_at, take_at, take-append-drop, length-take-le, drop-drop, drop-take, get_or-take, get_or-drop}
+use Rattle.std.proofs.lemmas.List.{drop_at, take_all, take_at, take-append-drop, length-take-le, drop-drop, drop-take, get_or-take, get_or-drop}
 use Rattle.std.proofs.lemmas.Grind.{get_or_default_zero}
 use Rattle.std.specs.Io.KnownBytes.{Consumes, IsAtEnd, Keeps, prepend_known}
 use Rattle.exif_base.specs.Scan.{PassesOthers}
-use Rattle.exif_base.specs.Told.{Skips}
+use Rattle.exif_base.specs.Told.{IsFetchedOnto, Skips}
 
 length_at_hand : (at end : ℕ) (block : List ℕ) → end ≤ length block → length (drop at (take end block)) ≡ end - at
 length_at_hand at end block h = length-drop at (take end block) ∙ ap (λ t. t - at) (length-take-le end block h)
@@ -90,3 +90,32 @@ at_hand_skipped block head (Some xs) (Some ys) at end n k len l m short e h =
       omega (arith, length-append old xs),
       ap (λ t. t ++ ys) none ∙ h.1 ∙ ap (drop k) (sym (drop_at old xs n all)) ∙ drop-drop k n (old ++ xs),
     )
+
+-- all bytes at hand were put at the end of a list
+pub at_hand_fetched : (block old new : List ℕ) (left : Option (List ℕ)) (at end : ℕ) → at ≤ end → end ≤ length block
+    → new ≡ old ++ drop at (take end block)
+    → IsFetchedOnto (prepend_known (drop at (take end block)) left) (prepend_known (drop end (take end block)) left) old new (end - at)
+at_hand_fetched block old new left at end h l e =
+    let head = drop at (take end block) in
+    let len : length head ≡ end - at = length_at_hand at end block l in
+    let all : take (end - at) head ≡ head = take_all (end - at) head (omega (arith, len)) in
+    let behind : at + (end - at) ≡ end = omega arith in
+    let Left : ℕ → Option (List ℕ) = λ place. prepend_known (drop place (take end block)) left in
+    let P : ℕ → Type 0 = λ place. Consumes (Left at) (Left place) (take (end - at) head) in
+    let Q : List ℕ → Type 0 = λ bytes. Consumes (Left at) (Left end) bytes in
+    (head, subst Q all (subst P behind (at_hand_taken block left at end (end - at))), len, e)
+
+fetched_some : (head : List ℕ) (a b : Option (List ℕ)) (old new : List ℕ) (n : ℕ) → head ≡ [] → IsFetchedOnto a b old new n
+    → IsFetchedOnto (prepend_known head a) (prepend_known head b) old new n
+fetched_some head None b old new n e h = (h.0, tt, h.2, h.3)
+fetched_some head (Some x) None old new n e h = absurd h.1
+fetched_some head (Some x) (Some y) old new n e h = (h.0, rw e h.1, h.2, h.3)
+
+-- what was fetched behind a block of which nothing is at hand
+pub fetched_behind : {E : Type 0} (block : List ℕ) (a b : Option (List ℕ)) (old new : List ℕ) (at end : ℕ) (result : Result ℕ E) → end ≤ length block → end - at ≡ 0
+    → IfOk result (λ n. IsFetchedOnto a b old new n)
+    → let head = drop at (take end block) in IfOk result (λ n. IsFetchedOnto (prepend_known head a) (prepend_known head b) old new n)
+fetched_behind block a b old new at end (Ok n) l z h =
+    let len : length (take end block) ≤ at = omega (arith, length-take-le end block l) in
+    fetched_some (drop at (take end block)) a b old new n (drop_of_length-le (take end block) len) h
+fetched_behind block a b old new at end (Err e) l z h = tt

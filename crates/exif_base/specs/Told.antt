@@ -1,5 +1,6 @@
 -- What reads and writes do to the bytes of a reader or a writer, where those are told.
 use Rattle.std.specs.Prelude.{◌≡◌, ℕ, ◌<◌, ◌≤◌, List, ◌++◌, length, drop, ⊤, Option, None, Some}
+use Rattle.std.specs.Io.KnownBytes.{Consumes}
 
 -- P holds of the bytes told before and after; told bytes stay told
 abbrev pub WhereTold : Option (List ℕ) → Option (List ℕ) → (List ℕ → List ℕ → Type 0) → Type 0
@@ -20,3 +21,8 @@ HasFewer (Some xs) n = length xs < n
 abbrev pub TakesAll : Option (List ℕ) → List ℕ → List ℕ → Type 0
 TakesAll None old new = ⊤
 TakesAll (Some xs) old new = new ≡ old ++ xs
+
+-- n bytes were taken, and added at the end of a list
+abbrev pub IsFetchedOnto : Option (List ℕ) → Option (List ℕ) → List ℕ → List ℕ → ℕ → Type 0
+IsFetchedOnto before after old new n = (bytes : List ℕ) × Consumes before after bytes
+    × (length bytes ≡ n) × (new ≡ old ++ bytes)

@@ -1,12 +1,15 @@
 //! Where bytes come from and go to: readers and writers that count their failures.
 
-ghost use Rattle.std.specs.Prelude.{◌≡◌, ◌<◌, ◌≤◌, ℕ, List, [], Option, length, is_err, IfOk, true};
-ghost use Rattle.std.specs.Io.{ReadsAtMost, WritesAtMost};
+ghost use Rattle.std.specs.Prelude.{◌≡◌, ◌≢◌, ◌<◌, ◌≤◌, ℕ, List, [], Option, Err, length, is_err, IfOk, true};
+ghost use Rattle.std.specs.Io.{ReadsAtMost, StartsWith, WritesAtMost};
 ghost use Rattle.std.specs.Io.KnownBytes.{IsAtEnd, Keeps, ReadConsumes, WriteAppends};
 ghost use Rattle.exif_base.specs.Device.{count_after, put_failed};
-ghost use Rattle.exif_base.specs.Told.{Skips};
+ghost use Rattle.exif_base.specs.ReadFaults.{is_io_fault};
+ghost use Rattle.exif_base.specs.Told.{IsFetchedOnto, Skips};
 ghost use Rattle.exif_base.specs.Counted.{counted_inner, counted_failures};
+ghost use Rattle.exif_base.specs.declared.read.ReadFault.TheVariants.{End};
 
+use crate::read::ReadFault;
 use std::io;
 use std::io::{Read, Write};
 
@@ -56,6 +59,26 @@ pub trait Source {
             rest -= n as u64;
         }
         Ok(len)
+    }
+
+    /// Puts the next bytes at the end of the list, and answers how many.
+    ///
+    /// They go through the block, as many as it holds. A source that has more of them in memory
+    /// copies all of these at once. After a fault the list holds what it held and then some of the
+    /// bytes.
+    fn fetch_onto(&mut self, buf: &mut Vec<u8>, block: &mut [u8]) -> Result<usize, ReadFault>
+        ensures bytes { IfOk result (λ n.
+            IsFetchedOnto (left self.old) (left self.new) buf.old.items buf.new.items n) }
+        ensures end { IfOk result (λ n. n ≡ 0 → 0 < length block.old → IsAtEnd (left self.new)) }
+        ensures no_end { result ≢ Err End }
+        ensures kept { StartsWith buf.new.items buf.old.items }
+        ensures block { length block.new ≡ length block.old }
+        ensures count { failures self.new ≡ count_after (is_io_fault result) (failures self.old) }
+        ensures same { through self.new ≡ through self.old }
+    {
+        let n = self.fetch(block)?;
+        buf.extend_from_slice(&block[..n])?;
+        Ok(n)
     }
 }
 

@@ -116,7 +116,7 @@ pub fn read64<R: Source>(source: &mut R) -> Result<u64, ReadFault>
 const BLOCK: usize = 4096;
 
 // How many of a whole stream, of which there may be many.
-const LONG_BLOCK: usize = 16384;
+const LONG_BLOCK: usize = 8192;
 
 // One fetch of at least one byte and at most `most`, to the front of the block.
 fn fetch_some<R: Source>(
@@ -190,10 +190,9 @@ pub fn read_to_end<R: Source>(source: &mut R, buf: &mut Vec<u8>) -> Result<(), R
 {
     let mut block = [0u8; LONG_BLOCK];
     loop {
-        let n = source.fetch(&mut block)?;
+        let n = source.fetch_onto(buf, &mut block)?;
         if n == 0 {
             return Ok(());
         }
-        buf.extend_from_slice(&block[..n])?;
     }
 }

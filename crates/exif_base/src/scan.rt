@@ -1,12 +1,15 @@
 //! Sources that may hold bytes ahead of what was taken, and pass over them fast.
 
 ghost use Rattle.std.specs.Prelude.{◌≡◌, ◌≢◌, ◌∷◌, ◌++◌, ◌+◌, ◌-◌, ◌<◌, ◌≤◌, ℕ, length, min, take, drop, slice_index, is_err, OnOk};
+ghost use Rattle.std.specs.Io.{StartsWith};
 ghost use Rattle.std.specs.Io.KnownBytes.{IsAtEnd, Keeps, prepend_known};
 ghost use Rattle.exif_base.specs.Reads.{Counts};
 ghost use Rattle.exif_base.specs.Scan.{PassesOthers};
 
 use crate::device::Source;
+use crate::read::ReadFault;
 use memchr::memchr;
+use std::alloc::AllocError;
 use std::io;
 
 /// A source that may hold bytes at hand, ahead of what was taken.
@@ -55,6 +58,10 @@ impl<'a, R: Source> Source for Exact<'a, R> {
 
     fn skip(&mut self, len: u64) -> io::Result<u64> {
         self.source.skip(len)
+    }
+
+    fn fetch_onto(&mut self, buf: &mut Vec<u8>, block: &mut [u8]) -> Result<usize, ReadFault> {
+        self.source.fetch_onto(buf, block)
     }
 }
 
@@ -126,6 +133,14 @@ impl<'a, R> Blocks<'a, R> {
     {
         copy_between(self.block, self.at, self.end, to)
     }
+
+    // Puts the bytes at hand at the end of the list.
+    fn copy_all_at_hand(&self, to: &mut Vec<u8>) -> Result<(), AllocError>
+        ensures copied { OnOk result (to.new.items ≡ to.old.items ++ at_hand self.now) }
+        ensures kept { StartsWith to.new.items to.old.items }
+    {
+        to.extend_from_slice(&self.block[self.at..self.end])
+    }
 }
 
 impl<'a, R: Source> Blocks<'a, R> {
@@ -179,6 +194,16 @@ impl<'a, R: Source> Source for Blocks<'a, R> {
         }
         let behind = self.source.skip(len - n)?;
         Ok(n + behind)
+    }
+
+    fn fetch_onto(&mut self, buf: &mut Vec<u8>, block: &mut [u8]) -> Result<usize, ReadFault> {
+        let n = self.end - self.at;
+        if n == 0 {
+            return self.source.fetch_onto(buf, block);
+        }
+        self.copy_all_at_hand(buf)?;
+        self.at = self.end;
+        Ok(n)
     }
 }
 

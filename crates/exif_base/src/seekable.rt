@@ -1,12 +1,15 @@
 //! Sources that seek over what they skip.
 
-ghost use Rattle.std.specs.Prelude.{◌≡◌, ◌<◌, ◌≤◌, List, ℕ, [], IfOk, true};
+ghost use Rattle.std.specs.Prelude.{◌≡◌, ◌≢◌, ◌<◌, ◌≤◌, List, ℕ, [], Err, IfOk, IfSome, OnOk, length, true};
+ghost use Rattle.std.specs.Io.{StartsWith};
 ghost use Rattle.std.specs.Io.KnownBytes.{IsAtEnd};
 ghost use Rattle.exif_base.specs.Device.{count_after};
 ghost use Rattle.exif_base.specs.Seekable.{left_behind, seekable_failures, seekable_inner};
-ghost use Rattle.exif_base.specs.Told.{Skips};
+ghost use Rattle.exif_base.specs.Told.{IsFetchedOnto, Skips, WhereTold};
+ghost use Rattle.exif_base.specs.declared.read.ReadFault.TheVariants.{End};
 
 use crate::device::Source;
+use crate::read::ReadFault;
 use std::fs::File;
 use std::io;
 use std::io::{AsBytes, Cursor, Read, Seek, SeekFrom};
@@ -22,6 +25,14 @@ pub trait ReadSeek: Read + Seek {
     fn reads_in_place(&self)
         ensures { Self.remaining self.now
             ≡ left_behind (Self.stream_position self.now) (Self.stream_bytes self.now) };
+
+    /// All the bytes that reads will give, where they are in memory.
+    fn in_memory(&self) -> Option<&[u8]>
+        ensures { IfSome result
+            (λ bytes. IfSome (Self.remaining self.now) (λ left. bytes.now ≡ left)) }
+    {
+        None
+    }
 }
 
 impl ReadSeek for File {
@@ -34,6 +45,12 @@ impl ReadSeek for &File {
 
 impl<T: AsBytes> ReadSeek for Cursor<T> {
     fn reads_in_place(&self) {}
+
+    fn in_memory(&self) -> Option<&[u8]> {
+        let all = self.get_ref().as_byte_slice();
+        let start = self.position().min(all.len() as u64) as usize;
+        Some(&all[start..])
+    }
 }
 
 /// A reader that seeks over what is skipped, and how many of its calls failed.
@@ -94,6 +111,54 @@ impl<R: ReadSeek> Source for Seekable<R> {
         }
         result
     }
+
+    fn fetch_onto(&mut self, buf: &mut Vec<u8>, block: &mut [u8]) -> Result<usize, ReadFault> {
+        let result = fetch_onto_in(&mut self.inner, buf, block);
+        if matches!(result, Err(ReadFault::Io(_))) {
+            self.count_failure();
+        }
+        result
+    }
+}
+
+// Puts the next bytes at the end of the list: all where they are in memory, or as many as the block
+// holds. Answers how many.
+fn fetch_onto_in<R: ReadSeek>(
+    stream: &mut R,
+    buf: &mut Vec<u8>,
+    block: &mut [u8],
+) -> Result<usize, ReadFault>
+    ensures bytes { IfOk result (λ n.
+        IsFetchedOnto (R.remaining stream.old) (R.remaining stream.new)
+        buf.old.items buf.new.items n) }
+    ensures end { IfOk result
+        (λ n. n ≡ 0 → 0 < length block.old → IsAtEnd (R.remaining stream.new)) }
+    ensures no_end { result ≢ Err End }
+    ensures kept { StartsWith buf.new.items buf.old.items }
+    ensures block { length block.new ≡ length block.old }
+{
+    if let Some(bytes) = stream.in_memory() {
+        let n = bytes.len();
+        if n > 0 {
+            buf.extend_from_slice(bytes)?;
+            pass_all(stream)?;
+        }
+        return Ok(n);
+    }
+    let n = stream.read(block)?;
+    buf.extend_from_slice(&block[..n])?;
+    Ok(n)
+}
+
+// Moves the place to the end.
+fn pass_all<R: ReadSeek>(stream: &mut R) -> io::Result<()>
+    ensures told { OnOk result
+        (WhereTold (R.remaining stream.old) (R.remaining stream.new) (λ _ ys. ys ≡ [])) }
+{
+    stream.reads_in_place();
+    stream.seek(SeekFrom::End(0))?;
+    stream.reads_in_place();
+    Ok(())
 }
 
 // Takes the next `len` bytes, and answers how many: fewer only where they end.

@@ -1,0 +1,68 @@
+#!/usr/bin/env python3
+"""compare.py [ORIGINAL_BENCH]: times exif_bench on the files that it makes, and prints a table of the times, how they grow with
+the number of fields, and the peak memory of exif_show. Where the program ORIGINAL_BENCH is handed over (called as
+`PROGRAM FILE N`, with a line `NAME bytes B fields F read BEST MEAN decoded BEST MEAN report BEST MEAN write BEST MEAN`),
+it runs on the same files, and the table has the ratios ours / original."""
+import os
+import subprocess
+import sys
+import tempfile
+
+ROOT = os.path.dirname(os.path.dirname(os.path.abspath(__file__)))
+BENCH = f"{ROOT}/crates/exif_bench"
+WORKS = ("read", "report", "write")
+
+
+def built(crate):
+    """The program of a crate, built anew where it has changed."""
+    folder = f"{ROOT}/crates/{crate}"
+    subprocess.run(["rt", "run"], cwd=folder, stdout=subprocess.DEVNULL, stderr=subprocess.DEVNULL, check=False)
+    return f"{folder}/out/{crate}"
+
+
+def times(program, path, calls):
+    """The best times of a program on a file, by the names of what it timed."""
+    words = subprocess.run([program, path, str(calls)], stdout=subprocess.PIPE, text=True, check=True).stdout.split()
+    found = {name: int(best) for name, best in zip(words, words[1:]) if name in ("decoded", *WORKS)}
+    # What reads values later has read them all only once it has decoded them.
+    found["read"] = found.get("decoded", found.get("read"))
+    found["fields"] = int(words[words.index("fields") + 1])
+    return found
+
+
+def peak(program, path):
+    """The peak memory of a program on a file, in KB, and its processor time in ms."""
+    child = subprocess.Popen([program, path], stdout=subprocess.DEVNULL)
+    _, _, usage = os.wait4(child.pid, 0)
+    return usage.ru_maxrss, 1000 * (usage.ru_utime + usage.ru_stime)
+
+
+def main():
+    original = sys.argv[1] if len(sys.argv) > 1 else None
+    bench, show = built("exif_bench"), built("exif_show")
+    names = [line.split()[0] for line in subprocess.run([bench, "--list"], stdout=subprocess.PIPE, text=True, check=True).stdout.splitlines()]
+    print("load average %.1f; ns a call: read report write; KB: peak memory of exif_show; ms: its processor time" % os.getloadavg()[0])
+    print("%-26s %10s %10s %10s %8s %6s%s" % ("", *WORKS, "KB", "ms", "   ratios" if original else ""))
+    growth = {}
+    with tempfile.TemporaryDirectory() as room:
+        for name in names:
+            path = f"{room}/{name}"
+            calls = subprocess.run([bench, "--write", name, path], stdout=subprocess.PIPE, text=True, check=True).stdout.strip()
+            ours = times(bench, path, calls)
+            memory, spent = peak(show, path)
+            ratios = ""
+            if original:
+                theirs = times(original, path, calls)
+                ratios = "  " + " ".join("%6.2f" % (ours[work] / max(theirs[work], 1)) for work in WORKS)
+            print("%-26s %10d %10d %10d %8d %6.1f%s" % (name, *(ours[work] for work in WORKS), memory, spent, ratios), flush=True)
+            kind, _, count = name.rpartition("-")
+            if count.isdigit() and kind.startswith("numbers"):
+                growth.setdefault(kind, []).append((int(count), ours))
+    print("growth, ns a field:")
+    for kind, rows in growth.items():
+        for work in WORKS:
+            each = [(count, ours[work] / count) for count, ours in rows]
+            print("  %-20s %-7s" % (kind, work), " ".join("%d: %.0f" % it for it in each), " spread %.2f" % (max(e for _, e in each) / min(e for _, e in each)))
+
+
+main()
