@@ -1,6 +1,6 @@
 -- One step after another on told bytes.
 use Rattle.std.proofs.Common.{◌≡◌, ℕ, ◌+◌, ◌-◌, ◌<◌, ◌≤◌, List, ◌++◌, length, take, drop, Option, None, Some, ap, sym, ◌∙◌, refl, arith, append_assoc, length-append, length-drop}
-use Rattle.std.proofs.Math.Seq.{take-append-add}
+use Rattle.std.proofs.Math.Seq.{take-add, take-append-add}
 use Rattle.std.proofs.lemmas.List.{length-take-le, take-append-le, drop-drop, drop_at}
 use borrow.Rule.Slice.PartMut.{put_mid, post_of}
 use Rattle.std.specs.Io.KnownBytes.{Consumes, IsAtEnd}
@@ -39,3 +39,11 @@ take_filled at k n old new h f =
     ap (λ m. take (m + n) (put_mid at k old new)) (sym (length-take-le at old h))
     ∙ take-append-add (take at old) (new ++ post_of at k old) n
     ∙ ap (λ t. take at old ++ t) (take-append-le n new (post_of at k old) f)
+
+-- after a copy of the bytes from place `at` up to `end`
+pub copied_more : (at end : ℕ) (bytes old before after : List ℕ) → at ≤ end → before ≡ old ++ take at bytes
+    → after ≡ before ++ take (end - at) (drop at bytes) → after ≡ old ++ take end bytes
+copied_more at end bytes old before after h e f =
+    let whole : at + (end - at) ≡ end = omega arith in
+    let split : take end bytes ≡ take at bytes ++ take (end - at) (drop at bytes) = ap (λ n. take n bytes) (sym whole) ∙ take-add at (end - at) bytes in
+    f ∙ ap (λ t. t ++ take (end - at) (drop at bytes)) e ∙ append_assoc old (take at bytes) _ ∙ ap (λ t. old ++ t) (sym split)

@@ -141,6 +141,7 @@ fn fetch_some<R: Source>(
 }
 
 /// Takes the next `len` bytes and forgets them, without memory. Faults are those of `read_exact`.
+#[tactic(auto, using(crate::proofs::ReadSteps::skipped_short))]
 pub fn discard_exact<R: Source>(source: &mut R, len: u64) -> Result<(), ReadFault>
     ensures taken { OnOk result (Skips (R.left source.old) (R.left source.new) len) }
     ensures reads { Reads R.Source source.old source.new len result }

@@ -187,6 +187,7 @@ impl<'a, R: Source> Source for Blocks<'a, R> {
         Ok(n)
     }
 
+    #[tactic(auto, using(crate::proofs::ScanSteps::at_hand_skipped))]
     fn skip(&mut self, len: u64) -> io::Result<u64> {
         let n = self.skip_at_hand(len);
         if n == len {
@@ -196,6 +197,7 @@ impl<'a, R: Source> Source for Blocks<'a, R> {
         Ok(n + behind)
     }
 
+    #[tactic(auto, using(crate::proofs::ScanSteps::fetched_behind))]
     fn fetch_onto(&mut self, buf: &mut Vec<u8>, block: &mut [u8]) -> Result<usize, ReadFault> {
         let n = self.end - self.at;
         if n == 0 {

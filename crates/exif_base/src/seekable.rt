@@ -1,6 +1,6 @@
 //! Sources that seek over what they skip.
 
-ghost use Rattle.std.specs.Prelude.{◌≡◌, ◌≢◌, ◌<◌, ◌≤◌, List, ℕ, [], Err, IfOk, IfSome, OnOk, length, true};
+ghost use Rattle.std.specs.Prelude.{◌≡◌, ◌≢◌, ◌<◌, ◌≤◌, ◌++◌, List, ℕ, [], Err, IfOk, IfSome, OnOk, length, true};
 ghost use Rattle.std.specs.Io.{StartsWith};
 ghost use Rattle.std.specs.Io.KnownBytes.{IsAtEnd};
 ghost use Rattle.exif_base.specs.Device.{count_after};
@@ -10,12 +10,16 @@ ghost use Rattle.exif_base.specs.declared.read.ReadFault.TheVariants.{End};
 
 use crate::device::Source;
 use crate::read::ReadFault;
+use std::alloc::AllocError;
 use std::fs::File;
 use std::io;
 use std::io::{AsBytes, Cursor, Read, Seek, SeekFrom};
 
 // How many bytes are read at a time where the end was not found by a seek.
 const BLOCK: usize = 512;
+
+// How many bytes in memory are copied at a time.
+const PIECE: usize = 4096;
 
 /// A reader that seeks in what it reads.
 pub trait ReadSeek: Read + Seek {
@@ -140,7 +144,7 @@ fn fetch_onto_in<R: ReadSeek>(
     if let Some(bytes) = stream.in_memory() {
         let n = bytes.len();
         if n > 0 {
-            buf.extend_from_slice(bytes)?;
+            copy_in_pieces(bytes, buf)?;
             pass_all(stream)?;
         }
         return Ok(n);
@@ -148,6 +152,22 @@ fn fetch_onto_in<R: ReadSeek>(
     let n = stream.read(block)?;
     buf.extend_from_slice(&block[..n])?;
     Ok(n)
+}
+
+// Puts the bytes at the end of the list, in pieces that stay in the nearest cache: a long copy at
+// once goes past it, and takes longer.
+fn copy_in_pieces(bytes: &[u8], buf: &mut Vec<u8>) -> Result<(), AllocError>
+    ensures copied { OnOk result (buf.new.items ≡ buf.old.items ++ bytes.now) }
+    ensures kept { StartsWith buf.new.items buf.old.items }
+{
+    buf.reserve(bytes.len())?;
+    let mut at = 0;
+    while at < bytes.len() {
+        let end = at + PIECE.min(bytes.len() - at);
+        buf.extend_from_slice(&bytes[at..end])?;
+        at = end;
+    }
+    Ok(())
 }
 
 // Moves the place to the end.
@@ -176,14 +196,19 @@ fn skip_in<R: ReadSeek>(stream: &mut R, len: u64) -> io::Result<u64>
     Ok(n + behind)
 }
 
-// Moves the place on by `len` bytes, or to the end where there are fewer. Answers by how many.
+// Moves the place on by `len` bytes, or to the end where there are fewer. Answers by how many: by
+// none where the stream does not tell its end.
 fn seek_over<R: ReadSeek>(stream: &mut R, len: u64) -> io::Result<u64>
     ensures bound { IfOk result (λ n. n ≤ len) }
     ensures bytes { IfOk result (Skips (R.remaining stream.old) (R.remaining stream.new)) }
 {
     stream.reads_in_place();
     let place = stream.stream_position()?;
-    let end = stream.seek(SeekFrom::End(0))?;
+    let seen = stream.seek(SeekFrom::End(0));
+    stream.reads_in_place();
+    let Ok(end) = seen else {
+        return Ok(0);
+    };
     let n = end.saturating_sub(place).min(len);
     stream.seek(SeekFrom::Start(place + n))?;
     stream.reads_in_place();

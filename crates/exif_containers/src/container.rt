@@ -25,7 +25,7 @@ const TIFF_LE_SIG: [u8; 4] = [0x49, 0x49, 0x2a, 0x00];
 const HEAD: usize = 4096;
 
 // How many bytes are read at a time behind them.
-const BLOCK: usize = 16384;
+const BLOCK: usize = 8192;
 
 /// A container of Exif data.
 #[derive(Clone, Copy, Debug)]
@@ -108,11 +108,10 @@ pub fn exif_attr_of_stream<R: Source>(alloc: Global, source: &mut R) -> Result<V
     ensures named { IfErr result (IsNamed container_refusals) }
     ensures counts { Counts R.Source source.old source.new (is_io result) }
 {
-    let mut space = vec![in alloc; 0u8; BLOCK]?;
-    let block = space.as_mut_slice();
-    let filled = read_head(source, block)?;
+    let mut block = [0u8; BLOCK];
+    let filled = read_head(source, &mut block)?;
     let format = format_of(&block[..filled]);
-    let mut blocks = Blocks::new(block, filled, source);
+    let mut blocks = Blocks::new(&mut block, filled, source);
     let payload = attr_as(alloc, format, &mut blocks)?;
     Ok(payload)
 }

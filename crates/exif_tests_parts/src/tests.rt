@@ -3,6 +3,7 @@
 mod base;
 mod containers;
 mod devices;
+mod lists;
 mod skips;
 mod table;
 mod text;

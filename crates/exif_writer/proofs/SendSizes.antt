@@ -1,5 +1,5 @@
 -- Sizes of values.
-use Rattle.std.proofs.Common.{◌≡◌, Some, ℕ, zero, suc, ◌+◌, ◌<◌, ◌≤◌, List, [], ◌∷◌, ◌++◌, length, take, drop, get_or, arith, refl, sym, ap, subst, ◌∙◌, false, true}
+use Rattle.std.proofs.Common.{◌≡◌, Some, ℕ, zero, suc, ◌+◌, ◌<◌, ◌≤◌, List, [], ◌∷◌, ◌++◌, length, take, drop, get_or, arith, refl, sym, ap, subst, ◌∙◌, append_assoc, false, true}
 use Rattle.std.specs.Prelude.{if◌then◌else◌, nat_le, ◌-◌, replicate}
 use Rattle.exif_writer.specs.declared.plan.Places.{Places}
 use Rattle.exif_writer.specs.declared.plan.Slot.{Slot}
@@ -9,7 +9,7 @@ use Rattle.exif_writer.proofs.SendRunning.{state-append}
 use Rattle.std.specs.List.{AllByRecursion}
 use Rattle.exif_writer.specs.declared.plan.Content.{Content}
 use Rattle.exif_writer.specs.declared.plan.Content.TheVariants.{Known, PlacesOf, LengthsOf, PlaceOf}
-use Rattle.exif_writer.specs.Sending.{content_count, content_size, IsKnownContent, slots_text, entries_text, after_slot, values_end, element, settled, value_text}
+use Rattle.exif_writer.specs.Sending.{content_count, content_size, content_type, slot_text, IsKnownContent, slots_text, entries_text, after_slot, values_end, element, settled, value_text}
 use Rattle.std.proofs.lemmas.Bool.{le-leb, lt-leb}
 use Rattle.exif_base.specs.declared.endian.Order.{Order}
 use Rattle.exif_writer.specs.Encoding.{spelled, encode}
@@ -82,3 +82,13 @@ element_inside order places slot h = rw (le-leb slot.size 4 h) refl
 pub value_outside : (order : Order) (places : Places) (slot : Slot) → 4 < slot.size
     → value_text order places slot ≡ replicate (if slot.padded then 1 else 0) 0 ++ encode order (settled places slot.content)
 value_outside order places slot h = rw (lt-leb slot.size 4 h) refl
+
+-- an entry is its head and its element
+pub slot_text_behind : (order : Order) (places : Places) (slot : Slot) → slot_text order places slot
+    ≡ (spelled order 2 slot.tag ++ (spelled order 2 (content_type slot.content) ++ spelled order 4 (content_count slot.content))) ++ element order places slot
+slot_text_behind order places slot =
+    let tag = spelled order 2 slot.tag in
+    let kind = spelled order 2 (content_type slot.content) in
+    let count = spelled order 4 (content_count slot.content) in
+    let last = element order places slot in
+    sym (append_assoc tag (kind ++ count) last ∙ ap (λ t. tag ++ t) (append_assoc kind count last))

@@ -24,8 +24,8 @@ fn spelled_u16(order: Order, x: u16) -> [u8; 2]
     bytes
 }
 
-// The 4 bytes that spell a number.
-fn spelled_u32(order: Order, x: u32) -> [u8; 4]
+/// The 4 bytes that spell a number.
+pub fn spelled_u32(order: Order, x: u32) -> [u8; 4]
     ensures { result ≡ spelled order 4 x }
 {
     let mut bytes = [0; 4];
@@ -46,6 +46,66 @@ fn spelled_u64(order: Order, x: u64) -> [u8; 8]
         Order::Little => LittleEndian::writeu64(&mut bytes, 0, x),
     }
     bytes
+}
+
+// The 8 bytes that spell two numbers of 2 bytes and one of 4, one behind the other.
+fn spelled_head(order: Order, tag: u16, kind: u16, count: u32) -> [u8; 8]
+    ensures { result ≡ spelled order 2 tag ++ (spelled order 2 kind ++ spelled order 4 count) }
+{
+    let mut bytes = [0; 8];
+    bytes[..2].copy_from_slice(&spelled_u16(order, tag));
+    bytes[2..4].copy_from_slice(&spelled_u16(order, kind));
+    bytes[4..].copy_from_slice(&spelled_u32(order, count));
+    bytes
+}
+
+// The 12 bytes of an entry, of which the last four are given.
+fn spelled_entry(order: Order, tag: u16, kind: u16, count: u32, element: [u8; 4]) -> [u8; 12]
+    ensures { result ≡ (spelled order 2 tag ++ (spelled order 2 kind ++ spelled order 4 count))
+        ++ element }
+{
+    let mut bytes = [0; 12];
+    bytes[..8].copy_from_slice(&spelled_head(order, tag, kind, count));
+    bytes[8..].copy_from_slice(&element);
+    bytes
+}
+
+/// The bytes of a number of 2 bytes, and two zeros.
+pub fn spelled_short(order: Order, x: u16) -> [u8; 4]
+    ensures { result ≡ spelled order 2 x ++ replicate 2 0 }
+{
+    let mut bytes = [0; 4];
+    bytes[..2].copy_from_slice(&spelled_u16(order, x));
+    bytes
+}
+
+/// Sends an entry, of which the last four bytes are given.
+pub fn send_entry<W: Sink>(
+    out: &mut W,
+    order: Order,
+    tag: u16,
+    kind: u16,
+    count: u32,
+    element: [u8; 4],
+) -> io::Result<()>
+    ensures sends { Sends W.Sink out.old out.new result
+        ((spelled order 2 tag ++ (spelled order 2 kind ++ spelled order 4 count)) ++ element) }
+{
+    send_all(out, &spelled_entry(order, tag, kind, count, element))
+}
+
+/// Sends the tag of an entry, the number of its type and its count.
+pub fn send_head<W: Sink>(
+    out: &mut W,
+    order: Order,
+    tag: u16,
+    kind: u16,
+    count: u32,
+) -> io::Result<()>
+    ensures sends { Sends W.Sink out.old out.new result
+        (spelled order 2 tag ++ (spelled order 2 kind ++ spelled order 4 count)) }
+{
+    send_all(out, &spelled_head(order, tag, kind, count))
 }
 
 /// Sends a number of 2 bytes.

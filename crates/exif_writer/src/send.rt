@@ -1,6 +1,6 @@
 //! Plans, sent strictly forward.
 
-ghost use Rattle.std.specs.Prelude.{◌≡◌, ◌+◌, ◌*◌, ◌++◌, ◌^◌, ◌<◌, ◌≤◌, length, map, false};
+ghost use Rattle.std.specs.Prelude.{◌≡◌, ◌+◌, ◌*◌, ◌++◌, ◌^◌, ◌<◌, ◌≤◌, length, map, false, IfSome};
 ghost use Rattle.std.specs.List.{flat_map, AllByRecursion};
 ghost use Rattle.exif_writer.specs.Sending.{block_place, context_place, lens, sum_of, settled, Settles, element, slot_text, IsReady, entries_text, slots_text, value_text, values_text, blocks_text};
 ghost use Rattle.exif_writer.specs.Encoding.{spelled, encode};
@@ -10,10 +10,12 @@ ghost use Rattle.exif_base.specs.Sent.{Sends};
 ghost use Rattle.exif_writer.specs.Plans.{IsReadyPlan, directories_text, plan_values_text, plan_blocks_text, plan_text, plans_text, sent_image};
 
 use crate::block_kind::BlockKind;
-use crate::item::{send_u16, send_u32, send_value, send_zeros};
+use crate::item::{
+    send_entry, send_head, send_u16, send_u32, send_value, send_zeros, spelled_short, spelled_u32,
+};
 use crate::plan::{Content, Places, Plan, Slot};
 use exif_base::{Order, Sink, send_all};
-use exif_types::Context;
+use exif_types::{Context, Value};
 use std::io;
 
 impl Places {
@@ -99,14 +101,39 @@ impl<'a> Slot<'a> {
         }
     }
 
-    // Sends the entry.
+    // The last four bytes of the entry, where they are one number: the place of the value, or the
+    // value itself.
+    fn number(&self, order: Order) -> Option<[u8; 4]>
+        ensures { IfSome result
+            (λ bytes. (places : Places) → element order places self.now ≡ bytes) }
+    {
+        if self.size > 4 {
+            return Some(spelled_u32(order, self.place));
+        }
+        match &self.content {
+            Content::Known(Value::Short(items)) if self.size == 2 => match items.as_slice() {
+                [x] => Some(spelled_short(order, *x)),
+                _ => None,
+            },
+            Content::Known(Value::Long(items)) if self.size == 4 => match items.as_slice() {
+                [x] => Some(spelled_u32(order, *x)),
+                _ => None,
+            },
+            _ => None,
+        }
+    }
+
+    // Sends the entry: in one piece, where its last four bytes are one number.
     fn send<W: Sink>(&self, out: &mut W, order: Order, places: &Places) -> io::Result<()>
         requires { IsReady places.now self.now }
         ensures sends { Sends W.Sink out.old out.new result (slot_text order places.now self.now) }
     {
-        send_u16(out, order, self.tag)?;
-        send_u16(out, order, self.content.type_number())?;
-        send_u32(out, order, self.content.count())?;
+        let kind = self.content.type_number();
+        let count = self.content.count();
+        if let Some(number) = self.number(order) {
+            return send_entry(out, order, self.tag, kind, count, number);
+        }
+        send_head(out, order, self.tag, kind, count)?;
         self.send_element(out, order, places)
     }
 

@@ -87,6 +87,7 @@ pub fn dripping(good_calls: usize, kind: ErrorKind) -> Counted<Drip> {
 #[derive(Drop)]
 pub struct Stream<'a> {
     cursor: Cursor<&'a [u8]>,
+    tells_its_end: bool,
     good_calls: usize,
     kind: ErrorKind,
     pub failures: u32,
@@ -114,6 +115,9 @@ impl Read for Stream<'_> {
 impl Seek for Stream<'_> {
     fn seek(&mut self, to: SeekFrom) -> io::Result<u64> {
         self.call()?;
+        if !self.tells_its_end && matches!(to, SeekFrom::End(_)) {
+            return Err(io::Error::new(self.kind, "the stream tells no end"));
+        }
         self.cursor.seek(to)
     }
 }
@@ -126,8 +130,20 @@ impl ReadSeek for Stream<'_> {
 pub fn seeking(bytes: &[u8], good_calls: usize, kind: ErrorKind) -> Seekable<Stream<'_>> {
     Seekable::new(Stream {
         cursor: Cursor::new(bytes),
+        tells_its_end: true,
         good_calls,
         kind,
+        failures: 0,
+    })
+}
+
+/// A reader that seeks, but not from its end.
+pub fn without_an_end(bytes: &[u8]) -> Seekable<Stream<'_>> {
+    Seekable::new(Stream {
+        cursor: Cursor::new(bytes),
+        tells_its_end: false,
+        good_calls: 100,
+        kind: ErrorKind::InvalidInput,
         failures: 0,
     })
 }

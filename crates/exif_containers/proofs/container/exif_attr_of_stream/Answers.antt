@@ -19,5 +19,5 @@ returns-clause-gives g c =
 
 pub returns-in_err-filled-clause-gives : goal.returns-in_err-filled-clause-gives
 returns-in_err-filled-clause-gives g c =
-    let p = err_from_is_err_and c.from_residual-in_err-filled.result c.from_residual-in_err-filled.ensures.1 in
+    let p = err_from_is_err_and c.from_residual.result c.from_residual.ensures.1 in
     rw (p.1, p.2) (interrupted (g.R.Source.left c.args.source.now))

@@ -1,11 +1,6 @@
 use Rattle.std.proofs.Common.{rules}
-use Rattle.exif_base.proofs.ScanSteps.{at_hand_fetched, fetched_behind}
+use Rattle.exif_base.proofs.ScanSteps.{at_hand_fetched}
 use Rattle.exif_base.proofs.scan.BlocksSource.fetch_onto.Goals as goal
-
-pub returns-then-n-eq0-clause-bytes : goal.returns-then-n-eq0-clause-bytes
-returns-then-n-eq0-clause-bytes g c =
-    let self = c.args.self.now in
-    fetched_behind self.block.now _ _ _ _ self.at self.end _ self.in_range.1 c.if-n-eq0.true c.fetch_onto.ensures.bytes
 
 pub returns-clause-bytes : goal.returns-clause-bytes
 returns-clause-bytes g c =

@@ -1,18 +1,21 @@
+use Rattle.exif_writer.proofs.SendSizes.{slot_text_behind}
 use Rattle.exif_writer.proofs.SendChains.{sends_then, sends_stop}
 use Rattle.exif_writer.proofs.plan.Slot.send.Goals as goal
 
-pub returns-in_err-send_u16 : goal.returns-in_err-send_u16
-returns-in_err-send_u16 g c =
-    record { sends = sends_stop _ c.in_err-send_u16.ensures.sends c.from_residual.ensures.0 }
+pub returns-in_err-send_head : goal.returns-in_err-send_head
+returns-in_err-send_head g c = record {
+  sends = rw (slot_text_behind c.args.order c.args.places.now c.args.self.now)
+      (sends_stop _ (rw (c.type_number-kind.ensures, c.count-count.ensures) at c.in_err-send_head.ensures.sends) c.from_residual.ensures.0);
+}
 
-pub returns-in_err-send_u16-2 : goal.returns-in_err-send_u16-2
-returns-in_err-send_u16-2 g c =
-    record { sends = sends_then c.in_ok-send_u16.ensures.sends (sends_stop _ (rw c.type_number.ensures at c.in_err-send_u16-2.ensures.sends) c.from_residual-in_err-send_u16-2.ensures.0) }
-
-pub returns-in_err-send_u32 : goal.returns-in_err-send_u32
-returns-in_err-send_u32 g c =
-    record { sends = sends_then c.in_ok-send_u16.ensures.sends (sends_then (rw c.type_number.ensures at c.in_ok-send_u16-2.ensures.sends) (sends_stop _ (rw c.count.ensures at c.in_err-send_u32.ensures.sends) c.from_residual-in_err-send_u32.ensures.0)) }
+pub returns-in-Some : goal.returns-in-Some
+returns-in-Some g c = record {
+  sends = rw (slot_text_behind c.args.order c.args.places.now c.args.self.now, c.in-Some.ensures c.args.places.now)
+      (rw (c.type_number-kind.ensures, c.count-count.ensures) at c.send_entry.ensures.sends);
+}
 
 pub returns : goal.returns
-returns g c =
-    record { sends = sends_then c.in_ok-send_u16.ensures.sends (sends_then (rw c.type_number.ensures at c.in_ok-send_u16-2.ensures.sends) (sends_then (rw c.count.ensures at c.in_ok-send_u32.ensures.sends) c.send_element.ensures.sends)) }
+returns g c = record {
+  sends = rw (slot_text_behind c.args.order c.args.places.now c.args.self.now)
+      (sends_then (rw (c.type_number-kind.ensures, c.count-count.ensures) at c.in_ok-send_head.ensures.sends) c.send_element.ensures.sends);
+}
