@@ -1,6 +1,6 @@
 //! The lines of a report.
 
-ghost use Rattle.std.specs.Prelude.{◌≡◌, OnOk, IfErr};
+ghost use Rattle.std.specs.Prelude.{◌≡◌, ◌++◌, OnOk, IfErr};
 ghost use Rattle.std.specs.String.{string_bytes};
 ghost use Rattle.exif_types.specs.Failures.{IsInvalidFormat};
 ghost use Rattle.exif_report.specs.Lines.{field_line, error_line};
@@ -8,16 +8,16 @@ ghost use Rattle.exif_report.specs.Lines.{field_line, error_line};
 use exif::{Error, Exif, Field};
 use std::fmt::Write;
 
-/// Puts a field's line in place of the text: its tag, its directory and its value with its unit,
-/// whose tags are looked up in `exif`.
+/// Puts a field's line at the end of the text: its tag, its directory and its value with its unit,
+/// whose tags are looked up in `exif`. Where memory runs out, a front of the line may stand there.
 #[tactic(auto, unfolding(crate::specs::Lines::field_line))]
-pub fn set_field_line(line: &mut String, exif: &Exif, field: &Field) -> Result<(), Error>
-    ensures text { OnOk result (string_bytes line.new ≡ field_line exif.now.fields field.now) }
+pub fn push_field_line(text: &mut String, exif: &Exif, field: &Field) -> Result<(), Error>
+    ensures text { OnOk result (string_bytes text.new
+        ≡ string_bytes text.old ++ field_line exif.now.fields field.now) }
     ensures memory { IfErr result (λ e. e ≡ Error.OutOfMemory) }
 {
-    line.clear();
     let value = field.display_value().with_unit(exif);
-    match write!(line, "{} {} {value}\n", field.tag, field.ifd_num) {
+    match write!(text, "{} {} {value}\n", field.tag, field.ifd_num) {
         Ok(()) => Ok(()),
         Err(_) => Err(Error::OutOfMemory),
     }

@@ -4,7 +4,8 @@ ghost use Rattle.std.specs.Prelude.{◌≡◌, ◌<◌, ◌++◌, All, ℕ, List
 ghost use Rattle.std.specs.List.{flat_map};
 ghost use Rattle.std.specs.Io.KnownBytes.{Appends, Keeps};
 ghost use Rattle.exif_base.specs.Device.{CountsBoth, count_after};
-ghost use Rattle.exif_base.specs.Sent.{SendsFront};
+ghost use Rattle.exif_base.specs.Sent.{Sends, SendsFront};
+ghost use Rattle.std.specs.String.{string_bytes};
 ghost use Rattle.exif_types.specs.Failures.{IsInvalidFormat};
 ghost use Rattle.exif_types.specs.Refusals.{Refusal, is_io, is_io_error, IsInterrupted};
 ghost use Rattle.exif_tiff.specs.Answers.{Answer, raw_answer};
@@ -13,11 +14,31 @@ ghost use Rattle.exif_report.specs.Lines.{field_line, error_line};
 ghost use Rattle.exif_report.specs.Writes.{Writes};
 ghost use Rattle.exif_report.specs.Reports.{Finds, FindsOwn, Reports, ReportsSome, given_by};
 
-use crate::lines::{set_error_line, set_field_line};
+use crate::lines::{push_field_line, set_error_line};
 use exif::{Error, Exif, Field, Reader, Sink, Source};
 use exif_base::send_all;
 use exif_types::fields_left;
 use std::alloc::Global;
+use std::io;
+
+// How much room there is for lines at first, and how long they get before they are sent.
+const ROOM: usize = 1024;
+
+const LONG: usize = 8192;
+
+// Sends lines and leaves none of them, once they are long.
+fn send_long<W: Sink>(out: &mut W, lines: &mut String) -> io::Result<()>
+    ensures sends { (sent : List ℕ) × Sends W.Sink out.old out.new result sent
+        × OnOk result (sent ++ string_bytes lines.new ≡ string_bytes lines.old)
+        × OnErr result (sent ≡ string_bytes lines.old) }
+{
+    if lines.len() < LONG {
+        return Ok(());
+    }
+    send_all(out, lines.as_bytes())?;
+    lines.clear();
+    Ok(())
+}
 
 /// Writes a line for each of the fields, which are those of `exif`.
 fn write_fields<W: Sink>(
@@ -29,11 +50,12 @@ fn write_fields<W: Sink>(
     ensures writes { Writes W.Sink out.old out.new result
         (flat_map (field_line exif.now.fields) fields.now) }
 {
-    let mut line = String::new(alloc);
+    let mut lines = String::with_capacity(alloc, ROOM)?;
     for field in fields {
-        set_field_line(&mut line, exif, field)?;
-        send_all(out, line.as_bytes())?;
+        push_field_line(&mut lines, exif, field)?;
+        send_long(out, &mut lines)?;
     }
+    send_all(out, lines.as_bytes())?;
     Ok(())
 }
 
