@@ -5,7 +5,7 @@
 pub mod experimental;
 pub mod laws;
 
-pub use exif_base::{Counted, Items, ReadSeek, Seekable, Sink, Source};
+pub use exif_base::{Counted, Items, ReadFault, ReadSeek, Seekable, Sink, Source};
 pub use exif_containers::get_exif_attr_from_jpeg;
 pub use exif_reader::{Reader, parse_exif};
 pub use exif_types::{
