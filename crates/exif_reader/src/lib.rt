@@ -3,12 +3,12 @@
 #![tactic(auto)]
 
 mod bytes;
-mod directory;
+pub mod directory;
 pub mod laws;
 mod parser;
 mod reader;
-mod stop;
-mod tiff;
+pub mod stop;
+pub mod tiff;
 
 pub use reader::Reader;
 pub use tiff::parse_exif;

@@ -24,8 +24,8 @@ pub struct Parsed {
     pub little_endian: bool,
 }
 
-// The order of the data, or what is wrong with their header.
-fn header(bytes: &[u8]) -> Result<Order, Fault>
+/// The order of the data, or what is wrong with their header.
+pub fn header(bytes: &[u8]) -> Result<Order, Fault>
     ensures value { result ≡ header bytes.now }
     ensures room { OnOk result (8 ≤ length bytes.now) }
     ensures small { OnOk result (length bytes.now < 2 ^ 32) }

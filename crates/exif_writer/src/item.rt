@@ -12,8 +12,8 @@ use exif_base::{BigEndian, Endian, Items, LittleEndian, Order, Sink, send_all};
 use exif_types::{Rational, SRational, Value};
 use std::io;
 
-// The 2 bytes that spell a number.
-fn spelled_u16(order: Order, x: u16) -> [u8; 2]
+/// The 2 bytes that spell a number.
+pub fn spelled_u16(order: Order, x: u16) -> [u8; 2]
     ensures { result ≡ spelled order 2 x }
 {
     let mut bytes = [0; 2];

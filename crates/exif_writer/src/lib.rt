@@ -4,7 +4,7 @@
 
 pub mod block_kind;
 mod ifd;
-mod item;
+pub mod item;
 pub mod laws;
 mod measure;
 mod plan;
