@@ -1,0 +1,16 @@
+pub mod CauseSteps
+pub mod EraseSound
+pub mod EraseSteps
+pub mod FileSound
+pub mod FileSteps
+pub mod FindSteps
+pub mod LawsLocated
+pub mod PatchSteps
+pub mod ReadFaults
+pub mod ReadSound
+pub mod ReadSteps
+pub mod SetFound
+pub mod SetSound
+pub mod SetSteps
+pub mod WalkFound
+pub mod WalkSteps

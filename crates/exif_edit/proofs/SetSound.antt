@@ -1,0 +1,219 @@
+-- What an answered setting of a value promises.
+use Rattle.std.proofs.Common.{◌≡◌, ◌≤◌, ◌<◌, ◌+◌, ◌-◌, max, ℕ, Bool, true, false, if◌then◌else◌, List, [], ◌∷◌, ◌++◌, length, ◌⊎◌, replicate, All, Some, Result, Ok, Err, refl, sym, ap, subst, ◌∙◌, arith, length-append}
+use Rattle.std.specs.Prelude.{◌^◌, ◌==◌, nat_lt}
+use Rattle.std.proofs.lemmas.Bool.Decides.{nat_tests}
+use Rattle.std.proofs.lemmas.List.{length-replicate}
+use Rattle.std.proofs.lemmas.List.Elements.{All-nil, All-cons, All-append}
+use Rattle.byteorder.specs.Numbers.{length-bytes_high_first, length-bytes_low_first}
+use Rattle.exif_base.specs.Orders.{number_of, order_named}
+use Rattle.exif_base.specs.declared.endian.Order.{Order}
+use Rattle.exif_base.specs.declared.endian.Order.TheVariants.{Big, Little}
+use Rattle.exif_types.specs.ValueTypes.{count_of, type_number}
+use Rattle.exif_types.specs.declared.tag.Tag.{Tag}
+use Rattle.exif_types.specs.declared.ifd.In.{In}
+use Rattle.exif_types.specs.declared.value.Value.{Value}
+use Rattle.exif_tiff.specs.Trace.{fields_of, trace}
+use Rattle.exif_writer.specs.Encoding.{encode, moved_to, spelled}
+use Rattle.exif_writer.specs.Refused.{is_unknown}
+use Rattle.exif_edit.specs.Causes.{Cause, no_field, of_data, or_cause, place_named, shared, too_long, unknown_type, unless, ◌>>=◌}
+use Rattle.exif_edit.specs.Finding.{find_answer, last_located, replaced}
+use Rattle.exif_edit.specs.Locations.{Located, located}
+use Rattle.exif_edit.specs.Patches.{FitsIn, inside, padded, patched}
+use Rattle.exif_edit.specs.Promises.{IsSet, ReadAs}
+use Rattle.exif_edit.specs.Readings.{Read, reading, reads_as}
+use Rattle.exif_edit.specs.Setting.{answer_in, checked, checked_patches, entry_text, expected, is_small, names_places, room_patches, room_text, set_patches, set_place, value_answer, value_patches, value_room}
+use Rattle.exif_edit.specs.declared.patch.Patch.{Patch}
+use Rattle.exif_edit.specs.declared.patch.Span.{Span}
+use Rattle.exif_edit.proofs.CauseSteps.{bound, data_read, ok_same, option_told, passed, tested}
+use Rattle.exif_edit.proofs.FindSteps.{header_named}
+use Rattle.exif_edit.proofs.PatchSteps.{Misses, length-patched, outside_place, patched_outside}
+use Rattle.exif_edit.proofs.ReadSound.{reads_are, reads_so}
+
+-- ---- the texts of the patches are as long as their rooms
+
+length-spelled : (order : Order) (n x : ℕ) → length (spelled order n x) ≡ n
+length-spelled Big n x = length-bytes_high_first n x
+length-spelled Little n x = length-bytes_low_first 0 n x
+
+length-padded : (n : ℕ) (text : List ℕ) → length text ≤ n → length (padded n text) ≡ n
+length-padded n text h =
+    let l : length (replicate {A = ℕ} (n - length text) 0) ≡ n - length text = length-replicate (n - length text) 0 in
+    let a = length-append text (replicate (n - length text) 0) in
+    omega arith
+
+length-room : (len : ℕ) (text : List ℕ) → length text ≤ max 4 len → length (room_text len text) ≡ len
+length-room len text h = by_test (is_small text) refl
+  where
+    by_test : (b : Bool) → is_small text ≡ b → length (padded len (if b then [] else text)) ≡ len
+    by_test true e = length-padded len [] (omega arith)
+    by_test false e = length-padded len text (let l : 4 < length text = grind (arith, nat_tests) in omega arith)
+
+length-entry : (order : Order) (value : Value) (place : ℕ) (text : List ℕ) → length (entry_text order value place text) ≡ 10
+length-entry order value place text = by_test (is_small text) refl
+  where
+    by_test : (b : Bool) → is_small text ≡ b → length (spelled order 2 (type_number value) ++ (spelled order 4 (count_of value) ++ (if b then padded 4 text else spelled order 4 place))) ≡ 10
+    by_test true e =
+        let s : length text ≤ 4 = grind (arith, nat_tests) in
+        let a = length-spelled order 2 (type_number value) in
+        let b = length-spelled order 4 (count_of value) in
+        let c = length-padded 4 text s in
+        let x = length-append (spelled order 4 (count_of value)) (padded 4 text) in
+        let y = length-append (spelled order 2 (type_number value)) (spelled order 4 (count_of value) ++ padded 4 text) in
+        omega arith
+    by_test false e =
+        let a = length-spelled order 2 (type_number value) in
+        let b = length-spelled order 4 (count_of value) in
+        let c = length-spelled order 4 place in
+        let x = length-append (spelled order 4 (count_of value)) (spelled order 4 place) in
+        let y = length-append (spelled order 2 (type_number value)) (spelled order 4 (count_of value) ++ spelled order 4 place) in
+        omega arith
+
+-- ---- an edit that fits
+
+pub record Fits (order : Order) (value : Value) (e : ℕ) (bytes : List ℕ) (ps : List Patch) : Type 0 where
+  pub whole : e + 12 ≤ length bytes
+  pub far : (value_room (number_of order) bytes e).place + (value_room (number_of order) bytes e).len ≤ length bytes
+  pub text : length (encode order value) ≤ max 4 (value_room (number_of order) bytes e).len
+  pub is : ps ≡ value_patches order value e (value_room (number_of order) bytes e)
+
+fits_in : (order : Order) (value : Value) (e : ℕ) (s : Span) (n : ℕ) (ps : List Patch) → answer_in order value e s n ≡ Ok ps
+    → (s.place + s.len ≤ n) × (length (encode order value) ≤ max 4 s.len) × (ps ≡ value_patches order value e s)
+fits_in order value e s n ps h =
+    let a = passed (nat_lt n (s.place + s.len)) shared (λ u. unless (nat_lt (2 ^ 32 - 1) (count_of value)) too_long >>= λ v. unless (nat_lt (max 4 s.len) (length (encode order value))) too_long >>= λ w. Ok (value_patches order value e s)) ps h in
+    let b = passed (nat_lt (2 ^ 32 - 1) (count_of value)) too_long (λ v. unless (nat_lt (max 4 s.len) (length (encode order value))) too_long >>= λ w. Ok (value_patches order value e s)) ps a.1 in
+    let c = passed (nat_lt (max 4 s.len) (length (encode order value))) too_long (λ w. Ok (value_patches order value e s)) ps b.1 in
+    let p = a.0 in
+    let q = c.0 in
+    (grind (arith, nat_tests), grind (arith, nat_tests), sym (ok_same (value_patches order value e s) ps c.1))
+
+pub edit_fits_in : (order : Order) (value : Value) (e : ℕ) (bytes : List ℕ) (ps : List Patch) → value_answer order value e bytes ≡ Ok ps → Fits order value e bytes ps
+unfolding value_answer
+edit_fits_in order value e bytes ps h =
+    let a = passed (nat_lt (length bytes) (e + 12)) shared (λ u. answer_in order value e (value_room (number_of order) bytes e) (length bytes)) ps h in
+    let p = a.0 in
+    let c = fits_in order value e (value_room (number_of order) bytes e) (length bytes) ps a.1 in
+    record { whole = grind (arith, nat_tests); far = c.0; text = c.1; is = c.2 }
+
+-- what holds of both patches holds of all
+both : (P : Patch → Type 0) (order : Order) (value : Value) (e : ℕ) (s : Span)
+    → P (record { place = s.place; text = room_text s.len (encode order value) })
+    → P (record { place = e + 2; text = entry_text order value s.place (encode order value) })
+    → All P (value_patches order value e s)
+both P order value e s a b =
+    All-append P (room_patches s (encode order value)) _ (by_test (s.len == 0)) (All-cons P _ [] b (All-nil P))
+  where
+    by_test : (z : Bool) → All P (if z then [] else record { place = s.place; text = room_text s.len (encode order value) } ∷ [])
+    by_test true = All-nil P
+    by_test false = All-cons P _ [] a (All-nil P)
+
+pub value_fits : (order : Order) (value : Value) (e : ℕ) (bytes : List ℕ) (ps : List Patch) → Fits order value e bytes ps → All (FitsIn (length bytes)) ps
+value_fits order value e bytes ps f =
+    let s = value_room (number_of order) bytes e in
+    let lo = length-room s.len (encode order value) f.text in
+    let li = length-entry order value s.place (encode order value) in
+    let far = f.far in
+    let whole = f.whole in
+    subst (λ qs. All (FitsIn (length bytes)) qs) (sym f.is) (both (FitsIn (length bytes)) order value e s (omega arith) (omega arith))
+
+-- the bytes of neither the room nor the entry
+value_misses : (order : Order) (value : Value) (e : ℕ) (bytes : List ℕ) (ps : List Patch) (i : ℕ) → Fits order value e bytes ps
+    → inside i (record { place = e + 2; len = 10 }) ≡ false → inside i (value_room (number_of order) bytes e) ≡ false → All (Misses i) ps
+value_misses order value e bytes ps i f a b =
+    let s = value_room (number_of order) bytes e in
+    let lo = length-room s.len (encode order value) f.text in
+    let li = length-entry order value s.place (encode order value) in
+    let x = subst (λ n. (i < s.place) ⊎ (s.place + n ≤ i)) (sym lo) (outside_place i s b) in
+    let y = subst (λ n. (i < e + 2) ⊎ (e + 2 + n ≤ i)) (sym li) (outside_place i (record { place = e + 2; len = 10 }) a) in
+    subst (λ qs. All (Misses i) qs) (sym f.is) (both (Misses i) order value e s x y)
+
+-- ---- the whole
+
+-- what was found
+record WasFound (bytes : List ℕ) (tag : Tag) (k : In) (found : Read × ℕ) : Type 0 where
+  at : Located
+  reads : reading bytes ≡ Ok found.0
+  last : last_located tag k (located bytes) ≡ Some at
+  entry : at.entry ≡ found.1
+
+was_found : (bytes : List ℕ) (tag : Tag) (k : In) (found : Read × ℕ) → find_answer bytes tag k ≡ Ok found → WasFound bytes tag k found
+unfolding find_answer
+was_found bytes tag k found e =
+    let a = bound (of_data (reading bytes)) (λ read. or_cause (last_located tag k (located bytes)) no_field >>= λ l. Ok (read, l.entry)) found e in
+    let b = bound (or_cause (last_located tag k (located bytes)) no_field) (λ l. Ok (a.0, l.entry)) found a.2 in
+    let p = ok_same (a.0, b.0.entry) found b.2 in
+    record {
+      at = b.0;
+      reads = data_read (reading bytes) a.0 a.1 ∙ ap (λ (x : Read × ℕ). Ok x.0) p;
+      last = option_told (last_located tag k (located bytes)) no_field b.0 b.1;
+      entry = ap (λ (x : Read × ℕ). x.1) p;
+    }
+
+-- what answered patches are
+pub record WasSet (bytes : List ℕ) (tag : Tag) (k : In) (value : Value) (ps : List Patch) : Type 0 where
+  pub read : Read
+  pub at : Located
+  pub reads : reading bytes ≡ Ok read
+  pub last : last_located tag k (located bytes) ≡ Some at
+  pub fits : Fits (order_named read.little) value at.entry bytes ps
+  pub reads_new : reading (patched ps bytes) ≡ Ok (expected tag k value at.entry bytes read)
+
+checked_set : (bytes : List ℕ) (ps : List Patch) (tag : Tag) (k : In) (value : Value) → checked_patches bytes tag k value ≡ Ok ps → WasSet bytes tag k value ps
+unfolding checked_patches
+checked_set bytes ps tag k value h =
+    let a = bound (find_answer bytes tag k) (λ found. value_answer (order_named found.0.little) value found.1 bytes >>= λ qs. checked (expected tag k value found.1 bytes found.0) bytes qs) ps h in
+    let read = a.0.0 in
+    let order = order_named read.little in
+    let b = bound (value_answer order value a.0.1 bytes) (λ qs. checked (expected tag k value a.0.1 bytes read) bytes qs) ps a.2 in
+    let c = tested (reads_as (patched b.0 bytes) (expected tag k value a.0.1 bytes read)) b.0 ps shared b.2 in
+    let w = was_found bytes tag k a.0 a.1 in
+    let f : Fits order value a.0.1 bytes ps = subst (λ qs. Fits order value a.0.1 bytes qs) c.1 (edit_fits_in order value a.0.1 bytes b.0 b.1) in
+    let r : reading (patched ps bytes) ≡ Ok (expected tag k value a.0.1 bytes read) = subst (λ qs. reading (patched qs bytes) ≡ Ok (expected tag k value a.0.1 bytes read)) c.1 (reads_so (patched b.0 bytes) (expected tag k value a.0.1 bytes read) c.0) in
+    record {
+      read = read;
+      at = w.at;
+      reads = w.reads;
+      last = w.last;
+      fits = rw w.entry f;
+      reads_new = rw w.entry r;
+    }
+
+pub was_set : (bytes : List ℕ) (ps : List Patch) (tag : Tag) (k : In) (value : Value) → set_patches bytes tag k value ≡ Ok ps → WasSet bytes tag k value ps
+unfolding set_patches
+was_set bytes ps tag k value h =
+    let a = passed (names_places tag) place_named (λ u. unless (is_unknown value) unknown_type >>= λ v. checked_patches bytes tag k value) ps h in
+    let b = passed (is_unknown value) unknown_type (λ v. checked_patches bytes tag k value) ps a.1 in
+    checked_set bytes ps tag k value b.1
+
+pub set_fits : (bytes : List ℕ) (ps : List Patch) (tag : Tag) (k : In) (value : Value) → set_patches bytes tag k value ≡ Ok ps → All (FitsIn (length bytes)) ps
+set_fits bytes ps tag k value h =
+    let w = was_set bytes ps tag k value h in
+    value_fits (order_named w.read.little) value w.at.entry bytes ps w.fits
+
+pub set_sound : (old : List ℕ) (ps : List Patch) (tag : Tag) (k : In) (value : Value) → set_patches old tag k value ≡ Ok ps → IsSet old tag k value (patched ps old)
+set_sound old ps tag k value h =
+    let w = was_set old ps tag k value h in
+    let order = order_named w.read.little in
+    let fit = value_fits order value w.at.entry old ps w.fits in
+    let r = reads_are old w.read w.reads in
+    let s = reads_are (patched ps old) (expected tag k value w.at.entry old w.read) w.reads_new in
+    let place = set_place (value_room (number_of order) old w.at.entry).place w.at.entry (encode order value) in
+    record {
+      order = order;
+      header = header_named old w.read w.reads;
+      place = place;
+      reads = subst (λ xs. ReadAs (patched ps old) (replaced tag k (moved_to place value) (fields_of (trace old))) xs) r.2
+          (subst (λ xs. ReadAs (patched ps old) (replaced tag k (moved_to place value) xs) w.read.faults) r.1 s.0);
+      at = w.at;
+      found = w.last;
+      as_long = length-patched ps old fit;
+      outside = λ i x y. patched_outside ps old i fit (value_misses order value w.at.entry old ps i w.fits x y);
+    }
+
+-- the answer is what the patches make
+pub answer_made : (f : Result (List Patch) Cause) (bytes : List ℕ) (ps : List Patch) → f ≡ Ok ps
+    → (f >>= λ qs. Ok (patched qs bytes)) ≡ Ok (patched ps bytes)
+answer_made f bytes ps h = rw h refl
+
+pub answer_refused : (f : Result (List Patch) Cause) (bytes : List ℕ) (c : Cause) → f ≡ Err c
+    → ◌≡◌ {A = Result (List ℕ) Cause} (f >>= λ qs. Ok (patched qs bytes)) (Err c)
+answer_refused f bytes c h = rw h refl

@@ -1,0 +1,133 @@
+-- The steps of setting a value.
+use Rattle.std.proofs.Common.{◌≡◌, ◌≤◌, ◌<◌, ◌+◌, max, ℕ, Bool, true, false, List, length, Result, Ok, Err, refl, sym, ap, ◌∙◌, arith}
+use Rattle.std.specs.Prelude.{nat_lt, ◌^◌, ◌-◌, if◌then◌else◌}
+use Rattle.std.proofs.lemmas.Bool.Decides.{nat_tests}
+use Rattle.exif_base.specs.Orders.{number_of, order_named}
+use Rattle.exif_base.specs.declared.endian.Order.{Order}
+use Rattle.exif_types.specs.ValueTypes.{count_of}
+use Rattle.exif_types.specs.declared.tag.Tag.{Tag}
+use Rattle.exif_types.specs.declared.ifd.In.{In}
+use Rattle.exif_types.specs.declared.value.Value.{Value}
+use Rattle.exif_types.specs.declared.field.Field.{Field}
+use Rattle.exif_writer.specs.Encoding.{encode, moved_to}
+use Rattle.exif_writer.specs.Refused.{is_unknown}
+use Rattle.exif_edit.specs.Causes.{Cause, place_named, shared, too_long, unknown_type}
+use Rattle.exif_edit.specs.Finding.{find_answer, replaced}
+use Rattle.exif_edit.specs.Patches.{patched}
+use Rattle.exif_edit.specs.Readings.{Read, reads_as}
+use Rattle.exif_edit.specs.Setting.{answer_in, checked, checked_patches, expected, names_places, set_patches, set_place, value_answer, value_patches, value_room}
+use Rattle.exif_edit.specs.declared.patch.Patch.{Patch}
+use Rattle.exif_edit.specs.declared.patch.Span.{Span}
+
+-- ---- one edit
+
+pub edit_outside : (order : Order) (value : Value) (e : ℕ) (bytes : List ℕ) → length bytes < e + 12
+    → value_answer order value e bytes ≡ Err shared
+unfolding value_answer
+edit_outside order value e bytes l =
+    let t : nat_lt (length bytes) (e + 12) ≡ true = grind (arith, nat_tests) in rw t refl
+
+edit_inside : (order : Order) (value : Value) (e : ℕ) (bytes : List ℕ) (s : Span) → e + 12 ≤ length bytes
+    → s ≡ value_room (number_of order) bytes e
+    → value_answer order value e bytes ≡ answer_in order value e s (length bytes)
+unfolding value_answer
+edit_inside order value e bytes s l w =
+    let t : nat_lt (length bytes) (e + 12) ≡ false = grind (arith, nat_tests) in
+    rw t (ap (λ x. answer_in order value e x (length bytes)) (sym w))
+
+pub edit_far : (order : Order) (value : Value) (e : ℕ) (bytes : List ℕ) (s : Span) → e + 12 ≤ length bytes
+    → s ≡ value_room (number_of order) bytes e → length bytes < s.place + s.len
+    → value_answer order value e bytes ≡ Err shared
+edit_far order value e bytes s l w f =
+    let t : nat_lt (length bytes) (s.place + s.len) ≡ true = grind (arith, nat_tests) in
+    edit_inside order value e bytes s l w ∙ rw t refl
+
+pub edit_many : (order : Order) (value : Value) (e : ℕ) (bytes : List ℕ) (s : Span) → e + 12 ≤ length bytes
+    → s ≡ value_room (number_of order) bytes e → s.place + s.len ≤ length bytes
+    → 4294967295 < count_of value → value_answer order value e bytes ≡ Err too_long
+edit_many order value e bytes s l w f m =
+    let t : nat_lt (length bytes) (s.place + s.len) ≡ false = grind (arith, nat_tests) in
+    let v : nat_lt (2 ^ 32 - 1) (count_of value) ≡ true = grind (arith, nat_tests) in
+    edit_inside order value e bytes s l w ∙ rw (t, v) refl
+
+pub edit_long : (order : Order) (value : Value) (e : ℕ) (bytes : List ℕ) (s : Span) → e + 12 ≤ length bytes
+    → s ≡ value_room (number_of order) bytes e → s.place + s.len ≤ length bytes
+    → count_of value ≤ 4294967295 → max 4 s.len < length (encode order value)
+    → value_answer order value e bytes ≡ Err too_long
+edit_long order value e bytes s l w f m g =
+    let t : nat_lt (length bytes) (s.place + s.len) ≡ false = grind (arith, nat_tests) in
+    let v : nat_lt (2 ^ 32 - 1) (count_of value) ≡ false = grind (arith, nat_tests) in
+    let u : nat_lt (max 4 s.len) (length (encode order value)) ≡ true = grind (arith, nat_tests) in
+    edit_inside order value e bytes s l w ∙ rw (t, v, u) refl
+
+pub edit_fits : (order : Order) (value : Value) (e : ℕ) (bytes : List ℕ) (ps : List Patch) (s : Span)
+    → e + 12 ≤ length bytes → s ≡ value_room (number_of order) bytes e
+    → s.place + s.len ≤ length bytes → count_of value ≤ 4294967295
+    → length (encode order value) ≤ max 4 s.len → ps ≡ value_patches order value e s
+    → value_answer order value e bytes ≡ Ok ps
+edit_fits order value e bytes ps s l w f m g d =
+    let t : nat_lt (length bytes) (s.place + s.len) ≡ false = grind (arith, nat_tests) in
+    let v : nat_lt (2 ^ 32 - 1) (count_of value) ≡ false = grind (arith, nat_tests) in
+    let u : nat_lt (max 4 s.len) (length (encode order value)) ≡ false = grind (arith, nat_tests) in
+    edit_inside order value e bytes s l w ∙ rw (t, v, u) (ap (λ x. Ok x) (sym d))
+
+-- ---- the whole
+
+pub set_named : (bytes : List ℕ) (tag : Tag) (k : In) (value : Value) → names_places tag ≡ true
+    → set_patches bytes tag k value ≡ Err place_named
+unfolding set_patches
+set_named bytes tag k value h = rw h refl
+
+pub set_unknown : (bytes : List ℕ) (tag : Tag) (k : In) (value : Value) → names_places tag ≡ false
+    → is_unknown value ≡ true → set_patches bytes tag k value ≡ Err unknown_type
+unfolding set_patches
+set_unknown bytes tag k value h u = rw (h, u) refl
+
+pub set_known : (bytes : List ℕ) (tag : Tag) (k : In) (value : Value) → names_places tag ≡ false
+    → is_unknown value ≡ false → checked_patches bytes tag k value ≡ set_patches bytes tag k value
+unfolding set_patches
+set_known bytes tag k value h u = rw (h, u) refl
+
+pub set_find : (bytes : List ℕ) (tag : Tag) (k : In) (value : Value) (c : Cause)
+    → find_answer bytes tag k ≡ Err c → checked_patches bytes tag k value ≡ Err c
+unfolding checked_patches
+set_find bytes tag k value c h = rw h refl
+
+pub set_edit : (bytes : List ℕ) (tag : Tag) (k : In) (value : Value) (read : Read) (e : ℕ) (order : Order) (c : Cause)
+    → find_answer bytes tag k ≡ Ok (read, e) → order ≡ order_named read.little
+    → value_answer order value e bytes ≡ Err c → checked_patches bytes tag k value ≡ Err c
+unfolding checked_patches
+set_edit bytes tag k value read e order c h o w =
+    let g : value_answer (order_named read.little) value e bytes ≡ Err c = rw o at w in
+    rw (h, g) refl
+
+set_checked : (bytes : List ℕ) (ps : List Patch) (tag : Tag) (k : In) (value : Value) (read : Read) (e : ℕ)
+    → find_answer bytes tag k ≡ Ok (read, e) → value_answer (order_named read.little) value e bytes ≡ Ok ps
+    → checked_patches bytes tag k value ≡ checked (expected tag k value e bytes read) bytes ps
+unfolding checked_patches
+set_checked bytes ps tag k value read e h g = rw (h, g) refl
+
+expected_is : (bytes : List ℕ) (tag : Tag) (k : In) (value moved : Value) (read : Read) (e place : ℕ) (fs : List Field)
+    → fs ≡ replaced tag k moved read.fields → moved ≡ moved_to place value
+    → place ≡ set_place (value_room (number_of (order_named read.little)) bytes e).place e (encode (order_named read.little) value)
+    → ◌≡◌ {A = Read} (record { little = read.little; fields = fs; faults = read.faults }) (expected tag k value e bytes read)
+expected_is bytes tag k value moved read e place fs f m p = rw (f, m, p) refl
+
+-- what is answered, as the edited bytes are read so or not
+pub set_same : (bytes new : List ℕ) (ps : List Patch) (tag : Tag) (k : In) (value moved : Value) (read : Read) (e place : ℕ) (fs : List Field) (order : Order)
+    → find_answer bytes tag k ≡ Ok (read, e) → order ≡ order_named read.little
+    → value_answer order value e bytes ≡ Ok ps → new ≡ patched ps bytes
+    → fs ≡ replaced tag k moved read.fields → moved ≡ moved_to place value
+    → place ≡ set_place (value_room (number_of order) bytes e).place e (encode order value)
+    → (b : Bool) → b ≡ reads_as new (record { little = read.little; fields = fs; faults = read.faults })
+    → (b ≡ true → checked_patches bytes tag k value ≡ Ok ps) × (b ≡ false → checked_patches bytes tag k value ≡ Err shared)
+set_same bytes new ps tag k value moved read e place fs order h o g n f m p b t =
+    let g1 : value_answer (order_named read.little) value e bytes ≡ Ok ps = rw o at g in
+    let p1 : place ≡ set_place (value_room (number_of (order_named read.little)) bytes e).place e (encode (order_named read.little) value) = rw o at p in
+    let want = expected tag k value e bytes read in
+    let q : b ≡ reads_as (patched ps bytes) want = t ∙ (ap (λ r. reads_as new r) (expected_is bytes tag k value moved read e place fs f m p1) ∙ ap (λ xs. reads_as xs want) n) in
+    let s = set_checked bytes ps tag k value read e h g1 in
+    (λ y. s ∙ by_test (reads_as (patched ps bytes) want) true (sym q ∙ y), λ y. s ∙ by_test (reads_as (patched ps bytes) want) false (sym q ∙ y))
+  where
+    by_test : (x c : Bool) → x ≡ c → ◌≡◌ {A = Result (List Patch) Cause} (if x then Ok ps else Err shared) (if c then Ok ps else Err shared)
+    by_test x c e = ap (λ y. if y then Ok ps else Err shared) e

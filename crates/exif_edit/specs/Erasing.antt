@@ -1,0 +1,87 @@
+-- Places erased: GPS directories and their values become zero bytes.
+use Rattle.std.specs.Prelude.{ℕ, ◌+◌, ◌-◌, ◌*◌, ◌&&◌, nat_le, min, Bool, true, false, not, List, ◌∷◌, length, map, Result, Ok, Err, if◌then◌else◌}
+use Rattle.std.specs.Bool.{beq}
+use Rattle.std.specs.List.{flat_map, filter}
+use Rattle.std.specs.Cmp.Lexicographic.{pointwise}
+use Rattle.exif_base.specs.Bytes.{Reading}
+use Rattle.exif_base.specs.Orders.{number_of, order_named}
+use Rattle.exif_table.specs.declared.context.Context.{Context}
+use Rattle.exif_table.specs.declared.context.Context.TheVariants.{Tiff, Exif, Gps, Interop}
+use Rattle.exif_types.specs.FieldEq.{field_eq}
+use Rattle.exif_types.specs.declared.field.Field.{Field}
+use Rattle.exif_tiff.specs.Trace.{whole_entries, entry_places}
+use Rattle.exif_edit.specs.Causes.{Cause, of_data, shared, ◌>>=◌}
+use Rattle.exif_edit.specs.Locations.{gps_places}
+use Rattle.exif_edit.specs.Patches.{patched, zeros_over}
+use Rattle.exif_edit.specs.Readings.{Read, reading}
+use Rattle.exif_edit.specs.Setting.{value_room}
+use Rattle.exif_edit.specs.declared.patch.Patch.{Patch}
+use Rattle.exif_edit.specs.declared.patch.Span.{Span}
+
+-- no span
+abbrev pub nowhere : Span
+nowhere = record { place = 0; len = 0 }
+
+-- what of a span lies in data of a length
+abbrev pub clipped : ℕ → Span → Span
+clipped total s =
+    if nat_le s.place total then record { place = s.place; len = min s.len (total - s.place) }
+    else nowhere
+
+-- a span that lies in data of a length; else none
+abbrev pub within : ℕ → Span → Span
+within total s = if nat_le (s.place + s.len) total then s else nowhere
+
+-- where the value of the entry at e stands outside of it, if it lies in the data
+abbrev pub value_span : Reading → List ℕ → ℕ → Span
+value_span number bytes e = within (length bytes) (value_room number bytes e)
+
+-- the directory at q: its count, entries and next place; and the values of its entries
+abbrev pub directory_spans : Reading → List ℕ → ℕ → List Span
+directory_spans number bytes q =
+    clipped (length bytes) (record { place = q; len = 2 + 12 * whole_entries number bytes q + 4 })
+    ∷ map (value_span number bytes) (entry_places number bytes q)
+
+-- the GPS directories of data, and the values of their entries
+unfoldable pub gps_spans : Reading → List ℕ → List Span
+gps_spans number bytes = flat_map (directory_spans number bytes) (gps_places bytes)
+
+-- whether a context is that of GPS data
+abbrev pub is_gps : Context → Bool
+is_gps Gps = true
+is_gps Tiff = false
+is_gps Exif = false
+is_gps Interop = false
+
+-- the fields but those of GPS data
+abbrev pub without_gps : List Field → List Field
+without_gps fields = filter (λ (f : Field). not (is_gps f.tag.0)) fields
+
+-- a reading without its GPS fields
+abbrev pub kept : Read → Read
+kept read =
+    record { little = read.little; fields = without_gps read.fields; faults = read.faults }
+
+-- whether the data are read so, with no more faults
+abbrev pub clears : List ℕ → Read → Bool
+clears bytes read = elim (reading bytes) [
+  | Ok found ↦ beq found.little read.little
+      && (pointwise field_eq found.fields read.fields
+      && nat_le (length found.faults) (length read.faults))
+  | Err fault ↦ false
+]
+
+-- patches, if what they make is read so
+abbrev pub cleared : Read → List ℕ → List Patch → Result (List Patch) Cause
+cleared read bytes patches = if clears (patched patches bytes) read then Ok patches else Err shared
+
+-- what erases the GPS data, or why that is refused
+unfoldable pub erase_patches : List ℕ → Result (List Patch) Cause
+erase_patches bytes = do
+  read ← of_data (reading bytes)
+  let spans = gps_spans (number_of (order_named read.little)) bytes in
+      cleared (kept read) bytes (map zeros_over spans)
+
+-- the data without them
+abbrev pub erase_answer : List ℕ → Result (List ℕ) Cause
+erase_answer bytes = erase_patches bytes >>= λ patches. Ok (patched patches bytes)

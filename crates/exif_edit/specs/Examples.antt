@@ -1,0 +1,83 @@
+-- Worked examples: the definitions compute what editing gives.
+use Rattle.std.specs.Prelude.{ℕ, ◌≡◌, refl, List, [], ◌∷◌, Ok, Err, codes}
+use Rattle.exif_table.specs.declared.context.Context.TheVariants.{Tiff}
+use Rattle.exif_types.specs.declared.value.Value.TheVariants as value
+use Rattle.exif_tiff.specs.Trace.{trace, ordered_trace}
+use Rattle.exif_edit.specs.Causes.{no_field, place_named, too_long}
+use Rattle.exif_edit.specs.Erasing.{erase_answer, erase_patches, gps_spans}
+use Rattle.exif_edit.specs.Finding.{find_answer}
+use Rattle.exif_edit.specs.Locations.{gps_places, located, ordered_spots}
+use Rattle.exif_edit.specs.Readings.{reading}
+use Rattle.exif_edit.specs.Setting.{checked_patches, set_answer, set_patches, value_answer}
+
+-- one description of 7 bytes, behind its directory
+abbrev described : List ℕ
+described =
+    77 ∷ 77 ∷ 0 ∷ 42 ∷ 0 ∷ 0 ∷ 0 ∷ 8
+    ∷ 0 ∷ 1
+    ∷ 1 ∷ 14 ∷ 0 ∷ 2 ∷ 0 ∷ 0 ∷ 0 ∷ 7 ∷ 0 ∷ 0 ∷ 0 ∷ 26
+    ∷ 0 ∷ 0 ∷ 0 ∷ 0
+    ∷ 83 ∷ 97 ∷ 109 ∷ 112 ∷ 108 ∷ 101 ∷ 0 ∷ []
+
+-- a shorter one: 5 bytes at the old place, and zeros behind them
+shorter : set_answer described (record { 0 = Tiff; 1 = 0x10e }) (record { 0 = 0 }) (value.Ascii (codes "Blue" ∷ []))
+    ≡ Ok (77 ∷ 77 ∷ 0 ∷ 42 ∷ 0 ∷ 0 ∷ 0 ∷ 8
+    ∷ 0 ∷ 1
+    ∷ 1 ∷ 14 ∷ 0 ∷ 2 ∷ 0 ∷ 0 ∷ 0 ∷ 5 ∷ 0 ∷ 0 ∷ 0 ∷ 26
+    ∷ 0 ∷ 0 ∷ 0 ∷ 0
+    ∷ 66 ∷ 108 ∷ 117 ∷ 101 ∷ 0 ∷ 0 ∷ 0 ∷ [])
+unfolding set_patches checked_patches find_answer value_answer reading located ordered_spots trace ordered_trace
+shorter = refl
+
+-- one that stands in the entry then: its old room is zeros
+inline : set_answer described (record { 0 = Tiff; 1 = 0x10e }) (record { 0 = 0 }) (value.Ascii (codes "Hi" ∷ []))
+    ≡ Ok (77 ∷ 77 ∷ 0 ∷ 42 ∷ 0 ∷ 0 ∷ 0 ∷ 8
+    ∷ 0 ∷ 1
+    ∷ 1 ∷ 14 ∷ 0 ∷ 2 ∷ 0 ∷ 0 ∷ 0 ∷ 3 ∷ 72 ∷ 105 ∷ 0 ∷ 0
+    ∷ 0 ∷ 0 ∷ 0 ∷ 0
+    ∷ 0 ∷ 0 ∷ 0 ∷ 0 ∷ 0 ∷ 0 ∷ 0 ∷ [])
+unfolding set_patches checked_patches find_answer value_answer reading located ordered_spots trace ordered_trace
+inline = refl
+
+longer : set_answer described (record { 0 = Tiff; 1 = 0x10e }) (record { 0 = 0 }) (value.Ascii (codes "Samples" ∷ []))
+    ≡ Err too_long
+unfolding set_patches checked_patches find_answer value_answer reading located ordered_spots trace ordered_trace
+longer = refl
+
+absent : set_answer described (record { 0 = Tiff; 1 = 0x10f }) (record { 0 = 0 }) (value.Ascii []) ≡ Err no_field
+unfolding set_patches checked_patches find_answer value_answer reading located ordered_spots trace ordered_trace
+absent = refl
+
+-- strips may not be moved
+strips : set_answer described (record { 0 = Tiff; 1 = 0x111 }) (record { 0 = 0 }) (value.Long (26 ∷ [])) ≡ Err place_named
+unfolding set_patches
+strips = refl
+
+-- one directory with a width and a pointer to a GPS directory at 38, whose one value stands at 56
+abbrev placed : List ℕ
+placed =
+    77 ∷ 77 ∷ 0 ∷ 42 ∷ 0 ∷ 0 ∷ 0 ∷ 8
+    ∷ 0 ∷ 2
+    ∷ 1 ∷ 0 ∷ 0 ∷ 3 ∷ 0 ∷ 0 ∷ 0 ∷ 1 ∷ 0 ∷ 20 ∷ 0 ∷ 0
+    ∷ 136 ∷ 37 ∷ 0 ∷ 4 ∷ 0 ∷ 0 ∷ 0 ∷ 1 ∷ 0 ∷ 0 ∷ 0 ∷ 38
+    ∷ 0 ∷ 0 ∷ 0 ∷ 0
+    ∷ 0 ∷ 1
+    ∷ 0 ∷ 18 ∷ 0 ∷ 2 ∷ 0 ∷ 0 ∷ 0 ∷ 7 ∷ 0 ∷ 0 ∷ 0 ∷ 56
+    ∷ 0 ∷ 0 ∷ 0 ∷ 0
+    ∷ 87 ∷ 71 ∷ 83 ∷ 45 ∷ 56 ∷ 52 ∷ 0
+    ∷ 9 ∷ []
+
+-- the directory and its value are zeros, and the byte behind them stays
+without_place : erase_answer placed
+    ≡ Ok (77 ∷ 77 ∷ 0 ∷ 42 ∷ 0 ∷ 0 ∷ 0 ∷ 8
+    ∷ 0 ∷ 2
+    ∷ 1 ∷ 0 ∷ 0 ∷ 3 ∷ 0 ∷ 0 ∷ 0 ∷ 1 ∷ 0 ∷ 20 ∷ 0 ∷ 0
+    ∷ 136 ∷ 37 ∷ 0 ∷ 4 ∷ 0 ∷ 0 ∷ 0 ∷ 1 ∷ 0 ∷ 0 ∷ 0 ∷ 38
+    ∷ 0 ∷ 0 ∷ 0 ∷ 0
+    ∷ 0 ∷ 0
+    ∷ 0 ∷ 0 ∷ 0 ∷ 0 ∷ 0 ∷ 0 ∷ 0 ∷ 0 ∷ 0 ∷ 0 ∷ 0 ∷ 0
+    ∷ 0 ∷ 0 ∷ 0 ∷ 0
+    ∷ 0 ∷ 0 ∷ 0 ∷ 0 ∷ 0 ∷ 0 ∷ 0
+    ∷ 9 ∷ [])
+unfolding erase_patches reading gps_places gps_spans ordered_spots trace ordered_trace
+without_place = refl

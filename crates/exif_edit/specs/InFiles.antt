@@ -1,0 +1,66 @@
+-- Exif data edited where they stand in a file.
+use Rattle.std.specs.Prelude.{◌≡◌, ℕ, ◌+◌, ◌-◌, ◌<◌, ◌≤◌, ◌&&◌, ◌⊎◌, Bool, false, List, length, map, slice_index, Option, Result, Ok, Err}
+use Rattle.std.specs.List.{find}
+use Rattle.std.specs.Str.{bytes_eq}
+use Rattle.exif_base.specs.Bytes.{bytes_at, spaced}
+use Rattle.exif_containers.specs.Container.{container_answer}
+use Rattle.exif_edit.specs.Causes.{Cause, of_container, or_cause, scattered, ◌>>=◌}
+use Rattle.exif_edit.specs.Patches.{patched}
+use Rattle.exif_edit.specs.declared.patch.Patch.{Patch}
+
+-- an edit: what is put over data, or why that is refused
+abbrev pub Edit : Type 0
+Edit = List ℕ → Result (List Patch) Cause
+
+-- a patch of data that stand at a place of a file
+abbrev pub shifted : ℕ → Patch → Patch
+shifted place p = record { place = place + p.place; text = p.text }
+
+-- whether a file holds these data
+abbrev pub holds : List ℕ → List ℕ → Bool
+holds file data' =
+    elim (container_answer file) [ Ok found ↦ bytes_eq found data' | Err r ↦ false ]
+
+-- whether data stand at a place of a file, and the file with the patches there holds what they make
+abbrev pub serves : List ℕ → List ℕ → List Patch → ℕ → Bool
+serves file old patches place =
+    bytes_eq (bytes_at (length old) file place) old
+    && holds (patched (map (shifted place) patches) file) (patched patches old)
+
+-- the first place that serves
+abbrev pub place_for : List ℕ → List ℕ → List Patch → Option ℕ
+place_for file old patches =
+    find (serves file old patches) (spaced 0 1 (length file + 1 - length old))
+
+-- the place, or why there is none
+unfoldable pub place_answer : List ℕ → List ℕ → List Patch → Result ℕ Cause
+place_answer file old patches = or_cause (place_for file old patches) scattered
+
+-- patches of the data of a file as patches of the file
+abbrev pub placed : List ℕ → List ℕ → List Patch → Result (List Patch) Cause
+placed file old patches =
+    place_answer file old patches >>= λ place. Ok (map (shifted place) patches)
+
+-- what edits the data of a file, or why that is refused
+unfoldable pub in_file : Edit → Edit
+in_file edit file = do
+  old ← of_container (container_answer file)
+  patches ← edit old
+  placed file old patches
+
+-- the file with that
+abbrev pub edited_file : Edit → List ℕ → Result (List ℕ) Cause
+edited_file edit file = in_file edit file >>= λ patches. Ok (patched patches file)
+
+-- the data of a file were edited where they stand, and all else is as it was
+pub record IsEditedIn (edit : Edit) (file out : List ℕ) : Type 0 where
+  pub old : List ℕ
+  pub held : container_answer file ≡ Ok old
+  pub patches : List Patch
+  pub edited : edit old ≡ Ok patches
+  pub holds : container_answer out ≡ Ok (patched patches old)
+  pub place : ℕ
+  pub stood : bytes_at (length old) file place ≡ old
+  pub as_long : length out ≡ length file
+  pub outside : (i : ℕ) → (i < place) ⊎ (place + length old ≤ i)
+      → slice_index out i ≡ slice_index file i

@@ -1,0 +1,11 @@
+pub mod Causes
+pub mod Erasing
+pub mod Examples
+pub mod Finding
+pub mod InFiles
+pub mod Locations
+pub mod Patches
+pub mod Promises
+pub mod Readings
+pub mod Setting
+pub mod Walked

@@ -1,0 +1,82 @@
+-- What is promised of edited data.
+use Rattle.std.specs.Prelude.{◌≡◌, ℕ, ◌+◌, ◌≤◌, Bool, false, List, length, map, slice_index, Some, None, Ok, if◌then◌else◌}
+use Rattle.std.specs.List.{list_any}
+use Rattle.exif_base.specs.Orders.{number_of}
+use Rattle.exif_base.specs.declared.endian.Order.{Order}
+use Rattle.exif_types.specs.Lookup.{last_named}
+use Rattle.exif_types.specs.declared.tag.Tag.{Tag}
+use Rattle.exif_types.specs.declared.ifd.In.{In}
+use Rattle.exif_types.specs.declared.value.Value.{Value}
+use Rattle.exif_types.specs.declared.field.Field.{Field}
+use Rattle.exif_tiff.specs.Trace.{header, trace, fields_of, faults_of}
+use Rattle.exif_tiff.specs.Answers.{answer_of, raw_answer, shown}
+use Rattle.exif_tiff.specs.declared.fault.Fault.{Fault}
+use Rattle.exif_writer.specs.Encoding.{moved_to}
+use Rattle.exif_edit.specs.Erasing.{gps_spans, without_gps}
+use Rattle.exif_edit.specs.Finding.{last_located, replaced}
+use Rattle.exif_edit.specs.Locations.{Located, located}
+use Rattle.exif_edit.specs.Patches.{inside}
+use Rattle.exif_edit.specs.Setting.{set_answer, value_room}
+
+-- in both modes the data are read as these fields and faults
+abbrev pub ReadAs : List ℕ → List Field → List Fault → Type 0
+ReadAs bytes fields faults =
+    (lenient : Bool)
+    → raw_answer lenient None bytes ≡ answer_of lenient (record { fields = fields; faults = faults })
+
+-- the last field of a name has another value, and all else is as it was
+pub record IsSet (old : List ℕ) (tag : Tag) (k : In) (value : Value) (new : List ℕ) : Type 0 where
+  pub order : Order
+  pub header : header old ≡ Ok order
+  pub place : ℕ
+  pub reads : ReadAs new (replaced tag k (moved_to place value) (fields_of (trace old)))
+      (faults_of (trace old))
+  pub at : Located
+  pub found : last_located tag k (located old) ≡ Some at
+  pub as_long : length new ≡ length old
+  pub outside : (i : ℕ) → inside i (record { place = at.entry + 2; len = 10 }) ≡ false
+      → inside i (value_room (number_of order) old at.entry) ≡ false
+      → slice_index new i ≡ slice_index old i
+
+-- a look-up of the name in what is read gives the value
+abbrev pub FindsValue : Tag → In → Value → List ℕ → Type 0
+FindsValue tag k value bytes =
+    (lenient : Bool) (fields : List Field) (faults : List Fault)
+    → raw_answer lenient None bytes ≡ shown fields faults
+    → (place : ℕ) × (last_named fields tag k
+    ≡ Some (record { tag = tag; ifd_num = k; value = moved_to place value }))
+
+-- the GPS directories and their values are zero bytes, and all else is as it was
+pub record IsErased (old new : List ℕ) : Type 0 where
+  pub order : Order
+  pub header : header old ≡ Ok order
+  pub as_long : length new ≡ length old
+  pub bytes : (i : ℕ) → slice_index new i
+      ≡ (if list_any (inside i) (gps_spans (number_of order) old) then 0 else slice_index old i)
+  pub faults : List Fault
+  pub reads : ReadAs new (without_gps (fields_of (trace old))) faults
+  pub fewer : length faults ≤ length (faults_of (trace old))
+
+-- ---- laws
+
+-- without their places, the located fields are those that reading gives
+abbrev pub LocatesWhatIsRead : List ℕ → Type 0
+LocatesWhatIsRead bytes = map (λ (l : Located). l.field) (located bytes) ≡ fields_of (trace bytes)
+
+-- the last field of a name stands where it stood, and its value has the same room
+pub record KeepsPlace (tag : Tag) (k : In) (old new : List ℕ) : Type 0 where
+  pub order : Order
+  pub before : header old ≡ Ok order
+  pub after : header new ≡ Ok order
+  pub at : Located
+  pub was : last_located tag k (located old) ≡ Some at
+  pub now : Located
+  pub is : last_located tag k (located new) ≡ Some now
+  pub entry : now.entry ≡ at.entry
+  pub room : value_room (number_of order) new at.entry ≡ value_room (number_of order) old at.entry
+
+-- a value that is what stands there, set again after another, gives the bytes from before
+abbrev pub SetsBack : Tag → In → Value → Value → List ℕ → Type 0
+SetsBack tag k value first old =
+    (new back : List ℕ) → set_answer old tag k first ≡ Ok old → set_answer old tag k value ≡ Ok new
+    → KeepsPlace tag k old new → set_answer new tag k first ≡ Ok back → back ≡ old

@@ -1,0 +1,132 @@
+-- One value put in the place of another.
+use Rattle.std.specs.Prelude.{ℕ, ◌+◌, ◌-◌, ◌*◌, ◌^◌, ◌==◌, max, nat_lt, nat_le, Bool, false, List, [], ◌∷◌, ◌++◌, length, Result, Ok, Err, if◌then◌else◌}
+use Rattle.std.specs.List.{list_any}
+use Rattle.exif_base.specs.Bytes.{Reading, number_at}
+use Rattle.exif_base.specs.Orders.{number_of, order_named}
+use Rattle.exif_base.specs.declared.endian.Order.{Order}
+use Rattle.exif_table.specs.declared.context.Context.TheVariants.{Tiff, Exif, Gps, Interop}
+use Rattle.exif_types.specs.FieldTypes.{type_of, known_length}
+use Rattle.exif_types.specs.ValueTypes.{count_of, type_number}
+use Rattle.exif_types.specs.declared.tag.Tag.{Tag}
+use Rattle.exif_types.specs.declared.ifd.In.{In}
+use Rattle.exif_types.specs.declared.value.Value.{Value}
+use Rattle.exif_writer.specs.Encoding.{encode, moved_to, spelled}
+use Rattle.exif_writer.specs.Refused.{is_unknown}
+use Rattle.exif_edit.specs.Causes.{Cause, place_named, shared, too_long, unless, unknown_type, ◌>>=◌}
+use Rattle.exif_edit.specs.Finding.{find_answer, replaced}
+use Rattle.exif_edit.specs.Patches.{padded, patched}
+use Rattle.exif_edit.specs.Readings.{Read, reads_as}
+use Rattle.exif_edit.specs.declared.patch.Patch.{Patch}
+use Rattle.exif_edit.specs.declared.patch.Span.{Span}
+
+-- the tags of context Tiff whose values say where other bytes stand, or how many: strips, free bytes,
+-- tiles, child directories, thumbnails and their tables (TIFF 6.0, sections 8, 15, 22 and its index of
+-- tags; TIFF/EP, SubIFDs; Exif 2.32, 4.6.3)
+abbrev pub place_tags : List ℕ
+place_tags =
+    0x111 ∷ 0x117 ∷ 0x120 ∷ 0x121 ∷ 0x144 ∷ 0x145 ∷ 0x14a ∷ 0x201 ∷ 0x202 ∷ 0x207 ∷ 0x208 ∷ 0x209
+    ∷ 0x8769 ∷ 0x8825 ∷ []
+
+-- whether the values of a tag say where other bytes stand, or how many
+abbrev pub names_places : Tag → Bool
+names_places tag = elim tag.0 [
+  | Tiff ↦ list_any (λ n. tag.1 == n) place_tags
+  | Exif ↦ tag.1 == 0xa005
+  | Gps ↦ false
+  | Interop ↦ false
+]
+
+-- the room of a value of this size at a place: nothing where the value stands in its entry
+abbrev pub room_of : ℕ → ℕ → Span
+room_of place size =
+    if nat_le size 4 then record { place = 0; len = 0 } else record { place = place; len = size }
+
+-- where the value of the entry at e stands outside of it
+abbrev pub value_room : Reading → List ℕ → ℕ → Span
+value_room number bytes e =
+    room_of (number_at number 4 bytes (e + 8))
+    (known_length (type_of (number_at number 2 bytes (e + 2))) * number_at number 4 bytes (e + 4))
+
+-- whether a value of these bytes stands in its entry
+abbrev pub is_small : List ℕ → Bool
+is_small text = nat_le (length text) 4
+
+-- where it stands then
+abbrev pub set_place : ℕ → ℕ → List ℕ → ℕ
+set_place old e text = if is_small text then e + 8 else old
+
+-- the last four bytes of an entry: those of its value, or the place where they stand
+abbrev pub element_text : Order → ℕ → List ℕ → List ℕ
+element_text order place text = if is_small text then padded 4 text else spelled order 4 place
+
+-- the 10 bytes behind the tag of an entry
+abbrev pub entry_text : Order → Value → ℕ → List ℕ → List ℕ
+entry_text order value place text =
+    spelled order 2 (type_number value)
+    ++ (spelled order 4 (count_of value) ++ element_text order place text)
+
+-- the bytes in the old room
+abbrev pub room_text : ℕ → List ℕ → List ℕ
+room_text len text = padded len (if is_small text then [] else text)
+
+-- what is put over the old room, if there is one
+abbrev pub room_patches : Span → List ℕ → List Patch
+room_patches room text =
+    if room.len == 0 then []
+    else record { place = room.place; text = room_text room.len text } ∷ []
+
+-- what puts a value over that of the entry at e, which has this room
+abbrev pub value_patches : Order → Value → ℕ → Span → List Patch
+value_patches order value e room =
+    let text = encode order value in
+    room_patches room text
+    ++ record { place = e + 2; text = entry_text order value room.place text } ∷ []
+
+-- the same, if the value fits there
+abbrev pub answer_in : Order → Value → ℕ → Span → ℕ → Result (List Patch) Cause
+answer_in order value e room total = do
+  a ← unless (nat_lt total (room.place + room.len)) shared
+  b ← unless (nat_lt (2 ^ 32 - 1) (count_of value)) too_long
+  c ← unless (nat_lt (max 4 room.len) (length (encode order value))) too_long
+  Ok (value_patches order value e room)
+
+-- the same for the entry at e of data
+unfoldable pub value_answer : Order → Value → ℕ → List ℕ → Result (List Patch) Cause
+value_answer order value e bytes = do
+  a ← unless (nat_lt (length bytes) (e + 12)) shared
+  answer_in order value e (value_room (number_of order) bytes e) (length bytes)
+
+-- what reading the edited data must give
+abbrev pub expected : Tag → In → Value → ℕ → List ℕ → Read → Read
+expected tag k value e bytes read =
+    let order = order_named read.little in
+    let room = value_room (number_of order) bytes e in
+    record {
+      little = read.little;
+      fields =
+          replaced tag k (moved_to (set_place room.place e (encode order value)) value) read.fields;
+      faults = read.faults;
+    }
+
+-- patches, if what they make is read so
+abbrev pub checked : Read → List ℕ → List Patch → Result (List Patch) Cause
+checked read bytes patches = if reads_as (patched patches bytes) read then Ok patches else Err shared
+
+-- the patches of the last value of a name
+unfoldable pub checked_patches : List ℕ → Tag → In → Value → Result (List Patch) Cause
+checked_patches bytes tag k value = do
+  found ← find_answer bytes tag k
+  patches ← value_answer (order_named found.0.little) value found.1 bytes
+  checked (expected tag k value found.1 bytes found.0) bytes patches
+
+-- what sets the last value of a name, or why that is refused
+unfoldable pub set_patches : List ℕ → Tag → In → Value → Result (List Patch) Cause
+set_patches bytes tag k value = do
+  a ← unless (names_places tag) place_named
+  b ← unless (is_unknown value) unknown_type
+  checked_patches bytes tag k value
+
+-- the data with it
+abbrev pub set_answer : List ℕ → Tag → In → Value → Result (List ℕ) Cause
+set_answer bytes tag k value =
+    set_patches bytes tag k value >>= λ patches. Ok (patched patches bytes)

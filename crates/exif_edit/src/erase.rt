@@ -1,0 +1,187 @@
+//! Places erased: GPS directories and their values become zero bytes.
+
+ghost use Rattle.std.specs.Prelude.{◌≡◌, ◌≤◌, ◌<◌, ◌+◌, ◌*◌, ◌^◌, ◌++◌, All, length, map, not, IfOk, OnOk};
+ghost use Rattle.std.specs.List.{flat_map};
+ghost use Rattle.exif_base.specs.Bytes.{spaced};
+ghost use Rattle.exif_base.specs.Orders.{number_of};
+ghost use Rattle.exif_tiff.specs.Trace.{whole_entries};
+ghost use Rattle.exif_edit.specs.Causes.{Edits, Makes};
+ghost use Rattle.exif_edit.specs.Erasing.{clears, clipped, directory_spans, erase_answer, erase_patches, is_gps, value_span, without_gps};
+ghost use Rattle.exif_edit.specs.Patches.{FitsIn, zeros_over};
+ghost use Rattle.exif_edit.specs.Promises.{IsErased};
+ghost use Rattle.exif_edit.specs.Readings.{read_of};
+
+use crate::error::Error;
+use crate::patch::{Patch, Span, apply, patched, zeros};
+use crate::read::{order_named, read};
+use crate::set::value_room;
+use crate::walk::locations;
+use exif_base::{BigEndian, LittleEndian, Order};
+use exif_reader::directory;
+use exif_reader::stop::Stop;
+use exif_reader::tiff::Parsed;
+use exif_types::{Context, Field};
+use std::alloc::{AllocError, Global};
+
+// How many entries of the directory at a place are whole.
+fn whole_entries(order: Order, bytes: &[u8], place: u32) -> usize
+    ensures value { result ≡ whole_entries (number_of order) bytes.now place }
+    ensures room { 0 < result → place + 2 + 12 * result ≤ length bytes.now }
+    ensures small { result < 65536 }
+{
+    match order {
+        Order::Big => directory::whole_entries::<BigEndian>(bytes, place),
+        Order::Little => directory::whole_entries::<LittleEndian>(bytes, place),
+    }
+}
+
+// What of a span lies in data of a length.
+fn clipped(total: usize, span: Span) -> Span
+    requires { span.len < 2 ^ 40 }
+    ensures { result ≡ clipped total span }
+{
+    let place = span.place as usize;
+    if place <= total {
+        Span {
+            place: span.place,
+            len: span.len.min(total - place),
+        }
+    } else {
+        Span { place: 0, len: 0 }
+    }
+}
+
+// Where the value of the entry at a place stands outside of it, if it lies in the data.
+fn value_span(order: Order, bytes: &[u8], entry: u32) -> Span
+    requires { entry + 12 ≤ length bytes.now }
+    ensures { result ≡ value_span (number_of order) bytes.now entry }
+{
+    let room = value_room(order, bytes, entry);
+    if room.place as usize + room.len <= bytes.len() {
+        room
+    } else {
+        Span { place: 0, len: 0 }
+    }
+}
+
+// Adds zeros over the values of entries.
+fn add_values(
+    alloc: Global,
+    order: Order,
+    bytes: &[u8],
+    first: usize,
+    count: usize,
+    patches: &mut Vec<Patch>,
+) -> Result<(), AllocError>
+    requires small { length bytes.now < 2 ^ 32 }
+    requires room { 0 < count → first + 12 * count ≤ length bytes.now }
+    requires bound { first + 12 * count < 2 ^ 40 }
+    ensures { OnOk result (patches.new.items ≡ patches.old.items ++ map zeros_over
+        (map (value_span (number_of order) bytes.now) (spaced first 12 count))) }
+{
+    let mut at = first;
+    for _ in 0..count {
+        let span = value_span(order, bytes, at as u32);
+        let patch = zeros(alloc, span)?;
+        patches.push(patch)?;
+        at += 12;
+    }
+    Ok(())
+}
+
+// Adds zeros over the directory at a place and over its values.
+fn add_directory(
+    alloc: Global,
+    order: Order,
+    bytes: &[u8],
+    place: u32,
+    patches: &mut Vec<Patch>,
+) -> Result<(), AllocError>
+    requires { length bytes.now < 2 ^ 32 }
+    ensures { OnOk result (patches.new.items ≡ patches.old.items ++ map zeros_over
+        (directory_spans (number_of order) bytes.now place)) }
+{
+    let count = whole_entries(order, bytes, place);
+    let len = 2 + 12 * count + 4;
+    let span = clipped(bytes.len(), Span { place, len });
+    let patch = zeros(alloc, span)?;
+    patches.push(patch)?;
+    add_values(alloc, order, bytes, place as usize + 2, count, patches)
+}
+
+// Zeros over directories and over their values.
+fn zeroed(
+    alloc: Global,
+    order: Order,
+    bytes: &[u8],
+    directories: &[u32],
+) -> Result<Vec<Patch>, AllocError>
+    requires { length bytes.now < 2 ^ 32 }
+    ensures { IfOk result (λ ps. ps.items ≡ map zeros_over
+        (flat_map (directory_spans (number_of order) bytes.now) directories.now)) }
+{
+    let mut patches = Vec::new(alloc);
+    for place in directories {
+        add_directory(alloc, order, bytes, *place, &mut patches)?;
+    }
+    Ok(patches)
+}
+
+// Whether a field is no GPS field.
+fn is_kept(field: &Field) -> bool
+    ensures { result ≡ not (is_gps field.now.tag.0) }
+{
+    !matches!(field.tag.0, Context::Gps)
+}
+
+// Leaves the GPS fields out.
+fn drop_gps(fields: &mut Vec<Field>)
+    ensures { fields.new.items ≡ without_gps fields.old.items }
+{
+    fields.retain(|field| is_kept(field));
+}
+
+// Whether data are read so, with no more faults.
+fn clears(alloc: Global, bytes: &[u8], wanted: &Parsed) -> Result<bool, AllocError>
+    ensures { IfOk result (λ same. same ≡ clears bytes.now (read_of wanted.now)) }
+{
+    match read(alloc, bytes) {
+        Ok(found) => Ok(
+            found.little_endian == wanted.little_endian
+                && found.fields.as_slice() == wanted.fields.as_slice()
+                && found.faults.len() <= wanted.faults.len(),
+        ),
+        Err(Stop::Fault(_)) => Ok(false),
+        Err(Stop::OutOfMemory) => Err(AllocError),
+    }
+}
+
+/// What [`erase_places`] puts over the data, as data: zeros over each GPS directory, and over each
+/// of its values. The data stay as they are.
+pub fn erase_places_patches(alloc: Global, bytes: &[u8]) -> Result<Vec<Patch>, Error>
+    ensures answer { Makes (λ ps. ps.items) result (erase_patches bytes.now) }
+    ensures within { IfOk result (λ ps. All (FitsIn (length bytes.now)) ps.items) }
+{
+    let mut parsed = read(alloc, bytes)?;
+    let walk = locations(alloc, bytes, parsed.little_endian)?;
+    let order = order_named(parsed.little_endian);
+    let patches = zeroed(alloc, order, bytes, walk.gps())?;
+    drop_gps(&mut parsed.fields);
+    let new = patched(alloc, patches.as_slice(), bytes)?;
+    let same = clears(alloc, new.as_slice(), &parsed)?;
+    if same {
+        Ok(patches)
+    } else {
+        Err(Error::SharedBytes)
+    }
+}
+
+/// Puts zeros over the GPS directories and their values.
+pub fn erase_places(alloc: Global, bytes: &mut [u8]) -> Result<(), Error>
+    ensures answer { Edits result bytes.old bytes.new (erase_answer bytes.old) }
+    ensures erased { OnOk result (IsErased bytes.old bytes.new) }
+{
+    let patches = erase_places_patches(alloc, bytes)?;
+    apply(patches.as_slice(), bytes);
+    Ok(())
+}

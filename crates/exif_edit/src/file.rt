@@ -1,0 +1,187 @@
+//! Exif data edited where they stand in a file.
+
+ghost use Rattle.std.specs.Prelude.{◌≡◌, ◌≤◌, ◌<◌, ◌+◌, ◌^◌, All, length, map, IfOk, OnOk};
+ghost use Rattle.exif_containers.specs.Container.{container_answer};
+ghost use Rattle.exif_edit.specs.Causes.{Edits, Makes, of_container};
+ghost use Rattle.exif_edit.specs.Erasing.{erase_patches};
+ghost use Rattle.exif_edit.specs.InFiles.{IsEditedIn, edited_file, holds, in_file, place_answer, placed, serves, shifted};
+ghost use Rattle.exif_edit.specs.Patches.{FitsIn, patched};
+ghost use Rattle.exif_edit.specs.Setting.{set_patches};
+
+use crate::erase::erase_places_patches;
+use crate::error::Error;
+use crate::patch::{Patch, apply, patched, put};
+use crate::set::set_value_patches;
+use exif_base::Counted;
+use exif_containers::exif_attr_of_stream;
+use exif_types::{In, Tag, Value};
+use std::alloc::{AllocError, Global};
+
+// The Exif data of a file.
+fn data_of(alloc: Global, file: &[u8]) -> Result<Vec<u8>, Error>
+    ensures { Makes (λ v. v.items) result (of_container (container_answer file.now)) }
+{
+    match exif_attr_of_stream(alloc, &mut Counted::new(file)) {
+        Ok(found) => Ok(found),
+        Err(
+            exif_types::Error::OutOfMemory
+            | exif_types::Error::Io(_)
+            | exif_types::Error::PartialResult(_),
+        ) => Err(Error::OutOfMemory),
+        Err(refusal) => Err(Error::Container(refusal)),
+    }
+}
+
+// Puts patches of data that stand at a place of a file over the file.
+fn apply_at(patches: &[Patch], place: usize, file: &mut [u8])
+    requires { All (λ p. FitsIn (length file.old) (shifted place p)) patches.now }
+    ensures value { file.new ≡ patched (map (shifted place) patches.now) file.old }
+    ensures len { length file.new ≡ length file.old }
+{
+    for patch in patches {
+        put(file, place + patch.place as usize, patch.text.as_slice());
+    }
+}
+
+// Whether a file holds these data.
+fn holds(alloc: Global, file: &[u8], wanted: &[u8]) -> Result<bool, AllocError>
+    ensures { IfOk result (λ held. held ≡ holds file.now wanted.now) }
+{
+    match data_of(alloc, file) {
+        Ok(found) => Ok(found.as_slice() == wanted),
+        Err(Error::OutOfMemory) => Err(AllocError),
+        Err(_) => Ok(false),
+    }
+}
+
+// Whether data stand at a place of a file, and the file with patches there holds the new data.
+fn serves(
+    alloc: Global,
+    file: &[u8],
+    old: &[u8],
+    new: &[u8],
+    patches: &[Patch],
+    place: usize,
+) -> Result<bool, AllocError>
+    requires within { place + length old.now ≤ length file.now }
+    requires fit { All (FitsIn (length old.now)) patches.now }
+    requires made { new.now ≡ patched patches.now old.now }
+    ensures { IfOk result (λ yes. yes ≡ serves file.now old.now patches.now place) }
+{
+    if &file[place..place + old.len()] != old {
+        return Ok(false);
+    }
+    let mut out = Vec::from_slice(alloc, file)?;
+    apply_at(patches, place, out.as_mut_slice());
+    holds(alloc, out.as_slice(), new)
+}
+
+// A patch of data, counted from the first byte of the file in which they stand at a place.
+fn shift_one(patch: &mut Patch, place: usize, len: usize)
+    requires fit { FitsIn len patch.old }
+    requires small { place + len < 2 ^ 64 }
+    ensures { patch.new ≡ shifted place patch.old }
+{
+    patch.place += place as u64;
+}
+
+// The patches, counted from the first byte of the file.
+fn shift(patches: &mut [Patch], place: usize, len: usize)
+    requires fit { All (FitsIn len) patches.old }
+    requires small { place + len < 2 ^ 64 }
+    ensures { patches.new ≡ map (shifted place) patches.old }
+{
+    for patch in patches.iter_mut() {
+        shift_one(patch, place, len);
+    }
+}
+
+// The first place of a file at which patches of its data serve.
+fn place_of(alloc: Global, file: &[u8], old: &[u8], patches: &[Patch]) -> Result<usize, Error>
+    requires { All (FitsIn (length old.now)) patches.now }
+    ensures answer { Makes (λ place. place) result
+        (place_answer file.now old.now patches.now) }
+    ensures within { IfOk result (λ place. place + length old.now ≤ length file.now) }
+{
+    let new = patched(alloc, patches, old)?;
+    let count = (file.len() + 1).saturating_sub(old.len());
+    for place in 0..count {
+        let found = serves(alloc, file, old, new.as_slice(), patches, place)?;
+        if found {
+            return Ok(place);
+        }
+    }
+    Err(Error::ScatteredData)
+}
+
+// Patches of the data of a file as patches of the file.
+fn placed(
+    alloc: Global,
+    file: &[u8],
+    old: &[u8],
+    mut patches: Vec<Patch>,
+) -> Result<Vec<Patch>, Error>
+    requires { All (FitsIn (length old.now)) patches.items }
+    ensures { Makes (λ ps. ps.items) result (placed file.now old.now patches.items) }
+{
+    let place = place_of(alloc, file, old, patches.as_slice())?;
+    shift(patches.as_mut_slice(), place, old.len());
+    Ok(patches)
+}
+
+/// What [`set_value_in_file`] puts over the file, as data. The file stays as it is.
+pub fn set_value_patches_in_file(
+    alloc: Global,
+    file: &[u8],
+    tag: Tag,
+    ifd_num: In,
+    value: &Value,
+) -> Result<Vec<Patch>, Error>
+    ensures answer { Makes (λ ps. ps.items) result
+        (in_file (λ old. set_patches old tag ifd_num value.now) file.now) }
+    ensures within { IfOk result (λ ps. All (FitsIn (length file.now)) ps.items) }
+{
+    let old = data_of(alloc, file)?;
+    let patches = set_value_patches(alloc, old.as_slice(), tag, ifd_num, value)?;
+    let placed = placed(alloc, file, old.as_slice(), patches)?;
+    Ok(placed)
+}
+
+/// What [`erase_places_in_file`] puts over the file, as data. The file stays as it is.
+pub fn erase_places_patches_in_file(alloc: Global, file: &[u8]) -> Result<Vec<Patch>, Error>
+    ensures answer { Makes (λ ps. ps.items) result (in_file erase_patches file.now) }
+    ensures within { IfOk result (λ ps. All (FitsIn (length file.now)) ps.items) }
+{
+    let old = data_of(alloc, file)?;
+    let patches = erase_places_patches(alloc, old.as_slice())?;
+    let placed = placed(alloc, file, old.as_slice(), patches)?;
+    Ok(placed)
+}
+
+/// Sets a value in the Exif data of a file.
+pub fn set_value_in_file(
+    alloc: Global,
+    file: &mut [u8],
+    tag: Tag,
+    ifd_num: In,
+    value: &Value,
+) -> Result<(), Error>
+    ensures answer { Edits result file.old file.new
+        (edited_file (λ old. set_patches old tag ifd_num value.now) file.old) }
+    ensures edited { OnOk result
+        (IsEditedIn (λ old. set_patches old tag ifd_num value.now) file.old file.new) }
+{
+    let patches = set_value_patches_in_file(alloc, file, tag, ifd_num, value)?;
+    apply(patches.as_slice(), file);
+    Ok(())
+}
+
+/// Erases the places in the Exif data of a file.
+pub fn erase_places_in_file(alloc: Global, file: &mut [u8]) -> Result<(), Error>
+    ensures answer { Edits result file.old file.new (edited_file erase_patches file.old) }
+    ensures edited { OnOk result (IsEditedIn erase_patches file.old file.new) }
+{
+    let patches = erase_places_patches_in_file(alloc, file)?;
+    apply(patches.as_slice(), file);
+    Ok(())
+}

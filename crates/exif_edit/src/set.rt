@@ -1,0 +1,243 @@
+//! One value put in the place of another.
+
+ghost use Rattle.std.specs.Prelude.{◌≡◌, ◌≤◌, ◌<◌, ◌+◌, ◌*◌, ◌^◌, All, [], ◌∷◌, max, length, IfOk, IfErr, OnOk};
+ghost use Rattle.exif_base.specs.Orders.{number_of};
+ghost use Rattle.exif_types.specs.ValueTypes.{count_of};
+ghost use Rattle.exif_types.specs.declared.error.Error.TheVariants as Failure;
+ghost use Rattle.exif_writer.specs.Encoding.{encode, moved_to};
+ghost use Rattle.exif_edit.specs.Causes.{Edits, Makes};
+ghost use Rattle.exif_edit.specs.Finding.{IsLastAt, replaced};
+ghost use Rattle.exif_edit.specs.Patches.{FitsIn};
+ghost use Rattle.exif_edit.specs.Promises.{FindsValue, IsSet};
+ghost use Rattle.exif_edit.specs.Setting.{checked_patches, names_places, room_patches, set_answer, set_patches, set_place, value_answer, value_patches, value_room};
+ghost use Rattle.exif_edit.specs.declared.set.Edit.{Edit};
+
+use crate::error::Error;
+use crate::find::find;
+use crate::patch::{Patch, Span, apply, padded, patched};
+use crate::read::{number16, number32, order_named, reads_as};
+use crate::spell::{encode, entry_text, is_unknown};
+use exif_base::{Items, Order};
+use exif_types::{Context, Field, FieldType, In, Tag, Value};
+use std::alloc::{AllocError, Global};
+
+/// What sets a value, and where the value stands then.
+#[derive(Drop)]
+struct Edit {
+    patches: Vec<Patch>,
+    place: u32,
+}
+
+// Whether the values of a tag say where other bytes stand, or how many.
+fn names_places(tag: Tag) -> bool
+    ensures { result ≡ names_places tag }
+{
+    match tag.0 {
+        Context::Tiff => matches!(
+            tag.1,
+            0x111
+                | 0x117
+                | 0x120
+                | 0x121
+                | 0x144
+                | 0x145
+                | 0x14a
+                | 0x201
+                | 0x202
+                | 0x207
+                | 0x208
+                | 0x209
+                | 0x8769
+                | 0x8825
+        ),
+        Context::Exif => tag.1 == 0xa005,
+        Context::Gps | Context::Interop => false,
+    }
+}
+
+/// Where the value of the entry at a place stands outside of it.
+pub fn value_room(order: Order, bytes: &[u8], entry: u32) -> Span
+    requires { entry + 12 ≤ length bytes.now }
+    ensures value { result ≡ value_room (number_of order) bytes.now entry }
+    ensures near { result.place < 2 ^ 32 }
+    ensures bound { result.len < 2 ^ 36 }
+{
+    let at = entry as usize;
+    let count = number32(order, bytes, at + 4);
+    let place = number32(order, bytes, at + 8);
+    let size = match FieldType::of(number16(order, bytes, at + 2)) {
+        None => 0,
+        Some(field_type) => field_type.unit_length() as usize * count as usize,
+    };
+    if size <= 4 {
+        Span { place: 0, len: 0 }
+    } else {
+        Span { place, len: size }
+    }
+}
+
+// What is put over the old value, where it stood outside of its entry.
+fn room_patches(alloc: Global, room: Span, text: &[u8]) -> Result<Vec<Patch>, AllocError>
+    requires { length text.now ≤ max 4 room.len }
+    ensures { IfOk result (λ ps. ps.items ≡ room_patches room text.now) }
+{
+    let mut patches = Vec::with_capacity(alloc, 2)?;
+    if room.len == 0 {
+        return Ok(patches);
+    }
+    let none: &[u8] = &[];
+    let text = padded(alloc, room.len, if text.len() <= 4 { none } else { text })?;
+    patches.push(Patch {
+        place: room.place as u64,
+        text: Items::from_vec(text),
+    })?;
+    Ok(patches)
+}
+
+// What puts a value, whose bytes are these, over the value of an entry that has this room.
+fn value_patches(
+    alloc: Global,
+    order: Order,
+    value: &Value,
+    count: u32,
+    entry: u32,
+    room: Span,
+    text: &[u8],
+) -> Result<Vec<Patch>, AllocError>
+    requires text { text.now ≡ encode order value.now }
+    requires count { count ≡ count_of value.now }
+    requires fits { length text.now ≤ max 4 room.len }
+    ensures { IfOk result (λ ps. ps.items ≡ value_patches order value.now entry room) }
+{
+    let mut patches = room_patches(alloc, room, text)?;
+    let text = entry_text(alloc, order, value, count, room.place, text)?;
+    patches.push(Patch {
+        place: entry as u64 + 2,
+        text: Items::from_vec(text),
+    })?;
+    Ok(patches)
+}
+
+// What puts a value over the one at an entry.
+fn make_edit(
+    alloc: Global,
+    bytes: &[u8],
+    order: Order,
+    value: &Value,
+    entry: u32,
+) -> Result<Edit, Error>
+    requires { length bytes.now < 2 ^ 32 }
+    ensures answer { Makes (λ (e : Edit). e.patches.items) result
+        (value_answer order value.now entry bytes.now) }
+    ensures within { IfOk result (λ e. All (FitsIn (length bytes.now)) e.patches.items) }
+    ensures place { IfOk result (λ e. e.place
+        ≡ set_place (value_room (number_of order) bytes.now entry).place entry
+        (encode order value.now)) }
+{
+    if bytes.len() < entry as usize + 12 {
+        return Err(Error::SharedBytes);
+    }
+    let room = value_room(order, bytes, entry);
+    if bytes.len() < room.place as usize + room.len {
+        return Err(Error::SharedBytes);
+    }
+    let Some(count) = value.count() else {
+        return Err(Error::ValueTooLong);
+    };
+    let text = encode(alloc, order, value)?;
+    if room.len.max(4) < text.len() {
+        return Err(Error::ValueTooLong);
+    }
+    let place = if text.len() <= 4 {
+        entry + 8
+    } else {
+        room.place
+    };
+    let patches = value_patches(alloc, order, value, count, entry, room, text.as_slice())?;
+    Ok(Edit { patches, place })
+}
+
+// The value, standing at a place.
+fn moved(alloc: Global, value: &Value, place: u32) -> Result<Value, Error>
+    ensures answer { IfOk result (λ v. v ≡ moved_to place value.now) }
+    ensures memory { IfErr result (λ e. e ≡ Error.OutOfMemory) }
+{
+    match value.clone(alloc) {
+        Ok(Value::Undefined(bytes, _)) => Ok(Value::Undefined(bytes, place)),
+        Ok(other) => Ok(other),
+        Err(_) => Err(Error::OutOfMemory),
+    }
+}
+
+// Sets the value of the last field of a name.
+fn set_field(fields: &mut Vec<Field>, index: usize, value: Value, tag: Tag, ifd_num: In)
+    requires { IsLastAt tag ifd_num fields.old.items index }
+    ensures { fields.new.items ≡ replaced tag ifd_num value fields.old.items }
+{
+    fields[index].value = value;
+}
+
+/// What [`set_value`] puts over the data, as data: at most two patches. The data stay as they are.
+pub fn set_value_patches(
+    alloc: Global,
+    bytes: &[u8],
+    tag: Tag,
+    ifd_num: In,
+    value: &Value,
+) -> Result<Vec<Patch>, Error>
+    ensures answer { Makes (λ ps. ps.items) result
+        (set_patches bytes.now tag ifd_num value.now) }
+    ensures within { IfOk result (λ ps. All (FitsIn (length bytes.now)) ps.items) }
+{
+    if names_places(tag) {
+        return Err(Error::NamesPlaces);
+    }
+    if is_unknown(value) {
+        return Err(Error::UnknownType);
+    }
+    checked_patches(alloc, bytes, tag, ifd_num, value)
+}
+
+// The patches, after a reading of what they make.
+fn checked_patches(
+    alloc: Global,
+    bytes: &[u8],
+    tag: Tag,
+    ifd_num: In,
+    value: &Value,
+) -> Result<Vec<Patch>, Error>
+    ensures answer { Makes (λ ps. ps.items) result
+        (checked_patches bytes.now tag ifd_num value.now) }
+    ensures within { IfOk result (λ ps. All (FitsIn (length bytes.now)) ps.items) }
+{
+    let mut found = find(alloc, bytes, tag, ifd_num)?;
+    let order = order_named(found.parsed.little_endian);
+    let edit = make_edit(alloc, bytes, order, value, found.entry)?;
+    let moved = moved(alloc, value, edit.place)?;
+    set_field(&mut found.parsed.fields, found.index, moved, tag, ifd_num);
+    let new = patched(alloc, edit.patches.as_slice(), bytes)?;
+    let same = reads_as(alloc, new.as_slice(), &found.parsed)?;
+    if same {
+        Ok(edit.patches)
+    } else {
+        Err(Error::SharedBytes)
+    }
+}
+
+/// Puts a value in the place of the last one of a name.
+pub fn set_value(
+    alloc: Global,
+    bytes: &mut [u8],
+    tag: Tag,
+    ifd_num: In,
+    value: &Value,
+) -> Result<(), Error>
+    ensures answer { Edits result bytes.old bytes.new
+        (set_answer bytes.old tag ifd_num value.now) }
+    ensures set { OnOk result (IsSet bytes.old tag ifd_num value.now bytes.new) }
+    ensures found { OnOk result (FindsValue tag ifd_num value.now bytes.new) }
+{
+    let patches = set_value_patches(alloc, bytes, tag, ifd_num, value)?;
+    apply(patches.as_slice(), bytes);
+    Ok(())
+}

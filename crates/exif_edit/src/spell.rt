@@ -1,0 +1,55 @@
+//! Values and entries as bytes.
+
+ghost use Rattle.std.specs.Prelude.{◌≡◌, IfOk};
+ghost use Rattle.exif_edit.specs.Setting.{entry_text};
+ghost use Rattle.exif_types.specs.ValueTypes.{count_of};
+ghost use Rattle.exif_writer.specs.Encoding.{encode};
+ghost use Rattle.exif_writer.specs.Refused.{is_unknown};
+
+use crate::patch::padded;
+use exif_base::{Counted, Order};
+use exif_types::Value;
+use exif_writer::item::{send_value, spelled_u16, spelled_u32};
+use std::alloc::{AllocError, Global};
+
+/// The bytes of a value.
+pub fn encode(alloc: Global, order: Order, value: &Value) -> Result<Vec<u8>, AllocError>
+    ensures { IfOk result (λ v. v.items ≡ encode order value.now) }
+{
+    let mut out = Counted::new(Vec::new(alloc));
+    match send_value(&mut out, order, value) {
+        Ok(()) => Ok(out.into_inner()),
+        Err(_) => Err(AllocError),
+    }
+}
+
+/// The 10 bytes behind the tag of an entry: the type of the value, how many items it has, and the
+/// bytes of the value, or the place where they stand.
+pub fn entry_text(
+    alloc: Global,
+    order: Order,
+    value: &Value,
+    count: u32,
+    place: u32,
+    text: &[u8],
+) -> Result<Vec<u8>, AllocError>
+    requires { count ≡ count_of value.now }
+    ensures { IfOk result (λ v. v.items ≡ entry_text order value.now place text.now) }
+{
+    let mut out = Vec::with_capacity(alloc, 10)?;
+    out.extend_from_slice(&spelled_u16(order, value.type_number()))?;
+    out.extend_from_slice(&spelled_u32(order, count))?;
+    if text.len() <= 4 {
+        out.extend_from_slice(padded(alloc, 4, text)?.as_slice())?;
+    } else {
+        out.extend_from_slice(&spelled_u32(order, place))?;
+    }
+    Ok(out)
+}
+
+/// Whether the value's type is not known.
+pub fn is_unknown(value: &Value) -> bool
+    ensures { result ≡ is_unknown value.now }
+{
+    matches!(value, Value::Unknown(_, _, _))
+}
