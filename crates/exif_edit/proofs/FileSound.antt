@@ -8,12 +8,13 @@ use Rattle.std.proofs.lemmas.Bool.{false≢true}
 use Rattle.std.proofs.lemmas.List.Elements.{All-nil, All-cons, All-head, All-tail}
 use Rattle.exif_base.specs.Bytes.{bytes_at, spaced}
 use Rattle.exif_types.specs.Refusals.{Refusal}
-use Rattle.exif_containers.specs.Container.{container_answer}
-use Rattle.exif_edit.specs.Causes.{of_container, scattered, ◌>>=◌}
-use Rattle.exif_edit.specs.InFiles.{Edit, IsEditedIn, holds, in_file, place_answer, place_for, placed, serves, shifted}
+use Rattle.exif_containers.specs.Container.{begins_tiff, container_answer}
+use Rattle.exif_edit.specs.Causes.{of_container, picture, scattered, ◌>>=◌}
+use Rattle.exif_edit.specs.Clearing.{clear_patches}
+use Rattle.exif_edit.specs.InFiles.{Edit, IsEditedIn, clear_file_patches, holds, in_file, place_answer, place_for, placed, serves, shifted}
 use Rattle.exif_edit.specs.Patches.{FitsIn, patched}
 use Rattle.exif_edit.specs.declared.patch.Patch.{Patch}
-use Rattle.exif_edit.proofs.CauseSteps.{bound, data_held, ok_same, option_told}
+use Rattle.exif_edit.proofs.CauseSteps.{bound, data_held, ok_same, option_told, passed}
 use Rattle.exif_edit.proofs.PatchSteps.{Misses, length-patched, patched_outside, split}
 
 -- ---- the place that serves
@@ -128,3 +129,7 @@ file_sound edit file qs stays e =
       as_long = length-patched qs file fit;
       outside = λ i h. patched_outside qs file i fit (subst (λ rs. All (Misses i) rs) (sym w.are) (shifted_miss w.patches w.place (length w.old) i h (stays w.old w.patches w.edited)));
     }
+
+pub clear_file_answered : (file : List ℕ) (qs : List Patch) → clear_file_patches file ≡ Ok qs → in_file clear_patches file ≡ Ok qs
+unfolding clear_file_patches
+clear_file_answered file qs e = (passed (begins_tiff file) picture (λ u. in_file clear_patches file) qs e).1

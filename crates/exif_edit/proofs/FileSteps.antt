@@ -6,9 +6,10 @@ use Rattle.std.proofs.Math.ListN.{drop_of_length-le}
 use Rattle.std.proofs.lemmas.List.{append-nil, drop-set-lt, take_more_set, take_all}
 use Rattle.std.proofs.lemmas.List.Elements.{All-head, All-rest, All-same}
 use Rattle.exif_base.specs.Bytes.{spaced}
-use Rattle.exif_containers.specs.Container.{container_answer}
-use Rattle.exif_edit.specs.Causes.{Cause, of_container, or_cause, scattered}
-use Rattle.exif_edit.specs.InFiles.{Edit, in_file, place_answer, place_for, placed, serves}
+use Rattle.exif_containers.specs.Container.{begins_tiff, container_answer}
+use Rattle.exif_edit.specs.Causes.{Cause, of_container, or_cause, picture, scattered}
+use Rattle.exif_edit.specs.Clearing.{clear_patches}
+use Rattle.exif_edit.specs.InFiles.{Edit, clear_file_patches, in_file, place_answer, place_for, placed, serves}
 use Rattle.exif_edit.specs.Patches.{FitsIn}
 use Rattle.exif_edit.specs.declared.patch.Patch.{Patch}
 use Rattle.exif_edit.proofs.WalkSteps.{spaced_step}
@@ -89,3 +90,11 @@ file_edit edit file old c h g = rw (h, g) refl
 pub file_placed : (edit : Edit) (file old : List ℕ) (ps : List Patch) (x : Result (List Patch) Cause) → of_container (container_answer file) ≡ Ok old → edit old ≡ Ok ps → placed file old ps ≡ x → in_file edit file ≡ x
 unfolding in_file
 file_placed edit file old ps x h g s = rw (h, g) s
+
+pub clear_file_tiff : (file : List ℕ) → begins_tiff file ≡ true → clear_file_patches file ≡ Err picture
+unfolding clear_file_patches
+clear_file_tiff file h = rw h refl
+
+pub clear_file_else : (file : List ℕ) → begins_tiff file ≡ false → clear_file_patches file ≡ in_file clear_patches file
+unfolding clear_file_patches
+clear_file_else file h = rw h refl

@@ -1,10 +1,12 @@
 pub mod CauseSteps
+pub mod ClearSound
 pub mod EraseSound
 pub mod EraseSteps
 pub mod FileSound
 pub mod FileSteps
 pub mod FindSteps
 pub mod LawsLocated
+pub mod LawsSetting
 pub mod PatchSteps
 pub mod ReadFaults
 pub mod ReadSound

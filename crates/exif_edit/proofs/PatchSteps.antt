@@ -1,5 +1,5 @@
 -- Bytes put over others: which stay, and which are new.
-use Rattle.std.proofs.Common.{◌≡◌, ◌≤◌, ◌<◌, ◌+◌, ℕ, suc, Bool, true, false, if◌then◌else◌, List, [], ◌∷◌, length, get_or, drop, inl, inr, ◌⊎◌, map, replicate, All, refl, sym, ap, subst, ◌∙◌, arith, drop-cons}
+use Rattle.std.proofs.Common.{◌≡◌, ◌-◌, ◌≤◌, ◌<◌, ◌+◌, ℕ, suc, Bool, true, false, if◌then◌else◌, List, [], ◌∷◌, length, get_or, drop, inl, inr, ◌⊎◌, map, replicate, All, refl, sym, ap, subst, ◌∙◌, arith, drop-cons}
 use Rattle.std.specs.Prelude.{◌&&◌, ◌||◌, nat_lt, nat_le}
 use Rattle.std.specs.List.{list_any}
 use Rattle.std.proofs.lemmas.Bool.{false≢true}
@@ -26,9 +26,14 @@ pub put_behind : (place : ℕ) (text bytes : List ℕ) (i : ℕ) → place + len
     → place + length text ≤ i → get_or (put_at place text bytes) i 0 ≡ get_or bytes i 0
 put_behind place text bytes i h l = grind (arith, common_steps)
 
-put_zero : (place len : ℕ) (bytes : List ℕ) (i : ℕ) → place + len ≤ length bytes → place ≤ i
+pub put_zero : (place len : ℕ) (bytes : List ℕ) (i : ℕ) → place + len ≤ length bytes → place ≤ i
     → i < place + len → get_or (put_at place (replicate len 0) bytes) i 0 ≡ 0
 put_zero place len bytes i h l m = grind (arith, common_steps)
+
+-- a byte of it is there
+pub put_on : (place : ℕ) (text bytes : List ℕ) (i : ℕ) → place + length text ≤ length bytes → place ≤ i
+    → i < place + length text → get_or (put_at place text bytes) i 0 ≡ get_or text (i - place) 0
+put_on place text bytes i h l m = grind (arith, common_steps)
 
 pub length-put_at : (place : ℕ) (text bytes : List ℕ) → place + length text ≤ length bytes
     → length (put_at place text bytes) ≡ length bytes
@@ -41,7 +46,7 @@ pub fit_in : (m n : ℕ) (ps : List Patch) → m ≡ n → All (FitsIn m) ps →
 fit_in m n ps e h = subst (λ x. All (FitsIn x) ps) e h
 
 -- the patches behind the first fit after it
-fit_behind : (p : Patch) (ps : List Patch) (bytes : List ℕ) → All (FitsIn (length bytes)) (p ∷ ps)
+pub fit_behind : (p : Patch) (ps : List Patch) (bytes : List ℕ) → All (FitsIn (length bytes)) (p ∷ ps)
     → All (FitsIn (length (put_at p.place p.text bytes))) ps
 fit_behind p ps bytes h =
     fit_in (length bytes) (length (put_at p.place p.text bytes)) ps

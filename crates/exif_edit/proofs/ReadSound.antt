@@ -62,7 +62,7 @@ answer_by : (x : Result Order Fault) (lenient : Bool) (order : Order) (bytes : L
     ≡ answer_of lenient (content_of (ordered_trace (number_of order) bytes))
 answer_by x lenient order bytes e = rw e refl
 
-raw_right : (lenient : Bool) (bytes : List ℕ) (order : Order) → header bytes ≡ Ok order
+pub raw_right : (lenient : Bool) (bytes : List ℕ) (order : Order) → header bytes ≡ Ok order
     → raw_answer lenient None bytes ≡ answer_of lenient (content_of (ordered_trace (number_of order) bytes))
 unfolding raw_answer
 raw_right lenient bytes order h = answer_by (header bytes) lenient order bytes h

@@ -31,7 +31,7 @@ use Rattle.exif_edit.proofs.ReadSound.{reads_are, reads_so}
 
 -- ---- the texts of the patches are as long as their rooms
 
-length-spelled : (order : Order) (n x : ℕ) → length (spelled order n x) ≡ n
+pub length-spelled : (order : Order) (n x : ℕ) → length (spelled order n x) ≡ n
 length-spelled Big n x = length-bytes_high_first n x
 length-spelled Little n x = length-bytes_low_first 0 n x
 
@@ -95,16 +95,21 @@ edit_fits_in order value e bytes ps h =
     record { whole = grind (arith, nat_tests); far = c.0; text = c.1; is = c.2 }
 
 -- what holds of both patches holds of all
-both : (P : Patch → Type 0) (order : Order) (value : Value) (e : ℕ) (s : Span)
-    → P (record { place = s.place; text = room_text s.len (encode order value) })
+pub both : (P : Patch → Type 0) (order : Order) (value : Value) (e : ℕ) (s : Span)
+    → ((s.len == 0) ≡ false → P (record { place = s.place; text = room_text s.len (encode order value) }))
     → P (record { place = e + 2; text = entry_text order value s.place (encode order value) })
     → All P (value_patches order value e s)
 both P order value e s a b =
-    All-append P (room_patches s (encode order value)) _ (by_test (s.len == 0)) (All-cons P _ [] b (All-nil P))
+    All-append P (room_patches s (encode order value)) _ (by_test (s.len == 0) refl) (All-cons P _ [] b (All-nil P))
   where
-    by_test : (z : Bool) → All P (if z then [] else record { place = s.place; text = room_text s.len (encode order value) } ∷ [])
-    by_test true = All-nil P
-    by_test false = All-cons P _ [] a (All-nil P)
+    by_test : (z : Bool) → (s.len == 0) ≡ z → All P (if z then [] else record { place = s.place; text = room_text s.len (encode order value) } ∷ [])
+    by_test true e = All-nil P
+    by_test false e = All-cons P _ [] (a e) (All-nil P)
+
+-- the texts are as long as their rooms
+pub value_lengths : (order : Order) (value : Value) (s : Span) → length (encode order value) ≤ max 4 s.len
+    → (length (room_text s.len (encode order value)) ≡ s.len) × (length (entry_text order value s.place (encode order value)) ≡ 10)
+value_lengths order value s h = (length-room s.len (encode order value) h, length-entry order value s.place (encode order value))
 
 pub value_fits : (order : Order) (value : Value) (e : ℕ) (bytes : List ℕ) (ps : List Patch) → Fits order value e bytes ps → All (FitsIn (length bytes)) ps
 value_fits order value e bytes ps f =
@@ -113,7 +118,7 @@ value_fits order value e bytes ps f =
     let li = length-entry order value s.place (encode order value) in
     let far = f.far in
     let whole = f.whole in
-    subst (λ qs. All (FitsIn (length bytes)) qs) (sym f.is) (both (FitsIn (length bytes)) order value e s (omega arith) (omega arith))
+    subst (λ qs. All (FitsIn (length bytes)) qs) (sym f.is) (both (FitsIn (length bytes)) order value e s (λ z. omega arith) (omega arith))
 
 -- the bytes of neither the room nor the entry
 value_misses : (order : Order) (value : Value) (e : ℕ) (bytes : List ℕ) (ps : List Patch) (i : ℕ) → Fits order value e bytes ps
@@ -124,7 +129,7 @@ value_misses order value e bytes ps i f a b =
     let li = length-entry order value s.place (encode order value) in
     let x = subst (λ n. (i < s.place) ⊎ (s.place + n ≤ i)) (sym lo) (outside_place i s b) in
     let y = subst (λ n. (i < e + 2) ⊎ (e + 2 + n ≤ i)) (sym li) (outside_place i (record { place = e + 2; len = 10 }) a) in
-    subst (λ qs. All (Misses i) qs) (sym f.is) (both (Misses i) order value e s x y)
+    subst (λ qs. All (Misses i) qs) (sym f.is) (both (Misses i) order value e s (λ z. x) y)
 
 -- ---- the whole
 

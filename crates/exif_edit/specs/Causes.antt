@@ -17,6 +17,7 @@ pub data Cause : Type 0 where
   place_named : Cause
   shared : Cause
   scattered : Cause
+  picture : Cause
   wrong_header : Fault → Cause
   no_data : Refusal → Cause
 
@@ -32,6 +33,7 @@ cause_of error.ValueTooLong = Some too_long
 cause_of error.NamesPlaces = Some place_named
 cause_of error.SharedBytes = Some shared
 cause_of error.ScatteredData = Some scattered
+cause_of error.PictureData = Some picture
 cause_of (error.Header fault) = Some (wrong_header fault)
 cause_of (error.Container e) = no_data_by (refusal_of e)
 cause_of error.OutOfMemory = None
@@ -44,6 +46,7 @@ error_text error.ValueTooLong = Some (codes "The value is too long for its room"
 error_text error.NamesPlaces = Some (codes "The field says where other bytes stand")
 error_text error.SharedBytes = Some (codes "The bytes are shared with something else")
 error_text error.ScatteredData = Some (codes "The Exif data do not stand in one piece")
+error_text error.PictureData = Some (codes "The picture stands in the same data")
 error_text (error.Header fault) = Some (text_of fault)
 error_text (error.Container e) = failures.error_text e
 error_text error.OutOfMemory = Some (codes "Out of memory")

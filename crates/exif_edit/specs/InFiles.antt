@@ -3,8 +3,9 @@ use Rattle.std.specs.Prelude.{◌≡◌, ℕ, ◌+◌, ◌-◌, ◌<◌, ◌≤�
 use Rattle.std.specs.List.{find}
 use Rattle.std.specs.Str.{bytes_eq}
 use Rattle.exif_base.specs.Bytes.{bytes_at, spaced}
-use Rattle.exif_containers.specs.Container.{container_answer}
-use Rattle.exif_edit.specs.Causes.{Cause, of_container, or_cause, scattered, ◌>>=◌}
+use Rattle.exif_containers.specs.Container.{begins_tiff, container_answer}
+use Rattle.exif_edit.specs.Causes.{Cause, of_container, or_cause, picture, scattered, unless, ◌>>=◌}
+use Rattle.exif_edit.specs.Clearing.{clear_patches}
 use Rattle.exif_edit.specs.Patches.{patched}
 use Rattle.exif_edit.specs.declared.patch.Patch.{Patch}
 
@@ -48,9 +49,15 @@ in_file edit file = do
   patches ← edit old
   placed file old patches
 
+-- what erases all fields of the data of a file; of TIFF data it would be the picture too
+unfoldable pub clear_file_patches : Edit
+clear_file_patches file = do
+  a ← unless (begins_tiff file) picture
+  in_file clear_patches file
+
 -- the file with that
 abbrev pub edited_file : Edit → List ℕ → Result (List ℕ) Cause
-edited_file edit file = in_file edit file >>= λ patches. Ok (patched patches file)
+edited_file edit file = edit file >>= λ patches. Ok (patched patches file)
 
 -- the data of a file were edited where they stand, and all else is as it was
 pub record IsEditedIn (edit : Edit) (file out : List ℕ) : Type 0 where

@@ -24,6 +24,8 @@ pub enum Error {
     SharedBytes,
     /// The Exif data don't stand in the file in one piece.
     ScatteredData,
+    /// The file is TIFF data, which hold the picture too.
+    PictureData,
     /// The header of the data is wrong.
     Header(Fault),
     /// The file is refused by its container, or holds no Exif data.
@@ -74,6 +76,7 @@ impl fmt::Display for Error {
             Error::NamesPlaces => write!(f, "The field says where other bytes stand"),
             Error::SharedBytes => write!(f, "The bytes are shared with something else"),
             Error::ScatteredData => write!(f, "The Exif data do not stand in one piece"),
+            Error::PictureData => write!(f, "The picture stands in the same data"),
             Error::Header(fault) => write!(f, "{}", fault.message()),
             Error::Container(error) => write!(f, "{error}"),
             Error::OutOfMemory => write!(f, "Out of memory"),

@@ -3,16 +3,19 @@
 ghost use Rattle.std.specs.Prelude.{◌≡◌, ◌≤◌, ◌<◌, ◌+◌, ◌^◌, All, length, map, IfOk, OnOk};
 ghost use Rattle.exif_containers.specs.Container.{container_answer};
 ghost use Rattle.exif_edit.specs.Causes.{Edits, Makes, of_container};
+ghost use Rattle.exif_edit.specs.Clearing.{clear_patches};
 ghost use Rattle.exif_edit.specs.Erasing.{erase_patches};
-ghost use Rattle.exif_edit.specs.InFiles.{IsEditedIn, edited_file, holds, in_file, place_answer, placed, serves, shifted};
+ghost use Rattle.exif_edit.specs.InFiles.{IsEditedIn, clear_file_patches, edited_file, holds, in_file, place_answer, placed, serves, shifted};
 ghost use Rattle.exif_edit.specs.Patches.{FitsIn, patched};
 ghost use Rattle.exif_edit.specs.Setting.{set_patches};
 
+use crate::clear::erase_all_patches;
 use crate::erase::erase_places_patches;
 use crate::error::Error;
 use crate::patch::{Patch, apply, patched, put};
 use crate::set::set_value_patches;
 use exif_base::Counted;
+use exif_containers::container::is_tiff;
 use exif_containers::exif_attr_of_stream;
 use exif_types::{In, Tag, Value};
 use std::alloc::{AllocError, Global};
@@ -158,6 +161,29 @@ pub fn erase_places_patches_in_file(alloc: Global, file: &[u8]) -> Result<Vec<Pa
     Ok(placed)
 }
 
+/// What [`erase_all_in_file`] puts over the file, as data. The file stays as it is.
+pub fn erase_all_patches_in_file(alloc: Global, file: &[u8]) -> Result<Vec<Patch>, Error>
+    ensures answer { Makes (λ ps. ps.items) result (clear_file_patches file.now) }
+    ensures within { IfOk result (λ ps. All (FitsIn (length file.now)) ps.items) }
+{
+    if is_tiff(file) {
+        return Err(Error::PictureData);
+    }
+    let cleared = cleared_in(alloc, file)?;
+    Ok(cleared)
+}
+
+// The patches that erase all fields of the data of a file.
+fn cleared_in(alloc: Global, file: &[u8]) -> Result<Vec<Patch>, Error>
+    ensures answer { Makes (λ ps. ps.items) result (in_file clear_patches file.now) }
+    ensures within { IfOk result (λ ps. All (FitsIn (length file.now)) ps.items) }
+{
+    let old = data_of(alloc, file)?;
+    let patches = erase_all_patches(alloc, old.as_slice())?;
+    let placed = placed(alloc, file, old.as_slice(), patches)?;
+    Ok(placed)
+}
+
 /// Sets a value in the Exif data of a file.
 pub fn set_value_in_file(
     alloc: Global,
@@ -167,7 +193,7 @@ pub fn set_value_in_file(
     value: &Value,
 ) -> Result<(), Error>
     ensures answer { Edits result file.old file.new
-        (edited_file (λ old. set_patches old tag ifd_num value.now) file.old) }
+        (edited_file (in_file (λ old. set_patches old tag ifd_num value.now)) file.old) }
     ensures edited { OnOk result
         (IsEditedIn (λ old. set_patches old tag ifd_num value.now) file.old file.new) }
 {
@@ -178,10 +204,21 @@ pub fn set_value_in_file(
 
 /// Erases the places in the Exif data of a file.
 pub fn erase_places_in_file(alloc: Global, file: &mut [u8]) -> Result<(), Error>
-    ensures answer { Edits result file.old file.new (edited_file erase_patches file.old) }
+    ensures answer { Edits result file.old file.new (edited_file (in_file erase_patches) file.old) }
     ensures edited { OnOk result (IsEditedIn erase_patches file.old file.new) }
 {
     let patches = erase_places_patches_in_file(alloc, file)?;
+    apply(patches.as_slice(), file);
+    Ok(())
+}
+
+/// Erases all fields of the Exif data of a file, but not of a TIFF file, whose picture stands in the
+/// same data.
+pub fn erase_all_in_file(alloc: Global, file: &mut [u8]) -> Result<(), Error>
+    ensures answer { Edits result file.old file.new (edited_file clear_file_patches file.old) }
+    ensures edited { OnOk result (IsEditedIn clear_patches file.old file.new) }
+{
+    let patches = erase_all_patches_in_file(alloc, file)?;
     apply(patches.as_slice(), file);
     Ok(())
 }

@@ -1,0 +1,37 @@
+-- All fields erased: the header stays, and no directory is left.
+use Rattle.std.specs.Prelude.{◌≡◌, ℕ, ◌-◌, ◌≤◌, nat_lt, List, [], ◌∷◌, length, slice_index, Bool, None, Result, Ok, if◌then◌else◌}
+use Rattle.exif_base.specs.declared.endian.Order.{Order}
+use Rattle.exif_tiff.specs.Answers.{Whole, raw_answer}
+use Rattle.exif_tiff.specs.Trace.{header}
+use Rattle.exif_writer.specs.Encoding.{spelled}
+use Rattle.exif_edit.specs.Causes.{Cause, of_data, ◌>>=◌}
+use Rattle.exif_edit.specs.Patches.{patched, zeros_over}
+use Rattle.exif_edit.specs.declared.patch.Patch.{Patch}
+
+-- where the directory of the chain stands then: behind the header, or nowhere where there is no room for
+-- its count and its next place
+abbrev pub empty_place : ℕ → ℕ
+empty_place total = if nat_lt total 14 then 0 else 8
+
+-- the place of the first directory, and zeros behind the header
+abbrev pub clearing : Order → ℕ → List Patch
+clearing order total =
+    record { place = 4; text = spelled order 4 (empty_place total) }
+    ∷ zeros_over (record { place = 8; len = total - 8 }) ∷ []
+
+-- what erases all fields, or the fault of the header
+unfoldable pub clear_patches : List ℕ → Result (List Patch) Cause
+clear_patches bytes = do
+  order ← of_data (header bytes)
+  Ok (clearing order (length bytes))
+
+-- the data without them
+abbrev pub clear_answer : List ℕ → Result (List ℕ) Cause
+clear_answer bytes = clear_patches bytes >>= λ patches. Ok (patched patches bytes)
+
+-- the byte order and the number 42 stay, and the data hold no field and no fault
+pub record IsCleared (old new : List ℕ) : Type 0 where
+  pub as_long : length new ≡ length old
+  pub header : header new ≡ header old
+  pub zeros : (i : ℕ) → 8 ≤ i → slice_index new i ≡ 0
+  pub reads : (lenient : Bool) → raw_answer lenient None new ≡ Whole []

@@ -1,0 +1,91 @@
+//! All fields erased: the header stays, and no directory is left.
+
+ghost use Rattle.std.specs.Prelude.{◌≡◌, ◌≤◌, ◌-◌, ◌<◌, ◌^◌, All, length, replicate, IfOk, OnOk};
+ghost use Rattle.exif_writer.specs.Encoding.{spelled};
+ghost use Rattle.exif_edit.specs.Causes.{Edits, Makes};
+ghost use Rattle.exif_edit.specs.Clearing.{IsCleared, clear_answer, clear_patches, clearing, empty_place};
+ghost use Rattle.exif_edit.specs.Patches.{FitsIn, put_at};
+
+use crate::error::Error;
+use crate::patch::{Patch, Span, zeros};
+use exif_base::{BigEndian, Endian, Items, LittleEndian, Order};
+use exif_reader::tiff::header;
+use exif_writer::item::spelled_u32;
+use std::alloc::{AllocError, Global};
+
+// Where the directory of the chain stands in data of a length: behind the header, if there is
+// room for its count and its next place.
+fn empty_place(total: usize) -> u32
+    ensures { result ≡ empty_place total }
+{
+    if total < 14 { 0 } else { 8 }
+}
+
+// Puts the place of the first directory into the header.
+fn put_first(order: Order, bytes: &mut [u8], place: u32)
+    requires { 8 ≤ length bytes.old }
+    ensures value { bytes.new ≡ put_at 4 (spelled order 4 place) bytes.old }
+    ensures len { length bytes.new ≡ length bytes.old }
+{
+    match order {
+        Order::Big => BigEndian::writeu32(bytes, 4, place),
+        Order::Little => LittleEndian::writeu32(bytes, 4, place),
+    }
+}
+
+// Puts zeros over all bytes behind the header.
+fn zero_behind(bytes: &mut [u8])
+    requires { 8 ≤ length bytes.old }
+    ensures value { bytes.new ≡ put_at 8 (replicate (length bytes.old - 8) 0) bytes.old }
+    ensures len { length bytes.new ≡ length bytes.old }
+{
+    bytes[8..].fill(0);
+}
+
+// What clears data of a length.
+fn clearing(alloc: Global, order: Order, total: usize) -> Result<Vec<Patch>, AllocError>
+    ensures { IfOk result (λ ps. ps.items ≡ clearing order total) }
+{
+    let text = Vec::from_slice(alloc, &spelled_u32(order, empty_place(total)))?;
+    let mut patches = Vec::with_capacity(alloc, 2)?;
+    patches.push(Patch {
+        place: 4,
+        text: Items::from_vec(text),
+    })?;
+    let behind = Span {
+        place: 8,
+        len: total.saturating_sub(8),
+    };
+    let patch = zeros(alloc, behind)?;
+    patches.push(patch)?;
+    Ok(patches)
+}
+
+/// What [`erase_all`] puts over the data, as data. The data stay as they are.
+pub fn erase_all_patches(alloc: Global, bytes: &[u8]) -> Result<Vec<Patch>, Error>
+    ensures answer { Makes (λ ps. ps.items) result (clear_patches bytes.now) }
+    ensures within { IfOk result (λ ps. All (FitsIn (length bytes.now)) ps.items) }
+{
+    let order = match header(bytes) {
+        Ok(order) => order,
+        Err(fault) => return Err(Error::Header(fault)),
+    };
+    let patches = clearing(alloc, order, bytes.len())?;
+    Ok(patches)
+}
+
+/// Erases all fields: the byte order and the number 42 stay, and all behind them becomes zero, but
+/// for the place of an empty directory. It takes no memory.
+pub fn erase_all(bytes: &mut [u8]) -> Result<(), Error>
+    ensures answer { Edits result bytes.old bytes.new (clear_answer bytes.old) }
+    ensures cleared { OnOk result (IsCleared bytes.old bytes.new) }
+{
+    match header(bytes) {
+        Ok(order) => {
+            put_first(order, bytes, empty_place(bytes.len()));
+            zero_behind(bytes);
+            Ok(())
+        }
+        Err(fault) => Err(Error::Header(fault)),
+    }
+}

@@ -1,0 +1,19 @@
+//! Laws of edits. They hold for all bytes, and speak of the definitions alone.
+
+ghost use Rattle.std.specs.Prelude.{ℕ, List};
+ghost use Rattle.exif_types.specs.declared.ifd.In.{In as Ifd};
+ghost use Rattle.exif_types.specs.declared.tag.Tag.{Tag as Name};
+ghost use Rattle.exif_types.specs.declared.value.Value.{Value as Content};
+ghost use Rattle.exif_edit.specs.Promises.{LocatesWhatIsRead, SetsBack};
+
+/// The fields that an edit locates are those that reading gives, in their order.
+pub fn located_fields_are_read()
+    ensures { (bytes : List ℕ) → LocatesWhatIsRead bytes }
+{}
+
+/// Where the value that stood there is set again, the bytes are as they were before, if the room
+/// of the value is the same: so it is where the new value was as long.
+pub fn the_old_value_is_set_back()
+    ensures { (bytes : List ℕ) (tag : Name) (k : Ifd) (value first : Content)
+        → SetsBack tag k value first bytes }
+{}
