@@ -1,0 +1,42 @@
+//! What edits make of small files, byte for byte.
+
+mod files;
+mod places;
+mod texts;
+mod values;
+
+use exif_base::Items;
+use exif_edit::Error;
+use exif_types::{Context, Tag, Value};
+use std::alloc::{AllocError, Global};
+
+/// The tag of an image description.
+pub const DESCRIPTION: Tag = Tag(Context::Tiff, 0x10e);
+
+/// A value of one text.
+pub fn text(alloc: Global, bytes: &[u8]) -> Result<Value, AllocError> {
+    let mut texts = Vec::new(alloc);
+    texts.push(Items::from_slice(alloc, bytes)?)?;
+    Ok(Value::Ascii(Items::from_vec(texts)))
+}
+
+/// The bytes between two places, or none where they don't stand.
+pub fn part(bytes: &[u8], from: usize, to: usize) -> &[u8] {
+    bytes.get(from..to).unwrap_or(&[])
+}
+
+/// Whether the bytes are zeros from a place on, up to another.
+pub fn is_zero(bytes: &[u8], from: usize, to: usize) -> bool {
+    part(bytes, from, to).iter().all(|byte| *byte == 0)
+}
+
+/// Whether an answer is the refusal whose text this is.
+pub fn refuses(alloc: Global, answer: &Result<(), Error>, text: &str) -> Result<bool, AllocError> {
+    match answer {
+        Ok(()) => Ok(false),
+        Err(error) => {
+            let shown = format!(in alloc; "{error}")?;
+            Ok(shown.as_str() == text)
+        }
+    }
+}
