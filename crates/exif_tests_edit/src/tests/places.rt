@@ -32,15 +32,20 @@ fn what_is_behind_a_place_stays(rt: HostRuntime) -> Result<(), Fail> {
     Ok(())
 }
 
+// Data without a place.
+static PLAIN: [&[u8]; 2] = [DESCRIBED_BIG, NOTHING];
+
 #[test]
 fn without_a_place_nothing_changes(rt: HostRuntime) -> Result<(), Fail> {
     let alloc = rt.alloc();
-    for old in [DESCRIBED_BIG, NOTHING] {
+    for old in &PLAIN {
         let mut bytes = Vec::from_slice(alloc, old)?;
         assert!(rt; erase_places(alloc, bytes.as_mut_slice()).is_ok());
-        assert!(rt; bytes.as_slice() == old);
-        let patches = erase_places_patches(alloc, old);
-        assert!(rt; matches!(patches, Ok(patches) if patches.is_empty()));
+        assert!(rt; bytes.as_slice() == *old);
+        match erase_places_patches(alloc, old) {
+            Ok(patches) => assert!(rt; patches.is_empty()),
+            Err(_) => assert!(rt; false),
+        }
     }
     Ok(())
 }
