@@ -1,4 +1,5 @@
-use Rattle.std.proofs.Common.{◌-◌, length, rules}
+use Rattle.std.proofs.lemmas.Grind.{common_steps}
+use Rattle.std.proofs.Common.{arith, length, rules, ◌-◌}
 use Rattle.exif_base.proofs.ReadSteps.{consumes_append, take_filled}
 use Rattle.exif_base.proofs.read.read_front.Goals as goal
 
@@ -10,3 +11,6 @@ loop-at-preserved g c = record {
   count = search rules;
   same = search rules;
 }
+
+pub returns-then-n-eq0-clause-taken : goal.returns-then-n-eq0-clause-taken
+returns-then-n-eq0-clause-taken g c = grind (arith, common_steps)

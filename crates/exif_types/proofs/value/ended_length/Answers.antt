@@ -1,4 +1,5 @@
-use Rattle.std.proofs.Common.{length, ap, take, rules}
+use Rattle.std.proofs.lemmas.Grind.{common_steps}
+use Rattle.std.proofs.Common.{ap, arith, length, rules, take}
 use Rattle.exif_types.proofs.ValueLemmas.{ended_within}
 use Rattle.exif_types.specs.Texts.{ended_length}
 use Rattle.exif_types.proofs.value.ended_length.Goals as goal
@@ -10,3 +11,6 @@ returns-in_err-length c =
     let item = ap length c.as_slice.ensures in
     let room = ended_within c.as_slice-text-items.result.now c.loop-text.text-index c.text-item.result c.text-item.result c.loop-text-test.true c.text-item.is in
     search rules
+
+pub loop-text-preserved : goal.loop-text-preserved
+loop-text-preserved c = grind (arith, common_steps)

@@ -1,4 +1,4 @@
-use Rattle.std.proofs.Common.{◌≤◌, arith, rules}
+use Rattle.std.proofs.Common.{arith, rules, ◌≤◌}
 use Rattle.std.proofs.lemmas.List.{length-take-le}
 use Rattle.exif_base.proofs.ReadSteps.{skips_more}
 use Rattle.exif_base.proofs.device.Source.skip.Goals as goal
@@ -12,3 +12,6 @@ loop-rest-preserved g c =
       count = search rules;
       same = search rules;
     }
+
+pub returns-then-n-eq0-clause-bytes : goal.returns-then-n-eq0-clause-bytes
+returns-then-n-eq0-clause-bytes g c = search rules
