@@ -176,7 +176,11 @@ pub fn erase_places_patches(alloc: Global, bytes: &[u8]) -> Result<Vec<Patch>, E
     }
 }
 
-/// Puts zeros over the GPS directories and their values.
+/// Puts zeros over the GPS directories of the chain and over their values. The pointers stay, to
+/// empty directories. Places in XMP, in maker notes and in bytes that nothing points to stay too.
+///
+/// Refusals are `Header` and `SharedBytes`. It takes the memory of two readings, of a copy of the
+/// data and of the zeros.
 pub fn erase_places(alloc: Global, bytes: &mut [u8]) -> Result<(), Error>
     ensures answer { Edits result bytes.old bytes.new (erase_answer bytes.old) }
     ensures erased { OnOk result (IsErased bytes.old bytes.new) }

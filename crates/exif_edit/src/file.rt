@@ -184,7 +184,10 @@ fn cleared_in(alloc: Global, file: &[u8]) -> Result<Vec<Patch>, Error>
     Ok(placed)
 }
 
-/// Sets a value in the Exif data of a file.
+/// Sets a value in the Exif data of a file: TIFF data, a JPEG stream, a WebP file or a HEIF file
+/// whose item stands in one piece.
+///
+/// Refusals are those of [`set_value`](crate::set_value), `Container` and `ScatteredData`.
 pub fn set_value_in_file(
     alloc: Global,
     file: &mut [u8],
@@ -202,7 +205,9 @@ pub fn set_value_in_file(
     Ok(())
 }
 
-/// Erases the places in the Exif data of a file.
+/// Erases the places in the Exif data of a file of each container.
+///
+/// Refusals are those of [`erase_places`](crate::erase_places), `Container` and `ScatteredData`.
 pub fn erase_places_in_file(alloc: Global, file: &mut [u8]) -> Result<(), Error>
     ensures answer { Edits result file.old file.new (edited_file (in_file erase_patches) file.old) }
     ensures edited { OnOk result (IsEditedIn erase_patches file.old file.new) }

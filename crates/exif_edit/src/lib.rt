@@ -1,5 +1,15 @@
-//! Exif data edited where they stand: a value set, or places erased, and not one other byte
-//! changed.
+//! Exif data edited where they stand: a value set, places erased, all fields erased, and not one
+//! other byte changed.
+//!
+//! Each edit comes in three forms: over data in memory, over a file in memory, and as patches, for
+//! a program that writes into a file by a seek. An error leaves all bytes as they were. What an
+//! edit makes is read again before it is answered; data that would read otherwise are refused.
+//!
+//! ```
+//! let value = Value::Short(Items::from_slice(alloc, &[6])?);
+//! set_value_in_file(alloc, &mut file, Tag::Orientation, In::PRIMARY, &value)?;
+//! erase_places_in_file(alloc, &mut file)?;
+//! ```
 #![tactic(auto)]
 
 mod clear;

@@ -224,7 +224,12 @@ fn checked_patches(
     }
 }
 
-/// Puts a value in the place of the last one of a name.
+/// Puts a value in the place of the last one of a name: into its entry where it takes at most four
+/// bytes, else where the old one stands. The type, the count and the place of the entry follow, and
+/// spare bytes become zero.
+///
+/// Refusals are `NamesPlaces`, `UnknownType`, `Header`, `FieldNotFound`, `ValueTooLong` and
+/// `SharedBytes`. It takes the memory of two readings and of a copy of the data.
 pub fn set_value(
     alloc: Global,
     bytes: &mut [u8],
