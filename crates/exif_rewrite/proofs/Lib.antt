@@ -3,5 +3,7 @@ pub mod JpegLaws
 pub mod JpegSteps
 pub mod JpegTokens
 pub mod Passing
+pub mod WebpAnswers
 pub mod WebpLaws
 pub mod WebpSteps
+pub mod WebpTwice

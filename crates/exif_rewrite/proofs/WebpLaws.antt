@@ -20,7 +20,7 @@ use Rattle.exif_rewrite.proofs.WebpSteps.{body_step}
 less_no : (n m : ℕ) → m ≤ n → ltb n m ≡ false
 less_no n m h = grind (arith, nat_tests)
 
-spelled : (n : ℕ) (rest : List ℕ) → n < 4294967296 → little_number 4 (to_le_bytes w32 n ++ rest) ≡ n
+pub spelled : (n : ℕ) (rest : List ℕ) → n < 4294967296 → little_number 4 (to_le_bytes w32 n ++ rest) ≡ n
 spelled n rest h = omega arith
 
 padded_is : (n room : ℕ) → n + length (pad_of n) ≤ room → padded n room ≡ n + length (pad_of n)
@@ -60,7 +60,7 @@ behind_back name payload rest room h =
         ap (drop (length payload + length (pad_of (length payload)))) (sym (append_assoc payload (pad_of (length payload)) rest))
         ∙ drop_at (payload ++ pad_of (length payload)) rest (length payload + length (pad_of (length payload))) (length-append payload (pad_of (length payload)))
 
-text_len : (c : Chunk) → length c.name ≡ 4 → length (chunk_text c) ≡ 8 + (length c.payload + length (pad_of (length c.payload)))
+pub text_len : (c : Chunk) → length c.name ≡ 4 → length (chunk_text c) ≡ 8 + (length c.payload + length (pad_of (length c.payload)))
 text_len c e =
     let a = length-append c.name (to_le_bytes w32 (length c.payload) ++ (c.payload ++ pad_of (length c.payload))) in
     let b = length-append (to_le_bytes w32 (length c.payload)) (c.payload ++ pad_of (length c.payload)) in
@@ -195,19 +195,15 @@ body_names (suc n) room bytes body e = by (eqb room 0) (first_chunk room bytes) 
 -- ---- a file that was written
 
 -- what a file was read and written as
-record Written (remove : Remove) (put : Option (List ℕ)) (bytes out : List ℕ) : Type 0 where
-  body : Body
-  made : Option (List ℕ)
-  read : file_body bytes ≡ Ok body
-  canvas_is : canvas_where put (staying remove body.chunks) ≡ Ok made
-  small : 4 + length (chunks_text (new_chunks remove put (staying remove body.chunks) made)) < 4294967296
-  out_is : out ≡ file_text (4 + length (chunks_text (new_chunks remove put (staying remove body.chunks) made))) (new_chunks remove put (staying remove body.chunks) made) ++ behind remove body.rest
+pub record Written (remove : Remove) (put : Option (List ℕ)) (bytes out : List ℕ) : Type 0 where
+  pub body : Body
+  pub made : Option (List ℕ)
+  pub read : file_body bytes ≡ Ok body
+  pub canvas_is : canvas_where put (staying remove body.chunks) ≡ Ok made
+  pub small : 4 + length (chunks_text (new_chunks remove put (staying remove body.chunks) made)) < 4294967296
+  pub out_is : out ≡ file_text (4 + length (chunks_text (new_chunks remove put (staying remove body.chunks) made))) (new_chunks remove put (staying remove body.chunks) made) ++ behind remove body.rest
 
-text_in : Result (List ℕ) Refusal → List ℕ
-text_in (Ok text) = text
-text_in (Err r) = []
-
-is_written : (remove : Remove) (put : Option (List ℕ)) (bytes out : List ℕ) → webp_rewriting remove put bytes ≡ Ok out → Written remove put bytes out
+pub is_written : (remove : Remove) (put : Option (List ℕ)) (bytes out : List ℕ) → webp_rewriting remove put bytes ≡ Ok out → Written remove put bytes out
 is_written remove put bytes out e = of_body (file_body bytes) refl e
   where
     new : Body → Option (List ℕ) → List Chunk
@@ -243,7 +239,7 @@ is_written remove put bytes out e = of_body (file_body bytes) refl e
 
 -- ---- the names of the new chunks
 
-all_join : (P : Chunk → Type 0) (xs ys : List Chunk) → AllByRecursion P xs → AllByRecursion P ys → AllByRecursion P (xs ++ ys)
+pub all_join : (P : Chunk → Type 0) (xs ys : List Chunk) → AllByRecursion P xs → AllByRecursion P ys → AllByRecursion P (xs ++ ys)
 all_join P [] ys h k = k
 all_join P (x ∷ xs) ys h k = (h.0, all_join P xs ys h.1 k)
 
@@ -251,7 +247,7 @@ name_kept : (remove : Remove) (put t : Bool) (c : Chunk) → HasName c → HasNa
 name_kept remove put true c h = h
 name_kept remove put false c h = h
 
-names_stay : (remove : Remove) (put : Bool) (cs : List Chunk) → AllByRecursion HasName cs → AllByRecursion HasName (map (settled remove put) (staying remove cs))
+pub names_stay : (remove : Remove) (put : Bool) (cs : List Chunk) → AllByRecursion HasName cs → AllByRecursion HasName (map (settled remove put) (staying remove cs))
 names_stay remove put [] h = tt
 names_stay remove put (c ∷ cs) h = by (chunk_stays remove c) (names_stay remove put cs h.1)
   where
@@ -259,11 +255,11 @@ names_stay remove put (c ∷ cs) h = by (chunk_stays remove c) (names_stay remov
     by true ih = (name_kept remove put (is (codes "VP8X") c) c h.0, ih)
     by false ih = ih
 
-named_chunk : (name : List ℕ) (payload : Option (List ℕ)) → length name ≡ 4 → AllByRecursion HasName (chunk_named name payload)
+pub named_chunk : (name : List ℕ) (payload : Option (List ℕ)) → length name ≡ 4 → AllByRecursion HasName (chunk_named name payload)
 named_chunk name None h = tt
 named_chunk name (Some payload) h = (h, tt)
 
-body_has_names : (bytes : List ℕ) (body : Body) → file_body bytes ≡ Ok body → AllByRecursion HasName body.chunks
+pub body_has_names : (bytes : List ℕ) (body : Body) → file_body bytes ≡ Ok body → AllByRecursion HasName body.chunks
 body_has_names bytes body = by (header_room bytes)
   where
     by : (o : Result ℕ Refusal) → (o >>= λ room. body_of room (drop 12 bytes)) ≡ Ok body → AllByRecursion HasName body.chunks
@@ -275,16 +271,16 @@ new_names remove put made bytes body h =
     all_join HasName (chunk_named (codes "VP8X") made) _ (named_chunk (codes "VP8X") made refl)
     (all_join HasName (map (settled remove (is_put put)) (staying remove body.chunks)) _ (names_stay remove (is_put put) body.chunks (body_has_names bytes body h)) (named_chunk (codes "EXIF") put refl))
 
+-- what was written is read as its chunks
+pub written_back : (remove : Remove) (put : Option (List ℕ)) (bytes out : List ℕ) (w : Written remove put bytes out)
+    → file_body out ≡ Ok (record { chunks = new_chunks remove put (staying remove w.body.chunks) w.made; rest = behind remove w.body.rest })
+written_back remove put bytes out w =
+    ap file_body w.out_is ∙ file_back (new_chunks remove put (staying remove w.body.chunks) w.made) (behind remove w.body.rest) _ (new_names remove put w.made bytes w.body w.read) refl w.small
+
 pub file_filtered : (remove : Remove) (put : Option (List ℕ)) (bytes : List ℕ) → FileIsFiltered remove put bytes
 file_filtered remove put bytes out e =
     let w = is_written remove put bytes out e in
-    record {
-      body = w.body;
-      made = w.made;
-      read = w.read;
-      canvas_is = w.canvas_is;
-      written = ap file_body w.out_is ∙ file_back (new_chunks remove put (staying remove w.body.chunks) w.made) (behind remove w.body.rest) _ (new_names remove put w.made bytes w.body w.read) refl w.small;
-    }
+    record { body = w.body; made = w.made; read = w.read; canvas_is = w.canvas_is; written = written_back remove put bytes out w }
 
 -- ---- nothing but the image
 

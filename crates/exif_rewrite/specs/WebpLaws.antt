@@ -1,11 +1,29 @@
 -- What holds of WebP files that are written again.
 use Rattle.std.specs.Prelude.{◌≡◌, ℕ, ◌+◌, List, ◌⊎◌, length, codes, true, Option, None, Some, Ok}
 use Rattle.std.specs.List.{AllByRecursion}
+use Rattle.exif_containers.specs.Answer.{found, refused}
+use Rattle.exif_containers.specs.Webp.{webp_answer, no_exif_in_webp}
 use Rattle.exif_rewrite.specs.declared.remove.Remove.{Remove}
 use Rattle.exif_rewrite.specs.declared.remove.Remove.TheVariants.{Metadata}
 use Rattle.exif_rewrite.specs.RewrittenJpeg.{behind}
 use Rattle.exif_rewrite.specs.RewrittenWebp.{is_image, staying, canvas_where, new_chunks, webp_rewriting}
 use Rattle.exif_rewrite.specs.WebpChunks.{Chunk, Body, file_body, chunks_text, file_text}
+
+-- a file answers these Exif data, or that there are none
+abbrev pub FileAnswers : Option (List ℕ) → List ℕ → Type 0
+FileAnswers None bytes = webp_answer bytes ≡ refused no_exif_in_webp
+FileAnswers (Some payload) bytes = (rest : List ℕ) × (webp_answer bytes ≡ found payload rest)
+
+-- what comes out answers what was put
+abbrev pub FileIsAnswered : Remove → Option (List ℕ) → List ℕ → Type 0
+FileIsAnswered remove put bytes =
+    (out : List ℕ) → webp_rewriting remove put bytes ≡ Ok out → FileAnswers put out
+
+-- written again twice is written again once
+abbrev pub FileIsStable : Remove → Option (List ℕ) → List ℕ → Type 0
+FileIsStable remove put bytes =
+    (out : List ℕ) → webp_rewriting remove put bytes ≡ Ok out
+    → webp_rewriting remove put out ≡ Ok out
 
 -- what came out has the chunks that stay, in their order, with a canvas where one was made and the
 -- new data behind them, and then what stays behind the body

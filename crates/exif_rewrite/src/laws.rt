@@ -4,7 +4,7 @@ ghost use Rattle.std.specs.Prelude.{ℕ, List, Option};
 ghost use Rattle.exif_rewrite.specs.declared.remove.Remove.{Remove};
 ghost use Rattle.exif_rewrite.specs.JpegTokens.{HasOnlyBare, IsFiltered};
 ghost use Rattle.exif_rewrite.specs.JpegLaws.{IsAnswered, IsStable};
-ghost use Rattle.exif_rewrite.specs.WebpLaws.{FileIsBare, FileIsFiltered};
+ghost use Rattle.exif_rewrite.specs.WebpLaws.{FileIsAnswered, FileIsBare, FileIsFiltered, FileIsStable};
 
 /// A JPEG stream that was written again stays as it is when it is so written again.
 pub fn jpeg_twice_is_once()
@@ -44,4 +44,16 @@ pub fn webp_keeps_what_stays()
 /// new one, and nothing else.
 pub fn webp_leaves_no_metadata()
     ensures { (put : Option (List ℕ)) (bytes : List ℕ) → FileIsBare put bytes }
+{}
+
+/// A WebP file that was written again answers the new Exif data, or that there are none.
+pub fn webp_answers_what_was_put()
+    ensures { (remove : Remove) (put : Option (List ℕ)) (bytes : List ℕ)
+        → FileIsAnswered remove put bytes }
+{}
+
+/// A WebP file that was written again stays as it is when it is so written again.
+pub fn webp_twice_is_once()
+    ensures { (remove : Remove) (put : Option (List ℕ)) (bytes : List ℕ)
+        → FileIsStable remove put bytes }
 {}
