@@ -11,7 +11,8 @@ use Rattle.exif_rewrite.specs.Rewriting.{Rewriting, End, finished, cut_off, refu
 use Rattle.exif_rewrite.specs.RewrittenJpeg.{rewriting, rewritten_unit, waiting}
 
 -- what a unit and the bytes behind it become
-abbrev pub unit_rewriting : Remove → List ℕ → Bool → ℕ → ℕ → List ℕ → List ℕ → Rewriting
+abbrev pub unit_rewriting : Remove → List ℕ → Bool → ℕ → ℕ → List ℕ → List ℕ
+    → Rewriting
 unit_rewriting remove new scanned n code body rest =
     rewritten_unit remove new scanned n (record { code = code; body = body; rest = rest })
     (rewriting remove)
@@ -19,16 +20,18 @@ unit_rewriting remove new scanned n code body rest =
 -- a code brings this body, whatever follows
 abbrev pub Brings : ℕ → List ℕ → Type 0
 Brings code body = (rest : List ℕ)
-    → unit_from_code (code ∷ (body ++ rest)) ≡ Some (record { code = code; body = body; rest = rest })
+    → unit_from_code (code ∷ (body ++ rest))
+    ≡ Some (record { code = code; body = body; rest = rest })
 
 -- a step went over a unit to the next stage, to the end of the image, or the bytes ended
-abbrev pub Steps : Step → Remove → List ℕ → List ℕ → Option (List ℕ) → Option (List ℕ)
-    → Option (List ℕ) → Option (List ℕ) → (List ℕ → Rewriting) → Type 0
+abbrev pub Steps : Step → Remove → List ℕ → List ℕ → Option (List ℕ)
+    → Option (List ℕ) → Option (List ℕ) → Option (List ℕ) → (List ℕ → Rewriting) → Type 0
 Steps (step.On stage) remove payload new old left taken taken' f =
     Passes old left taken taken'
     (Follows f (rewriting remove (waiting stage.waits payload) stage.scanned))
 Steps step.Whole remove payload new old left taken taken' f = Finishes finished old taken taken' f
-Steps step.Cut remove payload new old left taken taken' f = Finishes (cut_off new) old taken taken' f
+Steps step.Cut remove payload new old left taken taken' f =
+    Finishes (cut_off new) old taken taken' f
 
 -- what ends a rewriting that ended so
 abbrev pub end_of : Ended → List ℕ → End

@@ -1,4 +1,5 @@
 pub mod Faults
+pub mod JpegExamples
 pub mod JpegLaws
 pub mod JpegSteps
 pub mod JpegTokens

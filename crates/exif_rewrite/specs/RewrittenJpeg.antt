@@ -98,7 +98,7 @@ rewritten_unit remove new scanned n u next =
     after (kept remove scanned n u.code u.body)
     (next (still u.code new) (scanned || (u.code == 218)) u.rest))
 
--- bytes that begin no whole unit, or one: what is no ff, the new segment where it goes, and the unit
+-- bytes that begin no whole unit, or one: what is no ff, the new segment where it goes, the unit
 abbrev pub rewritten_first : Remove → List ℕ → Bool → List ℕ → Option JpegUnit
     → (List ℕ → Bool → List ℕ → Rewriting) → Rewriting
 rewritten_first remove new scanned bytes None next =

@@ -72,7 +72,8 @@ extended flags width height =
 -- the canvas of a lossy image: a key frame's tag, 9d 01 2a, and two sizes of 14 bits
 abbrev pub lossy : List ℕ → Option (List ℕ)
 lossy p =
-    if nat_lt (length p) 10 || not (bytes_eq (take 3 (drop 3 p)) (157 ∷ 1 ∷ 42 ∷ [])) then None else
+    if nat_lt (length p) 10
+    || not (bytes_eq (take 3 (drop 3 p)) (157 ∷ 1 ∷ 42 ∷ [])) then None else
     Some (extended 8 (little_number 2 (drop 6 p) % 16384) (little_number 2 (drop 8 p) % 16384))
 
 -- the canvas of a lossless image: 2f, two sizes less one of 14 bits, and whether it has alpha
@@ -115,7 +116,8 @@ is_put (Some payload) = true
 
 -- a canvas, the chunks that stay with their flags right, and new data: metadata may stand anywhere,
 -- so new ones stand last
-abbrev pub new_chunks : Remove → Option (List ℕ) → List Chunk → Option (List ℕ) → List Chunk
+abbrev pub new_chunks : Remove → Option (List ℕ) → List Chunk → Option (List ℕ)
+    → List Chunk
 new_chunks remove put cs made =
     chunk_named (codes "VP8X") made
     ++ (map (settled remove (is_put put)) cs ++ chunk_named (codes "EXIF") put)
@@ -139,4 +141,5 @@ webp_rewriting remove put bytes =
 -- all refusals of a WebP file that is written again
 abbrev pub webp_rewriting_refusals : List Refusal
 webp_rewriting_refusals =
-    broken_webp ∷ not_webp ∷ invalid_file_size ∷ overflowing ∷ no_canvas ∷ too_large ∷ []
+    broken_webp ∷ not_webp ∷ invalid_file_size ∷ overflowing ∷ no_canvas ∷ too_large
+    ∷ []

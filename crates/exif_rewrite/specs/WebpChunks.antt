@@ -74,7 +74,8 @@ pad_of len = if len % 2 == 1 then 0 ∷ [] else []
 
 -- the bytes of a chunk
 abbrev pub chunk_text : Chunk → List ℕ
-chunk_text c = c.name ++ (to_le_bytes w32 (length c.payload) ++ (c.payload ++ pad_of (length c.payload)))
+chunk_text c =
+    c.name ++ (to_le_bytes w32 (length c.payload) ++ (c.payload ++ pad_of (length c.payload)))
 
 -- the bytes of chunks
 abbrev pub chunks_text : List Chunk → List ℕ

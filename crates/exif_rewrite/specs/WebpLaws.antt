@@ -40,7 +40,8 @@ pub record IsFilteredFile (remove : Remove) (put : Option (List ℕ)) (bytes out
 -- so of each file that is not refused
 abbrev pub FileIsFiltered : Remove → Option (List ℕ) → List ℕ → Type 0
 FileIsFiltered remove put bytes =
-    (out : List ℕ) → webp_rewriting remove put bytes ≡ Ok out → IsFilteredFile remove put bytes out
+    (out : List ℕ) → webp_rewriting remove put bytes ≡ Ok out
+    → IsFilteredFile remove put bytes out
 
 -- a chunk that is left where all metadata go: one of the image, or the new data
 abbrev pub IsBareChunk : Option (List ℕ) → Chunk → Type 0

@@ -61,6 +61,7 @@ plan_view p =
     ++ (named_text (codes "EXIF") (payload_of p.put) ++ p.tail.now)))
 
 -- what an error left: a refusal is that of the file, and sent nothing; an interruption sent a front
-abbrev pub StopsFile : Failure → Option (List ℕ) → Option (List ℕ) → Result (List ℕ) Refusal → Type 0
+abbrev pub StopsFile : Failure → Option (List ℕ) → Option (List ℕ)
+    → Result (List ℕ) Refusal → Type 0
 StopsFile e taken taken' answer =
     MatchOption (refusal_of e) (IfOk answer (SendsFront taken taken')) (λ r. answer ≡ Err r)

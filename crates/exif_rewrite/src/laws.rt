@@ -33,8 +33,8 @@ pub fn jpeg_leaves_no_metadata()
 {}
 
 /// A WebP file that was written again has the chunks that stay, in their order, with their flags
-/// right, a canvas in front of them where one was made, and the new chunk behind them; and then what
-/// stays behind the body.
+/// right, a canvas in front of them where one was made, and the new chunk behind them; and then
+/// what stays behind the body.
 pub fn webp_keeps_what_stays()
     ensures { (remove : Remove) (put : Option (List ℕ)) (bytes : List ℕ)
         → FileIsFiltered remove put bytes }

@@ -27,7 +27,8 @@ use std::alloc::Global;
 ///
 /// `Remove::Exif` takes out the chunks `EXIF`, and all else stays byte for byte, in its order.
 /// `Remove::Metadata` leaves what shows the picture, its colours among it, and takes out XMP,
-/// chunks that are not known and what follows the RIFF file. The flags of `VP8X` tell what is there.
+/// chunks that are not known and what follows the RIFF file. The flags of `VP8X` tell what is
+/// there.
 ///
 /// New data, which are TIFF data, stand in a last chunk `EXIF`. A file that has no `VP8X` is given
 /// one, made of the header of its image. The size of the file is set right, and odd payloads are
