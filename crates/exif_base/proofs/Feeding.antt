@@ -1,9 +1,8 @@
 -- The bytes of a block, of which only so many count.
-use Rattle.std.proofs.Common.{◌≡◌, ℕ, ◌+◌, ◌-◌, ◌≤◌, List, [], ◌++◌, length, take, drop, Option, None, Some, IfSome, ap, sym, ◌∙◌, refl, arith}
+use Rattle.std.proofs.Common.{◌≡◌, ℕ, ◌+◌, ◌-◌, ◌≤◌, List, [], ◌++◌, length, take, drop, Option, None, Some, ap, sym, ◌∙◌, arith}
 use Rattle.std.proofs.Math.Seq.{take-append-add}
 use Rattle.std.proofs.Math.ListN.{drop_of_length-le}
-use Rattle.std.proofs.lemmas.List.{length-take-le, length-take, take_at}
-use Rattle.std.specs.Io.{StartsWith}
+use Rattle.std.proofs.lemmas.List.{length-take-le, length-take}
 use Rattle.std.specs.Io.KnownBytes.{Consumes, Keeps, prepend_known}
 use Rattle.exif_base.specs.Input.{cut_known}
 
@@ -23,7 +22,3 @@ hand_read old new a b at end budget n none most room =
   where
     short : (n : ℕ) (l : List ℕ) → length (take n l) ≤ n
     short n l = omega (arith, length-take n l)
-
-pub hand_begins : (hand : List ℕ) (left : Option (List ℕ)) → IfSome (prepend_known hand left) (λ xs. StartsWith xs hand)
-hand_begins hand None = tt
-hand_begins hand (Some ys) = take_at hand ys (length hand) refl
