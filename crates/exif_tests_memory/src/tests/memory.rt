@@ -205,18 +205,65 @@ fn reported_greedily(
     Ok((answer, out.written))
 }
 
-// A report runs out of memory, and this text stands out.
-fn stands_out(rt: &(impl Abort + AllocGlobal), bytes: &[u8], text: &str) -> Result<(), Fail> {
-    let (answer, written) = reported_greedily(rt.alloc(), bytes, 256)?;
+// A report to a writer of so much room runs out of memory, and this text stands out.
+fn stands_out(
+    rt: &(impl Abort + AllocGlobal),
+    bytes: &[u8],
+    room: usize,
+    text: &[u8],
+) -> Result<(), Fail> {
+    let (answer, written) = reported_greedily(rt.alloc(), bytes, room)?;
     assert!(rt; matches!(answer, Err(Error::OutOfMemory)));
-    are_bytes(written.as_slice(), text.as_bytes())
+    are_bytes(written.as_slice(), text)
 }
+
+// Eight entries, each of which holds the same 600 bytes, and one that holds 20,000.
+fn longer_last(alloc: Global) -> Result<Vec<u8>, Fail> {
+    let mut data = Vec::from_slice(alloc, b"MM\0*\0\0\0\x08\0\x09")?;
+    for _ in 0..8u32 {
+        data.extend_from_slice(b"\xfd\xe8\0\x07\0\0\x02\x58\0\0\0\x7a")?;
+    }
+    data.extend_from_slice(b"\xfd\xe8\0\x07\0\0\x4e\x20\0\0\0\x7a\0\0\0\0")?;
+    for _ in 0..20_000u32 {
+        data.push(b'x')?;
+    }
+    Ok(data)
+}
+
+// The first seven lines of its report, which are 8,596 bytes.
+fn seven_lines(alloc: Global) -> Result<Vec<u8>, Fail> {
+    let mut text = Vec::new(alloc);
+    for _ in 0..7u32 {
+        text.extend_from_slice(b"Tag(Tiff, 65000) primary 0x")?;
+        for _ in 0..600u32 {
+            text.extend_from_slice(b"78")?;
+        }
+        text.push(b'\n')?;
+    }
+    Ok(text)
+}
+
+// The lines of fields that are put together first.
+const FIELDS: &str = "ExifVersion primary 0x00020302\nTag(Tiff, 65000) primary -19088744\n";
 
 #[test]
 fn lines_run_out_of_memory(rt: HostRuntime) -> Result<(), Fail> {
-    let fields = "ExifVersion primary 0x00020302\nTag(Tiff, 65000) primary -19088744\n";
-    stands_out(&rt, files::WRONG_NEXT, fields)?;
-    stands_out(&rt, files::LONGER_LINE, "Tag(Tiff, 65000) primary 1\n")
+    stands_out(&rt, files::WRONG_NEXT, 256, FIELDS.as_bytes())?;
+    let bytes = longer_last(rt.alloc())?;
+    let text = seven_lines(rt.alloc())?;
+    stands_out(&rt, bytes.as_slice(), 10_000, text.as_slice())
+}
+
+#[test]
+fn short_lines_take_memory_but_once(rt: HostRuntime) -> Result<(), Fail> {
+    let (answer, written) = reported_greedily(rt.alloc(), files::LONGER_LINE, 256)?;
+    assert_eq!(rt; answer?, 0);
+    assert!(rt;
+        written
+            .as_slice()
+            .starts_with(b"Tag(Tiff, 65000) primary 1\n")
+    );
+    Ok(())
 }
 
 // A report to a writer with so much room fails as the writer does, and this text stands out.
@@ -232,9 +279,8 @@ fn fails_with_its_memory(
 
 #[test]
 fn a_writer_over_memory_fails_where_its_memory_does(rt: HostRuntime) -> Result<(), Fail> {
-    let first = "ExifVersion primary 0x00020302\n";
     fails_with_its_memory(&rt, 0, "")?;
-    fails_with_its_memory(&rt, first.len(), first)
+    fails_with_its_memory(&rt, FIELDS.len().saturating_sub(1), "")
 }
 
 // What the copying of a value comes to.

@@ -57,6 +57,17 @@ fn long_chunks_are_skipped(rt: HostRuntime) -> Result<(), Fail> {
     gives(alloc, Container::WebP, bytes.as_slice(), b"abc")
 }
 
+// Three bytes of Exif data behind 105 bytes of boxes and 100,000 spaces (ISO/IEC 14496-12:2015, 8.11).
+const HEIF_WITH_A_GAP: &[u8] =
+    b"\0\0\0\x14ftypmif1\0\0\0\0mif1\0\0\0\x4dmeta\0\0\0\0\0\0\0\x23iinf\0\0\0\0\0\x01\0\0\0\x15infe\x02\0\0\0\0\x01\0\0Exif\0\0\0\0\x1eiloc\0\0\0\0\x44\0\0\x01\0\x01\0\0\0\x01\0\x01\x87\x09\0\0\0\x07\0\x01\x86\xafmdat";
+
+#[test]
+fn a_long_gap_in_front_of_an_item_is_skipped(rt: HostRuntime) -> Result<(), Fail> {
+    let alloc = rt.alloc();
+    let bytes = around_spaces(alloc, HEIF_WITH_A_GAP, 100_000, b"\0\0\0\0abc")?;
+    gives(alloc, Container::Heif, bytes.as_slice(), b"abc")
+}
+
 // What a strict reader answers with so few bytes of memory left.
 fn read_with(alloc: Global, bytes: &[u8], left: u16) -> Result<Result<Exif, Error>, Fail> {
     let _most = take_most(alloc)?;
