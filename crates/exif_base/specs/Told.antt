@@ -23,6 +23,7 @@ TakesAll None old new = ⊤
 TakesAll (Some xs) old new = new ≡ old ++ xs
 
 -- n bytes were taken, and added at the end of a list
-abbrev pub IsFetchedOnto : Option (List ℕ) → Option (List ℕ) → List ℕ → List ℕ → ℕ → Type 0
+abbrev pub IsFetchedOnto : Option (List ℕ) → Option (List ℕ) → List ℕ → List ℕ → ℕ
+    → Type 0
 IsFetchedOnto before after old new n = (bytes : List ℕ) × Consumes before after bytes
     × (length bytes ≡ n) × (new ≡ old ++ bytes)

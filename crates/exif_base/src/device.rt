@@ -69,7 +69,8 @@ pub trait Source {
     fn fetch_onto(&mut self, buf: &mut Vec<u8>, block: &mut [u8]) -> Result<usize, ReadFault>
         ensures bytes { IfOk result (λ n.
             IsFetchedOnto (left self.old) (left self.new) buf.old.items buf.new.items n) }
-        ensures end { IfOk result (λ n. n ≡ 0 → 0 < length block.old → IsAtEnd (left self.new)) }
+        ensures end { IfOk result
+            (λ n. n ≡ 0 → 0 < length block.old → IsAtEnd (left self.new)) }
         ensures no_end { result ≢ Err End }
         ensures kept { StartsWith buf.new.items buf.old.items }
         ensures block { length block.new ≡ length block.old }

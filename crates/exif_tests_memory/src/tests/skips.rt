@@ -57,7 +57,7 @@ fn long_chunks_are_skipped(rt: HostRuntime) -> Result<(), Fail> {
     gives(alloc, Container::WebP, bytes.as_slice(), b"abc")
 }
 
-// Three bytes of Exif data behind 105 bytes of boxes and 100,000 spaces (ISO/IEC 14496-12:2015, 8.11).
+// The boxes in front of 100,000 spaces and three bytes of Exif data (ISO/IEC 14496-12:2015, 8.11).
 const HEIF_WITH_A_GAP: &[u8] =
     b"\0\0\0\x14ftypmif1\0\0\0\0mif1\0\0\0\x4dmeta\0\0\0\0\0\0\0\x23iinf\0\0\0\0\0\x01\0\0\0\x15infe\x02\0\0\0\0\x01\0\0Exif\0\0\0\0\x1eiloc\0\0\0\0\x44\0\0\x01\0\x01\0\0\0\x01\0\x01\x87\x09\0\0\0\x07\0\x01\x86\xafmdat";
 

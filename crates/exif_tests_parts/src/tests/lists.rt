@@ -1,4 +1,4 @@
-//! Bytes that a source puts at the end of a list: those in memory, those at hand, and a block of them.
+//! Bytes that a source puts onto a list: those in memory, those at hand, and a block of them.
 
 use super::devices::{one_byte, seeking};
 use exif_base::{Blocks, Counted, Exact, ReadFault, Seekable, Source};
