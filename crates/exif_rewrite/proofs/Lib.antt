@@ -1,4 +1,5 @@
 pub mod JpegAnswers
+pub mod JpegEndings
 pub mod JpegLaws
 pub mod JpegSteps
 pub mod JpegTokens

@@ -1,4 +1,4 @@
-use Rattle.exif_rewrite.proofs.JpegSteps.{told_named}
+use Rattle.exif_rewrite.proofs.JpegEndings.{told_named}
 use Rattle.exif_rewrite.proofs.jpeg.rewrite_jpeg_as_it_stands.Goals as goal
 
 pub returns-in-Err-clause-named : goal.returns-in-Err-clause-named

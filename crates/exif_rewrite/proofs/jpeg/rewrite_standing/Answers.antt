@@ -3,7 +3,7 @@ use Rattle.std.proofs.lemmas.Result.{err_from_is_err_and}
 use Rattle.exif_containers.specs.declared.jpeg.TheConstants.{LIMIT}
 use Rattle.exif_rewrite.specs.JpegSteps.{end_of}
 use Rattle.exif_rewrite.specs.RewrittenJpeg.{given_rewriting, waiting}
-use Rattle.exif_rewrite.proofs.JpegSteps.{standing_stopped, waiting_stopped, flush_stopped, standing_sent}
+use Rattle.exif_rewrite.proofs.JpegEndings.{standing_stopped, waiting_stopped, flush_stopped, standing_sent}
 use Rattle.exif_rewrite.proofs.jpeg.rewrite_standing.Goals as goal
 
 pub returns-in_err-ended-clause-stopped : goal.returns-in_err-ended-clause-stopped
