@@ -14,7 +14,8 @@ use std::alloc::AllocError;
 
 /// Writes the members that tell the field's place: its context, its tag and its directory.
 fn write_name(printer: &mut Printer, field: &Field) -> Result<(), AllocError>
-    ensures { Prints result printer.old.out printer.new.out (parts_tokens (name_members field.now)) }
+    ensures { Prints result printer.old.out printer.new.out
+        (parts_tokens (name_members field.now)) }
 {
     printer.text_member("context", field.tag.context().name())?;
     printer.number_member("tag", u64::from(field.tag.number()))?;

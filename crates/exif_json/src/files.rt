@@ -110,7 +110,8 @@ fn write_read(
 
 /// Writes the object of a file that was refused.
 fn write_refusal(printer: &mut Printer, path: &[u8], error: &Error) -> Result<(), AllocError>
-    ensures prints { IfSome (error_text error.now) (λ said. Prints result printer.old.out printer.new.out
+    ensures prints { IfSome (error_text error.now)
+        (λ said. Prints result printer.old.out printer.new.out
         (json_tokens (refusal_json path.now said))) }
     ensures before { OnOk result (printer.new.out.before ≡ printer.old.out.before) }
 {

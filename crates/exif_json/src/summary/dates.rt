@@ -32,7 +32,7 @@ fn write_day<W: fmt::Write>(f: &mut fmt::Formatter<W>, d: DateTime) -> fmt::Resu
     write!(f, "{:04}-{:02}-{:02}", d.year, d.month, d.day)
 }
 
-/// Writes `T03:02:01`.
+/// Writes the time of day behind a `T`.
 fn write_clock<W: fmt::Write>(f: &mut fmt::Formatter<W>, d: DateTime) -> fmt::Result
     ensures { WritesOnOk W.write_str_gives f.old result
         (codes "T" ++ time_text (time_of_day d)) f.new }
