@@ -1,0 +1,24 @@
+-- Small JPEG streams written again, worked by hand.
+use Rattle.std.specs.Prelude.{◌≡◌, [], ◌∷◌, ◌++◌, codes, None, Some}
+use Rattle.std.proofs.Common.{refl}
+use Rattle.exif_rewrite_base.specs.declared.remove.Remove.TheVariants.{Exif, Metadata}
+use Rattle.exif_rewrite_jpeg.specs.Rewriting.{ends, finished, cut_off}
+use Rattle.exif_rewrite_jpeg.specs.RewrittenJpeg.{exif_segment, jpeg_rewriting}
+
+-- new data stand behind APP0, and what follows EOI stays
+placed_behind : jpeg_rewriting Exif (Some (codes "ab"))
+    (255 ∷ 216 ∷ 255 ∷ 224 ∷ 0 ∷ 2 ∷ 255 ∷ 218 ∷ 0 ∷ 2 ∷ 7 ∷ 255 ∷ 217 ∷ 9 ∷ [])
+    ≡ ends finished (255 ∷ 216 ∷ 255 ∷ 224 ∷ 0 ∷ 2
+    ∷ (exif_segment (codes "ab") ++ (255 ∷ 218 ∷ 0 ∷ 2 ∷ 7 ∷ 255 ∷ 217 ∷ 9 ∷ [])))
+placed_behind = refl
+
+-- a comment, bytes in front of the scan and what follows EOI go with all metadata
+bare : jpeg_rewriting Metadata None
+    (255 ∷ 216 ∷ 5 ∷ 255 ∷ 254 ∷ 0 ∷ 3 ∷ 1 ∷ 255 ∷ 218 ∷ 0 ∷ 2 ∷ 7 ∷ 255 ∷ 217 ∷ 9 ∷ [])
+    ≡ ends finished (255 ∷ 216 ∷ 255 ∷ 218 ∷ 0 ∷ 2 ∷ 7 ∷ 255 ∷ 217 ∷ [])
+bare = refl
+
+-- a stream that ends in a segment, in front of the place of new data
+cut : jpeg_rewriting Exif (Some (codes "ab")) (255 ∷ 216 ∷ 255 ∷ 224 ∷ 0 ∷ 9 ∷ 1 ∷ [])
+    ≡ ends (cut_off (exif_segment (codes "ab"))) (255 ∷ 216 ∷ [])
+cut = refl

@@ -1,0 +1,4 @@
+pub mod WebpAnswers
+pub mod WebpLaws
+pub mod WebpSteps
+pub mod WebpTwice

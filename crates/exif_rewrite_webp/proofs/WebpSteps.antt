@@ -1,0 +1,378 @@
+-- The steps over the chunks of a WebP file.
+use Rattle.std.proofs.Common.{◌≡◌, ◌≢◌, ℕ, zero, suc, ◌+◌, ◌-◌, ◌<◌, ◌≤◌, Bool, true, false, cond, eqb, ltb, List, [], ◌∷◌, ◌++◌, length, map, take, drop, get_or, Option, None, Some, IfSome, MatchOption, IfOk, Result, Ok, Err, ap, sym, ◌∙◌, refl, arith, append_assoc, append-nil, length-append, codes}
+use Rattle.std.specs.List.{flat_map, filter, Contains}
+use Rattle.std.specs.Int.{to_le_bytes, w32}
+use Rattle.std.specs.Io.KnownBytes.{Appends, Keeps}
+use Rattle.std.proofs.lemmas.Bool.{ne_eqb}
+use Rattle.std.proofs.lemmas.Bool.Decides.{nat_tests}
+use Rattle.std.proofs.lemmas.List.{take_more, take-append-drop, map-append}
+use Rattle.std.proofs.lemmas.List.Concat.{flat_map-append}
+use Rattle.byteorder.specs.Endian.{little_number}
+use Rattle.exif_base.specs.Sent.{SendsFront}
+use Rattle.exif_base.proofs.Sent.{appends_kept, front_none, keeps_same}
+use Rattle.exif_types.specs.Failures.{Failure}
+use Rattle.exif_types.specs.declared.error.Error.TheVariants as error
+use Rattle.exif_types.specs.Refusals.{Refusal, refusal_of, IsInterrupted, Refuses, Fails, ◌>>=◌}
+use Rattle.exif_containers.specs.Answer.{IsNamed}
+use Rattle.exif_containers.specs.Webp.{broken_webp, not_webp, invalid_file_size, overflowing, padded}
+use Rattle.exif_rewrite_base.specs.declared.remove.Remove.{Remove}
+use Rattle.exif_rewrite_webp.specs.declared.chunks.Chunk.{Chunk as LentChunk}
+use Rattle.exif_rewrite_base.specs.Removing.{too_large, behind}
+use Rattle.exif_rewrite_webp.specs.RewrittenWebp.{is, chunk_stays, staying, flagged, settled, lossy, lossless, or_none, no_canvas, canvas_where, chunk_named, is_put, new_chunks, sized, file_of, webp_rewriting, webp_rewriting_refusals}
+use Rattle.exif_rewrite_webp.specs.WebpChunks.{Chunk, Front, Body, in_front, first_chunk, body_within, body_of, header_room, file_body, pad_of, chunk_text, chunks_text, file_text}
+use Rattle.exif_rewrite_webp.specs.WebpPlans.{chunk_view, kept_body, kept_file, staying_in, settled_text, header_text, named_text, StopsFile}
+
+-- what a slice of chunks gives past its end
+abbrev pub no_chunk : LentChunk
+no_chunk = record { name = []; payload = record { ref_ptr = (0, 0); now = [] } }
+
+-- ---- lengths
+
+abbrev pub total : List LentChunk → ℕ
+total cs = length (chunks_text (map chunk_view cs))
+
+total_join : (xs ys : List LentChunk) → total (xs ++ ys) ≡ total xs + total ys
+total_join xs ys =
+    ap (λ l. length (chunks_text l)) (map-append chunk_view xs ys) ∙ ap (λ (l : List ℕ). length l) (flat_map-append chunk_text (map chunk_view xs) (map chunk_view ys))
+    ∙ length-append (chunks_text (map chunk_view xs)) (chunks_text (map chunk_view ys))
+
+total_one : (x : LentChunk) → total (x ∷ []) ≡ length (chunk_text (chunk_view x))
+total_one x = ap (λ (l : List ℕ). length l) (append-nil (chunk_text (chunk_view x)))
+
+pub total_more : (xs : List LentChunk) (i : ℕ) (x d : LentChunk) → i < length xs → x ≡ get_or xs i d → total (take (i + 1) xs) ≡ total (take i xs) + length (chunk_text (chunk_view x))
+total_more xs i x d h e =
+    ap total (take_more xs i d h) ∙ total_join (take i xs) (get_or xs i d ∷ []) ∙ ap (λ n. total (take i xs) + n) (total_one (get_or xs i d) ∙ ap (λ c. length (chunk_text (chunk_view c))) (sym e))
+
+pub total_part : (xs : List LentChunk) (i : ℕ) → total (take i xs) ≤ total xs
+total_part xs i =
+    let e : total xs ≡ total (take i xs) + total (drop i xs) = ap total (sym (take-append-drop i xs)) ∙ total_join (take i xs) (drop i xs) in omega arith
+
+pub too_long : (n : ℕ) → 4294967292 ≤ n → sized n ≡ Err too_large
+too_long n h = grind (arith, nat_tests)
+
+-- ---- a chunk that is sent
+
+pub parts_text : (name first rest : List ℕ) (len : ℕ) → len ≡ length first + length rest
+    → chunk_text (record { name = name; payload = first ++ rest }) ≡ (name ++ to_le_bytes w32 len) ++ (first ++ (rest ++ pad_of len))
+parts_text name first rest len e =
+    let whole : length (first ++ rest) ≡ len = length-append first rest ∙ sym e in
+    ap (λ n. name ++ (to_le_bytes w32 n ++ ((first ++ rest) ++ pad_of n))) whole
+    ∙ ap (λ t. name ++ (to_le_bytes w32 len ++ t)) (append_assoc first rest (pad_of len))
+    ∙ sym (append_assoc name (to_le_bytes w32 len) (first ++ (rest ++ pad_of len)))
+
+-- ---- the chunks of a body
+
+one_more : (p : Chunk → Bool) (x : Chunk) (xs ys : List Chunk) (t : Bool) → filter p (xs ++ ys) ≡ filter p xs ++ filter p ys
+    → cond t (x ∷ filter p (xs ++ ys)) (filter p (xs ++ ys)) ≡ cond t (x ∷ filter p xs) (filter p xs) ++ filter p ys
+one_more p x xs ys true e = ap (λ l. x ∷ l) e
+one_more p x xs ys false e = e
+
+pub filter_join : (p : Chunk → Bool) (xs ys : List Chunk) → filter p (xs ++ ys) ≡ filter p xs ++ filter p ys
+filter_join p [] ys = refl
+filter_join p (x ∷ xs) ys = one_more p x xs ys (p x) (filter_join p xs ys)
+
+-- the room behind a chunk
+room_left : (a b c d : Bool) (x y z w : Refusal) (f front : Front) (room : ℕ) → (a ≡ false → f.room < room)
+    → cond a (Err x) (cond b (Err y) (cond c (Err z) (cond d (Err w) (Ok f)))) ≡ Ok front → front.room < room
+room_left true b c d x y z w f front room h e = absurd (cc)
+room_left false true c d x y z w f front room h e = absurd (cc)
+room_left false false true d x y z w f front room h e = absurd (cc)
+room_left false false false true x y z w f front room h e = absurd (cc)
+room_left false false false false x y z w f front room h e =
+    let same : f ≡ front = cc in
+    rw same at (h refl)
+
+first_room : (room : ℕ) (bytes : List ℕ) (front : Front) → first_chunk room bytes ≡ Ok front → front.room < room
+first_room room bytes front =
+    room_left (ltb room 8) (ltb (length bytes) 8) (ltb (room - 8) size) (ltb (length (drop 8 bytes)) taken) overflowing broken_webp overflowing broken_webp
+    (record { chunk = record { name = take 4 bytes; payload = take size (drop 8 bytes) }; rest = drop taken (drop 8 bytes); room = room - 8 - taken }) front room (less room taken)
+  where
+    size : ℕ
+    size = little_number 4 (drop 4 bytes)
+
+    taken : ℕ
+    taken = padded size (room - 8)
+
+    less : (room n : ℕ) → ltb room 8 ≡ false → room - 8 - n < room
+    less room n e = grind (arith, nat_tests)
+
+abbrev Next : ℕ → (ℕ → List ℕ → Result Body Refusal) → Result Front Refusal → Result Body Refusal
+Next room f front = front >>= λ front. f front.room front.rest >>= λ body. Ok (in_front (front.chunk ∷ []) body)
+
+next_same : (room : ℕ) (o : Result Front Refusal) (f g : ℕ → List ℕ → Result Body Refusal) → ((front : Front) → o ≡ Ok front → f front.room front.rest ≡ g front.room front.rest) → Next room f o ≡ Next room g o
+next_same room (Err r) f g h = refl
+next_same room (Ok front) f g h = ap (λ b. b >>= λ body. Ok (in_front (front.chunk ∷ []) body)) (h front refl)
+
+within_step : (n room : ℕ) (bytes : List ℕ) → 0 < room → body_within (suc n) room bytes ≡ Next room (body_within n) (first_chunk room bytes)
+within_step n room bytes h =
+    let some : room ≢ 0 = λ e. omega (arith, h, e) in
+    ap (λ t. cond t (Ok (record { chunks = []; rest = bytes })) (Next room (body_within n) (first_chunk room bytes))) (ne_eqb room 0 some)
+
+body_enough : (n m room : ℕ) (bytes : List ℕ) → room ≤ n → room ≤ m → body_within n room bytes ≡ body_within m room bytes
+body_enough zero zero room bytes h k = refl
+body_enough zero (suc m) zero bytes h k = refl
+body_enough zero (suc m) (suc room) bytes h k = absurd (omega arith)
+body_enough (suc n) zero zero bytes h k = refl
+body_enough (suc n) zero (suc room) bytes h k = absurd (omega arith)
+body_enough (suc n) (suc m) zero bytes h k = refl
+body_enough (suc n) (suc m) (suc room) bytes h k =
+    within_step n (suc room) bytes (omega arith)
+    ∙ next_same (suc room) (first_chunk (suc room) bytes) (body_within n) (body_within m)
+    (λ front e. let l = first_room (suc room) bytes front e in body_enough n m front.room front.rest (omega arith) (omega arith))
+    ∙ sym (within_step m (suc room) bytes (omega arith))
+
+pub body_step : (room : ℕ) (bytes : List ℕ) → 0 < room → body_of room bytes ≡ Next room body_of (first_chunk room bytes)
+body_step zero bytes h = absurd (omega arith)
+body_step (suc room) bytes h =
+    within_step room (suc room) bytes (omega arith)
+    ∙ next_same (suc room) (first_chunk (suc room) bytes) (body_within room) body_of
+    (λ front e. let l = first_room (suc room) bytes front e in body_enough room front.room front.room front.rest (omega arith) (omega arith))
+
+abbrev Joined : List Chunk → Result Body Refusal → Result Body Refusal
+Joined cs body = body >>= λ body. Ok (in_front cs body)
+
+pub kept_step : (remove : Remove) (room : ℕ) (bytes : List ℕ) (front : Front) → 0 < room → first_chunk room bytes ≡ Ok front
+    → kept_body remove room bytes ≡ Joined (staying remove (front.chunk ∷ [])) (kept_body remove front.room front.rest)
+kept_step remove room bytes front h e =
+    ap (λ b. b >>= λ body. Ok (staying_in remove body)) (body_step room bytes h ∙ ap (Next room body_of) e) ∙ by (body_of front.room front.rest)
+  where
+    by : (o : Result Body Refusal) → ((o >>= λ body. Ok (in_front (front.chunk ∷ []) body)) >>= λ body. Ok (staying_in remove body)) ≡ Joined (staying remove (front.chunk ∷ [])) (o >>= λ body. Ok (staying_in remove body))
+    by (Err r) = refl
+    by (Ok body) = ap (λ cs. Ok (record { chunks = cs; rest = body.rest })) (filter_join (chunk_stays remove) (front.chunk ∷ []) body.chunks)
+
+pub kept_more : (remove : Remove) (room left : ℕ) (bytes rest : List ℕ) (cs cs' : List Chunk) (front : Front) → 0 < left → first_chunk left rest ≡ Ok front → cs' ≡ cs ++ staying remove (front.chunk ∷ [])
+    → kept_body remove room bytes ≡ Joined cs (kept_body remove left rest) → kept_body remove room bytes ≡ Joined cs' (kept_body remove front.room front.rest)
+kept_more remove room left bytes rest cs cs' front h e is inv =
+    inv ∙ ap (Joined cs) (kept_step remove left rest front h e) ∙ by (kept_body remove front.room front.rest) ∙ ap (λ t. Joined t (kept_body remove front.room front.rest)) (sym is)
+  where
+    by : (o : Result Body Refusal) → Joined cs (Joined (staying remove (front.chunk ∷ [])) o) ≡ Joined (cs ++ staying remove (front.chunk ∷ [])) o
+    by (Err r) = refl
+    by (Ok body) = ap (λ t. Ok (record { chunks = t; rest = body.rest })) (sym (append_assoc cs (staying remove (front.chunk ∷ [])) body.chunks))
+
+-- ---- refusals
+
+-- a refusal of a part is one of the whole
+pub refuses_fails : {X Y : Type 0} (e : Failure) (x : Result X Refusal) (y : Result Y Refusal) → ((r : Refusal) → x ≡ Err r → y ≡ Err r) → Refuses e x → Fails e y
+refuses_fails e x y f = by (refusal_of e)
+  where
+    by : (o : Option Refusal) → MatchOption o ⊥ (λ r. x ≡ Err r) → MatchOption o (IsInterrupted e) (λ r. y ≡ Err r)
+    by None h = absurd h
+    by (Some r) h = f r h
+
+kept_refused : (remove : Remove) (left : ℕ) (rest : List ℕ) (r : Refusal) → 0 < left → first_chunk left rest ≡ Err r → kept_body remove left rest ≡ Err r
+kept_refused remove left rest r h e = ap (λ b. b >>= λ body. Ok (staying_in remove body)) (body_step left rest h ∙ ap (Next left body_of) e)
+
+pub front_fails : (e : Failure) (remove : Remove) (room left : ℕ) (bytes rest : List ℕ) (cs : List Chunk) → 0 < left → kept_body remove room bytes ≡ Joined cs (kept_body remove left rest)
+    → Refuses e (first_chunk left rest) → Fails e (kept_body remove room bytes)
+front_fails e remove room left bytes rest cs h inv =
+    refuses_fails e (first_chunk left rest) (kept_body remove room bytes) (λ r k. inv ∙ ap (Joined cs) (kept_refused remove left rest r h k))
+
+-- ---- a plan
+
+pub webp_by_kept : (remove : Remove) (put : Option (List ℕ)) (bytes : List ℕ)
+    → webp_rewriting remove put bytes ≡ (header_room bytes >>= λ room. kept_body remove room (drop 12 bytes) >>= λ kept. kept_file remove put kept)
+webp_by_kept remove put bytes = by (header_room bytes)
+  where
+    inner : (o : Result Body Refusal) → (o >>= λ body. kept_file remove put (staying_in remove body)) ≡ ((o >>= λ body. Ok (staying_in remove body)) >>= λ kept. kept_file remove put kept)
+    inner (Err r) = refl
+    inner (Ok body) = refl
+
+    by : (o : Result ℕ Refusal) → ((o >>= λ room. body_of room (drop 12 bytes)) >>= λ body. kept_file remove put (staying_in remove body))
+        ≡ (o >>= λ room. kept_body remove room (drop 12 bytes) >>= λ kept. kept_file remove put kept)
+    by (Err r) = refl
+    by (Ok room) = inner (body_of room (drop 12 bytes))
+
+planned : (remove : Remove) (put : Option (List ℕ)) (bytes : List ℕ) (room : ℕ) (kept : Body) → header_room bytes ≡ Ok room → kept_body remove room (drop 12 bytes) ≡ Ok kept
+    → webp_rewriting remove put bytes ≡ kept_file remove put kept
+planned remove put bytes room kept h k =
+    webp_by_kept remove put bytes ∙ ap (λ o. o >>= λ room. kept_body remove room (drop 12 bytes) >>= λ kept. kept_file remove put kept) h ∙ ap (λ o. o >>= λ kept. kept_file remove put kept) k
+
+pub canvas_fails : (e : Failure) (remove : Remove) (put : Option (List ℕ)) (bytes : List ℕ) (room : ℕ) (kept : Body) → header_room bytes ≡ Ok room → kept_body remove room (drop 12 bytes) ≡ Ok kept
+    → Refuses e (canvas_where put kept.chunks) → Fails e (webp_rewriting remove put bytes)
+canvas_fails e remove put bytes room kept h k =
+    refuses_fails e (canvas_where put kept.chunks) (webp_rewriting remove put bytes)
+    (λ r is. planned remove put bytes room kept h k ∙ ap (λ o. o >>= λ made. file_of (new_chunks remove put kept.chunks made) >>= λ text. Ok (text ++ behind remove kept.rest)) is)
+
+-- the length of the new chunks
+text_len : (name p q : List ℕ) → length p ≡ length q → length (chunk_text (record { name = name; payload = p })) ≡ length (chunk_text (record { name = name; payload = q }))
+text_len name p q e = whole p ∙ ap (λ n. length name + (4 + (n + length (pad_of n)))) e ∙ sym (whole q)
+  where
+    whole : (p : List ℕ) → length (chunk_text (record { name = name; payload = p })) ≡ length name + (4 + (length p + length (pad_of (length p))))
+    whole p =
+        let a = length-append name (to_le_bytes w32 (length p) ++ (p ++ pad_of (length p))) in
+        let b = length-append (to_le_bytes w32 (length p)) (p ++ pad_of (length p)) in
+        let c = length-append p (pad_of (length p)) in
+        omega (arith, a, b, c)
+
+settled_len : (remove : Remove) (put : Bool) (c : Chunk) → length (chunk_text (settled remove put c)) ≡ length (chunk_text c)
+settled_len remove put c = by (is (codes "VP8X") c)
+  where
+    flagged_len : (p : List ℕ) → length (flagged remove put p) ≡ length p
+    flagged_len [] = refl
+    flagged_len (flags ∷ rest) = refl
+
+    by : (t : Bool) → length (chunk_text (cond t (record { name = c.name; payload = flagged remove put c.payload }) c)) ≡ length (chunk_text c)
+    by true = text_len c.name (flagged remove put c.payload) c.payload (flagged_len c.payload)
+    by false = refl
+
+all_len : (remove : Remove) (put : Bool) (cs : List Chunk) → length (chunks_text (map (settled remove put) cs)) ≡ length (chunks_text cs)
+all_len remove put [] = refl
+all_len remove put (c ∷ cs) =
+    length-append (chunk_text (settled remove put c)) (chunks_text (map (settled remove put) cs))
+    ∙ ap (λ n. n + length (chunks_text (map (settled remove put) cs))) (settled_len remove put c) ∙ ap (λ n. length (chunk_text c) + n) (all_len remove put cs)
+    ∙ sym (length-append (chunk_text c) (chunks_text cs))
+
+new_text : (remove : Remove) (put : Option (List ℕ)) (cs : List Chunk) (made : Option (List ℕ))
+    → chunks_text (new_chunks remove put cs made) ≡ named_text (codes "VP8X") made ++ (chunks_text (map (settled remove (is_put put)) cs) ++ named_text (codes "EXIF") put)
+new_text remove put cs made =
+    flat_map-append chunk_text (chunk_named (codes "VP8X") made) (map (settled remove (is_put put)) cs ++ chunk_named (codes "EXIF") put)
+    ∙ ap (λ t. named_text (codes "VP8X") made ++ t) (flat_map-append chunk_text (map (settled remove (is_put put)) cs) (chunk_named (codes "EXIF") put))
+
+pub new_len : (remove : Remove) (put : Option (List ℕ)) (cs : List Chunk) (made : Option (List ℕ))
+    → length (chunks_text (new_chunks remove put cs made)) ≡ length (named_text (codes "VP8X") made) + length (named_text (codes "EXIF") put) + length (chunks_text cs)
+new_len remove put cs made =
+    let a = length-append (named_text (codes "VP8X") made) (chunks_text (map (settled remove (is_put put)) cs) ++ named_text (codes "EXIF") put) in
+    let b = length-append (chunks_text (map (settled remove (is_put put)) cs)) (named_text (codes "EXIF") put) in
+    let k = all_len remove (is_put put) cs in
+    ap (λ (t : List ℕ). length t) (new_text remove put cs made) ∙ omega (arith, a, b, k)
+
+pub size_fails : (e : Failure) (remove : Remove) (put made : Option (List ℕ)) (bytes : List ℕ) (room : ℕ) (kept : Body) (n : ℕ) → header_room bytes ≡ Ok room → kept_body remove room (drop 12 bytes) ≡ Ok kept
+    → canvas_where put kept.chunks ≡ Ok made → n ≡ length (chunks_text (new_chunks remove put kept.chunks made)) → Refuses e (sized n) → Fails e (webp_rewriting remove put bytes)
+size_fails e remove put made bytes room kept n h k m is =
+    refuses_fails e (sized n) (webp_rewriting remove put bytes)
+    (λ r no. planned remove put bytes room kept h k ∙ ap (λ o. o >>= λ made. file_of (new_chunks remove put kept.chunks made) >>= λ text. Ok (text ++ behind remove kept.rest)) m
+    ∙ ap (λ o. (o >>= λ size. Ok (file_text size (new_chunks remove put kept.chunks made))) >>= λ text. Ok (text ++ behind remove kept.rest)) (ap sized (sym is) ∙ no))
+
+settled_all : (remove : Remove) (put : Bool) (cs : List LentChunk) → chunks_text (map (settled remove put) (map chunk_view cs)) ≡ flat_map (settled_text remove put) cs
+settled_all remove put [] = refl
+settled_all remove put (c ∷ cs) = ap (λ t. settled_text remove put c ++ t) (settled_all remove put cs)
+
+pub plan_gives : (remove : Remove) (put made : Option (List ℕ)) (bytes : List ℕ) (room size : ℕ) (chunks : List LentChunk) (rest tail : List ℕ) (n : ℕ) → header_room bytes ≡ Ok room
+    → kept_body remove room (drop 12 bytes) ≡ Ok (record { chunks = map chunk_view chunks; rest = rest })
+    → canvas_where put (map chunk_view chunks) ≡ Ok made → n ≡ length (chunks_text (new_chunks remove put (map chunk_view chunks) made)) → sized n ≡ Ok size → tail ≡ behind remove rest
+    → webp_rewriting remove put bytes ≡ Ok (header_text size ++ (named_text (codes "VP8X") made ++ (flat_map (settled_text remove (is_put put)) chunks ++ (named_text (codes "EXIF") put ++ tail))))
+plan_gives remove put made bytes room size chunks rest tail n h k m is s t =
+    planned remove put bytes room (record { chunks = cs; rest = rest }) h k
+    ∙ ap (λ o. o >>= λ made. file_of (new_chunks remove put cs made) >>= λ text. Ok (text ++ behind remove rest)) m
+    ∙ ap (λ o. (o >>= λ size. Ok (file_text size (new_chunks remove put cs made))) >>= λ text. Ok (text ++ behind remove rest)) (ap sized (sym is) ∙ s)
+    ∙ ap (λ l. Ok (header_text size ++ l)) (
+    ap (λ l. l ++ behind remove rest) (new_text remove put cs made ∙ ap (λ l. named_text (codes "VP8X") made ++ (l ++ named_text (codes "EXIF") put)) (settled_all remove (is_put put) chunks))
+    ∙ append_assoc (named_text (codes "VP8X") made) (flat_map (settled_text remove (is_put put)) chunks ++ named_text (codes "EXIF") put) (behind remove rest)
+    ∙ ap (λ l. named_text (codes "VP8X") made ++ l) (append_assoc (flat_map (settled_text remove (is_put put)) chunks) (named_text (codes "EXIF") put) (behind remove rest)
+    ∙ ap (λ l. flat_map (settled_text remove (is_put put)) chunks ++ (named_text (codes "EXIF") put ++ l)) (sym t))
+    )
+  where
+    cs : List Chunk
+    cs = map chunk_view chunks
+
+pub canvas_text_len : (p : List ℕ) → length p ≡ 10 → length (named_text (codes "VP8X") (Some p)) ≡ 18
+canvas_text_len p e =
+    let k : length ((p ++ pad_of (length p)) ++ []) ≡ 10 = ap (λ (t : List ℕ). length t) (append-nil (p ++ pad_of (length p)) ∙ ap (λ n. p ++ pad_of n) e ∙ append-nil p) ∙ e in
+    omega (arith, k)
+
+-- ---- what an error left
+
+nothing_sent : (o : Result (List ℕ) Refusal) (p : Option (List ℕ)) → IfOk o (SendsFront p p)
+nothing_sent (Err r) p = tt
+nothing_sent (Ok text) p = front_none p p text (keeps_same p)
+
+pub fails_stops : (e : Failure) (p : Option (List ℕ)) (o : Result (List ℕ) Refusal) → Fails e o → StopsFile e p p o
+fails_stops e p o = by (refusal_of e)
+  where
+    by : (r : Option Refusal) → MatchOption r (IsInterrupted e) (λ r. o ≡ Err r) → MatchOption r (IfOk o (SendsFront p p)) (λ r. o ≡ Err r)
+    by None h = nothing_sent o p
+    by (Some r) h = h
+
+interrupted_none : (e : Failure) → IsInterrupted e → refusal_of e ≡ None
+interrupted_none (error.Io cause) h = refl
+interrupted_none error.OutOfMemory h = refl
+interrupted_none (error.InvalidFormat text) h = absurd h
+interrupted_none (error.NotFound text) h = absurd h
+interrupted_none (error.BlankValue text) h = absurd h
+interrupted_none (error.TooBig text) h = absurd h
+interrupted_none (error.NotSupported text) h = absurd h
+interrupted_none (error.UnexpectedValue text) h = absurd h
+interrupted_none (error.PartialResult partial) h = absurd h
+
+pub interrupted_stops : (e : Failure) (a p : Option (List ℕ)) (f : List ℕ → Result (List ℕ) Refusal) → IsInterrupted e → IfSome a (λ xs. StopsFile e p p (f xs))
+interrupted_stops e None p f h = tt
+interrupted_stops e (Some x) p f h = rw (interrupted_none e h) (nothing_sent (f x) p)
+
+pub plan_stops : (e : Failure) (a p : Option (List ℕ)) (bytes : List ℕ) (f : List ℕ → Result (List ℕ) Refusal) → IfSome a (λ xs. bytes ≡ xs) → Fails e (f bytes) → IfSome a (λ xs. StopsFile e p p (f xs))
+plan_stops e None p bytes f is h = tt
+plan_stops e (Some x) p bytes f is h = rw (sym is) (fails_stops e p (f bytes) h)
+
+pub send_stops : (e : Failure) (a p q : Option (List ℕ)) (bytes text : List ℕ) (f : List ℕ → Result (List ℕ) Refusal) → IfSome a (λ xs. bytes ≡ xs) → f bytes ≡ Ok text → refusal_of e ≡ None → SendsFront p q text
+    → IfSome a (λ xs. StopsFile e p q (f xs))
+send_stops e None p q bytes text f is h none s = tt
+send_stops e (Some x) p q bytes text f is h none s = rw (sym is) (rw (none, h) s)
+
+pub file_sent : (a p q r : Option (List ℕ)) (bytes text : List ℕ) (f : List ℕ → Result (List ℕ) Refusal) → IfSome a (λ xs. bytes ≡ xs) → f bytes ≡ Ok text → Appends p q text → Keeps q r
+    → IfSome a (λ xs. (text : List ℕ) × (f xs ≡ Ok text) × Appends p r text)
+file_sent None p q r bytes text f is h s k = tt
+file_sent (Some x) p q r bytes text f is h s k = (text, rw (sym is) h, appends_kept p q r text s k)
+
+-- ---- all refusals are named
+
+abbrev Named : {X : Type 0} → Result X Refusal → Type 0
+Named x = (r : Refusal) → x ≡ Err r → Contains webp_rewriting_refusals r
+
+named_then : {X Y : Type 0} (x : Result X Refusal) (f : X → Result Y Refusal) → Named x → ((v : X) → Named (f v)) → Named (x >>= f)
+named_then (Err e) f h k r is =
+    let same : e ≡ r = cc in
+    rw same at (h e refl)
+named_then (Ok v) f h k r is = k v r is
+
+refused_named : {X : Type 0} (e : Refusal) → Contains webp_rewriting_refusals e → let x : Result X Refusal = Err e in Named x
+refused_named e h r is =
+    let same : e ≡ r = cc in
+    rw same at h
+
+ok_named : {X : Type 0} (v : X) → let x : Result X Refusal = Ok v in Named x
+ok_named v r is = absurd (cc)
+
+cond_named : {X : Type 0} (b : Bool) (x y : Result X Refusal) → Named x → Named y → Named (cond b x y)
+cond_named true x y h k = h
+cond_named false x y h k = k
+
+front_named : (room : ℕ) (bytes : List ℕ) → Named (first_chunk room bytes)
+front_named room bytes =
+    cond_named (ltb room 8) _ _ (refused_named overflowing (3, omega arith, refl))
+    (cond_named (ltb (length bytes) 8) _ _ (refused_named broken_webp (0, omega arith, refl))
+    (cond_named _ _ _ (refused_named overflowing (3, omega arith, refl))
+    (cond_named _ _ _ (refused_named broken_webp (0, omega arith, refl)) (ok_named _))))
+
+body_named : (n room : ℕ) (bytes : List ℕ) → Named (body_within n room bytes)
+body_named zero room bytes = ok_named _
+body_named (suc n) room bytes =
+    cond_named (eqb room 0) _ _ (ok_named _) (named_then (first_chunk room bytes) _ (front_named room bytes) (λ front. named_then (body_within n front.room front.rest) _ (body_named n front.room front.rest) (λ body. ok_named _)))
+
+header_named : (bytes : List ℕ) → Named (header_room bytes)
+header_named bytes =
+    cond_named _ _ _ (refused_named broken_webp (0, omega arith, refl))
+    (cond_named _ _ _ (refused_named not_webp (1, omega arith, refl)) (cond_named _ _ _ (refused_named invalid_file_size (2, omega arith, refl)) (ok_named _)))
+
+canvas_named : (put : Option (List ℕ)) (cs : List Chunk) → Named (canvas_where put cs)
+canvas_named None cs = ok_named _
+canvas_named (Some payload) [] = refused_named no_canvas (4, omega arith, refl)
+canvas_named (Some payload) (c ∷ cs) =
+    cond_named (is (codes "VP8X") c) _ _ (ok_named _)
+    (cond_named (is (codes "VP8 ") c) _ _ (either (lossy c.payload)) (cond_named (is (codes "VP8L") c) _ _ (either (lossless c.payload)) (refused_named no_canvas (4, omega arith, refl))))
+  where
+    either : (o : Option (List ℕ)) → Named (or_none o)
+    either None = refused_named no_canvas (4, omega arith, refl)
+    either (Some p) = ok_named _
+
+all_named : (remove : Remove) (put : Option (List ℕ)) (bytes : List ℕ) → Named (webp_rewriting remove put bytes)
+all_named remove put bytes =
+    named_then (file_body bytes) _ (named_then (header_room bytes) _ (header_named bytes) (λ room. body_named room room (drop 12 bytes)))
+    (λ body. named_then (canvas_where put (staying remove body.chunks)) _ (canvas_named put (staying remove body.chunks))
+    (λ made. named_then (file_of (new_chunks remove put (staying remove body.chunks) made)) _
+    (named_then (sized (length (chunks_text (new_chunks remove put (staying remove body.chunks) made)))) _ (cond_named _ _ _ (refused_named too_large (5, omega arith, refl)) (ok_named _)) (λ size. ok_named _)) (λ text. ok_named _)))
+
+pub fails_named : (e : Failure) (remove : Remove) (put : Option (List ℕ)) (bytes : List ℕ) → Fails e (webp_rewriting remove put bytes) → IsNamed webp_rewriting_refusals e
+fails_named e remove put bytes = by (refusal_of e)
+  where
+    by : (o : Option Refusal) → MatchOption o (IsInterrupted e) (λ r. webp_rewriting remove put bytes ≡ Err r) → MatchOption o (IsInterrupted e) (Contains webp_rewriting_refusals)
+    by None h = h
+    by (Some r) h = all_named remove put bytes r h

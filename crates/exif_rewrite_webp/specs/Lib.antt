@@ -1,0 +1,5 @@
+pub mod RewrittenWebp
+pub mod WebpChunks
+pub mod WebpExamples
+pub mod WebpLaws
+pub mod WebpPlans
