@@ -1,6 +1,9 @@
 //! Whole files written again: without their Exif data or all metadata, and with new Exif data.
 #![tactic(auto)]
 
+pub mod by_head;
+
+pub use by_head::rewrite;
 pub use exif_rewrite_base::Remove;
 pub use exif_rewrite_jpeg::{Ended, rewrite_jpeg, rewrite_jpeg_as_it_stands};
 pub use exif_rewrite_webp::rewrite_webp;

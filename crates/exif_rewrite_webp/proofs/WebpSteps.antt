@@ -20,7 +20,7 @@ use Rattle.exif_rewrite_webp.specs.declared.chunks.Chunk.{Chunk as LentChunk}
 use Rattle.exif_rewrite_base.specs.Removing.{too_large, behind}
 use Rattle.exif_rewrite_webp.specs.RewrittenWebp.{is, chunk_stays, staying, flagged, settled, lossy, lossless, or_none, no_canvas, canvas_where, chunk_named, is_put, new_chunks, sized, file_of, webp_rewriting, webp_rewriting_refusals}
 use Rattle.exif_rewrite_webp.specs.WebpChunks.{Chunk, Front, Body, in_front, first_chunk, body_within, body_of, header_room, file_body, pad_of, chunk_text, chunks_text, file_text}
-use Rattle.exif_rewrite_webp.specs.WebpPlans.{chunk_view, kept_body, kept_file, staying_in, settled_text, header_text, named_text, StopsFile}
+use Rattle.exif_rewrite_webp.specs.WebpPlans.{chunk_view, kept_body, kept_file, staying_in, settled_text, header_text, named_text, StopsFile, sent_of}
 
 -- what a slice of chunks gives past its end
 abbrev pub no_chunk : LentChunk
@@ -272,15 +272,14 @@ canvas_text_len p e =
 
 -- ---- what an error left
 
-nothing_sent : (o : Result (List ℕ) Refusal) (p : Option (List ℕ)) → IfOk o (SendsFront p p)
-nothing_sent (Err r) p = tt
-nothing_sent (Ok text) p = front_none p p text (keeps_same p)
+nothing_sent : (o : Result (List ℕ) Refusal) (p : Option (List ℕ)) → SendsFront p p (sent_of o)
+nothing_sent o p = front_none p p (sent_of o) (keeps_same p)
 
 pub fails_stops : (e : Failure) (p : Option (List ℕ)) (o : Result (List ℕ) Refusal) → Fails e o → StopsFile e p p o
-fails_stops e p o = by (refusal_of e)
+fails_stops e p o h = (nothing_sent o p, by (refusal_of e) h)
   where
-    by : (r : Option Refusal) → MatchOption r (IsInterrupted e) (λ r. o ≡ Err r) → MatchOption r (IfOk o (SendsFront p p)) (λ r. o ≡ Err r)
-    by None h = nothing_sent o p
+    by : (r : Option Refusal) → MatchOption r (IsInterrupted e) (λ r. o ≡ Err r) → MatchOption r (Unit {0}) (λ r. o ≡ Err r)
+    by None h = tt
     by (Some r) h = h
 
 interrupted_none : (e : Failure) → IsInterrupted e → refusal_of e ≡ None
@@ -296,7 +295,7 @@ interrupted_none (error.PartialResult partial) h = absurd h
 
 pub interrupted_stops : (e : Failure) (a p : Option (List ℕ)) (f : List ℕ → Result (List ℕ) Refusal) → IsInterrupted e → IfSome a (λ xs. StopsFile e p p (f xs))
 interrupted_stops e None p f h = tt
-interrupted_stops e (Some x) p f h = rw (interrupted_none e h) (nothing_sent (f x) p)
+interrupted_stops e (Some x) p f h = rw (interrupted_none e h) (nothing_sent (f x) p, tt)
 
 pub plan_stops : (e : Failure) (a p : Option (List ℕ)) (bytes : List ℕ) (f : List ℕ → Result (List ℕ) Refusal) → IfSome a (λ xs. bytes ≡ xs) → Fails e (f bytes) → IfSome a (λ xs. StopsFile e p p (f xs))
 plan_stops e None p bytes f is h = tt
@@ -305,7 +304,7 @@ plan_stops e (Some x) p bytes f is h = rw (sym is) (fails_stops e p (f bytes) h)
 pub send_stops : (e : Failure) (a p q : Option (List ℕ)) (bytes text : List ℕ) (f : List ℕ → Result (List ℕ) Refusal) → IfSome a (λ xs. bytes ≡ xs) → f bytes ≡ Ok text → refusal_of e ≡ None → SendsFront p q text
     → IfSome a (λ xs. StopsFile e p q (f xs))
 send_stops e None p q bytes text f is h none s = tt
-send_stops e (Some x) p q bytes text f is h none s = rw (sym is) (rw (none, h) s)
+send_stops e (Some x) p q bytes text f is h none s = rw (sym is) (rw (none, h) (s, tt))
 
 pub file_sent : (a p q r : Option (List ℕ)) (bytes text : List ℕ) (f : List ℕ → Result (List ℕ) Refusal) → IfSome a (λ xs. bytes ≡ xs) → f bytes ≡ Ok text → Appends p q text → Keeps q r
     → IfSome a (λ xs. (text : List ℕ) × (f xs ≡ Ok text) × Appends p r text)

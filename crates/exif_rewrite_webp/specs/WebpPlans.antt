@@ -1,5 +1,5 @@
 -- What a clause sees of a WebP file that is read, and of one that is to be written.
-use Rattle.std.specs.Prelude.{◌≡◌, ℕ, Bool, List, ◌++◌, map, codes, Option, Result, Ok, Err, IfOk, MatchOption}
+use Rattle.std.specs.Prelude.{◌≡◌, ℕ, Bool, List, [], ◌++◌, map, codes, Option, Result, Ok, Err, MatchOption}
 use Rattle.std.specs.Int.{to_le_bytes, w32}
 use Rattle.std.specs.List.{flat_map}
 use Rattle.exif_base.specs.Sent.{SendsFront}
@@ -60,8 +60,14 @@ plan_view p =
     ++ (flat_map (settled_text p.remove (is_put (payload_of p.put))) p.chunks.items
     ++ (named_text (codes "EXIF") (payload_of p.put) ++ p.tail.now)))
 
--- what an error left: a refusal is that of the file, and sent nothing; an interruption sent a front
+-- what is sent of a file: nothing where it is refused
+abbrev pub sent_of : Result (List ℕ) Refusal → List ℕ
+sent_of (Ok text) = text
+sent_of (Err r) = []
+
+-- what an error left: a front of the file, and a refusal is the file's
 abbrev pub StopsFile : Failure → Option (List ℕ) → Option (List ℕ)
     → Result (List ℕ) Refusal → Type 0
 StopsFile e taken taken' answer =
-    MatchOption (refusal_of e) (IfOk answer (SendsFront taken taken')) (λ r. answer ≡ Err r)
+    SendsFront taken taken' (sent_of answer)
+    × MatchOption (refusal_of e) (Unit {0}) (λ r. answer ≡ Err r)

@@ -1,6 +1,7 @@
 //! A file for each kind of file, and one for devices that fail.
 
 mod devices;
+mod files;
 mod jpeg;
 mod rewritings;
 mod standing;

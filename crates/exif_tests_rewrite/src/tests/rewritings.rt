@@ -1,7 +1,7 @@
 //! The calls under test, over readers and writers of one byte a call.
 
 use exif_base::Counted;
-use exif_rewrite::{Ended, Remove, rewrite_jpeg, rewrite_jpeg_as_it_stands, rewrite_webp};
+use exif_rewrite::{Ended, Remove, rewrite, rewrite_jpeg, rewrite_jpeg_as_it_stands, rewrite_webp};
 use exif_samples::devices::{Drip, Slow};
 use exif_types::Error;
 use std::alloc::Global;
@@ -86,6 +86,25 @@ pub fn webp_within(
     let mut source = Counted::new(Slow::new(bytes, reads, ErrorKind::Other));
     let mut out = Counted::new(Drip::new(alloc, writes, Some(ErrorKind::Other)));
     let result = rewrite_webp(alloc, &mut source, &mut out, wish.put, wish.remove);
+    written(out, result)
+}
+
+/// A file, whatever container it is, read and written one byte a call.
+pub fn file(alloc: Global, bytes: &[u8], wish: Wish) -> Outcome {
+    file_within(alloc, bytes, wish, usize::MAX, usize::MAX)
+}
+
+/// So with so many good calls of the reader and of the writer.
+pub fn file_within(
+    alloc: Global,
+    bytes: &[u8],
+    wish: Wish,
+    reads: usize,
+    writes: usize,
+) -> Outcome {
+    let mut source = Counted::new(Slow::new(bytes, reads, ErrorKind::Other));
+    let mut out = Counted::new(Drip::new(alloc, writes, Some(ErrorKind::Other)));
+    let result = rewrite(alloc, &mut source, &mut out, wish.put, wish.remove);
     written(out, result)
 }
 
