@@ -1,1 +1,2 @@
 pub mod RewrittenFile
+pub mod ScrubbedExif

@@ -2,8 +2,10 @@
 #![tactic(auto)]
 
 pub mod by_head;
+pub mod scrubbed;
 
 pub use by_head::rewrite;
 pub use exif_rewrite_base::Remove;
 pub use exif_rewrite_jpeg::{Ended, rewrite_jpeg, rewrite_jpeg_as_it_stands};
 pub use exif_rewrite_webp::rewrite_webp;
+pub use scrubbed::{UPRIGHT, scrubbed_exif};

@@ -4,5 +4,6 @@ mod devices;
 mod files;
 mod jpeg;
 mod rewritings;
+mod scrubbed;
 mod standing;
 mod webp;

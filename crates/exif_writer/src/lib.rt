@@ -14,5 +14,6 @@ pub mod write_fault;
 mod writer;
 
 pub use block_kind::BlockKind;
+pub use ifd::is_own;
 pub use write_fault::WriteFault;
 pub use writer::Writer;
