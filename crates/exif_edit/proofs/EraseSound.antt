@@ -30,7 +30,7 @@ use Rattle.exif_edit.proofs.ReadSound.{reads_are}
 
 -- ---- the spans lie in the data
 
-within-append : (n : ℕ) (xs ys : List Span) → AllWithin n xs → AllWithin n ys → AllWithin n (xs ++ ys)
+pub within-append : (n : ℕ) (xs ys : List Span) → AllWithin n xs → AllWithin n ys → AllWithin n (xs ++ ys)
 within-append n [] ys h k = k
 within-append n (x ∷ xs) ys h k = (h.0, within-append n xs ys h.1 k)
 
@@ -48,7 +48,7 @@ within_within total s = by_test (nat_le (s.place + s.len) total) refl
     by_test true e = grind (arith, nat_tests)
     by_test false e = omega arith
 
-values_within : (number : Reading) (bytes es : List ℕ) → AllWithin (length bytes) (map (value_span number bytes) es)
+pub values_within : (number : Reading) (bytes es : List ℕ) → AllWithin (length bytes) (map (value_span number bytes) es)
 values_within number bytes [] = tt
 values_within number bytes (e ∷ es) = (within_within (length bytes) (value_room number bytes e), values_within number bytes es)
 
@@ -63,7 +63,7 @@ spans_within : (number : Reading) (bytes : List ℕ) → AllWithin (length bytes
 unfolding gps_spans
 spans_within number bytes = directories_within number bytes (gps_places bytes)
 
-zeros_fit : (n : ℕ) (ss : List Span) → AllWithin n ss → All (FitsIn n) (map zeros_over ss)
+pub zeros_fit : (n : ℕ) (ss : List Span) → AllWithin n ss → All (FitsIn n) (map zeros_over ss)
 zeros_fit n [] h = All-nil (FitsIn n)
 zeros_fit n (s ∷ ss) h =
     let l : length (replicate {A = ℕ} s.len 0) ≡ s.len = length-replicate s.len 0 in

@@ -45,13 +45,13 @@ place_none file old ps place count h f =
 -- ---- the patches, counted from the first byte of the file
 
 -- those that are left begin with the one at hand
-left_step : (xs : List Patch) (i : ℕ) (x : Patch) → i < length xs → x ≡ get_or xs i x → drop i xs ≡ x ∷ drop (i + 1) xs
+left_step : {A : Type 0} (xs : List A) (i : ℕ) (x : A) → i < length xs → x ≡ get_or xs i x → drop i xs ≡ x ∷ drop (i + 1) xs
 left_step xs i x h g =
     let n : i + 1 ≡ suc i = omega arith in
     rw n (drop-cons xs i x h ∙ ap (λ q. q ∷ drop (suc i) xs) (sym g))
 
 -- one of them is changed
-pub change_step : (f : Patch → Patch) (xs ys : List Patch) (i : ℕ) (x y : Patch) → i < length xs → x ≡ get_or xs i x → y ≡ f (get_or xs i x) → ys ≡ set xs i y
+pub change_step : {A : Type 0} (f : A → A) (xs ys : List A) (i : ℕ) (x y : A) → i < length xs → x ≡ get_or xs i x → y ≡ f (get_or xs i x) → ys ≡ set xs i y
     → take (i + 1) ys ++ map f (drop (i + 1) ys) ≡ take i xs ++ map f (drop i xs)
 change_step f xs ys i x y h g k e =
     let d = left_step xs i x h g in
@@ -70,7 +70,7 @@ change_left n xs ys i x y h g e k =
 pub first_left : (n : ℕ) (xs : List Patch) (i : ℕ) (x : Patch) → i < length xs → x ≡ get_or xs i x → All (FitsIn n) (drop i xs) → FitsIn n x
 first_left n xs i x h g k = All-head (FitsIn n) x (drop (i + 1) xs) (All-same (FitsIn n) (x ∷ drop (i + 1) xs) (drop i xs) (sym (left_step xs i x h g)) k)
 
-pub change_end : (f : Patch → Patch) (xs all : List Patch) (i : ℕ) → length xs ≤ i → take i xs ++ map f (drop i xs) ≡ all → xs ≡ all
+pub change_end : {A : Type 0} (f : A → A) (xs all : List A) (i : ℕ) → length xs ≤ i → take i xs ++ map f (drop i xs) ≡ all → xs ≡ all
 change_end f xs all i h e =
     let t : take i xs ≡ xs = take_all i xs h in
     let d : drop i xs ≡ [] = drop_of_length-le xs h in

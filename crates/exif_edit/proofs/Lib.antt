@@ -11,8 +11,11 @@ pub mod PatchSteps
 pub mod ReadFaults
 pub mod ReadSound
 pub mod ReadSteps
+pub mod RemoveSound
+pub mod RemoveSteps
 pub mod SetFound
 pub mod SetSound
 pub mod SetSteps
+pub mod Told
 pub mod WalkFound
 pub mod WalkSteps

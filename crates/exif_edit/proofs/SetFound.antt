@@ -1,6 +1,6 @@
 -- After an edit, a look-up of the name gives the value.
 use Rattle.std.proofs.Common.{◌≡◌, ℕ, Bool, true, false, if◌then◌else◌, List, [], ◌∷◌, ◌++◌, map, reverse, Option, Some, None, refl, sym, ap, subst, ◌∙◌}
-use Rattle.std.specs.Prelude.{◌||◌, ◌==◌, find}
+use Rattle.std.specs.Prelude.{◌||◌, ◌==◌, find, not}
 use Rattle.std.specs.List.{list_any}
 use Rattle.std.proofs.lemmas.Bool.{false≢true}
 use Rattle.std.proofs.lemmas.List.{reverse-append}
@@ -16,7 +16,8 @@ use Rattle.exif_tiff.specs.declared.fault.Fault.{Fault}
 use Rattle.exif_writer.specs.Encoding.{moved_to}
 use Rattle.exif_edit.specs.Finding.{last_located, replaced, with_value}
 use Rattle.exif_edit.specs.Locations.{Located, located}
-use Rattle.exif_edit.specs.Promises.{FindsValue, IsSet}
+use Rattle.exif_edit.specs.Promises.{FindsNone, FindsValue, IsFieldErased, IsSet, told_by}
+use Rattle.exif_edit.specs.Removing.{told_at, without_named}
 use Rattle.exif_edit.proofs.FindSteps.{any_map, field_of}
 use Rattle.exif_edit.proofs.LawsLocated.{located_fields}
 use Rattle.exif_edit.proofs.PatchSteps.{split}
@@ -146,3 +147,32 @@ set_found old new tag k value s lenient fields faults e =
     let any : list_any (is_named tag k) fs ≡ true = subst (λ xs. list_any (is_named tag k) xs ≡ true) (located_fields old) (located_any tag k (located old) s.at s.found) in
     let same = shown_fields lenient (replaced tag k (moved_to s.place value) fs) fields (faults_of (trace old)) faults (sym (s.reads lenient) ∙ e) in
     (s.place, ap (λ xs. last_named xs tag k) (sym same) ∙ replaced_found tag k (moved_to s.place value) fs any)
+
+pub neither : (a b : Bool) → (a || b) ≡ false → (a ≡ false) × (b ≡ false)
+neither true b h = absurd (false≢true (sym h))
+neither false b h = (refl, h)
+
+-- ---- none of a name is left
+
+none_left : (tag : Tag) (k : In) (fs : List Field) → list_any (is_named tag k) (without_named tag k fs) ≡ false
+none_left tag k [] = refl
+none_left tag k (f ∷ fs) = by_test (is_named tag k f) refl (none_left tag k fs)
+  where
+    by_test : (b : Bool) → is_named tag k f ≡ b → list_any (is_named tag k) (without_named tag k fs) ≡ false → list_any (is_named tag k) (if not b then f ∷ without_named tag k fs else without_named tag k fs) ≡ false
+    by_test true e h = h
+    by_test false e h = rw e h
+
+told_none : (tag : Tag) (k : In) (ls : List Located) (gs : List Field) → list_any (is_named tag k) gs ≡ false → list_any (is_named tag k) (told_by ls gs) ≡ false
+told_none tag k [] gs h = refl
+told_none tag k (l ∷ ls) [] h = refl
+told_none tag k (l ∷ ls) (g ∷ gs) h =
+    let p = neither (is_named tag k g) (list_any (is_named tag k) gs) h in
+    let t : is_named tag k (told_at l.entry g) ≡ false = p.0 in
+    rw t (told_none tag k ls gs p.1)
+
+pub none_found : (old new : List ℕ) (tag : Tag) (k : In) → IsFieldErased old tag k new → FindsNone tag k new
+none_found old new tag k s lenient fields faults e =
+    let gs = told_by (located new) (without_named tag k (fields_of (trace old))) in
+    let same = shown_fields lenient gs fields s.faults faults (sym (s.reads lenient) ∙ e) in
+    let any = told_none tag k (located new) (without_named tag k (fields_of (trace old))) (none_left tag k (fields_of (trace old))) in
+    ap (λ xs. last_named xs tag k) (sym same) ∙ (from_behind (is_named tag k) gs ∙ passing_none (is_named tag k) gs any)

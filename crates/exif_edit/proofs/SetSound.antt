@@ -35,7 +35,7 @@ pub length-spelled : (order : Order) (n x : ℕ) → length (spelled order n x) 
 length-spelled Big n x = length-bytes_high_first n x
 length-spelled Little n x = length-bytes_low_first 0 n x
 
-length-padded : (n : ℕ) (text : List ℕ) → length text ≤ n → length (padded n text) ≡ n
+pub length-padded : (n : ℕ) (text : List ℕ) → length text ≤ n → length (padded n text) ≡ n
 length-padded n text h =
     let l : length (replicate {A = ℕ} (n - length text) 0) ≡ n - length text = length-replicate (n - length text) 0 in
     let a = length-append text (replicate (n - length text) 0) in

@@ -36,11 +36,15 @@ within total s = if nat_le (s.place + s.len) total then s else nowhere
 abbrev pub value_span : Reading → List ℕ → ℕ → Span
 value_span number bytes e = within (length bytes) (value_room number bytes e)
 
--- the directory at q: its count, entries and next place; and the values of its entries
+-- the directory at q: its count, entries and next place
+abbrev pub directory_span : Reading → List ℕ → ℕ → Span
+directory_span number bytes q =
+    clipped (length bytes) (record { place = q; len = 2 + 12 * whole_entries number bytes q + 4 })
+
+-- the same, and the values of its entries
 abbrev pub directory_spans : Reading → List ℕ → ℕ → List Span
 directory_spans number bytes q =
-    clipped (length bytes) (record { place = q; len = 2 + 12 * whole_entries number bytes q + 4 })
-    ∷ map (value_span number bytes) (entry_places number bytes q)
+    directory_span number bytes q ∷ map (value_span number bytes) (entry_places number bytes q)
 
 -- the GPS directories of data, and the values of their entries
 unfoldable pub gps_spans : Reading → List ℕ → List Span

@@ -8,5 +8,6 @@ pub mod Locations
 pub mod Patches
 pub mod Promises
 pub mod Readings
+pub mod Removing
 pub mod Setting
 pub mod Walked

@@ -1,5 +1,5 @@
 -- What is promised of edited data.
-use Rattle.std.specs.Prelude.{◌≡◌, ℕ, ◌+◌, ◌≤◌, Bool, false, List, length, map, slice_index, Some, None, Ok, if◌then◌else◌}
+use Rattle.std.specs.Prelude.{◌≡◌, ℕ, ◌+◌, ◌≤◌, Bool, true, false, List, [], ◌∷◌, length, map, slice_index, Some, None, Ok, if◌then◌else◌}
 use Rattle.std.specs.List.{list_any}
 use Rattle.exif_base.specs.Orders.{number_of}
 use Rattle.exif_base.specs.declared.endian.Order.{Order}
@@ -16,7 +16,9 @@ use Rattle.exif_edit.specs.Erasing.{gps_spans, without_gps}
 use Rattle.exif_edit.specs.Finding.{last_located, replaced}
 use Rattle.exif_edit.specs.Locations.{Located, located}
 use Rattle.exif_edit.specs.Patches.{inside}
+use Rattle.exif_edit.specs.Removing.{directories_with, named_spans, named_values, told_at, without_named}
 use Rattle.exif_edit.specs.Setting.{set_answer, value_room}
+use Rattle.exif_edit.specs.Walked.{entry_of}
 
 -- in both modes the data are read as these fields and faults
 abbrev pub ReadAs : List ℕ → List Field → List Fault → Type 0
@@ -56,6 +58,39 @@ pub record IsErased (old new : List ℕ) : Type 0 where
   pub faults : List Fault
   pub reads : ReadAs new (without_gps (fields_of (trace old))) faults
   pub fewer : length faults ≤ length (faults_of (trace old))
+
+-- the fields, each as the entry tells it in which it stands
+abbrev pub told_by : List Located → List Field → List Field
+told_by (l ∷ ls) (f ∷ fs) = told_at l.entry f ∷ told_by ls fs
+told_by _ _ = []
+
+-- the directories that have fields of a name
+abbrev pub named_directories : List ℕ → Tag → In → List ℕ
+named_directories bytes tag k =
+    directories_with tag k (fields_of (trace bytes)) (map entry_of (located bytes))
+
+-- the fields of a name are gone, their values are zero bytes, and all that stands neither there nor
+-- in their directories is as it was
+pub record IsFieldErased (old : List ℕ) (tag : Tag) (k : In) (new : List ℕ) : Type 0 where
+  pub order : Order
+  pub header : header old ≡ Ok order
+  pub as_long : length new ≡ length old
+  pub faults : List Fault
+  pub reads : ReadAs new
+      (told_by (located new) (without_named tag k (fields_of (trace old)))) faults
+  pub fewer : length faults ≤ length (faults_of (trace old))
+  pub values : (i : ℕ)
+      → list_any (inside i) (named_values (number_of order) old tag.1 (named_directories old tag k))
+      ≡ true → slice_index new i ≡ 0
+  pub outside : (i : ℕ)
+      → list_any (inside i) (named_spans (number_of order) old tag.1 (named_directories old tag k))
+      ≡ false → slice_index new i ≡ slice_index old i
+
+-- a look-up of the name in what is read finds nothing
+abbrev pub FindsNone : Tag → In → List ℕ → Type 0
+FindsNone tag k bytes =
+    (lenient : Bool) (fields : List Field) (faults : List Fault)
+    → raw_answer lenient None bytes ≡ shown fields faults → last_named fields tag k ≡ None
 
 -- ---- laws
 

@@ -23,8 +23,8 @@ use exif_reader::tiff::Parsed;
 use exif_types::{Context, Field};
 use std::alloc::{AllocError, Global};
 
-// How many entries of the directory at a place are whole.
-fn whole_entries(order: Order, bytes: &[u8], place: u32) -> usize
+/// How many entries of the directory at a place are whole.
+pub fn whole_entries(order: Order, bytes: &[u8], place: u32) -> usize
     ensures value { result ≡ whole_entries (number_of order) bytes.now place }
     ensures room { 0 < result → place + 2 + 12 * result ≤ length bytes.now }
     ensures small { result < 65536 }
@@ -51,8 +51,8 @@ fn clipped(total: usize, span: Span) -> Span
     }
 }
 
-// Where the value of the entry at a place stands outside of it, if it lies in the data.
-fn value_span(order: Order, bytes: &[u8], entry: u32) -> Span
+/// Where the value of the entry at a place stands outside of it, if it lies in the data.
+pub fn value_span(order: Order, bytes: &[u8], entry: u32) -> Span
     requires { entry + 12 ≤ length bytes.now }
     ensures { result ≡ value_span (number_of order) bytes.now entry }
 {

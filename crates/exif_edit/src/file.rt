@@ -7,12 +7,14 @@ ghost use Rattle.exif_edit.specs.Clearing.{clear_patches};
 ghost use Rattle.exif_edit.specs.Erasing.{erase_patches};
 ghost use Rattle.exif_edit.specs.InFiles.{IsEditedIn, clear_file_patches, edited_file, holds, in_file, place_answer, placed, serves, shifted};
 ghost use Rattle.exif_edit.specs.Patches.{FitsIn, patched};
+ghost use Rattle.exif_edit.specs.Removing.{field_patches};
 ghost use Rattle.exif_edit.specs.Setting.{set_patches};
 
 use crate::clear::erase_all_patches;
 use crate::erase::erase_places_patches;
 use crate::error::Error;
 use crate::patch::{Patch, apply, patched, put};
+use crate::remove::erase_field_patches;
 use crate::set::set_value_patches;
 use exif_base::Counted;
 use exif_containers::container::is_tiff;
@@ -161,6 +163,23 @@ pub fn erase_places_patches_in_file(alloc: Global, file: &[u8]) -> Result<Vec<Pa
     Ok(placed)
 }
 
+/// What [`erase_field_in_file`] puts over the file, as data. The file stays as it is.
+pub fn erase_field_patches_in_file(
+    alloc: Global,
+    file: &[u8],
+    tag: Tag,
+    ifd_num: In,
+) -> Result<Vec<Patch>, Error>
+    ensures answer { Makes (λ ps. ps.items) result
+        (in_file (λ old. field_patches old tag ifd_num) file.now) }
+    ensures within { IfOk result (λ ps. All (FitsIn (length file.now)) ps.items) }
+{
+    let old = data_of(alloc, file)?;
+    let patches = erase_field_patches(alloc, old.as_slice(), tag, ifd_num)?;
+    let placed = placed(alloc, file, old.as_slice(), patches)?;
+    Ok(placed)
+}
+
 /// What [`erase_all_in_file`] puts over the file, as data. The file stays as it is.
 pub fn erase_all_patches_in_file(alloc: Global, file: &[u8]) -> Result<Vec<Patch>, Error>
     ensures answer { Makes (λ ps. ps.items) result (clear_file_patches file.now) }
@@ -213,6 +232,25 @@ pub fn erase_places_in_file(alloc: Global, file: &mut [u8]) -> Result<(), Error>
     ensures edited { OnOk result (IsEditedIn erase_patches file.old file.new) }
 {
     let patches = erase_places_patches_in_file(alloc, file)?;
+    apply(patches.as_slice(), file);
+    Ok(())
+}
+
+/// Takes all fields of a name out of the Exif data of a file of each container.
+///
+/// Refusals are those of [`erase_field`](crate::erase_field), `Container` and `ScatteredData`.
+pub fn erase_field_in_file(
+    alloc: Global,
+    file: &mut [u8],
+    tag: Tag,
+    ifd_num: In,
+) -> Result<(), Error>
+    ensures answer { Edits result file.old file.new
+        (edited_file (in_file (λ old. field_patches old tag ifd_num)) file.old) }
+    ensures edited { OnOk result
+        (IsEditedIn (λ old. field_patches old tag ifd_num) file.old file.new) }
+{
+    let patches = erase_field_patches_in_file(alloc, file, tag, ifd_num)?;
     apply(patches.as_slice(), file);
     Ok(())
 }

@@ -1,5 +1,5 @@
-//! Exif data edited where they stand: a value set, places erased, all fields erased, and not one
-//! other byte changed.
+//! Exif data edited where they stand: a value set, fields of a name, places or all fields erased, and
+//! not one other byte changed.
 //!
 //! Each edit comes in three forms: over data in memory, over a file in memory, and as patches, for
 //! a program that writes into a file by a seek. An error leaves all bytes as they were. What an
@@ -20,6 +20,7 @@ mod find;
 pub mod laws;
 mod patch;
 mod read;
+mod remove;
 mod set;
 mod spell;
 mod walk;
@@ -28,8 +29,10 @@ pub use clear::{erase_all, erase_all_patches};
 pub use erase::{erase_places, erase_places_patches};
 pub use error::Error;
 pub use file::{
-    erase_all_in_file, erase_all_patches_in_file, erase_places_in_file,
-    erase_places_patches_in_file, set_value_in_file, set_value_patches_in_file,
+    erase_all_in_file, erase_all_patches_in_file, erase_field_in_file, erase_field_patches_in_file,
+    erase_places_in_file, erase_places_patches_in_file, set_value_in_file,
+    set_value_patches_in_file,
 };
 pub use patch::Patch;
+pub use remove::{erase_field, erase_field_patches};
 pub use set::{set_value, set_value_patches};

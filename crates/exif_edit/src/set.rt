@@ -28,8 +28,8 @@ struct Edit {
     place: u32,
 }
 
-// Whether the values of a tag say where other bytes stand, or how many.
-fn names_places(tag: Tag) -> bool
+/// Whether the values of a tag say where other bytes stand, or how many.
+pub fn names_places(tag: Tag) -> bool
     ensures { result ≡ names_places tag }
 {
     match tag.0 {

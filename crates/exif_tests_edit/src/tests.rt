@@ -1,5 +1,6 @@
 //! What edits make of small files, byte for byte.
 
+mod fields;
 mod files;
 mod places;
 mod texts;

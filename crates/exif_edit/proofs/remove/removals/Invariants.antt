@@ -1,0 +1,18 @@
+use Rattle.std.proofs.Common.{◌≡◌, ◌++◌, map, drop}
+use Rattle.std.specs.List.{flat_map}
+use Rattle.exif_base.specs.Orders.{number_of}
+use Rattle.exif_edit.specs.Patches.{zeros_over}
+use Rattle.exif_edit.specs.Removing.{directory_patches, removals, taken_spans}
+use Rattle.exif_edit.proofs.remove.removals.Given as goal
+
+-- what is left of the directories adds what all of them do
+abbrev pub invariant-loop-place : goal.invariant-loop-place
+invariant-loop-place l =
+    l.patches.items ++ flat_map (directory_patches l.order l.bytes l.number) (drop l.place-index l.places)
+    ≡ flat_map (directory_patches l.order l.bytes l.number) l.places
+
+-- so of their values
+abbrev pub invariant-loop-place-2 : goal.invariant-loop-place-2
+invariant-loop-place-2 l =
+    l.patches.items ++ map zeros_over (flat_map (taken_spans (number_of l.order) l.bytes l.number) (drop l.place-index l.places))
+    ≡ removals l.order l.bytes l.number l.places

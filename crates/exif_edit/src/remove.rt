@@ -1,0 +1,392 @@
+//! Fields of a name erased: their entries are taken out of their directories.
+
+ghost use Rattle.std.specs.Prelude.{◌≡◌, ◌≤◌, ◌<◌, ◌+◌, ◌*◌, ◌^◌, ◌++◌, ◌∷◌, [], All, length, map, not, if◌then◌else◌, IfOk, OnOk};
+ghost use Rattle.std.specs.List.{filter, flat_map};
+ghost use Rattle.exif_base.specs.Bytes.{spaced};
+ghost use Rattle.exif_base.specs.Orders.{number_of};
+ghost use Rattle.exif_tiff.specs.Trace.{directory_end};
+ghost use Rattle.exif_types.specs.Lookup.{is_named};
+ghost use Rattle.exif_writer.specs.Encoding.{spelled};
+ghost use Rattle.exif_edit.specs.Causes.{Edits, Makes};
+ghost use Rattle.exif_edit.specs.Erasing.{value_span};
+ghost use Rattle.exif_edit.specs.Patches.{FitsIn, zeros_over};
+ghost use Rattle.exif_edit.specs.Promises.{FindsNone, IsFieldErased};
+ghost use Rattle.exif_edit.specs.Readings.{read_of};
+ghost use Rattle.exif_edit.specs.Removing.{directories_with, directory_patches, directory_text, directory_without, entries_text, field_answer, field_patches, has_tag, named_removals, next_text, noted, removals, still_reads, taken_spans, told_at, untold, without_named};
+ghost use Rattle.exif_edit.specs.declared.remove.Kept.{Kept};
+
+use crate::erase::{value_span, whole_entries};
+use crate::error::Error;
+use crate::find::is_named;
+use crate::patch::{Patch, apply, padded, patched, zeros};
+use crate::read::{number16, order_named, read};
+use crate::set::names_places;
+use crate::walk::{EntryPlace, locations};
+use exif_base::{BigEndian, Items, LittleEndian, Order};
+use exif_reader::directory::directory_end;
+use exif_reader::stop::Stop;
+use exif_reader::tiff::Parsed;
+use exif_types::{Field, In, Tag, Value};
+use exif_writer::item::{spelled_u16, spelled_u32};
+use std::alloc::{AllocError, Global};
+
+/// Entries that stay in a directory: how many they are, and their bytes.
+#[derive(Drop)]
+struct Kept {
+    count: usize,
+    text: Vec<u8>,
+}
+
+// Notes a place, once.
+fn note(places: &mut Vec<u32>, place: u32) -> Result<(), AllocError>
+    ensures { OnOk result (places.new.items ≡ noted places.old.items place) }
+{
+    if !places.as_slice().contains(&place) {
+        places.push(place)?;
+    }
+    Ok(())
+}
+
+// Notes the directory of a field, if it has the name.
+fn note_named(
+    field: &Field,
+    entry: EntryPlace,
+    tag: Tag,
+    ifd_num: In,
+    places: &mut Vec<u32>,
+) -> Result<(), AllocError>
+    ensures { OnOk result (places.new.items ≡ (if is_named tag ifd_num field.now
+        then noted places.old.items entry.directory else places.old.items)) }
+{
+    if is_named(field, tag, ifd_num) {
+        note(places, entry.directory)?;
+    }
+    Ok(())
+}
+
+// The directories that have fields of a name.
+fn directories_with(
+    alloc: Global,
+    fields: &[Field],
+    entries: &[EntryPlace],
+    tag: Tag,
+    ifd_num: In,
+) -> Result<Vec<u32>, AllocError>
+    requires { length fields.now ≡ length entries.now }
+    ensures { IfOk result (λ v. v.items ≡ directories_with tag ifd_num fields.now entries.now) }
+{
+    let mut places = Vec::new(alloc);
+    let mut i = fields.len();
+    while i > 0 {
+        i -= 1;
+        note_named(&fields[i], entries[i], tag, ifd_num, &mut places)?;
+    }
+    Ok(places)
+}
+
+// Keeps the entry at a place, if it has another tag.
+fn keep(
+    order: Order,
+    bytes: &[u8],
+    number: u16,
+    at: usize,
+    kept: &mut Kept,
+) -> Result<(), AllocError>
+    requires room { at + 12 ≤ length bytes.now }
+    requires small { kept.old.count < 65536 }
+    ensures count { OnOk result (kept.new.count ≡ kept.old.count
+        + length (filter (λ e. not (has_tag (number_of order) bytes.now number e)) (at ∷ []))) }
+    ensures text { OnOk result (kept.new.text.items ≡ kept.old.text.items
+        ++ entries_text bytes.now
+        (filter (λ e. not (has_tag (number_of order) bytes.now number e)) (at ∷ []))) }
+{
+    if number16(order, bytes, at) != number {
+        kept.text.extend_from_slice(&bytes[at..at + 12])?;
+        kept.count += 1;
+    }
+    Ok(())
+}
+
+// The entries that have another tag.
+fn entries_without(
+    alloc: Global,
+    order: Order,
+    bytes: &[u8],
+    number: u16,
+    first: usize,
+    count: usize,
+) -> Result<Kept, AllocError>
+    requires room { 0 < count → first + 12 * count ≤ length bytes.now }
+    requires bound { first + 12 * count < 2 ^ 40 }
+    requires small { count < 65536 }
+    ensures count { IfOk result (λ kept. kept.count ≡ length (filter
+        (λ e. not (has_tag (number_of order) bytes.now number e)) (spaced first 12 count))) }
+    ensures text { IfOk result (λ kept. kept.text.items ≡ entries_text bytes.now (filter
+        (λ e. not (has_tag (number_of order) bytes.now number e)) (spaced first 12 count))) }
+    ensures few { IfOk result (λ kept. kept.count ≤ count) }
+{
+    let mut kept = Kept {
+        count: 0,
+        text: Vec::new(alloc),
+    };
+    let mut at = first;
+    for _ in 0..count {
+        keep(order, bytes, number, at, &mut kept)?;
+        at += 12;
+    }
+    Ok(kept)
+}
+
+// The place of the next directory, where there is one to be told.
+fn next_text(alloc: Global, order: Order, bytes: &[u8], place: u32) -> Result<Vec<u8>, AllocError>
+    ensures { IfOk result (λ v. v.items
+        ≡ next_text order (directory_end (number_of order) bytes.now place)) }
+{
+    let end = match order {
+        Order::Big => directory_end::<BigEndian>(bytes, place),
+        Order::Little => directory_end::<LittleEndian>(bytes, place),
+    };
+    match end {
+        Ok(next) => Vec::from_slice(alloc, &spelled_u32(order, next)),
+        Err(_) => Ok(Vec::new(alloc)),
+    }
+}
+
+// A count, the bytes of so many entries, and the next place.
+fn joined(alloc: Global, order: Order, kept: &Kept, next: &[u8]) -> Result<Vec<u8>, AllocError>
+    requires { kept.now.count < 65536 }
+    ensures { IfOk result (λ v. v.items
+        ≡ spelled order 2 kept.now.count ++ (kept.now.text.items ++ next.now)) }
+{
+    let mut text = Vec::from_slice(alloc, &spelled_u16(order, kept.count as u16))?;
+    text.extend_from_slice(kept.text.as_slice())?;
+    text.extend_from_slice(next)?;
+    Ok(text)
+}
+
+// The directory at a place without its entries of a tag.
+fn directory_without(
+    alloc: Global,
+    order: Order,
+    bytes: &[u8],
+    number: u16,
+    place: u32,
+) -> Result<Vec<u8>, AllocError>
+    ensures { IfOk result (λ v. v.items ≡ directory_without order bytes.now number place) }
+{
+    let count = whole_entries(order, bytes, place);
+    let kept = entries_without(alloc, order, bytes, number, place as usize + 2, count)?;
+    let next = next_text(alloc, order, bytes, place)?;
+    let next = next.as_slice();
+    let text = joined(alloc, order, &kept, next)?;
+    let directory = padded(alloc, 2 + 12 * count + next.len(), text.as_slice())?;
+    Ok(directory)
+}
+
+// Adds what puts the directory at a place without its entries of a tag over it.
+fn add_directory(
+    alloc: Global,
+    order: Order,
+    bytes: &[u8],
+    number: u16,
+    place: u32,
+    patches: &mut Vec<Patch>,
+) -> Result<(), AllocError>
+    requires { length bytes.now < 2 ^ 32 }
+    ensures { OnOk result (patches.new.items
+        ≡ patches.old.items ++ directory_patches order bytes.now number place) }
+{
+    let text = directory_without(alloc, order, bytes, number, place)?;
+    if text.len() <= bytes.len() && place as usize <= bytes.len() - text.len() {
+        patches.push(Patch {
+            place: place as u64,
+            text: Items::from_vec(text),
+        })?;
+    }
+    Ok(())
+}
+
+// Adds zeros over the value of the entry at a place, if it has the tag.
+fn add_value(
+    alloc: Global,
+    order: Order,
+    bytes: &[u8],
+    number: u16,
+    at: usize,
+    patches: &mut Vec<Patch>,
+) -> Result<(), AllocError>
+    requires room { at + 12 ≤ length bytes.now }
+    requires small { length bytes.now < 2 ^ 32 }
+    ensures { OnOk result (patches.new.items ≡ patches.old.items
+        ++ map zeros_over (map (value_span (number_of order) bytes.now)
+        (filter (has_tag (number_of order) bytes.now number) (at ∷ [])))) }
+{
+    if number16(order, bytes, at) == number {
+        let patch = zeros(alloc, value_span(order, bytes, at as u32))?;
+        patches.push(patch)?;
+    }
+    Ok(())
+}
+
+// Adds zeros over the values of the entries of a tag in the directory at a place.
+fn add_values(
+    alloc: Global,
+    order: Order,
+    bytes: &[u8],
+    number: u16,
+    place: u32,
+    patches: &mut Vec<Patch>,
+) -> Result<(), AllocError>
+    requires { length bytes.now < 2 ^ 32 }
+    ensures { OnOk result (patches.new.items ≡ patches.old.items
+        ++ map zeros_over (taken_spans (number_of order) bytes.now number place)) }
+{
+    let count = whole_entries(order, bytes, place);
+    let mut at = place as usize + 2;
+    for _ in 0..count {
+        add_value(alloc, order, bytes, number, at, patches)?;
+        at += 12;
+    }
+    Ok(())
+}
+
+// What takes the entries of a tag out of directories.
+fn removals(
+    alloc: Global,
+    order: Order,
+    bytes: &[u8],
+    number: u16,
+    places: &[u32],
+) -> Result<Vec<Patch>, AllocError>
+    requires { length bytes.now < 2 ^ 32 }
+    ensures { IfOk result (λ ps. ps.items ≡ removals order bytes.now number places.now) }
+{
+    let mut patches = Vec::new(alloc);
+    for place in places {
+        add_directory(alloc, order, bytes, number, *place, &mut patches)?;
+    }
+    for place in places {
+        add_values(alloc, order, bytes, number, *place, &mut patches)?;
+    }
+    Ok(patches)
+}
+
+// Whether a field has another name.
+fn is_other(field: &Field, tag: Tag, ifd_num: In) -> bool
+    ensures { result ≡ not (is_named tag ifd_num field.now) }
+{
+    !is_named(field, tag, ifd_num)
+}
+
+// Leaves the fields of a name out.
+fn drop_named(fields: &mut Vec<Field>, tag: Tag, ifd_num: In)
+    ensures { fields.new.items ≡ without_named tag ifd_num fields.old.items }
+{
+    fields.retain(|field| is_other(field, tag, ifd_num));
+}
+
+// The field as an entry at place 0 would tell it.
+fn untell_one(field: &mut Field)
+    ensures { field.new ≡ told_at 0 field.old }
+{
+    match &mut field.value {
+        Value::Undefined(bytes, place) => {
+            if bytes.len() <= 4 {
+                *place = 8;
+            }
+        }
+        Value::Unknown(_, _, place) => *place = 8,
+        _ => {}
+    }
+}
+
+// The fields as they are told in whichever entries they stand.
+fn untell(fields: &mut [Field])
+    ensures { fields.new ≡ untold fields.old }
+{
+    for field in fields.iter_mut() {
+        untell_one(field);
+    }
+}
+
+// Whether data are read so, wherever the entries stand, with no more faults.
+fn still_reads(alloc: Global, bytes: &[u8], mut wanted: Parsed) -> Result<bool, AllocError>
+    ensures { IfOk result (λ same. same ≡ still_reads bytes.now (read_of wanted)) }
+{
+    untell(wanted.fields.as_mut_slice());
+    match read(alloc, bytes) {
+        Ok(mut found) => {
+            untell(found.fields.as_mut_slice());
+            Ok(
+                found.little_endian == wanted.little_endian
+                    && found.fields.as_slice() == wanted.fields.as_slice()
+                    && found.faults.len() <= wanted.faults.len(),
+            )
+        }
+        Err(Stop::Fault(_)) => Ok(false),
+        Err(Stop::OutOfMemory) => Err(AllocError),
+    }
+}
+
+// The patches, after a reading of what they make.
+fn named_removals(alloc: Global, bytes: &[u8], tag: Tag, ifd_num: In) -> Result<Vec<Patch>, Error>
+    ensures answer { Makes (λ ps. ps.items) result (named_removals bytes.now tag ifd_num) }
+    ensures within { IfOk result (λ ps. All (FitsIn (length bytes.now)) ps.items) }
+{
+    let mut parsed = read(alloc, bytes)?;
+    let walk = locations(alloc, bytes, parsed.little_endian)?;
+    let places = directories_with(
+        alloc,
+        parsed.fields.as_slice(),
+        walk.entries(),
+        tag,
+        ifd_num,
+    )?;
+    let places = places.as_slice();
+    if places.is_empty() {
+        return Err(Error::FieldNotFound);
+    }
+    let order = order_named(parsed.little_endian);
+    let patches = removals(alloc, order, bytes, tag.1, places)?;
+    drop_named(&mut parsed.fields, tag, ifd_num);
+    let new = patched(alloc, patches.as_slice(), bytes)?;
+    let same = still_reads(alloc, new.as_slice(), parsed)?;
+    if same {
+        Ok(patches)
+    } else {
+        Err(Error::SharedBytes)
+    }
+}
+
+/// What [`erase_field`] puts over the data, as data: each directory that has such a field without
+/// it, and zeros over the values. The data stay as they are.
+pub fn erase_field_patches(
+    alloc: Global,
+    bytes: &[u8],
+    tag: Tag,
+    ifd_num: In,
+) -> Result<Vec<Patch>, Error>
+    ensures answer { Makes (λ ps. ps.items) result (field_patches bytes.now tag ifd_num) }
+    ensures within { IfOk result (λ ps. All (FitsIn (length bytes.now)) ps.items) }
+{
+    if names_places(tag) {
+        return Err(Error::NamesPlaces);
+    }
+    named_removals(alloc, bytes, tag, ifd_num)
+}
+
+/// Takes all fields of a name out of their directories. The entries behind them and the place of
+/// the next directory move up; the end of the directory and the bytes of the values become zero.
+/// A directory that was cut ends with no next place then.
+///
+/// Refusals are `NamesPlaces`, `Header`, `FieldNotFound` and `SharedBytes`. It takes the memory of
+/// two readings, of a copy of the data and of the directories.
+pub fn erase_field(alloc: Global, bytes: &mut [u8], tag: Tag, ifd_num: In) -> Result<(), Error>
+    ensures answer { Edits result bytes.old bytes.new (field_answer bytes.old tag ifd_num) }
+    ensures erased { OnOk result (IsFieldErased bytes.old tag ifd_num bytes.new) }
+    ensures gone { OnOk result (FindsNone tag ifd_num bytes.new) }
+{
+    let patches = erase_field_patches(alloc, bytes, tag, ifd_num)?;
+    apply(patches.as_slice(), bytes);
+    Ok(())
+}

@@ -1,0 +1,102 @@
+//! Fields of a name erased in data.
+
+use super::{DESCRIPTION, refuses};
+use exif_edit::{erase_field, erase_field_patches};
+use exif_samples::files::{DESCRIBED_BIG, DESCRIBED_LITTLE};
+use exif_types::{Context, In, Tag};
+use std::alloc::Global;
+use std::test::Fail;
+
+// A width, a program's name at 50, four bytes of any meaning, and a second directory at 57.
+const THREE: &[u8] =
+    b"MM\0*\0\0\0\x08\0\x03\x01\0\0\x03\0\0\0\x01\0\x14\0\0\x01\x31\0\x02\0\0\0\x07\0\0\0\x32\xc4\xa5\0\x07\0\0\0\x04abcd\0\0\0\x39Sample\0\0\0\0\0\0\0";
+
+// The same without the program's name: what stood behind it has moved up.
+const TWO: &[u8] =
+    b"MM\0*\0\0\0\x08\0\x02\x01\0\0\x03\0\0\0\x01\0\x14\0\0\xc4\xa5\0\x07\0\0\0\x04abcd\0\0\0\x39\0\0\0\0\0\0\0\0\0\0\0\0\0\0\0\0\0\0\0\0\0\0\0\0\0";
+
+// Two widths in one directory, and a height between them.
+const TWICE: &[u8] =
+    b"II*\0\x08\0\0\0\x03\0\0\x01\x03\0\x01\0\0\0\x14\0\0\0\x01\x01\x03\0\x01\0\0\0\x1e\0\0\0\0\x01\x03\0\x01\0\0\0\x15\0\0\0\0\0\0\0";
+
+// The height alone.
+const NEITHER: &[u8] =
+    b"II*\0\x08\0\0\0\x01\0\x01\x01\x03\0\x01\0\0\0\x1e\0\0\0\0\0\0\0\0\0\0\0\0\0\0\0\0\0\0\0\0\0\0\0\0\0\0\0\0\0\0\0";
+
+// A directory that tells of two entries and has one, and its value is cut off.
+const CUT: &[u8] = b"MM\0*\0\0\0\x08\0\x02\x01\0\0\x03\0\0\0\x01\0\x14\0\0\x01\x01";
+
+// The width is gone, and so is the fault: the directory ends with no next place.
+const MENDED: &[u8] = b"MM\0*\0\0\0\x08\0\0\0\0\0\0\0\0\0\0\0\0\0\0\x01\x01";
+
+// Two entries whose values are the same eight bytes.
+const SHARED: &[u8] =
+    b"MM\0*\0\0\0\x08\0\x02\x01\x1a\0\x05\0\0\0\x01\0\0\0&\x01\x1b\0\x05\0\0\0\x01\0\0\0&\0\0\0\0\0\0\0H\0\0\0\x01";
+
+// Data, a tag, and the data without its fields.
+static ERASED: [(&[u8], Tag, &[u8]); 5] = [
+    (THREE, Tag(Context::Tiff, 0x131), TWO),
+    (TWICE, Tag(Context::Tiff, 0x100), NEITHER),
+    (CUT, Tag(Context::Tiff, 0x100), MENDED),
+    (
+        DESCRIBED_BIG,
+        DESCRIPTION,
+        b"MM\0*\0\0\0\x08\0\0\0\0\0\0\0\0\0\0\0\0\0\0\0\0\0\0\0\0\0\0\0\0\0",
+    ),
+    (
+        DESCRIBED_LITTLE,
+        DESCRIPTION,
+        b"II*\0\x08\0\0\0\0\0\0\0\0\0\0\0\0\0\0\0\0\0\0\0\0\0\0\0\0\0\0\0\0",
+    ),
+];
+
+#[test]
+fn entries_are_taken_out(rt: HostRuntime) -> Result<(), Fail> {
+    let alloc = rt.alloc();
+    for row in &ERASED {
+        let (old, tag, want) = *row;
+        let mut bytes = Vec::from_slice(alloc, old)?;
+        assert!(rt; erase_field(alloc, bytes.as_mut_slice(), tag, In(0)).is_ok());
+        assert!(rt; bytes.as_slice() == want);
+    }
+    Ok(())
+}
+
+#[test]
+fn patches_are_a_directory_and_a_value(rt: HostRuntime) -> Result<(), Fail> {
+    let alloc = rt.alloc();
+    match erase_field_patches(alloc, THREE, Tag(Context::Tiff, 0x131), In(0)) {
+        Ok(patches) => {
+            assert!(rt; patches.len() == 2);
+            assert!(rt; patches[0].place == 8 && patches[0].text.len() == 42);
+            assert!(rt; patches[1].place == 50 && patches[1].text.len() == 7);
+        }
+        Err(_) => assert!(rt; false),
+    }
+    Ok(())
+}
+
+// Whether an erasing is refused with this text, and the bytes stay.
+fn stays(
+    alloc: Global,
+    old: &[u8],
+    tag: Tag,
+    why: &str,
+) -> Result<bool, std::alloc::AllocError> {
+    let mut bytes = Vec::from_slice(alloc, old)?;
+    let answer = erase_field(alloc, bytes.as_mut_slice(), tag, In(0));
+    let refused = refuses(alloc, &answer, why)?;
+    Ok(refused && bytes.as_slice() == old)
+}
+
+#[test]
+fn refusals_change_nothing(rt: HostRuntime) -> Result<(), Fail> {
+    let alloc = rt.alloc();
+    let strips = Tag(Context::Tiff, 0x111);
+    let resolution = Tag(Context::Tiff, 0x11a);
+    assert!(rt; stays(alloc, THREE, strips, "The field says where other bytes stand")?);
+    assert!(rt; stays(alloc, THREE, DESCRIPTION, "No such field")?);
+    assert!(rt; stays(alloc, SHARED, resolution, "The bytes are shared with something else")?);
+    assert!(rt; stays(alloc, b"MM\0*", DESCRIPTION, "Truncated TIFF header")?);
+    Ok(())
+}
