@@ -38,6 +38,26 @@ fn read_all<R: Read + Drop>(alloc: Global, mut reader: R) -> io::Result<Vec<u8>>
     Ok(bytes)
 }
 
+/// All the bytes of a file, `-` for standard input.
+pub fn read_file(rt: &HostRuntime, path: &str) -> io::Result<Vec<u8>> {
+    if path == "-" {
+        return read_all(rt.alloc(), rt.stdin());
+    }
+    read_all(rt.alloc(), File::open(rt, path)?)
+}
+
+/// Whether a file begins as a picture does, or can't be read, which its turn will tell.
+pub fn is_picture(rt: &HostRuntime, path: &str) -> bool {
+    let head = match File::open(rt, path) {
+        Ok(mut file) => head_of(rt.alloc(), &mut file),
+        Err(cause) => Err(cause),
+    };
+    match head {
+        Ok(head) => format_of(head.as_slice()).is_some(),
+        Err(_cause) => true,
+    }
+}
+
 // The first bytes of a file, which stands at its start again.
 fn head_of(alloc: Global, file: &mut File) -> io::Result<Vec<u8>> {
     let mut head = Vec::new(alloc);

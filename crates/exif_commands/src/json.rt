@@ -1,7 +1,8 @@
 //! The JSON object of a file.
 
+use crate::files::Status;
 use crate::inputs::{Input, read};
-use crate::request::Request;
+use crate::request::Reading;
 use exif::{Error, Exif, Reader};
 use exif_containers::container::Format;
 use exif_json::{read_json, refusal_json};
@@ -11,13 +12,13 @@ use std::io;
 /// The object of a file, and the file's status.
 pub fn object_of(
     alloc: Global,
-    request: &Request<'_>,
+    reading: Reading,
     path: &str,
     input: io::Result<Input>,
-) -> Result<(Vec<u8>, u8), AllocError> {
+) -> Result<(Vec<u8>, Status), AllocError> {
     let mut by = Reader::new();
-    by.continue_on_error(!request.strict)
-        .limit_entries(request.limit);
+    by.continue_on_error(!reading.strict)
+        .limit_entries(reading.limit);
     let read = match input {
         Ok(input) => read(alloc, &by, input),
         Err(cause) => Err(cause),
@@ -33,18 +34,21 @@ fn answered(
     path: &[u8],
     format: Option<Format>,
     answer: Result<Exif, Error>,
-) -> Result<(Vec<u8>, u8), AllocError> {
+) -> Result<(Vec<u8>, Status), AllocError> {
     let format = format.unwrap_or(Format::Tiff);
     match answer {
-        Ok(exif) => Ok((read_json(alloc, path, format, &exif, &[])?, 0)),
+        Ok(exif) => Ok((read_json(alloc, path, format, &exif, &[])?, Status::Well)),
         Err(Error::PartialResult(partial)) => {
             let (exif, faults) = partial.into_inner();
-            Ok((read_json(alloc, path, format, &exif, &faults)?, 3))
+            Ok((
+                read_json(alloc, path, format, &exif, &faults)?,
+                Status::FaultsPassedOver,
+            ))
         }
         Err(error) => refused(alloc, path, &error),
     }
 }
 
-fn refused(alloc: Global, path: &[u8], error: &Error) -> Result<(Vec<u8>, u8), AllocError> {
-    Ok((refusal_json(alloc, path, error)?, 1))
+fn refused(alloc: Global, path: &[u8], error: &Error) -> Result<(Vec<u8>, Status), AllocError> {
+    Ok((refusal_json(alloc, path, error)?, Status::Refused))
 }

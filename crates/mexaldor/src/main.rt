@@ -1,18 +1,14 @@
-//! Exif metadata of many files: `mexaldor show FILE..` and `mexaldor json FILE..`.
+//! Exif metadata of many files: shown, told as JSON, taken out, set and shifted.
 #![tactic(auto)]
 
 use clap::Error;
 use exif::Counted;
-use exif_commands::{Request, command, request_of, run};
-use std::env;
-use std::io::{self, BufWriter, ErrorKind};
+use exif_commands::{Request, command, request_of, run, words};
+use std::io::{self, BufWriter, ErrorKind, IsTerminal};
 use std::process::ExitCode;
 
 fn main(rt: HostRuntime) -> io::Result<ExitCode> {
-    let mut words = Vec::new(rt.alloc());
-    for word in env::args(&rt)? {
-        words.push(word)?;
-    }
+    let words = words(&rt)?;
     let status = match answer(&rt, words.as_slice()) {
         Ok(done) => done?,
         Err(error) => {
@@ -25,18 +21,18 @@ fn main(rt: HostRuntime) -> io::Result<ExitCode> {
 
 // Does what the words ask for.
 fn answer(rt: &HostRuntime, words: &[String]) -> Result<io::Result<u8>, Error> {
-    let found = command(rt.alloc())?.try_get_matches_from(words)?;
-    match request_of(rt.alloc(), &found)? {
-        Some(request) => Ok(done(rt, &request)),
-        None => Ok(Ok(2)),
-    }
+    let mut command = command(rt.alloc())?;
+    let found = command.try_get_matches_from_mut(words)?;
+    let request = request_of(rt.alloc(), &mut command, &found)?;
+    Ok(done(rt, &request))
 }
 
 // The status of the request. A closed pipe ends it without a word.
 fn done(rt: &HostRuntime, request: &Request<'_>) -> io::Result<u8> {
+    let shows_progress = rt.stderr().is_terminal() && !rt.stdout().is_terminal();
     let mut out = Counted::new(BufWriter::new(rt.alloc(), rt.stdout())?);
     let mut err = Counted::new(rt.stderr());
-    match run(rt, request, &mut out, &mut err) {
+    match run(rt, request, shows_progress, &mut out, &mut err) {
         Ok(status) => Ok(status),
         Err(exif::Error::Io(cause)) if cause.kind() == ErrorKind::BrokenPipe => Ok(0),
         Err(exif::Error::Io(cause)) => Err(cause),

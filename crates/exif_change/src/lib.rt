@@ -1,0 +1,22 @@
+//! What the program changes of a file, in memory: metadata taken out, values set, dates shifted,
+//! the thumbnail. Each call answers the whole new file, and a refusal is told by its cause.
+#![tactic(auto)]
+
+mod assignment;
+mod block;
+mod clock;
+mod new_fields;
+mod reading;
+mod refusal;
+mod scrubbing;
+mod setting;
+mod thumbnails;
+mod value_text;
+
+pub use assignment::Assignment;
+pub use clock::{ClockShift, Dates, shift};
+pub use reading::read;
+pub use refusal::Refusal;
+pub use scrubbing::{Removed, scrub};
+pub use setting::{Changed, set};
+pub use thumbnails::thumbnail;

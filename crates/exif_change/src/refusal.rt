@@ -1,0 +1,86 @@
+//! Why a file is not changed.
+
+use std::alloc::{AllocError, AllocFailed};
+use std::fmt;
+
+/// Why a file is not changed.
+#[derive(Debug, Drop)]
+pub enum Refusal {
+    /// The file is none that is read, or its Exif data are refused.
+    Reading(exif::Error),
+    /// The edit in place is refused.
+    Editing(exif_edit::Error),
+    /// The file is neither TIFF, JPEG, HEIF nor WebP.
+    UnknownFormat,
+    /// The metadata of TIFF data can't be taken out: the picture stands in them.
+    PictureData,
+    /// The new Exif data would lose a thumbnail that is no JPEG.
+    OtherThumbnail,
+    /// The file has no such field, and the standard's type of it is not known here.
+    FieldNotFound,
+    /// The text is no value of the field's type.
+    NotOfItsType,
+    /// No date stands in the file.
+    NoDate,
+    /// A date of the file is no date of the calendar.
+    InvalidDate,
+    /// A shifted date falls out of the years 0 to 9999.
+    DateOutOfRange,
+    /// The file has no thumbnail.
+    NoThumbnail,
+    /// There was no memory.
+    OutOfMemory,
+}
+
+impl From<AllocError> for Refusal {
+    fn from(_e: AllocError) -> Refusal {
+        Refusal::OutOfMemory
+    }
+}
+
+impl<T: Drop> From<AllocFailed<T>> for Refusal {
+    fn from(_e: AllocFailed<T>) -> Refusal {
+        Refusal::OutOfMemory
+    }
+}
+
+impl From<exif::Error> for Refusal {
+    fn from(e: exif::Error) -> Refusal {
+        Refusal::Reading(e)
+    }
+}
+
+impl From<exif_edit::Error> for Refusal {
+    fn from(e: exif_edit::Error) -> Refusal {
+        Refusal::Editing(e)
+    }
+}
+
+impl fmt::Display for Refusal {
+    fn fmt<W: fmt::Write>(&self, f: &mut fmt::Formatter<W>) -> fmt::Result {
+        match self {
+            Refusal::Reading(cause) => write!(f, "{cause}"),
+            Refusal::Editing(cause) => write!(f, "{cause}"),
+            Refusal::UnknownFormat => write!(f, "Unknown image format"),
+            Refusal::PictureData => {
+                write!(
+                    f,
+                    "The picture stands in the same data (--places-only erases its places)"
+                )
+            }
+            Refusal::OtherThumbnail => {
+                write!(
+                    f,
+                    "The value does not fit, and new data would lose the thumbnail"
+                )
+            }
+            Refusal::FieldNotFound => write!(f, "No such field, and none that can be made"),
+            Refusal::NotOfItsType => write!(f, "The text is no value of the field's type"),
+            Refusal::NoDate => write!(f, "No date to shift"),
+            Refusal::InvalidDate => write!(f, "A date that no calendar has"),
+            Refusal::DateOutOfRange => write!(f, "The shifted date has no year of four digits"),
+            Refusal::NoThumbnail => write!(f, "No thumbnail"),
+            Refusal::OutOfMemory => write!(f, "Out of memory"),
+        }
+    }
+}

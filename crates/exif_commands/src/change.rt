@@ -1,0 +1,89 @@
+//! Files that are changed.
+
+use crate::inputs::read_file;
+use crate::replace::replace;
+use crate::request::{Change, Keeping, Target};
+use exif::{Error, Sink};
+use exif_base::send_all;
+use exif_change::{Changed, Refusal, scrub, set, shift};
+use std::alloc::Global;
+use std::{fmt, io};
+
+/// Why a file was not changed.
+#[derive(Debug, Drop)]
+pub enum Trouble {
+    /// It could not be read, or the new one could not be written.
+    Io(io::Error),
+    /// What it holds can't be changed so.
+    Refused(Refusal),
+}
+
+impl From<io::Error> for Trouble {
+    fn from(e: io::Error) -> Trouble {
+        Trouble::Io(e)
+    }
+}
+
+impl From<Refusal> for Trouble {
+    fn from(e: Refusal) -> Trouble {
+        Trouble::Refused(e)
+    }
+}
+
+impl fmt::Display for Trouble {
+    fn fmt<W: fmt::Write>(&self, f: &mut fmt::Formatter<W>) -> fmt::Result {
+        match self {
+            Trouble::Io(cause) => write!(f, "{cause}"),
+            Trouble::Refused(refusal) => write!(f, "{refusal}"),
+        }
+    }
+}
+
+/// What became of a file.
+#[derive(Clone, Copy, Debug, PartialEq, Eq)]
+pub enum Done {
+    /// All that was asked for.
+    Whole,
+    /// That, but its maker notes have moved.
+    NotesMoved,
+}
+
+/// Changes a file, and puts the new one where it belongs. A file that stays as it is is not
+/// replaced by itself.
+pub fn change<W: Sink>(
+    rt: &HostRuntime,
+    change: &Change<'_>,
+    target: Target<'_>,
+    path: &str,
+    out: &mut W,
+) -> Result<Done, Trouble> {
+    let old = read_file(rt, path)?;
+    let new = changed(rt.alloc(), change, &old)?;
+    let bytes = new.file.as_slice();
+    match target {
+        Target::Out("-") => send_all(out, bytes)?,
+        Target::Out(to) => replace(rt, to, bytes, Keeping::NOTHING)?,
+        Target::InPlace(_) if path == "-" => send_all(out, bytes)?,
+        Target::InPlace(_) if bytes == old.as_slice() => {}
+        Target::InPlace(keeping) => replace(rt, path, bytes, keeping)?,
+    }
+    Ok(if new.moved_notes {
+        Done::NotesMoved
+    } else {
+        Done::Whole
+    })
+}
+
+// The changed file.
+fn changed(alloc: Global, change: &Change<'_>, old: &Vec<u8>) -> Result<Changed, Refusal> {
+    let file = Vec::from_slice(alloc, old.as_slice())?;
+    let file = match change {
+        Change::Scrub(removed) => scrub(alloc, file, *removed)?,
+        Change::Shift(by, dates) => shift(alloc, file, *by, *dates)?,
+        Change::Set(values) => return set(alloc, file, values.as_slice()),
+    };
+    Ok(Changed {
+        file,
+        moved_notes: false,
+    })
+}

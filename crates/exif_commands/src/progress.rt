@@ -1,0 +1,66 @@
+//! A line of progress.
+
+use exif::Sink;
+use exif_base::send_all;
+use std::io;
+use std::time::{Duration, Instant};
+
+// How many milliseconds a line stands before it is written anew.
+const PAUSE: u64 = 100;
+
+/// How many files were done, in a line of a terminal that is written anew.
+#[derive(Drop)]
+pub struct Progress {
+    is_shown: bool,
+    done: u64,
+    // when the line was last written
+    written: Option<Instant>,
+}
+
+impl Progress {
+    /// No file is done; nothing is ever written where the line is not shown.
+    pub fn new(is_shown: bool) -> Progress {
+        Progress {
+            is_shown,
+            done: 0,
+            written: None,
+        }
+    }
+
+    /// Another file is done, and so many wait.
+    pub fn step<E: Sink>(
+        &mut self,
+        rt: &HostRuntime,
+        waiting: usize,
+        err: &mut E,
+    ) -> io::Result<()> {
+        self.done = self.done.saturating_add(1);
+        if !self.is_shown || !self.is_due(rt)? {
+            return Ok(());
+        }
+        let done = self.done;
+        let line = format!(in rt.alloc(); "\r\x1b[K{done} files done, {waiting} names wait")?;
+        send_all(err, line.as_bytes())
+    }
+
+    // Whether the line is to be written anew.
+    fn is_due(&mut self, rt: &HostRuntime) -> io::Result<bool> {
+        let now = Instant::now(rt)?;
+        let is_due = match self.written {
+            Some(last) => now.saturating_duration_since(last) >= Duration::from_millis(PAUSE),
+            None => true,
+        };
+        if is_due {
+            self.written = Some(now);
+        }
+        Ok(is_due)
+    }
+
+    /// Takes the line away, so that another can be written.
+    pub fn clear<E: Sink>(&mut self, err: &mut E) -> io::Result<()> {
+        match self.written.take() {
+            Some(_time) => send_all(err, b"\r\x1b[K"),
+            None => Ok(()),
+        }
+    }
+}

@@ -1,0 +1,5 @@
+//! The tests of what the program changes of files.
+#![tactic(auto)]
+
+#[cfg(test)]
+mod tests;

@@ -1,0 +1,83 @@
+//! Dates that are moved.
+
+use super::{owned, refuses};
+use exif_change::{Dates, ClockShift, shift};
+use std::test::Fail;
+
+// A date of change and one of making, little endian.
+static DATED: &[u8] =
+    b"II*\0\x08\0\0\0\x02\0\x32\x01\x02\0\x14\0\0\0\x26\0\0\0\x69\x87\x04\0\x01\0\0\0\x3a\0\0\0\0\0\0\02020:02:28 23:30:00\0\x01\0\x03\x90\x02\0\x14\0\0\0\x4c\0\0\0\0\0\0\02019:12:31 23:59:59\0";
+
+static MOVED: &[u8] =
+    b"II*\0\x08\0\0\0\x02\0\x32\x01\x02\0\x14\0\0\0\x26\0\0\0\x69\x87\x04\0\x01\0\0\0\x3a\0\0\0\0\0\0\02020:03:01 00:15:01\0\x01\0\x03\x90\x02\0\x14\0\0\0\x4c\0\0\0\0\0\0\02020:01:02 00:45:00\0";
+
+// A blank date, and one that no calendar has.
+static BLANK: &[u8] =
+    b"II*\0\x08\0\0\0\x01\0\x32\x01\x02\0\x14\0\0\0\x1a\0\0\0\0\0\0\0    :  :     :  :  \0";
+
+static WRONG: &[u8] =
+    b"II*\0\x08\0\0\0\x01\0\x32\x01\x02\0\x14\0\0\0\x1a\0\0\0\0\0\0\02020:02:30 00:00:00\0";
+
+#[test]
+fn dates_move_over_the_calendar(rt: HostRuntime) -> Result<(), Fail> {
+    let alloc = rt.alloc();
+    let Some(by) = ClockShift::parse("+1d00:45:01") else {
+        return Err(Fail::new(format_args!("no shift")));
+    };
+    let Ok(moved) = shift(alloc, owned(alloc, DATED)?, by, Dates::All) else {
+        return Err(Fail::new(format_args!("refused")));
+    };
+    assert!(rt; moved.as_slice() == MOVED);
+    Ok(())
+}
+
+#[test]
+fn dates_move_back(rt: HostRuntime) -> Result<(), Fail> {
+    let alloc = rt.alloc();
+    let Some(by) = ClockShift::parse("-24:45:01") else {
+        return Err(Fail::new(format_args!("no shift")));
+    };
+    let Ok(moved) = shift(alloc, owned(alloc, MOVED)?, by, Dates::All) else {
+        return Err(Fail::new(format_args!("refused")));
+    };
+    assert!(rt; moved.as_slice() == DATED);
+    Ok(())
+}
+
+#[test]
+fn blank_dates_stay(rt: HostRuntime) -> Result<(), Fail> {
+    let alloc = rt.alloc();
+    let Some(by) = ClockShift::parse("+1:00") else {
+        return Err(Fail::new(format_args!("no shift")));
+    };
+    let Ok(moved) = shift(alloc, owned(alloc, BLANK)?, by, Dates::All) else {
+        return Err(Fail::new(format_args!("refused")));
+    };
+    assert!(rt; moved.as_slice() == BLANK);
+    Ok(())
+}
+
+#[test]
+fn dates_that_cannot_move_are_refused(rt: HostRuntime) -> Result<(), Fail> {
+    let alloc = rt.alloc();
+    let (Some(hour), Some(ages)) = (ClockShift::parse("1:00"), ClockShift::parse("+9999999d00:00")) else {
+        return Err(Fail::new(format_args!("no shift")));
+    };
+    let wrong = shift(alloc, owned(alloc, WRONG)?, hour, Dates::All);
+    assert!(rt; refuses(alloc, &wrong, "A date that no calendar has")?);
+    let late = shift(alloc, owned(alloc, DATED)?, ages, Dates::All);
+    assert!(rt; refuses(alloc, &late, "The shifted date has no year of four digits")?);
+    let none = shift(alloc, owned(alloc, BLANK)?, hour, Dates::Exif);
+    assert!(rt; refuses(alloc, &none, "No date to shift")?);
+    Ok(())
+}
+
+#[test]
+fn shifts_are_clocks(rt: HostRuntime) -> Result<(), Fail> {
+    for text in ["", "+", "1", "1d", "1:60", "1:00:60", "d1:00", "1d1d1:00", "+-1:00", "1:0x"] {
+        assert!(rt; ClockShift::parse(text).is_none());
+    }
+    assert!(rt; ClockShift::parse("+1d01:00") == ClockShift::parse("25:00:00"));
+    assert!(rt; ClockShift::parse("-0:00:01") != ClockShift::parse("0:00:01"));
+    Ok(())
+}
