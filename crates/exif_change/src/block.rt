@@ -1,21 +1,15 @@
 //! New Exif data, and files in which they stand in place of the old ones.
 
+ghost use Rattle.std.specs.Prelude.{IfOk};
+ghost use Rattle.exif_rewrite_base.specs.Removing.{payload_of};
+ghost use Rattle.exif_change.specs.Changes.{IsRewritten};
+
 use crate::{Refusal, thumbnail};
 use exif::experimental::Writer;
 use exif::{Counted, Error, Exif, Field, In, Tag};
 use exif_containers::container::Format;
-use exif_rewrite::{Remove, rewrite_jpeg, rewrite_webp};
+use exif_rewrite::{Remove, rewrite};
 use std::alloc::Global;
-
-/// Exif data that hold the picture's orientation alone, if it has one.
-pub fn upright(alloc: Global, exif: &Exif) -> Result<Option<Vec<u8>>, Error> {
-    let Some(orientation) = exif.get_field(Tag::Orientation, In::PRIMARY) else {
-        return Ok(None);
-    };
-    let mut writer = Writer::new(alloc);
-    writer.push_field(orientation)?;
-    Ok(Some(sent(alloc, &mut writer, exif.little_endian())?))
-}
 
 /// Exif data that hold the fields of a file, with the new ones in place of those of their names,
 /// and its thumbnail.
@@ -60,39 +54,22 @@ fn sent(alloc: Global, writer: &mut Writer<'_>, little_endian: bool) -> Result<V
     Ok(out.into_inner())
 }
 
-/// A container in which Exif data can be put in a new place.
-#[derive(Clone, Copy, Debug, PartialEq, Eq)]
-pub enum Movable {
-    /// A JPEG stream.
-    Jpeg,
-    /// A WebP file.
-    WebP,
+/// Whether new Exif data can be put into a file of this format.
+pub fn has_room(format: Format) -> bool {
+    matches!(format, Format::Jpeg | Format::WebP)
 }
 
-impl Movable {
-    /// The container of a format, if data can move in it.
-    pub fn of(format: Format) -> Option<Movable> {
-        match format {
-            Format::Jpeg => Some(Movable::Jpeg),
-            Format::WebP => Some(Movable::WebP),
-            Format::Tiff | Format::Heif => None,
-        }
-    }
-
-    /// The file with Exif data in place of those that are removed.
-    pub fn with_block(
-        self,
-        alloc: Global,
-        file: &[u8],
-        block: Option<&[u8]>,
-        remove: Remove,
-    ) -> Result<Vec<u8>, Error> {
-        let mut source = Counted::new(file);
-        let mut out = Counted::new(Vec::new(alloc));
-        match self {
-            Movable::Jpeg => rewrite_jpeg(&mut source, &mut out, block, remove)?,
-            Movable::WebP => rewrite_webp(alloc, &mut source, &mut out, block, remove)?,
-        }
-        Ok(out.into_inner())
-    }
+/// The JPEG or WebP file with new Exif data in place of the old ones.
+pub fn written(
+    alloc: Global,
+    file: &[u8],
+    block: Option<&[u8]>,
+    remove: Remove,
+) -> Result<Vec<u8>, Error>
+    ensures { IfOk result
+        (λ new. IsRewritten remove (payload_of block.entry) file.now new.items) }
+{
+    let mut out = Counted::new(Vec::new(alloc));
+    rewrite(alloc, &mut Counted::new(file), &mut out, block, remove)?;
+    Ok(out.into_inner())
 }

@@ -1,10 +1,15 @@
 //! Metadata taken out of a file.
 
-use crate::block::{Movable, upright};
+ghost use Rattle.std.specs.Prelude.{IfOk};
+ghost use Rattle.exif_change.specs.Changes.{IsErased, IsScrubbed};
+ghost use Rattle.exif_edit.specs.Erasing.{erase_patches};
+ghost use Rattle.exif_edit.specs.InFiles.{clear_file_patches, in_file};
+
+use crate::block::written;
 use crate::{Refusal, read};
 use exif_containers::container::{Format, format_of};
 use exif_edit::{Error, erase_all_in_file, erase_places_in_file};
-use exif_rewrite::Remove;
+use exif_rewrite::{Remove, UPRIGHT, scrubbed_exif};
 use std::alloc::Global;
 
 /// What is taken out.
@@ -22,42 +27,49 @@ pub enum Removed {
 /// data are erased where they stand; TIFF data are refused, but for their places. A file that has
 /// no Exif data stays as it is where only those would change. It takes the memory of the file and
 /// of the new one.
-pub fn scrub(alloc: Global, mut file: Vec<u8>, removed: Removed) -> Result<Vec<u8>, Refusal> {
-    let Some(format) = format_of(file.as_slice()) else {
-        return Err(Refusal::UnknownFormat);
-    };
-    if removed == Removed::Places {
-        unless_absent(erase_places_in_file(alloc, file.as_mut_slice()))?;
-        return Ok(file);
-    }
-    match (Movable::of(format), format) {
-        (Some(container), _) => {
-            let kept = kept_block(alloc, &file, removed)?;
-            Ok(container.with_block(alloc, &file, kept.as_deref(), Remove::Metadata)?)
+pub fn scrub(alloc: Global, file: Vec<u8>, removed: Removed) -> Result<Vec<u8>, Refusal>
+    ensures { IfOk result (λ new. IsScrubbed removed file.items new.items) }
+{
+    match (removed, format_of(file.as_slice())) {
+        (_, None) => Err(Refusal::UnknownFormat),
+        (Removed::Places, Some(_)) => without_places(alloc, file),
+        (_, Some(Format::Tiff)) => Err(Refusal::PictureData),
+        (_, Some(Format::Heif)) => without_fields(alloc, file),
+        (Removed::Metadata, Some(Format::Jpeg | Format::WebP)) => {
+            Ok(written(alloc, &file, None, Remove::Metadata)?)
         }
-        (None, Format::Heif) => {
-            unless_absent(erase_all_in_file(alloc, file.as_mut_slice()))?;
-            Ok(file)
+        (Removed::AllButOrientation, Some(Format::Jpeg | Format::WebP)) => {
+            let kept = orientation_of(alloc, &file)?;
+            Ok(written(alloc, &file, kept.as_deref(), Remove::Metadata)?)
         }
-        (None, _) => Err(Refusal::PictureData),
     }
 }
 
-// What was answered, but for the refusal that there are no Exif data.
-fn unless_absent(answer: Result<(), Error>) -> Result<(), Refusal> {
-    match answer {
-        Ok(()) | Err(Error::Container(exif::Error::NotFound(_))) => Ok(()),
+// The file with its places erased, or as it is where it has no Exif data.
+fn without_places(alloc: Global, mut file: Vec<u8>) -> Result<Vec<u8>, Refusal>
+    ensures { IfOk result
+        (λ new. IsErased (in_file erase_patches) file.items new.items) }
+{
+    match erase_places_in_file(alloc, file.as_mut_slice()) {
+        Ok(()) | Err(Error::Container(exif::Error::NotFound(_))) => Ok(file),
         Err(error) => Err(Refusal::Editing(error)),
     }
 }
 
-// The Exif data that are put in place of the old ones.
-fn kept_block(alloc: Global, file: &[u8], removed: Removed) -> Result<Option<Vec<u8>>, Refusal> {
-    if removed != Removed::AllButOrientation {
-        return Ok(None);
+// The file with all its fields erased, or as it is where it has no Exif data.
+fn without_fields(alloc: Global, mut file: Vec<u8>) -> Result<Vec<u8>, Refusal>
+    ensures { IfOk result (λ new. IsErased clear_file_patches file.items new.items) }
+{
+    match erase_all_in_file(alloc, file.as_mut_slice()) {
+        Ok(()) | Err(Error::Container(exif::Error::NotFound(_))) => Ok(file),
+        Err(error) => Err(Refusal::Editing(error)),
     }
+}
+
+// Exif data that hold the orientation of a file's picture alone, if it is told.
+fn orientation_of(alloc: Global, file: &[u8]) -> Result<Option<Vec<u8>>, Refusal> {
     match read(alloc, file) {
-        Ok(exif) => Ok(upright(alloc, &exif)?),
+        Ok(exif) => Ok(scrubbed_exif(alloc, &exif, UPRIGHT)?),
         Err(exif::Error::OutOfMemory) => Err(Refusal::OutOfMemory),
         Err(_no_fields) => Ok(None),
     }

@@ -1,6 +1,6 @@
 //! Values set in a file.
 
-use crate::block::{Movable, of_fields, with_fields};
+use crate::block::{has_room, of_fields, with_fields, written};
 use crate::new_fields::type_of_new;
 use crate::value_text::value_of;
 use crate::{Assignment, Refusal, read};
@@ -30,23 +30,22 @@ pub fn set(
     let Some(format) = format_of(file.as_slice()) else {
         return Err(Refusal::UnknownFormat);
     };
-    let container = Movable::of(format);
     let exif = fields_of(alloc, &file)?;
     let mut left = Vec::new(alloc);
     for assignment in assignments {
         let field = field_for(alloc, exif.as_ref(), assignment)?;
-        if !set_in_place(alloc, file.as_mut_slice(), &field, container.is_some())? {
+        if !set_in_place(alloc, file.as_mut_slice(), &field, has_room(format))? {
             left.retain(|other: &Field| other.tag != field.tag);
             left.push(field)?;
         }
     }
-    match container {
-        Some(container) if !left.is_empty() => moved(alloc, &file, container, left.as_slice()),
-        _ => Ok(Changed {
+    if left.is_empty() {
+        return Ok(Changed {
             file,
             moved_notes: false,
-        }),
+        });
     }
+    moved(alloc, &file, left.as_slice())
 }
 
 // The fields of a file, if it holds Exif data.
@@ -104,18 +103,13 @@ fn needs_room(error: &Error) -> bool {
 }
 
 // The file with newly written Exif data, in which these fields are set.
-fn moved(
-    alloc: Global,
-    file: &[u8],
-    container: Movable,
-    fields: &[Field],
-) -> Result<Changed, Refusal> {
+fn moved(alloc: Global, file: &[u8], fields: &[Field]) -> Result<Changed, Refusal> {
     let old = fields_of(alloc, file)?;
     let block = match &old {
         Some(exif) => with_fields(alloc, exif, fields)?,
         None => of_fields(alloc, fields)?,
     };
-    let file = container.with_block(alloc, file, Some(block.as_slice()), Remove::Exif)?;
+    let file = written(alloc, file, Some(block.as_slice()), Remove::Exif)?;
     let notes = old
         .as_ref()
         .and_then(|exif| exif.get_field(Tag::MakerNote, In::PRIMARY));

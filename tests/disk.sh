@@ -1,0 +1,92 @@
+#!/bin/sh
+# Replaces files where the disk fails: a file that is too long for it, a folder that can't be
+# written, a process that is killed. The old or the new file stands whole each time.
+. "$(dirname "$0")/checks.sh"
+
+python3 - <<'P'
+# a picture of 3 MB: a comment of 64 KB fifty times
+data = open("files/whole.jpg", "rb").read()
+comment = b"\xff\xfe" + (65535).to_bytes(2, "big") + b"c" * 65533
+open("files/long.jpg", "wb").write(data[:2] + comment * 50 + data[2:])
+P
+"$mexaldor" set files/long.jpg turned.jpg Orientation=1
+
+# a disk that takes 1 MB of a file and then no more
+fresh
+gives "a full disk is told" 1 sh -c 'trap "" XFSZ; ulimit -f 2048; exec "$1" set -i work/long.jpg Orientation=1' sh "$mexaldor"
+says "by its name" "work/long.jpg:"
+check "the old file stands" cmp files/long.jpg work/long.jpg
+nothing_beside "a full disk"
+gives "an OUT on a full disk is told" 1 sh -c 'trap "" XFSZ; ulimit -f 2048; exec "$1" set work/long.jpg work/new.jpg Orientation=1' sh "$mexaldor"
+check "no half file stands" test ! -e work/new.jpg
+nothing_beside "an OUT on a full disk"
+
+# a real file system of 4 MB, where one may be mounted
+mkdir small
+if mount -t tmpfs -o size=4m none small 2>/dev/null; then
+    cp files/long.jpg small/
+    gives "a small disk is told" 1 "$mexaldor" set -i small/long.jpg Orientation=1
+    check "the old file stands there" cmp files/long.jpg small/long.jpg
+    check "nothing stands beside it" test "$(ls -A small)" = long.jpg
+    umount small
+else
+    echo "passed over, nothing may be mounted here: a small disk"
+fi
+
+# a folder that can't be written
+fresh
+if [ "$(id -u)" = 0 ]; then
+    chmod 755 "$room"
+    chown -R 65534:65534 work
+    nobody="setpriv --reuid=65534 --regid=65534 --clear-groups"
+    $nobody "$mexaldor" --version >out 2>err || nobody=
+else
+    nobody=env
+fi
+if [ -n "$nobody" ]; then
+    chmod a-w work
+    gives "a folder that can't be written is told" 1 $nobody "$mexaldor" set -i work/whole.jpg Orientation=1
+    check "the file stands" cmp files/whole.jpg work/whole.jpg
+    gives "so is an OUT there" 1 $nobody "$mexaldor" scrub work/whole.jpg work/new.jpg
+    chmod u+w work
+    chmod a-r work/whole.jpg
+    gives "a file that can't be read is told" 1 $nobody "$mexaldor" set -i work/whole.jpg Orientation=1
+    nothing_beside "a folder that can't be written"
+else
+    echo "passed over, the program can't be run as nobody: a folder that can't be written"
+fi
+
+# what is no file, and what is none any more
+gives "a device is not replaced" 1 "$mexaldor" thumbnail files/whole.jpg /dev/null
+check "it is a device still" test -c /dev/null
+gives "a folder is not replaced" 1 "$mexaldor" thumbnail files/whole.jpg work
+gives "a folder that is missing is told" 1 "$mexaldor" thumbnail files/whole.jpg none/thumbnail.jpg
+
+# permissions, times, links, backups
+fresh
+chmod 640 work/whole.jpg
+touch -d "2001-02-03 04:05:06" work/whole.jpg
+ln -s whole.jpg work/link.jpg
+gives "a link is followed" 0 "$mexaldor" set -i --keep-time --backup work/link.jpg Orientation=1
+check "it is a link still" test -L work/link.jpg
+check "permissions stay" test "$(stat -c %a work/whole.jpg)" = 640
+check "times stay" test "$(stat -c %Y work/whole.jpg)" = "$(date -d "2001-02-03 04:05:06" +%s)"
+check "the backup is the old file" cmp files/whole.jpg work/whole.jpg.orig
+gives "a backup is not replaced" 1 "$mexaldor" set -i --backup work/whole.jpg Orientation=3
+"$mexaldor" show work/whole.jpg >out
+holds "the file stays then" "row 0 at top and column 0 at left"
+gives "a change that changes nothing" 0 "$mexaldor" set -i work/whole.jpg Orientation=1
+check "does not replace the file" test "$(stat -c %Y work/whole.jpg)" = "$(date -d "2001-02-03 04:05:06" +%s)"
+nothing_beside links
+
+# a process that is killed: at each time the old or the new file
+fresh
+halves=0
+for step in $(seq 1 60); do
+    cp files/long.jpg work/long.jpg
+    timeout -s KILL "0.0$(printf %02d $((step % 40)))" "$mexaldor" set -i work/long.jpg Orientation=1 >out 2>err
+    cmp -s files/long.jpg work/long.jpg || cmp -s turned.jpg work/long.jpg || halves=$((halves + 1))
+done
+check "a killed process leaves no half file" test "$halves" = 0
+
+ends
