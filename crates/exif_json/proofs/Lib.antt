@@ -4,3 +4,4 @@ pub mod Faults
 pub mod Numerals
 pub mod Prints
 pub mod Rounding
+pub mod Told

@@ -9,3 +9,4 @@ pub mod Fields
 pub mod Files
 pub mod Finding
 pub mod Places
+pub mod Told

@@ -4,6 +4,7 @@
 mod fields;
 mod files;
 mod items;
+pub mod laws;
 mod printer;
 mod summary;
 mod texts;

@@ -1,5 +1,6 @@
 //! What becomes of small files that are scrubbed, set and shifted.
 
+mod pictures;
 mod scrubs;
 mod settings;
 mod shifts;

@@ -38,7 +38,7 @@ glyph_injective : (m n : ℕ) → m < 16 → n < 16 → digit_glyph false m ≡ 
 glyph_injective m n low high e = grind (arith, nat_tests)
 
 -- two digits tell the byte
-hex_injective : (a b : ℕ) → a < 256 → b < 256 → digit_glyph false (a / 16) ≡ digit_glyph false (b / 16) → digit_glyph false (a % 16) ≡ digit_glyph false (b % 16) → a ≡ b
+pub hex_injective : (a b : ℕ) → a < 256 → b < 256 → digit_glyph false (a / 16) ≡ digit_glyph false (b / 16) → digit_glyph false (a % 16) ≡ digit_glyph false (b % 16) → a ≡ b
 hex_injective a b low high e f =
     let tens = glyph_injective (a / 16) (b / 16) (omega arith) (omega arith) e in
     let ones = glyph_injective (a % 16) (b % 16) (omega arith) (omega arith) f in

@@ -1,18 +1,84 @@
 //! Metadata taken out.
 
+use super::pictures::{DESCRIBED, PLAIN, UPRIGHT};
 use super::{owned, refuses};
 use exif_change::{Removed, scrub};
-use exif_samples::files::{DESCRIBED_BIG, HEIF, JPEG, WEBP};
+use exif_samples::files::{DESCRIBED_BIG, EVERY_DIRECTORY, HEIF, HEIF_BRANDS, JPEG};
 use std::test::Fail;
 
 #[test]
-fn the_picture_of_tiff_data_stays(rt: HostRuntime) -> Result<(), Fail> {
+fn all_metadata_go(rt: HostRuntime) -> Result<(), Fail> {
+    let alloc = rt.alloc();
+    for old in [DESCRIBED, UPRIGHT, PLAIN] {
+        let Ok(new) = scrub(alloc, owned(alloc, old)?, Removed::Metadata) else {
+            return Err(Fail::new(format_args!("refused")));
+        };
+        assert!(rt; new.as_slice() == PLAIN);
+    }
+    Ok(())
+}
+
+#[test]
+fn the_orientation_may_stay(rt: HostRuntime) -> Result<(), Fail> {
+    let alloc = rt.alloc();
+    for (old, wanted) in [(DESCRIBED, UPRIGHT), (UPRIGHT, UPRIGHT), (PLAIN, PLAIN)] {
+        let Ok(new) = scrub(alloc, owned(alloc, old)?, Removed::AllButOrientation) else {
+            return Err(Fail::new(format_args!("refused")));
+        };
+        assert!(rt; new.as_slice() == wanted);
+    }
+    Ok(())
+}
+
+#[test]
+fn files_without_places_stay(rt: HostRuntime) -> Result<(), Fail> {
+    let alloc = rt.alloc();
+    for old in [DESCRIBED, PLAIN, DESCRIBED_BIG, HEIF] {
+        let Ok(new) = scrub(alloc, owned(alloc, old)?, Removed::Places) else {
+            return Err(Fail::new(format_args!("refused")));
+        };
+        assert!(rt; new.as_slice() == old);
+    }
+    Ok(())
+}
+
+#[test]
+fn places_go_from_where_they_stand(rt: HostRuntime) -> Result<(), Fail> {
+    let alloc = rt.alloc();
+    let Ok(new) = scrub(alloc, owned(alloc, EVERY_DIRECTORY)?, Removed::Places) else {
+        return Err(Fail::new(format_args!("refused")));
+    };
+    let (new, old) = (new.as_slice(), EVERY_DIRECTORY);
+    assert!(rt; new.len() == old.len());
+    assert!(rt; new.get(..80) == old.get(..80));
+    assert!(rt; new.get(80..98) == Some([0u8; 18].as_slice()));
+    assert!(rt; new.get(98..) == old.get(98..));
+    Ok(())
+}
+
+#[test]
+fn fields_of_heif_files_go(rt: HostRuntime) -> Result<(), Fail> {
+    let alloc = rt.alloc();
+    let Ok(new) = scrub(alloc, owned(alloc, HEIF)?, Removed::Metadata) else {
+        return Err(Fail::new(format_args!("refused")));
+    };
+    assert!(rt; new.len() == HEIF.len());
+    assert!(rt; new.get(..108) == HEIF.get(..108));
+    assert!(rt; new.iter().skip(108).all(|byte| *byte == 0));
+    Ok(())
+}
+
+#[test]
+fn what_cannot_be_scrubbed_is_refused(rt: HostRuntime) -> Result<(), Fail> {
     let alloc = rt.alloc();
     let answer = scrub(alloc, owned(alloc, DESCRIBED_BIG)?, Removed::Metadata);
     let text = "The picture stands in the same data (--places-only erases its places)";
     assert!(rt; refuses(alloc, &answer, text)?);
-    let text = "Unknown image format";
     let answer = scrub(alloc, owned(alloc, b"text")?, Removed::Places);
-    assert!(rt; refuses(alloc, &answer, text)?);
+    assert!(rt; refuses(alloc, &answer, "Unknown image format")?);
+    let answer = scrub(alloc, owned(alloc, JPEG)?, Removed::Metadata);
+    assert!(rt; refuses(alloc, &answer, "Broken JPEG file")?);
+    let answer = scrub(alloc, owned(alloc, HEIF_BRANDS)?, Removed::Metadata);
+    assert!(rt; answer.is_ok());
     Ok(())
 }

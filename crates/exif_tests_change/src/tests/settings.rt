@@ -1,21 +1,104 @@
 //! Values that are set.
 
+use super::pictures::{DESCRIBED, DESCRIBED_LONGER, PLAIN, RESOLVED};
 use super::{owned, refuses};
-use exif_change::{Assignment, set};
+use exif_change::{Assignment, Changed, Refusal, set};
 use exif_samples::files::DESCRIBED_BIG;
+use std::alloc::Global;
 use std::test::Fail;
 
+// The answer to one assignment.
+fn set_one(alloc: Global, file: &[u8], word: &str) -> Result<Result<Changed, Refusal>, Fail> {
+    let Some(assignment) = Assignment::parse(word) else {
+        return Err(Fail::new(format_args!("{word} is none")));
+    };
+    Ok(set(alloc, owned(alloc, file)?, &[assignment]))
+}
+
 #[test]
-fn a_shorter_text_is_set_in_place(rt: HostRuntime) -> Result<(), Fail> {
+fn values_are_set_in_place_or_in_new_data(rt: HostRuntime) -> Result<(), Fail> {
     let alloc = rt.alloc();
-    let Some(blue) = Assignment::parse("ImageDescription=Blue") else {
-        return Err(Fail::new(format_args!("no assignment")));
-    };
-    let Ok(changed) = set(alloc, owned(alloc, DESCRIBED_BIG)?, &[blue]) else {
-        return Err(Fail::new(format_args!("refused")));
-    };
-    let wanted = b"MM\0*\0\0\0\x08\0\x01\x01\x0e\0\x02\0\0\0\x05\0\0\0\x1a\0\0\0\0Blue\0\0\0";
-    assert!(rt; changed.file.as_slice() == wanted.as_slice());
-    assert!(rt; !changed.moved_notes);
+    let short = b"MM\0*\0\0\0\x08\0\x01\x01\x0e\0\x02\0\0\0\x05\0\0\0\x1a\0\0\0\0Blue\0\0\0";
+    for (old, word, wanted) in [
+        (DESCRIBED_BIG, "ImageDescription=Blue", short.as_slice()),
+        (DESCRIBED, "Orientation=6", DESCRIBED),
+        (DESCRIBED, "ImageDescription=longer", DESCRIBED_LONGER),
+        (PLAIN, "XResolution=2.5", RESOLVED),
+        (PLAIN, "XResolution=25/10", RESOLVED),
+    ] {
+        let Ok(changed) = set_one(alloc, old, word)? else {
+            return Err(Fail::new(format_args!("{word} is refused")));
+        };
+        assert!(rt; changed.file.as_slice() == wanted);
+        assert!(rt; !changed.moved_notes);
+    }
+    Ok(())
+}
+
+#[test]
+fn dates_may_be_written_as_iso_8601_has_them(rt: HostRuntime) -> Result<(), Fail> {
+    let alloc = rt.alloc();
+    let old =
+        b"II*\0\x08\0\0\0\x01\0\x32\x01\x02\0\x14\0\0\0\x1a\0\0\0\0\0\0\x002020:02:28 23:30:00\0";
+    let new =
+        b"II*\0\x08\0\0\0\x01\0\x32\x01\x02\0\x14\0\0\0\x1a\0\0\0\0\0\0\x002024:05:01 12:30:00\0";
+    for word in [
+        "DateTime=2024-05-01T12:30:00",
+        "DateTime=2024:05:01 12:30:00",
+    ] {
+        let Ok(changed) = set_one(alloc, old, word)? else {
+            return Err(Fail::new(format_args!("{word} is refused")));
+        };
+        assert!(rt; changed.file.as_slice() == new.as_slice());
+    }
+    Ok(())
+}
+
+#[test]
+fn values_that_cannot_be_set_are_refused(rt: HostRuntime) -> Result<(), Fail> {
+    let alloc = rt.alloc();
+    for (old, word, text) in [
+        (
+            DESCRIBED,
+            "Orientation=up",
+            "The text is no value of the field's type",
+        ),
+        (
+            DESCRIBED,
+            "Orientation=65536",
+            "The text is no value of the field's type",
+        ),
+        (
+            DESCRIBED,
+            "DateTime=yesterday",
+            "The text is no value of the field's type",
+        ),
+        (
+            PLAIN,
+            "XResolution=1/",
+            "The text is no value of the field's type",
+        ),
+        (
+            PLAIN,
+            "XResolution=0.0000000001",
+            "The text is no value of the field's type",
+        ),
+        (
+            PLAIN,
+            "MakerNote=x",
+            "No such field, and none that can be made",
+        ),
+        (
+            DESCRIBED_BIG,
+            "ImageDescription=Longer than it",
+            "The value is too long for its room",
+        ),
+        (DESCRIBED_BIG, "Artist=Somebody", "No such field"),
+        (b"text", "Artist=Somebody", "Unknown image format"),
+    ] {
+        assert!(rt; refuses(alloc, &set_one(alloc, old, word)?, text)?);
+    }
+    assert!(rt; Assignment::parse("Orientatoin=1").is_none());
+    assert!(rt; Assignment::parse("Orientation").is_none());
     Ok(())
 }

@@ -1,22 +1,22 @@
 //! Dates that are moved.
 
 use super::{owned, refuses};
-use exif_change::{Dates, ClockShift, shift};
+use exif_change::{ClockShift, Dates, shift};
 use std::test::Fail;
 
 // A date of change and one of making, little endian.
 static DATED: &[u8] =
-    b"II*\0\x08\0\0\0\x02\0\x32\x01\x02\0\x14\0\0\0\x26\0\0\0\x69\x87\x04\0\x01\0\0\0\x3a\0\0\0\0\0\0\02020:02:28 23:30:00\0\x01\0\x03\x90\x02\0\x14\0\0\0\x4c\0\0\0\0\0\0\02019:12:31 23:59:59\0";
+    b"II*\0\x08\0\0\0\x02\0\x32\x01\x02\0\x14\0\0\0\x26\0\0\0\x69\x87\x04\0\x01\0\0\0\x3a\0\0\0\0\0\0\x002020:02:28 23:30:00\0\x01\0\x03\x90\x02\0\x14\0\0\0\x4c\0\0\0\0\0\0\x002019:12:31 23:59:59\0";
 
 static MOVED: &[u8] =
-    b"II*\0\x08\0\0\0\x02\0\x32\x01\x02\0\x14\0\0\0\x26\0\0\0\x69\x87\x04\0\x01\0\0\0\x3a\0\0\0\0\0\0\02020:03:01 00:15:01\0\x01\0\x03\x90\x02\0\x14\0\0\0\x4c\0\0\0\0\0\0\02020:01:02 00:45:00\0";
+    b"II*\0\x08\0\0\0\x02\0\x32\x01\x02\0\x14\0\0\0\x26\0\0\0\x69\x87\x04\0\x01\0\0\0\x3a\0\0\0\0\0\0\x002020:03:01 00:15:01\0\x01\0\x03\x90\x02\0\x14\0\0\0\x4c\0\0\0\0\0\0\x002020:01:02 00:45:00\0";
 
 // A blank date, and one that no calendar has.
 static BLANK: &[u8] =
     b"II*\0\x08\0\0\0\x01\0\x32\x01\x02\0\x14\0\0\0\x1a\0\0\0\0\0\0\0    :  :     :  :  \0";
 
 static WRONG: &[u8] =
-    b"II*\0\x08\0\0\0\x01\0\x32\x01\x02\0\x14\0\0\0\x1a\0\0\0\0\0\0\02020:02:30 00:00:00\0";
+    b"II*\0\x08\0\0\0\x01\0\x32\x01\x02\0\x14\0\0\0\x1a\0\0\0\0\0\0\x002020:02:30 00:00:00\0";
 
 #[test]
 fn dates_move_over_the_calendar(rt: HostRuntime) -> Result<(), Fail> {
@@ -60,7 +60,10 @@ fn blank_dates_stay(rt: HostRuntime) -> Result<(), Fail> {
 #[test]
 fn dates_that_cannot_move_are_refused(rt: HostRuntime) -> Result<(), Fail> {
     let alloc = rt.alloc();
-    let (Some(hour), Some(ages)) = (ClockShift::parse("1:00"), ClockShift::parse("+9999999d00:00")) else {
+    let (Some(hour), Some(ages)) = (
+        ClockShift::parse("1:00"),
+        ClockShift::parse("+9999999d00:00"),
+    ) else {
         return Err(Fail::new(format_args!("no shift")));
     };
     let wrong = shift(alloc, owned(alloc, WRONG)?, hour, Dates::All);
@@ -74,7 +77,9 @@ fn dates_that_cannot_move_are_refused(rt: HostRuntime) -> Result<(), Fail> {
 
 #[test]
 fn shifts_are_clocks(rt: HostRuntime) -> Result<(), Fail> {
-    for text in ["", "+", "1", "1d", "1:60", "1:00:60", "d1:00", "1d1d1:00", "+-1:00", "1:0x"] {
+    for text in [
+        "", "+", "1", "1d", "1:60", "1:00:60", "d1:00", "1d1d1:00", "+-1:00", "1:0x",
+    ] {
         assert!(rt; ClockShift::parse(text).is_none());
     }
     assert!(rt; ClockShift::parse("+1d01:00") == ClockShift::parse("25:00:00"));
