@@ -16,6 +16,10 @@ gives "set wants a value" 2 "$mexaldor" set --in-place files/whole.jpg
 gives "shift wants a time" 2 "$mexaldor" shift soon files/whole.jpg
 gives "two ways to scrub are refused" 2 "$mexaldor" scrub --places-only --keep-orientation files/whole.jpg x.jpg
 
+gives "a backup is of a file that is replaced" 2 "$mexaldor" scrub --backup files/whole.jpg x.jpg
+gives "many files don't go into one" 2 "$mexaldor" scrub -r files x.jpg
+check "nothing was written by these" test ! -e x.jpg
+
 # show
 for file in whole.jpg whole.tif big.tif whole.webp whole.heic; do
     gives "show reads $file" 0 "$mexaldor" show "files/$file"
@@ -166,5 +170,25 @@ for folder in range(100):
 P
 check "10,000 files are told" sh -c '"$1" json -r thousands >objects && test "$(wc -l <objects)" = 10000' sh "$mexaldor"
 check "they stand in order" sh -c 'sed "s/.*\"path\":\"\([^\"]*\)\".*/\1/" objects | LC_ALL=C sort -c'
+
+check "a line of progress stands on a terminal alone" python3 - "$mexaldor" <<'P'
+import os, pty, subprocess, sys
+def told(*words):
+    ours, theirs = pty.openpty()
+    ran = subprocess.Popen([sys.argv[1], *words], stdout=subprocess.DEVNULL, stderr=theirs)
+    os.close(theirs)
+    said = b""
+    try:
+        while piece := os.read(ours, 4096):
+            said += piece
+    except OSError:
+        pass
+    ran.wait()
+    return said
+line = told("json", "-r", "thousands")
+assert b"files done" in line and line.endswith(b"\x1b[K"), line
+assert line.count(b"\r") < 100, line.count(b"\r")
+assert told("json", "-q", "-r", "thousands") == b""
+P
 
 ends

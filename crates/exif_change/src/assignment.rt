@@ -4,7 +4,7 @@ use exif::{Context, Tag};
 use exif_table::rows::rows;
 
 /// A tag, and the text of the value that it is to have.
-#[derive(Clone, Copy, Debug)]
+#[derive(Clone, Copy)]
 pub struct Assignment<'a> {
     /// The tag, of the primary image.
     pub tag: Tag,

@@ -10,14 +10,14 @@ use std::alloc::Global;
 use std::time::Duration;
 
 /// By how much dates are moved, and which way.
-#[derive(Clone, Copy, Debug, PartialEq, Eq)]
+#[derive(Clone, Copy, PartialEq, Eq)]
 pub struct ClockShift {
     by: Duration,
     is_back: bool,
 }
 
 /// Which dates are moved.
-#[derive(Clone, Copy, Debug, PartialEq, Eq)]
+#[derive(Clone, Copy)]
 pub enum Dates {
     /// `DateTime`, `DateTimeOriginal` and `DateTimeDigitized`.
     All,

@@ -13,7 +13,7 @@ use exif_rewrite::{Remove, UPRIGHT, scrubbed_exif};
 use std::alloc::Global;
 
 /// What is taken out.
-#[derive(Clone, Copy, Debug, PartialEq, Eq)]
+#[derive(Clone, Copy)]
 pub enum Removed {
     /// All metadata.
     Metadata,

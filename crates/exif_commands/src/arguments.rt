@@ -43,6 +43,14 @@ fn many<'a>(alloc: Global, command: Command<'a>) -> Result<Command<'a>, AllocErr
         .arg(options::quiet(alloc))
 }
 
+// The options of a subcommand that changes a file into another one, or files in place.
+fn changing<'a>(alloc: Global, command: Command<'a>) -> Result<Command<'a>, AllocError> {
+    many(alloc, command)?
+        .arg(options::in_place(alloc))?
+        .arg(options::backup(alloc).requires_arg("in-place")?)?
+        .arg(options::keep_time(alloc).requires_arg("in-place")?)
+}
+
 // The options of a subcommand that changes files in place.
 fn replacing<'a>(alloc: Global, command: Command<'a>) -> Result<Command<'a>, AllocError> {
     many(alloc, command)?
@@ -59,9 +67,8 @@ fn scrub<'a>(alloc: Global) -> Result<Command<'a>, AllocError> {
             "places-only",
             "Erase only the GPS data of Exif, where they stand",
         )
-        .conflicts_with("keep-orientation")?)?
-        .arg(options::in_place(alloc))?;
-    replacing(alloc, command)?.arg(options::words(alloc, "FILE", "A picture, and the new one"))
+        .conflicts_with("keep-orientation")?)?;
+    changing(alloc, command)?.arg(options::words(alloc, "FILE", "A picture, and the new one"))
 }
 
 fn set<'a>(alloc: Global) -> Result<Command<'a>, AllocError> {
@@ -69,9 +76,8 @@ fn set<'a>(alloc: Global) -> Result<Command<'a>, AllocError> {
         .about("Set values: FILE OUT TAG=VALUE.., or --in-place FILE.. TAG=VALUE..")
         .after_help(
             "A value that fits stands where the old one stood; else JPEG and WebP files get newly written Exif data. A file whose name looks like TAG=VALUE is named as ./TAG=VALUE.",
-        )
-        .arg(options::in_place(alloc))?;
-    replacing(alloc, command)?.arg(options::words(
+        );
+    changing(alloc, command)?.arg(options::words(
         alloc,
         "WORD",
         "Files, and values as in Orientation=6",

@@ -83,6 +83,8 @@ fn changing<'a>(
 ) -> Result<Request<'a>, Missing> {
     let target = if matches.get_flag("in-place") {
         Target::InPlace(keeping_of(matches))
+    } else if matches.get_flag("recursive") || matches.get_flag("null") {
+        return Err("--recursive and --null want --in-place");
     } else {
         match (files.pop(), files.len()) {
             (Some(out), 1) => Target::Out(out),

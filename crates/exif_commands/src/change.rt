@@ -10,7 +10,7 @@ use std::alloc::Global;
 use std::{fmt, io};
 
 /// Why a file was not changed.
-#[derive(Debug, Drop)]
+#[derive(Drop)]
 pub enum Trouble {
     /// It could not be read, or the new one could not be written.
     Io(io::Error),
@@ -40,7 +40,7 @@ impl fmt::Display for Trouble {
 }
 
 /// What became of a file.
-#[derive(Clone, Copy, Debug, PartialEq, Eq)]
+#[derive(Clone, Copy)]
 pub enum Done {
     /// All that was asked for.
     Whole,

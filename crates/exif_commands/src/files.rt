@@ -14,7 +14,7 @@ use std::fmt::Display;
 use std::io::{self, ErrorKind};
 
 /// What became of a file, from the best to the worst.
-#[derive(Clone, Copy, Debug, PartialEq, Eq, PartialOrd, Ord)]
+#[derive(Clone, Copy, PartialEq, Eq, PartialOrd, Ord)]
 pub enum Status {
     /// All that was asked for was done.
     Well,

@@ -31,7 +31,7 @@ pub enum Task<'a> {
 }
 
 /// How a file is read.
-#[derive(Clone, Copy, Debug)]
+#[derive(Clone, Copy)]
 pub struct Reading {
     /// Whether it is refused at its first fault.
     pub strict: bool,
@@ -51,7 +51,7 @@ pub enum Change<'a> {
 }
 
 /// Where a changed file goes.
-#[derive(Clone, Copy, Debug)]
+#[derive(Clone, Copy)]
 pub enum Target<'a> {
     /// Into this file, `-` for standard output.
     Out(&'a str),
@@ -60,7 +60,7 @@ pub enum Target<'a> {
 }
 
 /// What is kept of a file that is replaced.
-#[derive(Clone, Copy, Debug)]
+#[derive(Clone, Copy)]
 pub struct Keeping {
     /// Whether it stays beside the new one, with `.orig` behind its name.
     pub backup: bool,
