@@ -54,7 +54,7 @@ shifted_fit (p ∷ ps) place n m h f =
     let a = All-head (FitsIn n) p ps f in
     All-cons (FitsIn m) (shifted place p) (map (shifted place) ps) (omega arith) (shifted_fit ps place n m h (All-tail (FitsIn n) p ps f))
 
-shifted_miss : (ps : List Patch) (place n i : ℕ) → (i < place) ⊎ (place + n ≤ i) → All (FitsIn n) ps → All (Misses i) (map (shifted place) ps)
+pub shifted_miss : (ps : List Patch) (place n i : ℕ) → (i < place) ⊎ (place + n ≤ i) → All (FitsIn n) ps → All (Misses i) (map (shifted place) ps)
 shifted_miss [] place n i h f = All-nil (Misses i)
 shifted_miss (p ∷ ps) place n i h f =
     let a = All-head (FitsIn n) p ps f in

@@ -16,6 +16,8 @@ pub mod RemoveSteps
 pub mod SetFound
 pub mod SetSound
 pub mod SetSteps
+pub mod Splicing
+pub mod StreamSteps
 pub mod Told
 pub mod WalkFound
 pub mod WalkSteps

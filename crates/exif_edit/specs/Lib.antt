@@ -10,4 +10,5 @@ pub mod Promises
 pub mod Readings
 pub mod Removing
 pub mod Setting
+pub mod Streams
 pub mod Walked

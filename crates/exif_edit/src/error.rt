@@ -63,6 +63,19 @@ impl From<Stop> for Error {
     }
 }
 
+impl From<exif_types::Error> for Error {
+    ghost use Rattle.exif_edit.specs.Streams.{Stops};
+
+    ghost from_gives = { Stops };
+
+    fn from(failure: exif_types::Error) -> Error {
+        match failure {
+            exif_types::Error::OutOfMemory => Error::OutOfMemory,
+            other => Error::Container(other),
+        }
+    }
+}
+
 impl fmt::Display for Error {
     ghost use Rattle.exif_edit.specs.Causes.{error_text};
 

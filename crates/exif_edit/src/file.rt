@@ -90,8 +90,8 @@ fn shift_one(patch: &mut Patch, place: usize, len: usize)
     patch.place += place as u64;
 }
 
-// The patches, counted from the first byte of the file.
-fn shift(patches: &mut [Patch], place: usize, len: usize)
+/// The patches, counted from the first byte of the file.
+pub fn shift(patches: &mut [Patch], place: usize, len: usize)
     requires fit { All (FitsIn len) patches.old }
     requires small { place + len < 2 ^ 64 }
     ensures { patches.new ≡ map (shifted place) patches.old }

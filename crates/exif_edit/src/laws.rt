@@ -4,7 +4,10 @@ ghost use Rattle.std.specs.Prelude.{ℕ, List};
 ghost use Rattle.exif_types.specs.declared.ifd.In.{In as Ifd};
 ghost use Rattle.exif_types.specs.declared.tag.Tag.{Tag as Name};
 ghost use Rattle.exif_types.specs.declared.value.Value.{Value as Content};
+ghost use Rattle.exif_containers.specs.Jpeg.{jpeg_answer};
+ghost use Rattle.exif_containers.specs.Webp.{webp_answer};
 ghost use Rattle.exif_edit.specs.Promises.{LocatesWhatIsRead, SetsBack};
+ghost use Rattle.exif_edit.specs.Streams.{Splices};
 
 /// The fields that an edit locates are those that reading gives, in their order.
 pub fn located_fields_are_read()
@@ -16,4 +19,11 @@ pub fn located_fields_are_read()
 pub fn the_old_value_is_set_back()
     ensures { (bytes : List ℕ) (tag : Name) (k : Ifd) (value first : Content)
         → SetsBack tag k value first bytes }
+{}
+
+/// The Exif data of a JPEG stream or a WebP file stand in it in one piece, and others as long, put
+/// in their place, are those of the file then.
+pub fn data_can_be_replaced()
+    ensures jpeg { Splices jpeg_answer }
+    ensures webp { Splices webp_answer }
 {}

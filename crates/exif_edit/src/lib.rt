@@ -23,6 +23,7 @@ mod read;
 mod remove;
 mod set;
 mod spell;
+mod stream;
 mod walk;
 
 pub use clear::{erase_all, erase_all_patches};
@@ -36,3 +37,4 @@ pub use file::{
 pub use patch::Patch;
 pub use remove::{erase_field, erase_field_patches};
 pub use set::{set_value, set_value_patches};
+pub use stream::{erase_field_patches_of, erase_places_patches_of, set_value_patches_of};

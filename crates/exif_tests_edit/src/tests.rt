@@ -3,6 +3,7 @@
 mod fields;
 mod files;
 mod places;
+mod streams;
 mod texts;
 mod values;
 

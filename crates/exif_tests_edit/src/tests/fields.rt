@@ -33,8 +33,24 @@ const MENDED: &[u8] = b"MM\0*\0\0\0\x08\0\0\0\0\0\0\0\0\0\0\0\0\0\0\x01\x01";
 const SHARED: &[u8] =
     b"MM\0*\0\0\0\x08\0\x02\x01\x1a\0\x05\0\0\0\x01\0\0\0&\x01\x1b\0\x05\0\0\0\x01\0\0\0&\0\0\0\0\0\0\0H\0\0\0\x01";
 
+// A directory that is the next of itself, eight times.
+const LOOP: &[u8] = b"MM\0*\0\0\0\x08\0\x01\x01\0\0\x03\0\0\0\x01\0\x14\0\0\0\0\0\x08";
+
+// A directory whose second entry is that of another one too, which begins in the first entry.
+const OVERLAPPING: &[u8] =
+    b"MM\0*\0\0\0\x08\0\x02\x01\0\0\x03\0\0\0\x01\0\x14\0\x01\x01\x01\0\x03\0\0\0\x01\0\x1e\0\0\0\0\0\x14";
+
+// A width, and a description that is cut off.
+const SOFT: &[u8] =
+    b"MM\0*\0\0\0\x08\0\x02\x01\0\0\x03\0\0\0\x01\0\x14\0\0\x01\x0e\0\x02\0\0\0\x07\0\0\0\xc8\0\0\0\0";
+
+// The description has moved up, and is still cut off.
+const STILL_SOFT: &[u8] =
+    b"MM\0*\0\0\0\x08\0\x01\x01\x0e\0\x02\0\0\0\x07\0\0\0\xc8\0\0\0\0\0\0\0\0\0\0\0\0\0\0\0\0";
+
 // Data, a tag, and the data without its fields.
-static ERASED: [(&[u8], Tag, &[u8]); 5] = [
+static ERASED: [(&[u8], Tag, &[u8]); 6] = [
+    (SOFT, Tag(Context::Tiff, 0x100), STILL_SOFT),
     (THREE, Tag(Context::Tiff, 0x131), TWO),
     (TWICE, Tag(Context::Tiff, 0x100), NEITHER),
     (CUT, Tag(Context::Tiff, 0x100), MENDED),
@@ -94,9 +110,13 @@ fn refusals_change_nothing(rt: HostRuntime) -> Result<(), Fail> {
     let alloc = rt.alloc();
     let strips = Tag(Context::Tiff, 0x111);
     let resolution = Tag(Context::Tiff, 0x11a);
+    let width = Tag(Context::Tiff, 0x100);
+    let shared = "The bytes are shared with something else";
+    assert!(rt; stays(alloc, LOOP, width, shared)?);
+    assert!(rt; stays(alloc, OVERLAPPING, width, shared)?);
     assert!(rt; stays(alloc, THREE, strips, "The field says where other bytes stand")?);
     assert!(rt; stays(alloc, THREE, DESCRIPTION, "No such field")?);
-    assert!(rt; stays(alloc, SHARED, resolution, "The bytes are shared with something else")?);
+    assert!(rt; stays(alloc, SHARED, resolution, shared)?);
     assert!(rt; stays(alloc, b"MM\0*", DESCRIPTION, "Truncated TIFF header")?);
     Ok(())
 }

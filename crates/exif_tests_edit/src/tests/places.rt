@@ -3,6 +3,7 @@
 use super::{is_zero, part};
 use exif_edit::{erase_places, erase_places_patches};
 use exif_samples::files::{DESCRIBED_BIG, JOURNEY, NOTHING, PLACE_BEFORE_DESCRIPTION};
+use std::alloc::AllocError;
 use std::test::Fail;
 
 #[test]
@@ -46,6 +47,37 @@ fn without_a_place_nothing_changes(rt: HostRuntime) -> Result<(), Fail> {
             Ok(patches) => assert!(rt; patches.is_empty()),
             Err(_) => assert!(rt; false),
         }
+    }
+    Ok(())
+}
+
+// A directory at a place of the chain, with a pointer to its GPS directory.
+fn push_directory(bytes: &mut Vec<u8>, number: u8) -> Result<(), AllocError> {
+    let place = u16::from(number % 8) * 36 + 8;
+    let next = if number < 7 { place + 36 } else { 0 };
+    bytes.extend_from_slice(b"\0\x01\x88\x25\0\x04\0\0\0\x01\0\0")?;
+    bytes.extend_from_slice(&(place + 18).to_be_bytes())?;
+    bytes.extend_from_slice(b"\0\0")?;
+    bytes.extend_from_slice(&next.to_be_bytes())?;
+    bytes.extend_from_slice(b"\0\x01\0\0\0\x01\0\0\0\x04\x02\x03\0\0\0\0\0\0")
+}
+
+#[test]
+fn eight_directories_lose_their_places(rt: HostRuntime) -> Result<(), Fail> {
+    let alloc = rt.alloc();
+    let mut old = Vec::from_slice(alloc, b"MM\0*\0\0\0\x08")?;
+    for number in 0..8 {
+        push_directory(&mut old, number)?;
+    }
+    let mut new = Vec::from_slice(alloc, old.as_slice())?;
+    assert!(rt; erase_places(alloc, new.as_mut_slice()).is_ok());
+    let (old, new) = (old.as_slice(), new.as_slice());
+    assert!(rt; new.len() == old.len());
+    assert!(rt; part(new, 0, 8) == part(old, 0, 8));
+    for number in 0..8usize {
+        let place = 8 + 36 * number;
+        assert!(rt; part(new, place, place + 18) == part(old, place, place + 18));
+        assert!(rt; is_zero(new, place + 18, place + 36));
     }
     Ok(())
 }
