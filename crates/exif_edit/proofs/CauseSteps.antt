@@ -12,7 +12,8 @@ pub refused_on : {X Y : Type 0} (e : Error) (x : Result X Cause) (y : Result Y C
     → ((c : Cause) → x ≡ Err c → y ≡ Err c) → Fails e y
 refused_on {X = X} {Y = Y} e x y h f = by_cause (cause_of e) h
   where
-    by_cause : (o : Option Cause) → MatchOption o (e ≡ error.OutOfMemory) (λ c. x ≡ Err c) → MatchOption o (e ≡ error.OutOfMemory) (λ c. y ≡ Err c)
+    by_cause : (o : Option Cause) → MatchOption o (e ≡ error.OutOfMemory) (λ c. x ≡ Err c)
+        → MatchOption o (e ≡ error.OutOfMemory) (λ c. y ≡ Err c)
     by_cause None h = h
     by_cause (Some c) h = f c h
 
@@ -65,7 +66,8 @@ option_told {A = A} None c a e = absurd (err_ok e)
     err_ok e = cc
 
 -- a test that was passed
-pub tested : {A : Type 0} (b : Bool) (new out : A) (c : Cause) → (if b then Ok new else Err c) ≡ Ok out
+pub tested : {A : Type 0} (b : Bool) (new out : A) (c : Cause)
+    → (if b then Ok new else Err c) ≡ Ok out
     → (b ≡ true) × (new ≡ out)
 tested {A = A} true new out c e = (refl, ok_same e)
   where

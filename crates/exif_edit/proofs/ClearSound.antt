@@ -30,21 +30,25 @@ use Rattle.exif_edit.proofs.SetSound.{length-spelled}
 
 -- ---- numbers by their bytes
 
-big_same : (i n : ℕ) (xs ys : List ℕ) → ((k : ℕ) → k < i + n → get_or xs k 0 ≡ get_or ys k 0) → big_from i n xs ≡ big_from i n ys
+big_same : (i n : ℕ) (xs ys : List ℕ) → ((k : ℕ) → k < i + n → get_or xs k 0 ≡ get_or ys k 0)
+    → big_from i n xs ≡ big_from i n ys
 big_same i zero xs ys h = refl
 big_same i (suc n) xs ys h =
     let a = h i (omega arith) in
     let b = big_same (suc i) n xs ys (λ k l. h k (omega arith)) in
     rw (a, b) refl
 
-little_same : (i n : ℕ) (xs ys : List ℕ) → ((k : ℕ) → k < i + n → get_or xs k 0 ≡ get_or ys k 0) → little_from i n xs ≡ little_from i n ys
+little_same : (i n : ℕ) (xs ys : List ℕ) → ((k : ℕ) → k < i + n → get_or xs k 0 ≡ get_or ys k 0)
+    → little_from i n xs ≡ little_from i n ys
 little_same i zero xs ys h = refl
 little_same i (suc n) xs ys h =
     let a = h i (omega arith) in
     let b = little_same (suc i) n xs ys (λ k l. h k (omega arith)) in
     rw (a, b) refl
 
-number_same : (order : Order) (n : ℕ) (xs ys : List ℕ) → ((k : ℕ) → k < n → get_or xs k 0 ≡ get_or ys k 0) → number_of order n xs ≡ number_of order n ys
+number_same : (order : Order) (n : ℕ) (xs ys : List ℕ)
+    → ((k : ℕ) → k < n → get_or xs k 0 ≡ get_or ys k 0)
+    → number_of order n xs ≡ number_of order n ys
 number_same Big n xs ys h = big_same 0 n xs ys (λ k l. h k (omega arith))
 number_same Little n xs ys h = little_same 0 n xs ys (λ k l. h k (omega arith))
 
@@ -65,13 +69,18 @@ little_zero i (suc n) xs h =
     let b = little_zero (suc i) n xs h in
     rw (a, b) refl
 
-number_zero : (order : Order) (n : ℕ) (xs : List ℕ) → ((k : ℕ) → get_or xs k 0 ≡ 0) → number_of order n xs ≡ 0
+number_zero : (order : Order) (n : ℕ) (xs : List ℕ) → ((k : ℕ) → get_or xs k 0 ≡ 0)
+    → number_of order n xs ≡ 0
 number_zero Big n xs h = big_zero 0 n xs h
 number_zero Little n xs h = little_zero 0 n xs h
 
 number_back : (order : Order) (n x : ℕ) → x < 256 ^ n → number_of order n (spelled order n x) ≡ x
-number_back Big n x h = ap (λ xs. number_of Big n xs) (sym (append-nil (spelled Big n x))) ∙ big_number-reads_back n x [] h
-number_back Little n x h = ap (λ xs. number_of Little n xs) (sym (append-nil (spelled Little n x))) ∙ little_number-reads_back n x [] h
+number_back Big n x h =
+    ap (λ xs. number_of Big n xs) (sym (append-nil (spelled Big n x)))
+    ∙ big_number-reads_back n x [] h
+number_back Little n x h =
+    ap (λ xs. number_of Little n xs) (sym (append-nil (spelled Little n x)))
+    ∙ little_number-reads_back n x [] h
 
 at_behind : (xs : List ℕ) (p k : ℕ) → get_or (drop p xs) k 0 ≡ get_or xs (p + k) 0
 at_behind xs p k = grind (arith, common_steps)
@@ -80,18 +89,24 @@ at_behind xs p k = grind (arith, common_steps)
 
 header_tail : ℕ → Option Order → (Order → ℕ) → Result Order Fault
 header_tail n order version = if nat_lt (2 ^ 32 - 1) n then Err DataTooLarge else
-    (if nat_lt n 8 then Err TruncatedHeader else elim order [ None ↦ Err InvalidByteOrder | Some o ↦ if version o == 42 then Ok o else Err InvalidFortyTwo ])
+    (if nat_lt n 8 then Err TruncatedHeader else elim order [
+      | None ↦ Err InvalidByteOrder
+      | Some o ↦ if version o == 42 then Ok o else Err InvalidFortyTwo
+    ])
 
-header_is : (xs : List ℕ) → header xs ≡ header_tail (length xs) (order_of xs) (λ o. number_at (number_of o) 2 xs 2)
+header_is : (xs : List ℕ)
+    → header xs ≡ header_tail (length xs) (order_of xs) (λ o. number_at (number_of o) 2 xs 2)
 unfolding header_tail
 header_is xs = refl
 
-tail_same : (n : ℕ) (order : Option Order) (f g : Order → ℕ) → ((o : Order) → f o ≡ g o) → header_tail n order f ≡ header_tail n order g
+tail_same : (n : ℕ) (order : Option Order) (f g : Order → ℕ) → ((o : Order) → f o ≡ g o)
+    → header_tail n order f ≡ header_tail n order g
 unfolding header_tail
 tail_same n None f g h = refl
 tail_same n (Some o) f g h = rw (h o) refl
 
-header_same : (xs ys : List ℕ) → length xs ≡ length ys → ((k : ℕ) → k < 4 → get_or xs k 0 ≡ get_or ys k 0) → header xs ≡ header ys
+header_same : (xs ys : List ℕ) → length xs ≡ length ys
+    → ((k : ℕ) → k < 4 → get_or xs k 0 ≡ get_or ys k 0) → header xs ≡ header ys
 header_same xs ys l h =
     let a : get_or xs 0 0 ≡ get_or ys 0 0 = h 0 (omega arith) in
     let b : get_or xs 1 0 ≡ get_or ys 1 0 = h 1 (omega arith) in
@@ -99,17 +114,22 @@ header_same xs ys l h =
     header_is xs
     ∙ (ap (λ n. header_tail n (order_of xs) (λ o. number_at (number_of o) 2 xs 2)) l
     ∙ (ap (λ x. header_tail (length ys) x (λ o. number_at (number_of o) 2 xs 2)) o
-    ∙ (tail_same (length ys) (order_of ys) (λ o. number_at (number_of o) 2 xs 2) (λ o. number_at (number_of o) 2 ys 2)
-    (λ o. number_same o 2 (drop 2 xs) (drop 2 ys) (λ k l. at_behind xs 2 k ∙ (h (2 + k) (omega arith) ∙ sym (at_behind ys 2 k))))
+    ∙ (tail_same (length ys) (order_of ys) (λ o. number_at (number_of o) 2 xs 2)
+    (λ o. number_at (number_of o) 2 ys 2)
+    (λ o. number_same o 2 (drop 2 xs) (drop 2 ys)
+    (λ k l. at_behind xs 2 k ∙ (h (2 + k) (omega arith) ∙ sym (at_behind ys 2 k))))
     ∙ sym (header_is ys))))
 
 -- ---- an empty chain
 
 -- zeros from 8 on are an empty directory at 8, which is the last
-end_at_8 : (order : Order) (xs : List ℕ) → 14 ≤ length xs → ((i : ℕ) → 8 ≤ i → get_or xs i 0 ≡ 0) → directory_end (number_of order) xs 8 ≡ Ok 0
+end_at_8 : (order : Order) (xs : List ℕ) → 14 ≤ length xs → ((i : ℕ) → 8 ≤ i → get_or xs i 0 ≡ 0)
+    → directory_end (number_of order) xs 8 ≡ Ok 0
 end_at_8 order xs l z =
-    let c : number_at (number_of order) 2 xs 8 ≡ 0 = number_zero order 2 (drop 8 xs) (λ k. at_behind xs 8 k ∙ z (8 + k) (omega arith)) in
-    let n : number_at (number_of order) 4 xs (8 + 2 + 12 * 0) ≡ 0 = number_zero order 4 (drop 10 xs) (λ k. at_behind xs 10 k ∙ z (10 + k) (omega arith)) in
+    let c : number_at (number_of order) 2 xs 8 ≡ 0 =
+    number_zero order 2 (drop 8 xs) (λ k. at_behind xs 8 k ∙ z (8 + k) (omega arith)) in
+    let n : number_at (number_of order) 4 xs (8 + 2 + 12 * 0) ≡ 0 =
+    number_zero order 4 (drop 10 xs) (λ k. at_behind xs 10 k ∙ z (10 + k) (omega arith)) in
     let a : nat_lt (length xs) (8 + 2) ≡ false = grind (arith, nat_tests) in
     let b : nat_lt ((length xs - 8 - 2) / 12) 0 ≡ false = grind (arith, nat_tests) in
     let d : nat_lt (length xs) (8 + 2 + 12 * 0 + 4) ≡ false = grind (arith, nat_tests) in
@@ -118,16 +138,23 @@ end_at_8 order xs l z =
 zero_least : (x : ℕ) → min 0 x ≡ 0
 zero_least x = omega arith
 
-no_nodes : (f g : ℕ → List Node) (ps : List ℕ) (e : Result ℕ Fault) → ps ≡ [] → e ≡ Ok 0 → g 0 ≡ [] → flat_map f ps ++ chain_after g e ≡ []
+no_nodes : (f g : ℕ → List Node) (ps : List ℕ) (e : Result ℕ Fault) → ps ≡ [] → e ≡ Ok 0 → g 0 ≡ []
+    → flat_map f ps ++ chain_after g e ≡ []
 no_nodes f g ps e h k l = rw (h, k, l) refl
 
-chain_at_8 : (order : Order) (xs : List ℕ) → 14 ≤ length xs → ((i : ℕ) → 8 ≤ i → get_or xs i 0 ≡ 0) → chain_nodes 8 (number_of order) xs 0 8 ≡ []
-chain_at_8 order xs l z = no_nodes (entry_nodes (directory_nodes 2 (number_of order) xs 0) (number_of order) xs Tiff 0) (chain_nodes 7 (number_of order) xs (0 + 1)) (entry_places (number_of order) xs 8) (directory_end (number_of order) xs 8) places (end_at_8 order xs l z) refl
+chain_at_8 : (order : Order) (xs : List ℕ) → 14 ≤ length xs → ((i : ℕ) → 8 ≤ i → get_or xs i 0 ≡ 0)
+    → chain_nodes 8 (number_of order) xs 0 8 ≡ []
+chain_at_8 order xs l z =
+    no_nodes (entry_nodes (directory_nodes 2 (number_of order) xs 0) (number_of order) xs Tiff 0)
+    (chain_nodes 7 (number_of order) xs (0 + 1)) (entry_places (number_of order) xs 8)
+    (directory_end (number_of order) xs 8) places (end_at_8 order xs l z) refl
   where
     places : entry_places (number_of order) xs 8 ≡ []
     places =
-        let c : number_at (number_of order) 2 xs 8 ≡ 0 = number_zero order 2 (drop 8 xs) (λ k. at_behind xs 8 k ∙ z (8 + k) (omega arith)) in
-        let w : whole_entries (number_of order) xs 8 ≡ 0 = ap (λ n. min n ((length xs - 8 - 2) / 12)) c ∙ zero_least ((length xs - 8 - 2) / 12) in
+        let c : number_at (number_of order) 2 xs 8 ≡ 0 =
+        number_zero order 2 (drop 8 xs) (λ k. at_behind xs 8 k ∙ z (8 + k) (omega arith)) in
+        let w : whole_entries (number_of order) xs 8 ≡ 0 =
+        ap (λ n. min n ((length xs - 8 - 2) / 12)) c ∙ zero_least ((length xs - 8 - 2) / 12) in
         ap (λ n. spaced (8 + 2) 12 n) w
 
 -- ---- the bytes
@@ -149,7 +176,8 @@ small_place n = by_test (nat_lt n 14)
     by_test true = omega arith
     by_test false = omega arith
 
-made : (order : Order) (xs : List ℕ) → 8 ≤ length xs → Made order xs (patched (clearing order (length xs)) xs)
+made : (order : Order) (xs : List ℕ) → 8 ≤ length xs
+    → Made order xs (patched (clearing order (length xs)) xs)
 made order xs h =
     let text = spelled order 4 (empty_place (length xs)) in
     let zs : List ℕ = replicate (length xs - 8) 0 in
@@ -165,7 +193,11 @@ made order xs h =
       as_long = ln;
       front = λ k l. put_before 8 zs a k fz (omega arith) ∙ put_before 4 text xs k fa l;
       first =
-          number_same order 4 (drop 4 (put_at 8 zs a)) text (λ k l. at_behind (put_at 8 zs a) 4 k ∙ (put_before 8 zs a (4 + k) fz (omega arith) ∙ (put_on 4 text xs (4 + k) fa (omega arith) (omega arith) ∙ ap (λ j. get_or text j 0) (less_four k))))
+          number_same order 4 (drop 4 (put_at 8 zs a)) text
+          (λ k l. at_behind (put_at 8 zs a) 4 k
+          ∙ (put_before 8 zs a (4 + k) fz (omega arith)
+          ∙ (put_on 4 text xs (4 + k) fa (omega arith) (omega arith)
+          ∙ ap (λ j. get_or text j 0) (less_four k))))
           ∙ number_back order 4 (empty_place (length xs)) (small_place (length xs));
       zeros = λ i l. by_test i l (nat_lt i (length xs)) refl a la fn ln;
     }
@@ -173,17 +205,24 @@ made order xs h =
     less_four : (k : ℕ) → 4 + k - 4 ≡ k
     less_four k = omega arith
 
-    by_test : (i : ℕ) → 8 ≤ i → (b : Bool) → nat_lt i (length xs) ≡ b → (a : List ℕ) → length a ≡ length xs → 8 + (length xs - 8) ≤ length a → length (put_at 8 (replicate (length xs - 8) 0) a) ≡ length xs → get_or (put_at 8 (replicate (length xs - 8) 0) a) i 0 ≡ 0
+    by_test : (i : ℕ) → 8 ≤ i → (b : Bool) → nat_lt i (length xs) ≡ b → (a : List ℕ)
+        → length a ≡ length xs → 8 + (length xs - 8) ≤ length a
+        → length (put_at 8 (replicate (length xs - 8) 0) a) ≡ length xs
+        → get_or (put_at 8 (replicate (length xs - 8) 0) a) i 0 ≡ 0
     by_test i l true e a la fn ln = put_zero 8 (length xs - 8) a i fn l (grind (arith, nat_tests))
-    by_test i l false e a la fn ln = behind_all (put_at 8 (replicate (length xs - 8) 0) a) i (grind (arith, nat_tests))
+    by_test i l false e a la fn ln =
+        behind_all (put_at 8 (replicate (length xs - 8) 0) a) i (grind (arith, nat_tests))
 
 -- ---- the whole
 
-no_trace : (order : Order) (xs new : List ℕ) → Made order xs new → ordered_trace (number_of order) new ≡ []
+no_trace : (order : Order) (xs new : List ℕ) → Made order xs new
+    → ordered_trace (number_of order) new ≡ []
 unfolding ordered_trace
-no_trace order xs new m = ap (λ q. chain_nodes 8 (number_of order) new 0 q) m.first ∙ by_test (nat_lt (length xs) 14) refl
+no_trace order xs new m =
+    ap (λ q. chain_nodes 8 (number_of order) new 0 q) m.first ∙ by_test (nat_lt (length xs) 14) refl
   where
-    by_test : (b : Bool) → nat_lt (length xs) 14 ≡ b → chain_nodes 8 (number_of order) new 0 (if b then 0 else 8) ≡ []
+    by_test : (b : Bool) → nat_lt (length xs) 14 ≡ b
+        → chain_nodes 8 (number_of order) new 0 (if b then 0 else 8) ≡ []
     by_test true e = refl
     by_test false e = let l = m.as_long in chain_at_8 order new (grind (arith, nat_tests)) m.zeros
 
@@ -191,15 +230,18 @@ nothing_shown : (lenient : Bool) → answer_of lenient (content_of []) ≡ Whole
 nothing_shown true = refl
 nothing_shown false = refl
 
-pub clear_is : (bytes : List ℕ) (order : Order) → header bytes ≡ Ok order → clear_patches bytes ≡ Ok (clearing order (length bytes))
+pub clear_is : (bytes : List ℕ) (order : Order) → header bytes ≡ Ok order
+    → clear_patches bytes ≡ Ok (clearing order (length bytes))
 unfolding clear_patches
 clear_is bytes order h = rw h refl
 
-pub clear_refused : (bytes : List ℕ) (fault : Fault) → header bytes ≡ Err fault → clear_patches bytes ≡ Err (wrong_header fault)
+pub clear_refused : (bytes : List ℕ) (fault : Fault) → header bytes ≡ Err fault
+    → clear_patches bytes ≡ Err (wrong_header fault)
 unfolding clear_patches
 clear_refused bytes fault h = rw h refl
 
-pub clear_sound : (old : List ℕ) (order : Order) → header old ≡ Ok order → IsCleared old (patched (clearing order (length old)) old)
+pub clear_sound : (old : List ℕ) (order : Order) → header old ≡ Ok order
+    → IsCleared old (patched (clearing order (length old)) old)
 clear_sound old order h =
     let new = patched (clearing order (length old)) old in
     let m = made order old (header_room old order h).0 in
@@ -208,7 +250,9 @@ clear_sound old order h =
       as_long = m.as_long;
       header = same;
       zeros = m.zeros;
-      reads = λ lenient. raw_right lenient new order (same ∙ h) ∙ (ap (λ ns. answer_of lenient (content_of ns)) (no_trace order old new m) ∙ nothing_shown lenient);
+      reads = λ lenient. raw_right lenient new order (same ∙ h)
+          ∙ (ap (λ ns. answer_of lenient (content_of ns)) (no_trace order old new m)
+          ∙ nothing_shown lenient);
     }
 
 -- the patches lie in the data
@@ -218,22 +262,29 @@ clearing_fits order n h =
     let zs = zeros_over (record { place = 8; len = n - 8 }) in
     let ls : length text ≡ 4 = length-spelled order 4 (empty_place n) in
     let lz : length zs.text ≡ n - 8 = length-replicate (n - 8) 0 in
-    All-cons (FitsIn n) (record { place = 4; text = text }) (zs ∷ []) (omega arith) (All-cons (FitsIn n) zs [] (omega arith) (All-nil (FitsIn n)))
+    All-cons (FitsIn n) (record { place = 4; text = text }) (zs ∷ []) (omega arith)
+    (All-cons (FitsIn n) zs [] (omega arith) (All-nil (FitsIn n)))
 
 -- what answered patches are
-pub was_cleared : (bytes : List ℕ) (ps : List Patch) → clear_patches bytes ≡ Ok ps → (order : Order) × (header bytes ≡ Ok order) × (clearing order (length bytes) ≡ ps)
+pub was_cleared : (bytes : List ℕ) (ps : List Patch) → clear_patches bytes ≡ Ok ps
+    → (order : Order) × (header bytes ≡ Ok order) × (clearing order (length bytes) ≡ ps)
 unfolding clear_patches
 was_cleared bytes ps e =
     let a = bound (of_data (header bytes)) (λ order. Ok (clearing order (length bytes))) ps e in
     (a.0, data_read (header bytes) a.0 a.1, ok_same (clearing a.0 (length bytes)) ps a.2)
 
-pub clear_fits : (bytes : List ℕ) (ps : List Patch) → clear_patches bytes ≡ Ok ps → All (FitsIn (length bytes)) ps
+pub clear_fits : (bytes : List ℕ) (ps : List Patch) → clear_patches bytes ≡ Ok ps
+    → All (FitsIn (length bytes)) ps
 clear_fits bytes ps e =
     let w = was_cleared bytes ps e in
-    subst (λ qs. All (FitsIn (length bytes)) qs) w.2 (clearing_fits w.0 (length bytes) (header_room bytes w.0 w.1).0)
+    subst (λ qs. All (FitsIn (length bytes)) qs) w.2
+    (clearing_fits w.0 (length bytes) (header_room bytes w.0 w.1).0)
 
 -- what the two steps in place make
-pub cleared_bytes : (order : Order) (xs a new : List ℕ) (p : ℕ) → p ≡ empty_place (length xs) → a ≡ put_at 4 (spelled order 4 p) xs → length a ≡ length xs
+pub cleared_bytes : (order : Order) (xs a new : List ℕ) (p : ℕ) → p ≡ empty_place (length xs)
+    → a ≡ put_at 4 (spelled order 4 p) xs → length a ≡ length xs
     → new ≡ put_at 8 (replicate (length a - 8) 0) a → new ≡ patched (clearing order (length xs)) xs
 cleared_bytes order xs a new p e f l g =
-    g ∙ (ap (λ n. put_at 8 (replicate (n - 8) 0) a) l ∙ ap (λ b. put_at 8 (replicate (length xs - 8) 0) b) (f ∙ ap (λ q. put_at 4 (spelled order 4 q) xs) e))
+    g ∙ (ap (λ n. put_at 8 (replicate (n - 8) 0) a) l
+    ∙ ap (λ b. put_at 8 (replicate (length xs - 8) 0) b)
+    (f ∙ ap (λ q. put_at 4 (spelled order 4 q) xs) e))

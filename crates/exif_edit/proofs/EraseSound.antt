@@ -30,36 +30,51 @@ use Rattle.exif_edit.proofs.ReadSound.{reads_are}
 
 -- ---- the spans lie in the data
 
-pub within-append : (n : ℕ) (xs ys : List Span) → AllWithin n xs → AllWithin n ys → AllWithin n (xs ++ ys)
+pub within-append : (n : ℕ) (xs ys : List Span) → AllWithin n xs → AllWithin n ys
+    → AllWithin n (xs ++ ys)
 within-append n [] ys h k = k
 within-append n (x ∷ xs) ys h k = (h.0, within-append n xs ys h.1 k)
 
 clipped_within : (total : ℕ) (s : Span) → (clipped total s).place + (clipped total s).len ≤ total
 clipped_within total s = by_test (nat_le s.place total) refl
   where
-    by_test : (b : Bool) → nat_le s.place total ≡ b → (if b then record { place = s.place; len = min s.len (total - s.place) } else nowhere).place + (if b then record { place = s.place; len = min s.len (total - s.place) } else nowhere).len ≤ total
+    by_test : (b : Bool) → nat_le s.place total ≡ b
+        → (if b then record { place = s.place; len = min s.len (total - s.place) } else
+        nowhere).place +
+        (if b then record { place = s.place; len = min s.len (total - s.place) } else nowhere).len ≤
+        total
     by_test true e = let h : s.place ≤ total = grind (arith, nat_tests) in omega arith
     by_test false e = omega arith
 
 within_within : (total : ℕ) (s : Span) → (within total s).place + (within total s).len ≤ total
 within_within total s = by_test (nat_le (s.place + s.len) total) refl
   where
-    by_test : (b : Bool) → nat_le (s.place + s.len) total ≡ b → (if b then s else nowhere).place + (if b then s else nowhere).len ≤ total
+    by_test : (b : Bool) → nat_le (s.place + s.len) total ≡ b
+        → (if b then s else nowhere).place + (if b then s else nowhere).len ≤ total
     by_test true e = grind (arith, nat_tests)
     by_test false e = omega arith
 
-pub values_within : (number : Reading) (bytes es : List ℕ) → AllWithin (length bytes) (map (value_span number bytes) es)
+pub values_within : (number : Reading) (bytes es : List ℕ)
+    → AllWithin (length bytes) (map (value_span number bytes) es)
 values_within number bytes [] = tt
-values_within number bytes (e ∷ es) = (within_within (length bytes) (value_room number bytes e), values_within number bytes es)
+values_within number bytes (e ∷ es) =
+    (within_within (length bytes) (value_room number bytes e), values_within number bytes es)
 
-directories_within : (number : Reading) (bytes qs : List ℕ) → AllWithin (length bytes) (flat_map (directory_spans number bytes) qs)
+directories_within : (number : Reading) (bytes qs : List ℕ)
+    → AllWithin (length bytes) (flat_map (directory_spans number bytes) qs)
 directories_within number bytes [] = tt
 directories_within number bytes (q ∷ qs) =
-    within-append (length bytes) (directory_spans number bytes q) (flat_map (directory_spans number bytes) qs)
-    (clipped_within (length bytes) (record { place = q; len = 2 + 12 * whole_entries number bytes q + 4 }), values_within number bytes (entry_places number bytes q))
+    within-append (length bytes) (directory_spans number bytes q)
+    (flat_map (directory_spans number bytes) qs) (
+      clipped_within (length bytes)
+          (record { place = q; len = 2 + 12 * whole_entries number bytes q + 4 }),
+      values_within
+          number bytes (entry_places number bytes q),
+    )
     (directories_within number bytes qs)
 
-spans_within : (number : Reading) (bytes : List ℕ) → AllWithin (length bytes) (gps_spans number bytes)
+spans_within : (number : Reading) (bytes : List ℕ)
+    → AllWithin (length bytes) (gps_spans number bytes)
 unfolding gps_spans
 spans_within number bytes = directories_within number bytes (gps_places bytes)
 
@@ -70,20 +85,38 @@ zeros_fit n (s ∷ ss) h =
     let a = h.0 in
     All-cons (FitsIn n) (zeros_over s) (map zeros_over ss) (omega (arith, l)) (zeros_fit n ss h.1)
 
-pub gps_fit : (bytes : List ℕ) (ps : List Patch) (little : Bool) → ps ≡ map zeros_over (gps_spans (number_of (order_named little)) bytes) → All (FitsIn (length bytes)) ps
+pub gps_fit : (bytes : List ℕ) (ps : List Patch) (little : Bool)
+    → ps ≡ map zeros_over (gps_spans (number_of (order_named little)) bytes)
+    → All (FitsIn (length bytes)) ps
 gps_fit bytes ps little e =
     let number = number_of (order_named little) in
-    subst (λ qs. All (FitsIn (length bytes)) qs) (sym e) (zeros_fit (length bytes) (gps_spans number bytes) (spans_within number bytes))
+    subst (λ qs. All (FitsIn (length bytes)) qs) (sym e)
+    (zeros_fit (length bytes) (gps_spans number bytes) (spans_within number bytes))
 
 -- ---- the whole
 
-cleared_by : (x : (Result Read Fault)) (read : Read) → (elim x [ Ok found ↦ beq found.little read.little && (pointwise field_eq found.fields read.fields && nat_le (length found.faults) (length read.faults)) | Err fault ↦ false ]) ≡ true
-    → (found : Read) × (x ≡ Ok found) × (found.fields ≡ read.fields) × (length found.faults ≤ length read.faults)
+cleared_by : (x : (Result Read Fault)) (read : Read)
+    → (elim x [
+      | Ok found ↦ beq found.little read.little
+          && (pointwise field_eq found.fields read.fields
+          && nat_le (length found.faults) (length read.faults))
+      | Err fault ↦ false
+    ]) ≡ true
+    → (found : Read) × (x ≡ Ok found) × (found.fields ≡ read.fields)
+    × (length found.faults ≤ length read.faults)
 cleared_by (Ok found) read e =
-    let p = split (beq found.little read.little) (pointwise field_eq found.fields read.fields && nat_le (length found.faults) (length read.faults)) e in
-    let q = split (pointwise field_eq found.fields read.fields) (nat_le (length found.faults) (length read.faults)) p.1 in
-    let t = q.1 in
-    (found, refl, (slice_eq-Decides field_Decides found.fields read.fields (pointwise field_eq found.fields read.fields) refl).0 q.0, grind (arith, nat_tests))
+    let p = split (beq found.little read.little)
+    (pointwise field_eq found.fields read.fields
+    && nat_le (length found.faults) (length read.faults)) e in
+    let q = split (pointwise field_eq found.fields read.fields)
+    (nat_le (length found.faults) (length read.faults)) p.1 in
+    let t = q.1 in (
+      found,
+      refl,
+      (slice_eq-Decides field_Decides found.fields read.fields
+          (pointwise field_eq found.fields read.fields) refl).0 q.0,
+      grind (arith, nat_tests),
+    )
 cleared_by (Err fault) read e = absurd (false≢true e)
 
 -- what answered patches are
@@ -99,7 +132,9 @@ pub record WasErased (bytes : List ℕ) (ps : List Patch) : Type 0 where
 was_erased : (bytes : List ℕ) (ps : List Patch) → erase_patches bytes ≡ Ok ps → WasErased bytes ps
 unfolding erase_patches
 was_erased bytes ps e =
-    let a = bound (of_data (reading bytes)) (λ read. cleared (kept read) bytes (map zeros_over (gps_spans (number_of (order_named read.little)) bytes))) ps e in
+    let a = bound (of_data (reading bytes))
+    (λ read. cleared (kept read) bytes
+    (map zeros_over (gps_spans (number_of (order_named read.little)) bytes))) ps e in
     let zs = map zeros_over (gps_spans (number_of (order_named a.0.little)) bytes) in
     let t = tested (clears (patched zs bytes) (kept a.0)) zs ps shared a.2 in
     let c = cleared_by (reading (patched zs bytes)) (kept a.0) t.0 in
@@ -113,22 +148,27 @@ was_erased bytes ps e =
       fewer = c.3;
     }
 
-pub erase_fits : (bytes : List ℕ) (ps : List Patch) → erase_patches bytes ≡ Ok ps → All (FitsIn (length bytes)) ps
+pub erase_fits : (bytes : List ℕ) (ps : List Patch) → erase_patches bytes ≡ Ok ps
+    → All (FitsIn (length bytes)) ps
 erase_fits bytes ps e = let w = was_erased bytes ps e in gps_fit bytes ps w.read.little w.zeros
 
-pub erased_sound : (old : List ℕ) (ps : List Patch) → erase_patches old ≡ Ok ps → IsErased old (patched ps old)
+pub erased_sound : (old : List ℕ) (ps : List Patch) → erase_patches old ≡ Ok ps
+    → IsErased old (patched ps old)
 erased_sound old ps e =
     let w = was_erased old ps e in
     let number = number_of (order_named w.read.little) in
     let r = reads_are old w.read w.reads in
     let s = reads_are (patched ps old) w.found w.reads_new in
-    let fields : w.found.fields ≡ without_gps (fields_of (trace old)) = w.fields ∙ ap without_gps r.1 in
-    let few : length w.found.faults ≤ length (faults_of (trace old)) = subst (λ xs. length w.found.faults ≤ length xs) r.2 w.fewer in
+    let fields : w.found.fields ≡ without_gps (fields_of (trace old)) =
+    w.fields ∙ ap without_gps r.1 in
+    let few : length w.found.faults ≤ length (faults_of (trace old)) =
+    subst (λ xs. length w.found.faults ≤ length xs) r.2 w.fewer in
     record {
       order = order_named w.read.little;
       header = header_named old w.read w.reads;
       as_long = length-patched ps old (gps_fit old ps w.read.little w.zeros);
-      bytes = λ i. ap (λ qs. get_or (patched qs old) i 0) w.zeros ∙ zeroed_at (gps_spans number old) old i (spans_within number old);
+      bytes = λ i. ap (λ qs. get_or (patched qs old) i 0) w.zeros
+          ∙ zeroed_at (gps_spans number old) old i (spans_within number old);
       faults = w.found.faults;
       reads = subst (λ fs. ReadAs (patched ps old) fs w.found.faults) fields s.0;
       fewer = few;

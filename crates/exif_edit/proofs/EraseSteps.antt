@@ -24,18 +24,23 @@ pub value_on : (span : ℕ → Span) (at' n i : ℕ) (out new all : List Patch) 
     → out ++ map zeros_over (map span (spaced at' 12 (n - i))) ≡ all
     → new ++ map zeros_over (map span (spaced (at' + 12) 12 (n - (i + 1)))) ≡ all
 value_on span at' n i out new all h e f =
-    let g : out ++ map zeros_over (map span (at' ∷ spaced (at' + 12) 12 (n - (i + 1)))) ≡ all = rw (spaced_step n i at' 12 h) at f in
+    let g : out ++ map zeros_over (map span (at' ∷ spaced (at' + 12) 12 (n - (i + 1)))) ≡ all =
+    rw (spaced_step n i at' 12 h) at f in
     ap (λ xs. xs ++ map zeros_over (map span (spaced (at' + 12) 12 (n - (i + 1))))) e
-    ∙ (append_assoc out (zeros_over (span at') ∷ []) (map zeros_over (map span (spaced (at' + 12) 12 (n - (i + 1))))) ∙ g)
+    ∙ (append_assoc out (zeros_over (span at') ∷ [])
+    (map zeros_over (map span (spaced (at' + 12) 12 (n - (i + 1))))) ∙ g)
 
 -- one of the directories that are left
-pub directory_on : (spans : ℕ → List Span) (qs : List ℕ) (i : ℕ) (out new all : List Patch) → i < length qs
+pub directory_on : (spans : ℕ → List Span) (qs : List ℕ) (i : ℕ) (out new all : List Patch)
+    → i < length qs
     → new ≡ out ++ map zeros_over (spans (get_or qs i 0))
     → out ++ map zeros_over (flat_map spans (drop i qs)) ≡ all
     → new ++ map zeros_over (flat_map spans (drop (i + 1) qs)) ≡ all
 directory_on spans qs i out new all h e f =
-    let d : drop i qs ≡ get_or qs i 0 ∷ drop (i + 1) qs = let p : i + 1 ≡ suc i = omega arith in rw p (drop-cons qs i 0 h) in
-    let g : out ++ map zeros_over (spans (get_or qs i 0) ++ flat_map spans (drop (i + 1) qs)) ≡ all = rw d at f in
+    let d : drop i qs ≡ get_or qs i 0 ∷ drop (i + 1) qs = let p : i + 1 ≡ suc i =
+    omega arith in rw p (drop-cons qs i 0 h) in
+    let g : out ++ map zeros_over (spans (get_or qs i 0) ++ flat_map spans (drop (i + 1) qs))
+    ≡ all = rw d at f in
     let rest = flat_map spans (drop (i + 1) qs) in
     ap (λ xs. xs ++ map zeros_over rest) e
     ∙ (append_assoc out (map zeros_over (spans (get_or qs i 0))) (map zeros_over rest)
@@ -43,37 +48,55 @@ directory_on spans qs i out new all h e f =
 
 -- ---- the whole
 
-pub erase_fault : (s : Stop) (bytes : List ℕ) (e : Error) → ReadsTo (Err s) (reading bytes) → Becomes s e → Fails e (erase_patches bytes)
+pub erase_fault : (s : Stop) (bytes : List ℕ) (e : Error) → ReadsTo (Err s) (reading bytes)
+    → Becomes s e → Fails e (erase_patches bytes)
 unfolding erase_patches
 erase_fault stop.OutOfMemory bytes e h b = rw b refl
 erase_fault (stop.Fault fault) bytes e h b = rw (b, h) refl
 
 erase_cleared : (bytes : List ℕ) (read : Read) → reading bytes ≡ Ok read
-    → erase_patches bytes ≡ cleared (kept read) bytes (map zeros_over (gps_spans (number_of (order_named read.little)) bytes))
+    → erase_patches bytes
+    ≡ cleared (kept read) bytes
+    (map zeros_over (gps_spans (number_of (order_named read.little)) bytes))
 unfolding erase_patches
 erase_cleared bytes read h = rw h refl
 
-spans_are : (number : Reading) (bytes qs : List ℕ) → qs ≡ gps_places bytes → flat_map (directory_spans number bytes) qs ≡ gps_spans number bytes
+spans_are : (number : Reading) (bytes qs : List ℕ) → qs ≡ gps_places bytes
+    → flat_map (directory_spans number bytes) qs ≡ gps_spans number bytes
 unfolding gps_spans
 spans_are number bytes qs e = ap (λ ps. flat_map (directory_spans number bytes) ps) e
 
 -- the zeros are those of the GPS directories
-pub zeros_are : (bytes qs : List ℕ) (ps : List Patch) (read : Read) (order : Order) → order ≡ order_named read.little → qs ≡ gps_places bytes
+pub zeros_are : (bytes qs : List ℕ) (ps : List Patch) (read : Read) (order : Order)
+    → order ≡ order_named read.little → qs ≡ gps_places bytes
     → ps ≡ map zeros_over (flat_map (directory_spans (number_of order) bytes) qs)
     → ps ≡ map zeros_over (gps_spans (number_of (order_named read.little)) bytes)
 zeros_are bytes qs ps read order o w n =
-    n ∙ (ap (λ ss. map zeros_over ss) (spans_are (number_of order) bytes qs w) ∙ ap (λ x. map zeros_over (gps_spans (number_of x) bytes)) o)
+    n ∙ (ap (λ ss. map zeros_over ss) (spans_are (number_of order) bytes qs w)
+    ∙ ap (λ x. map zeros_over (gps_spans (number_of x) bytes)) o)
 
 -- what is answered, as the zeroed bytes are read so or not
-pub erase_same : (bytes new : List ℕ) (ps : List Patch) (read : Read) (fs : List Field) → reading bytes ≡ Ok read
-    → ps ≡ map zeros_over (gps_spans (number_of (order_named read.little)) bytes) → new ≡ patched ps bytes
+pub erase_same : (bytes new : List ℕ) (ps : List Patch) (read : Read) (fs : List Field)
+    → reading bytes ≡ Ok read
+    → ps ≡ map zeros_over (gps_spans (number_of (order_named read.little)) bytes)
+    → new ≡ patched ps bytes
     → fs ≡ without_gps read.fields
-    → (b : Bool) → b ≡ clears new (record { little = read.little; fields = fs; faults = read.faults })
+    → (b : Bool) → b
+    ≡ clears new (record { little = read.little; fields = fs; faults = read.faults })
     → (b ≡ true → erase_patches bytes ≡ Ok ps) × (b ≡ false → erase_patches bytes ≡ Err shared)
 erase_same bytes new ps read fs h p n f b t =
-    let q : b ≡ clears (patched ps bytes) (kept read) = t ∙ (ap (λ x. clears new (record { little = read.little; fields = x; faults = read.faults })) f ∙ ap (λ xs. clears xs (kept read)) n) in
-    let s : erase_patches bytes ≡ cleared (kept read) bytes ps = erase_cleared bytes read h ∙ ap (λ x. cleared (kept read) bytes x) (sym p) in
-    (λ y. s ∙ by_test (clears (patched ps bytes) (kept read)) true (sym q ∙ y), λ y. s ∙ by_test (clears (patched ps bytes) (kept read)) false (sym q ∙ y))
+    let q : b ≡ clears (patched ps bytes) (kept read) =
+    t ∙ (ap (λ x. clears new
+    (record { little = read.little; fields = x; faults = read.faults })) f
+    ∙ ap (λ xs. clears xs (kept read)) n) in
+    let s : erase_patches bytes ≡ cleared (kept read) bytes ps =
+    erase_cleared bytes read h ∙ ap (λ x. cleared (kept read) bytes x) (sym p) in (
+      λ y. s ∙ by_test (clears (patched ps bytes) (kept read)) true (sym q ∙ y),
+      λ y. s
+          ∙ by_test (clears (patched ps bytes) (kept read)) false (sym q ∙ y),
+    )
   where
-    by_test : (x c : Bool) → x ≡ c → ◌≡◌ {A = Result (List Patch) Cause} (if x then Ok ps else Err shared) (if c then Ok ps else Err shared)
+    by_test : (x c : Bool) → x ≡ c
+        → ◌≡◌ {A = Result (List Patch) Cause} (if x then Ok ps else Err shared)
+        (if c then Ok ps else Err shared)
     by_test x c e = ap (λ y. if y then Ok ps else Err shared) e

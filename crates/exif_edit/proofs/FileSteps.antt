@@ -21,16 +21,21 @@ pub place_on : (file old : List ℕ) (ps : List Patch) (place count : ℕ) → p
     → serves file old ps place ≡ false
     → find (serves file old ps) (spaced (place + 1) 1 (count - (place + 1))) ≡ place_for file old ps
 place_on file old ps place count h f s =
-    let g : find (serves file old ps) (place ∷ spaced (place + 1) 1 (count - (place + 1))) ≡ place_for file old ps = rw (spaced_step count place place 1 h) at f in
-    sym (ap (λ b. if b then Some place else find (serves file old ps) (spaced (place + 1) 1 (count - (place + 1)))) s) ∙ g
+    let g : find (serves file old ps) (place ∷ spaced (place + 1) 1 (count - (place + 1)))
+    ≡ place_for file old ps = rw (spaced_step count place place 1 h) at f in
+    sym (ap (λ b. if b then Some place else find (serves file old ps)
+    (spaced (place + 1) 1 (count - (place + 1)))) s) ∙ g
 
 pub place_found : (file old : List ℕ) (ps : List Patch) (place count : ℕ) → place < count
     → find (serves file old ps) (spaced place 1 (count - place)) ≡ place_for file old ps
     → serves file old ps place ≡ true → place_answer file old ps ≡ Ok place
 unfolding place_answer
 place_found file old ps place count h f s =
-    let g : find (serves file old ps) (place ∷ spaced (place + 1) 1 (count - (place + 1))) ≡ place_for file old ps = rw (spaced_step count place place 1 h) at f in
-    let e : Some place ≡ place_for file old ps = sym (ap (λ b. if b then Some place else find (serves file old ps) (spaced (place + 1) 1 (count - (place + 1)))) s) ∙ g in
+    let g : find (serves file old ps) (place ∷ spaced (place + 1) 1 (count - (place + 1)))
+    ≡ place_for file old ps = rw (spaced_step count place place 1 h) at f in
+    let e : Some place ≡ place_for file old ps =
+    sym (ap (λ b. if b then Some place else find (serves file old ps)
+    (spaced (place + 1) 1 (count - (place + 1)))) s) ∙ g in
     ap (λ p. or_cause p scattered) (sym e)
 
 pub place_none : (file old : List ℕ) (ps : List Patch) (place count : ℕ) → count ≤ place
@@ -45,32 +50,42 @@ place_none file old ps place count h f =
 -- ---- the patches, counted from the first byte of the file
 
 -- those that are left begin with the one at hand
-left_step : {A : Type 0} (xs : List A) (i : ℕ) (x : A) → i < length xs → x ≡ get_or xs i x → drop i xs ≡ x ∷ drop (i + 1) xs
+left_step : {A : Type 0} (xs : List A) (i : ℕ) (x : A) → i < length xs → x ≡ get_or xs i x
+    → drop i xs ≡ x ∷ drop (i + 1) xs
 left_step xs i x h g =
     let n : i + 1 ≡ suc i = omega arith in
     rw n (drop-cons xs i x h ∙ ap (λ q. q ∷ drop (suc i) xs) (sym g))
 
 -- one of them is changed
-pub change_step : {A : Type 0} (f : A → A) (xs ys : List A) (i : ℕ) (x y : A) → i < length xs → x ≡ get_or xs i x → y ≡ f (get_or xs i x) → ys ≡ set xs i y
+pub change_step : {A : Type 0} (f : A → A) (xs ys : List A) (i : ℕ) (x y : A) → i < length xs
+    → x ≡ get_or xs i x → y ≡ f (get_or xs i x) → ys ≡ set xs i y
     → take (i + 1) ys ++ map f (drop (i + 1) ys) ≡ take i xs ++ map f (drop i xs)
 change_step f xs ys i x y h g k e =
     let d = left_step xs i x h g in
     let v : y ≡ f x = k ∙ ap f (sym g) in
     let t : take (i + 1) (set xs i y) ≡ take i xs ++ y ∷ [] = take_more_set xs i y h in
-    let r : drop (i + 1) (set xs i y) ≡ drop (i + 1) xs = drop-set-lt (i + 1) xs i y (omega arith) in
+    let r : drop (i + 1) (set xs i y) ≡ drop (i + 1) xs =
+    drop-set-lt (i + 1) xs i y (omega arith) in
     rw (e, t, r, d, v) (append_assoc (take i xs) (f x ∷ []) (map f (drop (i + 1) xs)))
 
-pub change_left : (n : ℕ) (xs ys : List Patch) (i : ℕ) (x y : Patch) → i < length xs → x ≡ get_or xs i x → ys ≡ set xs i y
+pub change_left : (n : ℕ) (xs ys : List Patch) (i : ℕ) (x y : Patch) → i < length xs
+    → x ≡ get_or xs i x → ys ≡ set xs i y
     → All (FitsIn n) (drop i xs) → All (FitsIn n) (drop (i + 1) ys)
 change_left n xs ys i x y h g e k =
-    let r : drop (i + 1) ys ≡ drop (i + 1) xs = ap (λ zs. drop (i + 1) zs) e ∙ drop-set-lt (i + 1) xs i y (omega arith) in
-    All-same (FitsIn n) (drop (i + 1) ys) (drop (i + 1) xs) r (All-rest (FitsIn n) x (drop (i + 1) xs) (drop i xs) (left_step xs i x h g) k)
+    let r : drop (i + 1) ys ≡ drop (i + 1) xs =
+    ap (λ zs. drop (i + 1) zs) e ∙ drop-set-lt (i + 1) xs i y (omega arith) in
+    All-same (FitsIn n) (drop (i + 1) ys) (drop (i + 1) xs) r
+    (All-rest (FitsIn n) x (drop (i + 1) xs) (drop i xs) (left_step xs i x h g) k)
 
 -- the first of those that are left lies in the data
-pub first_left : (n : ℕ) (xs : List Patch) (i : ℕ) (x : Patch) → i < length xs → x ≡ get_or xs i x → All (FitsIn n) (drop i xs) → FitsIn n x
-first_left n xs i x h g k = All-head (FitsIn n) x (drop (i + 1) xs) (All-same (FitsIn n) (x ∷ drop (i + 1) xs) (drop i xs) (sym (left_step xs i x h g)) k)
+pub first_left : (n : ℕ) (xs : List Patch) (i : ℕ) (x : Patch) → i < length xs → x ≡ get_or xs i x
+    → All (FitsIn n) (drop i xs) → FitsIn n x
+first_left n xs i x h g k =
+    All-head (FitsIn n) x (drop (i + 1) xs)
+    (All-same (FitsIn n) (x ∷ drop (i + 1) xs) (drop i xs) (sym (left_step xs i x h g)) k)
 
-pub change_end : {A : Type 0} (f : A → A) (xs all : List A) (i : ℕ) → length xs ≤ i → take i xs ++ map f (drop i xs) ≡ all → xs ≡ all
+pub change_end : {A : Type 0} (f : A → A) (xs all : List A) (i : ℕ) → length xs ≤ i
+    → take i xs ++ map f (drop i xs) ≡ all → xs ≡ all
 change_end f xs all i h e =
     let t : take i xs ≡ xs = take_all i xs h in
     let d : drop i xs ≡ [] = drop_of_length-le xs h in
@@ -79,22 +94,28 @@ change_end f xs all i h e =
 
 -- ---- the whole
 
-pub file_data : (edit : Edit) (file : List ℕ) (c : Cause) → of_container (container_answer file) ≡ Err c → in_file edit file ≡ Err c
+pub file_data : (edit : Edit) (file : List ℕ) (c : Cause)
+    → of_container (container_answer file) ≡ Err c → in_file edit file ≡ Err c
 unfolding in_file
 file_data edit file c h = rw h refl
 
-pub file_edit : (edit : Edit) (file old : List ℕ) (c : Cause) → of_container (container_answer file) ≡ Ok old → edit old ≡ Err c → in_file edit file ≡ Err c
+pub file_edit : (edit : Edit) (file old : List ℕ) (c : Cause)
+    → of_container (container_answer file) ≡ Ok old → edit old ≡ Err c → in_file edit file ≡ Err c
 unfolding in_file
 file_edit edit file old c h g = rw (h, g) refl
 
-pub file_placed : (edit : Edit) (file old : List ℕ) (ps : List Patch) (x : Result (List Patch) Cause) → of_container (container_answer file) ≡ Ok old → edit old ≡ Ok ps → placed file old ps ≡ x → in_file edit file ≡ x
+pub file_placed : (edit : Edit) (file old : List ℕ) (ps : List Patch)
+    (x : Result (List Patch) Cause) → of_container (container_answer file) ≡ Ok old
+    → edit old ≡ Ok ps → placed file old ps ≡ x → in_file edit file ≡ x
 unfolding in_file
 file_placed edit file old ps x h g s = rw (h, g) s
 
-pub clear_file_tiff : (file : List ℕ) → begins_tiff file ≡ true → clear_file_patches file ≡ Err picture
+pub clear_file_tiff : (file : List ℕ) → begins_tiff file ≡ true
+    → clear_file_patches file ≡ Err picture
 unfolding clear_file_patches
 clear_file_tiff file h = rw h refl
 
-pub clear_file_else : (file : List ℕ) → begins_tiff file ≡ false → clear_file_patches file ≡ in_file clear_patches file
+pub clear_file_else : (file : List ℕ) → begins_tiff file ≡ false
+    → clear_file_patches file ≡ in_file clear_patches file
 unfolding clear_file_patches
 clear_file_else file h = rw h refl

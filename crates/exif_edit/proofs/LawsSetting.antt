@@ -30,47 +30,68 @@ use Rattle.exif_edit.proofs.SetSound.{Fits, WasSet, both, value_fits, value_leng
 touched : (p : Patch) (i : ℕ) → Misses i p ⊎ ((p.place ≤ i) × (i < p.place + length p.text))
 touched p i = by_test (nat_lt i p.place) (nat_lt i (p.place + length p.text)) refl refl
   where
-    by_test : (a b : Bool) → nat_lt i p.place ≡ a → nat_lt i (p.place + length p.text) ≡ b → Misses i p ⊎ ((p.place ≤ i) × (i < p.place + length p.text))
+    by_test : (a b : Bool) → nat_lt i p.place ≡ a → nat_lt i (p.place + length p.text) ≡ b
+        → Misses i p ⊎ ((p.place ≤ i) × (i < p.place + length p.text))
     by_test true b e f = inl (inl (grind (arith, nat_tests)))
     by_test false true e f = inr (grind (arith, nat_tests), grind (arith, nat_tests))
     by_test false false e f = inl (inr (grind (arith, nat_tests)))
 
 -- what patches make of two bytes is the same where they are the same, or a patch touches them
-same_at : (qs : List Patch) (xs ys : List ℕ) (i : ℕ) → length xs ≡ length ys → All (FitsIn (length xs)) qs
-    → (All (Misses i) qs → get_or xs i 0 ≡ get_or ys i 0) → get_or (patched qs xs) i 0 ≡ get_or (patched qs ys) i 0
+same_at : (qs : List Patch) (xs ys : List ℕ) (i : ℕ) → length xs ≡ length ys
+    → All (FitsIn (length xs)) qs
+    → (All (Misses i) qs → get_or xs i 0 ≡ get_or ys i 0)
+    → get_or (patched qs xs) i 0 ≡ get_or (patched qs ys) i 0
 same_at [] xs ys i l f k = k (All-nil (Misses i))
 same_at (q ∷ qs) xs ys i l f k =
     let fx = All-head (FitsIn (length xs)) q qs f in
     let g = fit_in (length xs) (length ys) (q ∷ qs) l f in
     let fy = All-head (FitsIn (length ys)) q qs g in
-    let m : length (put_at q.place q.text xs) ≡ length (put_at q.place q.text ys) = grind (arith, common_steps) in
-    same_at qs (put_at q.place q.text xs) (put_at q.place q.text ys) i m (fit_behind q qs xs f) (by_touch (touched q i) fx fy)
+    let m : length (put_at q.place q.text xs) ≡ length (put_at q.place q.text ys) =
+    grind (arith, common_steps) in
+    same_at qs (put_at q.place q.text xs) (put_at q.place q.text ys) i m (fit_behind q qs xs f)
+    (by_touch (touched q i) fx fy)
   where
-    by_touch : Misses i q ⊎ ((q.place ≤ i) × (i < q.place + length q.text)) → q.place + length q.text ≤ length xs → q.place + length q.text ≤ length ys
-        → All (Misses i) qs → get_or (put_at q.place q.text xs) i 0 ≡ get_or (put_at q.place q.text ys) i 0
-    by_touch (inl (inl a)) fx fy m = put_before q.place q.text xs i fx a ∙ (k (All-cons (Misses i) q qs (inl a) m) ∙ sym (put_before q.place q.text ys i fy a))
-    by_touch (inl (inr a)) fx fy m = put_behind q.place q.text xs i fx a ∙ (k (All-cons (Misses i) q qs (inr a) m) ∙ sym (put_behind q.place q.text ys i fy a))
-    by_touch (inr a) fx fy m = put_on q.place q.text xs i fx a.0 a.1 ∙ sym (put_on q.place q.text ys i fy a.0 a.1)
+    by_touch : Misses i q ⊎ ((q.place ≤ i) × (i < q.place + length q.text))
+        → q.place + length q.text ≤ length xs → q.place + length q.text ≤ length ys
+        → All (Misses i) qs
+        → get_or (put_at q.place q.text xs) i 0 ≡ get_or (put_at q.place q.text ys) i 0
+    by_touch (inl (inl a)) fx fy m =
+        put_before q.place q.text xs i fx a
+        ∙ (k (All-cons (Misses i) q qs (inl a) m) ∙ sym (put_before q.place q.text ys i fy a))
+    by_touch (inl (inr a)) fx fy m =
+        put_behind q.place q.text xs i fx a
+        ∙ (k (All-cons (Misses i) q qs (inr a) m) ∙ sym (put_behind q.place q.text ys i fy a))
+    by_touch (inr a) fx fy m =
+        put_on q.place q.text xs i fx a.0 a.1 ∙ sym (put_on q.place q.text ys i fy a.0 a.1)
 
 -- ---- patches of one room and one entry
 
 -- what holds of all holds of each
-parts : (P : Patch → Type 0) (order : Order) (value : Value) (e : ℕ) (s : Span) → All P (value_patches order value e s)
-    → ((s.len == 0) ≡ false → P (record { place = s.place; text = room_text s.len (encode order value) }))
+parts : (P : Patch → Type 0) (order : Order) (value : Value) (e : ℕ) (s : Span)
+    → All P (value_patches order value e s)
+    → ((s.len == 0) ≡ false
+    → P (record { place = s.place; text = room_text s.len (encode order value) }))
     × P (record { place = e + 2; text = entry_text order value s.place (encode order value) })
 parts P order value e s h =
-    by_test (s.len == 0) refl (record { place = s.place; text = room_text s.len (encode order value) })
+    by_test (s.len == 0) refl
+    (record { place = s.place; text = room_text s.len (encode order value) })
     (record { place = e + 2; text = entry_text order value s.place (encode order value) }) h
   where
-    by_test : (z : Bool) → (s.len == 0) ≡ z → (room entry : Patch) → All P ((if z then [] else room ∷ []) ++ entry ∷ []) → ((s.len == 0) ≡ false → P room) × P entry
+    by_test : (z : Bool) → (s.len == 0) ≡ z → (room entry : Patch)
+        → All P ((if z then [] else room ∷ []) ++ entry ∷ [])
+        → ((s.len == 0) ≡ false → P room) × P entry
     by_test true e room entry h = (λ f. absurd (false≢true (sym f ∙ e)), All-head P entry [] h)
-    by_test false e room entry h = (λ f. All-head P room (entry ∷ []) h, All-head P entry [] (All-tail P room (entry ∷ []) h))
+    by_test false e room entry h =
+        (λ f. All-head P room (entry ∷ []) h, All-head P entry [] (All-tail P room (entry ∷ []) h))
 
 -- a byte that one value's patches miss is missed by another's of the same room
 misses_too : (order : Order) (first value : Value) (e : ℕ) (s : Span) (i : ℕ)
-    → length (room_text s.len (encode order first)) ≡ s.len → length (room_text s.len (encode order value)) ≡ s.len
-    → length (entry_text order first s.place (encode order first)) ≡ 10 → length (entry_text order value s.place (encode order value)) ≡ 10
-    → All (Misses i) (value_patches order first e s) → All (Misses i) (value_patches order value e s)
+    → length (room_text s.len (encode order first)) ≡ s.len
+    → length (room_text s.len (encode order value)) ≡ s.len
+    → length (entry_text order first s.place (encode order first)) ≡ 10
+    → length (entry_text order value s.place (encode order value)) ≡ 10
+    → All (Misses i) (value_patches order first e s)
+    → All (Misses i) (value_patches order value e s)
 misses_too order first value e s i a b c d h =
     let p = parts (Misses i) order first e s h in
     both (Misses i) order value e s
@@ -93,20 +114,27 @@ one_located x a b h k = same (sym h ∙ k)
     same e = cc
 
 -- the answer's patches
-answered : (bytes out : List ℕ) (tag : Tag) (k : In) (value : Value) → set_answer bytes tag k value ≡ Ok out → (ps : List Patch) × (set_patches bytes tag k value ≡ Ok ps) × (patched ps bytes ≡ out)
+answered : (bytes out : List ℕ) (tag : Tag) (k : In) (value : Value)
+    → set_answer bytes tag k value ≡ Ok out
+    → (ps : List Patch) × (set_patches bytes tag k value ≡ Ok ps) × (patched ps bytes ≡ out)
 answered bytes out tag k value h =
     let a = bound (set_patches bytes tag k value) (λ ps. Ok (patched ps bytes)) out h in
     (a.0, a.1, ok_same (patched a.0 bytes) out a.2)
 
 -- patches that fit, in the words of an order and an entry that are known
-fits_at : (bytes : List ℕ) (ps : List Patch) (tag : Tag) (k : In) (value : Value) (order : Order) (at : Located) → WasSet bytes tag k value ps → header bytes ≡ Ok order → last_located tag k (located bytes) ≡ Some at → Fits order value at.entry bytes ps
+fits_at : (bytes : List ℕ) (ps : List Patch) (tag : Tag) (k : In) (value : Value) (order : Order)
+    (at : Located) → WasSet bytes tag k value ps → header bytes ≡ Ok order
+    → last_located tag k (located bytes) ≡ Some at → Fits order value at.entry bytes ps
 fits_at bytes ps tag k value order at w h l =
-    let o = one_order bytes (order_named w.read.little) order (header_named bytes w.read w.reads) h in
+    let o = one_order bytes (order_named w.read.little) order (header_named bytes w.read w.reads)
+    h in
     let a = one_located (last_located tag k (located bytes)) w.at at w.last l in
-    subst (λ (x : Located). Fits order value x.entry bytes ps) a (subst (λ x. Fits x value w.at.entry bytes ps) o w.fits)
+    subst (λ (x : Located). Fits order value x.entry bytes ps) a
+    (subst (λ x. Fits x value w.at.entry bytes ps) o w.fits)
 
 -- patches put over others of the same room make what they make of the bytes before
-overwritten : (order : Order) (first value : Value) (e : ℕ) (old : List ℕ) (ps rs : List Patch) → Fits order first e old rs → Fits order value e old ps
+overwritten : (order : Order) (first value : Value) (e : ℕ) (old : List ℕ) (ps rs : List Patch)
+    → Fits order first e old rs → Fits order value e old ps
     → patched rs (patched ps old) ≡ patched rs old
 overwritten order first value e old ps rs f g =
     let fr = value_fits order first e old rs f in
@@ -116,20 +144,28 @@ overwritten order first value e old ps rs f g =
     let s = value_room (number_of order) old e in
     let a = value_lengths order first s f.text in
     let b = value_lengths order value s g.text in
-    ext_get_or 0 (patched rs (patched ps old)) (patched rs old) (length-patched rs (patched ps old) frp ∙ (l ∙ sym (length-patched rs old fr)))
+    ext_get_or 0 (patched rs (patched ps old)) (patched rs old)
+    (length-patched rs (patched ps old) frp ∙ (l ∙ sym (length-patched rs old fr)))
     (λ i h. same_at rs (patched ps old) old i l frp (λ m. patched_outside ps old i fp
-    (subst (λ qs. All (Misses i) qs) (sym g.is) (misses_too order first value e s i a.0 b.0 a.1 b.1 (subst (λ qs. All (Misses i) qs) f.is m)))))
+    (subst (λ qs. All (Misses i) qs) (sym g.is)
+    (misses_too order first value e s i a.0 b.0 a.1 b.1
+    (subst (λ qs. All (Misses i) qs) f.is m)))))
 
-pub set_back : (old : List ℕ) (tag : Tag) (k : In) (value first : Value) → SetsBack tag k value first old
+pub set_back : (old : List ℕ) (tag : Tag) (k : In) (value first : Value)
+    → SetsBack tag k value first old
 set_back old tag k value first new back h0 h1 keep h2 =
     let r = answered old old tag k first h0 in
     let p = answered old new tag k value h1 in
     let q = answered new back tag k first h2 in
-    let f0 = fits_at old r.0 tag k first keep.order keep.at (was_set old r.0 tag k first r.1) keep.before keep.was in
-    let f1 = fits_at old p.0 tag k value keep.order keep.at (was_set old p.0 tag k value p.1) keep.before keep.was in
-    let f2 = fits_at new q.0 tag k first keep.order keep.now (was_set new q.0 tag k first q.1) keep.after keep.is in
+    let f0 = fits_at old r.0 tag k first keep.order keep.at (was_set old r.0 tag k first r.1)
+    keep.before keep.was in
+    let f1 = fits_at old p.0 tag k value keep.order keep.at (was_set old p.0 tag k value p.1)
+    keep.before keep.was in
+    let f2 = fits_at new q.0 tag k first keep.order keep.now (was_set new q.0 tag k first q.1)
+    keep.after keep.is in
     let same : q.0 ≡ r.0 =
-    f2.is ∙ (ap (λ x. value_patches keep.order first x (value_room (number_of keep.order) new x)) keep.entry
+    f2.is ∙ (ap (λ x. value_patches keep.order first x (value_room (number_of keep.order) new x))
+    keep.entry
     ∙ (ap (λ s. value_patches keep.order first keep.at.entry s) keep.room ∙ sym f0.is)) in
     sym q.2 ∙ (ap (λ ps. patched ps new) same ∙ (ap (λ xs. patched r.0 xs) (sym p.2)
     ∙ (overwritten keep.order first value keep.at.entry old p.0 r.0 f0 f1 ∙ r.2)))

@@ -17,6 +17,7 @@ pub mod SetFound
 pub mod SetSound
 pub mod SetSteps
 pub mod Splicing
+pub mod StreamSound
 pub mod StreamSteps
 pub mod Told
 pub mod WalkFound

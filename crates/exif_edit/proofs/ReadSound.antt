@@ -38,36 +38,53 @@ fault_Decides _ _ = (λ t. absurd (false≢true t), λ e. cc)
 
 pub read_same : (a b : Read) → read_eq a b ≡ true → a ≡ b
 read_same a b e =
-    let p = split (beq a.little b.little) (pointwise field_eq a.fields b.fields && pointwise fault_eq a.faults b.faults) e in
-    let q = split (pointwise field_eq a.fields b.fields) (pointwise fault_eq a.faults b.faults) p.1 in
+    let p = split (beq a.little b.little)
+    (pointwise field_eq a.fields b.fields && pointwise fault_eq a.faults b.faults) e in
+    let q = split (pointwise field_eq a.fields b.fields) (pointwise fault_eq a.faults b.faults)
+    p.1 in
     same a.little b.little a.fields b.fields a.faults b.faults
     ((booleans_Decides a.little b.little).0 p.0)
-    ((slice_eq-Decides field_Decides a.fields b.fields (pointwise field_eq a.fields b.fields) refl).0 q.0)
-    ((slice_eq-Decides fault_Decides a.faults b.faults (pointwise fault_eq a.faults b.faults) refl).0 q.1)
+    ((slice_eq-Decides field_Decides a.fields b.fields (pointwise field_eq a.fields b.fields)
+    refl).0 q.0)
+    ((slice_eq-Decides fault_Decides a.faults b.faults (pointwise fault_eq a.faults b.faults)
+    refl).0 q.1)
   where
-    same : (l m : Bool) (fs gs : List Field) (xs ys : List Fault) → l ≡ m → fs ≡ gs → xs ≡ ys → ◌≡◌ {A = Read} (record { little = l; fields = fs; faults = xs }) (record { little = m; fields = gs; faults = ys })
+    same : (l m : Bool) (fs gs : List Field) (xs ys : List Fault) → l ≡ m → fs ≡ gs → xs ≡ ys
+        → ◌≡◌ {A = Read} (record { little = l; fields = fs; faults = xs })
+        (record { little = m; fields = gs; faults = ys })
     same l m fs gs xs ys e f g = rw (e, f, g) refl
 
 -- ---- what the data are read as
 
-trace_is : (x : Result Order Fault) (order : Order) (bytes : List ℕ) → x ≡ Ok order → (elim x as (λ r. List Node) [ Ok o ↦ ordered_trace (number_of o) bytes | Err fault ↦ [] ]) ≡ ordered_trace (number_of order) bytes
+trace_is : (x : Result Order Fault) (order : Order) (bytes : List ℕ) → x ≡ Ok order
+    → (elim x as (λ r. List Node) [ Ok o ↦ ordered_trace (number_of o) bytes | Err fault ↦ [] ])
+    ≡ ordered_trace (number_of order) bytes
 trace_is x order bytes e = rw e refl
 
-trace_right : (bytes : List ℕ) (order : Order) → header bytes ≡ Ok order → trace bytes ≡ ordered_trace (number_of order) bytes
+trace_right : (bytes : List ℕ) (order : Order) → header bytes ≡ Ok order
+    → trace bytes ≡ ordered_trace (number_of order) bytes
 unfolding trace
 trace_right bytes order h = trace_is (header bytes) order bytes h
 
-answer_by : (x : Result Order Fault) (lenient : Bool) (order : Order) (bytes : List ℕ) → x ≡ Ok order
-    → (elim x as (λ r. Answer) [ Err fault ↦ Refused fault | Ok o ↦ answer_of lenient (content_of (ordered_trace (number_of o) bytes)) ])
+answer_by : (x : Result Order Fault) (lenient : Bool) (order : Order) (bytes : List ℕ)
+    → x ≡ Ok order
+    → (elim x as (λ r. Answer) [
+      | Err fault ↦ Refused fault
+      | Ok o ↦ answer_of lenient (content_of (ordered_trace (number_of o) bytes))
+    ])
     ≡ answer_of lenient (content_of (ordered_trace (number_of order) bytes))
 answer_by x lenient order bytes e = rw e refl
 
 pub raw_right : (lenient : Bool) (bytes : List ℕ) (order : Order) → header bytes ≡ Ok order
-    → raw_answer lenient None bytes ≡ answer_of lenient (content_of (ordered_trace (number_of order) bytes))
+    → raw_answer lenient None bytes
+    ≡ answer_of lenient (content_of (ordered_trace (number_of order) bytes))
 unfolding raw_answer
 raw_right lenient bytes order h = answer_by (header bytes) lenient order bytes h
 
-reads_by : (x : Result Order Fault) (bytes : List ℕ) (read : Read) → header bytes ≡ x → reading_by x bytes ≡ Ok read → (ReadAs bytes read.fields read.faults) × (read.fields ≡ fields_of (trace bytes)) × (read.faults ≡ faults_of (trace bytes))
+reads_by : (x : Result Order Fault) (bytes : List ℕ) (read : Read) → header bytes ≡ x
+    → reading_by x bytes ≡ Ok read
+    → (ReadAs bytes read.fields read.faults) × (read.fields ≡ fields_of (trace bytes))
+    × (read.faults ≡ faults_of (trace bytes))
 reads_by (Err fault) bytes read h e = absurd (err_ok e)
   where
     err_ok : ◌≡◌ {A = Result Read Fault} (Err fault) (Ok read) → ⊥
@@ -75,10 +92,14 @@ reads_by (Err fault) bytes read h e = absurd (err_ok e)
 reads_by (Ok order) bytes read h e =
     let nodes = ordered_trace (number_of order) bytes in
     let t = trace_right bytes order h in
-    let b = ok_same (record { little = is_little order; fields = fields_of nodes; faults = faults_of nodes }) e in
+    let b = ok_same
+    (record { little = is_little order; fields = fields_of nodes; faults = faults_of nodes })
+    e in
     let f : fields_of nodes ≡ read.fields = ap (λ (r : Read). r.fields) b in
     let g : faults_of nodes ≡ read.faults = ap (λ (r : Read). r.faults) b in (
-      λ lenient. raw_right lenient bytes order h ∙ ap (λ (r : Read). answer_of lenient (record { fields = r.fields; faults = r.faults })) b,
+      λ lenient. raw_right lenient bytes order h
+          ∙ ap (λ (r : Read). answer_of lenient (record { fields = r.fields; faults = r.faults }))
+          b,
       sym f ∙ ap fields_of (sym t),
       sym g ∙ ap faults_of (sym t),
     )
@@ -86,7 +107,9 @@ reads_by (Ok order) bytes read h e =
     ok_same : (a : Read) → ◌≡◌ {A = Result Read Fault} (Ok a) (Ok read) → a ≡ read
     ok_same a e = cc
 
-pub reads_are : (bytes : List ℕ) (read : Read) → reading bytes ≡ Ok read → (ReadAs bytes read.fields read.faults) × (read.fields ≡ fields_of (trace bytes)) × (read.faults ≡ faults_of (trace bytes))
+pub reads_are : (bytes : List ℕ) (read : Read) → reading bytes ≡ Ok read
+    → (ReadAs bytes read.fields read.faults) × (read.fields ≡ fields_of (trace bytes))
+    × (read.faults ≡ faults_of (trace bytes))
 unfolding reading
 reads_are bytes read e = reads_by (header bytes) bytes read refl e
 
@@ -94,6 +117,7 @@ reads_are bytes read e = reads_by (header bytes) bytes read refl e
 pub reads_so : (bytes : List ℕ) (read : Read) → reads_as bytes read ≡ true → reading bytes ≡ Ok read
 reads_so bytes read e = by_reading (reading bytes) e
   where
-    by_reading : (x : Result Read Fault) → (elim x [ Ok found ↦ read_eq found read | Err fault ↦ false ]) ≡ true → x ≡ Ok read
+    by_reading : (x : Result Read Fault)
+        → (elim x [ Ok found ↦ read_eq found read | Err fault ↦ false ]) ≡ true → x ≡ Ok read
     by_reading (Ok found) e = ap (λ r. Ok r) (read_same found read e)
     by_reading (Err fault) e = absurd (false≢true e)

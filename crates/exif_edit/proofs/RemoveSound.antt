@@ -40,100 +40,166 @@ use Rattle.exif_edit.proofs.Told.{located_tells, settled}
 
 -- ---- the patches lie in the data
 
-directory_fits : (order : Order) (bytes : List ℕ) (n p : ℕ) → All (FitsIn (length bytes)) (directory_patches order bytes n p)
-directory_fits order bytes n p = by_test (nat_le (p + length (directory_without order bytes n p)) (length bytes)) refl
+directory_fits : (order : Order) (bytes : List ℕ) (n p : ℕ)
+    → All (FitsIn (length bytes)) (directory_patches order bytes n p)
+directory_fits order bytes n p =
+    by_test (nat_le (p + length (directory_without order bytes n p)) (length bytes)) refl
   where
     q : Patch
     q = record { place = p; text = directory_without order bytes n p }
 
-    by_test : (b : Bool) → nat_le (p + length (directory_without order bytes n p)) (length bytes) ≡ b → All (FitsIn (length bytes)) (if b then q ∷ [] else [])
-    by_test true e = let h : p + length (directory_without order bytes n p) ≤ length bytes = grind (arith, nat_tests) in All-cons (FitsIn (length bytes)) q [] h (All-nil (FitsIn (length bytes)))
+    by_test : (b : Bool)
+        → nat_le (p + length (directory_without order bytes n p)) (length bytes) ≡ b
+        → All (FitsIn (length bytes)) (if b then q ∷ [] else [])
+    by_test true e = let h : p + length (directory_without order bytes n p) ≤ length bytes =
+        grind (arith, nat_tests) in All-cons (FitsIn (length bytes)) q [] h
+        (All-nil (FitsIn (length bytes)))
     by_test false e = All-nil (FitsIn (length bytes))
 
-directories_fit : (order : Order) (bytes : List ℕ) (n : ℕ) (ps : List ℕ) → All (FitsIn (length bytes)) (flat_map (directory_patches order bytes n) ps)
+directories_fit : (order : Order) (bytes : List ℕ) (n : ℕ) (ps : List ℕ)
+    → All (FitsIn (length bytes)) (flat_map (directory_patches order bytes n) ps)
 directories_fit order bytes n [] = All-nil (FitsIn (length bytes))
 directories_fit order bytes n (p ∷ ps) =
-    All-append (FitsIn (length bytes)) (directory_patches order bytes n p) (flat_map (directory_patches order bytes n) ps) (directory_fits order bytes n p) (directories_fit order bytes n ps)
+    All-append (FitsIn (length bytes)) (directory_patches order bytes n p)
+    (flat_map (directory_patches order bytes n) ps) (directory_fits order bytes n p)
+    (directories_fit order bytes n ps)
 
-named_within : (number : Reading) (bytes : List ℕ) (n : ℕ) (ps : List ℕ) → AllWithin (length bytes) (named_values number bytes n ps)
+named_within : (number : Reading) (bytes : List ℕ) (n : ℕ) (ps : List ℕ)
+    → AllWithin (length bytes) (named_values number bytes n ps)
 named_within number bytes n [] = tt
 named_within number bytes n (p ∷ ps) =
-    within-append (length bytes) (taken_spans number bytes n p) (named_values number bytes n ps) (values_within number bytes (entries_with number bytes n p)) (named_within number bytes n ps)
+    within-append (length bytes) (taken_spans number bytes n p) (named_values number bytes n ps)
+    (values_within number bytes (entries_with number bytes n p))
+    (named_within number bytes n ps)
 
-pub removals_fit : (order : Order) (bytes : List ℕ) (n : ℕ) (ps : List ℕ) → All (FitsIn (length bytes)) (removals order bytes n ps)
+pub removals_fit : (order : Order) (bytes : List ℕ) (n : ℕ) (ps : List ℕ)
+    → All (FitsIn (length bytes)) (removals order bytes n ps)
 removals_fit order bytes n ps =
-    All-append (FitsIn (length bytes)) (flat_map (directory_patches order bytes n) ps) (map zeros_over (named_values (number_of order) bytes n ps))
-    (directories_fit order bytes n ps) (zeros_fit (length bytes) (named_values (number_of order) bytes n ps) (named_within (number_of order) bytes n ps))
+    All-append (FitsIn (length bytes)) (flat_map (directory_patches order bytes n) ps)
+    (map zeros_over (named_values (number_of order) bytes n ps))
+    (directories_fit order bytes n ps)
+    (zeros_fit (length bytes) (named_values (number_of order) bytes n ps)
+    (named_within (number_of order) bytes n ps))
 
 -- ---- which bytes change
 
-any-append : (i : ℕ) (xs ys : List Span) → list_any (inside i) (xs ++ ys) ≡ false → (list_any (inside i) xs ≡ false) × (list_any (inside i) ys ≡ false)
+any-append : (i : ℕ) (xs ys : List Span) → list_any (inside i) (xs ++ ys) ≡ false
+    → (list_any (inside i) xs ≡ false) × (list_any (inside i) ys ≡ false)
 any-append i [] ys h = (refl, h)
 any-append i (x ∷ xs) ys h =
     let p = neither (inside i x) (list_any (inside i) (xs ++ ys)) h in
     let q = any-append i xs ys p.1 in
     (rw p.0 q.0, q.1)
 
-directory_misses : (order : Order) (bytes : List ℕ) (n p i : ℕ) → inside i (directory_span (number_of order) bytes p) ≡ false → All (Misses i) (directory_patches order bytes n p)
-directory_misses order bytes n p i h = by_test (nat_le (p + length (directory_without order bytes n p)) (length bytes)) refl
+directory_misses : (order : Order) (bytes : List ℕ) (n p i : ℕ)
+    → inside i (directory_span (number_of order) bytes p) ≡ false
+    → All (Misses i) (directory_patches order bytes n p)
+directory_misses order bytes n p i h =
+    by_test (nat_le (p + length (directory_without order bytes n p)) (length bytes)) refl
   where
     q : Patch
     q = record { place = p; text = directory_without order bytes n p }
 
-    by_test : (b : Bool) → nat_le (p + length (directory_without order bytes n p)) (length bytes) ≡ b → All (Misses i) (if b then q ∷ [] else [])
+    by_test : (b : Bool)
+        → nat_le (p + length (directory_without order bytes n p)) (length bytes) ≡ b
+        → All (Misses i) (if b then q ∷ [] else [])
     by_test true e =
-        let l : p + length (directory_without order bytes n p) ≤ length bytes = grind (arith, nat_tests) in
+        let l : p + length (directory_without order bytes n p) ≤ length bytes =
+        grind (arith, nat_tests) in
         let t : nat_le p (length bytes) ≡ true = grind (arith, nat_tests) in
         let m = directory_length order bytes n p in
-        let s : inside i (record { place = p; len = min (2 + 12 * whole_entries (number_of order) bytes p + 4) (length bytes - p) }) ≡ false = rw t at h in
-        let o : Misses i q = elim (outside_place i (record { place = p; len = min (2 + 12 * whole_entries (number_of order) bytes p + 4) (length bytes - p) }) s) as (λ x. Misses i q) [
+        let s : inside i
+        (record {
+          place = p;
+          len = min (2 + 12 * whole_entries (number_of order) bytes p + 4)
+              (length bytes - p);
+        }) ≡ false = rw t at h in
+        let o : Misses i q =
+        elim (outside_place i
+        (record {
+          place = p;
+          len = min (2 + 12 * whole_entries (number_of order) bytes p + 4)
+              (length bytes - p);
+        }) s) as (λ x. Misses i q) [
           | inl a ↦ inl a
           | inr a ↦ inr (omega arith)
         ] in
         All-cons (Misses i) q [] o (All-nil (Misses i))
     by_test false e = All-nil (Misses i)
 
-directories_miss : (order : Order) (bytes : List ℕ) (n : ℕ) (ps : List ℕ) (i : ℕ) → list_any (inside i) (map (directory_span (number_of order) bytes) ps) ≡ false → All (Misses i) (flat_map (directory_patches order bytes n) ps)
+directories_miss : (order : Order) (bytes : List ℕ) (n : ℕ) (ps : List ℕ) (i : ℕ)
+    → list_any (inside i) (map (directory_span (number_of order) bytes) ps) ≡ false
+    → All (Misses i) (flat_map (directory_patches order bytes n) ps)
 directories_miss order bytes n [] i h = All-nil (Misses i)
 directories_miss order bytes n (p ∷ ps) i h =
-    let q = neither (inside i (directory_span (number_of order) bytes p)) (list_any (inside i) (map (directory_span (number_of order) bytes) ps)) h in
-    All-append (Misses i) (directory_patches order bytes n p) (flat_map (directory_patches order bytes n) ps) (directory_misses order bytes n p i q.0) (directories_miss order bytes n ps i q.1)
+    let q = neither (inside i (directory_span (number_of order) bytes p))
+    (list_any (inside i) (map (directory_span (number_of order) bytes) ps)) h in
+    All-append (Misses i) (directory_patches order bytes n p)
+    (flat_map (directory_patches order bytes n) ps) (directory_misses order bytes n p i q.0)
+    (directories_miss order bytes n ps i q.1)
 
-patched-append : (ps qs : List Patch) (bytes : List ℕ) → patched (ps ++ qs) bytes ≡ patched qs (patched ps bytes)
+patched-append : (ps qs : List Patch) (bytes : List ℕ)
+    → patched (ps ++ qs) bytes ≡ patched qs (patched ps bytes)
 patched-append [] qs bytes = refl
 patched-append (p ∷ ps) qs bytes = patched-append ps qs _
 
 -- each byte: zero in a value, else as the directories make it
 removed_at : (order : Order) (bytes : List ℕ) (n : ℕ) (ps : List ℕ) (i : ℕ)
     → get_or (patched (removals order bytes n ps) bytes) i 0
-    ≡ (if list_any (inside i) (named_values (number_of order) bytes n ps) then 0 else get_or (patched (flat_map (directory_patches order bytes n) ps) bytes) i 0)
+    ≡ (if list_any (inside i) (named_values (number_of order) bytes n ps) then 0 else get_or
+    (patched (flat_map (directory_patches order bytes n) ps) bytes) i 0)
 removed_at order bytes n ps i =
     let front = flat_map (directory_patches order bytes n) ps in
     let spans = named_values (number_of order) bytes n ps in
     let l = length-patched front bytes (directories_fit order bytes n ps) in
     ap (λ xs. get_or xs i 0) (patched-append front (map zeros_over spans) bytes)
-    ∙ zeroed_at spans (patched front bytes) i (subst (λ x. AllWithin x spans) (sym l) (named_within (number_of order) bytes n ps))
+    ∙ zeroed_at spans (patched front bytes) i
+    (subst (λ x. AllWithin x spans) (sym l) (named_within (number_of order) bytes n ps))
 
-value_zero : (order : Order) (bytes : List ℕ) (n : ℕ) (ps : List ℕ) (i : ℕ) → list_any (inside i) (named_values (number_of order) bytes n ps) ≡ true → get_or (patched (removals order bytes n ps) bytes) i 0 ≡ 0
-value_zero order bytes n ps i h = removed_at order bytes n ps i ∙ ap (λ b. if b then 0 else get_or (patched (flat_map (directory_patches order bytes n) ps) bytes) i 0) h
+value_zero : (order : Order) (bytes : List ℕ) (n : ℕ) (ps : List ℕ) (i : ℕ)
+    → list_any (inside i) (named_values (number_of order) bytes n ps) ≡ true
+    → get_or (patched (removals order bytes n ps) bytes) i 0 ≡ 0
+value_zero order bytes n ps i h =
+    removed_at order bytes n ps i
+    ∙ ap (λ b. if b then 0 else get_or
+    (patched (flat_map (directory_patches order bytes n) ps) bytes) i 0) h
 
-stays_outside : (order : Order) (bytes : List ℕ) (n : ℕ) (ps : List ℕ) (i : ℕ) → list_any (inside i) (named_spans (number_of order) bytes n ps) ≡ false → get_or (patched (removals order bytes n ps) bytes) i 0 ≡ get_or bytes i 0
+stays_outside : (order : Order) (bytes : List ℕ) (n : ℕ) (ps : List ℕ) (i : ℕ)
+    → list_any (inside i) (named_spans (number_of order) bytes n ps) ≡ false
+    → get_or (patched (removals order bytes n ps) bytes) i 0 ≡ get_or bytes i 0
 stays_outside order bytes n ps i h =
     let front = flat_map (directory_patches order bytes n) ps in
-    let q = any-append i (map (directory_span (number_of order) bytes) ps) (named_values (number_of order) bytes n ps) h in
+    let q = any-append i (map (directory_span (number_of order) bytes) ps)
+    (named_values (number_of order) bytes n ps) h in
     removed_at order bytes n ps i
     ∙ (ap (λ b. if b then 0 else get_or (patched front bytes) i 0) q.1
-    ∙ patched_outside front bytes i (directories_fit order bytes n ps) (directories_miss order bytes n ps i q.0))
+    ∙ patched_outside front bytes i (directories_fit order bytes n ps)
+    (directories_miss order bytes n ps i q.0))
 
 -- ---- the whole
 
-read_by : (x : (Result Read Fault)) (read : Read) → (elim x [ Ok found ↦ beq found.little read.little && (pointwise field_eq (untold found.fields) (untold read.fields) && nat_le (length found.faults) (length read.faults)) | Err fault ↦ false ]) ≡ true
-    → (found : Read) × (x ≡ Ok found) × (untold found.fields ≡ untold read.fields) × (length found.faults ≤ length read.faults)
+read_by : (x : (Result Read Fault)) (read : Read)
+    → (elim x [
+      | Ok found ↦ beq found.little read.little
+          && (pointwise field_eq (untold found.fields) (untold read.fields)
+          && nat_le (length found.faults) (length read.faults))
+      | Err fault ↦ false
+    ]) ≡ true
+    → (found : Read) × (x ≡ Ok found) × (untold found.fields ≡ untold read.fields)
+    × (length found.faults ≤ length read.faults)
 read_by (Ok found) read e =
-    let p = split (beq found.little read.little) (pointwise field_eq (untold found.fields) (untold read.fields) && nat_le (length found.faults) (length read.faults)) e in
-    let q = split (pointwise field_eq (untold found.fields) (untold read.fields)) (nat_le (length found.faults) (length read.faults)) p.1 in
-    let t = q.1 in
-    (found, refl, (slice_eq-Decides field_Decides (untold found.fields) (untold read.fields) (pointwise field_eq (untold found.fields) (untold read.fields)) refl).0 q.0, grind (arith, nat_tests))
+    let p = split (beq found.little read.little)
+    (pointwise field_eq (untold found.fields) (untold read.fields)
+    && nat_le (length found.faults) (length read.faults)) e in
+    let q = split (pointwise field_eq (untold found.fields) (untold read.fields))
+    (nat_le (length found.faults) (length read.faults)) p.1 in
+    let t = q.1 in (
+      found,
+      refl,
+      (slice_eq-Decides field_Decides (untold found.fields) (untold read.fields)
+          (pointwise field_eq (untold found.fields) (untold read.fields)) refl).0 q.0,
+      grind (arith, nat_tests),
+    )
 read_by (Err fault) read e = absurd (false≢true e)
 
 -- what answered patches are
@@ -141,13 +207,16 @@ pub record WasRemoved (bytes : List ℕ) (tag : Tag) (k : In) (ps : List Patch) 
   pub read : Read
   pub found : Read
   pub reads : reading bytes ≡ Ok read
-  pub are : ps ≡ removals (order_named read.little) bytes tag.1 (directories_with tag k read.fields (map entry_of (located bytes)))
+  pub are : ps ≡ removals (order_named read.little) bytes tag.1
+      (directories_with tag k read.fields (map entry_of (located bytes)))
   pub reads_new : reading (patched ps bytes) ≡ Ok found
   pub fields : untold found.fields ≡ untold (without_named tag k read.fields)
   pub fewer : length found.faults ≤ length read.faults
 
-from_places : (bytes : List ℕ) (tag : Tag) (k : In) (read : Read) (qs : List ℕ) (ps : List Patch) → removals_from tag k read bytes qs ≡ Ok ps
-    → (ps ≡ removals (order_named read.little) bytes tag.1 qs) × (still_reads (patched ps bytes) (read_without tag k read) ≡ true)
+from_places : (bytes : List ℕ) (tag : Tag) (k : In) (read : Read) (qs : List ℕ) (ps : List Patch)
+    → removals_from tag k read bytes qs ≡ Ok ps
+    → (ps ≡ removals (order_named read.little) bytes tag.1 qs)
+    × (still_reads (patched ps bytes) (read_without tag k read) ≡ true)
 from_places bytes tag k read [] ps e = absurd (err_ok e)
   where
     err_ok : ◌≡◌ {A = Result (List Patch) Cause} (Err no_field) (Ok ps) → ⊥
@@ -157,11 +226,15 @@ from_places bytes tag k read (q ∷ qs) ps e =
     let t = tested (still_reads (patched rs bytes) (read_without tag k read)) rs ps shared e in
     (sym t.1, subst (λ xs. still_reads (patched xs bytes) (read_without tag k read) ≡ true) t.1 t.0)
 
-was_removed : (bytes : List ℕ) (tag : Tag) (k : In) (ps : List Patch) → named_removals bytes tag k ≡ Ok ps → WasRemoved bytes tag k ps
+was_removed : (bytes : List ℕ) (tag : Tag) (k : In) (ps : List Patch)
+    → named_removals bytes tag k ≡ Ok ps → WasRemoved bytes tag k ps
 unfolding named_removals
 was_removed bytes tag k ps e =
-    let a = bound (of_data (reading bytes)) (λ read. removals_from tag k read bytes (directories_with tag k read.fields (map entry_of (located bytes)))) ps e in
-    let f = from_places bytes tag k a.0 (directories_with tag k a.0.fields (map entry_of (located bytes))) ps a.2 in
+    let a = bound (of_data (reading bytes))
+    (λ read. removals_from tag k read bytes
+    (directories_with tag k read.fields (map entry_of (located bytes)))) ps e in
+    let f = from_places bytes tag k a.0
+    (directories_with tag k a.0.fields (map entry_of (located bytes))) ps a.2 in
     let c = read_by (reading (patched ps bytes)) (read_without tag k a.0) f.1 in
     record {
       read = a.0;
@@ -173,34 +246,49 @@ was_removed bytes tag k ps e =
       fewer = c.3;
     }
 
-named_of_field : (bytes : List ℕ) (tag : Tag) (k : In) (ps : List Patch) → field_patches bytes tag k ≡ Ok ps → named_removals bytes tag k ≡ Ok ps
+named_of_field : (bytes : List ℕ) (tag : Tag) (k : In) (ps : List Patch)
+    → field_patches bytes tag k ≡ Ok ps → named_removals bytes tag k ≡ Ok ps
 unfolding field_patches
-named_of_field bytes tag k ps e = (passed (names_places tag) place_named (λ u. named_removals bytes tag k) ps e).1
+named_of_field bytes tag k ps e =
+    (passed (names_places tag) place_named (λ u. named_removals bytes tag k) ps e).1
 
-pub named_fits : (bytes : List ℕ) (tag : Tag) (k : In) (ps : List Patch) → named_removals bytes tag k ≡ Ok ps → All (FitsIn (length bytes)) ps
+pub named_fits : (bytes : List ℕ) (tag : Tag) (k : In) (ps : List Patch)
+    → named_removals bytes tag k ≡ Ok ps → All (FitsIn (length bytes)) ps
 named_fits bytes tag k ps e =
     let w = was_removed bytes tag k ps e in
-    subst (λ xs. All (FitsIn (length bytes)) xs) (sym w.are) (removals_fit (order_named w.read.little) bytes tag.1 (directories_with tag k w.read.fields (map entry_of (located bytes))))
+    subst (λ xs. All (FitsIn (length bytes)) xs) (sym w.are)
+    (removals_fit (order_named w.read.little) bytes tag.1
+    (directories_with tag k w.read.fields (map entry_of (located bytes))))
 
-pub field_fits : (bytes : List ℕ) (tag : Tag) (k : In) (ps : List Patch) → field_patches bytes tag k ≡ Ok ps → All (FitsIn (length bytes)) ps
+pub field_fits : (bytes : List ℕ) (tag : Tag) (k : In) (ps : List Patch)
+    → field_patches bytes tag k ≡ Ok ps → All (FitsIn (length bytes)) ps
 field_fits bytes tag k ps e = named_fits bytes tag k ps (named_of_field bytes tag k ps e)
 
 -- the fields that are read are those that are left, as their entries tell them
-fields_told : (new : List ℕ) (found : Read) (gs : List Field) → reading new ≡ Ok found → untold found.fields ≡ untold gs → found.fields ≡ told_by (located new) gs
+fields_told : (new : List ℕ) (found : Read) (gs : List Field) → reading new ≡ Ok found
+    → untold found.fields ≡ untold gs → found.fields ≡ told_by (located new) gs
 fields_told new found gs r u =
-    let f : found.fields ≡ map field_of (located new) = (reads_are new found r).1 ∙ sym (located_fields new) in
+    let f : found.fields ≡ map field_of (located new) =
+    (reads_are new found r).1 ∙ sym (located_fields new) in
     let v : untold (map field_of (located new)) ≡ untold gs = ap untold (sym f) ∙ u in
     f ∙ sym (settled (located new) gs (located_tells new) v)
 
-pub field_sound : (old : List ℕ) (tag : Tag) (k : In) (ps : List Patch) → field_patches old tag k ≡ Ok ps → IsFieldErased old tag k (patched ps old)
+pub field_sound : (old : List ℕ) (tag : Tag) (k : In) (ps : List Patch)
+    → field_patches old tag k ≡ Ok ps → IsFieldErased old tag k (patched ps old)
 field_sound old tag k ps e =
     let w = was_removed old tag k ps (named_of_field old tag k ps e) in
     let order = order_named w.read.little in
     let r = reads_are old w.read w.reads in
     let s = reads_are (patched ps old) w.found w.reads_new in
-    let told : w.found.fields ≡ told_by (located (patched ps old)) (without_named tag k (fields_of (trace old))) = fields_told (patched ps old) w.found (without_named tag k w.read.fields) w.reads_new w.fields ∙ ap (λ fs. told_by (located (patched ps old)) (without_named tag k fs)) r.1 in
-    let are : ps ≡ removals order old tag.1 (named_directories old tag k) = w.are ∙ ap (λ fs. removals order old tag.1 (directories_with tag k fs (map entry_of (located old)))) r.1 in
-    let few : length w.found.faults ≤ length (faults_of (trace old)) = subst (λ xs. length w.found.faults ≤ length xs) r.2 w.fewer in
+    let told : w.found.fields
+    ≡ told_by (located (patched ps old)) (without_named tag k (fields_of (trace old))) =
+    fields_told (patched ps old) w.found (without_named tag k w.read.fields) w.reads_new
+    w.fields ∙ ap (λ fs. told_by (located (patched ps old)) (without_named tag k fs)) r.1 in
+    let are : ps ≡ removals order old tag.1 (named_directories old tag k) =
+    w.are ∙ ap (λ fs. removals order old tag.1
+    (directories_with tag k fs (map entry_of (located old)))) r.1 in
+    let few : length w.found.faults ≤ length (faults_of (trace old)) =
+    subst (λ xs. length w.found.faults ≤ length xs) r.2 w.fewer in
     record {
       order = order;
       header = header_named old w.read w.reads;
@@ -208,6 +296,8 @@ field_sound old tag k ps e =
       faults = w.found.faults;
       reads = subst (λ fs. ReadAs (patched ps old) fs w.found.faults) told s.0;
       fewer = few;
-      values = λ i h. ap (λ qs. get_or (patched qs old) i 0) are ∙ value_zero order old tag.1 (named_directories old tag k) i h;
-      outside = λ i h. ap (λ qs. get_or (patched qs old) i 0) are ∙ stays_outside order old tag.1 (named_directories old tag k) i h;
+      values = λ i h. ap (λ qs. get_or (patched qs old) i 0) are
+          ∙ value_zero order old tag.1 (named_directories old tag k) i h;
+      outside = λ i h. ap (λ qs. get_or (patched qs old) i 0) are
+          ∙ stays_outside order old tag.1 (named_directories old tag k) i h;
     }

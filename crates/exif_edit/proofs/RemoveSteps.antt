@@ -35,15 +35,18 @@ use Rattle.exif_edit.proofs.WalkSteps.{spaced_step}
 
 -- ---- entries that pass a test
 
-passed_first : (t : ℕ → Bool) (x : ℕ) (xs : List ℕ) → filter t (x ∷ xs) ≡ filter t (x ∷ []) ++ filter t xs
+passed_first : (t : ℕ → Bool) (x : ℕ) (xs : List ℕ)
+    → filter t (x ∷ xs) ≡ filter t (x ∷ []) ++ filter t xs
 passed_first t x xs = by_test (t x)
   where
-    by_test : (b : Bool) → (if b then x ∷ filter t xs else filter t xs) ≡ (if b then x ∷ [] else []) ++ filter t xs
+    by_test : (b : Bool)
+        → (if b then x ∷ filter t xs else filter t xs) ≡ (if b then x ∷ [] else []) ++ filter t xs
     by_test true = refl
     by_test false = refl
 
 -- one of the entries that are left
-pub passed_on : {X : Type 0} (F : List ℕ → List X) → ((xs ys : List ℕ) → F (xs ++ ys) ≡ F xs ++ F ys)
+pub passed_on : {X : Type 0} (F : List ℕ → List X)
+    → ((xs ys : List ℕ) → F (xs ++ ys) ≡ F xs ++ F ys)
     → (t : ℕ → Bool) (at' n i : ℕ) (out new all : List X) → i < n
     → new ≡ out ++ F (filter t (at' ∷ []))
     → out ++ F (filter t (spaced at' 12 (n - i))) ≡ all
@@ -53,7 +56,8 @@ passed_on F hom t at' n i out new all h e f =
     let g : out ++ F (filter t (at' ∷ rest)) ≡ all = rw (spaced_step n i at' 12 h) at f in
     ap (λ xs. xs ++ F (filter t rest)) e
     ∙ (append_assoc out (F (filter t (at' ∷ []))) (F (filter t rest))
-    ∙ (ap (λ xs. out ++ xs) (sym (ap F (passed_first t at' rest) ∙ hom (filter t (at' ∷ [])) (filter t rest))) ∙ g))
+    ∙ (ap (λ xs. out ++ xs)
+    (sym (ap F (passed_first t at' rest) ∙ hom (filter t (at' ∷ [])) (filter t rest))) ∙ g))
 
 pub counted_on : (t : ℕ → Bool) (at' n i out new all : ℕ) → i < n
     → new ≡ out + length (filter t (at' ∷ []))
@@ -63,7 +67,8 @@ counted_on t at' n i out new all h e f =
     let rest = spaced (at' + 12) 12 (n - (i + 1)) in
     let g : out + length (filter t (at' ∷ rest)) ≡ all = rw (spaced_step n i at' 12 h) at f in
     let l = length-append (filter t (at' ∷ [])) (filter t rest) in
-    let k : out + length (filter t (at' ∷ []) ++ filter t rest) ≡ all = rw (passed_first t at' rest) at g in
+    let k : out + length (filter t (at' ∷ []) ++ filter t rest) ≡ all =
+    rw (passed_first t at' rest) at g in
     omega arith
 
 -- no more of them than there are
@@ -71,7 +76,8 @@ pub few_passed : (t : ℕ → Bool) (xs : List ℕ) → length (filter t xs) ≤
 few_passed t [] = omega arith
 few_passed t (x ∷ xs) = by_test (t x) (few_passed t xs)
   where
-    by_test : (b : Bool) → length (filter t xs) ≤ length xs → length (if b then x ∷ filter t xs else filter t xs) ≤ suc (length xs)
+    by_test : (b : Bool) → length (filter t xs) ≤ length xs
+        → length (if b then x ∷ filter t xs else filter t xs) ≤ suc (length xs)
     by_test true h = omega arith
     by_test false h = omega arith
 
@@ -90,7 +96,8 @@ few_bytes bytes (e ∷ es) =
 
 -- entries of a directory have their room in it
 pub text_fits : (order : Order) (bytes : List ℕ) (t : ℕ → Bool) (p n count : ℕ) (next : List ℕ)
-    → length (spelled order 2 count ++ (entries_text bytes (filter t (spaced p 12 n)) ++ next)) ≤ 2 + 12 * n + length next
+    → length (spelled order 2 count ++ (entries_text bytes (filter t (spaced p 12 n)) ++ next)) ≤ 2
+    + 12 * n + length next
 text_fits order bytes t p n count next =
     let es = filter t (spaced p 12 n) in
     let a = few_bytes bytes es in
@@ -101,32 +108,42 @@ text_fits order bytes t p n count next =
     let y = length-append (spelled order 2 count) (entries_text bytes es ++ next) in
     omega arith
 
-pub whole_fits : (order : Order) (bytes : List ℕ) (number place count kept : ℕ) (text next whole : List ℕ)
-    → text ≡ entries_text bytes (filter (λ e. not (has_tag (number_of order) bytes number e)) (spaced (place + 2) 12 count))
+pub whole_fits : (order : Order) (bytes : List ℕ) (number place count kept : ℕ)
+    (text next whole : List ℕ)
+    → text ≡ entries_text bytes
+    (filter (λ e. not (has_tag (number_of order) bytes number e)) (spaced (place + 2) 12 count))
     → whole ≡ spelled order 2 kept ++ (text ++ next)
     → length whole ≤ 2 + 12 * count + length next
 whole_fits order bytes number place count kept text next whole t w =
     let test : ℕ → Bool = λ e. not (has_tag (number_of order) bytes number e) in
     let fits = text_fits order bytes test (place + 2) count kept next in
-    let z : whole ≡ spelled order 2 kept ++ (entries_text bytes (filter test (spaced (place + 2) 12 count)) ++ next) = w ∙ ap (λ xs. spelled order 2 kept ++ (xs ++ next)) t in
+    let z : whole ≡ spelled order 2 kept
+    ++ (entries_text bytes (filter test (spaced (place + 2) 12 count)) ++ next) =
+    w ∙ ap (λ xs. spelled order 2 kept ++ (xs ++ next)) t in
     rw z fits
 
-pub directory_made : (order : Order) (bytes : List ℕ) (number place count kept : ℕ) (text next whole new : List ℕ)
+pub directory_made : (order : Order) (bytes : List ℕ) (number place count kept : ℕ)
+    (text next whole new : List ℕ)
     → count ≡ whole_entries (number_of order) bytes place
-    → kept ≡ length (filter (λ e. not (has_tag (number_of order) bytes number e)) (spaced (place + 2) 12 count))
-    → text ≡ entries_text bytes (filter (λ e. not (has_tag (number_of order) bytes number e)) (spaced (place + 2) 12 count))
+    → kept ≡ length
+    (filter (λ e. not (has_tag (number_of order) bytes number e)) (spaced (place + 2) 12 count))
+    → text ≡ entries_text bytes
+    (filter (λ e. not (has_tag (number_of order) bytes number e)) (spaced (place + 2) 12 count))
     → next ≡ next_text order (directory_end (number_of order) bytes place)
     → whole ≡ spelled order 2 kept ++ (text ++ next)
     → new ≡ padded (2 + 12 * count + length next) whole
     → new ≡ directory_without order bytes number place
-directory_made order bytes number place count kept text next whole new c k t n w p = p ∙ rw (w, k, t, n, c) refl
+directory_made order bytes number place count kept text next whole new c k t n w p =
+    p ∙ rw (w, k, t, n, c) refl
 
 next_length : (order : Order) (x : Result ℕ Fault) → length (next_text order x) ≤ 4
 next_length order (Ok next) = let l = length-spelled order 4 next in omega arith
 next_length order (Err fault) = omega arith
 
 -- a directory without entries takes no more than it did
-pub directory_length : (order : Order) (bytes : List ℕ) (n p : ℕ) → length (directory_without order bytes n p) ≤ 2 + 12 * whole_entries (number_of order) bytes p + 4
+pub directory_length : (order : Order) (bytes : List ℕ) (n p : ℕ)
+    → length (directory_without order bytes n p) ≤ 2 + 12 * whole_entries (number_of order) bytes p
+    + 4
 directory_length order bytes n p =
     let test : ℕ → Bool = λ e. not (has_tag (number_of order) bytes n e) in
     let count = whole_entries (number_of order) bytes p in
@@ -140,83 +157,127 @@ directory_length order bytes n p =
 
 -- ---- the directories of a name
 
-pub noted_on : (tag : Tag) (k : In) (fs : List Field) (ps : List EntryPlace) (i : ℕ) (f : Field) (p : EntryPlace) (out new : List ℕ)
+pub noted_on : (tag : Tag) (k : In) (fs : List Field) (ps : List EntryPlace) (i : ℕ) (f : Field)
+    (p : EntryPlace) (out new : List ℕ)
     → i < length fs → length fs ≡ length ps → f ≡ get_or fs i f → p ≡ get_or ps i p
     → out ≡ directories_with tag k (drop (i + 1) fs) (drop (i + 1) ps)
     → new ≡ (if is_named tag k f then noted out p.directory else out)
     → new ≡ directories_with tag k (drop i fs) (drop i ps)
 noted_on tag k fs ps i f p out new h l g q o n =
     let e : i + 1 ≡ suc i = omega arith in
-    let a : drop i fs ≡ f ∷ drop (i + 1) fs = rw e (drop-cons fs i f h ∙ ap (λ x. x ∷ drop (suc i) fs) (sym g)) in
-    let b : drop i ps ≡ p ∷ drop (i + 1) ps = rw e (drop-cons ps i p (omega arith) ∙ ap (λ x. x ∷ drop (suc i) ps) (sym q)) in
-    n ∙ (ap (λ x. if is_named tag k f then noted x p.directory else x) o ∙ sym (ap (λ x. directories_with tag k x (drop i ps)) a ∙ ap (λ x. directories_with tag k (f ∷ drop (i + 1) fs) x) b))
+    let a : drop i fs ≡ f ∷ drop (i + 1) fs =
+    rw e (drop-cons fs i f h ∙ ap (λ x. x ∷ drop (suc i) fs) (sym g)) in
+    let b : drop i ps ≡ p ∷ drop (i + 1) ps =
+    rw e (drop-cons ps i p (omega arith) ∙ ap (λ x. x ∷ drop (suc i) ps) (sym q)) in
+    n ∙ (ap (λ x. if is_named tag k f then noted x p.directory else x) o
+    ∙ sym (ap (λ x. directories_with tag k x (drop i ps)) a
+    ∙ ap (λ x. directories_with tag k (f ∷ drop (i + 1) fs) x) b))
 
 -- ---- directories and values, one after another
 
-pub places_on : {A B : Type 0} (f : A → List B) (qs : List A) (i : ℕ) (q : A) (out new all : List B) → i < length qs → q ≡ get_or qs i q
+pub places_on : {A B : Type 0} (f : A → List B) (qs : List A) (i : ℕ) (q : A) (out new all : List B)
+    → i < length qs → q ≡ get_or qs i q
     → new ≡ out ++ f q
     → out ++ flat_map f (drop i qs) ≡ all
     → new ++ flat_map f (drop (i + 1) qs) ≡ all
 places_on f qs i q out new all h g e k =
-    let d : drop i qs ≡ q ∷ drop (i + 1) qs = let p : i + 1 ≡ suc i = omega arith in rw p (drop-cons qs i q h ∙ ap (λ x. x ∷ drop (suc i) qs) (sym g)) in
+    let d : drop i qs ≡ q ∷ drop (i + 1) qs = let p : i + 1 ≡ suc i =
+    omega arith in rw p (drop-cons qs i q h ∙ ap (λ x. x ∷ drop (suc i) qs) (sym g)) in
     let m : out ++ (f q ++ flat_map f (drop (i + 1) qs)) ≡ all = rw d at k in
-    ap (λ xs. xs ++ flat_map f (drop (i + 1) qs)) e ∙ (append_assoc out (f q) (flat_map f (drop (i + 1) qs)) ∙ m)
+    ap (λ xs. xs ++ flat_map f (drop (i + 1) qs)) e
+    ∙ (append_assoc out (f q) (flat_map f (drop (i + 1) qs)) ∙ m)
 
-pub zeros_append : (span : ℕ → Span) (xs ys : List ℕ) → map zeros_over (map span (xs ++ ys)) ≡ map zeros_over (map span xs) ++ map zeros_over (map span ys)
-zeros_append span xs ys = ap (λ ss. map zeros_over ss) (map-append span xs ys) ∙ map-append zeros_over (map span xs) (map span ys)
+pub zeros_append : (span : ℕ → Span) (xs ys : List ℕ)
+    → map zeros_over (map span (xs ++ ys)) ≡ map zeros_over (map span xs)
+    ++ map zeros_over (map span ys)
+zeros_append span xs ys =
+    ap (λ ss. map zeros_over ss) (map-append span xs ys)
+    ∙ map-append zeros_over (map span xs) (map span ys)
 
-pub spans_append : (xs ys : List Span) → map zeros_over (xs ++ ys) ≡ map zeros_over xs ++ map zeros_over ys
+pub spans_append : (xs ys : List Span)
+    → map zeros_over (xs ++ ys) ≡ map zeros_over xs ++ map zeros_over ys
 spans_append xs ys = map-append zeros_over xs ys
 
 -- ---- the whole
 
-pub remove_fault : (s : Stop) (bytes : List ℕ) (tag : Tag) (k : In) (e : Error) → ReadsTo (Err s) (reading bytes) → Becomes s e → Fails e (named_removals bytes tag k)
+pub remove_fault : (s : Stop) (bytes : List ℕ) (tag : Tag) (k : In) (e : Error)
+    → ReadsTo (Err s) (reading bytes) → Becomes s e → Fails e (named_removals bytes tag k)
 unfolding named_removals
 remove_fault stop.OutOfMemory bytes tag k e h b = rw b refl
 remove_fault (stop.Fault fault) bytes tag k e h b = rw (b, h) refl
 
 named_from : (bytes : List ℕ) (tag : Tag) (k : In) (read : Read) → reading bytes ≡ Ok read
-    → named_removals bytes tag k ≡ removals_from tag k read bytes (directories_with tag k read.fields (map entry_of (located bytes)))
+    → named_removals bytes tag k
+    ≡ removals_from tag k read bytes
+    (directories_with tag k read.fields (map entry_of (located bytes)))
 unfolding named_removals
 named_from bytes tag k read h = rw h refl
 
 -- as many fields as places
-pub as_many : (bytes : List ℕ) (read : Read) (ps : List EntryPlace) → reading bytes ≡ Ok read → ps ≡ map entry_of (located bytes) → length read.fields ≡ length ps
+pub as_many : (bytes : List ℕ) (read : Read) (ps : List EntryPlace) → reading bytes ≡ Ok read
+    → ps ≡ map entry_of (located bytes) → length read.fields ≡ length ps
 as_many bytes read ps h w =
-    ap (λ (xs : List Field). length xs) (sym (fields_read bytes read h)) ∙ (length-map (located bytes) field_of ∙ (sym (length-map (located bytes) entry_of) ∙ ap (λ (xs : List EntryPlace). length xs) (sym w)))
+    ap (λ (xs : List Field). length xs) (sym (fields_read bytes read h))
+    ∙ (length-map (located bytes) field_of
+    ∙ (sym (length-map (located bytes) entry_of)
+    ∙ ap (λ (xs : List EntryPlace). length xs) (sym w)))
 
 -- where no directory has such a field
-pub none_named : (bytes : List ℕ) (tag : Tag) (k : In) (read : Read) (ps : List EntryPlace) (qs : List ℕ) → reading bytes ≡ Ok read → ps ≡ map entry_of (located bytes)
-    → qs ≡ directories_with tag k read.fields ps → (length qs == 0) ≡ true → named_removals bytes tag k ≡ Err no_field
+pub none_named : (bytes : List ℕ) (tag : Tag) (k : In) (read : Read) (ps : List EntryPlace)
+    (qs : List ℕ) → reading bytes ≡ Ok read → ps ≡ map entry_of (located bytes)
+    → qs ≡ directories_with tag k read.fields ps → (length qs == 0) ≡ true
+    → named_removals bytes tag k ≡ Err no_field
 none_named bytes tag k read ps (x ∷ xs) h w q n = absurd (not_none (length xs) n)
   where
     not_none : (m : ℕ) → (suc m == 0) ≡ true → ⊥
-    not_none m e = let l : 0 < suc m = omega arith in let f : (suc m == 0) ≡ false = grind (arith, nat_tests) in false≢true (sym f ∙ e)
+    not_none m e = let l : 0 < suc m = omega arith in let f : (suc m == 0) ≡ false =
+        grind (arith, nat_tests) in false≢true (sym f ∙ e)
 none_named bytes tag k read ps [] h w q n =
-    let d : directories_with tag k read.fields (map entry_of (located bytes)) ≡ [] = ap (directories_with tag k read.fields) (sym w) ∙ sym q in
+    let d : directories_with tag k read.fields (map entry_of (located bytes)) ≡ [] =
+    ap (directories_with tag k read.fields) (sym w) ∙ sym q in
     named_from bytes tag k read h ∙ ap (removals_from tag k read bytes) d
 
 -- what is answered, as what is left is read or not
-pub remove_same : (bytes new : List ℕ) (tag : Tag) (k : In) (read : Read) (es : List EntryPlace) (qs : List ℕ) (ps : List Patch) (fs : List Field) (order : Order)
-    → reading bytes ≡ Ok read → es ≡ map entry_of (located bytes) → qs ≡ directories_with tag k read.fields es → order ≡ order_named read.little
-    → ps ≡ removals order bytes tag.1 qs → new ≡ patched ps bytes → fs ≡ without_named tag k read.fields
-    → (length qs == 0) ≡ false → (b : Bool) → b ≡ still_reads new (record { little = read.little; fields = fs; faults = read.faults })
-    → (b ≡ true → named_removals bytes tag k ≡ Ok ps) × (b ≡ false → named_removals bytes tag k ≡ Err shared)
+pub remove_same : (bytes new : List ℕ) (tag : Tag) (k : In) (read : Read) (es : List EntryPlace)
+    (qs : List ℕ) (ps : List Patch) (fs : List Field) (order : Order)
+    → reading bytes ≡ Ok read → es ≡ map entry_of (located bytes)
+    → qs ≡ directories_with tag k read.fields es → order ≡ order_named read.little
+    → ps ≡ removals order bytes tag.1 qs → new ≡ patched ps bytes
+    → fs ≡ without_named tag k read.fields
+    → (length qs == 0) ≡ false → (b : Bool)
+    → b ≡ still_reads new (record { little = read.little; fields = fs; faults = read.faults })
+    → (b ≡ true → named_removals bytes tag k ≡ Ok ps)
+    × (b ≡ false → named_removals bytes tag k ≡ Err shared)
 remove_same bytes new tag k read es [] ps fs order h w q o p n f z b t = absurd (false≢true (sym z))
 remove_same bytes new tag k read es (p0 ∷ rest) ps fs order h w q o p n f z b t =
-    let d : directories_with tag k read.fields (map entry_of (located bytes)) ≡ p0 ∷ rest = ap (directories_with tag k read.fields) (sym w) ∙ sym q in
-    let r : ps ≡ removals (order_named read.little) bytes tag.1 (p0 ∷ rest) = p ∙ ap (λ x. removals x bytes tag.1 (p0 ∷ rest)) o in
-    let g : b ≡ still_reads (patched ps bytes) (read_without tag k read) = t ∙ (ap (λ x. still_reads new (record { little = read.little; fields = x; faults = read.faults })) f ∙ ap (λ xs. still_reads xs (read_without tag k read)) n) in
-    let s : named_removals bytes tag k ≡ checked_removals (read_without tag k read) bytes ps = named_from bytes tag k read h ∙ (ap (removals_from tag k read bytes) d ∙ ap (checked_removals (read_without tag k read) bytes) (sym r)) in
-    (λ y. s ∙ by_test (still_reads (patched ps bytes) (read_without tag k read)) true (sym g ∙ y), λ y. s ∙ by_test (still_reads (patched ps bytes) (read_without tag k read)) false (sym g ∙ y))
+    let d : directories_with tag k read.fields (map entry_of (located bytes)) ≡ p0 ∷ rest =
+    ap (directories_with tag k read.fields) (sym w) ∙ sym q in
+    let r : ps ≡ removals (order_named read.little) bytes tag.1 (p0 ∷ rest) =
+    p ∙ ap (λ x. removals x bytes tag.1 (p0 ∷ rest)) o in
+    let g : b ≡ still_reads (patched ps bytes) (read_without tag k read) =
+    t ∙ (ap (λ x. still_reads new
+    (record { little = read.little; fields = x; faults = read.faults })) f
+    ∙ ap (λ xs. still_reads xs (read_without tag k read)) n) in
+    let s : named_removals bytes tag k ≡ checked_removals (read_without tag k read) bytes ps =
+    named_from bytes tag k read h
+    ∙ (ap (removals_from tag k read bytes) d
+    ∙ ap (checked_removals (read_without tag k read) bytes) (sym r)) in (
+      λ y. s ∙ by_test (still_reads (patched ps bytes) (read_without tag k read)) true (sym g ∙ y),
+      λ y. s ∙ by_test (still_reads (patched ps bytes) (read_without tag k read)) false
+          (sym g ∙ y),
+    )
   where
-    by_test : (x c : Bool) → x ≡ c → ◌≡◌ {A = Result (List Patch) Cause} (if x then Ok ps else Err shared) (if c then Ok ps else Err shared)
+    by_test : (x c : Bool) → x ≡ c
+        → ◌≡◌ {A = Result (List Patch) Cause} (if x then Ok ps else Err shared)
+        (if c then Ok ps else Err shared)
     by_test x c e = ap (λ y. if y then Ok ps else Err shared) e
 
-pub field_named : (bytes : List ℕ) (tag : Tag) (k : In) → names_places tag ≡ true → field_patches bytes tag k ≡ Err place_named
+pub field_named : (bytes : List ℕ) (tag : Tag) (k : In) → names_places tag ≡ true
+    → field_patches bytes tag k ≡ Err place_named
 unfolding field_patches
 field_named bytes tag k h = rw h refl
 
-pub field_else : (bytes : List ℕ) (tag : Tag) (k : In) → names_places tag ≡ false → field_patches bytes tag k ≡ named_removals bytes tag k
+pub field_else : (bytes : List ℕ) (tag : Tag) (k : In) → names_places tag ≡ false
+    → field_patches bytes tag k ≡ named_removals bytes tag k
 unfolding field_patches
 field_else bytes tag k h = rw h refl

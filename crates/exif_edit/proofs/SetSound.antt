@@ -37,98 +37,138 @@ length-spelled Little n x = length-bytes_low_first 0 n x
 
 pub length-padded : (n : ℕ) (text : List ℕ) → length text ≤ n → length (padded n text) ≡ n
 length-padded n text h =
-    let l : length (replicate {A = ℕ} (n - length text) 0) ≡ n - length text = length-replicate (n - length text) 0 in
+    let l : length (replicate {A = ℕ} (n - length text) 0) ≡ n - length text =
+    length-replicate (n - length text) 0 in
     let a = length-append text (replicate (n - length text) 0) in
     omega arith
 
-length-room : (len : ℕ) (text : List ℕ) → length text ≤ max 4 len → length (room_text len text) ≡ len
+length-room : (len : ℕ) (text : List ℕ) → length text ≤ max 4 len
+    → length (room_text len text) ≡ len
 length-room len text h = by_test (is_small text) refl
   where
     by_test : (b : Bool) → is_small text ≡ b → length (padded len (if b then [] else text)) ≡ len
     by_test true e = length-padded len [] (omega arith)
-    by_test false e = length-padded len text (let l : 4 < length text = grind (arith, nat_tests) in omega arith)
+    by_test false e =
+        length-padded len text (let l : 4 < length text = grind (arith, nat_tests) in omega arith)
 
-length-entry : (order : Order) (value : Value) (place : ℕ) (text : List ℕ) → length (entry_text order value place text) ≡ 10
+length-entry : (order : Order) (value : Value) (place : ℕ) (text : List ℕ)
+    → length (entry_text order value place text) ≡ 10
 length-entry order value place text = by_test (is_small text) refl
   where
-    by_test : (b : Bool) → is_small text ≡ b → length (spelled order 2 (type_number value) ++ (spelled order 4 (count_of value) ++ (if b then padded 4 text else spelled order 4 place))) ≡ 10
+    by_test : (b : Bool) → is_small text ≡ b
+        → length (spelled order 2 (type_number value)
+        ++ (spelled order 4 (count_of value)
+        ++ (if b then padded 4 text else spelled order 4 place))) ≡ 10
     by_test true e =
         let s : length text ≤ 4 = grind (arith, nat_tests) in
         let a = length-spelled order 2 (type_number value) in
         let b = length-spelled order 4 (count_of value) in
         let c = length-padded 4 text s in
         let x = length-append (spelled order 4 (count_of value)) (padded 4 text) in
-        let y = length-append (spelled order 2 (type_number value)) (spelled order 4 (count_of value) ++ padded 4 text) in
+        let y = length-append (spelled order 2 (type_number value))
+        (spelled order 4 (count_of value) ++ padded 4 text) in
         omega arith
     by_test false e =
         let a = length-spelled order 2 (type_number value) in
         let b = length-spelled order 4 (count_of value) in
         let c = length-spelled order 4 place in
         let x = length-append (spelled order 4 (count_of value)) (spelled order 4 place) in
-        let y = length-append (spelled order 2 (type_number value)) (spelled order 4 (count_of value) ++ spelled order 4 place) in
+        let y = length-append (spelled order 2 (type_number value))
+        (spelled order 4 (count_of value) ++ spelled order 4 place) in
         omega arith
 
 -- ---- an edit that fits
 
-pub record Fits (order : Order) (value : Value) (e : ℕ) (bytes : List ℕ) (ps : List Patch) : Type 0 where
-  pub whole : e + 12 ≤ length bytes
-  pub far : (value_room (number_of order) bytes e).place + (value_room (number_of order) bytes e).len ≤ length bytes
-  pub text : length (encode order value) ≤ max 4 (value_room (number_of order) bytes e).len
-  pub is : ps ≡ value_patches order value e (value_room (number_of order) bytes e)
+pub record Fits (order : Order) (value : Value) (e : ℕ) (bytes : List ℕ) (ps : List Patch) : Type 0
+  where
+    pub whole : e + 12 ≤ length bytes
+    pub far : (value_room (number_of order) bytes e).place +
+        (value_room (number_of order) bytes e).len ≤ length bytes
+    pub text : length (encode order value) ≤ max 4 (value_room (number_of order) bytes e).len
+    pub is : ps ≡ value_patches order value e (value_room (number_of order) bytes e)
 
-fits_in : (order : Order) (value : Value) (e : ℕ) (s : Span) (n : ℕ) (ps : List Patch) → answer_in order value e s n ≡ Ok ps
-    → (s.place + s.len ≤ n) × (length (encode order value) ≤ max 4 s.len) × (ps ≡ value_patches order value e s)
+fits_in : (order : Order) (value : Value) (e : ℕ) (s : Span) (n : ℕ) (ps : List Patch)
+    → answer_in order value e s n ≡ Ok ps
+    → (s.place + s.len ≤ n) × (length (encode order value) ≤ max 4 s.len)
+    × (ps ≡ value_patches order value e s)
 fits_in order value e s n ps h =
-    let a = passed (nat_lt n (s.place + s.len)) shared (λ u. unless (nat_lt (2 ^ 32 - 1) (count_of value)) too_long >>= λ v. unless (nat_lt (max 4 s.len) (length (encode order value))) too_long >>= λ w. Ok (value_patches order value e s)) ps h in
-    let b = passed (nat_lt (2 ^ 32 - 1) (count_of value)) too_long (λ v. unless (nat_lt (max 4 s.len) (length (encode order value))) too_long >>= λ w. Ok (value_patches order value e s)) ps a.1 in
-    let c = passed (nat_lt (max 4 s.len) (length (encode order value))) too_long (λ w. Ok (value_patches order value e s)) ps b.1 in
+    let a = passed (nat_lt n (s.place + s.len)) shared
+    (λ u. unless (nat_lt (2 ^ 32 - 1) (count_of value)) too_long >>= λ v. unless
+    (nat_lt (max 4 s.len) (length (encode order value))) too_long >>= λ w. Ok
+    (value_patches order value e s)) ps h in
+    let b = passed (nat_lt (2 ^ 32 - 1) (count_of value)) too_long
+    (λ v. unless (nat_lt (max 4 s.len) (length (encode order value))) too_long >>= λ w. Ok
+    (value_patches order value e s)) ps a.1 in
+    let c = passed (nat_lt (max 4 s.len) (length (encode order value))) too_long
+    (λ w. Ok (value_patches order value e s)) ps b.1 in
     let p = a.0 in
-    let q = c.0 in
-    (grind (arith, nat_tests), grind (arith, nat_tests), sym (ok_same (value_patches order value e s) ps c.1))
+    let q = c.0 in (
+      grind (arith, nat_tests),
+      grind (arith, nat_tests),
+      sym
+          (ok_same (value_patches order value e s) ps c.1),
+    )
 
-pub edit_fits_in : (order : Order) (value : Value) (e : ℕ) (bytes : List ℕ) (ps : List Patch) → value_answer order value e bytes ≡ Ok ps → Fits order value e bytes ps
+pub edit_fits_in : (order : Order) (value : Value) (e : ℕ) (bytes : List ℕ) (ps : List Patch)
+    → value_answer order value e bytes ≡ Ok ps → Fits order value e bytes ps
 unfolding value_answer
 edit_fits_in order value e bytes ps h =
-    let a = passed (nat_lt (length bytes) (e + 12)) shared (λ u. answer_in order value e (value_room (number_of order) bytes e) (length bytes)) ps h in
+    let a = passed (nat_lt (length bytes) (e + 12)) shared
+    (λ u. answer_in order value e (value_room (number_of order) bytes e) (length bytes)) ps h in
     let p = a.0 in
     let c = fits_in order value e (value_room (number_of order) bytes e) (length bytes) ps a.1 in
     record { whole = grind (arith, nat_tests); far = c.0; text = c.1; is = c.2 }
 
 -- what holds of both patches holds of all
 pub both : (P : Patch → Type 0) (order : Order) (value : Value) (e : ℕ) (s : Span)
-    → ((s.len == 0) ≡ false → P (record { place = s.place; text = room_text s.len (encode order value) }))
+    → ((s.len == 0) ≡ false
+    → P (record { place = s.place; text = room_text s.len (encode order value) }))
     → P (record { place = e + 2; text = entry_text order value s.place (encode order value) })
     → All P (value_patches order value e s)
 both P order value e s a b =
-    All-append P (room_patches s (encode order value)) _ (by_test (s.len == 0) refl) (All-cons P _ [] b (All-nil P))
+    All-append P (room_patches s (encode order value)) _ (by_test (s.len == 0) refl)
+    (All-cons P _ [] b (All-nil P))
   where
-    by_test : (z : Bool) → (s.len == 0) ≡ z → All P (if z then [] else record { place = s.place; text = room_text s.len (encode order value) } ∷ [])
+    by_test : (z : Bool) → (s.len == 0) ≡ z
+        → All P (if z then [] else record
+        { place = s.place; text = room_text s.len (encode order value) } ∷ [])
     by_test true e = All-nil P
     by_test false e = All-cons P _ [] (a e) (All-nil P)
 
 -- the texts are as long as their rooms
-pub value_lengths : (order : Order) (value : Value) (s : Span) → length (encode order value) ≤ max 4 s.len
-    → (length (room_text s.len (encode order value)) ≡ s.len) × (length (entry_text order value s.place (encode order value)) ≡ 10)
-value_lengths order value s h = (length-room s.len (encode order value) h, length-entry order value s.place (encode order value))
+pub value_lengths : (order : Order) (value : Value) (s : Span)
+    → length (encode order value) ≤ max 4 s.len
+    → (length (room_text s.len (encode order value)) ≡ s.len)
+    × (length (entry_text order value s.place (encode order value)) ≡ 10)
+value_lengths order value s h = (
+  length-room s.len (encode order value) h,
+  length-entry order value s.place
+      (encode order value),
+)
 
-pub value_fits : (order : Order) (value : Value) (e : ℕ) (bytes : List ℕ) (ps : List Patch) → Fits order value e bytes ps → All (FitsIn (length bytes)) ps
+pub value_fits : (order : Order) (value : Value) (e : ℕ) (bytes : List ℕ) (ps : List Patch)
+    → Fits order value e bytes ps → All (FitsIn (length bytes)) ps
 value_fits order value e bytes ps f =
     let s = value_room (number_of order) bytes e in
     let lo = length-room s.len (encode order value) f.text in
     let li = length-entry order value s.place (encode order value) in
     let far = f.far in
     let whole = f.whole in
-    subst (λ qs. All (FitsIn (length bytes)) qs) (sym f.is) (both (FitsIn (length bytes)) order value e s (λ z. omega arith) (omega arith))
+    subst (λ qs. All (FitsIn (length bytes)) qs) (sym f.is)
+    (both (FitsIn (length bytes)) order value e s (λ z. omega arith) (omega arith))
 
 -- the bytes of neither the room nor the entry
-value_misses : (order : Order) (value : Value) (e : ℕ) (bytes : List ℕ) (ps : List Patch) (i : ℕ) → Fits order value e bytes ps
-    → inside i (record { place = e + 2; len = 10 }) ≡ false → inside i (value_room (number_of order) bytes e) ≡ false → All (Misses i) ps
+value_misses : (order : Order) (value : Value) (e : ℕ) (bytes : List ℕ) (ps : List Patch) (i : ℕ)
+    → Fits order value e bytes ps
+    → inside i (record { place = e + 2; len = 10 }) ≡ false
+    → inside i (value_room (number_of order) bytes e) ≡ false → All (Misses i) ps
 value_misses order value e bytes ps i f a b =
     let s = value_room (number_of order) bytes e in
     let lo = length-room s.len (encode order value) f.text in
     let li = length-entry order value s.place (encode order value) in
     let x = subst (λ n. (i < s.place) ⊎ (s.place + n ≤ i)) (sym lo) (outside_place i s b) in
-    let y = subst (λ n. (i < e + 2) ⊎ (e + 2 + n ≤ i)) (sym li) (outside_place i (record { place = e + 2; len = 10 }) a) in
+    let y = subst (λ n. (i < e + 2) ⊎ (e + 2 + n ≤ i)) (sym li)
+    (outside_place i (record { place = e + 2; len = 10 }) a) in
     subst (λ qs. All (Misses i) qs) (sym f.is) (both (Misses i) order value e s (λ z. x) y)
 
 -- ---- the whole
@@ -140,11 +180,15 @@ record WasFound (bytes : List ℕ) (tag : Tag) (k : In) (found : Read × ℕ) : 
   last : last_located tag k (located bytes) ≡ Some at
   entry : at.entry ≡ found.1
 
-was_found : (bytes : List ℕ) (tag : Tag) (k : In) (found : Read × ℕ) → find_answer bytes tag k ≡ Ok found → WasFound bytes tag k found
+was_found : (bytes : List ℕ) (tag : Tag) (k : In) (found : Read × ℕ)
+    → find_answer bytes tag k ≡ Ok found → WasFound bytes tag k found
 unfolding find_answer
 was_found bytes tag k found e =
-    let a = bound (of_data (reading bytes)) (λ read. or_cause (last_located tag k (located bytes)) no_field >>= λ l. Ok (read, l.entry)) found e in
-    let b = bound (or_cause (last_located tag k (located bytes)) no_field) (λ l. Ok (a.0, l.entry)) found a.2 in
+    let a = bound (of_data (reading bytes))
+    (λ read. or_cause (last_located tag k (located bytes)) no_field >>= λ l. Ok (read, l.entry))
+    found e in
+    let b = bound (or_cause (last_located tag k (located bytes)) no_field) (λ l. Ok (a.0, l.entry))
+    found a.2 in
     let p = ok_same (a.0, b.0.entry) found b.2 in
     record {
       at = b.0;
@@ -154,25 +198,35 @@ was_found bytes tag k found e =
     }
 
 -- what answered patches are
-pub record WasSet (bytes : List ℕ) (tag : Tag) (k : In) (value : Value) (ps : List Patch) : Type 0 where
-  pub read : Read
-  pub at : Located
-  pub reads : reading bytes ≡ Ok read
-  pub last : last_located tag k (located bytes) ≡ Some at
-  pub fits : Fits (order_named read.little) value at.entry bytes ps
-  pub reads_new : reading (patched ps bytes) ≡ Ok (expected tag k value at.entry bytes read)
+pub record WasSet (bytes : List ℕ) (tag : Tag) (k : In) (value : Value) (ps : List Patch) : Type 0
+  where
+    pub read : Read
+    pub at : Located
+    pub reads : reading bytes ≡ Ok read
+    pub last : last_located tag k (located bytes) ≡ Some at
+    pub fits : Fits (order_named read.little) value at.entry bytes ps
+    pub reads_new : reading (patched ps bytes) ≡ Ok (expected tag k value at.entry bytes read)
 
-checked_set : (bytes : List ℕ) (ps : List Patch) (tag : Tag) (k : In) (value : Value) → checked_patches bytes tag k value ≡ Ok ps → WasSet bytes tag k value ps
+checked_set : (bytes : List ℕ) (ps : List Patch) (tag : Tag) (k : In) (value : Value)
+    → checked_patches bytes tag k value ≡ Ok ps → WasSet bytes tag k value ps
 unfolding checked_patches
 checked_set bytes ps tag k value h =
-    let a = bound (find_answer bytes tag k) (λ found. value_answer (order_named found.0.little) value found.1 bytes >>= λ qs. checked (expected tag k value found.1 bytes found.0) bytes qs) ps h in
+    let a = bound (find_answer bytes tag k)
+    (λ found. value_answer (order_named found.0.little) value found.1 bytes >>= λ qs. checked
+    (expected tag k value found.1 bytes found.0) bytes qs) ps h in
     let read = a.0.0 in
     let order = order_named read.little in
-    let b = bound (value_answer order value a.0.1 bytes) (λ qs. checked (expected tag k value a.0.1 bytes read) bytes qs) ps a.2 in
-    let c = tested (reads_as (patched b.0 bytes) (expected tag k value a.0.1 bytes read)) b.0 ps shared b.2 in
+    let b = bound (value_answer order value a.0.1 bytes)
+    (λ qs. checked (expected tag k value a.0.1 bytes read) bytes qs) ps a.2 in
+    let c = tested (reads_as (patched b.0 bytes) (expected tag k value a.0.1 bytes read)) b.0 ps
+    shared b.2 in
     let w = was_found bytes tag k a.0 a.1 in
-    let f : Fits order value a.0.1 bytes ps = subst (λ qs. Fits order value a.0.1 bytes qs) c.1 (edit_fits_in order value a.0.1 bytes b.0 b.1) in
-    let r : reading (patched ps bytes) ≡ Ok (expected tag k value a.0.1 bytes read) = subst (λ qs. reading (patched qs bytes) ≡ Ok (expected tag k value a.0.1 bytes read)) c.1 (reads_so (patched b.0 bytes) (expected tag k value a.0.1 bytes read) c.0) in
+    let f : Fits order value a.0.1 bytes ps =
+    subst (λ qs. Fits order value a.0.1 bytes qs) c.1
+    (edit_fits_in order value a.0.1 bytes b.0 b.1) in
+    let r : reading (patched ps bytes) ≡ Ok (expected tag k value a.0.1 bytes read) =
+    subst (λ qs. reading (patched qs bytes) ≡ Ok (expected tag k value a.0.1 bytes read)) c.1
+    (reads_so (patched b.0 bytes) (expected tag k value a.0.1 bytes read) c.0) in
     record {
       read = read;
       at = w.at;
@@ -182,36 +236,47 @@ checked_set bytes ps tag k value h =
       reads_new = rw w.entry r;
     }
 
-pub was_set : (bytes : List ℕ) (ps : List Patch) (tag : Tag) (k : In) (value : Value) → set_patches bytes tag k value ≡ Ok ps → WasSet bytes tag k value ps
+pub was_set : (bytes : List ℕ) (ps : List Patch) (tag : Tag) (k : In) (value : Value)
+    → set_patches bytes tag k value ≡ Ok ps → WasSet bytes tag k value ps
 unfolding set_patches
 was_set bytes ps tag k value h =
-    let a = passed (names_places tag) place_named (λ u. unless (is_unknown value) unknown_type >>= λ v. checked_patches bytes tag k value) ps h in
-    let b = passed (is_unknown value) unknown_type (λ v. checked_patches bytes tag k value) ps a.1 in
+    let a = passed (names_places tag) place_named
+    (λ u. unless (is_unknown value) unknown_type >>= λ v. checked_patches bytes tag k value) ps
+    h in
+    let b = passed (is_unknown value) unknown_type (λ v. checked_patches bytes tag k value) ps
+    a.1 in
     checked_set bytes ps tag k value b.1
 
-pub set_fits : (bytes : List ℕ) (ps : List Patch) (tag : Tag) (k : In) (value : Value) → set_patches bytes tag k value ≡ Ok ps → All (FitsIn (length bytes)) ps
+pub set_fits : (bytes : List ℕ) (ps : List Patch) (tag : Tag) (k : In) (value : Value)
+    → set_patches bytes tag k value ≡ Ok ps → All (FitsIn (length bytes)) ps
 set_fits bytes ps tag k value h =
     let w = was_set bytes ps tag k value h in
     value_fits (order_named w.read.little) value w.at.entry bytes ps w.fits
 
-pub set_sound : (old : List ℕ) (ps : List Patch) (tag : Tag) (k : In) (value : Value) → set_patches old tag k value ≡ Ok ps → IsSet old tag k value (patched ps old)
+pub set_sound : (old : List ℕ) (ps : List Patch) (tag : Tag) (k : In) (value : Value)
+    → set_patches old tag k value ≡ Ok ps → IsSet old tag k value (patched ps old)
 set_sound old ps tag k value h =
     let w = was_set old ps tag k value h in
     let order = order_named w.read.little in
     let fit = value_fits order value w.at.entry old ps w.fits in
     let r = reads_are old w.read w.reads in
     let s = reads_are (patched ps old) (expected tag k value w.at.entry old w.read) w.reads_new in
-    let place = set_place (value_room (number_of order) old w.at.entry).place w.at.entry (encode order value) in
+    let place = set_place (value_room (number_of order) old w.at.entry).place w.at.entry
+    (encode order value) in
     record {
       order = order;
       header = header_named old w.read w.reads;
       place = place;
-      reads = subst (λ xs. ReadAs (patched ps old) (replaced tag k (moved_to place value) (fields_of (trace old))) xs) r.2
-          (subst (λ xs. ReadAs (patched ps old) (replaced tag k (moved_to place value) xs) w.read.faults) r.1 s.0);
+      reads =
+          subst (λ xs. ReadAs (patched ps old)
+          (replaced tag k (moved_to place value) (fields_of (trace old))) xs) r.2
+          (subst (λ xs. ReadAs (patched ps old) (replaced tag k (moved_to place value) xs)
+          w.read.faults) r.1 s.0);
       at = w.at;
       found = w.last;
       as_long = length-patched ps old fit;
-      outside = λ i x y. patched_outside ps old i fit (value_misses order value w.at.entry old ps i w.fits x y);
+      outside = λ i x y. patched_outside ps old i fit
+          (value_misses order value w.at.entry old ps i w.fits x y);
     }
 
 -- the answer is what the patches make

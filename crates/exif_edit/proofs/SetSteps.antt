@@ -27,7 +27,8 @@ unfolding value_answer
 edit_outside order value e bytes l =
     let t : nat_lt (length bytes) (e + 12) ≡ true = grind (arith, nat_tests) in rw t refl
 
-edit_inside : (order : Order) (value : Value) (e : ℕ) (bytes : List ℕ) (s : Span) → e + 12 ≤ length bytes
+edit_inside : (order : Order) (value : Value) (e : ℕ) (bytes : List ℕ) (s : Span)
+    → e + 12 ≤ length bytes
     → s ≡ value_room (number_of order) bytes e
     → value_answer order value e bytes ≡ answer_in order value e s (length bytes)
 unfolding value_answer
@@ -35,14 +36,16 @@ edit_inside order value e bytes s l w =
     let t : nat_lt (length bytes) (e + 12) ≡ false = grind (arith, nat_tests) in
     rw t (ap (λ x. answer_in order value e x (length bytes)) (sym w))
 
-pub edit_far : (order : Order) (value : Value) (e : ℕ) (bytes : List ℕ) (s : Span) → e + 12 ≤ length bytes
+pub edit_far : (order : Order) (value : Value) (e : ℕ) (bytes : List ℕ) (s : Span)
+    → e + 12 ≤ length bytes
     → s ≡ value_room (number_of order) bytes e → length bytes < s.place + s.len
     → value_answer order value e bytes ≡ Err shared
 edit_far order value e bytes s l w f =
     let t : nat_lt (length bytes) (s.place + s.len) ≡ true = grind (arith, nat_tests) in
     edit_inside order value e bytes s l w ∙ rw t refl
 
-pub edit_many : (order : Order) (value : Value) (e : ℕ) (bytes : List ℕ) (s : Span) → e + 12 ≤ length bytes
+pub edit_many : (order : Order) (value : Value) (e : ℕ) (bytes : List ℕ) (s : Span)
+    → e + 12 ≤ length bytes
     → s ≡ value_room (number_of order) bytes e → s.place + s.len ≤ length bytes
     → 4294967295 < count_of value → value_answer order value e bytes ≡ Err too_long
 edit_many order value e bytes s l w f m =
@@ -50,7 +53,8 @@ edit_many order value e bytes s l w f m =
     let v : nat_lt (2 ^ 32 - 1) (count_of value) ≡ true = grind (arith, nat_tests) in
     edit_inside order value e bytes s l w ∙ rw (t, v) refl
 
-pub edit_long : (order : Order) (value : Value) (e : ℕ) (bytes : List ℕ) (s : Span) → e + 12 ≤ length bytes
+pub edit_long : (order : Order) (value : Value) (e : ℕ) (bytes : List ℕ) (s : Span)
+    → e + 12 ≤ length bytes
     → s ≡ value_room (number_of order) bytes e → s.place + s.len ≤ length bytes
     → count_of value ≤ 4294967295 → max 4 s.len < length (encode order value)
     → value_answer order value e bytes ≡ Err too_long
@@ -60,7 +64,8 @@ edit_long order value e bytes s l w f m g =
     let u : nat_lt (max 4 s.len) (length (encode order value)) ≡ true = grind (arith, nat_tests) in
     edit_inside order value e bytes s l w ∙ rw (t, v, u) refl
 
-pub edit_fits : (order : Order) (value : Value) (e : ℕ) (bytes : List ℕ) (ps : List Patch) (s : Span)
+pub edit_fits : (order : Order) (value : Value) (e : ℕ) (bytes : List ℕ) (ps : List Patch)
+    (s : Span)
     → e + 12 ≤ length bytes → s ≡ value_room (number_of order) bytes e
     → s.place + s.len ≤ length bytes → count_of value ≤ 4294967295
     → length (encode order value) ≤ max 4 s.len → ps ≡ value_patches order value e s
@@ -93,7 +98,8 @@ pub set_find : (bytes : List ℕ) (tag : Tag) (k : In) (value : Value) (c : Caus
 unfolding checked_patches
 set_find bytes tag k value c h = rw h refl
 
-pub set_edit : (bytes : List ℕ) (tag : Tag) (k : In) (value : Value) (read : Read) (e : ℕ) (order : Order) (c : Cause)
+pub set_edit : (bytes : List ℕ) (tag : Tag) (k : In) (value : Value) (read : Read) (e : ℕ)
+    (order : Order) (c : Cause)
     → find_answer bytes tag k ≡ Ok (read, e) → order ≡ order_named read.little
     → value_answer order value e bytes ≡ Err c → checked_patches bytes tag k value ≡ Err c
 unfolding checked_patches
@@ -101,33 +107,49 @@ set_edit bytes tag k value read e order c h o w =
     let g : value_answer (order_named read.little) value e bytes ≡ Err c = rw o at w in
     rw (h, g) refl
 
-set_checked : (bytes : List ℕ) (ps : List Patch) (tag : Tag) (k : In) (value : Value) (read : Read) (e : ℕ)
-    → find_answer bytes tag k ≡ Ok (read, e) → value_answer (order_named read.little) value e bytes ≡ Ok ps
+set_checked : (bytes : List ℕ) (ps : List Patch) (tag : Tag) (k : In) (value : Value) (read : Read)
+    (e : ℕ)
+    → find_answer bytes tag k ≡ Ok (read, e)
+    → value_answer (order_named read.little) value e bytes ≡ Ok ps
     → checked_patches bytes tag k value ≡ checked (expected tag k value e bytes read) bytes ps
 unfolding checked_patches
 set_checked bytes ps tag k value read e h g = rw (h, g) refl
 
-expected_is : (bytes : List ℕ) (tag : Tag) (k : In) (value moved : Value) (read : Read) (e place : ℕ) (fs : List Field)
+expected_is : (bytes : List ℕ) (tag : Tag) (k : In) (value moved : Value) (read : Read)
+    (e place : ℕ) (fs : List Field)
     → fs ≡ replaced tag k moved read.fields → moved ≡ moved_to place value
-    → place ≡ set_place (value_room (number_of (order_named read.little)) bytes e).place e (encode (order_named read.little) value)
-    → ◌≡◌ {A = Read} (record { little = read.little; fields = fs; faults = read.faults }) (expected tag k value e bytes read)
+    → place ≡ set_place (value_room (number_of (order_named read.little)) bytes e).place e
+    (encode (order_named read.little) value)
+    → ◌≡◌ {A = Read} (record { little = read.little; fields = fs; faults = read.faults })
+    (expected tag k value e bytes read)
 expected_is bytes tag k value moved read e place fs f m p = rw (f, m, p) refl
 
 -- what is answered, as the edited bytes are read so or not
-pub set_same : (bytes new : List ℕ) (ps : List Patch) (tag : Tag) (k : In) (value moved : Value) (read : Read) (e place : ℕ) (fs : List Field) (order : Order)
+pub set_same : (bytes new : List ℕ) (ps : List Patch) (tag : Tag) (k : In) (value moved : Value)
+    (read : Read) (e place : ℕ) (fs : List Field) (order : Order)
     → find_answer bytes tag k ≡ Ok (read, e) → order ≡ order_named read.little
     → value_answer order value e bytes ≡ Ok ps → new ≡ patched ps bytes
     → fs ≡ replaced tag k moved read.fields → moved ≡ moved_to place value
     → place ≡ set_place (value_room (number_of order) bytes e).place e (encode order value)
-    → (b : Bool) → b ≡ reads_as new (record { little = read.little; fields = fs; faults = read.faults })
-    → (b ≡ true → checked_patches bytes tag k value ≡ Ok ps) × (b ≡ false → checked_patches bytes tag k value ≡ Err shared)
+    → (b : Bool) → b
+    ≡ reads_as new (record { little = read.little; fields = fs; faults = read.faults })
+    → (b ≡ true → checked_patches bytes tag k value ≡ Ok ps)
+    × (b ≡ false → checked_patches bytes tag k value ≡ Err shared)
 set_same bytes new ps tag k value moved read e place fs order h o g n f m p b t =
     let g1 : value_answer (order_named read.little) value e bytes ≡ Ok ps = rw o at g in
-    let p1 : place ≡ set_place (value_room (number_of (order_named read.little)) bytes e).place e (encode (order_named read.little) value) = rw o at p in
+    let p1 : place ≡ set_place (value_room (number_of (order_named read.little)) bytes e).place e
+    (encode (order_named read.little) value) = rw o at p in
     let want = expected tag k value e bytes read in
-    let q : b ≡ reads_as (patched ps bytes) want = t ∙ (ap (λ r. reads_as new r) (expected_is bytes tag k value moved read e place fs f m p1) ∙ ap (λ xs. reads_as xs want) n) in
-    let s = set_checked bytes ps tag k value read e h g1 in
-    (λ y. s ∙ by_test (reads_as (patched ps bytes) want) true (sym q ∙ y), λ y. s ∙ by_test (reads_as (patched ps bytes) want) false (sym q ∙ y))
+    let q : b ≡ reads_as (patched ps bytes) want =
+    t ∙ (ap (λ r. reads_as new r) (expected_is bytes tag k value moved read e place fs f m p1)
+    ∙ ap (λ xs. reads_as xs want) n) in
+    let s = set_checked bytes ps tag k value read e h g1 in (
+      λ y. s ∙ by_test (reads_as (patched ps bytes) want) true (sym q ∙ y),
+      λ y. s
+          ∙ by_test (reads_as (patched ps bytes) want) false (sym q ∙ y),
+    )
   where
-    by_test : (x c : Bool) → x ≡ c → ◌≡◌ {A = Result (List Patch) Cause} (if x then Ok ps else Err shared) (if c then Ok ps else Err shared)
+    by_test : (x c : Bool) → x ≡ c
+        → ◌≡◌ {A = Result (List Patch) Cause} (if x then Ok ps else Err shared)
+        (if c then Ok ps else Err shared)
     by_test x c e = ap (λ y. if y then Ok ps else Err shared) e

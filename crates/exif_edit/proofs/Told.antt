@@ -26,16 +26,20 @@ use Rattle.exif_edit.proofs.FindSteps.{field_of}
 
 -- ---- a value of an entry
 
-same_place : (b : Bool) (xs : List ℕ) (p : ℕ) → ◌≡◌ {A = Value} (value.Undefined xs (if b then p else p)) (value.Undefined xs p)
+same_place : (b : Bool) (xs : List ℕ) (p : ℕ)
+    → ◌≡◌ {A = Value} (value.Undefined xs (if b then p else p)) (value.Undefined xs p)
 same_place true xs p = refl
 same_place false xs p = refl
 
 -- a value of a type, if that is known
 abbrev valued_as : Reading → Option FieldType → ℕ → ℕ → List ℕ → ℕ → Value
-valued_as number o type count bytes place = elim o [ Some t ↦ decode_as number t count bytes place | None ↦ value.Unknown type count place ]
+valued_as number o type count bytes place =
+    elim o [ Some t ↦ decode_as number t count bytes place | None ↦ value.Unknown type count place ]
 
 -- one that stands in the entry
-tells_inside : (number : Reading) (o : Option FieldType) (type count : ℕ) (bytes : List ℕ) (e : ℕ) → told_in e (valued_as number o type count bytes (e + 8)) ≡ valued_as number o type count bytes (e + 8)
+tells_inside : (number : Reading) (o : Option FieldType) (type count : ℕ) (bytes : List ℕ) (e : ℕ)
+    → told_in e (valued_as number o type count bytes (e + 8))
+    ≡ valued_as number o type count bytes (e + 8)
 tells_inside number None type count bytes e = refl
 tells_inside number (Some field_type.Byte) type count bytes e = refl
 tells_inside number (Some field_type.Ascii) type count bytes e = refl
@@ -43,26 +47,35 @@ tells_inside number (Some field_type.Short) type count bytes e = refl
 tells_inside number (Some field_type.Long) type count bytes e = refl
 tells_inside number (Some field_type.Rational) type count bytes e = refl
 tells_inside number (Some field_type.SByte) type count bytes e = refl
-tells_inside number (Some field_type.Undefined) type count bytes e = same_place (nat_le (length (bytes_at count bytes (e + 8))) 4) (bytes_at count bytes (e + 8)) (e + 8)
+tells_inside number (Some field_type.Undefined) type count bytes e =
+    same_place (nat_le (length (bytes_at count bytes (e + 8))) 4) (bytes_at count bytes (e + 8))
+    (e + 8)
 tells_inside number (Some field_type.SShort) type count bytes e = refl
 tells_inside number (Some field_type.SLong) type count bytes e = refl
 tells_inside number (Some field_type.SRational) type count bytes e = refl
 tells_inside number (Some field_type.Float) type count bytes e = refl
 tells_inside number (Some field_type.Double) type count bytes e = refl
 
-length-bytes_at : (n : ℕ) (bytes : List ℕ) (p : ℕ) → p + n ≤ length bytes → length (bytes_at n bytes p) ≡ n
+length-bytes_at : (n : ℕ) (bytes : List ℕ) (p : ℕ) → p + n ≤ length bytes
+    → length (bytes_at n bytes p) ≡ n
 length-bytes_at n bytes p h = grind (arith, common_steps)
 
-far_place : (count : ℕ) (bytes : List ℕ) (e place : ℕ) → 4 < 1 * count → place + 1 * count ≤ length bytes
-    → ◌≡◌ {A = Value} (value.Undefined (bytes_at count bytes place) (if nat_le (length (bytes_at count bytes place)) 4 then e + 8 else place)) (value.Undefined (bytes_at count bytes place) place)
+far_place : (count : ℕ) (bytes : List ℕ) (e place : ℕ) → 4 < 1 * count
+    → place + 1 * count ≤ length bytes
+    → ◌≡◌ {A = Value}
+    (value.Undefined (bytes_at count bytes place)
+    (if nat_le (length (bytes_at count bytes place)) 4 then e + 8 else place))
+    (value.Undefined (bytes_at count bytes place) place)
 far_place count bytes e place h k =
     let l = length-bytes_at count bytes place (omega arith) in
     let t : nat_le (length (bytes_at count bytes place)) 4 ≡ false = grind (arith, nat_tests) in
     rw t refl
 
 -- one that stands outside
-tells_outside : (number : Reading) (o : Option FieldType) (type count : ℕ) (bytes : List ℕ) (e place : ℕ) → 4 < known_length o * count → place + known_length o * count ≤ length bytes
-    → told_in e (valued_as number o type count bytes place) ≡ valued_as number o type count bytes place
+tells_outside : (number : Reading) (o : Option FieldType) (type count : ℕ) (bytes : List ℕ)
+    (e place : ℕ) → 4 < known_length o * count → place + known_length o * count ≤ length bytes
+    → told_in e (valued_as number o type count bytes place)
+    ≡ valued_as number o type count bytes place
 tells_outside number None type count bytes e place a b = absurd (omega arith)
 tells_outside number (Some field_type.Byte) type count bytes e place a b = refl
 tells_outside number (Some field_type.Ascii) type count bytes e place a b = refl
@@ -70,14 +83,16 @@ tells_outside number (Some field_type.Short) type count bytes e place a b = refl
 tells_outside number (Some field_type.Long) type count bytes e place a b = refl
 tells_outside number (Some field_type.Rational) type count bytes e place a b = refl
 tells_outside number (Some field_type.SByte) type count bytes e place a b = refl
-tells_outside number (Some field_type.Undefined) type count bytes e place a b = far_place count bytes e place a b
+tells_outside number (Some field_type.Undefined) type count bytes e place a b =
+    far_place count bytes e place a b
 tells_outside number (Some field_type.SShort) type count bytes e place a b = refl
 tells_outside number (Some field_type.SLong) type count bytes e place a b = refl
 tells_outside number (Some field_type.SRational) type count bytes e place a b = refl
 tells_outside number (Some field_type.Float) type count bytes e place a b = refl
 tells_outside number (Some field_type.Double) type count bytes e place a b = refl
 
-tells : (number : Reading) (bytes : List ℕ) (e : ℕ) (v : Value) → entry_value number bytes e ≡ Some v → told_in e v ≡ v
+tells : (number : Reading) (bytes : List ℕ) (e : ℕ) (v : Value)
+    → entry_value number bytes e ≡ Some v → told_in e v ≡ v
 tells number bytes e v h = by_size (nat_le size 4) refl h
   where
     type : ℕ
@@ -95,18 +110,26 @@ tells number bytes e v h = by_size (nat_le size 4) refl h
     some_same : (x : Value) → ◌≡◌ {A = Option Value} (Some x) (Some v) → x ≡ v
     some_same x p = cc
 
-    by_room : (b : Bool) → nat_le (place + size) (length bytes) ≡ b → nat_le size 4 ≡ false → (if b then Some (decode number type count bytes place) else None) ≡ Some v → told_in e v ≡ v
+    by_room : (b : Bool) → nat_le (place + size) (length bytes) ≡ b → nat_le size 4 ≡ false
+        → (if b then Some (decode number type count bytes place) else None) ≡ Some v
+        → told_in e v ≡ v
     by_room true r s p =
         let a : 4 < size = grind (arith, nat_tests) in
         let c : place + size ≤ length bytes = grind (arith, nat_tests) in
-        rw (some_same (decode number type count bytes place) p) at (tells_outside number (type_of type) type count bytes e place a c)
+        rw (some_same (decode number type count bytes place) p) at
+        (tells_outside number (type_of type) type count bytes e place a c)
     by_room false r s p = absurd (none_some p)
       where
         none_some : ◌≡◌ {A = Option Value} None (Some v) → ⊥
         none_some p = cc
 
-    by_size : (b : Bool) → nat_le size 4 ≡ b → (if b then Some (decode number type count bytes (e + 8)) else (if nat_le (place + size) (length bytes) then Some (decode number type count bytes place) else None)) ≡ Some v → told_in e v ≡ v
-    by_size true s p = rw (some_same (decode number type count bytes (e + 8)) p) at (tells_inside number (type_of type) type count bytes e)
+    by_size : (b : Bool) → nat_le size 4 ≡ b
+        → (if b then Some (decode number type count bytes (e + 8)) else
+        (if nat_le (place + size) (length bytes) then Some (decode number type count bytes place)
+        else None)) ≡ Some v → told_in e v ≡ v
+    by_size true s p =
+        rw (some_same (decode number type count bytes (e + 8)) p) at
+        (tells_inside number (type_of type) type count bytes e)
     by_size false s p = by_room (nat_le (place + size) (length bytes)) refl s p
 
 -- ---- all that is located
@@ -126,41 +149,58 @@ each : (f : ℕ → List Spot) (ps : List ℕ) → ((p : ℕ) → Tells (f p)) �
 each f [] h = tt
 each f (p ∷ ps) h = joined (f p) (flat_map f ps) (h p) (each f ps h)
 
-pointer : (child : Spots) (c : Context) (o : Option ℕ) → ((d : Context) (q : ℕ) → Tells (child d q)) → Tells (pointer_spots child c o)
+pointer : (child : Spots) (c : Context) (o : Option ℕ) → ((d : Context) (q : ℕ) → Tells (child d q))
+    → Tells (pointer_spots child c o)
 pointer child c None h = tt
 pointer child c (Some q) h = h c q
 
-tagged : (child : Spots) (c : Context) (k p n e : ℕ) (v : Value) (o : Option Context) → told_in e v ≡ v → ((d : Context) (q : ℕ) → Tells (child d q)) → Tells (tagged_spots child c k p n e v o)
+tagged : (child : Spots) (c : Context) (k p n e : ℕ) (v : Value) (o : Option Context)
+    → told_in e v ≡ v → ((d : Context) (q : ℕ) → Tells (child d q))
+    → Tells (tagged_spots child c k p n e v o)
 tagged child c k p n e v None t h = (ap (λ x. ◌≡◌-field c n k x) t, tt)
   where
     ◌≡◌-field : Context → ℕ → ℕ → Value → Field
-    ◌≡◌-field c n k x = record { tag = record { 0 = c; 1 = n }; ifd_num = record { 0 = k }; value = x }
+    ◌≡◌-field c n k x =
+        record { tag = record { 0 = c; 1 = n }; ifd_num = record { 0 = k }; value = x }
 tagged child c k p n e v (Some d) t h = pointer child d (number_in v 0) h
 
-valued : (child : Spots) (c : Context) (k p n e : ℕ) (o : Option Value) → ((v : Value) → o ≡ Some v → told_in e v ≡ v) → ((d : Context) (q : ℕ) → Tells (child d q)) → Tells (valued_spots child c k p n e o)
+valued : (child : Spots) (c : Context) (k p n e : ℕ) (o : Option Value)
+    → ((v : Value) → o ≡ Some v → told_in e v ≡ v) → ((d : Context) (q : ℕ) → Tells (child d q))
+    → Tells (valued_spots child c k p n e o)
 valued child c k p n e None t h = tt
 valued child c k p n e (Some v) t h = tagged child c k p n e v (child_of c n) (t v refl) h
 
-directory : (depth : ℕ) (number : Reading) (bytes : List ℕ) (k : ℕ) (c : Context) (p : ℕ) → Tells (directory_spots depth number bytes k c p)
+directory : (depth : ℕ) (number : Reading) (bytes : List ℕ) (k : ℕ) (c : Context) (p : ℕ)
+    → Tells (directory_spots depth number bytes k c p)
 directory zero number bytes k c p = tt
 directory (suc depth) number bytes k c p =
-    each (entry_spots (directory_spots depth number bytes k) number bytes c k p) (entry_places number bytes p)
-    (λ e. valued (directory_spots depth number bytes k) c k p (number_at number 2 bytes e) e (entry_value number bytes e) (tells number bytes e) (directory depth number bytes k))
+    each (entry_spots (directory_spots depth number bytes k) number bytes c k p)
+    (entry_places number bytes p)
+    (λ e. valued (directory_spots depth number bytes k) c k p (number_at number 2 bytes e) e
+    (entry_value number bytes e) (tells number bytes e) (directory depth number bytes k))
 
-after : (rest : ℕ → List Spot) (x : Result ℕ Fault) → ((p : ℕ) → Tells (rest p)) → Tells (spots_after rest x)
+after : (rest : ℕ → List Spot) (x : Result ℕ Fault) → ((p : ℕ) → Tells (rest p))
+    → Tells (spots_after rest x)
 after rest (Err fault) h = tt
 after rest (Ok next) h = h next
 
-chain : (left : ℕ) (number : Reading) (bytes : List ℕ) (k p : ℕ) → Tells (chain_spots left number bytes k p)
+chain : (left : ℕ) (number : Reading) (bytes : List ℕ) (k p : ℕ)
+    → Tells (chain_spots left number bytes k p)
 chain zero number bytes k p = tt
 chain (suc left) number bytes k p = by_zero (p == 0) (chain left number bytes (k + 1))
   where
     by_zero : (b : Bool) → ((q : ℕ) → Tells (chain_spots left number bytes (k + 1) q)) → Tells
-        (elim b as (λ c. List Spot) [ true ↦ [] | false ↦ directory_spots (depth_of Tiff) number bytes k Tiff p ++ spots_after (chain_spots left number bytes (k + 1)) (directory_end number bytes p) ])
+        (elim b as (λ c. List Spot) [
+          | true ↦ []
+          | false ↦ directory_spots (depth_of Tiff) number bytes k Tiff p
+              ++ spots_after (chain_spots left number bytes (k + 1)) (directory_end number bytes p)
+        ])
     by_zero true h = tt
     by_zero false h =
-        joined (directory_spots (depth_of Tiff) number bytes k Tiff p) (spots_after (chain_spots left number bytes (k + 1)) (directory_end number bytes p))
-        (directory (depth_of Tiff) number bytes k Tiff p) (after (chain_spots left number bytes (k + 1)) (directory_end number bytes p) h)
+        joined (directory_spots (depth_of Tiff) number bytes k Tiff p)
+        (spots_after (chain_spots left number bytes (k + 1)) (directory_end number bytes p))
+        (directory (depth_of Tiff) number bytes k Tiff p)
+        (after (chain_spots left number bytes (k + 1)) (directory_end number bytes p) h)
 
 -- the same of located fields
 abbrev pub AllTell : List Located → Type 0
@@ -172,11 +212,16 @@ spots_tell [] h = tt
 spots_tell (Holds f e p ∷ spots) h = (h.0, spots_tell spots h.1)
 spots_tell (Opens c q ∷ spots) h = spots_tell spots h
 
-ordered_tell : (number : Reading) (bytes : List ℕ) → AllTell (located_of (ordered_spots number bytes))
+ordered_tell : (number : Reading) (bytes : List ℕ)
+    → AllTell (located_of (ordered_spots number bytes))
 unfolding ordered_spots
-ordered_tell number bytes = spots_tell (chain_spots 8 number bytes 0 (number_at number 4 bytes 4)) (chain 8 number bytes 0 (number_at number 4 bytes 4))
+ordered_tell number bytes =
+    spots_tell (chain_spots 8 number bytes 0 (number_at number 4 bytes 4))
+    (chain 8 number bytes 0 (number_at number 4 bytes 4))
 
-by_header : (x : Result Order Fault) (bytes : List ℕ) → AllTell (elim x as (λ r. List Located) [ Ok order ↦ located_of (ordered_spots (number_of order) bytes) | Err fault ↦ [] ])
+by_header : (x : Result Order Fault) (bytes : List ℕ)
+    → AllTell (elim x as (λ r. List Located)
+    [ Ok order ↦ located_of (ordered_spots (number_of order) bytes) | Err fault ↦ [] ])
 by_header (Ok order) bytes = ordered_tell (number_of order) bytes
 by_header (Err fault) bytes = tt
 
@@ -190,21 +235,26 @@ located_tells bytes = by_header (header bytes) bytes
 told_twice : (e d : ℕ) (v : Value) → told_in e (told_in d v) ≡ told_in e v
 told_twice e d (value.Undefined xs place) = by_test (nat_le (length xs) 4)
   where
-    by_test : (b : Bool) → ◌≡◌ {A = Value} (value.Undefined xs (if b then e + 8 else (if b then d + 8 else place))) (value.Undefined xs (if b then e + 8 else place))
+    by_test : (b : Bool)
+        → ◌≡◌ {A = Value} (value.Undefined xs (if b then e + 8 else (if b then d + 8 else place)))
+        (value.Undefined xs (if b then e + 8 else place))
     by_test true = refl
     by_test false = refl
 told_twice e d (value.Unknown type count place) = refl
 told_twice e d _ = refl
 
-settle_one : (l : Located) (g : Field) → told_at l.entry l.field ≡ l.field → told_at 0 l.field ≡ told_at 0 g → told_at l.entry g ≡ l.field
+settle_one : (l : Located) (g : Field) → told_at l.entry l.field ≡ l.field
+    → told_at 0 l.field ≡ told_at 0 g → told_at l.entry g ≡ l.field
 settle_one l g t u =
-    let twice : (f : Field) → told_at l.entry (told_at 0 f) ≡ told_at l.entry f = λ f. ap (λ (v : Value). ◌-with f v) (told_twice l.entry 0 f.value) in
+    let twice : (f : Field) → told_at l.entry (told_at 0 f) ≡ told_at l.entry f =
+    λ f. ap (λ (v : Value). ◌-with f v) (told_twice l.entry 0 f.value) in
     sym (twice g) ∙ (ap (told_at l.entry) (sym u) ∙ (twice l.field ∙ t))
   where
     ◌-with : Field → Value → Field
     ◌-with f v = record { tag = f.tag; ifd_num = f.ifd_num; value = v }
 
-pub settled : (ls : List Located) (gs : List Field) → AllTell ls → untold (map field_of ls) ≡ untold gs → told_by ls gs ≡ map field_of ls
+pub settled : (ls : List Located) (gs : List Field) → AllTell ls
+    → untold (map field_of ls) ≡ untold gs → told_by ls gs ≡ map field_of ls
 settled [] [] h u = refl
 settled [] (g ∷ gs) h u = refl
 settled (l ∷ ls) [] h u = absurd (cons_nil u)
@@ -217,5 +267,7 @@ settled (l ∷ ls) (g ∷ gs) h u =
     let b = settled ls gs h.1 p.1 in
     rw (a, b) refl
   where
-    heads : ◌≡◌ {A = List Field} (told_at 0 l.field ∷ untold (map field_of ls)) (told_at 0 g ∷ untold gs) → (told_at 0 l.field ≡ told_at 0 g) × (untold (map field_of ls) ≡ untold gs)
+    heads : ◌≡◌ {A = List Field} (told_at 0 l.field ∷ untold (map field_of ls))
+        (told_at 0 g ∷ untold gs)
+        → (told_at 0 l.field ≡ told_at 0 g) × (untold (map field_of ls) ≡ untold gs)
     heads u = (cc, cc)

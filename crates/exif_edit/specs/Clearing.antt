@@ -8,8 +8,8 @@ use Rattle.exif_edit.specs.Causes.{Cause, of_data, ◌>>=◌}
 use Rattle.exif_edit.specs.Patches.{patched, zeros_over}
 use Rattle.exif_edit.specs.declared.patch.Patch.{Patch}
 
--- where the directory of the chain stands then: behind the header, or nowhere where there is no room for
--- its count and its next place
+-- where the directory of the chain stands then: behind the header, or nowhere where there is no room
+-- for its count and its next place
 abbrev pub empty_place : ℕ → ℕ
 empty_place total = if nat_lt total 14 then 0 else 8
 

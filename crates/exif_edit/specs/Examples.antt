@@ -20,36 +20,45 @@ described =
     ∷ 83 ∷ 97 ∷ 109 ∷ 112 ∷ 108 ∷ 101 ∷ 0 ∷ []
 
 -- a shorter one: 5 bytes at the old place, and zeros behind them
-shorter : set_answer described (record { 0 = Tiff; 1 = 0x10e }) (record { 0 = 0 }) (value.Ascii (codes "Blue" ∷ []))
+shorter : set_answer described (record { 0 = Tiff; 1 = 0x10e }) (record { 0 = 0 })
+    (value.Ascii (codes "Blue" ∷ []))
     ≡ Ok (77 ∷ 77 ∷ 0 ∷ 42 ∷ 0 ∷ 0 ∷ 0 ∷ 8
     ∷ 0 ∷ 1
     ∷ 1 ∷ 14 ∷ 0 ∷ 2 ∷ 0 ∷ 0 ∷ 0 ∷ 5 ∷ 0 ∷ 0 ∷ 0 ∷ 26
     ∷ 0 ∷ 0 ∷ 0 ∷ 0
     ∷ 66 ∷ 108 ∷ 117 ∷ 101 ∷ 0 ∷ 0 ∷ 0 ∷ [])
-unfolding set_patches checked_patches find_answer value_answer reading located ordered_spots trace ordered_trace
+unfolding set_patches checked_patches find_answer value_answer reading located ordered_spots trace
+    ordered_trace
 shorter = refl
 
 -- one that stands in the entry then: its old room is zeros
-inline : set_answer described (record { 0 = Tiff; 1 = 0x10e }) (record { 0 = 0 }) (value.Ascii (codes "Hi" ∷ []))
+inline : set_answer described (record { 0 = Tiff; 1 = 0x10e }) (record { 0 = 0 })
+    (value.Ascii (codes "Hi" ∷ []))
     ≡ Ok (77 ∷ 77 ∷ 0 ∷ 42 ∷ 0 ∷ 0 ∷ 0 ∷ 8
     ∷ 0 ∷ 1
     ∷ 1 ∷ 14 ∷ 0 ∷ 2 ∷ 0 ∷ 0 ∷ 0 ∷ 3 ∷ 72 ∷ 105 ∷ 0 ∷ 0
     ∷ 0 ∷ 0 ∷ 0 ∷ 0
     ∷ 0 ∷ 0 ∷ 0 ∷ 0 ∷ 0 ∷ 0 ∷ 0 ∷ [])
-unfolding set_patches checked_patches find_answer value_answer reading located ordered_spots trace ordered_trace
+unfolding set_patches checked_patches find_answer value_answer reading located ordered_spots trace
+    ordered_trace
 inline = refl
 
-longer : set_answer described (record { 0 = Tiff; 1 = 0x10e }) (record { 0 = 0 }) (value.Ascii (codes "Samples" ∷ []))
+longer : set_answer described (record { 0 = Tiff; 1 = 0x10e }) (record { 0 = 0 })
+    (value.Ascii (codes "Samples" ∷ []))
     ≡ Err too_long
-unfolding set_patches checked_patches find_answer value_answer reading located ordered_spots trace ordered_trace
+unfolding set_patches checked_patches find_answer value_answer reading located ordered_spots trace
+    ordered_trace
 longer = refl
 
-absent : set_answer described (record { 0 = Tiff; 1 = 0x10f }) (record { 0 = 0 }) (value.Ascii []) ≡ Err no_field
-unfolding set_patches checked_patches find_answer value_answer reading located ordered_spots trace ordered_trace
+absent : set_answer described (record { 0 = Tiff; 1 = 0x10f }) (record { 0 = 0 }) (value.Ascii [])
+    ≡ Err no_field
+unfolding set_patches checked_patches find_answer value_answer reading located ordered_spots trace
+    ordered_trace
 absent = refl
 
 -- strips may not be moved
-strips : set_answer described (record { 0 = Tiff; 1 = 0x111 }) (record { 0 = 0 }) (value.Long (26 ∷ [])) ≡ Err place_named
+strips : set_answer described (record { 0 = Tiff; 1 = 0x111 }) (record { 0 = 0 })
+    (value.Long (26 ∷ [])) ≡ Err place_named
 unfolding set_patches
 strips = refl
 

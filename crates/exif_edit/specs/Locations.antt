@@ -1,4 +1,5 @@
--- Where the fields of TIFF data and their directories stand (TIFF 6.0, section 2; Exif 2.32, 4.6.3).
+-- Where the fields of TIFF data and their directories stand (TIFF 6.0, section 2; Exif 2.32,
+-- 4.6.3).
 use Rattle.std.specs.Prelude.{ℕ, zero, suc, ◌+◌, ◌==◌, true, false, List, [], ◌∷◌, ◌++◌, Option, Some, None, Result, Ok, Err}
 use Rattle.std.specs.List.{flat_map}
 use Rattle.exif_base.specs.Bytes.{Reading, number_at}
@@ -11,8 +12,8 @@ use Rattle.exif_types.specs.declared.field.Field.{Field}
 use Rattle.exif_tiff.specs.declared.fault.Fault.{Fault}
 use Rattle.exif_tiff.specs.Trace.{entry_value, entry_places, directory_end, child_of, depth_of, header}
 
--- what is found on the way: a field, with the place of its entry and that of the directory which has
--- it; or a child directory, with its place
+-- what is found on the way: a field, with the place of its entry and that of the directory which
+-- has it; or a child directory, with its place
 pub data Spot : Type 0 where
   Holds : Field → ℕ → ℕ → Spot
   Opens : Context → ℕ → Spot

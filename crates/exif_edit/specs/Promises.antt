@@ -24,7 +24,8 @@ use Rattle.exif_edit.specs.Walked.{entry_of}
 abbrev pub ReadAs : List ℕ → List Field → List Fault → Type 0
 ReadAs bytes fields faults =
     (lenient : Bool)
-    → raw_answer lenient None bytes ≡ answer_of lenient (record { fields = fields; faults = faults })
+    → raw_answer lenient None bytes
+    ≡ answer_of lenient (record { fields = fields; faults = faults })
 
 -- the last field of a name has another value, and all else is as it was
 pub record IsSet (old : List ℕ) (tag : Tag) (k : In) (value : Value) (new : List ℕ) : Type 0 where

@@ -19,9 +19,9 @@ use Rattle.exif_edit.specs.Readings.{Read, reads_as}
 use Rattle.exif_edit.specs.declared.patch.Patch.{Patch}
 use Rattle.exif_edit.specs.declared.patch.Span.{Span}
 
--- the tags of context Tiff whose values say where other bytes stand, or how many: strips, free bytes,
--- tiles, child directories, thumbnails and their tables (TIFF 6.0, sections 8, 15, 22 and its index of
--- tags; TIFF/EP, SubIFDs; Exif 2.32, 4.6.3)
+-- the tags of context Tiff whose values say where other bytes stand, or how many: strips, free
+-- bytes, tiles, child directories, thumbnails and their tables (TIFF 6.0, sections 8, 15, 22 and its
+-- index of tags; TIFF/EP, SubIFDs; Exif 2.32, 4.6.3)
 abbrev pub place_tags : List ℕ
 place_tags =
     0x111 ∷ 0x117 ∷ 0x120 ∷ 0x121 ∷ 0x144 ∷ 0x145 ∷ 0x14a ∷ 0x201 ∷ 0x202 ∷ 0x207 ∷ 0x208 ∷ 0x209
@@ -110,7 +110,8 @@ expected tag k value e bytes read =
 
 -- patches, if what they make is read so
 abbrev pub checked : Read → List ℕ → List Patch → Result (List Patch) Cause
-checked read bytes patches = if reads_as (patched patches bytes) read then Ok patches else Err shared
+checked read bytes patches =
+    if reads_as (patched patches bytes) read then Ok patches else Err shared
 
 -- the patches of the last value of a name
 unfoldable pub checked_patches : List ℕ → Tag → In → Value → Result (List Patch) Cause

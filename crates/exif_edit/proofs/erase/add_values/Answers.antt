@@ -9,5 +9,9 @@ pub loop-preserved : goal.loop-preserved
 loop-preserved c = record {
   room = λ h. omega (arith, c.loop.invariant.room);
   bound = omega (arith, c.loop.invariant.bound);
-  rest = value_on (value_span (number_of c.args.order) c.args.bytes.now) c.loop.at c.args.count c.loop.counter c.loop.patches.items c.push.new.self.items _ c.loop-test.true (c.in_ok-push.ensures.items ∙ ap (λ p. c.loop.patches.items ++ p ∷ []) (c.in_ok-patch.ensures ∙ ap zeros_over c.value_span-span.ensures)) c.loop.invariant.rest;
+  rest = value_on (value_span (number_of c.args.order) c.args.bytes.now) c.loop.at c.args.count
+      c.loop.counter c.loop.patches.items c.push.new.self.items _ c.loop-test.true
+      (c.in_ok-push.ensures.items
+      ∙ ap (λ p. c.loop.patches.items ++ p ∷ [])
+      (c.in_ok-patch.ensures ∙ ap zeros_over c.value_span-span.ensures)) c.loop.invariant.rest;
 }

@@ -10,6 +10,10 @@ abbrev pub invariant-loop : goal.invariant-loop
 invariant-loop l = record {
   room : l.counter < l.count → l.at + 12 * (l.count - l.counter) ≤ length l.bytes;
   bound : l.at ≡ l.first + 12 * l.counter;
-  rest : l.patches.items ++ map zeros_over (map (value_span (number_of l.order) l.bytes) (spaced l.at 12 (l.count - l.counter)))
-      ≡ l.fn.patches.items ++ map zeros_over (map (value_span (number_of l.order) l.bytes) (spaced l.first 12 l.count));
+  rest : l.patches.items
+      ++ map zeros_over
+      (map (value_span (number_of l.order) l.bytes) (spaced l.at 12 (l.count - l.counter)))
+      ≡ l.fn.patches.items
+      ++ map zeros_over
+      (map (value_span (number_of l.order) l.bytes) (spaced l.first 12 l.count));
 }

@@ -5,5 +5,6 @@ use Rattle.exif_edit.proofs.erase.erase_places.Goals as goal
 
 pub returns-clause-erased : goal.returns-clause-erased
 returns-clause-erased c =
-    subst (λ xs. IsErased c.args.bytes.now xs) (sym (rw c.as_slice.ensures.value at c.apply.ensures.value))
+    subst (λ xs. IsErased c.args.bytes.now xs)
+    (sym (rw c.as_slice.ensures.value at c.apply.ensures.value))
     (erased_sound c.args.bytes.now c.in_ok-patches.patches.items c.in_ok-patches.ensures.answer)

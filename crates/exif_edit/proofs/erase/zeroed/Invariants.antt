@@ -8,5 +8,7 @@ use Rattle.exif_edit.proofs.erase.zeroed.Given as goal
 -- what is left of the directories adds what all of them do
 abbrev pub invariant-loop-place : goal.invariant-loop-place
 invariant-loop-place l =
-    l.patches.items ++ map zeros_over (flat_map (directory_spans (number_of l.order) l.bytes) (drop l.place-index l.directories))
+    l.patches.items
+    ++ map zeros_over
+    (flat_map (directory_spans (number_of l.order) l.bytes) (drop l.place-index l.directories))
     ≡ map zeros_over (flat_map (directory_spans (number_of l.order) l.bytes) l.directories)

@@ -6,5 +6,6 @@ use Rattle.exif_edit.proofs.file.apply_at.Given as goal
 abbrev pub invariant-loop-patch : goal.invariant-loop-patch
 invariant-loop-patch l = record {
   len : length l.file ≡ length l.fn.file;
-  rest : patched (map (shifted l.place) (drop l.patch-index l.patches)) l.file ≡ patched (map (shifted l.place) l.patches) l.fn.file;
+  rest : patched (map (shifted l.place) (drop l.patch-index l.patches)) l.file
+      ≡ patched (map (shifted l.place) l.patches) l.fn.file;
 }

@@ -7,5 +7,8 @@ use Rattle.exif_edit.proofs.file.erase_all_in_file.Goals as goal
 
 pub returns-clause-edited : goal.returns-clause-edited
 returns-clause-edited c =
-    subst (λ xs. IsEditedIn clear_patches c.args.file.now xs) (sym (rw c.as_slice.ensures.value at c.apply.ensures.value))
-    (file_sound clear_patches c.args.file.now c.in_ok-patches.patches.items clear_fits (clear_file_answered c.args.file.now c.in_ok-patches.patches.items c.in_ok-patches.ensures.answer))
+    subst (λ xs. IsEditedIn clear_patches c.args.file.now xs)
+    (sym (rw c.as_slice.ensures.value at c.apply.ensures.value))
+    (file_sound clear_patches c.args.file.now c.in_ok-patches.patches.items clear_fits
+    (clear_file_answered c.args.file.now c.in_ok-patches.patches.items
+    c.in_ok-patches.ensures.answer))

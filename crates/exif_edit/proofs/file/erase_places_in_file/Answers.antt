@@ -7,5 +7,7 @@ use Rattle.exif_edit.proofs.file.erase_places_in_file.Goals as goal
 
 pub returns-clause-edited : goal.returns-clause-edited
 returns-clause-edited c =
-    subst (λ xs. IsEditedIn erase_patches c.args.file.now xs) (sym (rw c.as_slice.ensures.value at c.apply.ensures.value))
-    (file_sound erase_patches c.args.file.now c.in_ok-patches.patches.items erase_fits c.in_ok-patches.ensures.answer)
+    subst (λ xs. IsEditedIn erase_patches c.args.file.now xs)
+    (sym (rw c.as_slice.ensures.value at c.apply.ensures.value))
+    (file_sound erase_patches c.args.file.now c.in_ok-patches.patches.items erase_fits
+    c.in_ok-patches.ensures.answer)

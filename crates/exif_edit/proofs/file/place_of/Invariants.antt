@@ -6,4 +6,5 @@ use Rattle.exif_edit.proofs.file.place_of.Given as goal
 
 abbrev pub invariant-loop-place : goal.invariant-loop-place
 invariant-loop-place l =
-    find (serves l.file l.old l.patches) (spaced l.place 1 (l.count - l.place)) ≡ place_for l.file l.old l.patches
+    find (serves l.file l.old l.patches) (spaced l.place 1 (l.count - l.place))
+    ≡ place_for l.file l.old l.patches

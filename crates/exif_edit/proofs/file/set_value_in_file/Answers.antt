@@ -8,5 +8,8 @@ use Rattle.exif_edit.proofs.file.set_value_in_file.Goals as goal
 pub returns-clause-edited : goal.returns-clause-edited
 returns-clause-edited c =
     let edit : Edit = λ old. set_patches old c.args.tag c.args.ifd_num c.args.value.now in
-    subst (λ xs. IsEditedIn edit c.args.file.now xs) (sym (rw c.as_slice.ensures.value at c.apply.ensures.value))
-    (file_sound edit c.args.file.now c.in_ok-patches.patches.items (λ old ps h. set_fits old ps c.args.tag c.args.ifd_num c.args.value.now h) c.in_ok-patches.ensures.answer)
+    subst (λ xs. IsEditedIn edit c.args.file.now xs)
+    (sym (rw c.as_slice.ensures.value at c.apply.ensures.value))
+    (file_sound edit c.args.file.now c.in_ok-patches.patches.items
+    (λ old ps h. set_fits old ps c.args.tag c.args.ifd_num c.args.value.now h)
+    c.in_ok-patches.ensures.answer)

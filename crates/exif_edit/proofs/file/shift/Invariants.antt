@@ -7,5 +7,6 @@ use Rattle.exif_edit.proofs.file.shift.Given as goal
 abbrev pub invariant-loop-patch : goal.invariant-loop-patch
 invariant-loop-patch l = record {
   left : All (FitsIn l.len) (drop l.patch-index l.patches);
-  rest : take l.patch-index l.patches ++ map (shifted l.place) (drop l.patch-index l.patches) ≡ map (shifted l.place) l.fn.patches;
+  rest : take l.patch-index l.patches ++ map (shifted l.place) (drop l.patch-index l.patches)
+      ≡ map (shifted l.place) l.fn.patches;
 }

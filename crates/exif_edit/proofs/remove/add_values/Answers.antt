@@ -18,5 +18,10 @@ pub loop-preserved : goal.loop-preserved
 loop-preserved c = record {
   room = λ h. omega (arith, c.loop.invariant.room);
   bound = omega (arith, c.loop.invariant.bound);
-  rest = passed_on (λ es. map zeros_over (map (value_span (number_of c.args.order) c.args.bytes.now) es)) (zeros_append (value_span (number_of c.args.order) c.args.bytes.now)) (has_tag (number_of c.args.order) c.args.bytes.now c.args.number) c.loop.at c.whole_entries-count.result c.loop.counter c.loop.patches.items c.add_value.new.patches.items _ c.loop-test.true c.in_ok-add_value.ensures c.loop.invariant.rest;
+  rest = passed_on
+      (λ es. map zeros_over (map (value_span (number_of c.args.order) c.args.bytes.now) es))
+      (zeros_append (value_span (number_of c.args.order) c.args.bytes.now))
+      (has_tag (number_of c.args.order) c.args.bytes.now c.args.number) c.loop.at
+      c.whole_entries-count.result c.loop.counter c.loop.patches.items c.add_value.new.patches.items
+      _ c.loop-test.true c.in_ok-add_value.ensures c.loop.invariant.rest;
 }

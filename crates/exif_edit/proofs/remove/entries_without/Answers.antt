@@ -10,11 +10,22 @@ use Rattle.exif_edit.proofs.remove.entries_without.Goals as goal
 
 pub loop-preserved : goal.loop-preserved
 loop-preserved c =
-    let few : length (filter (λ e. not (has_tag (number_of c.args.order) c.args.bytes.now c.args.number e)) (c.loop.at ∷ [])) ≤ 1 = few_passed (λ e. not (has_tag (number_of c.args.order) c.args.bytes.now c.args.number e)) (c.loop.at ∷ []) in
+    let few : length
+    (filter (λ e. not (has_tag (number_of c.args.order) c.args.bytes.now c.args.number e))
+    (c.loop.at ∷ [])) ≤ 1 = few_passed
+    (λ e. not (has_tag (number_of c.args.order) c.args.bytes.now c.args.number e))
+    (c.loop.at ∷ []) in
     record {
       room = λ h. omega (arith, c.loop.invariant.room);
       bound = omega (arith, c.loop.invariant.bound);
       few = omega (arith, c.loop.invariant.few, few, c.in_ok-keep.ensures.count);
-      count = counted_on (λ e. not (has_tag (number_of c.args.order) c.args.bytes.now c.args.number e)) c.loop.at c.args.count c.loop.counter c.loop.kept.count c.keep.new.kept.count _ c.loop-test.true c.in_ok-keep.ensures.count c.loop.invariant.count;
-      text = passed_on (entries_text c.args.bytes.now) (flat_map-append (bytes_at 12 c.args.bytes.now)) (λ e. not (has_tag (number_of c.args.order) c.args.bytes.now c.args.number e)) c.loop.at c.args.count c.loop.counter c.loop.kept.text.items c.keep.new.kept.text.items _ c.loop-test.true c.in_ok-keep.ensures.text c.loop.invariant.text;
+      count = counted_on
+          (λ e. not (has_tag (number_of c.args.order) c.args.bytes.now c.args.number e)) c.loop.at
+          c.args.count c.loop.counter c.loop.kept.count c.keep.new.kept.count _ c.loop-test.true
+          c.in_ok-keep.ensures.count c.loop.invariant.count;
+      text = passed_on (entries_text c.args.bytes.now)
+          (flat_map-append (bytes_at 12 c.args.bytes.now))
+          (λ e. not (has_tag (number_of c.args.order) c.args.bytes.now c.args.number e)) c.loop.at
+          c.args.count c.loop.counter c.loop.kept.text.items c.keep.new.kept.text.items _
+          c.loop-test.true c.in_ok-keep.ensures.text c.loop.invariant.text;
     }

@@ -12,8 +12,16 @@ invariant-loop l = record {
   room : l.counter < l.count → l.at + 12 * (l.count - l.counter) ≤ length l.bytes;
   bound : l.at ≡ l.first + 12 * l.counter;
   few : l.kept.count ≤ l.counter;
-  count : l.kept.count + length (filter (λ e. not (has_tag (number_of l.order) l.bytes l.number e)) (spaced l.at 12 (l.count - l.counter)))
-      ≡ length (filter (λ e. not (has_tag (number_of l.order) l.bytes l.number e)) (spaced l.first 12 l.count));
-  text : l.kept.text.items ++ entries_text l.bytes (filter (λ e. not (has_tag (number_of l.order) l.bytes l.number e)) (spaced l.at 12 (l.count - l.counter)))
-      ≡ entries_text l.bytes (filter (λ e. not (has_tag (number_of l.order) l.bytes l.number e)) (spaced l.first 12 l.count));
+  count : l.kept.count + length
+      (filter (λ e. not (has_tag (number_of l.order) l.bytes l.number e))
+      (spaced l.at 12 (l.count - l.counter)))
+      ≡ length (filter (λ e. not (has_tag (number_of l.order) l.bytes l.number e))
+      (spaced l.first 12 l.count));
+  text : l.kept.text.items
+      ++ entries_text l.bytes
+      (filter (λ e. not (has_tag (number_of l.order) l.bytes l.number e))
+      (spaced l.at 12 (l.count - l.counter)))
+      ≡ entries_text l.bytes
+      (filter (λ e. not (has_tag (number_of l.order) l.bytes l.number e))
+      (spaced l.first 12 l.count));
 }

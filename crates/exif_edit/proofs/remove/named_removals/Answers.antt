@@ -9,33 +9,58 @@ use Rattle.exif_edit.proofs.remove.named_removals.Goals as goal
 pub returns-in_err-parsed-clause-answer : goal.returns-in_err-parsed-clause-answer
 returns-in_err-parsed-clause-answer c =
     let p = err_from_is_err_and c.from_residual.result c.from_residual.ensures.1 in
-    rw p.1 (remove_fault c.in_err-parsed.field-0.0 c.args.bytes.now c.args.tag c.args.ifd_num p.0 c.in_err-parsed.ensures.reads p.2)
+    rw p.1 (remove_fault c.in_err-parsed.field-0.0 c.args.bytes.now c.args.tag c.args.ifd_num p.0
+    c.in_err-parsed.ensures.reads p.2)
 
 pub locations-requires-clause-header : goal.locations-requires-clause-header
-locations-requires-clause-header c = header_named c.args.bytes.now (read_of c.in_ok-parsed.parsed) c.in_ok-parsed.ensures.reads
+locations-requires-clause-header c =
+    header_named c.args.bytes.now (read_of c.in_ok-parsed.parsed) c.in_ok-parsed.ensures.reads
 
 pub directories_with-requires : goal.directories_with-requires
-directories_with-requires c = rw (c.as_slice.ensures.value, c.entries.ensures) (as_many c.args.bytes.now (read_of c.in_ok-parsed.parsed) c.in_ok-walk.walk.entries c.in_ok-parsed.ensures.reads c.in_ok-walk.ensures.entries)
+directories_with-requires c =
+    rw (c.as_slice.ensures.value, c.entries.ensures)
+    (as_many c.args.bytes.now (read_of c.in_ok-parsed.parsed) c.in_ok-walk.walk.entries
+    c.in_ok-parsed.ensures.reads c.in_ok-walk.ensures.entries)
 
 pub returns-then-is_empty-clause-answer : goal.returns-then-is_empty-clause-answer
 returns-then-is_empty-clause-answer c =
-    none_named c.args.bytes.now c.args.tag c.args.ifd_num (read_of c.in_ok-parsed.parsed) c.in_ok-walk.walk.entries c.in_ok-places.places.items c.in_ok-parsed.ensures.reads c.in_ok-walk.ensures.entries (rw (c.as_slice.ensures.value, c.entries.ensures) at c.in_ok-places.ensures) (rw c.as_slice-places.ensures.value at (sym c.is_empty.ensures ∙ c.if-is_empty.true))
+    none_named c.args.bytes.now c.args.tag c.args.ifd_num (read_of c.in_ok-parsed.parsed)
+    c.in_ok-walk.walk.entries c.in_ok-places.places.items c.in_ok-parsed.ensures.reads
+    c.in_ok-walk.ensures.entries
+    (rw (c.as_slice.ensures.value, c.entries.ensures) at c.in_ok-places.ensures)
+    (rw c.as_slice-places.ensures.value at (sym c.is_empty.ensures ∙ c.if-is_empty.true))
 
 pub patched-requires : goal.patched-requires
 patched-requires c =
-    rw (c.as_slice-2.ensures.value, c.in_ok-patches.ensures) (removals_fit c.order_named-order.result c.args.bytes.now c.args.tag.1 c.as_slice-places.result.now)
+    rw (c.as_slice-2.ensures.value, c.in_ok-patches.ensures)
+    (removals_fit c.order_named-order.result c.args.bytes.now c.args.tag.1
+    c.as_slice-places.result.now)
 
 pub returns-then-same-clause-answer : goal.returns-then-same-clause-answer
 returns-then-same-clause-answer c =
-    (remove_same c.args.bytes.now c.in_ok-new.new.items c.args.tag c.args.ifd_num (read_of c.in_ok-parsed.parsed) c.in_ok-walk.walk.entries c.in_ok-places.places.items c.in_ok-patches.patches.items c.drop_named.new.fields.items c.order_named-order.result
-    c.in_ok-parsed.ensures.reads c.in_ok-walk.ensures.entries (rw (c.as_slice.ensures.value, c.entries.ensures) at c.in_ok-places.ensures) c.order_named-order.ensures (rw c.as_slice-places.ensures.value at c.in_ok-patches.ensures) (rw c.as_slice-2.ensures.value at c.in_ok-new.ensures) c.drop_named.ensures
-    (rw c.as_slice-places.ensures.value at (sym c.is_empty.ensures ∙ c.if-is_empty.false)) c.in_ok-same.same (rw c.as_slice-3.ensures.value at c.in_ok-same.ensures)).0 c.if-same.true
+    (remove_same c.args.bytes.now c.in_ok-new.new.items c.args.tag c.args.ifd_num
+    (read_of c.in_ok-parsed.parsed) c.in_ok-walk.walk.entries c.in_ok-places.places.items
+    c.in_ok-patches.patches.items c.drop_named.new.fields.items c.order_named-order.result
+    c.in_ok-parsed.ensures.reads c.in_ok-walk.ensures.entries
+    (rw (c.as_slice.ensures.value, c.entries.ensures) at c.in_ok-places.ensures)
+    c.order_named-order.ensures (rw c.as_slice-places.ensures.value at c.in_ok-patches.ensures)
+    (rw c.as_slice-2.ensures.value at c.in_ok-new.ensures) c.drop_named.ensures
+    (rw c.as_slice-places.ensures.value at (sym c.is_empty.ensures ∙ c.if-is_empty.false))
+    c.in_ok-same.same (rw c.as_slice-3.ensures.value at c.in_ok-same.ensures)).0 c.if-same.true
 
 pub returns-then-same-clause-within : goal.returns-then-same-clause-within
-returns-then-same-clause-within c = named_fits c.args.bytes.now c.args.tag c.args.ifd_num c.in_ok-patches.patches.items (returns-then-same-clause-answer c)
+returns-then-same-clause-within c =
+    named_fits c.args.bytes.now c.args.tag c.args.ifd_num c.in_ok-patches.patches.items
+    (returns-then-same-clause-answer c)
 
 pub returns-clause-answer : goal.returns-clause-answer
 returns-clause-answer c =
-    (remove_same c.args.bytes.now c.in_ok-new.new.items c.args.tag c.args.ifd_num (read_of c.in_ok-parsed.parsed) c.in_ok-walk.walk.entries c.in_ok-places.places.items c.in_ok-patches.patches.items c.drop_named.new.fields.items c.order_named-order.result
-    c.in_ok-parsed.ensures.reads c.in_ok-walk.ensures.entries (rw (c.as_slice.ensures.value, c.entries.ensures) at c.in_ok-places.ensures) c.order_named-order.ensures (rw c.as_slice-places.ensures.value at c.in_ok-patches.ensures) (rw c.as_slice-2.ensures.value at c.in_ok-new.ensures) c.drop_named.ensures
-    (rw c.as_slice-places.ensures.value at (sym c.is_empty.ensures ∙ c.if-is_empty.false)) c.in_ok-same.same (rw c.as_slice-3.ensures.value at c.in_ok-same.ensures)).1 c.if-same.false
+    (remove_same c.args.bytes.now c.in_ok-new.new.items c.args.tag c.args.ifd_num
+    (read_of c.in_ok-parsed.parsed) c.in_ok-walk.walk.entries c.in_ok-places.places.items
+    c.in_ok-patches.patches.items c.drop_named.new.fields.items c.order_named-order.result
+    c.in_ok-parsed.ensures.reads c.in_ok-walk.ensures.entries
+    (rw (c.as_slice.ensures.value, c.entries.ensures) at c.in_ok-places.ensures)
+    c.order_named-order.ensures (rw c.as_slice-places.ensures.value at c.in_ok-patches.ensures)
+    (rw c.as_slice-2.ensures.value at c.in_ok-new.ensures) c.drop_named.ensures
+    (rw c.as_slice-places.ensures.value at (sym c.is_empty.ensures ∙ c.if-is_empty.false))
+    c.in_ok-same.same (rw c.as_slice-3.ensures.value at c.in_ok-same.ensures)).1 c.if-same.false

@@ -8,11 +8,14 @@ use Rattle.exif_edit.proofs.remove.removals.Given as goal
 -- what is left of the directories adds what all of them do
 abbrev pub invariant-loop-place : goal.invariant-loop-place
 invariant-loop-place l =
-    l.patches.items ++ flat_map (directory_patches l.order l.bytes l.number) (drop l.place-index l.places)
+    l.patches.items ++ flat_map (directory_patches l.order l.bytes l.number)
+    (drop l.place-index l.places)
     ≡ flat_map (directory_patches l.order l.bytes l.number) l.places
 
 -- so of their values
 abbrev pub invariant-loop-place-2 : goal.invariant-loop-place-2
 invariant-loop-place-2 l =
-    l.patches.items ++ map zeros_over (flat_map (taken_spans (number_of l.order) l.bytes l.number) (drop l.place-index l.places))
+    l.patches.items
+    ++ map zeros_over
+    (flat_map (taken_spans (number_of l.order) l.bytes l.number) (drop l.place-index l.places))
     ≡ removals l.order l.bytes l.number l.places

@@ -5,4 +5,5 @@ use Rattle.exif_edit.proofs.remove.untell.Given as goal
 -- those behind the index are as they were
 abbrev pub invariant-loop-field : goal.invariant-loop-field
 invariant-loop-field l =
-    take l.field-index l.fields ++ map (told_at 0) (drop l.field-index l.fields) ≡ untold l.fn.fields
+    take l.field-index l.fields ++ map (told_at 0) (drop l.field-index l.fields)
+    ≡ untold l.fn.fields

@@ -9,21 +9,45 @@ use Rattle.exif_edit.proofs.set.checked_patches.Goals as goal
 pub returns-in_err-found-clause-answer : goal.returns-in_err-found-clause-answer
 returns-in_err-found-clause-answer c =
     let p = err_from_is_err_and c.from_residual.result c.from_residual.ensures.1 in
-    rw (p.1, p.2) (refused_on c.in_err-found.field-0.0 (find_answer c.args.bytes.now c.args.tag c.args.ifd_num) (checked_patches c.args.bytes.now c.args.tag c.args.ifd_num c.args.value.now) c.in_err-found.ensures.answer
+    rw (p.1, p.2)
+    (refused_on c.in_err-found.field-0.0
+    (find_answer c.args.bytes.now c.args.tag c.args.ifd_num)
+    (checked_patches c.args.bytes.now c.args.tag c.args.ifd_num c.args.value.now)
+    c.in_err-found.ensures.answer
     (λ r h. set_find c.args.bytes.now c.args.tag c.args.ifd_num c.args.value.now r h))
 
 pub returns-in_err-edit-clause-answer : goal.returns-in_err-edit-clause-answer
 returns-in_err-edit-clause-answer c =
-    let p = err_from_is_err_and c.from_residual-in_err-edit.result c.from_residual-in_err-edit.ensures.1 in
-    rw (p.1, p.2) (refused_on c.in_err-edit.field-0.0 (value_answer c.order_named-order.result c.args.value.now c.in_ok-found.found.entry c.args.bytes.now) (checked_patches c.args.bytes.now c.args.tag c.args.ifd_num c.args.value.now) c.in_err-edit.ensures.answer
-    (λ r h. set_edit c.args.bytes.now c.args.tag c.args.ifd_num c.args.value.now (read_of c.in_ok-found.found.parsed) c.in_ok-found.found.entry c.order_named-order.result r c.in_ok-found.ensures.answer c.order_named-order.ensures h))
+    let p = err_from_is_err_and c.from_residual-in_err-edit.result
+    c.from_residual-in_err-edit.ensures.1 in
+    rw (p.1, p.2)
+    (refused_on c.in_err-edit.field-0.0
+    (value_answer c.order_named-order.result c.args.value.now c.in_ok-found.found.entry
+    c.args.bytes.now)
+    (checked_patches c.args.bytes.now c.args.tag c.args.ifd_num c.args.value.now)
+    c.in_err-edit.ensures.answer
+    (λ r h. set_edit c.args.bytes.now c.args.tag c.args.ifd_num c.args.value.now
+    (read_of c.in_ok-found.found.parsed) c.in_ok-found.found.entry c.order_named-order.result r
+    c.in_ok-found.ensures.answer c.order_named-order.ensures h))
 
 pub returns-then-same-clause-answer : goal.returns-then-same-clause-answer
 returns-then-same-clause-answer c =
-    (set_same c.args.bytes.now c.in_ok-new.new.items c.in_ok-edit.edit.patches.items c.args.tag c.args.ifd_num c.args.value.now c.in_ok-moved.moved (read_of c.in_ok-found.found.parsed) c.in_ok-found.found.entry c.in_ok-edit.edit.place c.set_field.new.fields.items c.order_named-order.result
-    c.in_ok-found.ensures.answer c.order_named-order.ensures c.in_ok-edit.ensures.answer (rw c.as_slice.ensures.value at c.in_ok-new.ensures) c.set_field.ensures c.in_ok-moved.ensures.answer c.in_ok-edit.ensures.place c.in_ok-same.same (rw c.as_slice-2.ensures.value at c.in_ok-same.ensures)).0 c.if-same.true
+    (set_same c.args.bytes.now c.in_ok-new.new.items c.in_ok-edit.edit.patches.items c.args.tag
+    c.args.ifd_num c.args.value.now c.in_ok-moved.moved (read_of c.in_ok-found.found.parsed)
+    c.in_ok-found.found.entry c.in_ok-edit.edit.place c.set_field.new.fields.items
+    c.order_named-order.result
+    c.in_ok-found.ensures.answer c.order_named-order.ensures c.in_ok-edit.ensures.answer
+    (rw c.as_slice.ensures.value at c.in_ok-new.ensures) c.set_field.ensures
+    c.in_ok-moved.ensures.answer c.in_ok-edit.ensures.place c.in_ok-same.same
+    (rw c.as_slice-2.ensures.value at c.in_ok-same.ensures)).0 c.if-same.true
 
 pub returns-clause-answer : goal.returns-clause-answer
 returns-clause-answer c =
-    (set_same c.args.bytes.now c.in_ok-new.new.items c.in_ok-edit.edit.patches.items c.args.tag c.args.ifd_num c.args.value.now c.in_ok-moved.moved (read_of c.in_ok-found.found.parsed) c.in_ok-found.found.entry c.in_ok-edit.edit.place c.set_field.new.fields.items c.order_named-order.result
-    c.in_ok-found.ensures.answer c.order_named-order.ensures c.in_ok-edit.ensures.answer (rw c.as_slice.ensures.value at c.in_ok-new.ensures) c.set_field.ensures c.in_ok-moved.ensures.answer c.in_ok-edit.ensures.place c.in_ok-same.same (rw c.as_slice-2.ensures.value at c.in_ok-same.ensures)).1 c.if-same.false
+    (set_same c.args.bytes.now c.in_ok-new.new.items c.in_ok-edit.edit.patches.items c.args.tag
+    c.args.ifd_num c.args.value.now c.in_ok-moved.moved (read_of c.in_ok-found.found.parsed)
+    c.in_ok-found.found.entry c.in_ok-edit.edit.place c.set_field.new.fields.items
+    c.order_named-order.result
+    c.in_ok-found.ensures.answer c.order_named-order.ensures c.in_ok-edit.ensures.answer
+    (rw c.as_slice.ensures.value at c.in_ok-new.ensures) c.set_field.ensures
+    c.in_ok-moved.ensures.answer c.in_ok-edit.ensures.place c.in_ok-same.same
+    (rw c.as_slice-2.ensures.value at c.in_ok-same.ensures)).1 c.if-same.false

@@ -3,11 +3,18 @@ use Rattle.exif_edit.proofs.SetSteps.{set_named, set_unknown, set_known}
 use Rattle.exif_edit.proofs.set.set_value_patches.Goals as goal
 
 pub returns-then-names_places-clause-answer : goal.returns-then-names_places-clause-answer
-returns-then-names_places-clause-answer c = set_named c.args.bytes.now c.args.tag c.args.ifd_num c.args.value.now (sym c.names_places.ensures ∙ c.if-names_places.true)
+returns-then-names_places-clause-answer c =
+    set_named c.args.bytes.now c.args.tag c.args.ifd_num c.args.value.now
+    (sym c.names_places.ensures ∙ c.if-names_places.true)
 
 pub returns-then-is_unknown-clause-answer : goal.returns-then-is_unknown-clause-answer
-returns-then-is_unknown-clause-answer c = set_unknown c.args.bytes.now c.args.tag c.args.ifd_num c.args.value.now (sym c.names_places.ensures ∙ c.if-names_places.false) (sym c.is_unknown.ensures ∙ c.if-is_unknown.true)
+returns-then-is_unknown-clause-answer c =
+    set_unknown c.args.bytes.now c.args.tag c.args.ifd_num c.args.value.now
+    (sym c.names_places.ensures ∙ c.if-names_places.false)
+    (sym c.is_unknown.ensures ∙ c.if-is_unknown.true)
 
 pub returns-clause-answer : goal.returns-clause-answer
 returns-clause-answer c =
-    rw (set_known c.args.bytes.now c.args.tag c.args.ifd_num c.args.value.now (sym c.names_places.ensures ∙ c.if-names_places.false) (sym c.is_unknown.ensures ∙ c.if-is_unknown.false)) at c.checked_patches.ensures.answer
+    rw (set_known c.args.bytes.now c.args.tag c.args.ifd_num c.args.value.now
+    (sym c.names_places.ensures ∙ c.if-names_places.false)
+    (sym c.is_unknown.ensures ∙ c.if-is_unknown.false)) at c.checked_patches.ensures.answer

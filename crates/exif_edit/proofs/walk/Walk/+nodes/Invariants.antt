@@ -16,8 +16,11 @@ decreases-entry g l = 2 * depth_of l.context - 1
 abbrev pub invariant-directory-loop : goal.invariant-directory-loop
 invariant-directory-loop g l =
     let number = g.E.Endian.number_of in
-    let entry = entry_spots (directory_spots (depth_of l.context - 1) number l.bytes l.ifd_num.0) number l.bytes l.context l.ifd_num.0 l.place in
+    let entry = entry_spots (directory_spots (depth_of l.context - 1) number l.bytes l.ifd_num.0)
+    number l.bytes l.context l.ifd_num.0 l.place in
     record {
       room : l.counter < l.end → l.at + 12 * (l.end - l.counter) ≤ length l.bytes;
-      follows : walked (flat_map entry (spaced l.at 12 (l.end - l.counter))) l.self ≡ walked (directory_spots (depth_of l.context) number l.bytes l.ifd_num.0 l.context l.place) l.fn.self;
+      follows : walked (flat_map entry (spaced l.at 12 (l.end - l.counter))) l.self
+          ≡ walked (directory_spots (depth_of l.context) number l.bytes l.ifd_num.0 l.context
+          l.place) l.fn.self;
     }
