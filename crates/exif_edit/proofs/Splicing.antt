@@ -1,11 +1,7 @@
 -- The Exif data of JPEG streams and WebP files can be replaced where they stand.
-use Rattle.std.proofs.Common.{◌≡◌, ◌≤◌, ◌<◌, ◌+◌, ◌-◌, ◌*◌, ◌^◌, ℕ, zero, suc, Bool, true, false, cond, eqb, if◌then◌else◌, List, [], ◌∷◌, ◌++◌, length, take, drop, replicate, codes, Option, Some, None, Result, Ok, Err, refl, sym, ap, subst, ◌∙◌, arith, append_assoc, append-nil}
+use Rattle.std.proofs.Common.{◌≡◌, ◌+◌, ◌*◌, ℕ, Bool, true, false, eqb, if◌then◌else◌, List, [], ◌∷◌, ◌++◌, length, replicate, Option, Some, None, Result, Ok, Err, refl, sym, ap, subst, ◌∙◌, append_assoc, append-nil}
 use Rattle.std.specs.Prelude.{nat_lt, ◌==◌}
 use Rattle.std.specs.List.{All, flat_map}
-use Rattle.std.proofs.lemmas.Bool.Decides.{nat_tests}
-use Rattle.std.proofs.lemmas.Grind.{common_steps}
-use Rattle.std.proofs.lemmas.List.{take_all, take-take}
-use Rattle.byteorder.specs.Endian.{little_number}
 use Rattle.exif_types.specs.Refusals.{Refusal}
 use Rattle.exif_containers.specs.Answer.{Answer, found, refused}
 use Rattle.exif_containers.specs.Jpeg.{broken_jpeg, not_jpeg, unexpected_soi, no_exif_in_jpeg, invalid_length, jpeg_answer}
@@ -14,7 +10,7 @@ use Rattle.exif_containers.specs.Webp.{webp_answer, broken_webp, not_webp, inval
 use Rattle.exif_containers.specs.WebpGrammar as webp
 use Rattle.exif_containers.proofs.LawsJpeg.{is_a_stream, stream_is_answered}
 use Rattle.exif_containers.proofs.LawsWebp.{file_is_answered, is_a_file}
-use Rattle.exif_edit.specs.Streams.{IsSpliced, Splices}
+use Rattle.exif_edit.specs.Streams.{Splices}
 
 pub refused_found : {Y : Type 0} (r : Refusal) (p rest : List ℕ)
     → ◌≡◌ {A = Answer} (refused r) (found p rest) → Y

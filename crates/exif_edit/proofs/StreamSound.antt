@@ -1,37 +1,27 @@
 -- What an answered edit in a file that is read once promises.
-use Rattle.std.proofs.Common.{◌≡◌, ◌≤◌, ◌<◌, ◌+◌, ◌-◌, ◌^◌, ◌⊎◌, inl, inr, min, ℕ, zero, suc, Bool, true, false, if◌then◌else◌, List, [], ◌∷◌, ◌++◌, length, map, take, drop, get_or, All, Option, Some, None, Result, Ok, Err, IfOk, IfErr, IfSome, refl, sym, ap, subst, ◌∙◌, arith, append_assoc, append-nil, length-append}
-use Rattle.std.specs.Prelude.{MatchOption, ⊤, nat_le, nat_lt}
+use Rattle.std.proofs.Common.{◌≡◌, ◌≤◌, ◌<◌, ◌+◌, ◌-◌, ◌^◌, ℕ, Bool, true, false, List, [], ◌∷◌, ◌++◌, length, map, take, drop, All, Option, Some, None, Ok, Err, refl, sym, ap, subst, ◌∙◌, arith, append_assoc, length-append}
+use Rattle.std.specs.Prelude.{nat_le, nat_lt}
 use Rattle.std.specs.List.{find}
-use Rattle.std.proofs.lemmas.Bool.{cases_lt}
 use Rattle.std.proofs.lemmas.Bool.Decides.{nat_tests}
-use Rattle.std.proofs.lemmas.Grind.{common_steps}
-use Rattle.std.proofs.Math.ListN.{drop_of_length-le}
-use Rattle.std.proofs.lemmas.List.{drop-append-le, length-take, length-take-le, take-append-le, take_all, take_at}
+use Rattle.std.proofs.lemmas.List.{drop-append-le, length-take, take-append-le, take_all}
 use Rattle.std.proofs.Math.Seq.{drop-append-add, drop-append_seam, take-append-add, take-append_seam}
-use Rattle.std.proofs.lemmas.List.Elements.{All-head, All-tail}
-use Rattle.std.specs.Io.KnownBytes.{Consumes, IsAtEnd, prepend_known}
+use Rattle.std.proofs.lemmas.List.Elements.{All-head}
 use Rattle.exif_base.specs.Bytes.{bytes_at}
-use Rattle.exif_base.specs.Told.{Skips, WhereTold}
-use Rattle.exif_types.specs.Failures.{Failure}
-use Rattle.exif_types.specs.Refusals.{Fails, IsInterrupted, Refusal, refusal_of}
-use Rattle.exif_types.specs.declared.error.Error.TheVariants as failure
 use Rattle.exif_isobmff.specs.Boxes.{all_boxes, and_then, box_at, box_size, filling, header_at, header_len}
 use Rattle.exif_isobmff.specs.HeifRefusals.{too_small}
 use Rattle.exif_isobmff.specs.Kinds.{kind_of}
 use Rattle.exif_isobmff.specs.HeifFile.{begins_heif, has_heif_brand, is_ftyp}
-use Rattle.exif_containers.specs.Answer.{Answer, found, refused}
+use Rattle.exif_containers.specs.Answer.{found}
 use Rattle.exif_containers.specs.Container.{answer_as, container_answer, data_of, format_in, unknown_format}
 use Rattle.exif_containers.specs.Jpeg.{jpeg_answer}
 use Rattle.exif_containers.specs.Webp.{webp_answer}
 use Rattle.exif_containers.specs.WebpGrammar.{print_header}
 use Rattle.exif_containers.specs.declared.container.Format.{Format}
 use Rattle.exif_containers.specs.declared.container.Format.TheVariants.{Tiff, Jpeg, Heif, WebP}
-use Rattle.exif_edit.specs.Causes.{Cause, Fails as FailsAs, cause_of, no_data, of_container, ◌>>=◌}
+use Rattle.exif_edit.specs.Causes.{of_container, ◌>>=◌}
 use Rattle.exif_edit.specs.InFiles.{Edit, IsEditedIn, shifted}
 use Rattle.exif_edit.specs.Patches.{FitsIn, patched, put_at}
-use Rattle.exif_edit.specs.Streams.{IsStopped, Stops, Tells, in_stream, piece_as, piece_in, place_before, whole_file}
-use Rattle.exif_edit.specs.declared.error.Error.{Error}
-use Rattle.exif_edit.specs.declared.error.Error.TheVariants as error
+use Rattle.exif_edit.specs.Streams.{in_stream, piece_as, piece_in, place_before, whole_file}
 use Rattle.exif_edit.specs.declared.patch.Patch.{Patch}
 use Rattle.exif_edit.proofs.CauseSteps.{bound, data_held, ok_same}
 use Rattle.exif_edit.proofs.FileSound.{StaysIn, shifted_fit, shifted_miss}
