@@ -1,6 +1,7 @@
 //! What is answered, written and kept where memory runs short.
 
 mod memory;
+mod rewriting;
 mod shortage;
 mod skips;
 mod write_memory;

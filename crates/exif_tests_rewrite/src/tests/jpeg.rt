@@ -2,6 +2,7 @@
 
 use super::rewritings::{BARE, BARE_AB, PLAIN, PLAIN_AB, Wish, is_refused, is_whole, jpeg};
 use exif_rewrite::Remove;
+use std::alloc::Global;
 use std::test::Fail;
 
 // A stream, a wish and what comes out.
@@ -183,6 +184,42 @@ fn broken_streams_are_refused(rt: HostRuntime) -> Result<(), Fail> {
     for row in &REFUSED {
         let (bytes, text, want) = *row;
         assert!(rt; is_refused(&jpeg(rt.alloc(), bytes, PLAIN), text, want));
+    }
+    Ok(())
+}
+
+// The codes of ITU-T T.81, table B.1, and those that it reserves: which go with all metadata where
+// nothing follows their length. Those without a length stand in front of the first scan here.
+const GOING: &[u8] = b"\x00\x01\xd0\xd1\xd2\xd3\xd4\xd5\xd6\xd7\
+\xe0\xe1\xe2\xe3\xe4\xe5\xe6\xe7\xe8\xe9\xea\xeb\xec\xed\xee\xef\xfe";
+
+// A stream of one unit of this code, with a length where it has one.
+fn stream_of(alloc: Global, code: u8) -> Result<Vec<u8>, Fail> {
+    let mut bytes = Vec::from_slice(alloc, b"\xff\xd8\xff")?;
+    bytes.push(code)?;
+    if !(code < 0x02 || (code >= 0xd0 && code < 0xd8)) {
+        bytes.extend_from_slice(b"\0\x02")?;
+    }
+    bytes.extend_from_slice(b"\xff\xd9")?;
+    Ok(bytes)
+}
+
+#[test]
+fn each_kind_of_unit(rt: HostRuntime) -> Result<(), Fail> {
+    for code in 0..0xffu8 {
+        if code == 0xd8 || code == 0xd9 {
+            continue;
+        }
+        let bytes = stream_of(rt.alloc(), code)?;
+        let plain = jpeg(rt.alloc(), &bytes, PLAIN);
+        assert!(rt; is_whole(&plain, &bytes));
+        let bare = jpeg(rt.alloc(), &bytes, BARE);
+        let left: &[u8] = if GOING.contains(&code) {
+            b"\xff\xd8\xff\xd9"
+        } else {
+            &bytes
+        };
+        assert!(rt; is_whole(&bare, left));
     }
     Ok(())
 }

@@ -1,0 +1,109 @@
+//! What is written again where memory is refused: all of it, or what is behind some request.
+//! `shortage` says which allocator these tests need.
+
+use super::shortage::{Outcome, in_turn};
+use exif::{Counted, Error, Exif, Tag};
+use exif_rewrite::{Remove, rewrite, rewrite_webp, scrubbed_exif};
+use exif_samples::readings::read_strictly;
+use std::alloc::Global;
+use std::test::Fail;
+
+// A lossless image of 2 by 3 pixels with alpha, and what it becomes with two bytes of Exif data.
+const FILE: &[u8] = b"RIFF\x12\0\0\0WEBPVP8L\x05\0\0\0/\x01\x80\0\x10\0";
+
+const FILE_AB: &[u8] =
+    b"RIFF\x2e\0\0\0WEBPVP8X\x0a\0\0\0\x18\0\0\0\x01\0\0\x02\0\0VP8L\x05\0\0\0/\x01\x80\0\x10\0\
+EXIF\x02\0\0\0ab";
+
+const STREAM: &[u8] = b"\xff\xd8\xff\xda\0\x02s\xff\xd9";
+
+const STREAM_AB: &[u8] = b"\xff\xd8\xff\xe1\0\x0aExif\0\0ab\xff\xda\0\x02s\xff\xd9";
+
+// A maker and an orientation, and the orientation alone.
+const DATA: &[u8] = b"MM\0*\0\0\0\x08\
+\0\x02\x01\x0f\0\x02\0\0\0\x04me!\0\x01\x12\0\x03\0\0\0\x01\0\x06\0\0\0\0\0\0";
+
+const UPRIGHT_DATA: &[u8] = b"MM\0*\0\0\0\x08\0\x01\x01\x12\0\x03\0\0\0\x01\0\x06\0\0\0\0\0\0";
+
+// What an answer comes to that is to send these bytes, of so much room that is left. Where memory
+// runs out, nothing was sent.
+fn sent(answer: Result<(), Error>, room: &[u8; 128], left: usize, bytes: &[u8]) -> Outcome {
+    let length = 128usize.saturating_sub(left);
+    match answer {
+        Ok(()) => Outcome::answered(&room[..length] == bytes),
+        Err(Error::OutOfMemory) if length == 0 => Outcome::Wants,
+        Err(_error) => Outcome::Wrong,
+    }
+}
+
+// A WebP file with new data.
+fn rewriting_webp(alloc: Global) -> Outcome {
+    let mut room = [0u8; 128];
+    let mut out = Counted::new(&mut room[..]);
+    let answer = rewrite_webp(
+        alloc,
+        &mut Counted::new(FILE),
+        &mut out,
+        Some(b"ab"),
+        Remove::Metadata,
+    );
+    let left = out.into_inner().len();
+    sent(answer, &room, left, FILE_AB)
+}
+
+// A file of either kind with new data.
+fn rewriting(alloc: Global, file: &[u8], bytes: &[u8]) -> Outcome {
+    let mut room = [0u8; 128];
+    let mut out = Counted::new(&mut room[..]);
+    let answer = rewrite(
+        alloc,
+        &mut Counted::new(file),
+        &mut out,
+        Some(b"ab"),
+        Remove::Metadata,
+    );
+    let left = out.into_inner().len();
+    sent(answer, &room, left, bytes)
+}
+
+// The orientation alone.
+fn keeping(alloc: Global, exif: &Exif) -> Outcome {
+    match scrubbed_exif(alloc, exif, &[Tag::Orientation]) {
+        Ok(Some(made)) => Outcome::answered(made.as_slice() == UPRIGHT_DATA),
+        Ok(None) => Outcome::Wrong,
+        Err(error) => Outcome::refused(&error),
+    }
+}
+
+#[test]
+fn a_webp_file_runs_out_of_memory(rt: HostRuntime) -> Result<(), Fail> {
+    let alloc = rt.alloc();
+    let wants = in_turn(&rt, || rewriting_webp(alloc))?;
+    assert!(rt; wants > 0);
+    Ok(())
+}
+
+#[test]
+fn a_file_runs_out_of_memory(rt: HostRuntime) -> Result<(), Fail> {
+    let alloc = rt.alloc();
+    let wants = in_turn(&rt, || rewriting(alloc, FILE, FILE_AB))?;
+    assert!(rt; wants > 0);
+    Ok(())
+}
+
+#[test]
+fn a_stream_wants_no_memory(rt: HostRuntime) -> Result<(), Fail> {
+    let alloc = rt.alloc();
+    let wants = in_turn(&rt, || rewriting(alloc, STREAM, STREAM_AB))?;
+    assert!(rt; wants == 0);
+    Ok(())
+}
+
+#[test]
+fn kept_fields_run_out_of_memory(rt: HostRuntime) -> Result<(), Fail> {
+    let alloc = rt.alloc();
+    let exif = read_strictly(alloc, DATA)?;
+    let wants = in_turn(&rt, || keeping(alloc, &exif))?;
+    assert!(rt; wants > 0);
+    Ok(())
+}
