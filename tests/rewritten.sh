@@ -41,6 +41,7 @@ if has djpeg cjpeg jpegtran exiftool; then
         check "its pixels stay" same_pixels "$file.jpg" djpeg
         exiftool -q -s -EXIF:all -XMP:all -IPTC:all -File:Comment "work/new.$file.jpg" >left
         check "exiftool shows nothing more" test ! -s left
+        check "scrubbed once more it is the same" sh -c '"$1" scrub "work/new.$2" twice && cmp twice "work/new.$2"' sh "$mexaldor" "$file.jpg"
         gives "scrub keeps the orientation of $file.jpg" 0 "$mexaldor" scrub --keep-orientation "work/$file.jpg" "work/new.$file.jpg"
         exiftool -q -n -s -EXIF:all -XMP:all -IPTC:all "work/new.$file.jpg" >left
         check "exiftool shows it alone" test "$(tr -s ' ' <left)" = "Orientation : 6"
@@ -61,6 +62,7 @@ if has cwebp dwebp webpmux exiftool; then
         check "its pixels stay" same_pixels "$file.webp" dwebp
         exiftool -q -s -EXIF:all -XMP:all "work/new.$file.webp" >left
         check "exiftool shows nothing more" test ! -s left
+        check "scrubbed once more it is the same" sh -c '"$1" scrub "work/new.$2" twice && cmp twice "work/new.$2"' sh "$mexaldor" "$file.webp"
         gives "scrub keeps the orientation of $file.webp" 0 "$mexaldor" scrub --keep-orientation "work/$file.webp" "work/new.$file.webp"
         check "exiftool shows it" test "$(exiftool -q -n -s3 -Orientation "work/new.$file.webp")" = 6
         check "webpmux reads the file" webpmux -info "work/new.$file.webp"
