@@ -1,2 +1,4 @@
+pub mod FileAnswers
+pub mod FileHeads
 pub mod FileSteps
 pub mod ScrubbedSteps

@@ -2,6 +2,7 @@
 #![tactic(auto)]
 
 pub mod by_head;
+pub mod laws;
 pub mod scrubbed;
 
 pub use by_head::rewrite;

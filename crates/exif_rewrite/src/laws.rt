@@ -1,0 +1,32 @@
+//! Laws of files that are written again, whatever container they are. Those of each container stand
+//! in its crate.
+
+ghost use Rattle.std.specs.Prelude.{ℕ, List, Option};
+ghost use Rattle.exif_rewrite_base.specs.declared.remove.Remove.{Remove};
+ghost use Rattle.exif_rewrite.specs.FileLaws.{IsFound, IsSettled};
+
+use exif_rewrite_jpeg::laws::{
+    jpeg_answers_what_was_put, jpeg_keeps_what_stays, jpeg_twice_is_once,
+};
+use exif_rewrite_webp::laws::{webp_answers_what_was_put, webp_twice_is_once};
+
+/// Reading a file that was written again finds the new Exif data, or that there are none.
+pub fn file_answers_what_was_put()
+    ensures { (remove : Remove) (put : Option (List ℕ)) (bytes : List ℕ)
+        → IsFound remove put bytes }
+{
+    jpeg_answers_what_was_put();
+    jpeg_keeps_what_stays();
+    webp_answers_what_was_put();
+}
+
+/// A file that was written again stays as it is when it is so written again.
+pub fn file_twice_is_once()
+    ensures { (remove : Remove) (put : Option (List ℕ)) (bytes : List ℕ)
+        → IsSettled remove put bytes }
+{
+    jpeg_keeps_what_stays();
+    jpeg_twice_is_once();
+    webp_answers_what_was_put();
+    webp_twice_is_once();
+}
