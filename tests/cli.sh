@@ -68,6 +68,27 @@ says "the refusal says why" "not UTF-8"
 gives "an argument that is no UTF-8 is refused" 1 sh -c '"$1" json "$(printf "files/\377.jpg")"' sh "$mexaldor"
 says "that refusal says why" "not UTF-8"
 
+gives "two hyphens end the options" 0 "$mexaldor" show -- files/whole.jpg
+if has exiftool; then
+    check "exiftool reads the same" python3 - objects <<'P'
+import json, subprocess, sys
+seen = 0
+for it in map(json.loads, open(sys.argv[1])):
+    if not it["path"].split("/")[-1].startswith("whole"):
+        continue
+    names = ["Orientation", "GPSLatitude", "GPSLongitude", "DateTimeOriginal", "Make"]
+    ran = subprocess.run(["exiftool", "-j", "-n", *("-" + name for name in names), it["path"]], capture_output=True)
+    theirs, ours = json.loads(ran.stdout)[0], it["summary"]
+    assert theirs["Orientation"] == ours["orientation"], theirs
+    assert abs(theirs["GPSLatitude"] - ours["latitude"]) < 1e-7, theirs
+    assert abs(theirs["GPSLongitude"] - ours["longitude"]) < 1e-7, theirs
+    assert theirs["DateTimeOriginal"].replace(":", "-", 2).replace(" ", "T") == ours["date_taken"], theirs
+    assert theirs["Make"] == ours["make"], theirs
+    seen += 1
+assert seen == 4, seen
+P
+fi
+
 # scrub
 fresh
 for file in whole.jpg whole.webp; do
