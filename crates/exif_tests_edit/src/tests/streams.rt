@@ -63,8 +63,10 @@ fn patches_are_those_of_the_whole_file(rt: HostRuntime) -> Result<(), Fail> {
 fn without_a_place_there_is_no_patch(rt: HostRuntime) -> Result<(), Fail> {
     let alloc = rt.alloc();
     for file in &STREAMS {
-        let found = erase_places_patches_of(alloc, &mut Counted::new(*file), file.len() as u64);
-        assert!(rt; matches!(found, Ok(patches) if patches.is_empty()));
+        match erase_places_patches_of(alloc, &mut Counted::new(*file), file.len() as u64) {
+            Ok(patches) => assert!(rt; patches.is_empty()),
+            Err(_) => assert!(rt; false),
+        }
     }
     Ok(())
 }
