@@ -145,6 +145,9 @@ for file in plain.jpg plain.webp; do
     holds "$file has its date" "2024-05-01T12:30:00"
     holds "$file has its fraction" "[28,10]"
 done
+gives "data with a fault are not written anew" 1 "$mexaldor" set -i work/faulty.jpg Artist=Somebody
+check "they stay" cmp files/faulty.jpg work/faulty.jpg
+gives "but a value that fits is set in them" 0 "$mexaldor" set -i work/faulty.jpg Orientation=1
 gives "a text is no number" 1 "$mexaldor" set -i work/whole.jpg Orientation=up
 gives "a place can't be set" 1 "$mexaldor" set -i work/whole.jpg ExifIFDPointer=8
 gives "a tag that is none is refused" 2 "$mexaldor" set -i work/whole.jpg Orientatoin=1

@@ -7,6 +7,13 @@ use std::alloc::Global;
 // millions.
 const LIMIT: u64 = 1_000_000;
 
+/// The fields of a file, or its first fault.
+pub fn read_strictly(alloc: Global, file: &[u8]) -> Result<Exif, Error> {
+    let mut reader = Reader::new();
+    reader.limit_entries(LIMIT);
+    reader.read_from_container(alloc, &mut Counted::new(file))
+}
+
 /// The fields of a file; soft faults are passed over.
 pub fn read(alloc: Global, file: &[u8]) -> Result<Exif, Error> {
     let mut reader = Reader::new();

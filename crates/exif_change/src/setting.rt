@@ -2,6 +2,7 @@
 
 use crate::block::{has_room, of_fields, with_fields, written};
 use crate::new_fields::type_of_new;
+use crate::reading::read_strictly;
 use crate::value_text::value_of;
 use crate::{Assignment, Refusal, read};
 use exif::{Exif, Field, In, Tag, Value};
@@ -21,7 +22,8 @@ pub struct Changed {
 
 /// The file with values set: in place where they fit, else by newly written Exif data, which JPEG
 /// and WebP files have room for. Of two values of one tag the last is set. A field that the file
-/// has keeps its type; one that it lacks has the type of the standard.
+/// has keeps its type; one that it lacks has the type of the standard. Data with a fault are not
+/// written anew, since what can't be read of them would be lost.
 pub fn set(
     alloc: Global,
     mut file: Vec<u8>,
@@ -30,7 +32,7 @@ pub fn set(
     let Some(format) = format_of(file.as_slice()) else {
         return Err(Refusal::UnknownFormat);
     };
-    let exif = fields_of(alloc, &file)?;
+    let exif = if_there(read(alloc, &file))?;
     let mut left = Vec::new(alloc);
     for assignment in assignments {
         let field = field_for(alloc, exif.as_ref(), assignment)?;
@@ -48,9 +50,9 @@ pub fn set(
     moved(alloc, &file, left.as_slice())
 }
 
-// The fields of a file, if it holds Exif data.
-fn fields_of(alloc: Global, file: &[u8]) -> Result<Option<Exif>, Refusal> {
-    match read(alloc, file) {
+// What was read of a file, if it holds Exif data.
+fn if_there(answer: Result<Exif, exif::Error>) -> Result<Option<Exif>, Refusal> {
+    match answer {
         Ok(exif) => Ok(Some(exif)),
         Err(exif::Error::NotFound(_)) => Ok(None),
         Err(error) => Err(Refusal::Reading(error)),
@@ -102,9 +104,10 @@ fn needs_room(error: &Error) -> bool {
     )
 }
 
-// The file with newly written Exif data, in which these fields are set.
+// The file with newly written Exif data, in which these fields are set. Data with a fault are
+// refused: what can't be read of them would be lost.
 fn moved(alloc: Global, file: &[u8], fields: &[Field]) -> Result<Changed, Refusal> {
-    let old = fields_of(alloc, file)?;
+    let old = if_there(read_strictly(alloc, file))?;
     let block = match &old {
         Some(exif) => with_fields(alloc, exif, fields)?,
         None => of_fields(alloc, fields)?,
