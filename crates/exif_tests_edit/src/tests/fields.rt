@@ -93,12 +93,7 @@ fn patches_are_a_directory_and_a_value(rt: HostRuntime) -> Result<(), Fail> {
 }
 
 // Whether an erasing is refused with this text, and the bytes stay.
-fn stays(
-    alloc: Global,
-    old: &[u8],
-    tag: Tag,
-    why: &str,
-) -> Result<bool, std::alloc::AllocError> {
+fn stays(alloc: Global, old: &[u8], tag: Tag, why: &str) -> Result<bool, std::alloc::AllocError> {
     let mut bytes = Vec::from_slice(alloc, old)?;
     let answer = erase_field(alloc, bytes.as_mut_slice(), tag, In(0));
     let refused = refuses(alloc, &answer, why)?;
@@ -114,7 +109,14 @@ fn refusals_change_nothing(rt: HostRuntime) -> Result<(), Fail> {
     let shared = "The bytes are shared with something else";
     assert!(rt; stays(alloc, LOOP, width, shared)?);
     assert!(rt; stays(alloc, OVERLAPPING, width, shared)?);
-    assert!(rt; stays(alloc, THREE, strips, "The field says where other bytes stand")?);
+    assert!(rt;
+        stays(
+            alloc,
+            THREE,
+            strips,
+            "The field says where other bytes stand"
+        )?
+    );
     assert!(rt; stays(alloc, THREE, DESCRIPTION, "No such field")?);
     assert!(rt; stays(alloc, SHARED, resolution, shared)?);
     assert!(rt; stays(alloc, b"MM\0*", DESCRIPTION, "Truncated TIFF header")?);

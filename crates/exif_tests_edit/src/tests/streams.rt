@@ -3,8 +3,8 @@
 use super::{DESCRIPTION, text};
 use exif_base::{Counted, Seekable};
 use exif_edit::{
-    Patch, erase_field_patches_in_file, erase_field_patches_of,
-    erase_places_patches_of, set_value_patches_in_file, set_value_patches_of,
+    Patch, erase_field_patches_in_file, erase_field_patches_of, erase_places_patches_of,
+    set_value_patches_in_file, set_value_patches_of,
 };
 use exif_samples::files::{DESCRIBED_BIG, HEIF, JPEG, WEBP};
 use exif_types::In;
@@ -24,9 +24,8 @@ static REFUSED: [(&[u8], &str); 3] = [
 // Whether two lists of patches are one.
 fn are_same(a: &[Patch], b: &[Patch]) -> bool {
     a.len() == b.len()
-        && a.iter()
-            .zip(b.iter())
-            .all(|(x, y)| x.place == y.place && x.text.as_slice() == y.text.as_slice())
+        && a.iter().zip(b.iter()).all(|(x, y)| x.place == y.place
+            && x.text.as_slice() == y.text.as_slice())
 }
 
 #[test]
