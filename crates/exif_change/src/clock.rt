@@ -1,10 +1,12 @@
 //! Dates of a file moved by as much as a camera's clock was wrong.
 
-ghost use Rattle.std.specs.Prelude.{◌<◌, IfSome};
+ghost use Rattle.std.specs.Prelude.{◌≡◌, ◌<◌, length, IfOk, IfSome, OnOk};
+ghost use Rattle.std.specs.List.{All};
+ghost use Rattle.exif_change.specs.Shifting.{IsDateOf, IsShifted, IsWithDate, date, tags_of};
 
+use crate::in_place::set_all;
 use crate::{Refusal, read};
-use exif::{DateTime, Error, Field, In, Items, Tag, Value};
-use exif_edit::set_value_in_file;
+use exif::{DateTime, Error, Exif, Field, In, Items, Tag, Value};
 use jiff::{SignedDuration, civil};
 use std::alloc::Global;
 use std::time::Duration;
@@ -27,7 +29,9 @@ pub enum Dates {
 }
 
 impl Dates {
-    fn tags(self) -> &'static [Tag] {
+    fn tags(self) -> &'static [Tag]
+        ensures { result.now ≡ tags_of self }
+    {
         match self {
             Dates::All => &[Tag::DateTime, Tag::DateTimeOriginal, Tag::DateTimeDigitized],
             Dates::Exif => &[Tag::DateTimeOriginal, Tag::DateTimeDigitized],
@@ -93,21 +97,63 @@ pub fn shift(
     mut file: Vec<u8>,
     by: ClockShift,
     dates: Dates,
-) -> Result<Vec<u8>, Refusal> {
+) -> Result<Vec<u8>, Refusal>
+    ensures shifted { IfOk result (λ new. IsShifted dates file.items new.items) }
+    ensures long { IfOk result (λ new. length new.items ≡ length file.items) }
+{
     let exif = read(alloc, &file)?;
+    let moved = moved_dates(alloc, &exif, by, dates)?;
+    set_all(alloc, file.as_mut_slice(), moved.as_slice())?;
+    Ok(file)
+}
+
+// The dates of a file, moved; it is refused where it has none.
+fn moved_dates(
+    alloc: Global,
+    exif: &Exif,
+    by: ClockShift,
+    dates: Dates,
+) -> Result<Vec<Field>, Refusal>
+    ensures { IfOk result (λ moved. All (IsDateOf dates) moved.items) }
+{
+    let mut moved = Vec::new(alloc);
     let mut found = false;
-    for tag in dates.tags() {
-        if let Some(field) = exif.get_field(*tag, In::PRIMARY) {
+    let tags = dates.tags();
+    for tag in tags {
+        if add_moved(alloc, exif, by, tag, &mut moved)? {
             found = true;
-            if let Some(value) = shifted_value(alloc, field, by)? {
-                set_value_in_file(alloc, file.as_mut_slice(), *tag, In::PRIMARY, &value)?;
-            }
         }
     }
-    if found {
-        Ok(file)
-    } else {
-        Err(Refusal::NoDate)
+    if found { Ok(moved) } else { Err(Refusal::NoDate) }
+}
+
+// Adds a date of a file, moved, unless it is blank. Answers whether there is one.
+fn add_moved(
+    alloc: Global,
+    exif: &Exif,
+    by: ClockShift,
+    tag: &Tag,
+    moved: &mut Vec<Field>,
+) -> Result<bool, Refusal>
+    ensures { OnOk result (IsWithDate tag.now moved.old.items moved.new.items) }
+{
+    let Some(field) = exif.get_field(*tag, In::PRIMARY) else {
+        return Ok(false);
+    };
+    if let Some(value) = shifted_value(alloc, field, by)? {
+        moved.push(date_field(*tag, value))?;
+    }
+    Ok(true)
+}
+
+// A date of the primary image.
+fn date_field(tag: Tag, value: Value) -> Field
+    ensures { result ≡ date tag value }
+{
+    Field {
+        tag,
+        ifd_num: In::PRIMARY,
+        value,
     }
 }
 

@@ -5,6 +5,7 @@
 mod assignment;
 mod block;
 mod clock;
+mod in_place;
 mod new_fields;
 mod reading;
 mod refusal;
@@ -15,8 +16,8 @@ mod value_text;
 
 pub use assignment::Assignment;
 pub use clock::{ClockShift, Dates, shift};
-pub use reading::read;
+pub use reading::{ENTRY_LIMIT, read};
 pub use refusal::Refusal;
 pub use scrubbing::{Removed, scrub};
-pub use setting::{Changed, set};
+pub use setting::{Changed, set, set_here};
 pub use thumbnails::thumbnail;

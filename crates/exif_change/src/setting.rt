@@ -1,13 +1,18 @@
 //! Values set in a file.
 
+ghost use Rattle.std.specs.Prelude.{◌≡◌, ◌<◌, ◌+◌, ◌++◌, drop, length, map, IfOk, OnOk, OnErr};
+ghost use Rattle.std.specs.List.{All};
+ghost use Rattle.exif_change.specs.Setting.{HoldsFields, IsSet, IsSetHere, IsWrittenAnew, WasThere, assigned_tags, fields_of, is_assigned};
+
 use crate::block::{has_room, of_fields, with_fields, written};
+use crate::in_place::set_what_fits;
 use crate::new_fields::type_of_new;
 use crate::reading::read_strictly;
 use crate::value_text::value_of;
 use crate::{Assignment, Refusal, read};
-use exif::{Exif, Field, In, Tag, Value};
+use exif::{Exif, Field, In, Tag};
 use exif_containers::container::format_of;
-use exif_edit::{Error, set_value_in_file};
+use exif_edit::set_value_in_file;
 use exif_rewrite::Remove;
 use std::alloc::Global;
 
@@ -26,32 +31,93 @@ pub struct Changed {
 /// written anew, since what can't be read of them would be lost.
 pub fn set(
     alloc: Global,
-    mut file: Vec<u8>,
+    file: Vec<u8>,
     assignments: &[Assignment<'_>],
-) -> Result<Changed, Refusal> {
+) -> Result<Changed, Refusal>
+    ensures { IfOk result (λ changed. IsSet assignments.now file.items changed.file.items) }
+{
     let Some(format) = format_of(file.as_slice()) else {
         return Err(Refusal::UnknownFormat);
     };
-    let exif = if_there(read(alloc, &file))?;
-    let mut left = Vec::new(alloc);
-    for assignment in assignments {
-        let field = field_for(alloc, exif.as_ref(), assignment)?;
-        if !set_in_place(alloc, file.as_mut_slice(), &field, has_room(format))? {
-            left.retain(|other: &Field| other.tag != field.tag);
-            left.push(field)?;
-        }
-    }
-    if left.is_empty() {
+    let fields = assigned(alloc, &file, assignments)?;
+    let fitted = set_what_fits(alloc, file, fields, has_room(format))?;
+    if fitted.left.is_empty() {
         return Ok(Changed {
-            file,
+            file: fitted.file,
             moved_notes: false,
         });
     }
-    moved(alloc, &file, left.as_slice())
+    moved(alloc, fitted.file.as_slice(), fitted.left.as_slice())
+}
+
+/// Sets one field of the primary image in a file where it stands: the file keeps its length. After a
+/// refusal it is as it was.
+pub fn set_here(
+    alloc: Global,
+    file: &mut [u8],
+    assignment: &Assignment<'_>,
+) -> Result<(), Refusal>
+    ensures set { OnOk result (IsSetHere assignment.now.tag file.old file.new) }
+    ensures kept { OnErr result (file.new ≡ file.old) }
+{
+    let exif = read(alloc, file)?;
+    let field = field_for(alloc, Some(&exif), assignment)?;
+    Ok(set_value_in_file(alloc, file, field.tag, field.ifd_num, &field.value)?)
+}
+
+// The fields that are to be set in a file, of those of one tag the last.
+fn assigned(
+    alloc: Global,
+    file: &[u8],
+    assignments: &[Assignment<'_>],
+) -> Result<Vec<Field>, Refusal>
+    ensures named { IfOk result
+        (λ fields. map (λ f. f.tag) fields.items ≡ assigned_tags assignments.now) }
+    ensures primary { IfOk result (λ fields. All (λ f. f.ifd_num.0 ≡ 0) fields.items) }
+{
+    let exif = if_there(read(alloc, file))?;
+    let mut fields = Vec::new(alloc);
+    for place in 0..assignments.len() {
+        add_assigned(alloc, exif.as_ref(), assignments, place, &mut fields)?;
+    }
+    Ok(fields)
+}
+
+// Adds the field of an assignment, unless a later one has its tag.
+fn add_assigned(
+    alloc: Global,
+    exif: Option<&Exif>,
+    assignments: &[Assignment<'_>],
+    place: usize,
+    fields: &mut Vec<Field>,
+) -> Result<(), Refusal>
+    requires { place < length assignments.now }
+    ensures named { OnOk result
+        (map (λ f. f.tag) fields.new.items ++ assigned_tags (drop (place + 1) assignments.now)
+        ≡ map (λ f. f.tag) fields.old.items ++ assigned_tags (drop place assignments.now)) }
+    ensures primary { OnOk result (All (λ f. f.ifd_num.0 ≡ 0) fields.old.items
+        → All (λ f. f.ifd_num.0 ≡ 0) fields.new.items) }
+{
+    let assignment = &assignments[place];
+    if is_assigned(&assignments[place + 1..], assignment.tag) {
+        return Ok(());
+    }
+    let field = field_for(alloc, exif, assignment)?;
+    fields.push(field)?;
+    Ok(())
+}
+
+// Whether a value is assigned to a tag.
+fn is_assigned(assignments: &[Assignment<'_>], tag: Tag) -> bool
+    ensures { result ≡ is_assigned assignments.now tag }
+{
+    assignments.iter().any(|other| tag == other.tag)
 }
 
 // What was read of a file, if it holds Exif data.
-fn if_there(answer: Result<Exif, exif::Error>) -> Result<Option<Exif>, Refusal> {
+fn if_there(answer: Result<Exif, exif::Error>) -> Result<Option<Exif>, Refusal>
+    ensures { IfOk result (λ found. WasThere answer.entry found) }
+{
     match answer {
         Ok(exif) => Ok(Some(exif)),
         Err(exif::Error::NotFound(_)) => Ok(None),
@@ -64,7 +130,10 @@ fn field_for(
     alloc: Global,
     exif: Option<&Exif>,
     assignment: &Assignment<'_>,
-) -> Result<Field, Refusal> {
+) -> Result<Field, Refusal>
+    ensures named { IfOk result (λ field. field.tag ≡ assignment.now.tag) }
+    ensures primary { IfOk result (λ field. field.ifd_num.0 ≡ 0) }
+{
     let tag = assignment.tag;
     let old = exif.and_then(|exif| exif.get_field(tag, In::PRIMARY));
     let known = old.and_then(|field| field.value.field_type());
@@ -78,36 +147,13 @@ fn field_for(
     })
 }
 
-// Sets a field where it stands. Answers false where it doesn't fit and may move.
-fn set_in_place(
-    alloc: Global,
-    file: &mut [u8],
-    field: &Field,
-    may_move: bool,
-) -> Result<bool, Refusal> {
-    match set_value_in_file(alloc, file, field.tag, field.ifd_num, &field.value) {
-        Ok(()) => Ok(true),
-        Err(error) if may_move && needs_room(&error) => Ok(false),
-        Err(error) => Err(Refusal::Editing(error)),
-    }
-}
-
-// Whether newly written data would do what an edit in place refuses.
-fn needs_room(error: &Error) -> bool {
-    matches!(
-        error,
-        Error::FieldNotFound
-            | Error::ValueTooLong
-            | Error::SharedBytes
-            | Error::ScatteredData
-            | Error::Container(exif::Error::NotFound(_))
-    )
-}
-
 // The file with newly written Exif data, in which these fields are set. Data with a fault are
 // refused: what can't be read of them would be lost.
-fn moved(alloc: Global, file: &[u8], fields: &[Field]) -> Result<Changed, Refusal> {
-    let old = if_there(read_strictly(alloc, file))?;
+fn moved(alloc: Global, file: &[u8], fields: &[Field]) -> Result<Changed, Refusal>
+    ensures { IfOk result
+        (λ changed. IsWrittenAnew fields.now file.now changed.file.items) }
+{
+    let old = strictly(alloc, file)?;
     let block = match &old {
         Some(exif) => with_fields(alloc, exif, fields)?,
         None => of_fields(alloc, fields)?,
@@ -120,4 +166,11 @@ fn moved(alloc: Global, file: &[u8], fields: &[Field]) -> Result<Changed, Refusa
         file,
         moved_notes: notes.is_some(),
     })
+}
+
+// What a file is read as without a fault, if it holds Exif data.
+fn strictly(alloc: Global, file: &[u8]) -> Result<Option<Exif>, Refusal>
+    ensures { IfOk result (λ found. HoldsFields file.now (fields_of found)) }
+{
+    if_there(read_strictly(alloc, file))
 }

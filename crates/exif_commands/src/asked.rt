@@ -3,11 +3,8 @@
 use crate::request::{Change, Keeping, Reading, Request, Target, Task};
 use clap::error::ErrorKind;
 use clap::{ArgMatches, Command, Error};
-use exif_change::{Assignment, ClockShift, Dates, Removed};
+use exif_change::{Assignment, ClockShift, Dates, ENTRY_LIMIT, Removed};
 use std::alloc::{AllocError, Global};
-
-// How many entries are read of a file, where nothing else is asked for.
-const LIMIT: u64 = 1_000_000;
 
 // What is missing, in words.
 type Missing = &'static str;
@@ -131,7 +128,7 @@ fn thumbnail_of<'a>(
 fn reading_of(matches: &ArgMatches<'_>) -> Reading {
     Reading {
         strict: matches.get_flag("strict"),
-        limit: matches.get_one::<u64>("limit").unwrap_or(LIMIT),
+        limit: matches.get_one::<u64>("limit").unwrap_or(ENTRY_LIMIT),
     }
 }
 

@@ -5,7 +5,7 @@ use crate::inputs::{Input, read};
 use crate::request::Reading;
 use exif::{Error, Exif, Reader};
 use exif_containers::container::Format;
-use exif_json::{read_json, refusal_json};
+use exif_json::told_json;
 use std::alloc::{AllocError, Global};
 use std::io;
 
@@ -25,7 +25,7 @@ pub fn object_of(
     };
     match read {
         Ok((format, answer)) => answered(alloc, path.as_bytes(), format, answer),
-        Err(cause) => refused(alloc, path.as_bytes(), &Error::Io(cause)),
+        Err(cause) => answered(alloc, path.as_bytes(), None, Err(Error::Io(cause))),
     }
 }
 
@@ -35,20 +35,11 @@ fn answered(
     format: Option<Format>,
     answer: Result<Exif, Error>,
 ) -> Result<(Vec<u8>, Status), AllocError> {
-    let format = format.unwrap_or(Format::Tiff);
-    match answer {
-        Ok(exif) => Ok((read_json(alloc, path, format, &exif, &[])?, Status::Well)),
-        Err(Error::PartialResult(partial)) => {
-            let (exif, faults) = partial.into_inner();
-            Ok((
-                read_json(alloc, path, format, &exif, &faults)?,
-                Status::FaultsPassedOver,
-            ))
-        }
-        Err(error) => refused(alloc, path, &error),
-    }
-}
-
-fn refused(alloc: Global, path: &[u8], error: &Error) -> Result<(Vec<u8>, Status), AllocError> {
-    Ok((refusal_json(alloc, path, error)?, Status::Refused))
+    let status = match &answer {
+        Ok(_) => Status::Well,
+        Err(Error::PartialResult(_)) => Status::FaultsPassedOver,
+        Err(_) => Status::Refused,
+    };
+    let told = told_json(alloc, path, format.unwrap_or(Format::Tiff), answer)?;
+    Ok((told, status))
 }

@@ -10,3 +10,4 @@ pub mod Files
 pub mod Finding
 pub mod Places
 pub mod Told
+pub mod Answers

@@ -7,6 +7,7 @@ ghost use Rattle.json.specs.Print.{print};
 ghost use Rattle.json.specs.Tree.{json_tokens};
 ghost use Rattle.exif_types.specs.Failures.{IsInvalidFormat, error_text};
 ghost use Rattle.exif_json.specs.Files.{answer_json, answer_members, fault_json, faults_json, format_name, order_name, path_members, refusal_json};
+ghost use Rattle.exif_json.specs.Answers.{Tells};
 ghost use Rattle.exif_json.specs.Prints.{Prints};
 ghost use Rattle.exif_json.specs.Trees.{parts_tokens};
 
@@ -154,4 +155,25 @@ pub fn refusal_json(alloc: Global, path: &[u8], error: &Error) -> Result<Vec<u8>
     let mut printer = Printer::new(alloc);
     write_refusal(&mut printer, path, error)?;
     Ok(printer.finish())
+}
+
+/// The JSON object of what a reader answered of a file: of what was read, with the faults that were
+/// passed over, or of the refusal. The only error is out of memory.
+pub fn told_json(
+    alloc: Global,
+    path: &[u8],
+    format: Format,
+    answer: Result<Exif, Error>,
+) -> Result<Vec<u8>, AllocError>
+    ensures told { IfOk result (λ text. Tells path.now format answer.entry text.items) }
+    ensures utf8 { IfOk result (λ text. IsUtf8 text.items) }
+{
+    match answer {
+        Ok(exif) => read_json(alloc, path, format, &exif, &[]),
+        Err(Error::PartialResult(partial)) => {
+            let (exif, faults) = partial.into_inner();
+            read_json(alloc, path, format, &exif, &faults)
+        }
+        Err(error) => refusal_json(alloc, path, &error),
+    }
 }

@@ -36,6 +36,26 @@ fn values_are_set_in_place_or_in_new_data(rt: HostRuntime) -> Result<(), Fail> {
 }
 
 #[test]
+fn of_two_values_of_one_tag_the_last_is_set(rt: HostRuntime) -> Result<(), Fail> {
+    let alloc = rt.alloc();
+    let words = [
+        "ImageDescription=much longer than what stands there",
+        "ImageDescription=Blue",
+    ];
+    let [Some(first), Some(last)] = words.map(Assignment::parse) else {
+        return Err(Fail::new(format_args!("no assignments")));
+    };
+    let Ok(once) = set(alloc, owned(alloc, DESCRIBED)?, &[last]) else {
+        return Err(Fail::new(format_args!("refused")));
+    };
+    let Ok(both) = set(alloc, owned(alloc, DESCRIBED)?, &[first, last]) else {
+        return Err(Fail::new(format_args!("refused")));
+    };
+    assert!(rt; both.file.as_slice() == once.file.as_slice());
+    Ok(())
+}
+
+#[test]
 fn dates_may_be_written_as_iso_8601_has_them(rt: HostRuntime) -> Result<(), Fail> {
     let alloc = rt.alloc();
     let old =

@@ -1,0 +1,5 @@
+pub mod Assigned
+pub mod Dated
+pub mod Fitting
+pub mod Held
+pub mod Written
