@@ -1,5 +1,5 @@
 -- What a clause reads of a `Blocks`.
-use Rattle.std.specs.Prelude.{ℕ, List, drop, take}
+use Rattle.std.specs.Prelude.{ℕ, List, drop, take, Option, None, Some}
 use Rattle.exif_base.specs.declared.scan.Blocks.{Blocks}
 
 -- the bytes that were read and not taken
@@ -13,3 +13,12 @@ blocks_source b = b.source.now
 -- the name of the reference to it, by which a caller knows the source again
 abbrev pub blocks_name : {R : Type 0} → Blocks R → ℕ
 blocks_name b = b.source.ghost_name
+
+-- how many more bytes it gives as a `Feed`
+abbrev pub blocks_budget : {R : Type 0} → Blocks R → ℕ
+blocks_budget b = b.budget
+
+-- the known bytes, as far as they count
+abbrev pub cut_known : ℕ → Option (List ℕ) → Option (List ℕ)
+cut_known n None = None
+cut_known n (Some xs) = Some (take n xs)

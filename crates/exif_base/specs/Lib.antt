@@ -3,7 +3,6 @@ pub mod Bytes
 pub mod Counted
 pub mod Device
 pub mod Exact
-pub mod Input
 pub mod Orders
 pub mod ReadFaults
 pub mod Reads

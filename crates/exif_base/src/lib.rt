@@ -13,7 +13,7 @@ pub mod send;
 
 pub use device::{Counted, Sink, Source};
 pub use endian::{BigEndian, Endian, LittleEndian, Order};
-pub use feed::{Feed, Input};
+pub use feed::Feed;
 pub use items::Items;
 pub use read::{
     ReadFault, discard_exact, read_exact, read_exact_len, read_front, read_to_end, read8, read16,

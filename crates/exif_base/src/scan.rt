@@ -1,12 +1,13 @@
 //! Sources that may hold bytes ahead of what was taken, and pass over them fast.
 
-ghost use Rattle.std.specs.Prelude.{◌≡◌, ◌≢◌, ◌∷◌, ◌++◌, ◌+◌, ◌-◌, ◌<◌, ◌≤◌, ℕ, length, min, take, drop, slice_index, is_err, OnOk};
+ghost use Rattle.std.specs.Prelude.{◌≡◌, ◌≢◌, ◌∷◌, ◌++◌, ◌+◌, ◌-◌, ◌^◌, ◌<◌, ◌≤◌, ℕ, length, min, take, drop, slice_index, is_err, OnOk};
 ghost use Rattle.std.specs.Io.{StartsWith};
 ghost use Rattle.std.specs.Io.KnownBytes.{IsAtEnd, Keeps, prepend_known};
 ghost use Rattle.exif_base.specs.Reads.{Counts};
 ghost use Rattle.exif_base.specs.Scan.{PassesOthers};
 
 use crate::device::Source;
+use crate::feed::Feed;
 use crate::read::ReadFault;
 use memchr::memchr;
 use std::alloc::AllocError;
@@ -75,23 +76,27 @@ impl<'a, R: Source> Scan for Exact<'a, R> {
 ///
 /// It reads where a byte is wanted and none is at hand, and then once, so a fault of the reader
 /// comes where it would come without blocks. What was read and not taken is lost with it.
+///
+/// As a `Feed` it gives 2^64 - 1 bytes at most, so that it ends.
 #[derive(Drop)]
 pub struct Blocks<'a, R> {
     block: &'a mut [u8],
     at: usize,
     end: usize,
+    budget: u64,
     source: &'a mut R,
     ghost in_range: { (at ≤ end) × (end ≤ length block.now) × (0 < length block.now) },
 }
 
 impl<'a, R> Blocks<'a, R> {
-    ghost use Rattle.exif_base.specs.Blocks.{at_hand, blocks_name, blocks_source};
+    ghost use Rattle.exif_base.specs.Blocks.{at_hand, blocks_budget, blocks_name, blocks_source};
 
     /// The first `filled` bytes of the block are at hand, and those of `source` follow.
     pub fn new(block: &'a mut [u8], filled: usize, source: &'a mut R) -> Blocks<'a, R>
         requires filled { filled ≤ length block.now }
         requires some { 0 < length block.now }
         ensures at_hand { at_hand result ≡ take filled block.old }
+        ensures budget { blocks_budget result ≡ 2 ^ 64 - 1 }
         ensures source { blocks_source result ≡ source.old }
         ensures same { blocks_name result ≡ source.entry.ghost_name }
     {
@@ -99,6 +104,7 @@ impl<'a, R> Blocks<'a, R> {
             block,
             at: 0,
             end: filled,
+            budget: u64::MAX,
             source,
         }
     }
@@ -144,7 +150,7 @@ impl<'a, R> Blocks<'a, R> {
 }
 
 impl<'a, R: Source> Blocks<'a, R> {
-    ghost use Rattle.exif_base.specs.Blocks.{at_hand, blocks_name, blocks_source};
+    ghost use Rattle.exif_base.specs.Blocks.{at_hand, blocks_budget, blocks_name, blocks_source};
 
     // Reads the next block, where none of this one is at hand.
     fn fill_at_hand(&mut self) -> io::Result<()>
@@ -154,6 +160,7 @@ impl<'a, R: Source> Blocks<'a, R> {
             (self.new.at ≡ self.new.end → IsAtEnd (R.left (blocks_source self.new))) }
         ensures counts { Counts R.Source (blocks_source self.old) (blocks_source self.new)
             (is_err result) }
+        ensures budget { blocks_budget self.new ≡ blocks_budget self.old }
         ensures same { blocks_name self.new ≡ blocks_name self.old }
     {
         if self.at < self.end {
@@ -206,6 +213,35 @@ impl<'a, R: Source> Source for Blocks<'a, R> {
         self.copy_all_at_hand(buf)?;
         self.at = self.end;
         Ok(n)
+    }
+}
+
+impl<'a, R: Source> Feed for Blocks<'a, R> {
+    ghost use Rattle.exif_base.specs.Blocks.{at_hand, blocks_budget, blocks_name, blocks_source, cut_known};
+
+    ghost left = { λ b. cut_known (blocks_budget b)
+        (prepend_known (at_hand b) (R.left (blocks_source b))) };
+
+    ghost hand = { λ b. take (blocks_budget b) (at_hand b) };
+
+    ghost most = { blocks_budget };
+
+    ghost failures = { λ b. R.failures (blocks_source b) };
+
+    ghost through = { λ b. blocks_name b ∷ R.through (blocks_source b) };
+
+    fn fill(&mut self) -> io::Result<()> {
+        self.fill_at_hand()
+    }
+
+    fn at_hand(&self) -> &[u8] {
+        let room = self.budget.min((self.end - self.at) as u64) as usize;
+        &self.block[self.at..self.at + room]
+    }
+
+    fn pass(&mut self, n: usize) {
+        self.at += n;
+        self.budget -= n as u64;
     }
 }
 

@@ -1,7 +1,7 @@
 -- How a JPEG stream that is written again ends, and what is said of it.
 use Rattle.std.proofs.Common.{◌≡◌, ℕ, true, List, [], ◌++◌, take, Option, None, Some, IfSome, MatchOption, refl, arith}
 use Rattle.std.specs.Io.KnownBytes.{Appends, Keeps, prepend_known}
-use Rattle.exif_base.specs.Input.{cut_known}
+use Rattle.exif_base.specs.Blocks.{cut_known}
 use Rattle.exif_base.specs.Sent.{SendsFront}
 use Rattle.exif_base.proofs.Sent.{front_second, front_first, front_all, appends_more, appends_kept}
 use Rattle.exif_types.specs.Failures.{Failure}
@@ -78,11 +78,11 @@ flush_stopped o end (Some x) p q r s f is h k l =
 -- ---- a source of which only so many bytes count
 
 pub cut_finished : (end : End) (a s p q : Option (List ℕ)) (hand : List ℕ) (budget : ℕ) (f : List ℕ → Rewriting) → hand ≡ [] → budget ≡ LIMIT → s ≡ a
-    → Finishes end (prepend_known hand (cut_known budget s)) p q f → Finishes end a p q (λ xs. f (take LIMIT xs))
+    → Finishes end (cut_known budget (prepend_known hand s)) p q f → Finishes end a p q (λ xs. f (take LIMIT xs))
 cut_finished end None s p q hand budget f e k l h = tt
 cut_finished end (Some x) s p q hand budget f e k l h = rw (e, k, l) at h
 
 pub cut_stopped : (o : Option Refusal) (a s p q : Option (List ℕ)) (hand : List ℕ) (budget : ℕ) (f : List ℕ → Rewriting) → hand ≡ [] → budget ≡ LIMIT → s ≡ a
-    → StopsBy o (prepend_known hand (cut_known budget s)) p q f → StopsBy o a p q (λ xs. f (take LIMIT xs))
+    → StopsBy o (cut_known budget (prepend_known hand s)) p q f → StopsBy o a p q (λ xs. f (take LIMIT xs))
 cut_stopped o None s p q hand budget f i k l h = tt
 cut_stopped o (Some x) s p q hand budget f i k l h = rw (i, k, l) at h
