@@ -2,6 +2,7 @@
 
 mod devices;
 mod files;
+mod flushes;
 mod jpeg;
 mod rewritings;
 mod scrubbed;

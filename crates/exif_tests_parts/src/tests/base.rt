@@ -2,9 +2,9 @@
 
 use super::devices::{dripping, one_byte};
 use exif_base::{
-    BigEndian, Blocks, Counted, Endian, Exact, Items, LittleEndian, Order, ReadFault, Scan, Sink,
-    Source, discard_exact, read_exact, read_exact_len, read_front, read_to_end, read8, read16,
-    read64, send_all,
+    BigEndian, Blocks, Counted, Endian, Exact, Feed, Items, LittleEndian, Order, ReadFault, Scan,
+    Sink, Source, discard_exact, read_exact, read_exact_len, read_front, read_to_end, read8,
+    read16, read64, send_all,
 };
 use std::alloc::AllocError;
 use std::io;
@@ -195,6 +195,26 @@ fn bytes_at_hand_are_passed(rt: HostRuntime) -> Result<(), Fail> {
     read_to_end(&mut blocks, &mut list)?;
     assert_eq!(rt; list.as_slice(), b"456789".as_slice());
     Ok(())
+}
+
+#[test]
+fn bytes_at_hand_are_looked_at(rt: HostRuntime) {
+    let mut source = one_byte(b"3", 2, ErrorKind::Other);
+    let mut block = *b"012.";
+    let mut blocks = Blocks::new(&mut block, 3, &mut source);
+    assert!(rt; blocks.fill().is_ok());
+    assert_eq!(rt; blocks.at_hand(), b"012".as_slice());
+    blocks.pass(2);
+    assert_eq!(rt; blocks.at_hand(), b"2".as_slice());
+    blocks.pass(1);
+    assert!(rt; blocks.at_hand().is_empty());
+    // One more byte, the end, and a fault.
+    assert!(rt; blocks.fill().is_ok());
+    assert_eq!(rt; blocks.at_hand(), b"3".as_slice());
+    blocks.pass(1);
+    assert!(rt; blocks.fill().is_ok());
+    assert!(rt; blocks.at_hand().is_empty());
+    assert_eq!(rt; error_of(blocks.fill()), Some(ErrorKind::Other));
 }
 
 /// The numbers of 16, 32 and 64 bits behind the first byte.

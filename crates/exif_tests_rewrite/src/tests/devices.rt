@@ -1,6 +1,8 @@
 //! Readers and writers that fail at each of their calls: a beginning came out, and the error.
 
-use super::rewritings::{Outcome, PLAIN_AB, is_ended_by, jpeg, jpeg_within, webp, webp_within};
+use super::rewritings::{
+    Outcome, PLAIN_AB, is_ended_by, jpeg, jpeg_within, standing, standing_within, webp, webp_within,
+};
 use std::test::Fail;
 
 const STREAM: &[u8] =
@@ -28,6 +30,23 @@ fn a_stream_whose_writer_fails(rt: HostRuntime) -> Result<(), Fail> {
     let whole = jpeg(rt.alloc(), STREAM, PLAIN_AB);
     for good in 0..=whole.bytes.len() {
         let got = jpeg_within(rt.alloc(), STREAM, PLAIN_AB, usize::MAX, good);
+        assert!(rt; is_interrupted(&got, &whole));
+        assert!(rt; got.bytes.len() == good);
+    }
+    Ok(())
+}
+
+#[test]
+fn a_cut_stream_whose_reader_or_writer_fails(rt: HostRuntime) -> Result<(), Fail> {
+    // What is cut off leaves the new segment without a place.
+    let cut = b"\xff\xd8\xff\xe0\0\x02\xff\xe0\0\x09ab";
+    let (whole, _) = standing(rt.alloc(), cut, PLAIN_AB);
+    for good in 0..=cut.len() {
+        let (got, _) = standing_within(rt.alloc(), cut, PLAIN_AB, good, usize::MAX);
+        assert!(rt; is_interrupted(&got, &whole));
+    }
+    for good in 0..=whole.bytes.len() {
+        let (got, _) = standing_within(rt.alloc(), cut, PLAIN_AB, usize::MAX, good);
         assert!(rt; is_interrupted(&got, &whole));
         assert!(rt; got.bytes.len() == good);
     }

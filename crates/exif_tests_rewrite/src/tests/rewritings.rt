@@ -63,8 +63,19 @@ pub fn jpeg_within(
 
 /// A JPEG stream as far as it stands, and whether it ended with its image.
 pub fn standing(alloc: Global, bytes: &[u8], wish: Wish) -> (Outcome, bool) {
-    let mut source = Counted::new(Slow::new(bytes, usize::MAX, ErrorKind::Other));
-    let mut out = Counted::new(Drip::new(alloc, usize::MAX, None));
+    standing_within(alloc, bytes, wish, usize::MAX, usize::MAX)
+}
+
+/// So with so many good calls of the reader and of the writer.
+pub fn standing_within(
+    alloc: Global,
+    bytes: &[u8],
+    wish: Wish,
+    reads: usize,
+    writes: usize,
+) -> (Outcome, bool) {
+    let mut source = Counted::new(Slow::new(bytes, reads, ErrorKind::Other));
+    let mut out = Counted::new(Drip::new(alloc, writes, Some(ErrorKind::Other)));
     let result = rewrite_jpeg_as_it_stands(&mut source, &mut out, wish.put, wish.remove);
     let whole = matches!(result, Ok(Ended::Whole));
     (written(out, result), whole)

@@ -1,6 +1,6 @@
 //! JPEG streams that end before their image does, as far as they stand.
 
-use super::rewritings::{BARE_AB, PLAIN, PLAIN_AB, Wish, is_refused, is_whole, standing};
+use super::rewritings::{BARE, BARE_AB, PLAIN, PLAIN_AB, Wish, is_refused, is_whole, standing};
 use std::test::Fail;
 
 // A stream, a wish, what comes out, and whether the image ended.
@@ -58,6 +58,24 @@ fn what_stands_is_written(rt: HostRuntime) -> Result<(), Fail> {
         let (got, ended) = standing(rt.alloc(), bytes, wish);
         assert!(rt; is_whole(&got, want));
         assert!(rt; ended == whole);
+    }
+    Ok(())
+}
+
+// Of each front, what stays of its whole units, of what it has of scans and of a whole image.
+#[test]
+fn fronts_stand(rt: HostRuntime) -> Result<(), Fail> {
+    let stream = b"\xff\xd8\xff\xe1\0\x08Exif\0\0\xff\xdb\0\x03q\xff\xda\0\x02s\xff\0t\xff\xd9end";
+    let bare = b"\xff\xd8\xff\xdb\0\x03q\xff\xda\0\x02s\xff\0t\xff\xd9";
+    let lengths = [
+        2, 2, 2, 2, 2, 2, 2, 2, 2, 2, 2, 2, 2, 2, 2, 7, 7, 7, 7, 11, 12, 12, 14, 15, 15, 17, 17,
+        17, 17,
+    ];
+    for (more, length) in lengths.iter().enumerate() {
+        let end = more + 2;
+        let (got, whole) = standing(rt.alloc(), &stream[..end], BARE);
+        assert!(rt; is_whole(&got, &bare[..*length]));
+        assert!(rt; whole == (end >= 27));
     }
     Ok(())
 }
