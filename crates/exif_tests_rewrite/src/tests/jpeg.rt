@@ -34,7 +34,7 @@ static WHOLE: [Row; 4] = [
 ];
 
 // Segments of applications: what stays where all metadata go.
-static SEGMENTS: [Row; 9] = [
+static SEGMENTS: [Row; 11] = [
     (
         b"\xff\xd8\xff\xe0\0\x07JFXX\0\xff\xd9",
         BARE,
@@ -60,6 +60,17 @@ static SEGMENTS: [Row; 9] = [
         b"\xff\xd8\xff\xe2\0\x06MPF\0\xff\xd9",
         PLAIN,
         b"\xff\xd8\xff\xe2\0\x06MPF\0\xff\xd9",
+    ),
+    // The second picture stands behind the first one's end, with Exif data of its own.
+    (
+        b"\xff\xd8\xff\xe2\0\x06MPF\0\xff\xda\0\x02s\xff\xd9\xff\xd8\xff\xe1\0\x08Exif\0\0\xff\xd9",
+        BARE,
+        b"\xff\xd8\xff\xda\0\x02s\xff\xd9",
+    ),
+    (
+        b"\xff\xd8\xff\xe2\0\x06MPF\0\xff\xda\0\x02s\xff\xd9\xff\xd8\xff\xe1\0\x08Exif\0\0\xff\xd9",
+        PLAIN,
+        b"\xff\xd8\xff\xe2\0\x06MPF\0\xff\xda\0\x02s\xff\xd9\xff\xd8\xff\xe1\0\x08Exif\0\0\xff\xd9",
     ),
     (
         b"\xff\xd8\xff\xee\0\x07Adobe\xff\xd9",
