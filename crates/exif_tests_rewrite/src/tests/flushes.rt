@@ -33,7 +33,7 @@ impl Write for Noted {
     }
 }
 
-fn noted() -> Counted<Noted> {
+fn writer() -> Counted<Noted> {
     Counted::new(Noted {
         bytes: 0,
         flushes: 0,
@@ -49,7 +49,7 @@ fn is_flushed(out: Counted<Noted>, bytes: usize) -> bool {
 
 // A file's answer on a writer of its own.
 fn file_of(alloc: Global, bytes: &[u8], wish: Wish) -> Counted<Noted> {
-    let mut out = noted();
+    let mut out = writer();
     let _ = rewrite(
         alloc,
         &mut Counted::new(bytes),
@@ -63,7 +63,7 @@ fn file_of(alloc: Global, bytes: &[u8], wish: Wish) -> Counted<Noted> {
 #[test]
 fn one_flush_behind_the_last_byte(rt: HostRuntime) -> Result<(), Fail> {
     let wish = BARE_AB;
-    let mut stream = noted();
+    let mut stream = writer();
     rewrite_jpeg(
         &mut Counted::new(STREAM),
         &mut stream,
@@ -71,7 +71,7 @@ fn one_flush_behind_the_last_byte(rt: HostRuntime) -> Result<(), Fail> {
         wish.remove,
     )?;
     assert!(rt; is_flushed(stream, 21));
-    let mut standing = noted();
+    let mut standing = writer();
     rewrite_jpeg_as_it_stands(
         &mut Counted::new(&STREAM[..7]),
         &mut standing,
@@ -79,7 +79,7 @@ fn one_flush_behind_the_last_byte(rt: HostRuntime) -> Result<(), Fail> {
         wish.remove,
     )?;
     assert!(rt; is_flushed(standing, 19));
-    let mut file = noted();
+    let mut file = writer();
     rewrite_webp(
         rt.alloc(),
         &mut Counted::new(FILE),
