@@ -1,5 +1,9 @@
+pub mod Agreement
 pub mod AnswerFields
 pub mod FirstFault
+pub mod FootprintAnswers
+pub mod FootprintShared
+pub mod Footprints
 pub mod LimitBound
 pub mod Limits
 pub mod Members

@@ -1,6 +1,8 @@
 pub mod Answers
 pub mod Examples
 pub mod Faults
+pub mod Footprint
+pub mod FootprintExamples
 pub mod Limits
 pub mod ReadAnswers
 pub mod SoftFaults
