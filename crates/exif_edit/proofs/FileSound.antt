@@ -1,6 +1,7 @@
 -- What an answered edit in a file promises.
 use Rattle.std.proofs.Common.{◌≡◌, ◌≤◌, ◌<◌, ◌+◌, ◌-◌, ℕ, zero, suc, Bool, true, false, List, [], ◌∷◌, length, map, All, Option, Some, None, Result, Ok, Err, inl, inr, ◌⊎◌, refl, sym, ap, subst, ◌∙◌, arith}
-use Rattle.std.specs.Prelude.{if◌then◌else◌}
+use Rattle.std.specs.Prelude.{if◌then◌else◌, nat_lt}
+use Rattle.std.proofs.lemmas.Bool.Decides.{nat_tests}
 use Rattle.std.specs.List.{find}
 use Rattle.std.specs.Str.{bytes_eq}
 use Rattle.std.proofs.lemmas.Slice.Eq.{bytes_eq-Decides}
@@ -11,7 +12,7 @@ use Rattle.exif_types.specs.Refusals.{Refusal}
 use Rattle.exif_containers.specs.Container.{begins_tiff, container_answer}
 use Rattle.exif_edit.specs.Causes.{of_container, picture, scattered, ◌>>=◌}
 use Rattle.exif_edit.specs.Clearing.{clear_patches}
-use Rattle.exif_edit.specs.InFiles.{Edit, IsEditedIn, clear_file_patches, holds, in_file, place_answer, place_for, placed, serves, shifted}
+use Rattle.exif_edit.specs.InFiles.{Edit, IsEditedIn, clear_file_patches, holds, in_file, place_answer, place_for, placed, search_answer, serves, serves_as_told, shifted, told_place}
 use Rattle.exif_edit.specs.Patches.{FitsIn, patched}
 use Rattle.exif_edit.specs.declared.patch.Patch.{Patch}
 use Rattle.exif_edit.proofs.CauseSteps.{bound, data_held, ok_same, option_told, passed}
@@ -83,29 +84,64 @@ pub record WasPlaced (edit : Edit) (file : List ℕ) (qs : List Patch) : Type 0 
   pub stood : bytes_at (length old) file place ≡ old
   pub holds : container_answer (patched qs file) ≡ Ok (patched patches old)
 
+-- a place that was answered: it was tried, and it serves
+pub record Serves (file old : List ℕ) (ps : List Patch) (place : ℕ) : Type 0 where
+  pub below : place < length file + 1 - length old
+  pub good : serves file old ps place ≡ true
+
+searched_serves : (file old : List ℕ) (ps : List Patch) (place : ℕ)
+    → search_answer file old ps ≡ Ok place → Serves file old ps place
+unfolding search_answer
+searched_serves file old ps place e =
+    let f = option_told (place_for file old ps) scattered place e in
+    let n = length file + 1 - length old in
+    let l = found_below (serves file old ps) 0 n place f in
+    record {
+      below = omega arith;
+      good = found_serves (serves file old ps) (spaced 0 1 n) place f;
+    }
+
+told_serves : (file old : List ℕ) (ps : List Patch) (place : ℕ)
+    → serves_as_told file old ps ≡ true → told_place file ≡ place → Serves file old ps place
+told_serves file old ps place h e =
+    let n = length file + 1 - length old in
+    let b = split (nat_lt (told_place file) n) (serves file old ps (told_place file)) h in
+    record {
+      below = subst (λ p. p < n) e (grind (arith, nat_tests));
+      good = subst (λ p. serves file old ps p ≡ true) e b.1;
+    }
+
+place_serves : (file old : List ℕ) (ps : List Patch) (place : ℕ)
+    → place_answer file old ps ≡ Ok place → Serves file old ps place
+unfolding place_answer
+place_serves file old ps place e = by_told (serves_as_told file old ps) refl e
+  where
+    by_told : (b : Bool) → serves_as_told file old ps ≡ b
+        → (if b then Ok (told_place file) else search_answer file old ps) ≡ Ok place
+        → Serves file old ps place
+    by_told true h k =
+        let s : told_place file ≡ place = cc in told_serves file old ps place h s
+    by_told false h k = searched_serves file old ps place k
+
 was_placed : (edit : Edit) (file old : List ℕ) (ps qs : List Patch) → container_answer file ≡ Ok old
     → edit old ≡ Ok ps → placed file old ps ≡ Ok qs → WasPlaced edit file qs
-unfolding place_answer
 was_placed edit file old ps qs h g s =
     let r = bound (place_answer file old ps) (λ place. Ok (map (shifted place) ps)) qs s in
     let are = ok_same (map (shifted r.0) ps) qs r.2 in
-    let a : (p : ℕ) × (place_for file old ps ≡ Some p) × (map (shifted p) ps ≡ qs) =
-    (r.0, option_told (place_for file old ps) scattered r.0 r.1, are) in
-    let t = found_serves (serves file old ps) (spaced 0 1 (length file + 1 - length old)) a.0 a.1 in
-    let l = found_below (serves file old ps) 0 (length file + 1 - length old) a.0 a.1 in
-    let b = split (bytes_eq (bytes_at (length old) file a.0) old)
-    (holds (patched (map (shifted a.0) ps) file) (patched ps old)) t in
+    let t = place_serves file old ps r.0 r.1 in
+    let b = split (bytes_eq (bytes_at (length old) file r.0) old)
+    (holds (patched (map (shifted r.0) ps) file) (patched ps old)) t.good in
     record {
       old = old;
       held = h;
       patches = ps;
       edited = g;
-      place = a.0;
-      are = sym a.2;
-      below = omega arith;
-      stood = (bytes_eq-Decides (bytes_at (length old) file a.0) old).0 b.0;
-      holds = ap (λ rs. container_answer (patched rs file)) (sym a.2)
-          ∙ held_by (container_answer (patched (map (shifted a.0) ps) file)) (patched ps old) b.1;
+      place = r.0;
+      are = sym are;
+      below = t.below;
+      stood = (bytes_eq-Decides (bytes_at (length old) file r.0) old).0 b.0;
+      holds = ap (λ rs. container_answer (patched rs file)) (sym are)
+          ∙ held_by (container_answer (patched (map (shifted r.0) ps) file)) (patched ps old) b.1;
     }
 
 pub file_placed_by : (edit : Edit) (file : List ℕ) (qs : List Patch) → in_file edit file ≡ Ok qs

@@ -6,11 +6,14 @@ use Rattle.std.proofs.Math.ListN.{drop_of_length-le}
 use Rattle.std.proofs.lemmas.List.{append-nil, drop-set-lt, take_more_set, take_all}
 use Rattle.std.proofs.lemmas.List.Elements.{All-head, All-rest, All-same}
 use Rattle.exif_base.specs.Bytes.{spaced}
+use Rattle.exif_types.specs.Refusals.{Refusal}
+use Rattle.exif_containers.specs.Answer.{Answer, found}
 use Rattle.exif_containers.specs.Container.{begins_tiff, container_answer}
 use Rattle.exif_edit.specs.Causes.{Cause, of_container, or_cause, picture, scattered}
 use Rattle.exif_edit.specs.Clearing.{clear_patches}
-use Rattle.exif_edit.specs.InFiles.{Edit, clear_file_patches, in_file, place_answer, place_for, placed, serves}
+use Rattle.exif_edit.specs.InFiles.{Edit, clear_file_patches, in_file, place_answer, place_for, placed, search_answer, serves, serves_as_told, told_place}
 use Rattle.exif_edit.specs.Patches.{FitsIn}
+use Rattle.exif_edit.specs.Pieces.{piece_in, place_before}
 use Rattle.exif_edit.specs.declared.patch.Patch.{Patch}
 use Rattle.exif_edit.proofs.WalkSteps.{spaced_step}
 
@@ -28,8 +31,8 @@ place_on file old ps place count h f s =
 
 pub place_found : (file old : List ℕ) (ps : List Patch) (place count : ℕ) → place < count
     → find (serves file old ps) (spaced place 1 (count - place)) ≡ place_for file old ps
-    → serves file old ps place ≡ true → place_answer file old ps ≡ Ok place
-unfolding place_answer
+    → serves file old ps place ≡ true → search_answer file old ps ≡ Ok place
+unfolding search_answer
 place_found file old ps place count h f s =
     let g : find (serves file old ps) (place ∷ spaced (place + 1) 1 (count - (place + 1)))
     ≡ place_for file old ps = rw (spaced_step count place place 1 h) at f in
@@ -40,12 +43,35 @@ place_found file old ps place count h f s =
 
 pub place_none : (file old : List ℕ) (ps : List Patch) (place count : ℕ) → count ≤ place
     → find (serves file old ps) (spaced place 1 (count - place)) ≡ place_for file old ps
-    → place_answer file old ps ≡ Err scattered
-unfolding place_answer
+    → search_answer file old ps ≡ Err scattered
+unfolding search_answer
 place_none file old ps place count h f =
     let z : count - place ≡ 0 = omega arith in
     let g : None ≡ place_for file old ps = rw z at f in
     ap (λ p. or_cause p scattered) (sym g)
+
+-- ---- the place that lengths tell
+
+abbrev told_by : List ℕ → Answer → ℕ
+told_by file x = elim x [ Ok piece ↦ place_before file piece.0 piece.1 | Err r ↦ 0 ]
+
+pub told_found : (file data' rest : List ℕ) (place : ℕ) → piece_in file ≡ found data' rest
+    → place ≡ place_before file data' rest → place ≡ told_place file
+told_found file data' rest place e p = p ∙ sym (ap (told_by file) e)
+
+pub told_refused : (file : List ℕ) (r : Refusal) → piece_in file ≡ Err r → 0 ≡ told_place file
+told_refused file r e = sym (ap (told_by file) e)
+
+pub place_as_told : (file old : List ℕ) (ps : List Patch) (place : ℕ)
+    → serves_as_told file old ps ≡ true → place ≡ told_place file
+    → place_answer file old ps ≡ Ok place
+unfolding place_answer
+place_as_told file old ps place h e = rw h (ap (λ p. Ok p) (sym e))
+
+pub place_searched : (file old : List ℕ) (ps : List Patch)
+    → serves_as_told file old ps ≡ false → search_answer file old ps ≡ place_answer file old ps
+unfolding place_answer
+place_searched file old ps h = rw h refl
 
 -- ---- the patches, counted from the first byte of the file
 

@@ -7,6 +7,7 @@ pub mod FileSteps
 pub mod FindSteps
 pub mod LawsLocated
 pub mod LawsSetting
+pub mod LawsStreams
 pub mod PatchSteps
 pub mod ReadFaults
 pub mod ReadSound

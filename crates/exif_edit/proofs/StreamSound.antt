@@ -202,9 +202,22 @@ was_streamed edit file qs e =
       are = sym (ok_same (map (shifted (place_before file a.0.0 a.0.1)) b.0) qs b.2);
     }
 
-pub stream_sound : (edit : Edit) (file : List ℕ) (qs : List Patch) → length file < 2 ^ 64
-    → StaysIn edit → in_stream edit file ≡ Ok qs → IsEditedIn edit file (patched qs file)
-stream_sound edit file qs s stays e =
+-- what was streamed, and where its data stand
+pub record StreamedAt (edit : Edit) (file : List ℕ) (qs : List Patch) : Type 0 where
+  pub was : WasStreamed edit file qs
+  pub place : ℕ
+  pub told : place_before file was.old was.rest ≡ place
+  pub below : place + length was.old ≤ length file
+  pub are : qs ≡ map (shifted place) was.patches
+  pub fit : All (FitsIn (length was.old)) was.patches
+  pub fits : All (FitsIn (length file)) qs
+  pub held : container_answer file ≡ Ok was.old
+  pub holds : container_answer (patched qs file) ≡ Ok (patched was.patches was.old)
+  pub stood : bytes_at (length was.old) file place ≡ was.old
+
+pub streamed_at : (edit : Edit) (file : List ℕ) (qs : List Patch) → length file < 2 ^ 64
+    → StaysIn edit → in_stream edit file ≡ Ok qs → StreamedAt edit file qs
+streamed_at edit file qs s stays e =
     let w = was_streamed edit file qs e in
     let a = piece_around file w.old w.rest w.piece in
     let fit = stays w.old w.patches w.edited in
@@ -222,18 +235,35 @@ stream_sound edit file qs s stays e =
     ∙ (ap (patched (map (shifted (length a.front)) w.patches)) a.whole
     ∙ patched_front w.patches a.front w.old w.rest fit) in
     record {
-      old = w.old;
+      was = w;
+      place = length a.front;
+      told = place;
+      below = omega arith;
+      are = are;
+      fit = fit;
+      fits = fits;
       held = ap container_answer a.whole ∙ a.others w.old refl s;
-      patches = w.patches;
-      edited = w.edited;
       holds = ap container_answer new
           ∙ a.others (patched w.patches w.old) (length-patched w.patches w.old fit) s;
-      place = length a.front;
       stood = ap (λ xs. bytes_at (length w.old) xs (length a.front)) a.whole
           ∙ (ap (take (length w.old)) (drop-append_seam a.front (w.old ++ w.rest))
           ∙ take-append_seam w.old w.rest);
-      as_long = length-patched qs file fits;
-      outside = λ i h. patched_outside qs file i fits
-          (subst (λ rs. All (Misses i) rs) (sym are)
-          (shifted_miss w.patches (length a.front) (length w.old) i h fit));
+    }
+
+pub stream_sound : (edit : Edit) (file : List ℕ) (qs : List Patch) → length file < 2 ^ 64
+    → StaysIn edit → in_stream edit file ≡ Ok qs → IsEditedIn edit file (patched qs file)
+stream_sound edit file qs s stays e =
+    let t = streamed_at edit file qs s stays e in
+    record {
+      old = t.was.old;
+      held = t.held;
+      patches = t.was.patches;
+      edited = t.was.edited;
+      holds = t.holds;
+      place = t.place;
+      stood = t.stood;
+      as_long = length-patched qs file t.fits;
+      outside = λ i h. patched_outside qs file i t.fits
+          (subst (λ rs. All (Misses i) rs) (sym t.are)
+          (shifted_miss t.was.patches t.place (length t.was.old) i h t.fit));
     }

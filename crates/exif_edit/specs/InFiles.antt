@@ -1,5 +1,5 @@
 -- Exif data edited where they stand in a file.
-use Rattle.std.specs.Prelude.{◌≡◌, ℕ, ◌+◌, ◌-◌, ◌<◌, ◌≤◌, ◌&&◌, ◌⊎◌, Bool, false, List, length, map, slice_index, Option, Result, Ok, Err}
+use Rattle.std.specs.Prelude.{◌≡◌, ℕ, ◌+◌, ◌-◌, ◌<◌, ◌≤◌, ◌&&◌, ◌⊎◌, nat_lt, if◌then◌else◌, Bool, false, List, length, map, slice_index, Option, Result, Ok, Err}
 use Rattle.std.specs.List.{find}
 use Rattle.std.specs.Str.{bytes_eq}
 use Rattle.exif_base.specs.Bytes.{bytes_at, spaced}
@@ -7,6 +7,7 @@ use Rattle.exif_containers.specs.Container.{begins_tiff, container_answer}
 use Rattle.exif_edit.specs.Causes.{Cause, of_container, or_cause, picture, scattered, unless, ◌>>=◌}
 use Rattle.exif_edit.specs.Clearing.{clear_patches}
 use Rattle.exif_edit.specs.Patches.{patched}
+use Rattle.exif_edit.specs.Pieces.{piece_in, place_before}
 use Rattle.exif_edit.specs.declared.patch.Patch.{Patch}
 
 -- an edit: what is put over data, or why that is refused
@@ -33,9 +34,26 @@ abbrev pub place_for : List ℕ → List ℕ → List Patch → Option ℕ
 place_for file old patches =
     find (serves file old patches) (spaced 0 1 (length file + 1 - length old))
 
--- the place, or why there is none
+-- the same, or why there is none
+unfoldable pub search_answer : List ℕ → List ℕ → List Patch → Result ℕ Cause
+search_answer file old patches = or_cause (place_for file old patches) scattered
+
+-- the place that lengths tell: in a JPEG stream and a WebP file what is not followed by the rest, in
+-- others the first
+abbrev pub told_place : List ℕ → ℕ
+told_place file =
+    elim (piece_in file) [ Ok piece ↦ place_before file piece.0 piece.1 | Err r ↦ 0 ]
+
+-- whether it serves
+abbrev pub serves_as_told : List ℕ → List ℕ → List Patch → Bool
+serves_as_told file old patches =
+    nat_lt (told_place file) (length file + 1 - length old)
+    && serves file old patches (told_place file)
+
+-- the place that lengths tell, if it serves; else the first that does
 unfoldable pub place_answer : List ℕ → List ℕ → List Patch → Result ℕ Cause
-place_answer file old patches = or_cause (place_for file old patches) scattered
+place_answer file old patches =
+    if serves_as_told file old patches then Ok (told_place file) else search_answer file old patches
 
 -- patches of the data of a file as patches of the file
 abbrev pub placed : List ℕ → List ℕ → List Patch → Result (List Patch) Cause

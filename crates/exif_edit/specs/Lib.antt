@@ -6,6 +6,7 @@ pub mod Finding
 pub mod InFiles
 pub mod Locations
 pub mod Patches
+pub mod Pieces
 pub mod Promises
 pub mod Readings
 pub mod Removing

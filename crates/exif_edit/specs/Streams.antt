@@ -1,39 +1,18 @@
 -- Exif data edited in a file of any size, which is read once and not held: JPEG streams and WebP
 -- files.
-use Rattle.std.specs.Prelude.{◌≡◌, ⊤, ℕ, ◌-◌, Bool, false, List, codes, length, map, take, Option, Some, None, Result, Ok, Err, MatchOption, ◌++◌}
+use Rattle.std.specs.Prelude.{◌≡◌, ◌<◌, ◌^◌, ⊤, ℕ, All, Bool, false, List, length, map, Result, Ok, Err, MatchOption, ◌++◌}
 use Rattle.exif_types.specs.Failures.{Failure}
-use Rattle.exif_types.specs.Refusals.{IsInterrupted, Refusal, is_io_error, not_supported}
-use Rattle.exif_containers.specs.Answer.{Answer, found, refused}
-use Rattle.exif_containers.specs.Container.{format_in, unknown_format}
-use Rattle.exif_containers.specs.Jpeg.{jpeg_answer}
-use Rattle.exif_containers.specs.Webp.{webp_answer}
-use Rattle.exif_containers.specs.declared.container.Format.{Format}
-use Rattle.exif_containers.specs.declared.container.Format.TheVariants.{Tiff, Jpeg, Heif, WebP}
+use Rattle.exif_types.specs.Refusals.{IsInterrupted, is_io_error}
+use Rattle.exif_containers.specs.Answer.{Answer, found}
 use Rattle.exif_edit.specs.Causes.{Cause, cause_of, of_container, ◌>>=◌}
-use Rattle.exif_edit.specs.InFiles.{Edit, shifted}
+use Rattle.exif_edit.specs.InFiles.{Edit, in_file, shifted}
+use Rattle.exif_edit.specs.Patches.{FitsIn}
+use Rattle.exif_edit.specs.declared.patch.Patch.{Patch}
+pub use Rattle.exif_edit.specs.Pieces.{piece_as, place_before, whole_file}
+unfoldable pub use Rattle.exif_edit.specs.Pieces.{piece_in}
 use Rattle.exif_edit.specs.declared.error.Error.{Error}
 use Rattle.exif_edit.specs.declared.error.Error.TheVariants as error
 use Rattle.exif_types.specs.declared.error.Error.TheVariants as failure
-
--- TIFF data and HEIF files are edited as a whole
-abbrev pub whole_file : Refusal
-whole_file = not_supported (codes "This file is edited as a whole")
-
--- the Exif data of a container whose files are not held, and all that follows them
-abbrev pub piece_as : Option Format → List ℕ → Answer
-piece_as (Some Jpeg) file = jpeg_answer file
-piece_as (Some WebP) file = webp_answer file
-piece_as (Some Tiff) file = refused whole_file
-piece_as (Some Heif) file = refused whole_file
-piece_as None file = refused unknown_format
-
--- the same of a file, whose first 4096 bytes choose
-unfoldable pub piece_in : List ℕ → Answer
-piece_in file = piece_as (format_in (take 4096 file)) file
-
--- data that follow so many bytes of the file, and are followed by these
-abbrev pub place_before : List ℕ → List ℕ → List ℕ → ℕ
-place_before file data' rest = length file - length rest - length data'
 
 -- what edits the data of a file, or why that is refused
 unfoldable pub in_stream : Edit → Edit
@@ -83,3 +62,15 @@ abbrev pub Splices : (List ℕ → Answer) → Type 0
 Splices answer =
     (file payload rest : List ℕ) → answer file ≡ found payload rest
     → IsSpliced answer file payload rest
+
+-- the patches of an edit lie in its data
+abbrev pub StaysInside : Edit → Type 0
+StaysInside edit =
+    (old : List ℕ) (patches : List Patch) → edit old ≡ Ok patches
+    → All (FitsIn (length old)) patches
+
+-- what edits a file that is read once edits it where it is held, too: the place that lengths tell serves
+abbrev pub IsEditedAlike : Edit → List ℕ → Type 0
+IsEditedAlike edit file =
+    (patches : List Patch) → length file < 2 ^ 64 → StaysInside edit
+    → in_stream edit file ≡ Ok patches → in_file edit file ≡ Ok patches

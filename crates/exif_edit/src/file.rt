@@ -1,11 +1,11 @@
 //! Exif data edited where they stand in a file.
 
-ghost use Rattle.std.specs.Prelude.{◌≡◌, ◌≤◌, ◌<◌, ◌+◌, ◌^◌, All, length, map, IfOk, OnOk};
+ghost use Rattle.std.specs.Prelude.{◌≡◌, ◌≤◌, ◌<◌, ◌+◌, ◌^◌, All, length, map, IfOk, IsTrue, OnOk};
 ghost use Rattle.exif_containers.specs.Container.{container_answer};
 ghost use Rattle.exif_edit.specs.Causes.{Edits, Makes, of_container};
 ghost use Rattle.exif_edit.specs.Clearing.{clear_patches};
 ghost use Rattle.exif_edit.specs.Erasing.{erase_patches};
-ghost use Rattle.exif_edit.specs.InFiles.{IsEditedIn, clear_file_patches, edited_file, holds, in_file, place_answer, placed, serves, shifted};
+ghost use Rattle.exif_edit.specs.InFiles.{IsEditedIn, clear_file_patches, edited_file, holds, in_file, place_answer, placed, search_answer, serves, serves_as_told, shifted, told_place};
 ghost use Rattle.exif_edit.specs.Patches.{FitsIn, patched};
 ghost use Rattle.exif_edit.specs.Removing.{field_patches};
 ghost use Rattle.exif_edit.specs.Setting.{set_patches};
@@ -16,6 +16,7 @@ use crate::error::Error;
 use crate::patch::{Patch, apply, patched, put};
 use crate::remove::erase_field_patches;
 use crate::set::set_value_patches;
+use crate::stream::piece_in;
 use exif_base::Counted;
 use exif_containers::container::is_tiff;
 use exif_containers::exif_attr_of_stream;
@@ -101,7 +102,70 @@ pub fn shift(patches: &mut [Patch], place: usize, len: usize)
     }
 }
 
+// The place of the data that lengths tell, in a JPEG stream and a WebP file; in others the first.
+fn told_place(alloc: Global, file: &[u8]) -> Result<usize, AllocError>
+    ensures { IfOk result (λ place. place ≡ told_place file.now) }
+{
+    match piece_in(alloc, &mut Counted::new(file), file.len() as u64) {
+        Ok(piece) => Ok(piece.place as usize),
+        Err(
+            exif_types::Error::OutOfMemory
+            | exif_types::Error::Io(_)
+            | exif_types::Error::PartialResult(_),
+        ) => Err(AllocError),
+        Err(_refusal) => Ok(0),
+    }
+}
+
 // The first place of a file at which patches of its data serve.
+fn searched_place(
+    alloc: Global,
+    file: &[u8],
+    old: &[u8],
+    new: &[u8],
+    patches: &[Patch],
+) -> Result<usize, Error>
+    requires fit { All (FitsIn (length old.now)) patches.now }
+    requires made { new.now ≡ patched patches.now old.now }
+    ensures answer { Makes (λ place. place) result
+        (search_answer file.now old.now patches.now) }
+    ensures within { IfOk result (λ place. place + length old.now ≤ length file.now) }
+{
+    let count = (file.len() + 1).saturating_sub(old.len());
+    for place in 0..count {
+        let found = serves(alloc, file, old, new, patches, place)?;
+        if found {
+            return Ok(place);
+        }
+    }
+    Err(Error::ScatteredData)
+}
+
+// Whether the place that lengths tell serves.
+fn serves_as_told(
+    alloc: Global,
+    file: &[u8],
+    old: &[u8],
+    new: &[u8],
+    patches: &[Patch],
+    told: usize,
+) -> Result<bool, AllocError>
+    requires told { told ≡ told_place file.now }
+    requires fit { All (FitsIn (length old.now)) patches.now }
+    requires made { new.now ≡ patched patches.now old.now }
+    ensures answer { IfOk result (λ yes. yes ≡ serves_as_told file.now old.now patches.now) }
+    ensures within { IfOk result
+        (λ yes. IsTrue yes → told + length old.now ≤ length file.now) }
+{
+    let count = (file.len() + 1).saturating_sub(old.len());
+    if told < count {
+        serves(alloc, file, old, new, patches, told)
+    } else {
+        Ok(false)
+    }
+}
+
+// The place that lengths tell, if patches of the data serve there; else the first at which they do.
 fn place_of(alloc: Global, file: &[u8], old: &[u8], patches: &[Patch]) -> Result<usize, Error>
     requires { All (FitsIn (length old.now)) patches.now }
     ensures answer { Makes (λ place. place) result
@@ -109,14 +173,12 @@ fn place_of(alloc: Global, file: &[u8], old: &[u8], patches: &[Patch]) -> Result
     ensures within { IfOk result (λ place. place + length old.now ≤ length file.now) }
 {
     let new = patched(alloc, patches, old)?;
-    let count = (file.len() + 1).saturating_sub(old.len());
-    for place in 0..count {
-        let found = serves(alloc, file, old, new.as_slice(), patches, place)?;
-        if found {
-            return Ok(place);
-        }
+    let told = told_place(alloc, file)?;
+    let found = serves_as_told(alloc, file, old, new.as_slice(), patches, told)?;
+    if found {
+        return Ok(told);
     }
-    Err(Error::ScatteredData)
+    searched_place(alloc, file, old, new.as_slice(), patches)
 }
 
 // Patches of the data of a file as patches of the file.

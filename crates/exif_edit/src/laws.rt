@@ -7,7 +7,8 @@ ghost use Rattle.exif_types.specs.declared.value.Value.{Value as Content};
 ghost use Rattle.exif_containers.specs.Jpeg.{jpeg_answer};
 ghost use Rattle.exif_containers.specs.Webp.{webp_answer};
 ghost use Rattle.exif_edit.specs.Promises.{LocatesWhatIsRead, SetsBack};
-ghost use Rattle.exif_edit.specs.Streams.{Splices};
+ghost use Rattle.exif_edit.specs.InFiles.{Edit};
+ghost use Rattle.exif_edit.specs.Streams.{IsEditedAlike, Splices};
 
 /// The fields that an edit locates are those that reading gives, in their order.
 pub fn located_fields_are_read()
@@ -26,4 +27,10 @@ pub fn the_old_value_is_set_back()
 pub fn data_can_be_replaced()
     ensures jpeg { Splices jpeg_answer }
     ensures webp { Splices webp_answer }
+{}
+
+/// A JPEG stream or a WebP file is edited alike, held or read once: the place that lengths tell
+/// serves, so no other copy of the data is looked at, however many the file holds.
+pub fn held_files_are_edited_as_streams()
+    ensures { (edit : Edit) (file : List ℕ) → IsEditedAlike edit file }
 {}

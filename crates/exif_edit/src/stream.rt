@@ -30,9 +30,9 @@ const BLOCK: usize = 4096;
 
 /// Exif data that stand in a file in one piece, and where.
 #[derive(Drop)]
-struct Piece {
-    data: Vec<u8>,
-    place: u64,
+pub struct Piece {
+    pub data: Vec<u8>,
+    pub place: u64,
 }
 
 // The Exif data of a container whose files are not held. What follows them is left.
@@ -57,8 +57,12 @@ fn data_as<R: Scan>(
     }
 }
 
-// The Exif data of a file of a length, and where they stand.
-fn piece_in<R: Source>(alloc: Global, source: &mut R, len: u64) -> Result<Piece, exif_types::Error>
+/// The Exif data of a file of a length, and where they stand.
+pub fn piece_in<R: Source>(
+    alloc: Global,
+    source: &mut R,
+    len: u64,
+) -> Result<Piece, exif_types::Error>
     requires { IfSome (R.left source.old) (λ file. length file ≡ len) }
     ensures found { IfOk result (λ p. IfSome (R.left source.old) (λ file. (rest : List ℕ)
         × (piece_in file ≡ found p.data.items rest)

@@ -2,7 +2,7 @@ use Rattle.std.proofs.Common.{◌≡◌, ◌-◌}
 use Rattle.std.specs.List.{find}
 use Rattle.exif_base.specs.Bytes.{spaced}
 use Rattle.exif_edit.specs.InFiles.{serves, place_for}
-use Rattle.exif_edit.proofs.file.place_of.Given as goal
+use Rattle.exif_edit.proofs.file.searched_place.Given as goal
 
 abbrev pub invariant-loop-place : goal.invariant-loop-place
 invariant-loop-place l =
