@@ -59,6 +59,27 @@ exiftool -validate -warning -a -s3 work/all.jpg | tail -n +2 >old.warnings
 exiftool -validate -warning -a -s3 work/new.jpg | tail -n +2 | grep -v GPSVersionID >new.warnings
 check "exiftool finds nothing wrong, but that an empty directory has no version" cmp old.warnings new.warnings
 
+# A camera's notes, whose text stands where they say, counted from the first byte of the data.
+python3 - files/plain.jpg work/noted.jpg <<'NOTED'
+import struct, sys
+data = b"MM\0*\0\0\0\x08" + struct.pack(
+    ">H HHII HHIHH HHII HHII I 6s H HHII I H HHI4s HHI4s I H HHII I 20s",
+    4, 0x10F, 2, 6, 62, 0x112, 3, 1, 6, 0, 0x8769, 4, 1, 68, 0x8825, 4, 1, 86, 0, b"Canon",
+    1, 0x927C, 7, 38, 116, 0,
+    2, 0, 1, 4, b"\2\3\0\0", 1, 2, 2, b"N", 0,
+    1, 6, 2, 20, 134, 0, b"Canon PowerShot S30")
+plain = open(sys.argv[1], "rb").read()
+segment = b"\xff\xe1" + struct.pack(">H", len(data) + 8) + b"Exif\0\0" + data
+open(sys.argv[2], "wb").write(plain[:2] + segment + plain[2:])
+NOTED
+check "exiftool reads the camera's notes" test "$(exiftool -s3 -CanonImageType work/noted.jpg)" = "Canon PowerShot S30"
+"$mexaldor" set work/noted.jpg work/new.jpg Orientation=1
+check "and reads them behind a new orientation" test "$(exiftool -s3 -CanonImageType work/new.jpg)" = "Canon PowerShot S30"
+check "of which one byte changed" test "$(differ work/noted.jpg work/new.jpg)" = 1
+"$mexaldor" scrub --places-only work/noted.jpg work/new.jpg
+check "and behind erased places" test "$(exiftool -s3 -CanonImageType work/new.jpg)" = "Canon PowerShot S30"
+check "of which none is left" test -z "$(exiftool -s -GPS:all work/new.jpg)"
+
 if has exiv2; then
     exiv2 -pe work/all.jpg | grep -v GPSInfo | grep -v GPSTag >old 2>/dev/null
     exiv2 -pe work/new.jpg >new 2>/dev/null

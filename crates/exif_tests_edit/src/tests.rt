@@ -1,10 +1,15 @@
 //! What edits make of small files, byte for byte.
 
+mod containers;
 mod fields;
 mod files;
+mod memory;
 mod places;
+mod sharing;
+mod shortage;
 mod streams;
 mod texts;
+mod types;
 mod values;
 
 use exif_base::Items;
@@ -30,6 +35,27 @@ pub fn part(bytes: &[u8], from: usize, to: usize) -> &[u8] {
 /// Whether the bytes are zeros from a place on, up to another.
 pub fn is_zero(bytes: &[u8], from: usize, to: usize) -> bool {
     part(bytes, from, to).iter().all(|byte| *byte == 0)
+}
+
+/// The bytes with texts put over those at places.
+pub fn with_texts(
+    alloc: Global,
+    bytes: &[u8],
+    texts: &[(u16, &[u8])],
+) -> Result<Vec<u8>, AllocError> {
+    let mut new = Vec::from_slice(alloc, bytes)?;
+    for row in texts {
+        let (place, text) = *row;
+        put(new.as_mut_slice(), place as usize, text);
+    }
+    Ok(new)
+}
+
+/// Puts a text over the bytes at a place, if there are as many.
+pub fn put(bytes: &mut [u8], place: usize, text: &[u8]) {
+    if text.len() <= bytes.len() && place <= bytes.len() - text.len() {
+        bytes[place..place + text.len()].copy_from_slice(text);
+    }
 }
 
 /// Whether an answer is the refusal whose text this is.

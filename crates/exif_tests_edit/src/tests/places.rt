@@ -3,7 +3,7 @@
 use super::{is_zero, part};
 use exif_edit::{erase_places, erase_places_patches};
 use exif_samples::files::{DESCRIBED_BIG, JOURNEY, NOTHING, PLACE_BEFORE_DESCRIPTION};
-use std::alloc::AllocError;
+use std::alloc::{AllocError, Global};
 use std::test::Fail;
 
 #[test]
@@ -51,10 +51,11 @@ fn without_a_place_nothing_changes(rt: HostRuntime) -> Result<(), Fail> {
     Ok(())
 }
 
-// A directory at a place of the chain, with a pointer to its GPS directory.
-fn push_directory(bytes: &mut Vec<u8>, number: u8) -> Result<(), AllocError> {
-    let place = u16::from(number % 8) * 36 + 8;
-    let next = if number < 7 { place + 36 } else { 0 };
+// A directory at a place of the chain, with a pointer to its GPS directory, and a next one up to the
+// last.
+fn push_directory(bytes: &mut Vec<u8>, number: u8, last: u8) -> Result<(), AllocError> {
+    let place = u16::from(number % 9) * 36 + 8;
+    let next = if number < last { place + 36 } else { 0 };
     bytes.extend_from_slice(b"\0\x01\x88\x25\0\x04\0\0\0\x01\0\0")?;
     bytes.extend_from_slice(&(place + 18).to_be_bytes())?;
     bytes.extend_from_slice(b"\0\0")?;
@@ -62,22 +63,38 @@ fn push_directory(bytes: &mut Vec<u8>, number: u8) -> Result<(), AllocError> {
     bytes.extend_from_slice(b"\0\x01\0\0\0\x01\0\0\0\x04\x02\x03\0\0\0\0\0\0")
 }
 
+// Data of directories with a GPS directory each, up to the last.
+fn chain(alloc: Global, last: u8) -> Result<Vec<u8>, AllocError> {
+    let mut bytes = Vec::from_slice(alloc, b"MM\0*\0\0\0\x08")?;
+    for number in 0..9 {
+        if number <= last {
+            push_directory(&mut bytes, number, last)?;
+        }
+    }
+    Ok(bytes)
+}
+
+// Whether the first eight GPS directories of such data are zeros now, and all else is as it was.
+fn eight_are_erased(old: &[u8], new: &[u8]) -> bool {
+    let mut erased = new.len() == old.len() && part(new, 0, 8) == part(old, 0, 8);
+    for number in 0..8usize {
+        let place = 8 + 36 * number;
+        erased = erased
+            && part(new, place, place + 18) == part(old, place, place + 18)
+            && is_zero(new, place + 18, place + 36);
+    }
+    erased && part(new, 296, new.len()) == part(old, 296, old.len())
+}
+
 #[test]
 fn eight_directories_lose_their_places(rt: HostRuntime) -> Result<(), Fail> {
     let alloc = rt.alloc();
-    let mut old = Vec::from_slice(alloc, b"MM\0*\0\0\0\x08")?;
-    for number in 0..8 {
-        push_directory(&mut old, number)?;
-    }
-    let mut new = Vec::from_slice(alloc, old.as_slice())?;
-    assert!(rt; erase_places(alloc, new.as_mut_slice()).is_ok());
-    let (old, new) = (old.as_slice(), new.as_slice());
-    assert!(rt; new.len() == old.len());
-    assert!(rt; part(new, 0, 8) == part(old, 0, 8));
-    for number in 0..8usize {
-        let place = 8 + 36 * number;
-        assert!(rt; part(new, place, place + 18) == part(old, place, place + 18));
-        assert!(rt; is_zero(new, place + 18, place + 36));
+    for last in [7, 8] {
+        let old = chain(alloc, last)?;
+        let mut new = Vec::from_slice(alloc, old.as_slice())?;
+        assert!(rt; erase_places(alloc, new.as_mut_slice()).is_ok());
+        // a ninth directory is not read, and keeps its place
+        assert!(rt; eight_are_erased(old.as_slice(), new.as_slice()));
     }
     Ok(())
 }

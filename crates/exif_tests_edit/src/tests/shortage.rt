@@ -1,0 +1,99 @@
+//! Calls with as little memory as they can be left.
+//!
+//! All memory is taken, and some of it given back: so these tests need an allocator that hands out
+//! again what was dropped, as that of a built program does. Under `rt try --test`, whose allocator
+//! never does, each of them fails with out of memory; `rt test` is their judge.
+
+use std::alloc::{AllocError, Global};
+use std::process::Abort;
+use std::test::Fail;
+
+// Blocks of memory, to which no byte is written.
+type Blocks = Vec<Vec<u8>>;
+
+// How many steps of 16 bytes a call asks for at most.
+const MOST_STEPS: u16 = 4000;
+
+const MOST_BLOCKS: usize = 200_000;
+
+// What stays free where most memory is taken: so many pieces, side by side, of this size.
+const PIECES: usize = 40;
+
+const PIECE: usize = 100_000;
+
+// A size that the allocator sets aside in no list of its own when it is freed.
+const SPLIT: usize = 2048;
+
+// Takes blocks of one size until one is refused.
+fn take(alloc: Global, blocks: &mut Blocks, size: usize) -> Result<(), AllocError> {
+    for _ in 0..MOST_BLOCKS {
+        match Vec::with_capacity(alloc, size) {
+            Ok(block) => blocks.push(block)?,
+            Err(_refused) => break,
+        }
+    }
+    Ok(())
+}
+
+// Takes all memory but 4 MB: blocks of 64 GB, and then of half of that, down to 16 bytes.
+fn take_most(alloc: Global) -> Result<Blocks, AllocError> {
+    let mut blocks = Vec::with_capacity(alloc, MOST_BLOCKS)?;
+    let mut pieces: Blocks = Vec::with_capacity(alloc, PIECES)?;
+    for _ in 0..PIECES {
+        pieces.push(Vec::with_capacity(alloc, PIECE)?)?;
+    }
+    for halvings in 0..33u32 {
+        take(alloc, &mut blocks, 1usize << (36 - halvings))?;
+    }
+    drop(pieces);
+    Ok(blocks)
+}
+
+// Takes what `take_most` left, all but so many bytes in one piece.
+fn take_rest(alloc: Global, left: u16) -> Result<Blocks, AllocError> {
+    let mut blocks = Vec::with_capacity(alloc, 1000)?;
+    let piece: Vec<u8> = Vec::with_capacity(alloc, SPLIT + left as usize)?;
+    for kilobytes in (1..65u32).rev() {
+        take(alloc, &mut blocks, 1024 * kilobytes as usize)?;
+    }
+    for sixteens in (1..65u32).rev() {
+        take(alloc, &mut blocks, 16 * sixteens as usize)?;
+    }
+    drop(piece);
+    blocks.push(Vec::with_capacity(alloc, SPLIT)?)?;
+    Ok(blocks)
+}
+
+/// What a call comes to where memory is short.
+#[derive(Drop)]
+pub enum Outcome {
+    /// Memory ran out, and nothing has changed.
+    Wants,
+    /// It answers as with all the memory.
+    Right,
+    /// It answers anything else.
+    Wrong,
+}
+
+/// Calls with no memory left, and then with ever more, until the answer is the right one. Any
+/// other is out of memory. Gives in how many calls memory ran out.
+pub fn in_turn<F: FnMut() -> Outcome + Drop>(
+    rt: &(impl Abort + AllocGlobal),
+    mut call: F,
+) -> Result<u16, Fail>
+    requires { F.IsAlwaysCallable call }
+{
+    let alloc = rt.alloc();
+    let _most = take_most(alloc)?;
+    for step in 0..MOST_STEPS {
+        let rest = take_rest(alloc, 16 * step)?;
+        let outcome = call();
+        drop(rest);
+        match outcome {
+            Outcome::Wants => {}
+            Outcome::Right => return Ok(step),
+            Outcome::Wrong => panic!(rt; "a wrong answer after {step} steps"),
+        }
+    }
+    panic!(rt; "memory was never enough");
+}
