@@ -6,6 +6,7 @@ use exif_base::{Counted, Seekable};
 use exif_edit::{
     Patch, erase_field_in_file, erase_field_patches_in_file, erase_places_in_file,
     erase_places_patches_in_file, erase_places_patches_of, set_value_in_file,
+    set_value_patches_in_file,
 };
 use exif_samples::files::PLACE_BEFORE_DESCRIPTION;
 use exif_types::In;
@@ -170,5 +171,18 @@ fn a_copy_in_front_of_the_data_stays(rt: HostRuntime) -> Result<(), Fail> {
     assert!(rt; erase_places_in_file(alloc, new.as_mut_slice()).is_ok());
     // the comment ends at 68, and the segment's head at 78
     assert!(rt; is_zeroed(old.as_slice(), new.as_slice(), 78, 26, 44));
+    Ok(())
+}
+
+#[test]
+fn a_value_that_stays_is_told_where_it_stands(rt: HostRuntime) -> Result<(), Fail> {
+    let alloc = rt.alloc();
+    let file = joined(alloc, &[COMMENT, DATA, SEGMENT, DATA, b"\xff\xd9"])?;
+    let value = text(alloc, b"p")?;
+    match set_value_patches_in_file(alloc, file.as_slice(), DESCRIPTION, In(1), &value) {
+        // the entry stands at 46 of the data, which begin at 78
+        Ok(patches) => assert!(rt; patches.iter().all(|patch| patch.place == 126)),
+        Err(_) => assert!(rt; false),
+    }
     Ok(())
 }

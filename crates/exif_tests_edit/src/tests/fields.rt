@@ -33,15 +33,16 @@ const MENDED: &[u8] = b"MM\0*\0\0\0\x08\0\0\0\0\0\0\0\0\0\0\0\0\0\0\x01\x01";
 const SHARED: &[u8] =
     b"MM\0*\0\0\0\x08\0\x02\x01\x1a\0\x05\0\0\0\x01\0\0\0&\x01\x1b\0\x05\0\0\0\x01\0\0\0&\0\0\0\0\0\0\0H\0\0\0\x01";
 
-// A directory that is the next of itself, eight times.
-const LOOP: &[u8] = b"MM\0*\0\0\0\x08\0\x01\x01\0\0\x03\0\0\0\x01\0\x14\0\0\0\0\0\x08";
+/// A directory that is the next of itself, eight times.
+pub const LOOP: &[u8] = b"MM\0*\0\0\0\x08\0\x01\x01\0\0\x03\0\0\0\x01\0\x14\0\0\0\0\0\x08";
 
-// A directory whose second entry is that of another one too, which begins in the first entry.
-const OVERLAPPING: &[u8] =
+/// A directory whose second entry is that of another one too, which begins in the first entry and
+/// is the next of itself.
+pub const OVERLAPPING: &[u8] =
     b"MM\0*\0\0\0\x08\0\x02\x01\0\0\x03\0\0\0\x01\0\x14\0\x01\x01\x01\0\x03\0\0\0\x01\0\x1e\0\0\0\0\0\x14";
 
-// A width, and a description that is cut off.
-const SOFT: &[u8] =
+/// A width, and a description that is cut off.
+pub const SOFT: &[u8] =
     b"MM\0*\0\0\0\x08\0\x02\x01\0\0\x03\0\0\0\x01\0\x14\0\0\x01\x0e\0\x02\0\0\0\x07\0\0\0\xc8\0\0\0\0";
 
 // The description has moved up, and is still cut off.

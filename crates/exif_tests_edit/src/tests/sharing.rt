@@ -1,5 +1,6 @@
 //! Data whose parts overlap or come again, and data with faults.
 
+use super::fields::{LOOP, OVERLAPPING, SOFT};
 use super::{DESCRIPTION, part, refuses, with_texts};
 use exif_base::Items;
 use exif_edit::{erase_places, set_value};
@@ -13,18 +14,6 @@ const WIDTH: Tag = Tag(Context::Tiff, 0x100);
 const HEIGHT: Tag = Tag(Context::Tiff, 0x101);
 
 const SHARED: &str = "The bytes are shared with something else";
-
-// A directory that is the next of itself, eight times.
-const LOOP: &[u8] = b"MM\0*\0\0\0\x08\0\x01\x01\0\0\x03\0\0\0\x01\0\x14\0\0\0\0\0\x08";
-
-// A directory whose second entry is that of another one too, which begins in the first entry and is
-// the next of itself.
-const OVERLAPPING: &[u8] =
-    b"MM\0*\0\0\0\x08\0\x02\x01\0\0\x03\0\0\0\x01\0\x14\0\x01\x01\x01\0\x03\0\0\0\x01\0\x1e\0\0\0\0\0\x14";
-
-// A width, and a description that is cut off.
-const SOFT: &[u8] =
-    b"MM\0*\0\0\0\x08\0\x02\x01\0\0\x03\0\0\0\x01\0\x14\0\0\x01\x0e\0\x02\0\0\0\x07\0\0\0\xc8\0\0\0\0";
 
 // Whether setting numbers is refused for bytes that are something else too, and the bytes stay.
 fn stays(
