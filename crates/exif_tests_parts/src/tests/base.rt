@@ -6,7 +6,7 @@ use exif_base::{
     Sink, Source, discard_exact, read_exact, read_exact_len, read_front, read_to_end, read8,
     read16, read64, send_all,
 };
-use std::alloc::AllocError;
+use std::alloc::{AllocError, Global};
 use std::io;
 use std::io::{Cursor, ErrorKind};
 use std::process::Abort;
@@ -40,8 +40,8 @@ fn error_of<T: Drop>(answer: io::Result<T>) -> Option<ErrorKind> {
 
 /// Reads the first seven digits.
 fn reads_front<R: Source>(rt: &impl Abort, source: &mut R) -> Result<(), ReadFault> {
-    assert_eq!(rt; read8(source)?, b'0');
-    assert_eq!(rt; read16(source)?, 0x3132);
+    assert!(rt; read8(source)? == b'0');
+    assert!(rt; read16(source)? == 0x3132);
     discard_exact(source, 2)?;
     let mut pair = [0u8; 2];
     read_exact(source, &mut pair)?;
@@ -57,7 +57,7 @@ fn reads_rest<R: Source>(
 ) -> Result<(), ReadFault> {
     read_exact_len(source, rest, 1)?;
     read_to_end(source, rest)?;
-    assert_eq!(rt; rest.as_slice(), b"789".as_slice());
+    assert!(rt; rest.as_slice() == b"789".as_slice());
     assert!(rt; is_end(read_exact_len(source, rest, 1)));
     assert!(rt; is_end(discard_exact(source, u64::MAX)));
     Ok(())
@@ -107,31 +107,48 @@ fn reads_numbers_and_fronts(rt: HostRuntime) -> Result<(), Fail> {
     Ok(())
 }
 
+/// A read of two bytes whose second call fails.
+fn read_fails(rt: &impl Abort, kind: ErrorKind) {
+    let mut source = one_byte(DIGITS, 1, kind);
+    assert!(rt; kind_of(read16(&mut source)) == Some(kind));
+    assert!(rt; source.into_inner().failures == 1);
+}
+
+/// A skip of three bytes whose third call fails.
+fn skip_fails(rt: &impl Abort, kind: ErrorKind) {
+    let mut source = one_byte(DIGITS, 2, kind);
+    assert!(rt; kind_of(discard_exact(&mut source, 3)) == Some(kind));
+    assert!(rt; source.into_inner().failures == 1);
+}
+
+/// A read of a front whose first call fails.
+fn front_fails(rt: &impl Abort, kind: ErrorKind) {
+    let front = read_front(&mut one_byte(DIGITS, 0, kind), &mut [0u8; 1]);
+    assert!(rt; error_of(front) == Some(kind));
+}
+
 #[test]
 fn a_failing_reader_is_asked_no_more(rt: HostRuntime) {
     for kind in KINDS {
-        let mut source = one_byte(DIGITS, 1, kind);
-        assert_eq!(rt; kind_of(read16(&mut source)), Some(kind));
-        assert_eq!(rt; source.into_inner().failures, 1);
-        let mut source = one_byte(DIGITS, 2, kind);
-        assert_eq!(rt; kind_of(discard_exact(&mut source, 3)), Some(kind));
-        assert_eq!(rt; source.into_inner().failures, 1);
-        let front = read_front(&mut one_byte(DIGITS, 0, kind), &mut [0u8; 1]);
-        assert_eq!(rt; error_of(front), Some(kind));
+        read_fails(&rt, kind);
+        skip_fails(&rt, kind);
+        front_fails(&rt, kind);
     }
+}
+
+/// Reads onto a list, of which each meets the failing call.
+fn lists_fail(rt: &(impl Abort + AllocGlobal), kind: ErrorKind) {
+    let mut list = Vec::new(rt.alloc());
+    let mut source = one_byte(DIGITS, 2, kind);
+    assert!(rt; kind_of(read_exact_len(&mut source, &mut list, 3)) == Some(kind));
+    assert!(rt; kind_of(read_to_end(&mut source, &mut list)) == Some(kind));
+    assert!(rt; source.into_inner().failures == 2);
 }
 
 #[test]
 fn a_reader_that_fails_at_a_list_is_asked_no_more(rt: HostRuntime) {
     for kind in KINDS {
-        let mut list = Vec::new(rt.alloc());
-        let mut source = one_byte(DIGITS, 2, kind);
-        assert_eq!(rt;
-            kind_of(read_exact_len(&mut source, &mut list, 3)),
-            Some(kind)
-        );
-        assert_eq!(rt; kind_of(read_to_end(&mut source, &mut list)), Some(kind));
-        assert_eq!(rt; source.into_inner().failures, 2);
+        lists_fail(&rt, kind);
     }
 }
 
@@ -152,19 +169,28 @@ fn sends_to_a_slow_writer(rt: HostRuntime) -> Result<(), Fail> {
     Ok(())
 }
 
+/// A send whose third call fails.
+fn send_fails(rt: &impl Abort, kind: ErrorKind) {
+    let mut failing = dripping(2, kind);
+    assert!(rt; error_of(send_all(&mut failing, b"abcdefgh")) == Some(kind));
+    let inner = failing.into_inner();
+    assert!(rt; inner.room == *b"ab\0\0\0\0\0\0");
+    assert!(rt; inner.failures == 1);
+}
+
 #[test]
 fn sends_to_writers_that_fail(rt: HostRuntime) {
     for kind in KINDS {
-        let mut failing = dripping(2, kind);
-        assert_eq!(rt; error_of(send_all(&mut failing, b"abcdefgh")), Some(kind));
-        let inner = failing.into_inner();
-        assert!(rt; inner.room == *b"ab\0\0\0\0\0\0");
-        assert_eq!(rt; inner.failures, 1);
-        assert_eq!(rt; error_of(dripping(0, kind).flush()), Some(kind));
+        send_fails(&rt, kind);
+        assert!(rt; error_of(dripping(0, kind).flush()) == Some(kind));
     }
+}
+
+#[test]
+fn sends_to_a_writer_without_room(rt: HostRuntime) {
     let mut none = [0u8; 0];
     let stuck = send_all(&mut Counted::new(&mut none[..]), b"a");
-    assert_eq!(rt; error_of(stuck), Some(ErrorKind::WriteZero));
+    assert!(rt; error_of(stuck) == Some(ErrorKind::WriteZero));
 }
 
 #[test]
@@ -183,17 +209,31 @@ fn bytes_at_hand_come_first(rt: HostRuntime) -> Result<(), Fail> {
     Ok(())
 }
 
+/// Passes the first four digits.
+fn passes_four<S: Scan>(rt: &impl Abort, source: &mut S) {
+    assert!(rt; source.pass_others(b'4', 3) == 3);
+    assert!(rt; source.pass_others(b'4', 9) == 1);
+    assert!(rt; source.pass_others(b'4', 9) == 0);
+}
+
+/// Reads the digits behind the first four.
+fn reads_behind_four<R: Source>(
+    rt: &(impl Abort + AllocGlobal),
+    source: &mut R,
+) -> Result<(), ReadFault> {
+    let mut list = Vec::new(rt.alloc());
+    read_to_end(source, &mut list)?;
+    assert!(rt; list.as_slice() == b"456789".as_slice());
+    Ok(())
+}
+
 #[test]
 fn bytes_at_hand_are_passed(rt: HostRuntime) -> Result<(), Fail> {
     let mut source = Counted::new(b"89".as_slice());
     let mut block = *b"01234567";
     let mut blocks = Blocks::new(&mut block, 8, &mut source);
-    assert_eq!(rt; blocks.pass_others(b'4', 3), 3);
-    assert_eq!(rt; blocks.pass_others(b'4', 9), 1);
-    assert_eq!(rt; blocks.pass_others(b'4', 9), 0);
-    let mut list = Vec::new(rt.alloc());
-    read_to_end(&mut blocks, &mut list)?;
-    assert_eq!(rt; list.as_slice(), b"456789".as_slice());
+    passes_four(&rt, &mut blocks);
+    reads_behind_four(&rt, &mut blocks)?;
     Ok(())
 }
 
@@ -236,27 +276,52 @@ fn loads_in_both_orders(rt: HostRuntime) {
     assert!(rt; Order::Big != Order::Little);
 }
 
+/// A list of two numbers.
+fn three_and_five(alloc: Global) -> Result<Items<u16>, AllocError> {
+    Items::from_slice(alloc, &[3u16, 5])
+}
+
 #[test]
-fn lists(rt: HostRuntime) -> Result<(), Fail> {
-    let items = Items::from_slice(rt.alloc(), &[3u16, 5])?;
-    assert_eq!(rt; items.len(), 2);
-    assert_eq!(rt; items.as_slice(), [3u16, 5].as_slice());
-    let copy = items.clone(rt.alloc())?;
-    assert!(rt; copy == items && !copy.is_empty());
-    let again: Items<u16> = items.into_vec().into();
-    assert!(rt; Items::from_vec(again.into_vec()) == copy);
-    assert_eq!(rt; format!(in rt.alloc(); "{copy:?}")?.as_str(), "[3, 5]");
+fn lists(rt: HostRuntime) -> Result<(), AllocError> {
+    let items = three_and_five(rt.alloc())?;
+    assert!(rt; items.len() == 2 && !items.is_empty());
+    assert!(rt; items.as_slice() == [3u16, 5].as_slice());
+    Ok(())
+}
+
+#[test]
+fn debug_texts_of_lists(rt: HostRuntime) -> Result<(), AllocError> {
+    let items = three_and_five(rt.alloc())?;
+    let text = format!(in rt.alloc(); "{items:?}")?;
+    assert!(rt; text.as_str() == "[3, 5]");
+    Ok(())
+}
+
+#[test]
+fn copies_of_lists(rt: HostRuntime) -> Result<(), AllocError> {
+    let items = three_and_five(rt.alloc())?;
+    assert!(rt; items.clone(rt.alloc())? == items);
+    Ok(())
+}
+
+#[test]
+fn lists_and_vectors(rt: HostRuntime) -> Result<(), AllocError> {
+    let again: Items<u16> = three_and_five(rt.alloc())?.into_vec().into();
+    let again = Items::from_vec(again.into_vec());
+    assert!(rt; again == three_and_five(rt.alloc())?);
     Ok(())
 }
 
 #[test]
 fn faults(rt: HostRuntime) -> Result<(), Fail> {
     let memory = ReadFault::from(AllocError);
-    assert_eq!(rt;
-        format!(in rt.alloc(); "{memory:?}")?.as_str(),
-        "OutOfMemory"
-    );
+    let text = format!(in rt.alloc(); "{memory:?}")?;
+    assert!(rt; text.as_str() == "OutOfMemory");
+    Ok(())
+}
+
+#[test]
+fn faults_of_devices(rt: HostRuntime) {
     let broken = ReadFault::from(io::Error::new(ErrorKind::Other, "broken"));
     assert!(rt; matches!(broken, ReadFault::Io(_)));
-    Ok(())
 }

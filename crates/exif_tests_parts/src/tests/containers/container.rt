@@ -1,11 +1,8 @@
 //! Streams of every container, chosen by their first 4096 bytes.
 
-use super::super::devices::one_byte;
-use super::{Answer, is_answer, is_fault};
-use exif_base::Counted;
-use exif_containers::container::{exif_attr_of_stream, is_tiff};
+use super::{Answer, Kind, Row, assert_each_fault, assert_rows, gives};
+use exif_containers::container::is_tiff;
 use std::alloc::{AllocError, Global};
-use std::io::ErrorKind;
 use std::test::Fail;
 
 const UNKNOWN: Answer = Err("Unknown image format");
@@ -14,7 +11,7 @@ const NO_EXIF: Answer = Err("HEIF");
 
 const TIFF: &[u8] = b"MM\0*\0\0\0\x08";
 
-static ROWS: [(&[u8], Answer); 12] = [
+static ROWS: [Row; 12] = [
     (b"", UNKNOWN),
     (b"\x89PNG\x0d\x0a\x1a\x0a", UNKNOWN),
     (b"MM*\0", UNKNOWN),
@@ -31,14 +28,7 @@ static ROWS: [(&[u8], Answer); 12] = [
 
 #[test]
 fn rows(rt: HostRuntime) {
-    for row in &ROWS {
-        let (bytes, want) = *row;
-        let whole = exif_attr_of_stream(rt.alloc(), &mut Counted::new(bytes));
-        assert!(rt; is_answer(&whole, want));
-        let mut slow = one_byte(bytes, 100, ErrorKind::Other);
-        let cut = exif_attr_of_stream(rt.alloc(), &mut slow);
-        assert!(rt; is_answer(&cut, want));
-    }
+    assert_rows(&rt, Kind::Any, &ROWS);
 }
 
 /// A box of zeros, and an `ftyp` behind it.
@@ -54,27 +44,16 @@ fn ftyp_behind(alloc: Global, header: &[u8], zeros: usize) -> Result<Vec<u8>, Al
 #[test]
 fn four_thousand_and_ninety_six_bytes_choose(rt: HostRuntime) -> Result<(), Fail> {
     let over = ftyp_behind(rt.alloc(), b"\0\0\x0f\xfafree", 4082)?;
+    assert!(rt; gives(rt.alloc(), Kind::Any, over.as_slice(), UNKNOWN));
     let within = ftyp_behind(rt.alloc(), b"\0\0\x0f\xecfree", 4068)?;
-    for (bytes, want) in [(over.as_slice(), UNKNOWN), (within.as_slice(), NO_EXIF)] {
-        let whole = exif_attr_of_stream(rt.alloc(), &mut Counted::new(bytes));
-        assert!(rt; is_answer(&whole, want));
-        let mut slow = one_byte(bytes, 5000, ErrorKind::Other);
-        let cut = exif_attr_of_stream(rt.alloc(), &mut slow);
-        assert!(rt; is_answer(&cut, want));
-    }
+    assert!(rt; gives(rt.alloc(), Kind::Any, within.as_slice(), NO_EXIF));
     Ok(())
 }
 
 #[test]
 fn a_reader_fails_at_each_call(rt: HostRuntime) {
-    for kind in [ErrorKind::Interrupted, ErrorKind::UnexpectedEof] {
-        for row in &ROWS {
-            let bytes = row.0;
-            for calls in 0..bytes.len() {
-                let mut source = one_byte(bytes, calls, kind);
-                assert!(rt; is_fault(&exif_attr_of_stream(rt.alloc(), &mut source), kind));
-            }
-        }
+    for (bytes, _want) in &ROWS {
+        assert_each_fault(&rt, Kind::Any, bytes);
     }
 }
 

@@ -1,10 +1,8 @@
 //! HEIF files: worked rows, files that are refused for one reason each, and files at the edges.
 
-use super::super::devices::one_byte;
-use super::{Answer, is_answer, is_fault};
+use super::{Answer, Kind, Row, assert_each_fault, assert_rows, attr, is_answer, whole};
 use exif_base::{Counted, discard_exact};
-use exif_containers::isobmff::{get_exif_attr, is_heif};
-use std::io::ErrorKind;
+use exif_containers::isobmff::is_heif;
 use std::test::Fail;
 
 const BLOCK_TOO_SMALL: Answer = Err("ExifDataBlock too small");
@@ -62,7 +60,7 @@ const FTYP: &[u8] = b"\0\0\0\x14ftypmif1\0\0\0\0mif1";
 const WHOLE: &[u8] =
     b"\0\0\0\x09XXXXx\0\0\0\x14ftypmif1\0\0\0\0mif1\0\0\0Wmeta\0\0\0\0\0\0\0\x18iloc\x01\0\0\0\0\0\0\x01\x1e\x1d\0\x01\0\0\0\x01\0\0\0\x22iinf\0\0\0\0\0\x01\0\0\0\x14infe\x02\0\0\0\x1e\x1d\0\0Exif\0\0\0\x11idat\0\0\0\x01xabcd";
 
-static ROWS: [(&[u8], Answer); 63] = [
+static ROWS: [Row; 63] = [
     // whole in idat
     (WHOLE, Ok(b"abcd")),
     // past the file
@@ -339,21 +337,13 @@ static ROWS: [(&[u8], Answer); 63] = [
 
 #[test]
 fn rows(rt: HostRuntime) {
-    for row in &ROWS {
-        let (bytes, want) = *row;
-        let whole = get_exif_attr(rt.alloc(), &mut Counted::new(bytes));
-        assert!(rt; is_answer(&whole, want));
-        let mut slow = one_byte(bytes, 1000, ErrorKind::Other);
-        let cut = get_exif_attr(rt.alloc(), &mut slow);
-        assert!(rt; is_answer(&cut, want));
-    }
+    assert_rows(&rt, Kind::Heif, &ROWS);
 }
 
 #[test]
 fn fronts_are_refused(rt: HostRuntime) {
     for n in 0..WHOLE.len() {
-        let front = get_exif_attr(rt.alloc(), &mut Counted::new(&WHOLE[..n]));
-        assert!(rt; matches!(front, Err(_)));
+        assert!(rt; whole(rt.alloc(), Kind::Heif, &WHOLE[..n]).is_err());
     }
 }
 
@@ -363,18 +353,13 @@ fn places_count_from_where_the_reader_stood(rt: HostRuntime) -> Result<(), Fail>
         b"...\0\0\0\x14ftypmif1\0\0\0\0mif1\0\0\0Hmeta\0\0\0\0\0\0\0\x1ailoc\0\0\0\0@\0\0\x01\x1e\x1d\0\0\0\x01\0\0\0\x5c\0\0\0\x22iinf\0\0\0\0\0\x01\0\0\0\x14infe\x02\0\0\0\x1e\x1d\0\0Exif\0\0\0\x01xabcd";
     let mut source = Counted::new(bytes);
     discard_exact(&mut source, 3)?;
-    assert!(rt; is_answer(&get_exif_attr(rt.alloc(), &mut source), Ok(b"abcd")));
+    assert!(rt; is_answer(&attr(rt.alloc(), Kind::Heif, &mut source), Ok(b"abcd")));
     Ok(())
 }
 
 #[test]
 fn a_reader_fails_at_each_call(rt: HostRuntime) {
-    for kind in [ErrorKind::Interrupted, ErrorKind::UnexpectedEof] {
-        for calls in 0..WHOLE.len() {
-            let mut source = one_byte(WHOLE, calls, kind);
-            assert!(rt; is_fault(&get_exif_attr(rt.alloc(), &mut source), kind));
-        }
-    }
+    assert_each_fault(&rt, Kind::Heif, WHOLE);
 }
 
 #[test]

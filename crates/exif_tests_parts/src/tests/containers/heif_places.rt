@@ -1,15 +1,14 @@
 //! HEIF files whose item stands in the file: each is answered as its bytes in memory are, and read no
 //! further than its item.
 
-use super::super::devices::one_byte;
-use super::{Answer, is_answer, refusal};
+use super::{Answer, Kind, Row, attr, is_answer, refusal, slow, unfailing, whole};
 use exif_base::Counted;
-use exif_containers::isobmff::get_exif_attr;
 use exif_isobmff::exif_of_file;
 use exif_types::Error;
 use std::alloc::Global;
 use std::io;
 use std::io::{ErrorKind, Read};
+use std::process::Abort;
 
 const BLOCK_TOO_SMALL: Answer = Err("ExifDataBlock too small");
 
@@ -20,7 +19,7 @@ const INVALID_HEADER_OFFSET: Answer = Err("Invalid Exif header offset");
 const TOO_LARGE: Answer = Err("Exif data too large");
 
 // Files whose item stands in the file, and what they hold.
-static PLACES: [(&[u8], Answer); 10] = [
+static PLACES: [Row; 10] = [
     // behind a box that is passed over
     (
         b"\0\0\0\x14ftypmif1\0\0\0\0mif1\0\0\0Lmeta\0\0\0\0\0\0\0\x22iinf\0\0\0\0\0\x01\0\0\0\x14infe\x02\0\0\0\0\x01\0\0Exif\0\0\0\x1eiloc\0\0\0\0D\0\0\x01\0\x01\0\0\0\x01\0\0\0u\0\0\0\x08\0\0\0\x0dfree.....\0\0\0\x10mdat\0\0\0\0abcd",
@@ -94,53 +93,62 @@ static TOO_LONG: [(&[u8], u64, Answer); 3] = [
 
 /// Whether a file is answered as the same bytes in memory are, whole and one byte a read.
 fn is_answered_as_in_memory(alloc: Global, bytes: &[u8]) -> bool {
-    let whole = get_exif_attr(alloc, &mut Counted::new(bytes));
-    let cut = get_exif_attr(alloc, &mut one_byte(bytes, 1000, ErrorKind::Other));
-    match exif_of_file(alloc, bytes) {
-        Ok(payload) => holds(&whole, &payload) && holds(&cut, &payload),
-        Err(error) => refusal(&error).is_some_and(|text| is_answer(&whole, Err(text))
-            && is_answer(&cut, Err(text))),
-    }
+    let want = exif_of_file(alloc, bytes);
+    are_equal(&whole(alloc, Kind::Heif, bytes), &want)
+        && are_equal(&unfailing(alloc, Kind::Heif, bytes), &want)
 }
 
-/// Whether a result is this payload.
-fn holds(got: &Result<Vec<u8>, Error>, want: &[u8]) -> bool {
-    match got {
-        Ok(payload) => payload.as_slice() == want,
-        Err(_) => false,
+/// Whether two results are one payload or one refusal.
+fn are_equal(got: &Result<Vec<u8>, Error>, want: &Result<Vec<u8>, Error>) -> bool {
+    match (got, want) {
+        (Ok(payload), Ok(wanted)) => payload.as_slice() == wanted.as_slice(),
+        (Err(error), Err(wanted)) => {
+            refusal(error).is_some() && refusal(error) == refusal(wanted)
+        }
+        _ => false,
     }
 }
 
 #[test]
 fn places_in_the_file(rt: HostRuntime) {
-    for row in &PLACES {
-        let (bytes, want) = *row;
-        assert!(rt; is_answer(&get_exif_attr(rt.alloc(), &mut Counted::new(bytes)), want));
+    for (bytes, want) in &PLACES {
+        assert!(rt; is_answer(&whole(rt.alloc(), Kind::Heif, bytes), *want));
+    }
+}
+
+/// Each front of a file is answered as in memory, and so is the whole.
+fn assert_fronts_as_in_memory(rt: &(impl Abort + AllocGlobal), bytes: &[u8]) {
+    for n in 0..=bytes.len() {
+        assert!(rt;
+            is_answered_as_in_memory(rt.alloc(), &bytes[..n]),
+            "front of {n}"
+        );
     }
 }
 
 #[test]
 fn each_front_is_answered_as_in_memory(rt: HostRuntime) {
-    for row in &PLACES {
-        let (bytes, _want) = *row;
-        for n in 0..=bytes.len() {
-            assert!(rt; is_answered_as_in_memory(rt.alloc(), &bytes[..n]));
-        }
+    for (bytes, _want) in &PLACES {
+        assert_fronts_as_in_memory(&rt, bytes);
     }
+}
+
+/// What bytes give that others follow.
+fn followed(alloc: Global, bytes: &[u8], more: u64) -> Result<Vec<u8>, Error> {
+    let file = bytes.chain(io::repeat(b'.').take(more));
+    attr(alloc, Kind::Heif, &mut Counted::new(file))
 }
 
 #[test]
 fn an_item_that_is_too_long(rt: HostRuntime) {
-    for row in &TOO_LONG {
-        let (bytes, more, want) = *row;
-        let mut source = Counted::new(bytes.chain(io::repeat(b'.').take(more)));
-        assert!(rt; is_answer(&get_exif_attr(rt.alloc(), &mut source), want));
+    for (bytes, more, want) in &TOO_LONG {
+        assert!(rt; is_answer(&followed(rt.alloc(), bytes, *more), *want));
     }
 }
 
 #[test]
 fn what_stands_behind_the_item_is_not_read(rt: HostRuntime) {
     let (bytes, want) = PLACES[1];
-    let mut source = one_byte(bytes, bytes.len(), ErrorKind::Other);
-    assert!(rt; is_answer(&get_exif_attr(rt.alloc(), &mut source), want));
+    let answer = slow(rt.alloc(), Kind::Heif, bytes, bytes.len(), ErrorKind::Other);
+    assert!(rt; is_answer(&answer, want));
 }

@@ -1,14 +1,12 @@
 //! JPEG streams and WebP files.
 
 use super::super::devices::one_byte;
-use super::{Answer, is_answer, is_fault};
-use exif_base::{Blocks, Counted, Source};
+use super::{Answer, Kind, Row, assert_each_fault, assert_fronts, assert_rows, is_fault};
+use exif_base::{Counted, Source};
 use exif_containers::get_exif_attr_from_jpeg;
-use exif_containers::jpeg::{get_exif_attr, is_jpeg};
+use exif_containers::jpeg::is_jpeg;
 use exif_containers::util::read_all;
-use exif_containers::webp::{self, is_webp};
-use exif_types::Error;
-use std::alloc::Global;
+use exif_containers::webp::is_webp;
 use std::io::ErrorKind;
 use std::test::Fail;
 
@@ -22,7 +20,7 @@ const SECOND_SEGMENT: &[u8] = b"\xff\xd8\xff\xe1\0\x04ab\xff\xe1\0\x09Exif\0\0Z"
 
 const SECOND_CHUNK: &[u8] = b"RIFF\x17\0\0\0WEBPwhat\0\0\0\0EXIF\x03\0\0\0abc";
 
-static JPEG_ROWS: [(&[u8], Answer); 11] = [
+static JPEG_ROWS: [Row; 11] = [
     (b"\xff\xd8\x01\x02\x03\xff\0\xff\xd9", Err("JPEG")),
     (b"\xff\xd8\xff\xe1\0\x08\x03\x04", BROKEN_JPEG),
     (
@@ -39,7 +37,7 @@ static JPEG_ROWS: [(&[u8], Answer); 11] = [
     (b"\xff\xd8\xff\xe1\0\x08Exif\0\0\xff\xd9", Ok(b"")),
 ];
 
-static WEBP_ROWS: [(&[u8], Answer); 11] = [
+static WEBP_ROWS: [Row; 11] = [
     (SECOND_CHUNK, Ok(b"abc")),
     (
         b"RIFF\x0e\0\0\0WEBPwhat\x02\0\0\0abEXIF\x02\0\0\0cd",
@@ -56,24 +54,10 @@ static WEBP_ROWS: [(&[u8], Answer); 11] = [
     (b"RIFF\x04\0\0\0WEBP", Err("WebP")),
 ];
 
-fn by_blocks<R: Source>(alloc: Global, source: &mut R) -> Result<Vec<u8>, Error> {
-    let mut block = [0u8; 7];
-    let payload = get_exif_attr(alloc, &mut Blocks::new(&mut block, 0, source))?;
-    Ok(payload)
-}
-
 #[test]
 fn jpeg_rows(rt: HostRuntime) {
-    for row in &JPEG_ROWS {
-        let (bytes, want) = *row;
-        let whole = get_exif_attr_from_jpeg(rt.alloc(), &mut Counted::new(bytes));
-        assert!(rt; is_answer(&whole, want));
-        let mut slow = one_byte(bytes, 100, ErrorKind::Other);
-        let cut = get_exif_attr_from_jpeg(rt.alloc(), &mut slow);
-        assert!(rt; is_answer(&cut, want));
-        let mut slow = one_byte(bytes, 100, ErrorKind::Other);
-        assert!(rt; is_answer(&by_blocks(rt.alloc(), &mut slow), want));
-    }
+    assert_rows(&rt, Kind::Jpeg, &JPEG_ROWS);
+    assert_rows(&rt, Kind::JpegByBlocks, &JPEG_ROWS);
 }
 
 #[test]
@@ -89,49 +73,32 @@ fn jpeg_leaves_what_follows(rt: HostRuntime) -> Result<(), Fail> {
 
 #[test]
 fn webp_rows(rt: HostRuntime) {
-    for row in &WEBP_ROWS {
-        let (bytes, want) = *row;
-        let whole = webp::get_exif_attr(rt.alloc(), &mut Counted::new(bytes));
-        assert!(rt; is_answer(&whole, want));
-        let mut slow = one_byte(bytes, 100, ErrorKind::Other);
-        let cut = webp::get_exif_attr(rt.alloc(), &mut slow);
-        assert!(rt; is_answer(&cut, want));
-    }
+    assert_rows(&rt, Kind::WebP, &WEBP_ROWS);
 }
 
 #[test]
 fn fronts_are_broken(rt: HostRuntime) {
-    for n in 0..SECOND_SEGMENT.len() {
-        let front = &SECOND_SEGMENT[..n];
-        let result = get_exif_attr_from_jpeg(rt.alloc(), &mut Counted::new(front));
-        assert!(rt; is_answer(&result, BROKEN_JPEG));
-    }
-    let empty: &[u8] = b"\xff\xd8\xff\xe1\0\x08Exif\0\0";
-    for n in 0..empty.len() {
-        let result = get_exif_attr_from_jpeg(rt.alloc(), &mut Counted::new(&empty[..n]));
-        assert!(rt; is_answer(&result, BROKEN_JPEG));
-    }
-    for n in 0..SECOND_CHUNK.len() {
-        let result = webp::get_exif_attr(rt.alloc(), &mut Counted::new(&SECOND_CHUNK[..n]));
-        assert!(rt; is_answer(&result, BROKEN_WEBP));
-    }
+    assert_fronts(&rt, Kind::Jpeg, SECOND_SEGMENT, BROKEN_JPEG);
+    assert_fronts(
+        &rt,
+        Kind::Jpeg,
+        b"\xff\xd8\xff\xe1\0\x08Exif\0\0",
+        BROKEN_JPEG,
+    );
+    assert_fronts(&rt, Kind::WebP, SECOND_CHUNK, BROKEN_WEBP);
 }
 
 #[test]
 fn a_reader_fails_at_each_call(rt: HostRuntime) {
+    assert_each_fault(&rt, Kind::Jpeg, SECOND_SEGMENT);
+    assert_each_fault(&rt, Kind::WebP, SECOND_CHUNK);
+}
+
+#[test]
+fn a_reader_fails_where_all_is_read(rt: HostRuntime) {
     for kind in [ErrorKind::Interrupted, ErrorKind::UnexpectedEof] {
-        for calls in 0..SECOND_SEGMENT.len() {
-            let mut source = one_byte(SECOND_SEGMENT, calls, kind);
-            let result = get_exif_attr_from_jpeg(rt.alloc(), &mut source);
-            assert!(rt; is_fault(&result, kind));
-        }
-        for calls in 0..SECOND_CHUNK.len() {
-            let mut source = one_byte(SECOND_CHUNK, calls, kind);
-            let result = webp::get_exif_attr(rt.alloc(), &mut source);
-            assert!(rt; is_fault(&result, kind));
-        }
-        let mut source = one_byte(b"abc", 2, kind);
-        assert!(rt; is_fault(&read_all(rt.alloc(), &mut source), kind));
+        let rest = read_all(rt.alloc(), &mut one_byte(b"abc", 2, kind));
+        assert!(rt; is_fault(&rest, kind));
     }
 }
 

@@ -23,10 +23,17 @@ pub fn assert_text(
     text: &str,
 ) -> Result<(), AllocError> {
     let shown = Shown(kind, contents);
-    let alloc = rt.alloc();
-    assert_eq!(rt; format!(in alloc; "{shown}")?.as_str(), text);
-    assert_eq!(rt; format!(in alloc; "{shown:60}")?.as_str(), text);
+    let both = format!(in rt.alloc(); "{shown}|{shown:60}")?;
+    assert!(rt; is_twice(both.as_str(), text), "{both}");
     Ok(())
+}
+
+/// Whether a text stands on both sides of a bar.
+pub fn is_twice(both: &str, text: &str) -> bool {
+    match both.strip_prefix(text) {
+        Some(rest) => rest.strip_prefix('|') == Some(text),
+        None => false,
+    }
 }
 
 /// What the value of a case holds.

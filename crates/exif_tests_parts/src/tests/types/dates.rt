@@ -10,11 +10,12 @@ fn assert_refused(
     blank: bool,
     text: &str,
 ) {
-    match answer {
-        Err(Error::BlankValue(message)) if blank => assert_eq!(rt; message, text),
-        Err(Error::InvalidFormat(message)) if !blank => assert_eq!(rt; message, text),
-        _ => panic!(rt; "another answer"),
-    }
+    let is_wanted = match answer {
+        Err(Error::BlankValue(message)) => blank && message == text,
+        Err(Error::InvalidFormat(message)) => !blank && message == text,
+        _ => false,
+    };
+    assert!(rt; is_wanted, "{text}");
 }
 
 // Reads parts of seconds one after another; the last are 987000 nanoseconds.
@@ -27,7 +28,7 @@ fn read_subsecs(rt: &(impl Abort + AllocGlobal), date: &mut DateTime) -> Result<
         ("000987", Some(987000)),
     ] {
         date.parse_subsec(text.as_bytes())?;
-        assert_eq!(rt; date.nanosecond, nanosecond);
+        assert!(rt; date.nanosecond == nanosecond);
     }
     Ok(())
 }
@@ -35,9 +36,9 @@ fn read_subsecs(rt: &(impl Abort + AllocGlobal), date: &mut DateTime) -> Result<
 // Reads two offsets; the last is -6039 minutes.
 fn read_offsets(rt: &(impl Abort + AllocGlobal), date: &mut DateTime) -> Result<(), Fail> {
     date.parse_offset(b"+09:30 more")?;
-    assert_eq!(rt; date.offset, Some(570));
+    assert!(rt; date.offset == Some(570));
     date.parse_offset(b"-99:99")?;
-    assert_eq!(rt; date.offset, Some(-6039));
+    assert!(rt; date.offset == Some(-6039));
     Ok(())
 }
 
@@ -58,9 +59,9 @@ fn what_is_refused_changes_nothing(rt: HostRuntime) -> Result<(), Fail> {
     read_offsets(&rt, &mut date)?;
     assert_refused(&rt, date.parse_offset(b"+01:2x"), false, "Not a number");
     assert_refused(&rt, date.parse_subsec(b"12x"), false, "Not a number");
-    assert_eq!(rt; (date.nanosecond, date.offset), (Some(987000), Some(-6039)));
+    assert!(rt; date.nanosecond == Some(987000) && date.offset == Some(-6039));
     date.parse_subsec(b" ")?;
-    assert_eq!(rt; date.nanosecond, None);
+    assert!(rt; date.nanosecond == None);
     assert_eq!(rt;
         format!(in rt.alloc(); "{date:?}")?.as_str(),
         "DateTime { year: 2016, month: 5, day: 4, hour: 3, minute: 2, second: 1, nanosecond: None, offset: Some(-6039) }"

@@ -171,7 +171,7 @@ static NAMED: [(Tag, &str); 153] = named![
 
 fn assert_names(rt: &(impl Abort + AllocGlobal), named: &[(Tag, &str)]) -> Result<(), AllocError> {
     for (tag, name) in named {
-        assert_eq!(rt; format!(in rt.alloc(); "{tag}")?.as_str(), *name);
+        assert!(rt; format!(in rt.alloc(); "{tag}")?.as_str() == *name);
     }
     Ok(())
 }
@@ -241,7 +241,7 @@ fn descriptions(rt: HostRuntime) {
         (Tag(Context::Interop, 0x1001), Some("Related image width")),
         (Tag(Context::Tiff, 65000), None),
     ] {
-        assert_eq!(rt; tag.description(), text);
+        assert!(rt; tag.description() == text);
     }
 }
 
