@@ -28,7 +28,7 @@ pub block_of : (new fields : List Field) (w0 w1 w2 w3 : List Group) (order : Ord
     → IsBlockOf (renewed new fields) items
 block_of new fields w0 w1 w2 w3 order items a b c d e =
     let all : w2 ≡ pushed_all (renewed new fields) [] =
-        c ∙ (ap (pushed_all new) (b ∙ ap (pushed_all (others new fields)) a) ∙ sym (pushed_both (others new fields) new [])) in
+    c ∙ (ap (pushed_all new) (b ∙ ap (pushed_all (others new fields)) a) ∙ sym (pushed_both (others new fields) new [])) in
     (order, w3, subst (λ w. HasThumbnail w w3) all d, e)
 
 -- fields that were left over stand in newly written data

@@ -124,7 +124,11 @@ fn moved_dates(
             found = true;
         }
     }
-    if found { Ok(moved) } else { Err(Refusal::NoDate) }
+    if found {
+        Ok(moved)
+    } else {
+        Err(Refusal::NoDate)
+    }
 }
 
 // Adds a date of a file, moved, unless it is blank. Answers whether there is one.

@@ -29,11 +29,7 @@ pub struct Changed {
 /// and WebP files have room for. Of two values of one tag the last is set. A field that the file
 /// has keeps its type; one that it lacks has the type of the standard. Data with a fault are not
 /// written anew, since what can't be read of them would be lost.
-pub fn set(
-    alloc: Global,
-    file: Vec<u8>,
-    assignments: &[Assignment<'_>],
-) -> Result<Changed, Refusal>
+pub fn set(alloc: Global, file: Vec<u8>, assignments: &[Assignment<'_>]) -> Result<Changed, Refusal>
     ensures { IfOk result (λ changed. IsSet assignments.now file.items changed.file.items) }
 {
     let Some(format) = format_of(file.as_slice()) else {
@@ -52,11 +48,7 @@ pub fn set(
 
 /// Sets one field of the primary image in a file where it stands: the file keeps its length. After a
 /// refusal it is as it was.
-pub fn set_here(
-    alloc: Global,
-    file: &mut [u8],
-    assignment: &Assignment<'_>,
-) -> Result<(), Refusal>
+pub fn set_here(alloc: Global, file: &mut [u8], assignment: &Assignment<'_>) -> Result<(), Refusal>
     ensures set { OnOk result (IsSetHere assignment.now.tag file.old file.new) }
     ensures kept { OnErr result (file.new ≡ file.old) }
 {

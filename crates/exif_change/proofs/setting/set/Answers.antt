@@ -20,10 +20,10 @@ returns c =
     let some : length c.in_ok-fitted.fitted.left.items ≡ 0 → ⊥ = λ e. absurd (grind (arith, nat_tests, c.in_ok-fitted.fitted.left.ok, c.is_empty.ensures, c.if-is_empty.false)) in
     of_each _ _ c.moved.result
     (λ changed anew.
-      is_set c.args.assignments.now c.args.file.items c.in_ok-fitted.fitted.file.items changed.file.items
-      c.in_ok-fields.fields.items c.in_ok-fitted.fitted.left.items c.has_room.result
-      c.in_ok-fields.ensures.named c.in_ok-fields.ensures.primary room c.in_ok-fitted.ensures
-      (set_anew c.in_ok-fitted.fitted.left.items c.in_ok-fitted.fitted.file.items changed.file.items
-      some
-      (rw (c.as_slice-2.ensures.value, c.as_slice-3.ensures.value) at anew)))
+    is_set c.args.assignments.now c.args.file.items c.in_ok-fitted.fitted.file.items changed.file.items
+    c.in_ok-fields.fields.items c.in_ok-fitted.fitted.left.items c.has_room.result
+    c.in_ok-fields.ensures.named c.in_ok-fields.ensures.primary room c.in_ok-fitted.ensures
+    (set_anew c.in_ok-fitted.fitted.left.items c.in_ok-fitted.fitted.file.items changed.file.items
+    some
+    (rw (c.as_slice-2.ensures.value, c.as_slice-3.ensures.value) at anew)))
     c.moved.ensures
