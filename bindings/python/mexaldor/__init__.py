@@ -1,0 +1,160 @@
+"""Exif data of TIFF, JPEG, HEIF and WebP files read, edited in place and taken out.
+
+    >>> import mexaldor
+    >>> mexaldor.read("holiday.jpg")["summary"]["orientation"]
+    6
+    >>> turned = mexaldor.set(open("holiday.jpg", "rb").read(), "Orientation=1")
+    >>> clean = mexaldor.scrub("holiday.jpg")
+
+The calls share nothing and let other threads run. What they do is proved; how they are called from
+here is tested.
+"""
+
+from __future__ import annotations
+
+import ctypes
+import ctypes.util
+import enum
+import json
+import os
+import pathlib
+from typing import Any, Dict, Union
+
+__all__ = ["Refused", "Status", "erase_places", "read", "scrub", "set"]
+__version__ = "0.1.0"
+
+Source = Union[str, "os.PathLike[str]", bytes, bytearray, memoryview]
+
+
+class Status(enum.IntEnum):
+    """How a call ended."""
+
+    OK = 0
+    FAULTS = 1
+    INVALID_FORMAT = 2
+    NOT_FOUND = 3
+    BLANK_VALUE = 4
+    TOO_BIG = 5
+    NOT_SUPPORTED = 6
+    UNEXPECTED_VALUE = 7
+    OUT_OF_MEMORY = 8
+    FIELD_NOT_FOUND = 16
+    UNKNOWN_TYPE = 17
+    VALUE_TOO_LONG = 18
+    NAMES_PLACES = 19
+    SHARED_BYTES = 20
+    SCATTERED_DATA = 21
+    PICTURE_DATA = 22
+    INVALID_HEADER = 23
+    NO_ASSIGNMENT = 32
+    NOT_OF_ITS_TYPE = 33
+
+
+class Refused(Exception):
+    """A call is refused, and nothing has changed; `status` says why."""
+
+    def __init__(self, status: Status, text: str) -> None:
+        super().__init__(text)
+        self.status = status
+
+
+class _Answer(ctypes.Structure):
+    _fields_ = [("status", ctypes.c_uint32), ("length", ctypes.c_size_t)]
+
+
+def _library() -> ctypes.CDLL:
+    """The shared library: that of MEXALDOR_LIBRARY, the one in this package, or the system's."""
+    beside = pathlib.Path(__file__).with_name("libmexaldor.so.0")
+    path = os.environ.get("MEXALDOR_LIBRARY")
+    if path is None:
+        path = str(beside) if beside.exists() else ctypes.util.find_library("mexaldor")
+    if path is None:
+        raise ImportError("libmexaldor.so.0 was not found: set MEXALDOR_LIBRARY to its path")
+    library = ctypes.CDLL(path)
+    some, size = ctypes.c_void_p, ctypes.c_size_t
+    library.mexaldor_read.argtypes = [some, size, ctypes.c_bool, ctypes.c_uint64, some, size]
+    library.mexaldor_read.restype = _Answer
+    library.mexaldor_scrub.argtypes = [some, size, some, size]
+    library.mexaldor_scrub.restype = _Answer
+    library.mexaldor_erase_places.argtypes = [some, size]
+    library.mexaldor_erase_places.restype = ctypes.c_uint32
+    library.mexaldor_set.argtypes = [some, size, some, size]
+    library.mexaldor_set.restype = ctypes.c_uint32
+    library.mexaldor_error.argtypes = [ctypes.c_uint32, some, size]
+    library.mexaldor_error.restype = size
+    return library
+
+
+_mexaldor = _library()
+
+
+def _bytes(source: Source) -> bytes:
+    """The bytes of a file, or those that are given."""
+    if isinstance(source, (bytes, bytearray, memoryview)):
+        return bytes(source)
+    return pathlib.Path(source).read_bytes()
+
+
+def _refused(status: int) -> Refused:
+    room = ctypes.create_string_buffer(_mexaldor.mexaldor_error(status, None, 0))
+    _mexaldor.mexaldor_error(status, room, len(room))
+    return Refused(Status(status), room.raw.decode("ascii"))
+
+
+def read(source: Source, *, strict: bool = False, limit: int = 0) -> Dict[str, Any]:
+    """What the Exif data of a file hold: a dictionary as docs/exif.schema.json has it.
+
+    `source` is a path, or the bytes of a file. Soft faults are passed over and stand under
+    "faults"; with `strict` the first one is refused. `limit` is the most entries that are read of
+    files of strangers; 0 stands for 1,000,000. `Refused` says why nothing is read.
+    """
+    data = _bytes(source)
+    room = ctypes.create_string_buffer(max(4096, len(data) // 4))
+    while True:
+        answer = _mexaldor.mexaldor_read(data, len(data), not strict, limit, room, len(room))
+        if answer.length <= len(room):
+            break
+        room = ctypes.create_string_buffer(answer.length)
+    if answer.status > Status.FAULTS:
+        told = json.loads(room.raw[: answer.length]) if answer.length else {}
+        refused = _refused(answer.status)
+        raise Refused(refused.status, told.get("error", str(refused)))
+    return json.loads(room.raw[: answer.length])
+
+
+def scrub(source: Source) -> bytes:
+    """A file without its metadata, as new bytes: JPEG, WebP and HEIF; a TIFF file is refused."""
+    data = _bytes(source)
+    room = ctypes.create_string_buffer(max(1, len(data)))
+    answer = _mexaldor.mexaldor_scrub(data, len(data), room, len(room))
+    if answer.status != Status.OK:
+        raise _refused(answer.status)
+    return room.raw[: answer.length]
+
+
+def erase_places(source: Source) -> bytes:
+    """A file without what says where the picture was taken, as new bytes of the same length."""
+    room, length = _room(_bytes(source))
+    status = _mexaldor.mexaldor_erase_places(room, length)
+    if status != Status.OK:
+        raise _refused(status)
+    return room.raw[:length]
+
+
+def set(source: Source, assignment: str) -> bytes:
+    """A file with one field of the primary image set where it stands, as new bytes of the same
+    length: "Orientation=6", "DateTime=2024-05-01T12:30:00".
+    """
+    room, length = _room(_bytes(source))
+    word = assignment.encode()
+    status = _mexaldor.mexaldor_set(room, length, word, len(word))
+    if status != Status.OK:
+        raise _refused(status)
+    return room.raw[:length]
+
+
+def _room(data: bytes) -> "tuple[ctypes.Array[ctypes.c_char], int]":
+    """A buffer that holds bytes, which a call may change."""
+    room = ctypes.create_string_buffer(max(1, len(data)))
+    room[: len(data)] = data
+    return room, len(data)

@@ -1,0 +1,102 @@
+//! The calls on the pictures of tests/make_files.py, whose folder MEXALDOR_PICTURES names.
+
+use mexaldor::{erase_places, read, read_with, scrub, set, Options, Refused};
+use std::path::PathBuf;
+
+const CONTAINERS: [&str; 4] = ["whole.jpg", "whole.webp", "whole.heic", "whole.tif"];
+
+fn picture(name: &str) -> Vec<u8> {
+    let folder = std::env::var_os("MEXALDOR_PICTURES").expect("MEXALDOR_PICTURES names a folder");
+    std::fs::read(PathBuf::from(folder).join(name)).expect("the picture is there")
+}
+
+#[test]
+fn each_container_is_read() {
+    for name in CONTAINERS {
+        let told = read(&picture(name)).expect(name);
+        assert!(told.json.contains("\"orientation\":6"), "{name}: {}", told.json);
+        assert!(!told.faults);
+    }
+}
+
+#[test]
+fn faults_are_passed_over_or_refused() {
+    let faulty = picture("faulty.jpg");
+    assert!(read(&faulty).unwrap().faults);
+    let strict = Options { strict: true, limit: 0 };
+    assert_eq!(read_with(&faulty, strict), Err(Refused::INVALID_FORMAT));
+    let few = Options { strict: false, limit: 3 };
+    assert!(read_with(&picture("whole.jpg"), few).unwrap().faults);
+}
+
+#[test]
+fn what_is_no_picture_is_refused() {
+    assert_eq!(read(b""), Err(Refused::INVALID_FORMAT));
+    assert_eq!(read(&picture("plain.jpg")), Err(Refused::NOT_FOUND));
+    assert_eq!(scrub(b""), Err(Refused::INVALID_FORMAT));
+    assert_eq!(scrub(&picture("whole.tif")), Err(Refused::PICTURE_DATA));
+    assert_eq!(Refused::OUT_OF_MEMORY.to_string(), "Out of memory");
+}
+
+#[test]
+fn places_are_erased() {
+    for name in CONTAINERS {
+        let mut file = picture(name);
+        assert!(read(&file).unwrap().json.contains("\"latitude\":"));
+        erase_places(&mut file).expect(name);
+        assert!(!read(&file).unwrap().json.contains("\"latitude\":"));
+        assert_eq!(file.len(), picture(name).len());
+    }
+}
+
+#[test]
+fn a_field_is_set_where_it_stands_and_set_back() {
+    for name in CONTAINERS {
+        let old = picture(name);
+        let mut file = old.clone();
+        set(&mut file, "Orientation=1").expect(name);
+        assert_eq!(file.iter().zip(&old).filter(|(a, b)| a != b).count(), 1);
+        set(&mut file, "Orientation=6").expect(name);
+        assert_eq!(file, old);
+    }
+}
+
+#[test]
+fn a_refusal_changes_nothing() {
+    let old = picture("whole.jpg");
+    for (assignment, refused) in [
+        ("Orientation", Refused::NO_ASSIGNMENT),
+        ("Orientation=up", Refused::NOT_OF_ITS_TYPE),
+        ("Artist=me", Refused::FIELD_NOT_FOUND),
+        ("Make=a much longer maker", Refused::VALUE_TOO_LONG),
+    ] {
+        let mut file = old.clone();
+        assert_eq!(set(&mut file, assignment), Err(refused));
+        assert_eq!(file, old);
+    }
+}
+
+#[test]
+fn metadata_are_taken_out() {
+    for name in &CONTAINERS[..3] {
+        let old = picture(name);
+        let new = scrub(&old).expect(name);
+        assert!(new.len() <= old.len());
+        assert_eq!(scrub(&new).expect(name), new);
+    }
+}
+
+#[test]
+fn eight_threads_answer_the_same() {
+    let file = picture("whole.heic");
+    let wanted = read(&file).unwrap();
+    std::thread::scope(|scope| {
+        for _ in 0..8 {
+            scope.spawn(|| {
+                for _ in 0..100 {
+                    assert_eq!(read(&file).unwrap(), wanted);
+                }
+            });
+        }
+    });
+}

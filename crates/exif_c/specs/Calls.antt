@@ -1,0 +1,63 @@
+-- What the calls of the library for C do.
+use Rattle.std.specs.Prelude.{◌≡◌, ◌≢◌, ◌⊎◌, ◌==◌, ℕ, Bool, List, [], Option, Some, None, Result, Ok, Err, if◌then◌else◌, unwrap_or}
+use Rattle.exif_types.specs.Contents.{ExifContents}
+use Rattle.exif_types.specs.Failures.{Failure}
+use Rattle.exif_types.specs.declared.tag.Tag.{Tag}
+use Rattle.exif_tiff.specs.Answers.{raw_answer}
+use Rattle.exif_containers.specs.Container.{container_answer, format_in}
+use Rattle.exif_containers.specs.declared.container.Format.TheVariants.{Tiff}
+use Rattle.exif_reader.specs.Files.{ReadsContainer}
+use Rattle.exif_json.specs.Answers.{Tells}
+use Rattle.exif_edit.specs.Causes.{Cause}
+use Rattle.exif_change.specs.Changes as changes
+use Rattle.exif_change.specs.Setting.{IsSetHere, entry_limit}
+use Rattle.exif_change.specs.declared.scrubbing.Removed.TheVariants.{Metadata}
+use Rattle.exif_c.specs.Buffers.{Gives, GivesNothing}
+use Rattle.exif_c.specs.Statuses.{cause_status, error_status, number_of}
+use Rattle.exif_c.specs.declared.status.Status.{Status}
+use Rattle.exif_c.specs.declared.status.Status.TheVariants as status
+use Rattle.exif_c.specs.declared.buffer.Answer.{Answer}
+
+-- the status of what a reader answered
+abbrev pub answer_status : Result ExifContents Failure → Status
+answer_status (Ok exif) = status.Well
+answer_status (Err e) = error_status e
+
+-- the limit that is meant
+abbrev pub meant : ℕ → ℕ
+meant limit = if limit == 0 then entry_limit else limit
+
+-- what a reader answers of a file is told as JSON in the buffer
+pub record IsReadInto (lenient : Bool) (limit : ℕ) (file old new : List ℕ) (answer : Answer)
+    : Type 0 where
+  pub read : Result ExifContents Failure
+  pub reads : ReadsContainer (raw_answer lenient (Some (meant limit))) (container_answer file) read
+  pub text : List ℕ
+  pub told : Tells [] (unwrap_or (format_in file) Tiff) read text
+  pub gives : Gives (number_of (answer_status read)) text old new answer
+
+-- so, or memory ran out, and the buffer is as it was
+abbrev pub IsRead : Bool → ℕ → List ℕ → List ℕ → List ℕ → Answer → Type 0
+IsRead lenient limit file old new answer =
+    IsReadInto lenient limit file old new answer
+    ⊎ (GivesNothing (number_of status.OutOfMemory) answer × (new ≡ old))
+
+-- a file stands in the buffer without its metadata, or the buffer is as it was
+abbrev pub IsScrubbed : List ℕ → List ℕ → List ℕ → Answer → Type 0
+IsScrubbed file old new answer =
+    ((text : List ℕ) × changes.IsScrubbed Metadata file text × Gives 0 text old new answer)
+    ⊎ ((number : ℕ) × GivesNothing number answer × (number ≢ 0) × (new ≡ old))
+
+-- bytes are edited as the answer says, which the status tells, or memory ran out and they are as
+-- they were
+abbrev pub Ends : ℕ → List ℕ → List ℕ → Result (List ℕ) Cause → Type 0
+Ends number old new (Ok edited) =
+    ((number ≡ 0) × (new ≡ edited)) ⊎ ((number ≡ number_of status.OutOfMemory) × (new ≡ old))
+Ends number old new (Err cause) =
+    (new ≡ old)
+    × ((number ≡ number_of (cause_status cause)) ⊎ (number ≡ number_of status.OutOfMemory))
+
+-- a field is set where it stands, or the bytes are as they were
+abbrev pub SetsHere : List ℕ → List ℕ → ℕ → Type 0
+SetsHere old new number =
+    ((number ≡ 0) × (tag : Tag) × IsSetHere tag old new) ⊎ ((number ≢ 0) × (new ≡ old))

@@ -1,0 +1,147 @@
+-- How calls end, as numbers, and their texts.
+use Rattle.std.specs.Prelude.{ℕ, ◌==◌, List, [], ◌∷◌, codes, find, Option, Some, None}
+use Rattle.exif_types.specs.Failures.{Failure}
+use Rattle.exif_types.specs.Refusals as refusals
+use Rattle.exif_types.specs.Refusals.{invalid_format, not_found, blank_value, too_big, not_supported, unexpected_value}
+use Rattle.exif_types.specs.declared.error.Error.TheVariants as error
+use Rattle.exif_edit.specs.Causes.{Cause, no_field, unknown_type, too_long, place_named, shared, scattered, picture, wrong_header, no_data}
+use Rattle.exif_edit.specs.declared.error.Error.{Error}
+use Rattle.exif_edit.specs.declared.error.Error.TheVariants as edit
+use Rattle.exif_change.specs.declared.refusal.Refusal.{Refusal}
+use Rattle.exif_change.specs.declared.refusal.Refusal.TheVariants as change
+use Rattle.exif_c.specs.declared.status.Status.{Status}
+use Rattle.exif_c.specs.declared.status.Status.TheVariants as status
+
+-- the number of each
+abbrev pub number_of : Status → ℕ
+number_of status.Well = 0
+number_of status.Faults = 1
+number_of status.InvalidFormat = 2
+number_of status.NotFound = 3
+number_of status.BlankValue = 4
+number_of status.TooBig = 5
+number_of status.NotSupported = 6
+number_of status.UnexpectedValue = 7
+number_of status.OutOfMemory = 8
+number_of status.FieldNotFound = 16
+number_of status.UnknownType = 17
+number_of status.ValueTooLong = 18
+number_of status.NamesPlaces = 19
+number_of status.SharedBytes = 20
+number_of status.ScatteredData = 21
+number_of status.PictureData = 22
+number_of status.InvalidHeader = 23
+number_of status.NoAssignment = 32
+number_of status.NotOfItsType = 33
+number_of status.OtherThumbnail = 34
+number_of status.NoDate = 35
+number_of status.InvalidDate = 36
+number_of status.DateOutOfRange = 37
+number_of status.NoThumbnail = 38
+
+-- its text
+abbrev pub text_of : Status → List ℕ
+text_of status.Well = codes "No error"
+text_of status.Faults = codes "Faults were passed over"
+text_of status.InvalidFormat = codes "Invalid format"
+text_of status.NotFound = codes "No Exif data found"
+text_of status.BlankValue = codes "Blank value"
+text_of status.TooBig = codes "Too big"
+text_of status.NotSupported = codes "Not supported"
+text_of status.UnexpectedValue = codes "Unexpected value"
+text_of status.OutOfMemory = codes "Out of memory"
+text_of status.FieldNotFound = codes "No such field, and none that can be made"
+text_of status.UnknownType = codes "Cannot write unknown field types"
+text_of status.ValueTooLong = codes "The value is too long for its room"
+text_of status.NamesPlaces = codes "The field says where other bytes stand"
+text_of status.SharedBytes = codes "The bytes are shared with something else"
+text_of status.ScatteredData = codes "The Exif data do not stand in one piece"
+text_of status.PictureData = codes "The picture stands in the same data"
+text_of status.InvalidHeader = codes "The header of the data is wrong"
+text_of status.NoAssignment = codes "No TAG=VALUE of a known tag"
+text_of status.NotOfItsType = codes "The text is no value of the field's type"
+text_of status.OtherThumbnail = codes "New data would lose the thumbnail"
+text_of status.NoDate = codes "No date to shift"
+text_of status.InvalidDate = codes "A date that no calendar has"
+text_of status.DateOutOfRange = codes "The shifted date has no year of four digits"
+text_of status.NoThumbnail = codes "No thumbnail"
+
+-- all of them
+abbrev pub all : List Status
+all =
+    status.Well ∷ status.Faults ∷ status.InvalidFormat ∷ status.NotFound ∷ status.BlankValue ∷
+    status.TooBig ∷ status.NotSupported ∷ status.UnexpectedValue ∷ status.OutOfMemory ∷
+    status.FieldNotFound ∷ status.UnknownType ∷ status.ValueTooLong ∷ status.NamesPlaces ∷
+    status.SharedBytes ∷ status.ScatteredData ∷ status.PictureData ∷ status.InvalidHeader ∷
+    status.NoAssignment ∷ status.NotOfItsType ∷ status.OtherThumbnail ∷ status.NoDate ∷
+    status.InvalidDate ∷ status.DateOutOfRange ∷ status.NoThumbnail ∷ []
+
+-- the one of a number
+abbrev pub named : ℕ → Option Status
+named number = find (λ it. number_of it == number) all
+
+-- the text of a number
+abbrev pub status_text : ℕ → List ℕ
+status_text number =
+    elim (named number) [ Some it ↦ text_of it | None ↦ codes "Unknown status" ]
+
+-- that of an error of reading; in memory a device's error is out of memory
+abbrev pub error_status : Failure → Status
+error_status (error.PartialResult partial) = status.Faults
+error_status (error.InvalidFormat text) = status.InvalidFormat
+error_status (error.NotFound what) = status.NotFound
+error_status (error.BlankValue text) = status.BlankValue
+error_status (error.TooBig text) = status.TooBig
+error_status (error.NotSupported text) = status.NotSupported
+error_status (error.UnexpectedValue text) = status.UnexpectedValue
+error_status (error.Io cause) = status.OutOfMemory
+error_status error.OutOfMemory = status.OutOfMemory
+
+-- that of a refusal, seen as its kind and its text
+abbrev pub kind_status : refusals.Refusal → Status
+kind_status (invalid_format text) = status.InvalidFormat
+kind_status (not_found what) = status.NotFound
+kind_status (blank_value text) = status.BlankValue
+kind_status (too_big text) = status.TooBig
+kind_status (not_supported text) = status.NotSupported
+kind_status (unexpected_value text) = status.UnexpectedValue
+
+-- that of a cause for which an edit in place is refused
+abbrev pub cause_status : Cause → Status
+cause_status no_field = status.FieldNotFound
+cause_status unknown_type = status.UnknownType
+cause_status too_long = status.ValueTooLong
+cause_status place_named = status.NamesPlaces
+cause_status shared = status.SharedBytes
+cause_status scattered = status.ScatteredData
+cause_status picture = status.PictureData
+cause_status (wrong_header fault) = status.InvalidHeader
+cause_status (no_data refusal) = kind_status refusal
+
+-- that of an error of an edit in place
+abbrev pub edit_status : Error → Status
+edit_status edit.FieldNotFound = status.FieldNotFound
+edit_status edit.UnknownType = status.UnknownType
+edit_status edit.ValueTooLong = status.ValueTooLong
+edit_status edit.NamesPlaces = status.NamesPlaces
+edit_status edit.SharedBytes = status.SharedBytes
+edit_status edit.ScatteredData = status.ScatteredData
+edit_status edit.PictureData = status.PictureData
+edit_status (edit.Header fault) = status.InvalidHeader
+edit_status (edit.Container cause) = error_status cause
+edit_status edit.OutOfMemory = status.OutOfMemory
+
+-- that of a refusal of a change
+abbrev pub refusal_status : Refusal → Status
+refusal_status (change.Reading cause) = error_status cause
+refusal_status (change.Editing cause) = edit_status cause
+refusal_status change.UnknownFormat = status.InvalidFormat
+refusal_status change.FieldNotFound = status.FieldNotFound
+refusal_status change.PictureData = status.PictureData
+refusal_status change.NotOfItsType = status.NotOfItsType
+refusal_status change.OtherThumbnail = status.OtherThumbnail
+refusal_status change.NoDate = status.NoDate
+refusal_status change.InvalidDate = status.InvalidDate
+refusal_status change.DateOutOfRange = status.DateOutOfRange
+refusal_status change.NoThumbnail = status.NoThumbnail
+refusal_status change.OutOfMemory = status.OutOfMemory

@@ -1,0 +1,244 @@
+//! How calls end, as numbers.
+
+ghost use Rattle.std.specs.Prelude.{◌≡◌, ◌==◌, length, find, Option};
+ghost use Rattle.std.specs.Option.{option_copied};
+ghost use Rattle.exif_c.specs.Buffers.{filled};
+ghost use Rattle.exif_c.specs.Statuses.{all, edit_status, error_status, named, number_of, refusal_status, status_text, text_of};
+
+use crate::buffer::given;
+use exif::Error;
+use exif_change::Refusal;
+
+/// How a call ended.
+#[derive(Clone, Copy)]
+pub enum Status {
+    /// All is well.
+    Well,
+    /// Faults were passed over.
+    Faults,
+    /// No file that is read, or Exif data with a fault.
+    InvalidFormat,
+    /// No Exif data in the file.
+    NotFound,
+    /// A value is blank.
+    BlankValue,
+    /// Longer than the format allows.
+    TooBig,
+    /// A form of the file that is not read.
+    NotSupported,
+    /// A value of another type.
+    UnexpectedValue,
+    /// There was no memory.
+    OutOfMemory,
+    /// No such field where one is to be set.
+    FieldNotFound,
+    /// The value is of an unknown type.
+    UnknownType,
+    /// The new value takes more bytes than the old one's room.
+    ValueTooLong,
+    /// The field says where other bytes stand.
+    NamesPlaces,
+    /// The bytes are those of something else too.
+    SharedBytes,
+    /// The Exif data do not stand in one piece.
+    ScatteredData,
+    /// A TIFF file: the picture stands in the same data.
+    PictureData,
+    /// The header of the data is wrong.
+    InvalidHeader,
+    /// No `TAG=VALUE` of a known tag.
+    NoAssignment,
+    /// The text is no value of the field's type.
+    NotOfItsType,
+    /// New data would lose the thumbnail.
+    OtherThumbnail,
+    /// There is no date to shift.
+    NoDate,
+    /// A date is none of the calendar.
+    InvalidDate,
+    /// A shifted date has no year of four digits.
+    DateOutOfRange,
+    /// There is no thumbnail.
+    NoThumbnail,
+}
+
+impl Status {
+    /// The number that C is given.
+    pub fn number(self) -> u32
+        ensures { result ≡ number_of self }
+    {
+        match self {
+            Status::Well => 0,
+            Status::Faults => 1,
+            Status::InvalidFormat => 2,
+            Status::NotFound => 3,
+            Status::BlankValue => 4,
+            Status::TooBig => 5,
+            Status::NotSupported => 6,
+            Status::UnexpectedValue => 7,
+            Status::OutOfMemory => 8,
+            Status::FieldNotFound => 16,
+            Status::UnknownType => 17,
+            Status::ValueTooLong => 18,
+            Status::NamesPlaces => 19,
+            Status::SharedBytes => 20,
+            Status::ScatteredData => 21,
+            Status::PictureData => 22,
+            Status::InvalidHeader => 23,
+            Status::NoAssignment => 32,
+            Status::NotOfItsType => 33,
+            Status::OtherThumbnail => 34,
+            Status::NoDate => 35,
+            Status::InvalidDate => 36,
+            Status::DateOutOfRange => 37,
+            Status::NoThumbnail => 38,
+        }
+    }
+
+    // What it says.
+    fn text(self) -> &'static str
+        ensures { result.now ≡ text_of self }
+    {
+        match self {
+            Status::Well => "No error",
+            Status::Faults => "Faults were passed over",
+            Status::InvalidFormat => "Invalid format",
+            Status::NotFound => "No Exif data found",
+            Status::BlankValue => "Blank value",
+            Status::TooBig => "Too big",
+            Status::NotSupported => "Not supported",
+            Status::UnexpectedValue => "Unexpected value",
+            Status::OutOfMemory => "Out of memory",
+            Status::FieldNotFound => "No such field, and none that can be made",
+            Status::UnknownType => "Cannot write unknown field types",
+            Status::ValueTooLong => "The value is too long for its room",
+            Status::NamesPlaces => "The field says where other bytes stand",
+            Status::SharedBytes => "The bytes are shared with something else",
+            Status::ScatteredData => "The Exif data do not stand in one piece",
+            Status::PictureData => "The picture stands in the same data",
+            Status::InvalidHeader => "The header of the data is wrong",
+            Status::NoAssignment => "No TAG=VALUE of a known tag",
+            Status::NotOfItsType => "The text is no value of the field's type",
+            Status::OtherThumbnail => "New data would lose the thumbnail",
+            Status::NoDate => "No date to shift",
+            Status::InvalidDate => "A date that no calendar has",
+            Status::DateOutOfRange => "The shifted date has no year of four digits",
+            Status::NoThumbnail => "No thumbnail",
+        }
+    }
+
+    // All of them.
+    fn all() -> &'static [Status]
+        ensures { result.now ≡ all }
+    {
+        &[
+            Status::Well,
+            Status::Faults,
+            Status::InvalidFormat,
+            Status::NotFound,
+            Status::BlankValue,
+            Status::TooBig,
+            Status::NotSupported,
+            Status::UnexpectedValue,
+            Status::OutOfMemory,
+            Status::FieldNotFound,
+            Status::UnknownType,
+            Status::ValueTooLong,
+            Status::NamesPlaces,
+            Status::SharedBytes,
+            Status::ScatteredData,
+            Status::PictureData,
+            Status::InvalidHeader,
+            Status::NoAssignment,
+            Status::NotOfItsType,
+            Status::OtherThumbnail,
+            Status::NoDate,
+            Status::InvalidDate,
+            Status::DateOutOfRange,
+            Status::NoThumbnail,
+        ]
+    }
+
+    // The one of a number.
+    fn named(number: u32) -> Option<Status>
+        ensures { result ≡ named number }
+    {
+        Status::all()
+            .iter()
+            .copied()
+            .find(|status| status.number() == number)
+    }
+}
+
+/// That of an error of reading.
+pub fn error_status(error: &Error) -> Status
+    ensures { result ≡ error_status error.now }
+{
+    match error {
+        Error::PartialResult(_) => Status::Faults,
+        Error::InvalidFormat(_) => Status::InvalidFormat,
+        Error::NotFound(_) => Status::NotFound,
+        Error::BlankValue(_) => Status::BlankValue,
+        Error::TooBig(_) => Status::TooBig,
+        Error::NotSupported(_) => Status::NotSupported,
+        Error::UnexpectedValue(_) => Status::UnexpectedValue,
+        Error::OutOfMemory | Error::Io(_) => Status::OutOfMemory,
+    }
+}
+
+/// That of a refusal of an edit in place.
+pub fn edit_status(error: &exif_edit::Error) -> Status
+    ensures { result ≡ edit_status error.now }
+{
+    match error {
+        exif_edit::Error::FieldNotFound => Status::FieldNotFound,
+        exif_edit::Error::UnknownType => Status::UnknownType,
+        exif_edit::Error::ValueTooLong => Status::ValueTooLong,
+        exif_edit::Error::NamesPlaces => Status::NamesPlaces,
+        exif_edit::Error::SharedBytes => Status::SharedBytes,
+        exif_edit::Error::ScatteredData => Status::ScatteredData,
+        exif_edit::Error::PictureData => Status::PictureData,
+        exif_edit::Error::Header(_) => Status::InvalidHeader,
+        exif_edit::Error::Container(cause) => error_status(cause),
+        exif_edit::Error::OutOfMemory => Status::OutOfMemory,
+    }
+}
+
+/// That of a refusal of a change.
+pub fn refusal_status(refusal: &Refusal) -> Status
+    ensures { result ≡ refusal_status refusal.now }
+{
+    match refusal {
+        Refusal::Reading(cause) => error_status(cause),
+        Refusal::Editing(cause) => edit_status(cause),
+        Refusal::UnknownFormat => Status::InvalidFormat,
+        Refusal::FieldNotFound => Status::FieldNotFound,
+        Refusal::PictureData => Status::PictureData,
+        Refusal::NotOfItsType => Status::NotOfItsType,
+        Refusal::OtherThumbnail => Status::OtherThumbnail,
+        Refusal::NoDate => Status::NoDate,
+        Refusal::InvalidDate => Status::InvalidDate,
+        Refusal::DateOutOfRange => Status::DateOutOfRange,
+        Refusal::NoThumbnail => Status::NoThumbnail,
+        Refusal::OutOfMemory => Status::OutOfMemory,
+    }
+}
+
+// The text of a number.
+fn text_of(number: u32) -> &'static str
+    ensures { result.now ≡ status_text number }
+{
+    match Status::named(number) {
+        Some(status) => status.text(),
+        None => "Unknown status",
+    }
+}
+
+/// Puts the text of a status into a buffer, without an ending zero, and answers its whole length.
+#[unsafe(no_mangle)]
+pub extern "C" fn mexaldor_error(status: u32, out: &mut [u8]) -> usize
+    ensures front { out.new ≡ filled (status_text status) out.old }
+    ensures whole { result ≡ length (status_text status) }
+{
+    given(out, text_of(status).as_bytes(), Status::Well).length
+}

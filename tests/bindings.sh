@@ -1,0 +1,89 @@
+#!/bin/sh
+# The library for C, Python and Rust, built of the proved archive and called as their users do. What
+# isn't on the machine is told, and passed over.
+root=$(cd "$(dirname "$0")/.." && pwd)
+room=$(mktemp -d)
+trap 'rm -rf "$room"' EXIT
+passed=0
+failed=0
+
+# counts NAME PASSED FAILED: adds what a part counted.
+counts() {
+    echo "$1: $2 passed, $3 failed"
+    passed=$((passed + $2))
+    failed=$((failed + $3))
+}
+
+# has NAME: whether a tool is there; says so where it isn't.
+has() {
+    command -v "$1" >/dev/null && return
+    echo "passed over, without $1: $2"
+    return 1
+}
+
+# c NAME COMMAND..: a C program whose last line counts.
+c() {
+    name=$1
+    shift
+    "$@" "$room/files" >"$room/said" 2>&1
+    status=$?
+    last=$(tail -n 1 "$room/said")
+    case "$status $last" in
+        "0 "*" passed, 0 failed") counts "$name" "${last%% *}" 0 ;;
+        *)
+            cat "$room/said"
+            counts "$name" 0 1
+            ;;
+    esac
+}
+
+# one NAME COMMAND..: a command that ends well.
+one() {
+    name=$1
+    shift
+    if "$@" >"$room/said" 2>&1; then
+        counts "$name" 1 0
+    else
+        cat "$room/said"
+        counts "$name" 0 1
+    fi
+}
+
+out=$root/bindings/c/out
+if has cc "the libraries for C, Python and Rust" && has make "the same" && has python3 "the same"; then
+    python3 "$root/tests/make_files.py" "$room/files" || exit 1
+    one "the archive and the shared library are built" make -s -C "$root/bindings/c" all test out/fuzz
+    c "C" "$out/test"
+    c "C, shared library" "$out/test_shared"
+    c "C, address sanitizer" "$out/test_address"
+    has valgrind "C under valgrind" &&
+        c "C, valgrind" valgrind -q --error-exitcode=9 --leak-check=full "$out/test"
+    one "changed files, address sanitizer" \
+        python3 "$root/bindings/fuzz.py" "$out/fuzz" 1 "${FUZZ:-100000}"
+    one "the wheel is made" \
+        python3 "$root/bindings/python/wheel.py" "$out/libmexaldor.so.0" "$room/wheel"
+    mkdir "$room/installed"
+    (cd "$room/installed" && python3 -m zipfile -e "$room"/wheel/*.whl .)
+    PYTHONPATH=$room/installed python3 -m unittest discover -s "$root/bindings/python/tests" \
+        >"$room/said" 2>&1
+    if [ $? = 0 ]; then
+        counts "Python" "$(sed -n 's/^Ran \([0-9]*\) tests.*/\1/p' "$room/said")" 0
+    else
+        cat "$room/said"
+        counts "Python" 0 1
+    fi
+    if has cargo "the crate for Rust"; then
+        MEXALDOR_LIB_DIR=$out MEXALDOR_PICTURES=$room/files CARGO_TARGET_DIR=$room/target \
+            cargo test --offline --quiet --manifest-path "$root/bindings/rust/Cargo.toml" \
+            >"$room/said" 2>&1
+        if [ $? = 0 ]; then
+            counts "Rust" "$(sed -n 's/^test result: ok. \([0-9]*\) passed.*/\1/p' "$room/said" |
+                awk '{ sum += $1 } END { print sum }')" 0
+        else
+            cat "$room/said"
+            counts "Rust" 0 1
+        fi
+    fi
+fi
+echo "$passed passed, $failed failed"
+[ "$failed" = 0 ]
