@@ -1,8 +1,9 @@
 -- Values set in a file where the old ones stand.
-use Rattle.std.specs.Prelude.{ℕ, ◌&&◌, Bool, true, false, List, [], ◌∷◌, Result, Ok, Err, if◌then◌else◌}
+use Rattle.std.specs.Prelude.{ℕ, ◌&&◌, Bool, true, false, List, [], ◌∷◌, Some, None, Result, Ok, Err, if◌then◌else◌}
 use Rattle.exif_types.specs.Refusals.{not_found}
 use Rattle.exif_types.specs.declared.field.Field.{Field}
-use Rattle.exif_edit.specs.Causes.{Cause, no_data, no_field, scattered, shared, too_long, ◌>>=◌}
+use Rattle.exif_edit.specs.Causes.{Cause, cause_of, no_data, no_field, scattered, shared, too_long, ◌>>=◌}
+use Rattle.exif_edit.specs.declared.error.Error.{Error}
 use Rattle.exif_edit.specs.InFiles.{edited_file, in_file}
 use Rattle.exif_edit.specs.Setting.{set_patches}
 
@@ -24,6 +25,10 @@ wants_room shared = true
 wants_room scattered = true
 wants_room (no_data (not_found what)) = true
 wants_room _ = false
+
+-- whether the cause of an error is such; out of memory is none
+abbrev pub error_wants_room : Error → Bool
+error_wants_room error = elim (cause_of error) [ Some cause ↦ wants_room cause | None ↦ false ]
 
 -- a field is left over too
 abbrev pub left_over :

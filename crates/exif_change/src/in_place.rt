@@ -1,8 +1,7 @@
 //! Fields set in a file where they stand.
 
-ghost use Rattle.std.specs.Prelude.{◌≡◌, ◌&&◌, false, [], ◌∷◌, Some, None, Ok, IfOk, OnOk, MatchOption, if◌then◌else◌};
-ghost use Rattle.exif_edit.specs.Causes.{cause_of};
-ghost use Rattle.exif_change.specs.InPlace.{all_set, field_set, fitting_set, wants_room};
+ghost use Rattle.std.specs.Prelude.{◌≡◌, [], ◌∷◌, Ok, IfOk, OnOk, if◌then◌else◌};
+ghost use Rattle.exif_change.specs.InPlace.{all_set, error_wants_room, field_set, fitting_set};
 
 use crate::Refusal;
 use exif::{Error, Field};
@@ -89,7 +88,7 @@ fn set_in_place(
 
 // Whether newly written data would do what an edit in place refuses.
 fn wants_room(error: &exif_edit::Error) -> bool
-    ensures { result ≡ elim (cause_of error.now) [ Some cause ↦ wants_room cause | None ↦ false ] }
+    ensures { result ≡ error_wants_room error.now }
 {
     matches!(
         error,
