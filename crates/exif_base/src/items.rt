@@ -3,10 +3,18 @@
 ghost use Rattle.std.specs.Prelude.{◌≡◌, ◌==◌, List, length, IfOk};
 
 use std::alloc::{AllocError, Global};
-use std::fmt;
 use std::marker::Model;
+use std::ops::Deref;
+use std::{fmt, slice, vec};
 
 /// A list of values. It is made from a `Vec` and gives it back without memory.
+///
+/// Where it is only looked at it is that `Vec`: `items[0]`, `items.first()`, `items.get(1..)`,
+/// `items.iter()`, `for item in &items`.
+///
+/// ```
+/// let value = Value::Short(Items::from_slice(alloc, &[orientation])?);
+/// ```
 #[derive(Drop)]
 pub struct Items<T> {
     items: Vec<T>,
@@ -66,6 +74,50 @@ impl<T> Items<T> {
     }
 }
 
+impl<T> Deref for Items<T> {
+    type Target = Vec<T>;
+
+    ghost deref_gives = { λ a v. v.items ≡ a };
+
+    fn deref(&self) -> &Vec<T> {
+        &self.items
+    }
+}
+
+impl<'a, T> IntoIterator for &'a Items<T> {
+    type Item = &'a T;
+
+    type IntoIter = slice::Iter<'a, T>;
+
+    ghost use Rattle.std.specs.Prelude.{◌<◌, ◌^◌};
+    ghost use Rattle.std.specs.Iterator.Runs.{EveryRun, ItemsMapTo};
+    ghost use Rattle.std.specs.Slice.Iter.{iter_rest, iter_steps};
+
+    ghost into_iter_gives = { λ a it. (iter_rest it ≡ a.now) × (length (iter_rest it) < 2 ^ 64)
+        × EveryRun (iter_steps {A = T}) (λ p. ItemsMapTo p (λ x. x.now) (iter_rest p.from)) };
+
+    fn into_iter(self) -> slice::Iter<'a, T> {
+        self.as_slice().iter()
+    }
+}
+
+impl<T: Drop> IntoIterator for Items<T> {
+    type Item = T;
+
+    type IntoIter = vec::IntoIter<T>;
+
+    ghost use Rattle.std.specs.Iterator.Runs.{EveryRun, ItemsAre};
+    ghost use Rattle.std.specs.Vec.Iter.{into_iter_items, into_iter_steps};
+    ghost use Rattle.std.specs.declared.alloc.Global.{Global as Heap};
+
+    ghost into_iter_gives = { λ a it. (into_iter_items it ≡ a)
+        × EveryRun (into_iter_steps {X = T} {Z = Heap}) (λ p. ItemsAre p (into_iter_items p.from)) };
+
+    fn into_iter(self) -> vec::IntoIter<T> {
+        self.items.into_iter()
+    }
+}
+
 impl<T: PartialEq> PartialEq for Items<T> {
     ghost use Rattle.std.specs.Cmp.Lexicographic.{pointwise, lists_per};
 
@@ -98,6 +150,14 @@ impl<T> From<Vec<T>> for Items<T> {
 
     fn from(items: Vec<T>) -> Items<T> {
         Items { items }
+    }
+}
+
+impl<T> From<Items<T>> for Vec<T> {
+    ghost from_gives = { λ a v. v.items ≡ a };
+
+    fn from(items: Items<T>) -> Vec<T> {
+        items.items
     }
 }
 

@@ -179,7 +179,11 @@ pub fn get_exif_attr<R: Scan>(alloc: Global, source: &mut R) -> Result<Vec<u8>, 
     }
 }
 
-/// The Exif bytes of a JPEG stream. What follows their segment is left unread.
+/// The Exif bytes of a JPEG stream: TIFF data, without the six bytes of the identifier (Exif 2.32,
+/// 4.7.2). What follows their segment is left unread.
+///
+/// It takes single bytes of the source, so that nothing behind is lost: a bare file wants a
+/// buffered reader, as `Counted::new(BufReader::new(alloc, file)?)`.
 ///
 /// The answers are those of `jpeg::get_exif_attr`, and what is skipped takes no memory either.
 /// After an error, how far the source was read is left open.

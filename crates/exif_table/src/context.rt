@@ -2,7 +2,7 @@
 
 ghost use Rattle.std.specs.Prelude.{◌≡◌, ◌≤◌, length};
 
-/// The kind of directory that a tag belongs to.
+/// The kind of directory that a tag belongs to (Exif 2.32, 4.5.1 and 4.6.3).
 #[derive(Clone, Copy, Debug, PartialEq, Eq, PartialOrd, Ord, Hash)]
 pub enum Context {
     /// A directory of the chain (TIFF 6.0).

@@ -3,6 +3,7 @@
 mod base;
 mod containers;
 mod devices;
+mod items;
 mod lists;
 mod skips;
 mod table;

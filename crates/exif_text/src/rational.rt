@@ -11,7 +11,8 @@ use arrayvec::ArrayString;
 use itoa::Buffer;
 use std::fmt;
 
-/// A fraction without sign. Its text is `num/denom`, on the right of its width.
+/// A fraction without sign (TIFF 6.0, section 2, RATIONAL). Its text is `num/denom`, on the right of
+/// its width; it is not reduced.
 #[derive(Clone, Copy, PartialEq, Eq)]
 pub struct Rational {
     /// The upper number.
@@ -20,7 +21,8 @@ pub struct Rational {
     pub denom: u32,
 }
 
-/// A fraction with sign. Its text is `num/denom`, on the right of its width.
+/// A fraction with sign (TIFF 6.0, section 2, SRATIONAL). Its text is `num/denom`, on the right of its
+/// width; it is not reduced.
 #[derive(Clone, Copy, PartialEq, Eq)]
 pub struct SRational {
     /// The upper number.
@@ -33,7 +35,7 @@ impl Rational {
     ghost use Rattle.exif_text.specs.Decimal.{rational_decimal, shown_decimal};
     ghost use Rattle.exif_text.specs.Rational.{rational_text};
 
-    /// The fraction as a decimal, cut after nine places.
+    /// The fraction as a decimal, cut after nine places. It takes no memory.
     pub fn decimal(&self) -> Decimal
         ensures { shown_decimal result ≡ rational_decimal self.now }
     {

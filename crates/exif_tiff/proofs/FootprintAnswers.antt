@@ -31,7 +31,7 @@ module _ (a b : List ℕ) (as_long : length a ≡ length b) where
       (part_same a b 0 8 2 2 (omega arith) (omega arith) s) in
       rw number refl
 
-  header_same : Same a b 0 8 → header a ≡ header b
+  pub header_same : Same a b 0 8 → header a ≡ header b
   header_same s =
       let zeroth : slice_index a 0 ≡ slice_index b 0 = s 0 (omega arith) (omega arith) in
       let first : slice_index a 1 ≡ slice_index b 1 = s 1 (omega arith) (omega arith) in

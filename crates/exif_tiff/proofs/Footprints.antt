@@ -49,19 +49,26 @@ module _ (order : Order) (a b : List ℕ) (as_long : length a ≡ length b) wher
   abbrev pub ValueAlike : ℕ → Type 0
   ValueAlike e = AllByRecursion (Agree a b) (value_stretch number a e)
 
-  count_same : (p w : ℕ) → Same a b p (2 + 12 * w + 4) → number_at number 2 a p ≡ number_at number 2 b p
-  count_same p w h = number_same order 2 a b p (part_same a b p (2 + 12 * w + 4) p 2 (omega arith) (omega arith) h)
-
   stands : (p : ℕ) → Alike p → Same a b p (2 + 12 * whole_entries number a p + 4)
   stands p h = same_of a b p (2 + 12 * whole_entries number a p + 4) h.0
 
+  -- where both have the same count there
+  whole_by : (p : ℕ) → Same a b p 2 → whole_entries number a p ≡ whole_entries number b p
+  whole_by p h = let count = number_same order 2 a b p h in rw (as_long, count) refl
+
+  pub places_by : (p : ℕ) → Same a b p 2 → entry_places number a p ≡ entry_places number b p
+  places_by p h = ap (spaced (p + 2) 12) (whole_by p h)
+
+  counts : (p : ℕ) → Alike p → Same a b p 2
+  counts p h =
+      part_same a b p (2 + 12 * whole_entries number a p + 4) p 2 (omega arith) (omega arith)
+      (stands p h)
+
   pub whole_same : (p : ℕ) → Alike p → whole_entries number a p ≡ whole_entries number b p
-  whole_same p h =
-      let count = count_same p (whole_entries number a p) (stands p h) in
-      rw (as_long, count) refl
+  whole_same p h = whole_by p (counts p h)
 
   pub places_same : (p : ℕ) → Alike p → entry_places number a p ≡ entry_places number b p
-  places_same p h = ap (spaced (p + 2) 12) (whole_same p h)
+  places_same p h = places_by p (counts p h)
 
   -- how a directory ends, by its three tests
   abbrev ends : Bool → Bool → Bool → ℕ → Result ℕ Fault
@@ -75,19 +82,26 @@ module _ (order : Order) (a b : List ℕ) (as_long : length a ≡ length b) wher
   ends_same false false true x y h = refl
   ends_same false false false x y h = ap Ok (h refl)
 
-  pub end_same : (p : ℕ) → Alike p → directory_end number a p ≡ directory_end number b p
-  end_same p h =
-      let all = stands p h in
-      let count = count_same p (whole_entries number a p) all in
+  -- where both have the same count and the same next place there
+  pub end_by : (p : ℕ) → Same a b p 2 → Same a b (p + 2 + 12 * whole_entries number a p) 4
+      → directory_end number a p ≡ directory_end number b p
+  end_by p h k =
+      let count = number_same order 2 a b p h in
       let m = number_at number 2 a p in
       let next : nat_lt ((length a - p - 2) / 12) m ≡ false
       → number_at number 4 a (p + 2 + 12 * m) ≡ number_at number 4 b (p + 2 + 12 * m) =
       λ t. number_same order 4 a b (p + 2 + 12 * m)
-      (part_same a b p (2 + 12 * whole_entries number a p + 4) (p + 2 + 12 * m) 4 (omega arith)
-      (grind (arith, nat_tests)) all) in
+      (part_same a b (p + 2 + 12 * whole_entries number a p) 4 (p + 2 + 12 * m) 4
+      (grind (arith, nat_tests)) (grind (arith, nat_tests)) k) in
       rw (← as_long, ← count) (ends_same (nat_lt (length a) (p + 2)) (nat_lt ((length a - p - 2) / 12) m)
       (nat_lt (length a) (p + 2 + 12 * m + 4)) (number_at number 4 a (p + 2 + 12 * m))
       (number_at number 4 b (p + 2 + 12 * m)) next)
+
+  pub end_same : (p : ℕ) → Alike p → directory_end number a p ≡ directory_end number b p
+  end_same p h =
+      end_by p (counts p h)
+      (part_same a b p (2 + 12 * whole_entries number a p + 4)
+      (p + 2 + 12 * whole_entries number a p) 4 (omega arith) (omega arith) (stands p h))
 
   -- the entries of a directory
   spaced_same : (q w : ℕ) → Same a b q (12 * w) → AllByRecursion (λ e. Same a b e 12) (spaced q 12 w)

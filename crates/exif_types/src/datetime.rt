@@ -14,6 +14,14 @@ use std::fmt;
 
 /// A date and a time of day. It is shown as `2016-05-04 03:02:01`, without fraction and offset, and
 /// takes no notice of a width.
+///
+/// ```
+/// let mut taken = match DateTime::from_ascii(date) {
+///     Ok(taken) => taken,
+///     Err(Error::BlankValue(_)) => return Ok(None),
+///     Err(error) => return Err(error),
+/// };
+/// ```
 #[derive(Clone, Copy, Debug, PartialEq, Eq)]
 pub struct DateTime {
     /// The year, as its digits are.
@@ -38,9 +46,9 @@ impl DateTime {
     ghost use Rattle.exif_types.specs.Refusals.{Answers};
     ghost use Rattle.exif_types.specs.Dates.{read_date, read_offset, read_subsec, was_read, with_offset, with_subsec};
 
-    /// Reads `2016:05:04 03:02:01`. Ranges are not checked, and more bytes are ignored. A date of
-    /// spaces, or of spaces between colons, is refused as `BlankValue`, another that is none as
-    /// `InvalidFormat`. It takes no memory.
+    /// Reads `2016:05:04 03:02:01` (Exif 2.32, 4.6.4 D). Ranges are not checked, and more bytes are
+    /// ignored. A date of spaces, or of spaces between colons, is refused as `BlankValue`, another
+    /// that is none as `InvalidFormat`. It takes no memory.
     pub fn from_ascii(bytes: &[u8]) -> Result<DateTime, Error>
         ensures { Answers (λ date. date) result (read_date bytes.now) }
     {
@@ -88,9 +96,9 @@ impl DateTime {
         }
     }
 
-    /// Sets the fraction of the second that up to nine digits before a space spell, `None` where
-    /// there are no digits. More bytes are ignored. Bytes that are no digits are refused as
-    /// `InvalidFormat`. A refusal changes nothing. It takes no memory.
+    /// Sets the fraction of the second that up to nine digits before a space spell (Exif 2.32, 4.6.5,
+    /// SubsecTime), `None` where there are no digits. More bytes are ignored. Bytes that are no digits
+    /// are refused as `InvalidFormat`. A refusal changes nothing. It takes no memory.
     pub fn parse_subsec(&mut self, bytes: &[u8]) -> Result<(), Error>
         ensures answer { Answers (λ done. done) result (was_read (read_subsec bytes.now)) }
         ensures after { self.new ≡ with_subsec self.old (read_subsec bytes.now) }
@@ -104,9 +112,9 @@ impl DateTime {
         }
     }
 
-    /// Sets the offset that `+hh:mm` or `-hh:mm` spells. More bytes are ignored. An offset of
-    /// spaces, or of spaces around a colon, is refused as `BlankValue`, another that is none as
-    /// `InvalidFormat`. A refusal changes nothing. It takes no memory.
+    /// Sets the offset that `+hh:mm` or `-hh:mm` spells (Exif 2.32, 4.6.5, OffsetTime). More bytes are
+    /// ignored. An offset of spaces, or of spaces around a colon, is refused as `BlankValue`, another
+    /// that is none as `InvalidFormat`. A refusal changes nothing. It takes no memory.
     pub fn parse_offset(&mut self, bytes: &[u8]) -> Result<(), Error>
         ensures answer { Answers (λ done. done) result (was_read (read_offset bytes.now)) }
         ensures after { self.new ≡ with_offset self.old (read_offset bytes.now) }

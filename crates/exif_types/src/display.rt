@@ -34,6 +34,10 @@ impl Value {
     ghost use Rattle.exif_types.specs.ValueTexts.{shown_text};
 
     /// The value as a tag shows it. It takes no memory.
+    ///
+    /// ```
+    /// text = format!(in alloc; "{}", value.display_as(tag))?;
+    /// ```
     #[tactic(auto, unfolding(crate::specs::ValueTexts::text_of))]
     pub fn display_as(&self, tag: Tag) -> Display<'_>
         ensures { shown_text result ≡ text_of tag self.now }
@@ -87,7 +91,12 @@ impl Field {
 
 impl<'a> DisplayValue<'a> {
     /// The value with its unit. Where the unit names other tags, their fields are looked up in
-    /// `unit`, in the directory of this field.
+    /// `unit`, in the directory of this field: an `Exif`, a field, or `()` for none. It takes no
+    /// memory.
+    ///
+    /// ```
+    /// let value = field.display_value().with_unit(exif);
+    /// ```
     pub fn with_unit<T: ProvideUnit<'a>>(&self, unit: T) -> DisplayValueUnit<'a, T>
         ensures { result ≡ record { field = self.now; unit = unit } }
     {

@@ -9,31 +9,45 @@ use std::marker::Model;
 use std::{fmt, io};
 
 /// Why something could not be read or written. Written in a type, `Error` has texts that are
-/// `&'static str`.
+/// `&'static str`. Shown by `{}`, it is its text, for people.
+///
+/// All but `Io` and `OutOfMemory` say something of the bytes alone: read again, they answer the
+/// same.
+///
+/// ```
+/// let mut taken = match DateTime::from_ascii(date) {
+///     Ok(taken) => taken,
+///     Err(Error::BlankValue(_)) => return Ok(None),
+///     Err(error) => return Err(error),
+/// };
+/// ```
 #[derive(Debug, Drop)]
 #[cycle(error)]
 pub enum Error<Text = &'static str> {
-    /// The bytes break the format.
+    /// The bytes break the format: a fault of TIFF data or of the container.
     InvalidFormat(Text),
-    /// The reader or the writer failed.
+    /// The reader or the writer failed, with the system's error. An `Interrupted` is not tried
+    /// again.
     Io(io::Error),
     /// A file of this format holds no Exif data.
     NotFound(Text),
-    /// A date or an offset is blank.
+    /// A date or an offset is blank, which means that it is not known (Exif 2.32, 4.6.4 D): treat
+    /// it as absent.
     BlankValue(Text),
-    /// A size is over its limit.
+    /// A size is over the limit of a format: data over 4 GiB, an image that 32 bits don't address.
     TooBig(Text),
     /// The format allows it, and this library does not do it.
     NotSupported(Text),
-    /// The value is of another kind.
+    /// The value is of another kind than was asked for, as text where `as_uint` wants numbers.
     UnexpectedValue(Text),
-    /// Some of the data were read, in spite of faults.
+    /// Some of the data were read, in spite of faults. Only a reader answers it that continues on
+    /// errors: `distill_partial_result` gives the fields and hands over the faults.
     PartialResult(PartialResult<Text>),
-    /// There was no memory.
+    /// Memory was refused. What was asked for may be asked again.
     OutOfMemory,
 }
 
-/// What was read, with the faults that were met.
+/// What was read, with the faults that were met: the fields of all that is not broken.
 #[derive(Drop)]
 #[cycle(error)]
 pub struct PartialResult<Text = &'static str> {
@@ -147,8 +161,9 @@ impl From<&'static str> for Error {
 impl<Text: Drop> Error<Text> {
     ghost use Rattle.exif_types.specs.Distilling.{ForFaults, Distills};
 
-    /// Hands the faults of a partial result to a closure, and gives what was read. Any other error
-    /// comes back as it was, and the closure is not called.
+    /// Hands the faults of a partial result to a closure, in the order in which they were met, and
+    /// gives what was read. Any other error comes back as it was, and the closure is not called. It
+    /// takes no memory.
     pub fn distill_partial_result<F: FnOnce(Vec<Error<Text>>) + Drop>(
         self,
         f: F,

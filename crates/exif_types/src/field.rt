@@ -10,11 +10,12 @@ use std::alloc::Global;
 /// A tag with its value, in a directory.
 #[derive(Debug, Drop)]
 pub struct Field {
-    /// What the field says.
+    /// Its name: the kind of directory that it stands in, and a number.
     pub tag: Tag,
-    /// The directory of the chain that it stands in, or below.
+    /// The directory of the chain that it stands in, or that its own directory stands below: the
+    /// image's or the thumbnail's, say.
     pub ifd_num: In,
-    /// What it holds.
+    /// Its value, with its type.
     pub value: Value,
 }
 

@@ -8,7 +8,8 @@ use crate::Field;
 use std::iter::FusedIterator;
 use std::marker::Model;
 
-/// The fields of an `Exif` in the order in which they stand. It knows how many are left.
+/// The fields of an `Exif` in the order in which they stand. It knows how many are left, and takes no
+/// memory.
 #[derive(Drop)]
 pub struct Fields<'a> {
     left: &'a [Field],

@@ -10,8 +10,9 @@ use exif_text::pad::write_padded;
 use itoa::Buffer;
 use std::fmt;
 
-/// The number of a directory in its chain, counted from 0. The first is shown as `primary`, the
-/// second as `thumbnail`, others as `IFD2` and so on.
+/// The number of a directory in its chain, counted from 0 (TIFF 6.0, section 2; Exif 2.32, 4.5.1).
+/// The first is shown as `primary`, the second as `thumbnail`, others as `IFD2` and so on. The
+/// directories below one of the chain, as that of Exif, have its number.
 #[derive(Clone, Copy, Debug, PartialEq, Eq, PartialOrd, Ord, Hash)]
 pub struct In(pub u16);
 
@@ -21,7 +22,7 @@ impl In {
     /// The second directory: its thumbnail.
     pub const THUMBNAIL: In = In(1);
 
-    /// The number.
+    /// The number, from 0.
     pub fn index(self) -> u16
         ensures { result ≡ self.0 }
     {

@@ -17,8 +17,11 @@ use itoa::Buffer;
 use std::alloc::Global;
 use std::fmt;
 
-/// A tag: the context and the number. It is shown by its name, or as `Tag(Exif, 0)` where the
-/// standard names none.
+/// A tag: the context and the number (TIFF 6.0, section 2; Exif 2.32, 4.6). It is shown by its name,
+/// or as `Tag(Exif, 0)` where the standard names none. Its constants have the standard's names.
+///
+/// One number stands for different tags in different contexts, so a tag is both. What is asked of
+/// one takes no memory, but for `default_value`.
 #[derive(Clone, Copy, Debug, PartialEq, Eq, PartialOrd, Ord, Hash)]
 pub struct Tag(pub Context, pub u16);
 
@@ -27,21 +30,22 @@ impl Tag {
     ghost use Rattle.exif_types.specs.Defaults.{default_of};
     ghost use Rattle.exif_types.specs.TagTexts.{numbered_text};
 
-    /// The kind of directory that the tag belongs to.
+    /// The kind of directory that the tag belongs to, which is its first part.
     pub fn context(self) -> Context
         ensures { result ≡ self.0 }
     {
         self.0
     }
 
-    /// The number of the tag.
+    /// The number of the tag, which is its second part, as it stands in an entry.
     pub fn number(self) -> u16
         ensures { result ≡ self.1 }
     {
         self.1
     }
 
-    /// What the tag stands for, in a few words, where the standard names it.
+    /// What the tag stands for, in a few words of the standard's tables (Exif 2.32, 4.6.8); `None` for
+    /// a tag that it doesn't name.
     pub fn description(&self) -> Option<&'static str>
         ensures { option_map (λ text. text.now) result ≡ description_of self.now }
     {
@@ -51,8 +55,13 @@ impl Tag {
         }
     }
 
-    /// What stands for the value where the tag is absent: `None` where the standard gives nothing,
-    /// leaves it open or lets the rest of the data decide. The only error is out of memory.
+    /// What stands for the value where the tag is absent (the standard's "Default"): `None` where it
+    /// gives nothing, leaves it open or lets the rest of the data decide. It takes memory for the
+    /// value, and the only error is `OutOfMemory`.
+    ///
+    /// ```
+    /// let default = tag.default_value(alloc)?;
+    /// ```
     pub fn default_value(&self, alloc: Global) -> Result<Option<Value>, Error>
         ensures value { IfOk result (λ value. value ≡ default_of self.now) }
         ensures memory { IfErr result (λ e. e ≡ Error.OutOfMemory) }

@@ -13,8 +13,13 @@ use std::iter::FusedIterator;
 use std::marker::Model;
 
 impl Value {
-    /// A view of a `Byte`, `Short` or `Long` value. Any other kind is refused as
-    /// `UnexpectedValue`.
+    /// A view of a `Byte`, `Short` or `Long` value, for the tags that allow more than one of these,
+    /// as `PixelXDimension`. Any other kind is refused as `UnexpectedValue`. Takes no memory.
+    ///
+    /// ```
+    /// let numbers = field.value.as_uint()?;
+    /// Ok(numbers.get(0))
+    /// ```
     pub fn as_uint(&self) -> Result<UIntValue<'_>, Error>
         ensures { Answers (λ v. v) result
             (or_refuse (numbers_of self.now) (unexpected_value (codes "Not unsigned integer"))) }
@@ -25,14 +30,15 @@ impl Value {
         }
     }
 
-    /// The number at an index of a `Byte`, `Short` or `Long` value.
+    /// The number at an index, from 0, of a `Byte`, `Short` or `Long` value; `None` behind the last,
+    /// and for any other kind.
     pub fn get_uint(&self, index: usize) -> Option<u32>
         ensures { result ≡ number_in self.now index }
     {
         self.contents().number_at(index)
     }
 
-    /// The numbers of a `Byte`, `Short` or `Long` value in order.
+    /// The numbers of a `Byte`, `Short` or `Long` value in order; `None` for any other kind.
     pub fn iter_uint(&self) -> Option<UIntIter<'_>>
         ensures { result ≡ numbers_of self.now }
     {

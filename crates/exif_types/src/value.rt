@@ -43,8 +43,25 @@ pub enum Value {
 }
 
 impl Value {
+    ghost use Rattle.std.specs.Prelude.{map};
     ghost use Rattle.exif_text.specs.Contents.{contents_view};
     ghost use Rattle.exif_types.specs.PlainValues.{plain_of};
+    ghost use Rattle.exif_types.specs.declared.value.Value.TheVariants.{Ascii};
+
+    /// A value of texts, each without the zero byte that ends it in a file.
+    ///
+    /// ```
+    /// value: Value::ascii(alloc, &[name])?,
+    /// ```
+    pub fn ascii(alloc: Global, texts: &[&[u8]]) -> Result<Value, AllocError>
+        ensures { IfOk result (λ value. value ≡ Ascii (map (λ text. text.now) texts.now)) }
+    {
+        let mut items = Vec::with_capacity(alloc, texts.len())?;
+        for text in texts {
+            items.push(Items::from_slice(alloc, *text)?)?;
+        }
+        Ok(Value::Ascii(Items::from_vec(items)))
+    }
 
     // What the value holds, borrowed for printing.
     pub(crate) fn contents(&self) -> Contents<'_>

@@ -1,7 +1,7 @@
 //! Fixed texts written as lines again.
 
 use super::lines::{FIXED, ORIENTATIONS};
-use super::words::{WORDS, kind_of};
+use super::words::{kind_of, words};
 use exif_table::{Choice, FixedTexts, TextKind, fixed_texts};
 use std::alloc::{AllocError, Global};
 use std::process::Abort;
@@ -40,16 +40,18 @@ fn choice_of(word: &str) -> Choice {
     }
 }
 
+/// The texts of the kind that a word names.
+fn texts_of(word: &str) -> Option<&'static FixedTexts> {
+    fixed_texts(kind_of(word)?)
+}
+
 /// Checks the texts of one kind, `word [name]`.
 fn check_kind(rt: &(impl Abort + AllocGlobal), head: &str, line: &str) -> Result<(), AllocError> {
     let Some((word, name)) = head.split_once(" [") else {
         panic!(rt; "a kind without a name");
     };
-    let Some(kind) = kind_of(word) else {
-        panic!(rt; "a word of no kind");
-    };
-    let Some(texts) = fixed_texts(kind) else {
-        panic!(rt; "a kind without texts");
+    let Some(texts) = texts_of(word) else {
+        panic!(rt; "a word of no kind, or a kind without texts");
     };
     assert!(rt; texts.name == name.trim_end_matches(']'));
     assert!(rt; texts.chosen_by == choice_of(word));
@@ -57,19 +59,26 @@ fn check_kind(rt: &(impl Abort + AllocGlobal), head: &str, line: &str) -> Result
     Ok(())
 }
 
+/// Checks the texts of the kinds of one line, and answers how many they are.
+fn check_line(rt: &(impl Abort + AllocGlobal), line: &str) -> Result<usize, AllocError> {
+    let Some((heads, line)) = line.trim_end_matches('.').split_once(": ") else {
+        panic!(rt; "a line without texts");
+    };
+    let mut seen = 0usize;
+    for head in heads.split(", ") {
+        check_kind(rt, head, line)?;
+        seen = seen.wrapping_add(1);
+    }
+    Ok(seen)
+}
+
 #[test]
 fn fixed_texts_are_the_lines(rt: HostRuntime) -> Result<(), AllocError> {
     let mut seen = 0usize;
     for line in FIXED.lines() {
-        let Some((heads, line)) = line.trim_end_matches('.').split_once(": ") else {
-            panic!(rt; "a line without texts");
-        };
-        for head in heads.split(", ") {
-            check_kind(&rt, head, line)?;
-            seen = seen.wrapping_add(1);
-        }
+        seen = seen.wrapping_add(check_line(&rt, line)?);
     }
-    let have_texts = WORDS
+    let have_texts = words()
         .iter()
         .filter(|entry| fixed_texts(entry.0).is_some())
         .count();

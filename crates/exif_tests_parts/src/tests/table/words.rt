@@ -2,7 +2,7 @@
 
 use exif_table::TextKind;
 
-pub(super) static WORDS: [(TextKind, &str); 53] = [
+static WORDS: [(TextKind, &str); 53] = [
     (TextKind::Plain, ""),
     (TextKind::Decimal, "decimal"),
     (TextKind::OptionalDecimal, "optdecimal"),
@@ -58,9 +58,14 @@ pub(super) static WORDS: [(TextKind, &str); 53] = [
     (TextKind::GpsDistanceRef, "gpsdistref"),
 ];
 
+/// Each kind beside its word.
+pub(super) fn words() -> &'static [(TextKind, &'static str)] {
+    &WORDS
+}
+
 /// The word of a kind.
 pub(super) fn word_of(kind: TextKind) -> &'static str {
-    for entry in &WORDS {
+    for entry in words() {
         if entry.0 == kind {
             return entry.1;
         }
@@ -70,7 +75,7 @@ pub(super) fn word_of(kind: TextKind) -> &'static str {
 
 /// The kind that a word names.
 pub(super) fn kind_of(word: &str) -> Option<TextKind> {
-    for entry in &WORDS {
+    for entry in words() {
         if entry.1 == word {
             return Some(entry.0);
         }

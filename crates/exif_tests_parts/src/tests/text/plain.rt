@@ -10,37 +10,48 @@ use std::fmt::Write;
 use std::process::Abort;
 
 #[test]
-fn fractions(rt: HostRuntime) -> Result<(), AllocError> {
-    let alloc = rt.alloc();
-    let (half, signed) = (Rational::from((10, 20)), SRational::from((-2, -1)));
-    assert_eq!(rt;
-        format!(in alloc; "{half}|{half:11}|{half:<7}|{half:^8}|{half:>3}|")?.as_str(),
-        "10/20|      10/20|10/20  | 10/20  |10/20|"
-    );
-    assert_eq!(rt;
-        format!(in alloc; "{signed}|{signed:7}|{signed:<7}|{signed:^8}|")?.as_str(),
-        "-2/-1|  -2/-1|-2/-1  | -2/-1  |"
-    );
-    assert_eq!(rt;
-        format!(in alloc; "{half:?} {signed:?}")?.as_str(),
-        "Rational(10/20) SRational(-2/-1)"
-    );
-    let (most, least) = (
-        Rational::from((u32::MAX, u32::MAX)),
-        SRational::from((i32::MIN, i32::MIN)),
-    );
-    assert_eq!(rt;
-        format!(in alloc; "{most} {least}")?.as_str(),
-        "4294967295/4294967295 -2147483648/-2147483648"
-    );
-    assert!(rt; is_same_rational(half, half) && !is_same_rational(half, Rational::from((1, 2))));
-    assert!(rt; is_same_srational(signed, signed));
+fn padded_fractions(rt: HostRuntime) -> Result<(), AllocError> {
+    let half = Rational::from((10, 20));
+    let shown = format!(in rt.alloc(); "{half}|{half:11}|{half:<7}|{half:^8}|{half:>3}|")?;
+    assert!(rt; shown.as_str() == "10/20|      10/20|10/20  | 10/20  |10/20|");
     Ok(())
 }
 
 #[test]
+fn padded_signed_fractions(rt: HostRuntime) -> Result<(), AllocError> {
+    let signed = SRational::from((-2, -1));
+    let shown = format!(in rt.alloc(); "{signed}|{signed:7}|{signed:<7}|{signed:^8}|")?;
+    assert!(rt; shown.as_str() == "-2/-1|  -2/-1|-2/-1  | -2/-1  |");
+    Ok(())
+}
+
+#[test]
+fn debug_texts_of_fractions(rt: HostRuntime) -> Result<(), AllocError> {
+    let (half, signed) = (Rational::from((10, 20)), SRational::from((-2, -1)));
+    let shown = format!(in rt.alloc(); "{half:?} {signed:?}")?;
+    assert!(rt; shown.as_str() == "Rational(10/20) SRational(-2/-1)");
+    Ok(())
+}
+
+#[test]
+fn fractions_of_the_largest_numbers(rt: HostRuntime) -> Result<(), AllocError> {
+    let most = Rational::from((u32::MAX, u32::MAX));
+    let least = SRational::from((i32::MIN, i32::MIN));
+    let shown = format!(in rt.alloc(); "{most} {least}")?;
+    assert!(rt; shown.as_str() == "4294967295/4294967295 -2147483648/-2147483648");
+    Ok(())
+}
+
+#[test]
+fn fractions_are_the_same_by_their_parts(rt: HostRuntime) {
+    let (half, signed) = (Rational::from((10, 20)), SRational::from((-2, -1)));
+    assert!(rt; is_same_rational(half, half));
+    assert!(rt; !is_same_rational(half, Rational::from((1, 2))));
+    assert!(rt; is_same_srational(signed, signed));
+}
+
+#[test]
 fn decimals(rt: HostRuntime) -> Result<(), AllocError> {
-    let alloc = rt.alloc();
     for (num, denom, text) in [
         (3, 2, "1.5"),
         (72, 1, "72"),
@@ -53,8 +64,13 @@ fn decimals(rt: HostRuntime) -> Result<(), AllocError> {
         (5, 0, "5/0"),
     ] {
         let shown = Rational::from((num, denom)).decimal();
-        assert!(rt; format!(in alloc; "{shown}")?.as_str() == text);
+        assert!(rt; format!(in rt.alloc(); "{shown}")?.as_str() == text);
     }
+    Ok(())
+}
+
+#[test]
+fn signed_decimals(rt: HostRuntime) -> Result<(), AllocError> {
     for (num, denom, text) in [
         (-1, 3, "-0.333333333"),
         (1, -4, "-0.25"),
@@ -64,25 +80,26 @@ fn decimals(rt: HostRuntime) -> Result<(), AllocError> {
         (i32::MIN, -1, "2147483648"),
     ] {
         let shown = SRational::from((num, denom)).decimal();
-        assert!(rt; format!(in alloc; "{shown}")?.as_str() == text);
+        assert!(rt; format!(in rt.alloc(); "{shown}")?.as_str() == text);
     }
+    Ok(())
+}
+
+/// Bytes are quoted as this text.
+fn assert_quoted(
+    rt: &(impl Abort + AllocGlobal),
+    bytes: &[u8],
+    text: &str,
+) -> Result<(), AllocError> {
+    let quoted = Quoted(bytes);
+    assert!(rt; format!(in rt.alloc(); "{quoted}")?.as_str() == text);
     Ok(())
 }
 
 #[test]
 fn quoted_texts(rt: HostRuntime) -> Result<(), AllocError> {
-    let alloc = rt.alloc();
-    let quoted = Quoted(b"a \"\\b\"\x0a");
-    assert_eq!(rt;
-        format!(in alloc; "{quoted}")?.as_str(),
-        "\"a \\\"\\\\b\\\"\\x0a\""
-    );
-    let quoted = Quoted(b"\0\x1f ~\x7f\xff");
-    assert_eq!(rt;
-        format!(in alloc; "{quoted}")?.as_str(),
-        "\"\\x00\\x1f ~\\x7f\\xff\""
-    );
-    Ok(())
+    assert_quoted(&rt, b"a \"\\b\"\x0a", "\"a \\\"\\\\b\\\"\\x0a\"")?;
+    assert_quoted(&rt, b"\0\x1f ~\x7f\xff", "\"\\x00\\x1f ~\\x7f\\xff\"")
 }
 
 fn assert_plain(
@@ -147,14 +164,22 @@ fn plain_lists_of_texts(rt: HostRuntime) -> Result<(), AllocError> {
 }
 
 #[test]
-fn a_text_fails_where_its_formatter_does(rt: HostRuntime) {
+fn a_quoted_text_fails_where_its_formatter_does(rt: HostRuntime) {
     let quoted = Quoted(b"abc");
-    let plain = PlainText(Contents::Short(&[10, 20]));
-    let half = Rational::from((10, 20));
     assert!(rt; write!(ArrayString::<5>::new(), "{quoted}").is_ok());
     assert!(rt; write!(ArrayString::<4>::new(), "{quoted}").is_err());
+}
+
+#[test]
+fn a_plain_text_fails_where_its_formatter_does(rt: HostRuntime) {
+    let plain = PlainText(Contents::Short(&[10, 20]));
     assert!(rt; write!(ArrayString::<6>::new(), "{plain}").is_ok());
     assert!(rt; write!(ArrayString::<5>::new(), "{plain}").is_err());
+}
+
+#[test]
+fn a_padded_text_fails_where_its_formatter_does(rt: HostRuntime) {
+    let half = Rational::from((10, 20));
     assert!(rt; write!(ArrayString::<6>::new(), "{half:6}").is_ok());
     assert!(rt; write!(ArrayString::<6>::new(), "{half:7}").is_err());
 }

@@ -45,9 +45,17 @@ fn read_offsets(rt: &(impl Abort + AllocGlobal), date: &mut DateTime) -> Result<
 #[test]
 fn a_date_is_read_and_shown(rt: HostRuntime) -> Result<(), Fail> {
     let date = DateTime::from_ascii(b"2016:05:04 03:02:01")?;
-    assert_eq!(rt;
-        format!(in rt.alloc(); "{date}|{date:30}|")?.as_str(),
-        "2016-05-04 03:02:01|2016-05-04 03:02:01|"
+    let shown = format!(in rt.alloc(); "{date}|{date:30}|")?;
+    assert!(rt; shown.as_str() == "2016-05-04 03:02:01|2016-05-04 03:02:01|");
+    Ok(())
+}
+
+// The debug text of the date behind its offset.
+fn assert_debug(rt: &(impl Abort + AllocGlobal), date: &DateTime) -> Result<(), Fail> {
+    let shown = format!(in rt.alloc(); "{date:?}")?;
+    assert!(rt;
+        shown.as_str()
+            == "DateTime { year: 2016, month: 5, day: 4, hour: 3, minute: 2, second: 1, nanosecond: None, offset: Some(-6039) }"
     );
     Ok(())
 }
@@ -62,15 +70,11 @@ fn what_is_refused_changes_nothing(rt: HostRuntime) -> Result<(), Fail> {
     assert!(rt; date.nanosecond == Some(987000) && date.offset == Some(-6039));
     date.parse_subsec(b" ")?;
     assert!(rt; date.nanosecond == None);
-    assert_eq!(rt;
-        format!(in rt.alloc(); "{date:?}")?.as_str(),
-        "DateTime { year: 2016, month: 5, day: 4, hour: 3, minute: 2, second: 1, nanosecond: None, offset: Some(-6039) }"
-    );
-    Ok(())
+    assert_debug(&rt, &date)
 }
 
 #[test]
-fn refusals_of_dates(rt: HostRuntime) -> Result<(), Fail> {
+fn refusals_of_dates(rt: HostRuntime) {
     for (text, blank, message) in [
         ("                   ", true, "DateTime is blank"),
         ("    :  :     :  :  ", true, "DateTime is blank"),
@@ -86,6 +90,10 @@ fn refusals_of_dates(rt: HostRuntime) -> Result<(), Fail> {
         };
         assert_refused(&rt, answer, blank, message);
     }
+}
+
+#[test]
+fn refusals_of_offsets(rt: HostRuntime) -> Result<(), Fail> {
     let mut date = DateTime::from_ascii(b"0000:00:00 00:00:00 and more")?;
     for (text, blank, message) in [
         ("      ", true, "OffsetTime is blank"),

@@ -199,35 +199,40 @@ fn constants_stand_in_patterns(rt: HostRuntime) {
 }
 
 #[test]
-fn tags_and_directories_are_padded(rt: HostRuntime) -> Result<(), AllocError> {
-    let alloc = rt.alloc();
+fn tags_are_padded(rt: HostRuntime) -> Result<(), AllocError> {
+    let shown = format!(in rt.alloc(); "{:15}", Tag::DateTime)?;
+    assert!(rt; shown.as_str() == "DateTime       ");
+    Ok(())
+}
+
+#[test]
+fn tags_of_no_name_are_padded(rt: HostRuntime) -> Result<(), AllocError> {
     let unknown = Tag(Context::Exif, 0);
-    assert_eq!(rt;
-        format!(in alloc; "{:15}", Tag::DateTime)?.as_str(),
-        "DateTime       "
-    );
-    assert_eq!(rt;
-        format!(in alloc; "{unknown:>15}")?.as_str(),
-        "   Tag(Exif, 0)"
-    );
-    assert_eq!(rt;
-        format!(in alloc; "{:^10}", In(65535))?.as_str(),
-        " IFD65535 "
-    );
-    assert_eq!(rt;
-        format!(in alloc; "{:>9}{:10}|", In::PRIMARY, In::THUMBNAIL)?.as_str(),
-        "  primarythumbnail |"
-    );
-    assert_eq!(rt;
-        format!(in alloc; "{:11}", Rational::from((10, 20)))?.as_str(),
-        "      10/20"
-    );
-    assert_eq!(rt; format!(in alloc; "{unknown:?}")?.as_str(), "Tag(Exif, 0)");
+    let shown = format!(in rt.alloc(); "{unknown:>15}{unknown:?}")?;
+    assert!(rt; shown.as_str() == "   Tag(Exif, 0)Tag(Exif, 0)");
+    Ok(())
+}
+
+#[test]
+fn the_longest_tag_is_padded(rt: HostRuntime) -> Result<(), AllocError> {
     let longest = Tag(Context::Interop, 65535);
-    assert_eq!(rt;
-        format!(in alloc; "{longest}|{longest:20}|")?.as_str(),
-        "Tag(Interop, 65535)|Tag(Interop, 65535) |"
-    );
+    let shown = format!(in rt.alloc(); "{longest}|{longest:20}|")?;
+    assert!(rt; shown.as_str() == "Tag(Interop, 65535)|Tag(Interop, 65535) |");
+    Ok(())
+}
+
+#[test]
+fn directories_are_padded(rt: HostRuntime) -> Result<(), AllocError> {
+    let (last, first, second) = (In(65535), In::PRIMARY, In::THUMBNAIL);
+    let shown = format!(in rt.alloc(); "{last:^10}|{first:>9}{second:10}|")?;
+    assert!(rt; shown.as_str() == " IFD65535 |  primarythumbnail |");
+    Ok(())
+}
+
+#[test]
+fn fractions_are_padded(rt: HostRuntime) -> Result<(), AllocError> {
+    let shown = format!(in rt.alloc(); "{:11}", Rational::from((10, 20)))?;
+    assert!(rt; shown.as_str() == "      10/20");
     Ok(())
 }
 
@@ -256,19 +261,34 @@ fn assert_default(
 
 #[test]
 fn defaults(rt: HostRuntime) -> Result<(), Fail> {
-    let alloc = rt.alloc();
-    let bits = Value::Short(Items::from_slice(alloc, &[8, 8, 8])?);
+    let bits = Value::Short(Items::from_slice(rt.alloc(), &[8, 8, 8])?);
     assert_default(&rt, Tag::BitsPerSample, Some(bits))?;
-    let source = Value::Undefined(Items::from_slice(alloc, &[3])?, 0);
-    assert_default(&rt, Tag::FileSource, Some(source))?;
-    let resolution = Value::Rational(Items::from_slice(alloc, &[Rational::from((72, 1))])?);
-    assert_default(&rt, Tag::XResolution, Some(resolution))?;
-    let mut letters = Vec::new(alloc);
-    letters.push(Items::from_slice(alloc, b"K")?)?;
+    let altitude = Value::Byte(Items::from_slice(rt.alloc(), &[0])?);
+    assert_default(&rt, Tag::GPSAltitudeRef, Some(altitude))
+}
+
+#[test]
+fn default_of_undefined_bytes(rt: HostRuntime) -> Result<(), Fail> {
+    let source = Value::Undefined(Items::from_slice(rt.alloc(), &[3])?, 0);
+    assert_default(&rt, Tag::FileSource, Some(source))
+}
+
+#[test]
+fn default_of_a_fraction(rt: HostRuntime) -> Result<(), Fail> {
+    let resolution = Items::from_slice(rt.alloc(), &[Rational::from((72, 1))])?;
+    assert_default(&rt, Tag::XResolution, Some(Value::Rational(resolution)))
+}
+
+#[test]
+fn default_of_a_text(rt: HostRuntime) -> Result<(), Fail> {
+    let mut letters = Vec::new(rt.alloc());
+    letters.push(Items::from_slice(rt.alloc(), b"K")?)?;
     let speed = Value::Ascii(Items::from_vec(letters));
-    assert_default(&rt, Tag::GPSSpeedRef, Some(speed))?;
-    let altitude = Value::Byte(Items::from_slice(alloc, &[0])?);
-    assert_default(&rt, Tag::GPSAltitudeRef, Some(altitude))?;
+    assert_default(&rt, Tag::GPSSpeedRef, Some(speed))
+}
+
+#[test]
+fn tags_without_a_default(rt: HostRuntime) -> Result<(), Fail> {
     for tag in [
         Tag::DateTime,
         Tag::GPSVersionID,
