@@ -10,9 +10,9 @@ const STREAM: &[u8] =
 
 const FILE: &[u8] = b"RIFF\x11\0\0\0WEBPVP8L\x05\0\0\0/\x01\x80\0\x10";
 
-// Whether an error of a device came, and a beginning of what is to come out.
-fn is_interrupted(got: &Outcome, whole: &Outcome) -> bool {
-    is_ended_by(got, "io") && whole.bytes.starts_with(&got.bytes)
+// Whether the error of this device came, and a beginning of what is to come out.
+fn is_interrupted(got: &Outcome, device: &str, whole: &Outcome) -> bool {
+    is_ended_by(got, device) && whole.bytes.starts_with(&got.bytes)
 }
 
 #[test]
@@ -20,7 +20,7 @@ fn a_stream_whose_reader_fails(rt: HostRuntime) -> Result<(), Fail> {
     let whole = jpeg(rt.alloc(), STREAM, PLAIN_AB);
     for good in 0..=STREAM.len() {
         let got = jpeg_within(rt.alloc(), STREAM, PLAIN_AB, good, usize::MAX);
-        assert!(rt; is_interrupted(&got, &whole));
+        assert!(rt; is_interrupted(&got, "read", &whole));
     }
     Ok(())
 }
@@ -30,7 +30,7 @@ fn a_stream_whose_writer_fails(rt: HostRuntime) -> Result<(), Fail> {
     let whole = jpeg(rt.alloc(), STREAM, PLAIN_AB);
     for good in 0..=whole.bytes.len() {
         let got = jpeg_within(rt.alloc(), STREAM, PLAIN_AB, usize::MAX, good);
-        assert!(rt; is_interrupted(&got, &whole));
+        assert!(rt; is_interrupted(&got, "write", &whole));
         assert!(rt; got.bytes.len() == good);
     }
     Ok(())
@@ -43,11 +43,11 @@ fn a_cut_stream_whose_reader_or_writer_fails(rt: HostRuntime) -> Result<(), Fail
     let (whole, _) = standing(rt.alloc(), cut, PLAIN_AB);
     for good in 0..=cut.len() {
         let (got, _) = standing_within(rt.alloc(), cut, PLAIN_AB, good, usize::MAX);
-        assert!(rt; is_interrupted(&got, &whole));
+        assert!(rt; is_interrupted(&got, "read", &whole));
     }
     for good in 0..=whole.bytes.len() {
         let (got, _) = standing_within(rt.alloc(), cut, PLAIN_AB, usize::MAX, good);
-        assert!(rt; is_interrupted(&got, &whole));
+        assert!(rt; is_interrupted(&got, "write", &whole));
         assert!(rt; got.bytes.len() == good);
     }
     Ok(())
@@ -57,7 +57,7 @@ fn a_cut_stream_whose_reader_or_writer_fails(rt: HostRuntime) -> Result<(), Fail
 fn a_file_whose_reader_fails(rt: HostRuntime) -> Result<(), Fail> {
     for good in 0..=FILE.len() {
         let got = webp_within(rt.alloc(), FILE, PLAIN_AB, good, usize::MAX);
-        assert!(rt; is_ended_by(&got, "io"));
+        assert!(rt; is_ended_by(&got, "read"));
         assert!(rt; got.bytes.is_empty());
     }
     Ok(())
@@ -68,7 +68,7 @@ fn a_file_whose_writer_fails(rt: HostRuntime) -> Result<(), Fail> {
     let whole = webp(rt.alloc(), FILE, PLAIN_AB);
     for good in 0..=whole.bytes.len() {
         let got = webp_within(rt.alloc(), FILE, PLAIN_AB, usize::MAX, good);
-        assert!(rt; is_interrupted(&got, &whole));
+        assert!(rt; is_interrupted(&got, "write", &whole));
         assert!(rt; got.bytes.len() == good);
     }
     Ok(())

@@ -120,11 +120,11 @@ fn readers_and_writers_that_fail(rt: HostRuntime) -> Result<(), Fail> {
         let whole = file(rt.alloc(), bytes, PLAIN_AB);
         for good in 0..=bytes.len() {
             let got = file_within(rt.alloc(), bytes, PLAIN_AB, good, usize::MAX);
-            assert!(rt; is_ended_by(&got, "io") && whole.bytes.starts_with(&got.bytes));
+            assert!(rt; is_ended_by(&got, "read") && whole.bytes.starts_with(&got.bytes));
         }
         for good in 0..=whole.bytes.len() {
             let got = file_within(rt.alloc(), bytes, PLAIN_AB, usize::MAX, good);
-            assert!(rt; is_ended_by(&got, "io") && whole.bytes.starts_with(&got.bytes));
+            assert!(rt; is_ended_by(&got, "write") && whole.bytes.starts_with(&got.bytes));
             assert!(rt; got.bytes.len() == good);
         }
     }

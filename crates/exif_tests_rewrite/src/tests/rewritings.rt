@@ -21,11 +21,17 @@ pub struct Outcome {
     pub refusal: Option<&'static str>,
 }
 
-/// A refusal's text; of a device's error and of want of memory a word.
+/// How the reader fails, and how the writer does.
+const READ_FAILS: ErrorKind = ErrorKind::UnexpectedEof;
+
+const WRITE_FAILS: ErrorKind = ErrorKind::BrokenPipe;
+
+/// A refusal's text; of the reader's own error, the writer's own and want of memory a word.
 pub fn text_of(error: &Error) -> &'static str {
     match error {
         Error::InvalidFormat(text) | Error::TooBig(text) | Error::NotSupported(text) => *text,
-        Error::Io(_) => "io",
+        Error::Io(cause) if cause.kind() == READ_FAILS => "read",
+        Error::Io(cause) if cause.kind() == WRITE_FAILS => "write",
         Error::OutOfMemory => "memory",
         _ => "another error",
     }
@@ -55,8 +61,8 @@ pub fn jpeg_within(
     reads: usize,
     writes: usize,
 ) -> Outcome {
-    let mut source = Counted::new(Slow::new(bytes, reads, ErrorKind::Other));
-    let mut out = Counted::new(Drip::new(alloc, writes, Some(ErrorKind::Other)));
+    let mut source = Counted::new(Slow::new(bytes, reads, READ_FAILS));
+    let mut out = Counted::new(Drip::new(alloc, writes, Some(WRITE_FAILS)));
     let result = rewrite_jpeg(&mut source, &mut out, wish.put, wish.remove);
     written(out, result)
 }
@@ -74,8 +80,8 @@ pub fn standing_within(
     reads: usize,
     writes: usize,
 ) -> (Outcome, bool) {
-    let mut source = Counted::new(Slow::new(bytes, reads, ErrorKind::Other));
-    let mut out = Counted::new(Drip::new(alloc, writes, Some(ErrorKind::Other)));
+    let mut source = Counted::new(Slow::new(bytes, reads, READ_FAILS));
+    let mut out = Counted::new(Drip::new(alloc, writes, Some(WRITE_FAILS)));
     let result = rewrite_jpeg_as_it_stands(&mut source, &mut out, wish.put, wish.remove);
     let whole = matches!(result, Ok(Ended::Whole));
     (written(out, result), whole)
@@ -94,8 +100,8 @@ pub fn webp_within(
     reads: usize,
     writes: usize,
 ) -> Outcome {
-    let mut source = Counted::new(Slow::new(bytes, reads, ErrorKind::Other));
-    let mut out = Counted::new(Drip::new(alloc, writes, Some(ErrorKind::Other)));
+    let mut source = Counted::new(Slow::new(bytes, reads, READ_FAILS));
+    let mut out = Counted::new(Drip::new(alloc, writes, Some(WRITE_FAILS)));
     let result = rewrite_webp(alloc, &mut source, &mut out, wish.put, wish.remove);
     written(out, result)
 }
@@ -113,8 +119,8 @@ pub fn file_within(
     reads: usize,
     writes: usize,
 ) -> Outcome {
-    let mut source = Counted::new(Slow::new(bytes, reads, ErrorKind::Other));
-    let mut out = Counted::new(Drip::new(alloc, writes, Some(ErrorKind::Other)));
+    let mut source = Counted::new(Slow::new(bytes, reads, READ_FAILS));
+    let mut out = Counted::new(Drip::new(alloc, writes, Some(WRITE_FAILS)));
     let result = rewrite(alloc, &mut source, &mut out, wish.put, wish.remove);
     written(out, result)
 }
