@@ -1,5 +1,28 @@
 //! Exif metadata: pictures read into fields and faults, and fields and blocks written as one TIFF
 //! image.
+//!
+//! ```
+//! let file = File::open(rt, path)?;
+//! let exif = Reader::new().read_from_container(rt.alloc(), &mut Seekable::new(file))?;
+//! if let Some(field) = exif.get_field(Tag::Orientation, In::PRIMARY) {
+//!     println!(rt; "{}", field.display_value())?;
+//! }
+//! ```
+//!
+//! What was read is written again, or new fields are:
+//!
+//! ```
+//! let mut writer = Writer::new(alloc);
+//! for field in exif.fields() {
+//!     writer.push_field(field)?;
+//! }
+//! let mut image = Counted::new(Vec::new(alloc));
+//! writer.write(&mut image, exif.little_endian())?;
+//! Ok(image.into_inner())
+//! ```
+//!
+//! Edits in place stand in `exif_edit` and `exif_edit_files`, files written again in `exif_rewrite`,
+//! reports in `exif_report`, JSON in `exif_json`.
 #![tactic(auto)]
 
 pub mod experimental;

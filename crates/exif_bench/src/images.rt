@@ -74,9 +74,7 @@ pub fn texts(alloc: Global, count: u16) -> Result<Vec<u8>, AllocError> {
 }
 
 fn text(alloc: Global, bytes: &[u8]) -> Result<Value, AllocError> {
-    let mut texts = Vec::new(alloc);
-    texts.push(Items::from_slice(alloc, bytes)?)?;
-    Ok(Value::Ascii(Items::from_vec(texts)))
+    Value::ascii(alloc, &[bytes])
 }
 
 fn short(alloc: Global, number: u16) -> Result<Value, AllocError> {

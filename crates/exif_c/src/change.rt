@@ -1,13 +1,13 @@
 //! Files changed.
 
 ghost use Rattle.exif_edit.specs.Erasing.{erase_patches};
-ghost use Rattle.exif_edit.specs.InFiles.{edited_file, in_file};
+ghost use Rattle.exif_edit_files.specs.InFiles.{edited_file, in_file};
 ghost use Rattle.exif_c.specs.Calls.{Ends, IsScrubbed, SetsHere};
 
 use crate::buffer::{Answer, given, nothing};
 use crate::status::{Status, edit_status, refusal_status};
 use exif_change::{Assignment, Removed, scrub, set_here};
-use exif_edit::erase_places_in_file;
+use exif_edit_files::erase_places_in_file;
 use std::alloc::Global;
 
 /// Erases the places in the Exif data of a file, in the caller's buffer: its length stays. After a
@@ -23,8 +23,9 @@ pub extern "C" fn mexaldor_erase_places(alloc: Global, file: &mut [u8]) -> u32
 }
 
 /// Puts a file without its metadata into a buffer: JPEG and WebP lose them, in HEIF files the fields
-/// of the Exif data are erased where they stand, TIFF data are refused. It is never longer than it
-/// was. After a refusal the buffer is as it was.
+/// of the Exif data are erased where they stand, TIFF data are refused. It is no longer than it
+/// was, but for a WebP file whose last payload lacks its pad byte, which it gets. After a refusal
+/// the buffer is as it was.
 #[unsafe(no_mangle)]
 pub extern "C" fn mexaldor_scrub(alloc: Global, file: &[u8], out: &mut [u8]) -> Answer
     ensures { IsScrubbed file.now out.old out.new result }

@@ -5,7 +5,7 @@ use Rattle.exif_containers.specs.declared.container.Format.{Format}
 use Rattle.exif_containers.specs.declared.container.Format.TheVariants.{Tiff, Jpeg, Heif, WebP}
 use Rattle.exif_edit.specs.Causes.{no_data}
 use Rattle.exif_edit.specs.Erasing.{erase_patches}
-use Rattle.exif_edit.specs.InFiles.{Edit, clear_file_patches, edited_file, in_file}
+use Rattle.exif_edit_files.specs.InFiles.{Edit, clear_file_patches, edited_file, in_file}
 use Rattle.exif_rewrite.specs.RewrittenFile.{file_rewriting}
 use Rattle.exif_rewrite_base.specs.declared.remove.Remove.{Remove}
 use Rattle.exif_rewrite_base.specs.declared.remove.Remove.TheVariants.{Metadata}

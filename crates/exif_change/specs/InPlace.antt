@@ -4,7 +4,7 @@ use Rattle.exif_types.specs.Refusals.{not_found}
 use Rattle.exif_types.specs.declared.field.Field.{Field}
 use Rattle.exif_edit.specs.Causes.{Cause, cause_of, no_data, no_field, scattered, shared, too_long, ◌>>=◌}
 use Rattle.exif_edit.specs.declared.error.Error.{Error}
-use Rattle.exif_edit.specs.InFiles.{edited_file, in_file}
+use Rattle.exif_edit_files.specs.InFiles.{edited_file, in_file}
 use Rattle.exif_edit.specs.Setting.{set_patches}
 
 -- a field set in a file where its name stands

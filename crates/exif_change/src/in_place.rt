@@ -5,7 +5,7 @@ ghost use Rattle.exif_change.specs.InPlace.{all_set, error_wants_room, field_set
 
 use crate::Refusal;
 use exif::{Error, Field};
-use exif_edit::set_value_in_file;
+use exif_edit_files::set_value_in_file;
 use std::alloc::Global;
 
 /// Sets fields in a file, one after the other, each where its name stands. After an error some of

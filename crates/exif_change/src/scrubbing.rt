@@ -3,12 +3,13 @@
 ghost use Rattle.std.specs.Prelude.{IfOk};
 ghost use Rattle.exif_change.specs.Changes.{IsErased, IsScrubbed};
 ghost use Rattle.exif_edit.specs.Erasing.{erase_patches};
-ghost use Rattle.exif_edit.specs.InFiles.{clear_file_patches, in_file};
+ghost use Rattle.exif_edit_files.specs.InFiles.{clear_file_patches, in_file};
 
 use crate::block::written;
 use crate::{Refusal, read};
 use exif_containers::container::{Format, format_of};
-use exif_edit::{Error, erase_all_in_file, erase_places_in_file};
+use exif_edit::Error;
+use exif_edit_files::{erase_all_in_file, erase_places_in_file};
 use exif_rewrite::{Remove, UPRIGHT, scrubbed_exif};
 use std::alloc::Global;
 

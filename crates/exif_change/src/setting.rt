@@ -12,7 +12,7 @@ use crate::value_text::value_of;
 use crate::{Assignment, Refusal, read};
 use exif::{Exif, Field, In, Tag};
 use exif_containers::container::format_of;
-use exif_edit::set_value_in_file;
+use exif_edit_files::set_value_in_file;
 use exif_rewrite::Remove;
 use std::alloc::Global;
 

@@ -16,7 +16,7 @@ use Rattle.exif_tiff.specs.Trace.{trace, fields_of, faults_of, whole_entries, en
 use Rattle.exif_tiff.specs.declared.fault.Fault.{Fault}
 use Rattle.exif_edit.specs.Causes.{of_data, shared}
 use Rattle.exif_edit.specs.Erasing.{cleared, clears, clipped, directory_spans, erase_patches, gps_spans, kept, nowhere, value_span, within, without_gps}
-use Rattle.exif_edit.specs.Locations.{gps_places}
+use Rattle.exif_entries.specs.Locations.{gps_places}
 use Rattle.exif_edit.specs.Patches.{FitsIn, patched, zeros_over}
 use Rattle.exif_edit.specs.Promises.{IsErased, ReadAs}
 use Rattle.exif_edit.specs.Readings.{Read, reading}
@@ -73,7 +73,7 @@ directories_within number bytes (q ∷ qs) =
     )
     (directories_within number bytes qs)
 
-spans_within : (number : Reading) (bytes : List ℕ)
+pub spans_within : (number : Reading) (bytes : List ℕ)
     → AllWithin (length bytes) (gps_spans number bytes)
 unfolding gps_spans
 spans_within number bytes = directories_within number bytes (gps_places bytes)

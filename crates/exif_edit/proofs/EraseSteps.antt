@@ -10,13 +10,13 @@ use Rattle.exif_reader.specs.declared.stop.Stop.{Stop}
 use Rattle.exif_reader.specs.declared.stop.Stop.TheVariants as stop
 use Rattle.exif_edit.specs.Causes.{Becomes, Cause, Fails, shared}
 use Rattle.exif_edit.specs.Erasing.{cleared, clears, directory_spans, erase_patches, gps_spans, kept, without_gps}
-use Rattle.exif_edit.specs.Locations.{gps_places}
+use Rattle.exif_entries.specs.Locations.{gps_places}
 use Rattle.exif_edit.specs.Patches.{patched, zeros_over}
 use Rattle.exif_edit.specs.Readings.{Read, ReadsTo, reading}
 use Rattle.exif_edit.specs.declared.error.Error.{Error}
 use Rattle.exif_edit.specs.declared.patch.Patch.{Patch}
 use Rattle.exif_edit.specs.declared.patch.Span.{Span}
-use Rattle.exif_edit.proofs.WalkSteps.{spaced_step}
+use Rattle.exif_entries.proofs.WalkSteps.{spaced_step}
 
 -- one of the entries that are left
 pub value_on : (span : ℕ → Span) (at' n i : ℕ) (out new all : List Patch) → i < n

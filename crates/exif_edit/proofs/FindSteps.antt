@@ -19,12 +19,12 @@ use Rattle.exif_reader.specs.declared.stop.Stop.{Stop}
 use Rattle.exif_reader.specs.declared.stop.Stop.TheVariants as stop
 use Rattle.exif_edit.specs.Causes.{Becomes, Fails, no_field}
 use Rattle.exif_edit.specs.Finding.{IsLastAt, find_answer, last_located, replaced, with_value}
-use Rattle.exif_edit.specs.Locations.{Located, located, located_of, ordered_spots}
+use Rattle.exif_entries.specs.Locations.{Located, located, located_of, ordered_spots}
 use Rattle.exif_edit.specs.Readings.{Read, is_little, reading, ReadsTo}
-use Rattle.exif_edit.specs.Walked.{entry_of}
+use Rattle.exif_entries.specs.Walked.{entry_of}
 use Rattle.exif_edit.specs.declared.error.Error.{Error}
-use Rattle.exif_edit.specs.declared.walk.EntryPlace.{EntryPlace}
-use Rattle.exif_edit.proofs.LawsLocated.{ordered_fields}
+use Rattle.exif_entries.specs.declared.walk.EntryPlace.{EntryPlace}
+use Rattle.exif_entries.proofs.LawsLocated.{ordered_fields}
 
 abbrev pub field_of : Located → Field
 field_of l = l.field

@@ -19,19 +19,19 @@ use Rattle.exif_writer.specs.Encoding.{spelled}
 use Rattle.exif_reader.specs.declared.stop.Stop.{Stop}
 use Rattle.exif_reader.specs.declared.stop.Stop.TheVariants as stop
 use Rattle.exif_edit.specs.Causes.{Becomes, Cause, Fails, no_field, place_named, shared}
-use Rattle.exif_edit.specs.Locations.{located}
+use Rattle.exif_entries.specs.Locations.{located}
 use Rattle.exif_edit.specs.Readings.{Read, ReadsTo, reading}
 use Rattle.exif_edit.specs.Removing.{checked_removals, directories_with, directory_without, entries_text, field_patches, has_tag, named_removals, next_text, noted, read_without, removals, removals_from, still_reads, without_named}
 use Rattle.exif_edit.specs.Setting.{names_places}
-use Rattle.exif_edit.specs.Walked.{entry_of}
+use Rattle.exif_entries.specs.Walked.{entry_of}
 use Rattle.exif_edit.specs.declared.error.Error.{Error}
 use Rattle.exif_edit.specs.declared.patch.Patch.{Patch}
 use Rattle.exif_edit.proofs.FindSteps.{field_of, fields_read}
 use Rattle.exif_edit.specs.Patches.{padded, patched, zeros_over}
 use Rattle.exif_edit.specs.declared.patch.Span.{Span}
-use Rattle.exif_edit.specs.declared.walk.EntryPlace.{EntryPlace}
+use Rattle.exif_entries.specs.declared.walk.EntryPlace.{EntryPlace}
 use Rattle.exif_edit.proofs.SetSound.{length-padded, length-spelled}
-use Rattle.exif_edit.proofs.WalkSteps.{spaced_step}
+use Rattle.exif_entries.proofs.WalkSteps.{spaced_step}
 
 -- ---- entries that pass a test
 

@@ -17,7 +17,7 @@ use Rattle.exif_writer.specs.Encoding.{encode, moved_to, spelled}
 use Rattle.exif_writer.specs.Refused.{is_unknown}
 use Rattle.exif_edit.specs.Causes.{Cause, no_field, of_data, or_cause, place_named, shared, too_long, unknown_type, unless, ◌>>=◌}
 use Rattle.exif_edit.specs.Finding.{find_answer, last_located, replaced}
-use Rattle.exif_edit.specs.Locations.{Located, located}
+use Rattle.exif_entries.specs.Locations.{Located, located}
 use Rattle.exif_edit.specs.Patches.{FitsIn, inside, padded, patched}
 use Rattle.exif_edit.specs.Promises.{IsSet, ReadAs}
 use Rattle.exif_edit.specs.Readings.{Read, reading, reads_as}
@@ -158,7 +158,7 @@ value_fits order value e bytes ps f =
     (both (FitsIn (length bytes)) order value e s (λ z. omega arith) (omega arith))
 
 -- the bytes of neither the room nor the entry
-value_misses : (order : Order) (value : Value) (e : ℕ) (bytes : List ℕ) (ps : List Patch) (i : ℕ)
+pub value_misses : (order : Order) (value : Value) (e : ℕ) (bytes : List ℕ) (ps : List Patch) (i : ℕ)
     → Fits order value e bytes ps
     → inside i (record { place = e + 2; len = 10 }) ≡ false
     → inside i (value_room (number_of order) bytes e) ≡ false → All (Misses i) ps

@@ -1,28 +1,25 @@
 -- Fields as the entries tell them in which they stand.
-use Rattle.std.proofs.Common.{◌≡◌, ◌≤◌, ◌<◌, ◌+◌, ◌*◌, ℕ, zero, suc, ◌==◌, Bool, true, false, if◌then◌else◌, List, [], ◌∷◌, ◌++◌, length, map, Option, Some, None, Result, Ok, Err, refl, sym, ap, ◌∙◌, arith}
+use Rattle.std.proofs.Common.{◌≡◌, ◌≤◌, ◌<◌, ◌+◌, ◌*◌, ℕ, Bool, true, false, if◌then◌else◌, List, [], ◌∷◌, length, map, Option, Some, None, Result, Ok, Err, refl, sym, ap, ◌∙◌, arith}
 use Rattle.std.specs.Prelude.{nat_le}
-use Rattle.std.specs.List.{flat_map}
 use Rattle.std.proofs.lemmas.Bool.Decides.{nat_tests}
 use Rattle.std.proofs.lemmas.Grind.{common_steps}
 use Rattle.exif_base.specs.Bytes.{Reading, bytes_at, number_at}
 use Rattle.exif_base.specs.Orders.{number_of}
 use Rattle.exif_base.specs.declared.endian.Order.{Order}
-use Rattle.exif_table.specs.declared.context.Context.{Context}
-use Rattle.exif_table.specs.declared.context.Context.TheVariants.{Tiff}
 use Rattle.exif_types.specs.Decode.{decode, decode_as}
 use Rattle.exif_types.specs.FieldTypes.{known_length, type_of}
-use Rattle.exif_types.specs.Numbers.{number_in}
 use Rattle.exif_types.specs.declared.field.Field.{Field}
 use Rattle.exif_types.specs.declared.field_type.FieldType.{FieldType}
 use Rattle.exif_types.specs.declared.field_type.FieldType.TheVariants as field_type
 use Rattle.exif_types.specs.declared.value.Value.{Value}
 use Rattle.exif_types.specs.declared.value.Value.TheVariants as value
-use Rattle.exif_tiff.specs.Trace.{header, entry_value, entry_places, directory_end, child_of, depth_of}
+use Rattle.exif_tiff.specs.Trace.{header, entry_value}
 use Rattle.exif_tiff.specs.declared.fault.Fault.{Fault}
-use Rattle.exif_edit.specs.Locations.{Spot, Holds, Opens, Spots, Located, located, located_of, ordered_spots, chain_spots, spots_after, directory_spots, entry_spots, valued_spots, tagged_spots, pointer_spots}
+use Rattle.exif_entries.specs.Locations.{Spot, Holds, Opens, Located, located, located_of, ordered_spots}
 use Rattle.exif_edit.specs.Promises.{told_by}
 use Rattle.exif_edit.specs.Removing.{told_at, told_in, untold}
 use Rattle.exif_edit.proofs.FindSteps.{field_of}
+use Rattle.exif_edit.proofs.LocatedEntries.{AreSaid, ordered_said}
 
 -- ---- a value of an entry
 
@@ -135,89 +132,26 @@ tells number bytes e v h = by_size (nat_le size 4) refl h
 -- ---- all that is located
 
 -- each field is as its entry tells it
-abbrev Tells : List Spot → Type 0
-Tells [] = Unit {0}
-Tells (Holds f e p ∷ spots) = (told_at e f ≡ f) × Tells spots
-Tells (Opens c q ∷ spots) = Tells spots
-
-joined : (xs ys : List Spot) → Tells xs → Tells ys → Tells (xs ++ ys)
-joined [] ys h k = k
-joined (Holds f e p ∷ xs) ys h k = (h.0, joined xs ys h.1 k)
-joined (Opens c q ∷ xs) ys h k = joined xs ys h k
-
-each : (f : ℕ → List Spot) (ps : List ℕ) → ((p : ℕ) → Tells (f p)) → Tells (flat_map f ps)
-each f [] h = tt
-each f (p ∷ ps) h = joined (f p) (flat_map f ps) (h p) (each f ps h)
-
-pointer : (child : Spots) (c : Context) (o : Option ℕ) → ((d : Context) (q : ℕ) → Tells (child d q))
-    → Tells (pointer_spots child c o)
-pointer child c None h = tt
-pointer child c (Some q) h = h c q
-
-tagged : (child : Spots) (c : Context) (k p n e : ℕ) (v : Value) (o : Option Context)
-    → told_in e v ≡ v → ((d : Context) (q : ℕ) → Tells (child d q))
-    → Tells (tagged_spots child c k p n e v o)
-tagged child c k p n e v None t h = (ap (λ x. ◌≡◌-field c n k x) t, tt)
-  where
-    ◌≡◌-field : Context → ℕ → ℕ → Value → Field
-    ◌≡◌-field c n k x =
-        record { tag = record { 0 = c; 1 = n }; ifd_num = record { 0 = k }; value = x }
-tagged child c k p n e v (Some d) t h = pointer child d (number_in v 0) h
-
-valued : (child : Spots) (c : Context) (k p n e : ℕ) (o : Option Value)
-    → ((v : Value) → o ≡ Some v → told_in e v ≡ v) → ((d : Context) (q : ℕ) → Tells (child d q))
-    → Tells (valued_spots child c k p n e o)
-valued child c k p n e None t h = tt
-valued child c k p n e (Some v) t h = tagged child c k p n e v (child_of c n) (t v refl) h
-
-directory : (depth : ℕ) (number : Reading) (bytes : List ℕ) (k : ℕ) (c : Context) (p : ℕ)
-    → Tells (directory_spots depth number bytes k c p)
-directory zero number bytes k c p = tt
-directory (suc depth) number bytes k c p =
-    each (entry_spots (directory_spots depth number bytes k) number bytes c k p)
-    (entry_places number bytes p)
-    (λ e. valued (directory_spots depth number bytes k) c k p (number_at number 2 bytes e) e
-    (entry_value number bytes e) (tells number bytes e) (directory depth number bytes k))
-
-after : (rest : ℕ → List Spot) (x : Result ℕ Fault) → ((p : ℕ) → Tells (rest p))
-    → Tells (spots_after rest x)
-after rest (Err fault) h = tt
-after rest (Ok next) h = h next
-
-chain : (left : ℕ) (number : Reading) (bytes : List ℕ) (k p : ℕ)
-    → Tells (chain_spots left number bytes k p)
-chain zero number bytes k p = tt
-chain (suc left) number bytes k p = by_zero (p == 0) (chain left number bytes (k + 1))
-  where
-    by_zero : (b : Bool) → ((q : ℕ) → Tells (chain_spots left number bytes (k + 1) q)) → Tells
-        (elim b as (λ c. List Spot) [
-          | true ↦ []
-          | false ↦ directory_spots (depth_of Tiff) number bytes k Tiff p
-              ++ spots_after (chain_spots left number bytes (k + 1)) (directory_end number bytes p)
-        ])
-    by_zero true h = tt
-    by_zero false h =
-        joined (directory_spots (depth_of Tiff) number bytes k Tiff p)
-        (spots_after (chain_spots left number bytes (k + 1)) (directory_end number bytes p))
-        (directory (depth_of Tiff) number bytes k Tiff p)
-        (after (chain_spots left number bytes (k + 1)) (directory_end number bytes p) h)
-
--- the same of located fields
 abbrev pub AllTell : List Located → Type 0
 AllTell [] = Unit {0}
 AllTell (l ∷ ls) = (told_at l.entry l.field ≡ l.field) × AllTell ls
 
-spots_tell : (spots : List Spot) → Tells spots → AllTell (located_of spots)
-spots_tell [] h = tt
-spots_tell (Holds f e p ∷ spots) h = (h.0, spots_tell spots h.1)
-spots_tell (Opens c q ∷ spots) h = spots_tell spots h
+spots_tell : (number : Reading) (bytes : List ℕ) (spots : List Spot) → AreSaid number bytes spots
+    → AllTell (located_of spots)
+spots_tell number bytes [] h = tt
+spots_tell number bytes (Holds f e p ∷ spots) h = (
+  ap (λ (v : Value). ◌-with f v) (tells number bytes e f.value h.0.value),
+  spots_tell number bytes spots h.1,
+)
+  where
+    ◌-with : Field → Value → Field
+    ◌-with f v = record { tag = f.tag; ifd_num = f.ifd_num; value = v }
+spots_tell number bytes (Opens c q ∷ spots) h = spots_tell number bytes spots h
 
 ordered_tell : (number : Reading) (bytes : List ℕ)
     → AllTell (located_of (ordered_spots number bytes))
-unfolding ordered_spots
 ordered_tell number bytes =
-    spots_tell (chain_spots 8 number bytes 0 (number_at number 4 bytes 4))
-    (chain 8 number bytes 0 (number_at number 4 bytes 4))
+    spots_tell number bytes (ordered_spots number bytes) (ordered_said number bytes)
 
 by_header : (x : Result Order Fault) (bytes : List ℕ)
     → AllTell (elim x as (λ r. List Located)

@@ -1,6 +1,8 @@
 -- Why an edit is refused.
 use Rattle.std.specs.Prelude.{◌≡◌, ℕ, List, Option, Some, None, Result, Ok, Err, MatchOption, Bool, true, false, codes}
 use Rattle.exif_types.specs.Failures as failures
+use Rattle.exif_types.specs.Failures.{Failure}
+use Rattle.exif_types.specs.declared.error.Error.TheVariants as failure
 use Rattle.exif_types.specs.Refusals.{Refusal, refusal_of}
 use Rattle.exif_tiff.specs.Faults.{text_of}
 use Rattle.exif_tiff.specs.declared.fault.Fault.{Fault}
@@ -55,6 +57,11 @@ error_text error.OutOfMemory = Some (codes "Out of memory")
 abbrev pub Becomes : Stop → Error → Type 0
 Becomes stop.OutOfMemory e = e ≡ error.OutOfMemory
 Becomes (stop.Fault fault) e = e ≡ error.Header fault
+
+-- the error that a container's becomes
+abbrev pub Stops : Failure → Error → Type 0
+Stops failure.OutOfMemory e = e ≡ error.OutOfMemory
+Stops f e = e ≡ error.Container f
 
 -- ---- steps that may be refused
 

@@ -1,13 +1,17 @@
 -- Worked examples: the definitions compute what editing gives.
-use Rattle.std.specs.Prelude.{ℕ, ◌≡◌, refl, List, [], ◌∷◌, Ok, Err, codes}
+use Rattle.std.specs.Prelude.{ℕ, ◌≡◌, refl, true, false, List, [], ◌∷◌, Ok, Err, codes}
+use Rattle.exif_base.specs.Orders.{number_of}
+use Rattle.exif_base.specs.declared.endian.Order.TheVariants.{Big}
 use Rattle.exif_table.specs.declared.context.Context.TheVariants.{Tiff}
 use Rattle.exif_types.specs.declared.value.Value.TheVariants as value
 use Rattle.exif_tiff.specs.Trace.{trace, ordered_trace}
 use Rattle.exif_edit.specs.Causes.{no_field, place_named, too_long}
 use Rattle.exif_edit.specs.Erasing.{erase_answer, erase_patches, gps_spans}
 use Rattle.exif_edit.specs.Finding.{find_answer}
-use Rattle.exif_edit.specs.Locations.{gps_places, located, ordered_spots}
+use Rattle.exif_entries.specs.Locations.{gps_places, located, ordered_spots}
+use Rattle.exif_edit.specs.PlacesAlone.{places_stand_alone}
 use Rattle.exif_edit.specs.Readings.{reading}
+use Rattle.exif_edit.specs.Sharing.{stands_alone}
 use Rattle.exif_edit.specs.Setting.{checked_patches, set_answer, set_patches, value_answer}
 
 -- one description of 7 bytes, behind its directory
@@ -30,6 +34,25 @@ shorter : set_answer described (record { 0 = Tiff; 1 = 0x10e }) (record { 0 = 0 
 unfolding set_patches checked_patches find_answer value_answer reading located ordered_spots trace
     ordered_trace
 shorter = refl
+
+-- its entry, at 10, stands alone
+alone : stands_alone (number_of Big) described 10 ≡ true
+unfolding located ordered_spots
+alone = refl
+
+-- a description and a maker's name that share one text
+abbrev sharing : List ℕ
+sharing =
+    77 ∷ 77 ∷ 0 ∷ 42 ∷ 0 ∷ 0 ∷ 0 ∷ 8
+    ∷ 0 ∷ 2
+    ∷ 1 ∷ 14 ∷ 0 ∷ 2 ∷ 0 ∷ 0 ∷ 0 ∷ 7 ∷ 0 ∷ 0 ∷ 0 ∷ 38
+    ∷ 1 ∷ 15 ∷ 0 ∷ 2 ∷ 0 ∷ 0 ∷ 0 ∷ 7 ∷ 0 ∷ 0 ∷ 0 ∷ 38
+    ∷ 0 ∷ 0 ∷ 0 ∷ 0
+    ∷ 83 ∷ 97 ∷ 109 ∷ 112 ∷ 108 ∷ 101 ∷ 0 ∷ []
+
+not_alone : stands_alone (number_of Big) sharing 10 ≡ false
+unfolding located ordered_spots
+not_alone = refl
 
 -- one that stands in the entry then: its old room is zeros
 inline : set_answer described (record { 0 = Tiff; 1 = 0x10e }) (record { 0 = 0 })
@@ -75,6 +98,11 @@ placed =
     ∷ 0 ∷ 0 ∷ 0 ∷ 0
     ∷ 87 ∷ 71 ∷ 83 ∷ 45 ∷ 56 ∷ 52 ∷ 0
     ∷ 9 ∷ []
+
+-- nothing else is looked at there
+places_alone : places_stand_alone (number_of Big) placed ≡ true
+unfolding gps_places gps_spans ordered_spots
+places_alone = refl
 
 -- the directory and its value are zeros, and the byte behind them stays
 without_place : erase_answer placed

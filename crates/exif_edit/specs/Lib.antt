@@ -3,13 +3,10 @@ pub mod Clearing
 pub mod Erasing
 pub mod Examples
 pub mod Finding
-pub mod InFiles
-pub mod Locations
 pub mod Patches
-pub mod Pieces
+pub mod PlacesAlone
 pub mod Promises
 pub mod Readings
 pub mod Removing
 pub mod Setting
-pub mod Streams
-pub mod Walked
+pub mod Sharing

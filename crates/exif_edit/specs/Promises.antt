@@ -14,11 +14,11 @@ use Rattle.exif_tiff.specs.declared.fault.Fault.{Fault}
 use Rattle.exif_writer.specs.Encoding.{moved_to}
 use Rattle.exif_edit.specs.Erasing.{gps_spans, without_gps}
 use Rattle.exif_edit.specs.Finding.{last_located, replaced}
-use Rattle.exif_edit.specs.Locations.{Located, located}
+use Rattle.exif_entries.specs.Locations.{Located, located}
 use Rattle.exif_edit.specs.Patches.{inside}
 use Rattle.exif_edit.specs.Removing.{directories_with, named_spans, named_values, told_at, without_named}
 use Rattle.exif_edit.specs.Setting.{set_answer, value_room}
-use Rattle.exif_edit.specs.Walked.{entry_of}
+use Rattle.exif_entries.specs.Walked.{entry_of}
 
 -- in both modes the data are read as these fields and faults
 abbrev pub ReadAs : List ℕ → List Field → List Fault → Type 0
@@ -94,10 +94,6 @@ FindsNone tag k bytes =
     → raw_answer lenient None bytes ≡ shown fields faults → last_named fields tag k ≡ None
 
 -- ---- laws
-
--- without their places, the located fields are those that reading gives
-abbrev pub LocatesWhatIsRead : List ℕ → Type 0
-LocatesWhatIsRead bytes = map (λ (l : Located). l.field) (located bytes) ≡ fields_of (trace bytes)
 
 -- the last field of a name stands where it stood, and its value has the same room
 pub record KeepsPlace (tag : Tag) (k : In) (old new : List ℕ) : Type 0 where

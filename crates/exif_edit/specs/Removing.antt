@@ -19,14 +19,14 @@ use Rattle.exif_writer.specs.Encoding.{spelled}
 use Rattle.exif_edit.specs.Causes.{Cause, no_field, of_data, place_named, shared, unless, ◌>>=◌}
 use Rattle.exif_edit.specs.Erasing.{directory_span, value_span}
 use Rattle.exif_edit.specs.Finding.{with_value}
-use Rattle.exif_edit.specs.Locations.{located}
+use Rattle.exif_entries.specs.Locations.{located}
 use Rattle.exif_edit.specs.Patches.{padded, patched, zeros_over}
 use Rattle.exif_edit.specs.Readings.{Read, reading}
 use Rattle.exif_edit.specs.Setting.{names_places}
-use Rattle.exif_edit.specs.Walked.{entry_of}
+use Rattle.exif_entries.specs.Walked.{entry_of}
 use Rattle.exif_edit.specs.declared.patch.Patch.{Patch}
 use Rattle.exif_edit.specs.declared.patch.Span.{Span}
-use Rattle.exif_edit.specs.declared.walk.EntryPlace.{EntryPlace}
+use Rattle.exif_entries.specs.declared.walk.EntryPlace.{EntryPlace}
 
 -- ---- a directory without its entries of a tag (TIFF 6.0, section 2, "Image File Directory")
 

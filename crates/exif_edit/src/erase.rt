@@ -15,8 +15,8 @@ use crate::error::Error;
 use crate::patch::{Patch, Span, apply, patched, zeros};
 use crate::read::{order_named, read};
 use crate::set::value_room;
-use crate::walk::locations;
 use exif_base::{BigEndian, LittleEndian, Order};
+use exif_entries::locations;
 use exif_reader::directory;
 use exif_reader::stop::Stop;
 use exif_reader::tiff::Parsed;
@@ -179,8 +179,9 @@ pub fn erase_places_patches(alloc: Global, bytes: &[u8]) -> Result<Vec<Patch>, E
 /// Puts zeros over the GPS directories of the chain and over their values. The pointers stay, to
 /// empty directories. Places in XMP, in maker notes and in bytes that nothing points to stay too.
 ///
-/// Refusals are `Header` and `SharedBytes`. It takes the memory of two readings, of a copy of the
-/// data and of the zeros.
+/// Refusals are `Header` and `SharedBytes`, which places that stand alone never get (see
+/// [`laws`](crate::laws)). It takes the memory of two readings, of a copy of the data and of the
+/// zeros.
 pub fn erase_places(alloc: Global, bytes: &mut [u8]) -> Result<(), Error>
     ensures answer { Edits result bytes.old bytes.new (erase_answer bytes.old) }
     ensures erased { OnOk result (IsErased bytes.old bytes.new) }

@@ -64,7 +64,7 @@ impl From<Stop> for Error {
 }
 
 impl From<exif_types::Error> for Error {
-    ghost use Rattle.exif_edit.specs.Streams.{Stops};
+    ghost use Rattle.exif_edit.specs.Causes.{Stops};
 
     ghost from_gives = { Stops };
 

@@ -9,7 +9,7 @@ ghost use Rattle.exif_edit.specs.declared.find.Found.{Found};
 
 use crate::error::Error;
 use crate::read::read;
-use crate::walk::{EntryPlace, locations};
+use exif_entries::{EntryPlace, locations};
 use exif_reader::tiff::Parsed;
 use exif_types::{Field, In, Tag};
 use std::alloc::Global;

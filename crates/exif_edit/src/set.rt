@@ -229,7 +229,8 @@ fn checked_patches(
 /// spare bytes become zero.
 ///
 /// Refusals are `NamesPlaces`, `UnknownType`, `Header`, `FieldNotFound`, `ValueTooLong` and
-/// `SharedBytes`. It takes the memory of two readings and of a copy of the data.
+/// `SharedBytes`, which a value whose entry stands alone never gets (see [`laws`](crate::laws)). It
+/// takes the memory of two readings and of a copy of the data.
 pub fn set_value(
     alloc: Global,
     bytes: &mut [u8],

@@ -21,7 +21,14 @@ use exif_types::{Error, Exif, exif_from_parts, partial_from_parts};
 use std::alloc::{AllocError, Global};
 use std::marker::Model;
 
-/// A reader of Exif metadata: how it takes faults, and how many entries it visits at most.
+/// A reader of Exif metadata: how it takes faults, and how many entries it visits at most. It holds
+/// nothing of a file, so one reader serves for many.
+///
+/// ```
+/// let mut reader = Reader::new();
+/// reader.limit_entries(1000);
+/// reader.read_from_container(alloc, &mut Seekable::new(picture))
+/// ```
 #[derive(Drop)]
 pub struct Reader {
     lenient: bool,
@@ -61,6 +68,19 @@ impl Reader {
     }
 
     /// Sets whether the reader passes over soft faults, and then answers a `PartialResult`.
+    ///
+    /// Soft are faults of a directory, an entry or a value: what is broken is left out, and the rest
+    /// is read. A header's faults, and the container's refusals, are answered in either mode.
+    ///
+    /// ```
+    /// let mut reader = Reader::new();
+    /// reader.continue_on_error(true);
+    /// let mut faults = 0;
+    /// let exif = match reader.read_from_container(alloc, &mut Seekable::new(file)) {
+    ///     Ok(exif) => exif,
+    ///     Err(error) => error.distill_partial_result(|errors| faults = errors.len())?,
+    /// };
+    /// ```
     pub fn continue_on_error(&mut self, lenient: bool) -> &mut Self
         ensures same { result.ghost_name ≡ self.entry.ghost_name }
         ensures value { result.now ≡ record self.old { lenient = lenient } }
@@ -69,8 +89,14 @@ impl Reader {
         self
     }
 
-    /// Sets the most directory entries that one reading visits. A limit that is met is a soft
-    /// fault, and nothing behind it is read.
+    /// Sets the most directory entries that one reading visits, for files of strangers: entries can
+    /// share their directories, so that 14 KB hold millions of fields. A limit that is met is a
+    /// soft fault, and nothing behind it is read.
+    ///
+    /// ```
+    /// let mut reader = Reader::new();
+    /// reader.limit_entries(1000);
+    /// ```
     pub fn limit_entries(&mut self, limit: u64) -> &mut Self
         ensures same { result.ghost_name ≡ self.entry.ghost_name }
         ensures value { result.now ≡ record self.old { limit = Some limit } }
@@ -99,7 +125,11 @@ impl Reader {
     ///
     /// Whether or not the source tells its bytes, what comes back is what its own data (`buf`)
     /// answer, and any other error is a named refusal of a container or of data, out of memory,
-    /// or the source's.
+    /// or the source's. A file stands in a `Seekable`, a pipe in a `Counted`.
+    ///
+    /// ```
+    /// Reader::new().read_from_container(alloc, &mut Seekable::new(picture))
+    /// ```
     pub fn read_from_container<R: Source>(
         &self,
         alloc: Global,

@@ -1,5 +1,5 @@
 //! What the crates of tests share: small worked files and images, devices that give or take little
-//! and then fail, and what is asked of what was read and written.
+//! and then fail, memory that runs short, and what is asked of what was read and written.
 #![tactic(auto)]
 
 pub mod answers;
@@ -8,5 +8,6 @@ pub mod files;
 pub mod found;
 pub mod images;
 pub mod readings;
+pub mod shortage;
 pub mod streams;
 pub mod writings;

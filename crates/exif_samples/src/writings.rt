@@ -19,9 +19,7 @@ pub fn field(tag: Tag, ifd_num: In, value: Value) -> Field {
 
 /// A field of one text.
 pub fn text(alloc: Global, tag: Tag, ifd_num: In, text: &[u8]) -> Result<Field, Fail> {
-    let mut texts = Vec::with_capacity(alloc, 1)?;
-    texts.push(Items::from_slice(alloc, text)?)?;
-    Ok(field(tag, ifd_num, Value::Ascii(Items::from_vec(texts))))
+    Ok(field(tag, ifd_num, Value::ascii(alloc, &[text])?))
 }
 
 /// An image description.

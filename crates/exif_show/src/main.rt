@@ -8,13 +8,21 @@ mod tests;
 use exif::{Counted, Error, Seekable};
 use program::{mode, say, show};
 use std::fs::File;
-use std::io::{BufWriter, Seek};
+use std::io::{BufWriter, ErrorKind, Seek};
 use std::process::ExitCode;
 use std::{env, io};
 
 fn main(rt: HostRuntime) -> io::Result<ExitCode> {
+    let words = match env::args(&rt) {
+        Ok(words) => words,
+        Err(cause) if cause.kind() == ErrorKind::InvalidData => {
+            eprintln!(rt; "The name is not UTF-8")?;
+            return Ok(ExitCode::from(1));
+        }
+        Err(cause) => return Err(cause),
+    };
     let mut arguments = Vec::new(rt.alloc());
-    for argument in env::args(&rt)?.skip(1) {
+    for argument in words.skip(1) {
         arguments.push(argument)?;
     }
     let Some((lenient, place)) = mode(arguments.as_slice()) else {

@@ -6,13 +6,11 @@ mod files;
 mod memory;
 mod places;
 mod sharing;
-mod shortage;
 mod streams;
 mod texts;
 mod types;
 mod values;
 
-use exif_base::Items;
 use exif_edit::Error;
 use exif_types::{Context, Tag, Value};
 use std::alloc::{AllocError, Global};
@@ -22,9 +20,7 @@ pub const DESCRIPTION: Tag = Tag(Context::Tiff, 0x10e);
 
 /// A value of one text.
 pub fn text(alloc: Global, bytes: &[u8]) -> Result<Value, AllocError> {
-    let mut texts = Vec::new(alloc);
-    texts.push(Items::from_slice(alloc, bytes)?)?;
-    Ok(Value::Ascii(Items::from_vec(texts)))
+    Value::ascii(alloc, &[bytes])
 }
 
 /// The bytes between two places, or none where they don't stand.

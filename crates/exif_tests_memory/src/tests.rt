@@ -2,6 +2,5 @@
 
 mod memory;
 mod rewriting;
-mod shortage;
 mod skips;
 mod write_memory;

@@ -29,7 +29,18 @@ use exif_types::{Error, Field, In};
 use std::alloc::{AllocError, Global};
 use std::marker::Model;
 
-/// A writer of fields and blocks as TIFF data. It borrows what it is given.
+/// A writer of fields and blocks as TIFF data (TIFF 6.0, sections 2 and 8; Exif 2.32, 4.5).
+///
+/// It borrows the fields and blocks that it is given, and takes memory for a list of references to
+/// them. Fields that were read can be pushed as they are.
+///
+/// ```
+/// let mut writer = Writer::new(alloc);
+/// writer.push_field(&field)?;
+/// writer.set_jpeg(thumbnail, In::THUMBNAIL)?;
+/// let mut image = Counted::new(Vec::new(alloc));
+/// writer.write(&mut image, false)?;
+/// ```
 #[derive(Debug, Drop)]
 pub struct Writer<'a> {
     alloc: Global,
@@ -96,9 +107,15 @@ impl<'a> Writer<'a> {
         self.ifds.as_slice()
     }
 
-    /// Adds a field to the directory that its context and number name. A field that the writer
-    /// makes itself, as a pointer or the places of strips, is ignored. The only error is
-    /// `OutOfMemory`, and it leaves the writer as it was.
+    /// Adds a field to the directory that its context and number name, behind those that were
+    /// pushed before. Entries are written by their tags' numbers, equal ones as they were pushed.
+    ///
+    /// Nine tags are ignored, since the writer makes their fields itself: `StripOffsets`,
+    /// `StripByteCounts`, `TileOffsets`, `TileByteCounts`, `JPEGInterchangeFormat`,
+    /// `JPEGInterchangeFormatLength`, `ExifIFDPointer`, `GPSInfoIFDPointer` and
+    /// `InteropIFDPointer`. A value of an unknown type is refused by `write`.
+    ///
+    /// The only error is `OutOfMemory`, and it leaves the writer as it was.
     pub fn push_field(&mut self, field: &'a Field) -> Result<(), Error>
         ensures pushed { OnOk result (self.new ≡ pushed field.now self.old) }
         ensures kept { OnErr result (self.new ≡ self.old) }
@@ -118,8 +135,10 @@ impl<'a> Writer<'a> {
         Ok(())
     }
 
-    /// Sets the strips of a directory, in place of any that were set. The only error is
-    /// `OutOfMemory`, and it leaves the writer as it was.
+    /// Sets the strips of a directory, in place of any that were set: the pieces of its picture, in
+    /// their order (TIFF 6.0, section 3). `StripOffsets` and `StripByteCounts` name them; the
+    /// other tags of the picture are yours to push. The only error is `OutOfMemory`, and it leaves
+    /// the writer as it was.
     pub fn set_strips(&mut self, strips: &'a [&'a [u8]], ifd_num: In) -> Result<(), Error>
         ensures set { OnOk result
             (self.new ≡ strips_set (blocks_of strips.entry.now) ifd_num.0 self.old) }
@@ -132,8 +151,9 @@ impl<'a> Writer<'a> {
         Ok(())
     }
 
-    /// Sets the tiles of a directory, in place of any that were set. The only error is
-    /// `OutOfMemory`, and it leaves the writer as it was.
+    /// Sets the tiles of a directory, in place of any that were set (TIFF 6.0, section 15).
+    /// `TileOffsets` and `TileByteCounts` name them. The only error is `OutOfMemory`, and it
+    /// leaves the writer as it was.
     pub fn set_tiles(&mut self, tiles: &'a [&'a [u8]], ifd_num: In) -> Result<(), Error>
         ensures set { OnOk result
             (self.new ≡ tiles_set (blocks_of tiles.entry.now) ifd_num.0 self.old) }
@@ -146,7 +166,9 @@ impl<'a> Writer<'a> {
         Ok(())
     }
 
-    /// Sets the JPEG of a directory, in place of one that was set. The only error is
+    /// Sets the JPEG stream of a directory, in place of one that was set: the thumbnail, in
+    /// `In::THUMBNAIL` (Exif 2.32, 4.5.5). `JPEGInterchangeFormat` and
+    /// `JPEGInterchangeFormatLength` name it. The bytes are not looked at. The only error is
     /// `OutOfMemory`, and it leaves the writer as it was.
     pub fn set_jpeg(&mut self, jpeg: &'a [u8], ifd_num: In) -> Result<(), Error>
         ensures set { OnOk result (self.new ≡ jpeg_set jpeg.now ifd_num.0 self.old) }
@@ -160,7 +182,8 @@ impl<'a> Writer<'a> {
     }
 
     /// Sends the image of what was pushed and set as TIFF data, and flushes once. The writer keeps
-    /// its fields and blocks.
+    /// its fields and blocks. With `little_endian` the least byte of a number stands first (`II`),
+    /// else the greatest (`MM`); both images have one length and say the same.
     ///
     /// It is refused where there is no directory, and else for the first directory of the chain
     /// that has no entry, a directory of more than 65,535 entries or a value of an unknown type,

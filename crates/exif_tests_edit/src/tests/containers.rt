@@ -3,8 +3,9 @@
 
 use super::{DESCRIPTION, is_zero, part, refuses, text};
 use exif_base::{Counted, Seekable};
-use exif_edit::{
-    Patch, erase_field_in_file, erase_field_patches_in_file, erase_places_in_file,
+use exif_edit::Patch;
+use exif_edit_files::{
+    erase_field_in_file, erase_field_patches_in_file, erase_places_in_file,
     erase_places_patches_in_file, erase_places_patches_of, set_value_in_file,
     set_value_patches_in_file,
 };

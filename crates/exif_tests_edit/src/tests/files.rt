@@ -1,7 +1,7 @@
 //! Edits in files of each container.
 
 use super::{DESCRIPTION, is_zero, part, refuses, text};
-use exif_edit::{
+use exif_edit_files::{
     erase_all_in_file, erase_places_in_file, set_value_in_file, set_value_patches_in_file,
 };
 use exif_samples::files::{DESCRIBED_BIG, HEIF, JPEG, WEBP};

@@ -1,16 +1,18 @@
 //! What edits answer where memory is refused: all of it, or what is behind some request.
-//! `shortage` says which allocator these tests need.
+//! `exif_samples::shortage` says which allocator these tests need.
 
-use super::shortage::{Outcome, in_turn};
 use super::{DESCRIPTION, put, text};
 use exif_base::Counted;
 use exif_edit::{
-    Error, Patch, erase_all, erase_all_in_file, erase_all_patches, erase_all_patches_in_file,
-    erase_field, erase_field_in_file, erase_field_patches, erase_field_patches_in_file,
-    erase_field_patches_of, erase_places, erase_places_in_file, erase_places_patches,
-    erase_places_patches_in_file, erase_places_patches_of, set_value, set_value_in_file,
-    set_value_patches, set_value_patches_in_file, set_value_patches_of,
+    Error, Patch, erase_all, erase_all_patches, erase_field, erase_field_patches, erase_places,
+    erase_places_patches, set_value, set_value_patches,
 };
+use exif_edit_files::{
+    erase_all_in_file, erase_all_patches_in_file, erase_field_in_file, erase_field_patches_in_file,
+    erase_field_patches_of, erase_places_in_file, erase_places_patches_in_file,
+    erase_places_patches_of, set_value_in_file, set_value_patches_in_file, set_value_patches_of,
+};
+use exif_samples::shortage::{Outcome, in_turn};
 use exif_types::{In, Value};
 use std::alloc::Global;
 use std::process::Abort;

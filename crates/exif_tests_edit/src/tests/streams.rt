@@ -2,8 +2,9 @@
 
 use super::{DESCRIPTION, text};
 use exif_base::{Counted, Seekable};
-use exif_edit::{
-    Patch, erase_field_patches_in_file, erase_field_patches_of, erase_places_patches_of,
+use exif_edit::Patch;
+use exif_edit_files::{
+    erase_field_patches_in_file, erase_field_patches_of, erase_places_patches_of,
     set_value_patches_in_file, set_value_patches_of,
 };
 use exif_samples::files::{DESCRIBED_BIG, HEIF, JPEG, WEBP};

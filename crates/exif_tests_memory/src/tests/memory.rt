@@ -1,13 +1,13 @@
-//! What is answered where memory is refused: all of it, or what is behind some request. `shortage`
-//! says which allocator these tests need.
+//! What is answered where memory is refused: all of it, or what is behind some request.
+//! `exif_samples::shortage` says which allocator these tests need.
 
-use super::shortage::{Greedy, Outcome, in_turn, take_most, take_rest};
 use exif::{Error, Field, In, Items, Rational, Reader, Tag, Value, parse_exif};
 use exif_samples::answers::{are_bytes, counts, kind_of, reason};
 use exif_samples::files;
 use exif_samples::readings::{
     answer_of, raw_answer, read_strictly, reader_of, report_into, report_to, shared_children,
 };
+use exif_samples::shortage::{Greedy, Outcome, in_turn, take_most, take_rest};
 use std::alloc::Global;
 use std::io::ErrorKind;
 use std::process::Abort;
@@ -75,9 +75,7 @@ fn described(alloc: Global, reader: &Reader, bytes: &[u8], sample: &Value) -> Ou
 
 // A value of one text.
 fn one_text(alloc: Global, text: &[u8]) -> Result<Value, Fail> {
-    let mut texts = Vec::new(alloc);
-    texts.push(Items::from_slice(alloc, text)?)?;
-    Ok(Value::Ascii(Items::from_vec(texts)))
+    Ok(Value::ascii(alloc, &[text])?)
 }
 
 #[test]

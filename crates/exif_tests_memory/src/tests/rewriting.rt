@@ -1,10 +1,10 @@
 //! What is written again where memory is refused: all of it, or what is behind some request.
-//! `shortage` says which allocator these tests need.
+//! `exif_samples::shortage` says which allocator these tests need.
 
-use super::shortage::{Outcome, in_turn};
 use exif::{Counted, Error, Exif, Tag};
 use exif_rewrite::{Remove, rewrite, rewrite_webp, scrubbed_exif};
 use exif_samples::readings::read_strictly;
+use exif_samples::shortage::{Outcome, in_turn};
 use std::alloc::Global;
 use std::test::Fail;
 

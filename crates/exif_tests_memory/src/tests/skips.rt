@@ -1,12 +1,12 @@
-//! What takes no memory of the containers: bytes that are skipped, and refusals. `shortage` says
-//! which allocator these tests need.
+//! What takes no memory of the containers: bytes that are skipped, and refusals.
+//! `exif_samples::shortage` says which allocator these tests need.
 
-use super::shortage::{take_most, take_rest};
 use exif::{Error, Exif, Reader, Tag};
 use exif_samples::answers::{are_bytes, reason};
 use exif_samples::files;
 use exif_samples::found::is_text;
 use exif_samples::readings::answer_of;
+use exif_samples::shortage::{take_most, take_rest};
 use exif_samples::streams::{Container, attr};
 use std::alloc::{AllocError, Global};
 use std::process::Abort;

@@ -1,11 +1,11 @@
 //! What a writer does where memory is refused: all of it, or what is behind some request.
-//! `shortage` says which allocator these tests need.
+//! `exif_samples::shortage` says which allocator these tests need.
 
-use super::shortage::{Outcome, in_turn, take_most, take_rest};
 use exif::experimental::Writer;
 use exif::{Error, Exif, Field, In, Tag, Value};
 use exif_samples::answers::{are_bytes, kind_of, reason};
 use exif_samples::readings::read_strictly;
+use exif_samples::shortage::{Outcome, in_turn, take_most, take_rest};
 use exif_samples::writings::{
     description, field, four_fields, is_image, push_all, scrub_into, write_into, written,
 };

@@ -37,11 +37,11 @@ fits_known (Float xs) h = refl
 fits_known (Double xs) h = refl
 
 -- a value has no more items than bytes, and a type below 13
-record IsCounted (value : Value) : Type 0 where
-  type : type_number value ≤ 12
-  count : count_of value ≤ value_len value
+pub record IsCounted (value : Value) : Type 0 where
+  pub type : type_number value ≤ 12
+  pub count : count_of value ≤ value_len value
 
-counted : (value : Value) → Fits value → IsCounted value
+pub counted : (value : Value) → Fits value → IsCounted value
 counted (Unknown type count place) h = absurd h
 counted (Byte xs) h = record { type = omega arith; count = omega arith }
 counted (Ascii xs) h = record { type = omega arith; count = omega arith }
@@ -61,7 +61,7 @@ same_decode number bytes t t' c c' p p' a b d = λ i. decode number (a i) (b i) 
 
 module _ (order : Order) (bytes : List ℕ) (small : length bytes < 256 ^ 4) where
   -- what the last 4 bytes of an entry say
-  value_is : (entry : Written) (e : ℕ) → Fits entry.value
+  pub value_is : (entry : Written) (e : ℕ) → Fits entry.value
       → number_at (number_of order) 2 bytes (e + 2) ≡ type_number entry.value
       → number_at (number_of order) 4 bytes (e + 4) ≡ count_of entry.value
       → (fits : Bool) → nat_le (value_len entry.value) 4 ≡ fits

@@ -29,7 +29,7 @@ each_text (text ∷ texts) h =
     let plain : List ℕ → Type 0 = All (λ b. b ≢ 0) in
     (each_of (λ b. b ≢ 0) text (All-head plain text texts h), each_text texts (All-tail plain text texts h))
 
-fits_of : (value : Value) → IsRanged value → HasPlainTexts value → is_unknown value ≡ false → Fits value
+pub fits_of : (value : Value) → IsRanged value → HasPlainTexts value → is_unknown value ≡ false → Fits value
 fits_of (Byte xs) r z u = tt
 fits_of (Ascii xs) r z u = each_text xs z
 fits_of (Short xs) r z u = each_of _ xs r

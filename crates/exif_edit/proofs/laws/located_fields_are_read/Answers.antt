@@ -1,5 +1,0 @@
-use Rattle.exif_edit.proofs.LawsLocated.{located_fields}
-use Rattle.exif_edit.proofs.laws.located_fields_are_read.Goals as goal
-
-pub returns : goal.returns
-returns c = located_fields

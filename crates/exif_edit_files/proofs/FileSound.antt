@@ -1,0 +1,195 @@
+-- What an answered edit in a file promises.
+use Rattle.std.proofs.Common.{◌≡◌, ◌≤◌, ◌<◌, ◌+◌, ◌-◌, ℕ, zero, suc, Bool, true, false, List, [], ◌∷◌, length, map, All, Option, Some, None, Result, Ok, Err, inl, inr, ◌⊎◌, refl, sym, ap, subst, ◌∙◌, arith}
+use Rattle.std.specs.Prelude.{if◌then◌else◌, nat_lt}
+use Rattle.std.proofs.lemmas.Bool.Decides.{nat_tests}
+use Rattle.std.specs.List.{find}
+use Rattle.std.specs.Str.{bytes_eq}
+use Rattle.std.proofs.lemmas.Slice.Eq.{bytes_eq-Decides}
+use Rattle.std.proofs.lemmas.Bool.{false≢true}
+use Rattle.std.proofs.lemmas.List.Elements.{All-nil, All-cons, All-head, All-tail}
+use Rattle.exif_base.specs.Bytes.{bytes_at, spaced}
+use Rattle.exif_types.specs.Refusals.{Refusal}
+use Rattle.exif_containers.specs.Container.{begins_tiff, container_answer}
+use Rattle.exif_edit.specs.Causes.{of_container, picture, scattered, ◌>>=◌}
+use Rattle.exif_edit.specs.Clearing.{clear_patches}
+use Rattle.exif_edit_files.specs.InFiles.{Edit, IsEditedIn, clear_file_patches, holds, in_file, place_answer, place_for, placed, search_answer, serves, serves_as_told, shifted, told_place}
+use Rattle.exif_edit.specs.Patches.{FitsIn, patched}
+use Rattle.exif_edit.specs.declared.patch.Patch.{Patch}
+use Rattle.exif_edit.proofs.CauseSteps.{bound, data_held, ok_same, option_told, passed}
+use Rattle.exif_edit.proofs.PatchSteps.{Misses, length-patched, patched_outside, split}
+
+-- ---- the place that serves
+
+found_serves : (test : ℕ → Bool) (xs : List ℕ) (p : ℕ) → find test xs ≡ Some p → test p ≡ true
+found_serves test [] p e = absurd (none_some e)
+  where
+    none_some : ◌≡◌ {A = Option ℕ} None (Some p) → ⊥
+    none_some e = cc
+found_serves test (x ∷ xs) p e = by_test (test x) refl e (found_serves test xs p)
+  where
+    by_test : (b : Bool) → test x ≡ b → (if b then Some x else find test xs) ≡ Some p
+        → (find test xs ≡ Some p → test p ≡ true) → test p ≡ true
+    by_test true t e k = let s : x ≡ p = cc in subst (λ y. test y ≡ true) s t
+    by_test false t e k = k e
+
+-- it is one of those that were tried
+found_below : (test : ℕ → Bool) (low n p : ℕ) → find test (spaced low 1 n) ≡ Some p → p < low + n
+found_below test low zero p e = absurd (none_some e)
+  where
+    none_some : ◌≡◌ {A = Option ℕ} None (Some p) → ⊥
+    none_some e = cc
+found_below test low (suc n) p e = by_test (test low) e (found_below test (low + 1) n p)
+  where
+    by_test : (b : Bool) → (if b then Some low else find test (spaced (low + 1) 1 n)) ≡ Some p
+        → (find test (spaced (low + 1) 1 n) ≡ Some p → p < low + 1 + n) → p < low + suc n
+    by_test true e k = let s : low ≡ p = cc in omega arith
+    by_test false e k = let h = k e in omega arith
+
+held_by : (x : Result (List ℕ) Refusal) (text : List ℕ)
+    → (elim x [ Ok found ↦ bytes_eq found text | Err r ↦ false ]) ≡ true → x ≡ Ok text
+held_by (Ok found) text e = ap (λ y. Ok y) ((bytes_eq-Decides found text).0 e)
+held_by (Err r) text e = absurd (false≢true e)
+
+-- ---- shifted patches
+
+pub shifted_fit : (ps : List Patch) (place n m : ℕ) → place + n ≤ m → All (FitsIn n) ps
+    → All (FitsIn m) (map (shifted place) ps)
+shifted_fit [] place n m h f = All-nil (FitsIn m)
+shifted_fit (p ∷ ps) place n m h f =
+    let a = All-head (FitsIn n) p ps f in
+    All-cons (FitsIn m) (shifted place p) (map (shifted place) ps) (omega arith)
+    (shifted_fit ps place n m h (All-tail (FitsIn n) p ps f))
+
+pub shifted_miss : (ps : List Patch) (place n i : ℕ) → (i < place) ⊎ (place + n ≤ i)
+    → All (FitsIn n) ps → All (Misses i) (map (shifted place) ps)
+shifted_miss [] place n i h f = All-nil (Misses i)
+shifted_miss (p ∷ ps) place n i h f =
+    let a = All-head (FitsIn n) p ps f in
+    All-cons (Misses i) (shifted place p) (map (shifted place) ps)
+    (elim h as (λ x. Misses i (shifted place p))
+    [ inl b ↦ inl (omega arith) | inr b ↦ inr (omega arith) ])
+    (shifted_miss ps place n i h (All-tail (FitsIn n) p ps f))
+
+-- ---- the whole
+
+-- what answered patches of a file are
+pub record WasPlaced (edit : Edit) (file : List ℕ) (qs : List Patch) : Type 0 where
+  pub old : List ℕ
+  pub held : container_answer file ≡ Ok old
+  pub patches : List Patch
+  pub edited : edit old ≡ Ok patches
+  pub place : ℕ
+  pub are : qs ≡ map (shifted place) patches
+  pub below : place < length file + 1 - length old
+  pub stood : bytes_at (length old) file place ≡ old
+  pub holds : container_answer (patched qs file) ≡ Ok (patched patches old)
+
+-- a place that was answered: it was tried, and it serves
+pub record Serves (file old : List ℕ) (ps : List Patch) (place : ℕ) : Type 0 where
+  pub below : place < length file + 1 - length old
+  pub good : serves file old ps place ≡ true
+
+searched_serves : (file old : List ℕ) (ps : List Patch) (place : ℕ)
+    → search_answer file old ps ≡ Ok place → Serves file old ps place
+unfolding search_answer
+searched_serves file old ps place e =
+    let f = option_told (place_for file old ps) scattered place e in
+    let n = length file + 1 - length old in
+    let l = found_below (serves file old ps) 0 n place f in
+    record {
+      below = omega arith;
+      good = found_serves (serves file old ps) (spaced 0 1 n) place f;
+    }
+
+told_serves : (file old : List ℕ) (ps : List Patch) (place : ℕ)
+    → serves_as_told file old ps ≡ true → told_place file ≡ place → Serves file old ps place
+told_serves file old ps place h e =
+    let n = length file + 1 - length old in
+    let b = split (nat_lt (told_place file) n) (serves file old ps (told_place file)) h in
+    record {
+      below = subst (λ p. p < n) e (grind (arith, nat_tests));
+      good = subst (λ p. serves file old ps p ≡ true) e b.1;
+    }
+
+place_serves : (file old : List ℕ) (ps : List Patch) (place : ℕ)
+    → place_answer file old ps ≡ Ok place → Serves file old ps place
+unfolding place_answer
+place_serves file old ps place e = by_told (serves_as_told file old ps) refl e
+  where
+    by_told : (b : Bool) → serves_as_told file old ps ≡ b
+        → (if b then Ok (told_place file) else search_answer file old ps) ≡ Ok place
+        → Serves file old ps place
+    by_told true h k =
+        let s : told_place file ≡ place = cc in told_serves file old ps place h s
+    by_told false h k = searched_serves file old ps place k
+
+was_placed : (edit : Edit) (file old : List ℕ) (ps qs : List Patch) → container_answer file ≡ Ok old
+    → edit old ≡ Ok ps → placed file old ps ≡ Ok qs → WasPlaced edit file qs
+was_placed edit file old ps qs h g s =
+    let r = bound (place_answer file old ps) (λ place. Ok (map (shifted place) ps)) qs s in
+    let are = ok_same (map (shifted r.0) ps) qs r.2 in
+    let t = place_serves file old ps r.0 r.1 in
+    let b = split (bytes_eq (bytes_at (length old) file r.0) old)
+    (holds (patched (map (shifted r.0) ps) file) (patched ps old)) t.good in
+    record {
+      old = old;
+      held = h;
+      patches = ps;
+      edited = g;
+      place = r.0;
+      are = sym are;
+      below = t.below;
+      stood = (bytes_eq-Decides (bytes_at (length old) file r.0) old).0 b.0;
+      holds = ap (λ rs. container_answer (patched rs file)) (sym are)
+          ∙ held_by (container_answer (patched (map (shifted r.0) ps) file)) (patched ps old) b.1;
+    }
+
+pub file_placed_by : (edit : Edit) (file : List ℕ) (qs : List Patch) → in_file edit file ≡ Ok qs
+    → WasPlaced edit file qs
+unfolding in_file
+file_placed_by edit file qs e =
+    let a = bound (of_container (container_answer file))
+    (λ old. edit old >>= λ ps. placed file old ps) qs e in
+    let b = bound (edit a.0) (λ ps. placed file a.0 ps) qs a.2 in
+    was_placed edit file a.0 b.0 qs (data_held (container_answer file) a.0 a.1) b.1 b.2
+
+-- an edit whose patches lie in its data
+abbrev pub StaysIn : Edit → Type 0
+StaysIn edit = (old : List ℕ) (ps : List Patch) → edit old ≡ Ok ps → All (FitsIn (length old)) ps
+
+placed_fit : (edit : Edit) (file : List ℕ) (qs : List Patch) → StaysIn edit → WasPlaced edit file qs
+    → All (FitsIn (length file)) qs
+placed_fit edit file qs stays w =
+    let b = w.below in
+    subst (λ rs. All (FitsIn (length file)) rs) (sym w.are)
+    (shifted_fit w.patches w.place (length w.old) (length file) (omega arith)
+    (stays w.old w.patches w.edited))
+
+pub file_fits : (edit : Edit) (file : List ℕ) (qs : List Patch) → StaysIn edit
+    → in_file edit file ≡ Ok qs → All (FitsIn (length file)) qs
+file_fits edit file qs stays e = placed_fit edit file qs stays (file_placed_by edit file qs e)
+
+pub file_sound : (edit : Edit) (file : List ℕ) (qs : List Patch) → StaysIn edit
+    → in_file edit file ≡ Ok qs → IsEditedIn edit file (patched qs file)
+file_sound edit file qs stays e =
+    let w = file_placed_by edit file qs e in
+    let fit = placed_fit edit file qs stays w in
+    record {
+      old = w.old;
+      held = w.held;
+      patches = w.patches;
+      edited = w.edited;
+      holds = w.holds;
+      place = w.place;
+      stood = w.stood;
+      as_long = length-patched qs file fit;
+      outside = λ i h. patched_outside qs file i fit
+          (subst (λ rs. All (Misses i) rs) (sym w.are)
+          (shifted_miss w.patches w.place (length w.old) i h (stays w.old w.patches w.edited)));
+    }
+
+pub clear_file_answered : (file : List ℕ) (qs : List Patch) → clear_file_patches file ≡ Ok qs
+    → in_file clear_patches file ≡ Ok qs
+unfolding clear_file_patches
+clear_file_answered file qs e =
+    (passed (begins_tiff file) picture (λ u. in_file clear_patches file) qs e).1

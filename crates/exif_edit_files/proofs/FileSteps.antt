@@ -1,0 +1,120 @@
+-- The steps of an edit in a file.
+use Rattle.std.proofs.Common.{◌≡◌, ◌≤◌, ◌<◌, ◌+◌, ◌-◌, ℕ, true, false, List, [], ◌∷◌, length, map, get_or, set, drop, All, Some, None, Result, Ok, Err, refl, sym, ap, ◌∙◌, arith}
+use Rattle.std.specs.Prelude.{if◌then◌else◌}
+use Rattle.std.specs.List.{find}
+use Rattle.std.proofs.lemmas.List.{drop-set-lt}
+use Rattle.std.proofs.lemmas.List.Elements.{All-head, All-rest, All-same}
+use Rattle.exif_base.specs.Bytes.{spaced}
+use Rattle.exif_types.specs.Refusals.{Refusal}
+use Rattle.exif_containers.specs.Answer.{Answer, found}
+use Rattle.exif_containers.specs.Container.{begins_tiff, container_answer}
+use Rattle.exif_edit.specs.Causes.{Cause, of_container, or_cause, picture, scattered}
+use Rattle.exif_edit.specs.Clearing.{clear_patches}
+use Rattle.exif_edit_files.specs.InFiles.{Edit, clear_file_patches, in_file, place_answer, place_for, placed, search_answer, serves, serves_as_told, told_place}
+use Rattle.exif_edit.specs.Patches.{FitsIn}
+use Rattle.exif_edit_files.specs.Pieces.{piece_in, place_before}
+use Rattle.exif_edit.specs.declared.patch.Patch.{Patch}
+use Rattle.exif_edit.proofs.ChangeSteps.{left_step}
+use Rattle.exif_entries.proofs.WalkSteps.{spaced_step}
+
+-- ---- the search of the place
+
+pub place_on : (file old : List ℕ) (ps : List Patch) (place count : ℕ) → place < count
+    → find (serves file old ps) (spaced place 1 (count - place)) ≡ place_for file old ps
+    → serves file old ps place ≡ false
+    → find (serves file old ps) (spaced (place + 1) 1 (count - (place + 1))) ≡ place_for file old ps
+place_on file old ps place count h f s =
+    let g : find (serves file old ps) (place ∷ spaced (place + 1) 1 (count - (place + 1)))
+    ≡ place_for file old ps = rw (spaced_step count place place 1 h) at f in
+    sym (ap (λ b. if b then Some place else find (serves file old ps)
+    (spaced (place + 1) 1 (count - (place + 1)))) s) ∙ g
+
+pub place_found : (file old : List ℕ) (ps : List Patch) (place count : ℕ) → place < count
+    → find (serves file old ps) (spaced place 1 (count - place)) ≡ place_for file old ps
+    → serves file old ps place ≡ true → search_answer file old ps ≡ Ok place
+unfolding search_answer
+place_found file old ps place count h f s =
+    let g : find (serves file old ps) (place ∷ spaced (place + 1) 1 (count - (place + 1)))
+    ≡ place_for file old ps = rw (spaced_step count place place 1 h) at f in
+    let e : Some place ≡ place_for file old ps =
+    sym (ap (λ b. if b then Some place else find (serves file old ps)
+    (spaced (place + 1) 1 (count - (place + 1)))) s) ∙ g in
+    ap (λ p. or_cause p scattered) (sym e)
+
+pub place_none : (file old : List ℕ) (ps : List Patch) (place count : ℕ) → count ≤ place
+    → find (serves file old ps) (spaced place 1 (count - place)) ≡ place_for file old ps
+    → search_answer file old ps ≡ Err scattered
+unfolding search_answer
+place_none file old ps place count h f =
+    let z : count - place ≡ 0 = omega arith in
+    let g : None ≡ place_for file old ps = rw z at f in
+    ap (λ p. or_cause p scattered) (sym g)
+
+-- ---- the place that lengths tell
+
+abbrev told_by : List ℕ → Answer → ℕ
+told_by file x = elim x [ Ok piece ↦ place_before file piece.0 piece.1 | Err r ↦ 0 ]
+
+pub told_found : (file data' rest : List ℕ) (place : ℕ) → piece_in file ≡ found data' rest
+    → place ≡ place_before file data' rest → place ≡ told_place file
+told_found file data' rest place e p = p ∙ sym (ap (told_by file) e)
+
+pub told_refused : (file : List ℕ) (r : Refusal) → piece_in file ≡ Err r → 0 ≡ told_place file
+told_refused file r e = sym (ap (told_by file) e)
+
+pub place_as_told : (file old : List ℕ) (ps : List Patch) (place : ℕ)
+    → serves_as_told file old ps ≡ true → place ≡ told_place file
+    → place_answer file old ps ≡ Ok place
+unfolding place_answer
+place_as_told file old ps place h e = rw h (ap (λ p. Ok p) (sym e))
+
+pub place_searched : (file old : List ℕ) (ps : List Patch)
+    → serves_as_told file old ps ≡ false → search_answer file old ps ≡ place_answer file old ps
+unfolding place_answer
+place_searched file old ps h = rw h refl
+
+-- ---- the patches, counted from the first byte of the file
+
+pub change_left : (n : ℕ) (xs ys : List Patch) (i : ℕ) (x y : Patch) → i < length xs
+    → x ≡ get_or xs i x → ys ≡ set xs i y
+    → All (FitsIn n) (drop i xs) → All (FitsIn n) (drop (i + 1) ys)
+change_left n xs ys i x y h g e k =
+    let r : drop (i + 1) ys ≡ drop (i + 1) xs =
+    ap (λ zs. drop (i + 1) zs) e ∙ drop-set-lt (i + 1) xs i y (omega arith) in
+    All-same (FitsIn n) (drop (i + 1) ys) (drop (i + 1) xs) r
+    (All-rest (FitsIn n) x (drop (i + 1) xs) (drop i xs) (left_step xs i x h g) k)
+
+-- the first of those that are left lies in the data
+pub first_left : (n : ℕ) (xs : List Patch) (i : ℕ) (x : Patch) → i < length xs → x ≡ get_or xs i x
+    → All (FitsIn n) (drop i xs) → FitsIn n x
+first_left n xs i x h g k =
+    All-head (FitsIn n) x (drop (i + 1) xs)
+    (All-same (FitsIn n) (x ∷ drop (i + 1) xs) (drop i xs) (sym (left_step xs i x h g)) k)
+
+-- ---- the whole
+
+pub file_data : (edit : Edit) (file : List ℕ) (c : Cause)
+    → of_container (container_answer file) ≡ Err c → in_file edit file ≡ Err c
+unfolding in_file
+file_data edit file c h = rw h refl
+
+pub file_edit : (edit : Edit) (file old : List ℕ) (c : Cause)
+    → of_container (container_answer file) ≡ Ok old → edit old ≡ Err c → in_file edit file ≡ Err c
+unfolding in_file
+file_edit edit file old c h g = rw (h, g) refl
+
+pub file_placed : (edit : Edit) (file old : List ℕ) (ps : List Patch)
+    (x : Result (List Patch) Cause) → of_container (container_answer file) ≡ Ok old
+    → edit old ≡ Ok ps → placed file old ps ≡ x → in_file edit file ≡ x
+unfolding in_file
+file_placed edit file old ps x h g s = rw (h, g) s
+
+pub clear_file_tiff : (file : List ℕ) → begins_tiff file ≡ true
+    → clear_file_patches file ≡ Err picture
+unfolding clear_file_patches
+clear_file_tiff file h = rw h refl
+
+pub clear_file_else : (file : List ℕ) → begins_tiff file ≡ false
+    → clear_file_patches file ≡ in_file clear_patches file
+unfolding clear_file_patches
+clear_file_else file h = rw h refl

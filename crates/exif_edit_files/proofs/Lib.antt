@@ -1,0 +1,6 @@
+pub mod FileSound
+pub mod FileSteps
+pub mod LawsStreams
+pub mod Splicing
+pub mod StreamSound
+pub mod StreamSteps

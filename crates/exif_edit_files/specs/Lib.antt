@@ -1,0 +1,3 @@
+pub mod InFiles
+pub mod Pieces
+pub mod Streams

@@ -1,0 +1,3 @@
+pub mod LawsLocated
+pub mod WalkFound
+pub mod WalkSteps

@@ -1,0 +1,66 @@
+//! Pictures changed where they stand, and written again without what nobody else is to know.
+
+ghost use Rattle.std.specs.Prelude.{◌≡◌, None, IfOk, OnErr, OnOk};
+ghost use Rattle.exif_base.specs.Orders.{order_named};
+ghost use Rattle.exif_edit.specs.Erasing.{erase_patches};
+ghost use Rattle.exif_edit_files.specs.InFiles.{IsEditedIn};
+ghost use Rattle.exif_rewrite_base.specs.declared.remove.Remove.TheVariants.{Metadata};
+ghost use Rattle.exif_rewrite_jpeg.specs.Rewriting.{ends, finished};
+ghost use Rattle.exif_rewrite.specs.RewrittenFile.{file_rewriting};
+ghost use Rattle.exif_writer.specs.Image.{image};
+ghost use Rattle.exif_writer.specs.Scrubbing.{scrubbed};
+ghost use Rattle.exif_examples.specs.Fields.{orientation_patches};
+
+use exif::{Counted, Exif, In, Items, Tag, Value};
+use exif_edit_files::{erase_places_in_file, set_value_in_file};
+use exif_rewrite::{Remove, rewrite};
+use std::alloc::Global;
+
+/// Sets the orientation of a picture in memory. An error leaves its bytes.
+pub fn set_orientation(
+    alloc: Global,
+    picture: &mut [u8],
+    orientation: u16,
+) -> Result<(), exif_edit::Error>
+    ensures set { OnOk result
+        (IsEditedIn (orientation_patches orientation) picture.old picture.new) }
+    ensures kept { OnErr result (picture.new ≡ picture.old) }
+{
+    let value = Value::Short(Items::from_slice(alloc, &[orientation])?);
+    set_value_in_file(alloc, picture, Tag::Orientation, In::PRIMARY, &value)
+}
+
+/// Erases where a picture in memory was taken: each byte of that is zero then, and no other one
+/// has changed. An error leaves its bytes.
+pub fn erase_place(alloc: Global, picture: &mut [u8]) -> Result<(), exif_edit::Error>
+    ensures erased { OnOk result (IsEditedIn erase_patches picture.old picture.new) }
+    ensures kept { OnErr result (picture.new ≡ picture.old) }
+{
+    erase_places_in_file(alloc, picture)
+}
+
+/// A JPEG or WebP picture without its metadata.
+pub fn without_metadata(alloc: Global, picture: &[u8]) -> Result<Vec<u8>, exif::Error>
+    ensures clean { IfOk result
+        (λ clean. file_rewriting Metadata None picture.now ≡ ends finished clean.items) }
+{
+    let mut clean = Counted::new(Vec::new(alloc));
+    rewrite(
+        alloc,
+        &mut Counted::new(picture),
+        &mut clean,
+        None,
+        Remove::Metadata,
+    )?;
+    Ok(clean.into_inner())
+}
+
+/// The Exif data of a picture without its place, to be put into a file.
+pub fn without_place(alloc: Global, exif: &Exif) -> Result<Vec<u8>, exif::Error>
+    ensures data { IfOk result (λ written. written.items
+        ≡ image (order_named exif.now.little_endian) (scrubbed exif.now.fields)) }
+{
+    let mut data = Counted::new(Vec::new(alloc));
+    exif_report::scrub(alloc, exif, &mut data, exif.little_endian())?;
+    Ok(data.into_inner())
+}

@@ -1,0 +1,12 @@
+//! What people ask of a picture, each answered by a few lines over the library: proved, tested,
+//! and quoted by the guides.
+#![tactic(auto)]
+
+pub mod changing;
+pub mod dates;
+pub mod places;
+pub mod reading;
+#[cfg(test)]
+mod tests;
+pub mod values;
+pub mod writing;
