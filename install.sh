@@ -6,7 +6,7 @@ root=$(cd "$(dirname "$0")" && pwd)
 prefix=${1:-/usr/local}
 for name in exif_show mexaldor; do
     "$root/tools/build" "$name"
-    install -D -m 755 "$root/crates/$name/out/$name" "$prefix/bin/$name"
+    install -D -m 755 "$root/crates/$name/out/static/$name" "$prefix/bin/$name"
     install -D -m 644 "$root/docs/man/$name.1" "$prefix/share/man/man1/$name.1"
     echo "$prefix/bin/$name"
 done

@@ -1,7 +1,6 @@
 #!/bin/sh
-# The library for C, Python and Rust, called as their users do: of the proved archive, where that is
-# built (make -C bindings/c). What isn't there is told, and passed over: to build the archive proves
-# the crates below it again, which rt ci has just done.
+# The library for C, Python and Rust, called as their users do. The archive is built over the libraries
+# that rt ci left, or was by make -C bindings/c. What isn't there is told, and passed over.
 root=$(cd "$(dirname "$0")/.." && pwd)
 room=$(mktemp -d)
 trap 'rm -rf "$room"' EXIT
@@ -52,6 +51,7 @@ one() {
 
 out=$root/bindings/c/out
 archive=$root/crates/exif_c/out/libexif_c.a
+[ -f "$archive" ] || [ ! -d "$root/crates/exif_base/out/rlib" ] || one "the archive is built" "$root/tools/archive" exif_c
 if [ ! -f "$archive" ]; then
     echo "passed over, without $archive, which make -C bindings/c builds: the libraries for C, Python and Rust"
 elif has cc "the libraries for C, Python and Rust" && has make "the same" && has python3 "the same"; then

@@ -8,13 +8,12 @@ import os
 import struct
 import sys
 
-ASCII, SHORT, LONG, RATIONAL, UNDEFINED = 2, 3, 4, 5, 7
-UNITS = {ASCII: 1, SHORT: 2, LONG: 4, RATIONAL: 8, UNDEFINED: 1}
+BYTE, ASCII, SHORT, LONG, RATIONAL, UNDEFINED = 1, 2, 3, 4, 5, 7
 
 
 def item(order, kind, value):
     """The bytes of a value and its count."""
-    if kind in (ASCII, UNDEFINED):
+    if kind in (BYTE, ASCII, UNDEFINED):
         return value, len(value)
     if kind == RATIONAL:
         return b"".join(struct.pack(order + "II", *it) for it in value), len(value)

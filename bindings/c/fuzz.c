@@ -59,20 +59,20 @@ int main(void)
 {
     const size_t most = 1 << 20;
     const char turn[] = "Orientation=3";
-    struct guarded from = guarded(most), to = guarded(most);
-    uint8_t *given = malloc(most), *old = malloc(most);
+    struct guarded from = guarded(most), to = guarded(most + 1);
+    uint8_t *given = malloc(most), *old = malloc(most + 1);
     unsigned long files = 0, read = 0, scrubbed = 0, edited = 0;
     for (size_t length; (length = next(given, most)) != SIZE_MAX; files++) {
-        uint8_t *file = ending(from, length), *out = ending(to, length);
+        uint8_t *file = ending(from, length), *out = ending(to, length + 1);
         memcpy(file, given, length);
-        struct mexaldor_answer answer = mexaldor_read(file, length, files % 2, 100000, out, length);
+        struct mexaldor_answer answer = mexaldor_read(file, length, files % 2, 100000, out, length + 1);
         read += answer.status <= MEXALDOR_FAULTS;
-        answer = mexaldor_scrub(file, length, out, length);
-        must(answer.length <= length, "a scrubbed file is longer");
+        answer = mexaldor_scrub(file, length, out, length + 1);
+        must(answer.length <= length + 1, "a scrubbed file is longer");
         must(memcmp(file, given, length) == 0, "the file that was given has changed");
         scrubbed += answer.status == MEXALDOR_OK;
         if (answer.status == MEXALDOR_OK && answer.length != 0) {
-            uint8_t *again = ending(to, length);
+            uint8_t *again = ending(to, answer.length);
             memcpy(old, out, answer.length);
             uint8_t *whole = ending(from, answer.length);
             memcpy(whole, old, answer.length);

@@ -62,8 +62,9 @@ struct mexaldor_answer mexaldor_read(const uint8_t *file, size_t length, bool le
 uint32_t mexaldor_erase_places(uint8_t *file, size_t length);
 
 /* Puts a file without its metadata into `out`: JPEG and WebP lose them, in a HEIF file the fields of
- * the Exif data are erased where they stand, a TIFF file is refused. The new file is never longer
- * than the old one, so `room == length` suffices. After a refusal `out` is as it was. */
+ * the Exif data are erased where they stand, a TIFF file is refused. The new file is no longer than
+ * the old one, but for a WebP file whose last payload lacks its pad byte, which it gets: so
+ * `room == length + 1` suffices for any file. After a refusal `out` is as it was. */
 struct mexaldor_answer mexaldor_scrub(const uint8_t *file, size_t length, uint8_t *out,
                                       size_t room);
 

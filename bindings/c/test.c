@@ -161,6 +161,16 @@ static void scrubs(const char *folder, const char *name)
     free(old.at);
 }
 
+static void pads(void)
+{
+    const uint8_t old[] = "RIFF\x11\0\0\0WEBPVP8L\5\0\0\0/\1\x80\0\x10";
+    const uint8_t padded[] = "RIFF\x12\0\0\0WEBPVP8L\5\0\0\0/\1\x80\0\x10\0";
+    uint8_t room[sizeof old];
+    struct mexaldor_answer answer = mexaldor_scrub(old, sizeof old - 1, room, sizeof room);
+    check("a WebP file gets its last pad byte", answer.length == sizeof padded - 1);
+    check("there is room for it", memcmp(room, padded, sizeof room) == 0);
+}
+
 static void refusals(const char *folder)
 {
     struct bytes tiff = file(folder, "whole.tif");
@@ -233,6 +243,7 @@ int main(int count, char **words)
     for (int i = 0; i < 3; i++) {
         scrubs(words[1], containers[i]);
     }
+    pads();
     refusals(words[1]);
     threads(words[1]);
     printf("%d passed, %d failed\n", passed, failed);

@@ -125,7 +125,7 @@ def read(source: Source, *, strict: bool = False, limit: int = 0) -> Dict[str, A
 def scrub(source: Source) -> bytes:
     """A file without its metadata, as new bytes: JPEG, WebP and HEIF; a TIFF file is refused."""
     data = _bytes(source)
-    room = ctypes.create_string_buffer(max(1, len(data)))
+    room = ctypes.create_string_buffer(len(data) + 1)
     answer = _mexaldor.mexaldor_scrub(data, len(data), room, len(room))
     if answer.status != Status.OK:
         raise _refused(answer.status)

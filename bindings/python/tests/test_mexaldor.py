@@ -103,6 +103,10 @@ class Pictures(unittest.TestCase):
             self.assertEqual(mexaldor.scrub(new), new)
         self.refused(Status.PICTURE_DATA, mexaldor.scrub, self.folder / "whole.tif")
 
+    def test_a_webp_file_without_its_last_pad_byte_gets_it(self):
+        image = b"WEBPVP8L\x05\0\0\0/\x01\x80\0\x10"
+        self.assertEqual(mexaldor.scrub(b"RIFF\x11\0\0\0" + image), b"RIFF\x12\0\0\0" + image + b"\0")
+
     def test_threads_answer_the_same(self):
         data = (self.folder / "whole.heic").read_bytes()
         wanted = mexaldor.read(data)

@@ -115,7 +115,8 @@ pub fn erase_places(file: &mut [u8]) -> Result<(), Refused> {
 
 /// A file without its metadata.
 pub fn scrub(file: &[u8]) -> Result<Vec<u8>, Refused> {
-    let mut new = vec![0; file.len()];
+    // The last payload of a WebP file may lack its pad byte, and gets it.
+    let mut new = vec![0; file.len() + 1];
     // SAFETY: both have their lengths, and `new` is held by nobody else.
     let answer =
         unsafe { sys::mexaldor_scrub(file.as_ptr(), file.len(), new.as_mut_ptr(), new.len()) };

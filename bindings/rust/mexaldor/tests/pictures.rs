@@ -87,6 +87,13 @@ fn metadata_are_taken_out() {
 }
 
 #[test]
+fn a_webp_file_without_its_last_pad_byte_gets_it() {
+    let old = b"RIFF\x11\0\0\0WEBPVP8L\x05\0\0\0/\x01\x80\0\x10";
+    let padded = b"RIFF\x12\0\0\0WEBPVP8L\x05\0\0\0/\x01\x80\0\x10\0";
+    assert_eq!(scrub(old).as_deref(), Ok(&padded[..]));
+}
+
+#[test]
 fn eight_threads_answer_the_same() {
     let file = picture("whole.heic");
     let wanted = read(&file).unwrap();
