@@ -8,8 +8,6 @@ use exif::Error;
 use std::alloc::{AllocError, Global};
 use std::io;
 use std::io::Write;
-use std::process::Abort;
-use std::test::Fail;
 
 /// Blocks of memory, to which no byte is written.
 pub type Blocks = Vec<Vec<u8>>;
@@ -103,15 +101,28 @@ impl Outcome {
     }
 }
 
+/// Why a call was not right at last.
+#[derive(Debug, Drop)]
+pub enum Shortage {
+    /// It answered something wrong after so many steps.
+    Wrong(u16),
+    /// Memory was never enough.
+    Never,
+    /// The blocks themselves could not be kept.
+    OutOfMemory,
+}
+
+impl From<AllocError> for Shortage {
+    fn from(_error: AllocError) -> Shortage {
+        Shortage::OutOfMemory
+    }
+}
+
 /// Calls with no memory left, and then with ever more, until the answer is the right one. Any
 /// other is out of memory. Gives in how many calls memory ran out.
-pub fn in_turn<F: FnMut() -> Outcome + Drop>(
-    rt: &(impl Abort + AllocGlobal),
-    mut call: F,
-) -> Result<u16, Fail>
+pub fn in_turn<F: FnMut() -> Outcome + Drop>(alloc: Global, mut call: F) -> Result<u16, Shortage>
     requires { F.IsAlwaysCallable call }
 {
-    let alloc = rt.alloc();
     let _most = take_most(alloc)?;
     for step in 0..MOST_STEPS {
         let rest = take_rest(alloc, 16 * step)?;
@@ -120,10 +131,10 @@ pub fn in_turn<F: FnMut() -> Outcome + Drop>(
         match outcome {
             Outcome::Wants => {}
             Outcome::Right => return Ok(step),
-            Outcome::Wrong => panic!(rt; "a wrong answer after {step} steps"),
+            Outcome::Wrong => return Err(Shortage::Wrong(step)),
         }
     }
-    panic!(rt; "memory was never enough");
+    Err(Shortage::Never)
 }
 
 /// A writer that takes what `take_most` left, whenever it is called.

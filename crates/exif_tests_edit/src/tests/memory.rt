@@ -15,7 +15,6 @@ use exif_edit_files::{
 use exif_samples::shortage::{Outcome, in_turn};
 use exif_types::{In, Value};
 use std::alloc::Global;
-use std::process::Abort;
 use std::test::Fail;
 
 // The segment of a JPEG stream whose data have a GPS version and a description that stands behind its
@@ -176,11 +175,10 @@ fn attempt(alloc: Global, form: Form, edit: Edit, want: &[u8]) -> Outcome {
 }
 
 // In how many calls memory runs out, in each form.
-fn wants(rt: &(impl Abort + AllocGlobal), edit: Edit, want: &[u8]) -> Result<[u16; 5], Fail> {
-    let alloc = rt.alloc();
+fn wants(alloc: Global, edit: Edit, want: &[u8]) -> Result<[u16; 5], Fail> {
     let mut counts = [0u16; 5];
     for (count, form) in counts.iter_mut().zip(FORMS.iter()) {
-        *count = in_turn(rt, || attempt(alloc, *form, edit, want))?;
+        *count = in_turn(alloc, || attempt(alloc, *form, edit, want))?;
     }
     Ok(counts)
 }
@@ -188,28 +186,28 @@ fn wants(rt: &(impl Abort + AllocGlobal), edit: Edit, want: &[u8]) -> Result<[u1
 #[test]
 fn a_value_runs_out_of_memory(rt: HostRuntime) -> Result<(), Fail> {
     let value = text(rt.alloc(), b"Blue")?;
-    let counts = wants(&rt, Edit::Value(&value), SET)?;
+    let counts = wants(rt.alloc(), Edit::Value(&value), SET)?;
     assert!(rt; counts.iter().all(|count| *count > 0));
     Ok(())
 }
 
 #[test]
 fn places_run_out_of_memory(rt: HostRuntime) -> Result<(), Fail> {
-    let counts = wants(&rt, Edit::Places, NOWHERE)?;
+    let counts = wants(rt.alloc(), Edit::Places, NOWHERE)?;
     assert!(rt; counts.iter().all(|count| *count > 0));
     Ok(())
 }
 
 #[test]
 fn a_field_runs_out_of_memory(rt: HostRuntime) -> Result<(), Fail> {
-    let counts = wants(&rt, Edit::Field, UNDESCRIBED)?;
+    let counts = wants(rt.alloc(), Edit::Field, UNDESCRIBED)?;
     assert!(rt; counts.iter().all(|count| *count > 0));
     Ok(())
 }
 
 #[test]
 fn all_fields_of_data_are_erased_without_memory(rt: HostRuntime) -> Result<(), Fail> {
-    let counts = wants(&rt, Edit::All, EMPTY)?;
+    let counts = wants(rt.alloc(), Edit::All, EMPTY)?;
     assert!(rt; counts[0] == 0);
     assert!(rt; counts.iter().skip(1).all(|count| *count > 0));
     Ok(())

@@ -57,7 +57,7 @@ fn no_shorter_list_ever_comes(rt: HostRuntime) -> Result<(), Fail> {
         (files::CIRCLE, true, (8, 1)),
     ] {
         let reader = reader_of(lenient);
-        assert!(rt; in_turn(&rt, || reading(alloc, &reader, bytes, wanted))? > 0);
+        assert!(rt; in_turn(alloc, || reading(alloc, &reader, bytes, wanted))? > 0);
     }
     Ok(())
 }
@@ -90,7 +90,7 @@ fn containers_run_out_of_memory(rt: HostRuntime) -> Result<(), Fail> {
         files::DESCRIBED_BIG,
         files::DESCRIBED_LITTLE,
     ] {
-        assert!(rt; in_turn(&rt, || described(alloc, &reader, bytes, &sample))? > 0);
+        assert!(rt; in_turn(alloc, || described(alloc, &reader, bytes, &sample))? > 0);
     }
     Ok(())
 }
@@ -129,7 +129,7 @@ fn container_runs_out_of_memory(
 ) -> Result<(), Fail> {
     let alloc = rt.alloc();
     let reader = reader_of(true);
-    let wants = in_turn(rt, || reading_container(alloc, &reader, bytes, wanted))?;
+    let wants = in_turn(alloc, || reading_container(alloc, &reader, bytes, wanted))?;
     assert!(rt; wants > 0);
     Ok(())
 }
@@ -184,7 +184,7 @@ fault: Truncated IFD count
         (files::JPEG, true, description, Some(0)),
     ] {
         let text = text.as_bytes();
-        let wants = in_turn(&rt, || reporting(alloc, bytes, lenient, text, faults))?;
+        let wants = in_turn(alloc, || reporting(alloc, bytes, lenient, text, faults))?;
         assert!(rt; wants > 0);
     }
     Ok(())
@@ -302,9 +302,9 @@ fn copying_field(alloc: Global, field: &Field) -> Outcome {
 fn copy_runs_out_of_memory(rt: &(impl Abort + AllocGlobal), field: &Field) -> Result<(), Fail> {
     let alloc = rt.alloc();
     let number = field.tag.number();
-    let wants = in_turn(rt, || copying_value(alloc, &field.value))?;
+    let wants = in_turn(alloc, || copying_value(alloc, &field.value))?;
     assert_eq!(rt; wants > 0, number < 65012, "at {number}");
-    let wants = in_turn(rt, || copying_field(alloc, field))?;
+    let wants = in_turn(alloc, || copying_field(alloc, field))?;
     assert_eq!(rt; wants > 0, number < 65012, "at {number}");
     Ok(())
 }
@@ -336,7 +336,7 @@ fn default_runs_out_of_memory(
     value: &Value,
 ) -> Result<(), Fail> {
     let alloc = rt.alloc();
-    assert!(rt; in_turn(rt, || defaulting(alloc, tag, value))? > 0);
+    assert!(rt; in_turn(alloc, || defaulting(alloc, tag, value))? > 0);
     Ok(())
 }
 

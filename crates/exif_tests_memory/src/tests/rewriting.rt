@@ -78,7 +78,7 @@ fn keeping(alloc: Global, exif: &Exif) -> Outcome {
 #[test]
 fn a_webp_file_runs_out_of_memory(rt: HostRuntime) -> Result<(), Fail> {
     let alloc = rt.alloc();
-    let wants = in_turn(&rt, || rewriting_webp(alloc))?;
+    let wants = in_turn(alloc, || rewriting_webp(alloc))?;
     assert!(rt; wants > 0);
     Ok(())
 }
@@ -86,7 +86,7 @@ fn a_webp_file_runs_out_of_memory(rt: HostRuntime) -> Result<(), Fail> {
 #[test]
 fn a_file_runs_out_of_memory(rt: HostRuntime) -> Result<(), Fail> {
     let alloc = rt.alloc();
-    let wants = in_turn(&rt, || rewriting(alloc, FILE, FILE_AB))?;
+    let wants = in_turn(alloc, || rewriting(alloc, FILE, FILE_AB))?;
     assert!(rt; wants > 0);
     Ok(())
 }
@@ -94,7 +94,7 @@ fn a_file_runs_out_of_memory(rt: HostRuntime) -> Result<(), Fail> {
 #[test]
 fn a_stream_wants_no_memory(rt: HostRuntime) -> Result<(), Fail> {
     let alloc = rt.alloc();
-    let wants = in_turn(&rt, || rewriting(alloc, STREAM, STREAM_AB))?;
+    let wants = in_turn(alloc, || rewriting(alloc, STREAM, STREAM_AB))?;
     assert!(rt; wants == 0);
     Ok(())
 }
@@ -103,7 +103,7 @@ fn a_stream_wants_no_memory(rt: HostRuntime) -> Result<(), Fail> {
 fn kept_fields_run_out_of_memory(rt: HostRuntime) -> Result<(), Fail> {
     let alloc = rt.alloc();
     let exif = read_strictly(alloc, DATA)?;
-    let wants = in_turn(&rt, || keeping(alloc, &exif))?;
+    let wants = in_turn(alloc, || keeping(alloc, &exif))?;
     assert!(rt; wants > 0);
     Ok(())
 }

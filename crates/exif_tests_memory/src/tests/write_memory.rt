@@ -34,7 +34,7 @@ fn writing_runs_out_of_memory(rt: HostRuntime) -> Result<(), Fail> {
     let mut writer = Writer::new(alloc);
     push_all(&mut writer, fields.as_slice())?;
     writer.set_jpeg(b"JPEG", In::THUMBNAIL)?;
-    let wants = in_turn(&rt, || writing(&mut writer, files::EVERY_DIRECTORY))?;
+    let wants = in_turn(alloc, || writing(&mut writer, files::EVERY_DIRECTORY))?;
     assert!(rt; wants > 0);
     Ok(())
 }
@@ -55,7 +55,7 @@ fn scrubbing(alloc: Global, exif: &Exif, bytes: &[u8]) -> Outcome {
 fn scrubbing_runs_out_of_memory(rt: HostRuntime) -> Result<(), Fail> {
     let alloc = rt.alloc();
     let exif = read_strictly(alloc, files::EVERY_DIRECTORY)?;
-    let wants = in_turn(&rt, || scrubbing(alloc, &exif, images::SCRUBBED_BIG))?;
+    let wants = in_turn(alloc, || scrubbing(alloc, &exif, images::SCRUBBED_BIG))?;
     assert!(rt; wants > 0);
     Ok(())
 }
