@@ -101,7 +101,7 @@ searched_serves file old ps place e =
       good = found_serves (serves file old ps) (spaced 0 1 n) place f;
     }
 
-told_serves : (file old : List ℕ) (ps : List Patch) (place : ℕ)
+pub told_serves : (file old : List ℕ) (ps : List Patch) (place : ℕ)
     → serves_as_told file old ps ≡ true → told_place file ≡ place → Serves file old ps place
 told_serves file old ps place h e =
     let n = length file + 1 - length old in

@@ -202,68 +202,75 @@ was_streamed edit file qs e =
       are = sym (ok_same (map (shifted (place_before file a.0.0 a.0.1)) b.0) qs b.2);
     }
 
+-- where data in one piece stand, and what patches there make
+pub record PieceAt (file old rest : List ℕ) (ps : List Patch) : Type 0 where
+  pub place : ℕ
+  pub told : place_before file old rest ≡ place
+  pub below : place + length old ≤ length file
+  pub fits : All (FitsIn (length file)) (map (shifted place) ps)
+  pub held : container_answer file ≡ Ok old
+  pub holds : container_answer (patched (map (shifted place) ps) file) ≡ Ok (patched ps old)
+  pub stood : bytes_at (length old) file place ≡ old
+
+pub piece_at : (file old rest : List ℕ) (ps : List Patch) → length file < 2 ^ 64
+    → piece_in file ≡ found old rest → All (FitsIn (length old)) ps → PieceAt file old rest ps
+piece_at file old rest ps s piece fit =
+    let a = piece_around file old rest piece in
+    let n = same_length file a.front old rest old a.whole refl in
+    let x = length-append a.front (old ++ rest) in
+    let y = length-append old rest in
+    let new : patched (map (shifted (length a.front)) ps) file ≡ a.front
+    ++ (patched ps old ++ rest) =
+    ap (patched (map (shifted (length a.front)) ps)) a.whole
+    ∙ patched_front ps a.front old rest fit in
+    record {
+      place = length a.front;
+      told = omega arith;
+      below = omega arith;
+      fits = shifted_fit ps (length a.front) (length old) (length file) (omega arith) fit;
+      held = ap container_answer a.whole ∙ a.others old refl s;
+      holds = ap container_answer new ∙ a.others (patched ps old) (length-patched ps old fit) s;
+      stood = ap (λ xs. bytes_at (length old) xs (length a.front)) a.whole
+          ∙ (ap (take (length old)) (drop-append_seam a.front (old ++ rest))
+          ∙ take-append_seam old rest);
+    }
+
 -- what was streamed, and where its data stand
 pub record StreamedAt (edit : Edit) (file : List ℕ) (qs : List Patch) : Type 0 where
   pub was : WasStreamed edit file qs
-  pub place : ℕ
-  pub told : place_before file was.old was.rest ≡ place
-  pub below : place + length was.old ≤ length file
-  pub are : qs ≡ map (shifted place) was.patches
   pub fit : All (FitsIn (length was.old)) was.patches
-  pub fits : All (FitsIn (length file)) qs
-  pub held : container_answer file ≡ Ok was.old
-  pub holds : container_answer (patched qs file) ≡ Ok (patched was.patches was.old)
-  pub stood : bytes_at (length was.old) file place ≡ was.old
+  pub at : PieceAt file was.old was.rest was.patches
+  pub are : qs ≡ map (shifted at.place) was.patches
 
 pub streamed_at : (edit : Edit) (file : List ℕ) (qs : List Patch) → length file < 2 ^ 64
     → StaysIn edit → in_stream edit file ≡ Ok qs → StreamedAt edit file qs
 streamed_at edit file qs s stays e =
     let w = was_streamed edit file qs e in
-    let a = piece_around file w.old w.rest w.piece in
     let fit = stays w.old w.patches w.edited in
-    let n = same_length file a.front w.old w.rest w.old a.whole refl in
-    let x = length-append a.front (w.old ++ w.rest) in
-    let y = length-append w.old w.rest in
-    let place : place_before file w.old w.rest ≡ length a.front = omega arith in
-    let are : qs ≡ map (shifted (length a.front)) w.patches =
-    w.are ∙ ap (λ i. map (shifted i) w.patches) place in
-    let fits : All (FitsIn (length file)) qs =
-    subst (λ rs. All (FitsIn (length file)) rs) (sym are)
-    (shifted_fit w.patches (length a.front) (length w.old) (length file) (omega arith) fit) in
-    let new : patched qs file ≡ a.front ++ (patched w.patches w.old ++ w.rest) =
-    ap (λ rs. patched rs file) are
-    ∙ (ap (patched (map (shifted (length a.front)) w.patches)) a.whole
-    ∙ patched_front w.patches a.front w.old w.rest fit) in
+    let p = piece_at file w.old w.rest w.patches s w.piece fit in
     record {
       was = w;
-      place = length a.front;
-      told = place;
-      below = omega arith;
-      are = are;
       fit = fit;
-      fits = fits;
-      held = ap container_answer a.whole ∙ a.others w.old refl s;
-      holds = ap container_answer new
-          ∙ a.others (patched w.patches w.old) (length-patched w.patches w.old fit) s;
-      stood = ap (λ xs. bytes_at (length w.old) xs (length a.front)) a.whole
-          ∙ (ap (take (length w.old)) (drop-append_seam a.front (w.old ++ w.rest))
-          ∙ take-append_seam w.old w.rest);
+      at = p;
+      are = w.are ∙ ap (λ i. map (shifted i) w.patches) p.told;
     }
 
 pub stream_sound : (edit : Edit) (file : List ℕ) (qs : List Patch) → length file < 2 ^ 64
     → StaysIn edit → in_stream edit file ≡ Ok qs → IsEditedIn edit file (patched qs file)
 stream_sound edit file qs s stays e =
     let t = streamed_at edit file qs s stays e in
+    let fits : All (FitsIn (length file)) qs =
+    subst (λ rs. All (FitsIn (length file)) rs) (sym t.are) t.at.fits in
     record {
       old = t.was.old;
-      held = t.held;
+      held = t.at.held;
       patches = t.was.patches;
       edited = t.was.edited;
-      holds = t.holds;
-      place = t.place;
-      stood = t.stood;
-      as_long = length-patched qs file t.fits;
-      outside = λ i h. patched_outside qs file i t.fits
+      holds = ap (λ rs. container_answer (patched rs file)) t.are ∙ t.at.holds;
+      place = t.at.place;
+      stood = t.at.stood;
+      as_long = length-patched qs file fits;
+      outside = λ i h. patched_outside qs file i fits
           (subst (λ rs. All (Misses i) rs) (sym t.are)
-          (shifted_miss t.was.patches t.place (length t.was.old) i h t.fit));
+          (shifted_miss t.was.patches t.at.place (length t.was.old) i h t.fit));
     }

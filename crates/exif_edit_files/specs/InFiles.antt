@@ -1,5 +1,5 @@
 -- Exif data edited where they stand in a file.
-use Rattle.std.specs.Prelude.{◌≡◌, ℕ, ◌+◌, ◌-◌, ◌<◌, ◌≤◌, ◌&&◌, ◌⊎◌, nat_lt, if◌then◌else◌, Bool, false, List, length, map, slice_index, Option, Result, Ok, Err}
+use Rattle.std.specs.Prelude.{◌≡◌, ℕ, ◌+◌, ◌-◌, ◌<◌, ◌≤◌, ◌&&◌, ◌⊎◌, nat_lt, if◌then◌else◌, Bool, false, List, length, map, slice_index, Option, Some, None, Result, Ok, Err}
 use Rattle.std.specs.List.{find}
 use Rattle.std.specs.Str.{bytes_eq}
 use Rattle.exif_base.specs.Bytes.{bytes_at, spaced}
@@ -37,6 +37,12 @@ place_for file old patches =
 -- the same, or why there is none
 unfoldable pub search_answer : List ℕ → List ℕ → List Patch → Result ℕ Cause
 search_answer file old patches = or_cause (place_for file old patches) scattered
+
+-- the place that lengths tell, in a JPEG stream and a WebP file: what is not followed by the rest
+abbrev pub piece_place : List ℕ → Option ℕ
+piece_place file =
+    elim (piece_in file)
+    [ Ok piece ↦ Some (place_before file piece.0 piece.1) | Err r ↦ None ]
 
 -- the place that lengths tell: in a JPEG stream and a WebP file what is not followed by the rest, in
 -- others the first

@@ -1,7 +1,6 @@
 -- Exif data edited in a file of any size, which is read once and not held: JPEG streams and WebP
 -- files.
 use Rattle.std.specs.Prelude.{◌≡◌, ◌<◌, ◌^◌, ⊤, ℕ, All, Bool, false, List, length, map, Result, Ok, Err, MatchOption, ◌++◌}
-use Rattle.exif_types.specs.Failures.{Failure}
 use Rattle.exif_types.specs.Refusals.{IsInterrupted, is_io_error}
 use Rattle.exif_containers.specs.Answer.{Answer, found}
 use Rattle.exif_edit.specs.Causes.{Cause, cause_of, of_container, ◌>>=◌}
@@ -12,7 +11,6 @@ pub use Rattle.exif_edit_files.specs.Pieces.{piece_as, place_before, whole_file}
 unfoldable pub use Rattle.exif_edit_files.specs.Pieces.{piece_in}
 use Rattle.exif_edit.specs.declared.error.Error.{Error}
 use Rattle.exif_edit.specs.declared.error.Error.TheVariants as error
-use Rattle.exif_types.specs.declared.error.Error.TheVariants as failure
 
 -- what edits the data of a file, or why that is refused
 unfoldable pub in_stream : Edit → Edit

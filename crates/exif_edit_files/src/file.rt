@@ -1,11 +1,11 @@
 //! Exif data edited where they stand in a file.
 
-ghost use Rattle.std.specs.Prelude.{◌≡◌, ◌≤◌, ◌<◌, ◌+◌, ◌^◌, All, length, map, IfOk, IsTrue, OnOk};
+ghost use Rattle.std.specs.Prelude.{◌≡◌, ◌≤◌, ◌<◌, ◌+◌, ◌^◌, All, Ok, length, map, IfOk, OnOk};
 ghost use Rattle.exif_containers.specs.Container.{container_answer};
 ghost use Rattle.exif_edit.specs.Causes.{Edits, Makes, of_container};
 ghost use Rattle.exif_edit.specs.Clearing.{clear_patches};
 ghost use Rattle.exif_edit.specs.Erasing.{erase_patches};
-ghost use Rattle.exif_edit_files.specs.InFiles.{IsEditedIn, clear_file_patches, edited_file, holds, in_file, place_answer, placed, search_answer, serves, serves_as_told, shifted, told_place};
+ghost use Rattle.exif_edit_files.specs.InFiles.{IsEditedIn, clear_file_patches, edited_file, holds, in_file, piece_place, place_answer, placed, search_answer, serves, shifted};
 ghost use Rattle.exif_edit.specs.Patches.{FitsIn, patched};
 ghost use Rattle.exif_edit.specs.Removing.{field_patches};
 ghost use Rattle.exif_edit.specs.Setting.{set_patches};
@@ -100,21 +100,6 @@ pub fn shift(patches: &mut [Patch], place: usize, len: usize)
     }
 }
 
-// The place of the data that lengths tell, in a JPEG stream and a WebP file; in others the first.
-fn told_place(alloc: Global, file: &[u8]) -> Result<usize, AllocError>
-    ensures { IfOk result (λ place. place ≡ told_place file.now) }
-{
-    match piece_in(alloc, &mut Counted::new(file), file.len() as u64) {
-        Ok(piece) => Ok(piece.place as usize),
-        Err(
-            exif_types::Error::OutOfMemory
-            | exif_types::Error::Io(_)
-            | exif_types::Error::PartialResult(_),
-        ) => Err(AllocError),
-        Err(_refusal) => Ok(0),
-    }
-}
-
 // The first place of a file at which patches of its data serve.
 fn searched_place(
     alloc: Global,
@@ -139,44 +124,37 @@ fn searched_place(
     Err(Error::ScatteredData)
 }
 
-// Whether the place that lengths tell serves.
-fn serves_as_told(
-    alloc: Global,
-    file: &[u8],
-    old: &[u8],
-    new: &[u8],
-    patches: &[Patch],
-    told: usize,
-) -> Result<bool, AllocError>
-    requires told { told ≡ told_place file.now }
-    requires fit { All (FitsIn (length old.now)) patches.now }
-    requires made { new.now ≡ patched patches.now old.now }
-    ensures answer { IfOk result (λ yes. yes ≡ serves_as_told file.now old.now patches.now) }
-    ensures within { IfOk result
-        (λ yes. IsTrue yes → told + length old.now ≤ length file.now) }
+// The place that lengths tell, in a JPEG stream and a WebP file.
+fn piece_place(alloc: Global, file: &[u8]) -> Result<Option<usize>, AllocError>
+    ensures { IfOk result (λ place. place ≡ piece_place file.now) }
 {
-    let count = (file.len() + 1).saturating_sub(old.len());
-    if told < count {
-        serves(alloc, file, old, new, patches, told)
-    } else {
-        Ok(false)
+    match piece_in(alloc, &mut Counted::new(file), file.len() as u64) {
+        Ok(piece) => Ok(Some(piece.place as usize)),
+        Err(
+            exif_types::Error::OutOfMemory
+            | exif_types::Error::Io(_)
+            | exif_types::Error::PartialResult(_),
+        ) => Err(AllocError),
+        Err(_refusal) => Ok(None),
     }
 }
 
-// The place that lengths tell, if patches of the data serve there; else the first at which they do.
+// The place that lengths tell, where patches of the data always serve; else the first at which they
+// do.
 fn place_of(alloc: Global, file: &[u8], old: &[u8], patches: &[Patch]) -> Result<usize, Error>
-    requires { All (FitsIn (length old.now)) patches.now }
+    requires held { container_answer file.now ≡ Ok old.now }
+    requires fit { All (FitsIn (length old.now)) patches.now }
     ensures answer { Makes (λ place. place) result
         (place_answer file.now old.now patches.now) }
     ensures within { IfOk result (λ place. place + length old.now ≤ length file.now) }
 {
-    let new = patched(alloc, patches, old)?;
-    let told = told_place(alloc, file)?;
-    let found = serves_as_told(alloc, file, old, new.as_slice(), patches, told)?;
-    if found {
-        return Ok(told);
+    match piece_place(alloc, file)? {
+        Some(place) => Ok(place),
+        None => {
+            let new = patched(alloc, patches, old)?;
+            searched_place(alloc, file, old, new.as_slice(), patches)
+        }
     }
-    searched_place(alloc, file, old, new.as_slice(), patches)
 }
 
 // Patches of the data of a file as patches of the file.
@@ -186,7 +164,8 @@ fn placed(
     old: &[u8],
     mut patches: Vec<Patch>,
 ) -> Result<Vec<Patch>, Error>
-    requires { All (FitsIn (length old.now)) patches.items }
+    requires held { container_answer file.now ≡ Ok old.now }
+    requires fit { All (FitsIn (length old.now)) patches.items }
     ensures { Makes (λ ps. ps.items) result (placed file.now old.now patches.items) }
 {
     let place = place_of(alloc, file, old, patches.as_slice())?;

@@ -1,16 +1,23 @@
-use Rattle.std.proofs.Common.{sym, ◌∙◌, subst}
+use Rattle.std.proofs.Common.{rules, ◌<◌, ◌^◌, ◌∙◌, length, sym, subst}
 use Rattle.exif_edit.specs.Causes.{Makes}
-use Rattle.exif_edit_files.proofs.FileSteps.{place_as_told, place_searched}
+use Rattle.exif_edit_files.proofs.LawsStreams.{piece_missing, piece_stands}
 use Rattle.exif_edit_files.proofs.file.place_of.Goals as goal
 
-pub returns-then-found-clause-answer : goal.returns-then-found-clause-answer
-returns-then-found-clause-answer c =
-    place_as_told c.args.file.now c.args.old.now c.args.patches.now c.in_ok-told.told
-    (sym c.in_ok-found.ensures.answer ∙ c.if-found.true) c.in_ok-told.ensures
+pub returns-in-Some-clause-answer : goal.returns-in-Some-clause-answer
+returns-in-Some-clause-answer c =
+    let small : length c.args.file.now < 2 ^ 64 = search rules in
+    (piece_stands c.args.file.now c.args.old.now c.args.patches.now c.in-Some.place small
+    c.requires.held c.requires.fit (sym c.in-Some.is ∙ c.in_ok-place.ensures)).is
 
-pub returns-clause-answer : goal.returns-clause-answer
-returns-clause-answer c =
+pub returns-in-Some-clause-within : goal.returns-in-Some-clause-within
+returns-in-Some-clause-within c =
+    let small : length c.args.file.now < 2 ^ 64 = search rules in
+    (piece_stands c.args.file.now c.args.old.now c.args.patches.now c.in-Some.place small
+    c.requires.held c.requires.fit (sym c.in-Some.is ∙ c.in_ok-place.ensures)).below
+
+pub returns-in_ok-new-in-None-clause-answer : goal.returns-in_ok-new-in-None-clause-answer
+returns-in_ok-new-in-None-clause-answer c =
     subst (λ answer. Makes (λ place. place) c.searched_place.result answer)
-    (place_searched c.args.file.now c.args.old.now c.args.patches.now
-    (sym c.in_ok-found.ensures.answer ∙ c.if-found.false))
+    (piece_missing c.args.file.now c.args.old.now c.args.patches.now
+    (sym c.in-None.is ∙ c.in_ok-place.ensures))
     c.searched_place.ensures.answer
