@@ -341,21 +341,32 @@ fn default_runs_out_of_memory(
 }
 
 #[test]
-fn defaults_run_out_of_memory(rt: HostRuntime) -> Result<(), Fail> {
-    let alloc = rt.alloc();
-    let bits = Value::Short(Items::from_slice(alloc, &[8, 8, 8])?);
-    default_runs_out_of_memory(&rt, Tag::BitsPerSample, &bits)?;
-    let resolution = Value::Rational(Items::from_slice(alloc, &[Rational::from((72, 1))])?);
+fn the_default_of_numbers_runs_out_of_memory(rt: HostRuntime) -> Result<(), Fail> {
+    let bits = Value::Short(Items::from_slice(rt.alloc(), &[8, 8, 8])?);
+    default_runs_out_of_memory(&rt, Tag::BitsPerSample, &bits)
+}
+
+#[test]
+fn the_default_of_a_fraction_runs_out_of_memory(rt: HostRuntime) -> Result<(), Fail> {
+    let inch = Rational { num: 72, denom: 1 };
+    let resolution = Value::Rational(Items::from_slice(rt.alloc(), &[inch])?);
     default_runs_out_of_memory(&rt, Tag::XResolution, &resolution)
 }
 
 #[test]
-fn defaults_of_bytes_run_out_of_memory(rt: HostRuntime) -> Result<(), Fail> {
-    let alloc = rt.alloc();
-    let source = Value::Undefined(Items::from_slice(alloc, &[3])?, 0);
-    default_runs_out_of_memory(&rt, Tag::FileSource, &source)?;
-    let altitude = Value::Byte(Items::from_slice(alloc, &[0])?);
-    default_runs_out_of_memory(&rt, Tag::GPSAltitudeRef, &altitude)?;
-    let speed = one_text(alloc, b"K")?;
+fn the_default_of_undefined_bytes_runs_out_of_memory(rt: HostRuntime) -> Result<(), Fail> {
+    let source = Value::Undefined(Items::from_slice(rt.alloc(), &[3])?, 0);
+    default_runs_out_of_memory(&rt, Tag::FileSource, &source)
+}
+
+#[test]
+fn the_default_of_a_byte_runs_out_of_memory(rt: HostRuntime) -> Result<(), Fail> {
+    let altitude = Value::Byte(Items::from_slice(rt.alloc(), &[0])?);
+    default_runs_out_of_memory(&rt, Tag::GPSAltitudeRef, &altitude)
+}
+
+#[test]
+fn the_default_of_a_text_runs_out_of_memory(rt: HostRuntime) -> Result<(), Fail> {
+    let speed = one_text(rt.alloc(), b"K")?;
     default_runs_out_of_memory(&rt, Tag::GPSSpeedRef, &speed)
 }

@@ -10,7 +10,7 @@ use exif_samples::writings::{
     description, field, four_fields, is_image, push_all, scrub_into, write_into, written,
 };
 use exif_samples::{files, images};
-use std::alloc::Global;
+use std::alloc::{AllocError, Global};
 use std::io::ErrorKind;
 use std::process::Abort;
 use std::test::Fail;
@@ -70,32 +70,56 @@ fn change<'a>(writer: &mut Writer<'a>, field: &'a Field, way: u8) -> Result<(), 
     }
 }
 
-// Each refused change leaves the writer as it was, until one is not refused. Gives how many were.
-fn refused_changes(rt: &(impl Abort + AllocGlobal), later: &Field, way: u8) -> Result<u16, Fail> {
+// What a change comes to where so much memory is left.
+fn change_with<'a>(
+    alloc: Global,
+    left: u16,
+    writer: &mut Writer<'a>,
+    field: &'a Field,
+    way: u8,
+) -> Result<Outcome, AllocError> {
+    let rest = take_rest(alloc, left)?;
+    let answer = change(writer, field, way);
+    drop(rest);
+    match answer {
+        Ok(()) => Ok(Outcome::Right),
+        Err(error) => Ok(Outcome::refused(&error)),
+    }
+}
+
+// Each refused change leaves the writer, which holds the description, as it was, until one is not
+// refused. Gives how many were.
+fn refused_changes<'a>(
+    rt: &(impl Abort + AllocGlobal),
+    writer: &mut Writer<'a>,
+    later: &'a Field,
+    way: u8,
+) -> Result<u16, Fail> {
     let alloc = rt.alloc();
-    let field = description(alloc, In::PRIMARY, b"Sample")?;
-    let mut writer = Writer::new(alloc);
-    writer.push_field(&field)?;
     let _most = take_most(alloc)?;
     for step in 0..1000u16 {
-        let rest = take_rest(alloc, 16 * step)?;
-        let answer = change(&mut writer, later, way);
-        drop(rest);
-        match answer {
-            Ok(()) => return Ok(step),
-            Err(Error::OutOfMemory) => {}
-            Err(_error) => panic!(rt; "another error"),
+        match change_with(alloc, 16 * step, writer, later, way)? {
+            Outcome::Right => return Ok(step),
+            Outcome::Wants => assert!(rt; is_image(alloc, writer, files::DESCRIBED_BIG)?),
+            Outcome::Wrong => panic!(rt; "another error"),
         }
-        assert!(rt; is_image(alloc, &mut writer, files::DESCRIBED_BIG)?);
     }
     panic!(rt; "memory was never enough");
 }
 
+// The same of a new writer.
+fn refused_in(rt: &(impl Abort + AllocGlobal), way: u8) -> Result<u16, Fail> {
+    let field = description(rt.alloc(), In::PRIMARY, b"Sample")?;
+    let later = description(rt.alloc(), In(5), b"later")?;
+    let mut writer = Writer::new(rt.alloc());
+    writer.push_field(&field)?;
+    refused_changes(rt, &mut writer, &later, way)
+}
+
 #[test]
 fn refused_changes_leave_the_writer(rt: HostRuntime) -> Result<(), Fail> {
-    let later = description(rt.alloc(), In(5), b"later")?;
     for way in 0..4u8 {
-        assert!(rt; refused_changes(&rt, &later, way)? > 0);
+        assert!(rt; refused_in(&rt, way)? > 0);
     }
     Ok(())
 }
@@ -117,11 +141,16 @@ fn is_refused(
 }
 
 #[test]
-fn refusals_take_no_memory(rt: HostRuntime) -> Result<(), Fail> {
-    let alloc = rt.alloc();
-    let unknown = field(Tag::ImageWidth, In::PRIMARY, Value::Unknown(65535, 1, 18));
-    let mut writer = Writer::new(alloc);
+fn no_directory_is_refused_without_memory(rt: HostRuntime) -> Result<(), Fail> {
+    let mut writer = Writer::new(rt.alloc());
     assert!(rt; is_refused(&rt, &mut writer, "At least one IFD must exist")?);
+    Ok(())
+}
+
+#[test]
+fn unknown_values_are_refused_without_memory(rt: HostRuntime) -> Result<(), Fail> {
+    let unknown = field(Tag::ImageWidth, In::PRIMARY, Value::Unknown(65535, 1, 18));
+    let mut writer = Writer::new(rt.alloc());
     writer.push_field(&unknown)?;
     assert!(rt; is_refused(&rt, &mut writer, "Cannot write unknown field types")?);
     Ok(())
