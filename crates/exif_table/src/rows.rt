@@ -41,9 +41,9 @@ pub fn rows(context: Context) -> &'static [Row]
     ensures rising { IsTrue (is_rising (λ r. r.number) result.now) }
 {
     match context {
-        Context::Tiff => &tiff::TIFF,
-        Context::Exif => &exif::EXIF,
-        Context::Gps => &gps::GPS,
-        Context::Interop => &interop::INTEROP,
+        Context::Tiff => tiff::rows(),
+        Context::Exif => exif::rows(),
+        Context::Gps => gps::rows(),
+        Context::Interop => interop::rows(),
     }
 }

@@ -1,12 +1,17 @@
 //! The tags of an Exif directory (Exif 2.32, section 4.6.5), numbers ascending.
 
+ghost use Rattle.std.specs.Prelude.{◌≡◌, IsTrue, map};
+ghost use Rattle.exif_table.specs.Rows.{exif_rows};
+ghost use Rattle.exif_table.specs.Rising.{is_rising};
+ghost use Rattle.exif_table.specs.View.{row_view};
+
 use crate::context::Context::Exif;
 use crate::kind::TextKind;
 use crate::row::DefaultValue::{ContextDependent, Short, Undefined, Unspecified};
 use crate::row::UnitPiece::{Str, Tag, Value};
 use crate::row::{DefaultValue, Row};
 
-pub(crate) static EXIF: [Row; 82] = [
+static EXIF: [Row; 82] = [
     row!(0x829a "ExposureTime" "Exposure time", ExposureTime, unit [Value, Str(" s")]),
     row!(0x829d "FNumber" "F number", Decimal, unit [Str("f/"), Value]),
     row!(0x8822 "ExposureProgram" "Exposure program", ExposureProgram),
@@ -98,3 +103,11 @@ pub(crate) static EXIF: [Row; 82] = [
     row!(0xa462 "SourceExposureTimesOfCompositeImage" "Source exposure times of composite image", Plain),
     row!(0xa500 "Gamma" "Gamma", Decimal),
 ];
+
+/// The rows of an Exif directory.
+pub(crate) fn rows() -> &'static [Row]
+    ensures rows { map row_view result.now ≡ exif_rows }
+    ensures rising { IsTrue (is_rising (λ r. r.number) result.now) }
+{
+    &EXIF
+}

@@ -1,12 +1,17 @@
 //! The tags of a GPS directory (Exif 2.32, section 4.6.6), numbers ascending.
 
+ghost use Rattle.std.specs.Prelude.{◌≡◌, IsTrue, map};
+ghost use Rattle.exif_table.specs.Rows.{gps_rows};
+ghost use Rattle.exif_table.specs.Rising.{is_rising};
+ghost use Rattle.exif_table.specs.View.{row_view};
+
 use crate::context::Context::Gps;
 use crate::kind::TextKind;
 use crate::row::DefaultValue::{Ascii, Byte, ContextDependent};
 use crate::row::UnitPiece::{Str, Tag, Value};
 use crate::row::{DefaultValue, Row};
 
-pub(crate) static GPS: [Row; 32] = [
+static GPS: [Row; 32] = [
     row!(0x0000 "GPSVersionID" "GPS tag version", GpsVersion, default ContextDependent),
     row!(0x0001 "GPSLatitudeRef" "North or south latitude", GpsLatLongRef),
     row!(0x0002 "GPSLatitude" "Latitude", GpsDegrees, unit [Value, Str(" "), Tag(Gps, 0x0001)]),
@@ -52,3 +57,11 @@ pub(crate) static GPS: [Row; 32] = [
     row!(0x001f "GPSHPositioningError" "Horizontal positioning error", Decimal,
         unit [Value, Str(" m")]),
 ];
+
+/// The rows of a GPS directory.
+pub(crate) fn rows() -> &'static [Row]
+    ensures rows { map row_view result.now ≡ gps_rows }
+    ensures rising { IsTrue (is_rising (λ r. r.number) result.now) }
+{
+    &GPS
+}

@@ -1,12 +1,17 @@
 //! The tags of TIFF data (TIFF 6.0, and Exif 2.32, section 4.6.4), numbers ascending.
 
+ghost use Rattle.std.specs.Prelude.{◌≡◌, IsTrue, map};
+ghost use Rattle.exif_table.specs.Rows.{tiff_rows};
+ghost use Rattle.exif_table.specs.Rising.{is_rising};
+ghost use Rattle.exif_table.specs.View.{row_view};
+
 use crate::context::Context::Tiff;
 use crate::kind::TextKind;
 use crate::row::DefaultValue::{ContextDependent, Rational, Short, Unspecified};
 use crate::row::UnitPiece::{Str, Tag, Value};
 use crate::row::{DefaultValue, Row};
 
-pub(crate) static TIFF: [Row; 34] = [
+static TIFF: [Row; 34] = [
     row!(0x0100 "ImageWidth" "Image width", Plain, unit [Value, Str(" pixels")]),
     row!(0x0101 "ImageLength" "Image height", Plain, unit [Value, Str(" pixels")]),
     row!(0x0102 "BitsPerSample" "Number of bits per component", Plain, default Short(&[8, 8, 8])),
@@ -47,3 +52,11 @@ pub(crate) static TIFF: [Row; 34] = [
     row!(0x8769 "ExifIFDPointer" "Exif IFD pointer", Plain),
     row!(0x8825 "GPSInfoIFDPointer" "GPS Info IFD pointer", Plain),
 ];
+
+/// The rows of TIFF data.
+pub(crate) fn rows() -> &'static [Row]
+    ensures rows { map row_view result.now ≡ tiff_rows }
+    ensures rising { IsTrue (is_rising (λ r. r.number) result.now) }
+{
+    &TIFF
+}
