@@ -1,4 +1,5 @@
 use Rattle.std.proofs.Common.{rules}
+use Rattle.exif_containers.specs.Container.{answer_as}
 use Rattle.exif_containers.proofs.ContainerSteps.{jpeg_gives}
 use Rattle.exif_containers.proofs.ContainerNames.{named_jpeg, named_heif, named_webp}
 use Rattle.exif_containers.proofs.container.attr_as.Goals as goal
@@ -16,3 +17,10 @@ pub returns-in-Some-Jpeg-clause-gives : goal.returns-in-Some-Jpeg-clause-gives
 returns-in-Some-Jpeg-clause-gives g c =
     jpeg_gives (λ v. v.items) c.get_exif_attr.result c.args.format (g.R.Source.left c.args.source.now) (g.R.Source.left c.get_exif_attr.new.source) (search rules)
     c.get_exif_attr.ensures.found c.get_exif_attr.ensures.refused
+
+pub returns-in-None-clause-gives : goal.returns-in-None-clause-gives
+unfolding answer_as
+returns-in-None-clause-gives g c = search rules
+
+pub returns-in-None-clause-named : goal.returns-in-None-clause-named
+returns-in-None-clause-named g c = search rules
