@@ -1,5 +1,6 @@
 //! What edits make of small files, byte for byte.
 
+mod calls;
 mod containers;
 mod fields;
 mod files;

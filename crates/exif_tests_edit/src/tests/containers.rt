@@ -1,14 +1,14 @@
 //! Edits of a GPS directory and of a description in files of each container, and of data that stand
 //! there in pieces or more than once.
 
-use super::{DESCRIPTION, is_zero, part, refuses, text};
-use exif_base::{Counted, Seekable};
-use exif_edit::Patch;
-use exif_edit_files::{
-    erase_field_in_file, erase_field_patches_in_file, erase_places_in_file,
-    erase_places_patches_in_file, erase_places_patches_of, set_value_in_file,
-    set_value_patches_in_file,
+use super::calls::{
+    field_in_file, field_patches, is_zeroed, places_in_file, places_patches, set_in_file,
+    set_patches,
 };
+use super::{is_zero, part, refuses, text};
+use exif_base::{Counted, Seekable};
+use exif_edit::{Error, Patch};
+use exif_edit_files::erase_places_patches_of;
 use exif_samples::files::PLACE_BEFORE_DESCRIPTION;
 use exif_types::In;
 use std::alloc::{AllocError, Global};
@@ -58,14 +58,12 @@ fn joined(alloc: Global, parts: &[&[u8]]) -> Result<Vec<u8>, AllocError> {
     Ok(file)
 }
 
-// Whether a file is as it was, but for zeros between two places of its data, which begin at another.
-fn is_zeroed(old: &[u8], new: &[u8], place: usize, from: u8, to: u8) -> bool {
-    let from = place.saturating_add(from as usize);
-    let to = place.saturating_add(to as usize);
-    new.len() == old.len()
-        && part(new, 0, from) == part(old, 0, from)
-        && is_zero(new, from, to)
-        && part(new, to, new.len()) == part(old, to, old.len())
+// Whether the places of a file become zeros, and all else stays.
+fn loses_places(alloc: Global, old: &[u8], place: usize) -> Result<bool, Error> {
+    let mut new = joined(alloc, &[old])?;
+    places_in_file(alloc, new.as_mut_slice())?;
+    let place = place % 1000;
+    Ok(is_zeroed(old, new.as_slice(), place + 26, place + 44))
 }
 
 #[test]
@@ -73,11 +71,19 @@ fn places_become_zeros_in_each_file(rt: HostRuntime) -> Result<(), Fail> {
     let alloc = rt.alloc();
     for row in &FILES {
         let old = joined(alloc, &[row.0, DATA, row.1])?;
-        let mut new = joined(alloc, &[old.as_slice()])?;
-        assert!(rt; erase_places_in_file(alloc, new.as_mut_slice()).is_ok());
-        assert!(rt; is_zeroed(old.as_slice(), new.as_slice(), row.0.len(), 26, 44));
+        assert!(rt; matches!(loses_places(alloc, old.as_slice(), row.0.len()), Ok(true)));
     }
     Ok(())
+}
+
+// Whether the description of a file becomes zeros, all else stays, and there is none then.
+fn loses_field(alloc: Global, old: &[u8], place: usize) -> Result<bool, Error> {
+    let mut new = joined(alloc, &[old])?;
+    field_in_file(alloc, new.as_mut_slice(), In(1))?;
+    let place = place % 1000;
+    let erased = is_zeroed(old, new.as_slice(), place + 44, place + 62);
+    let again = field_in_file(alloc, new.as_mut_slice(), In(1));
+    Ok(erased && refuses(alloc, &again, "No such field")?)
 }
 
 #[test]
@@ -85,11 +91,7 @@ fn a_field_is_erased_in_each_file(rt: HostRuntime) -> Result<(), Fail> {
     let alloc = rt.alloc();
     for row in &FILES {
         let old = joined(alloc, &[row.0, DATA, row.1])?;
-        let mut new = joined(alloc, &[old.as_slice()])?;
-        assert!(rt; erase_field_in_file(alloc, new.as_mut_slice(), DESCRIPTION, In(1)).is_ok());
-        assert!(rt; is_zeroed(old.as_slice(), new.as_slice(), row.0.len(), 44, 62));
-        let again = erase_field_in_file(alloc, new.as_mut_slice(), DESCRIPTION, In(1));
-        assert!(rt; refuses(alloc, &again, "No such field")?);
+        assert!(rt; matches!(loses_field(alloc, old.as_slice(), row.0.len()), Ok(true)));
     }
     Ok(())
 }
@@ -106,22 +108,37 @@ fn are_zeros(patches: &[Patch], place: usize, len: usize) -> bool {
     }
 }
 
+// Whether the patches of a file, whose data begin at a place, are zeros over its places and over its
+// description.
+fn are_told(alloc: Global, file: &[u8], place: usize) -> Result<bool, Error> {
+    let places = places_patches(alloc, file)?;
+    let fields = field_patches(alloc, file, In(1))?;
+    let place = place % 1000;
+    Ok(are_zeros(places.as_slice(), place + 26, 18) && are_zeros(fields.as_slice(), place + 44, 18))
+}
+
 #[test]
 fn patches_count_from_the_first_byte(rt: HostRuntime) -> Result<(), Fail> {
     let alloc = rt.alloc();
     for row in &FILES {
         let file = joined(alloc, &[row.0, DATA, row.1])?;
-        let place = row.0.len() % 1000;
-        match erase_places_patches_in_file(alloc, file.as_slice()) {
-            Ok(patches) => assert!(rt; are_zeros(patches.as_slice(), place + 26, 18)),
-            Err(_) => assert!(rt; false),
-        }
-        match erase_field_patches_in_file(alloc, file.as_slice(), DESCRIPTION, In(1)) {
-            Ok(patches) => assert!(rt; are_zeros(patches.as_slice(), place + 44, 18)),
-            Err(_) => assert!(rt; false),
-        }
+        assert!(rt; matches!(are_told(alloc, file.as_slice(), row.0.len()), Ok(true)));
     }
     Ok(())
+}
+
+// Whether the patches of a file that is read once, whose data begin at a place, are zeros over its
+// places.
+fn are_read(alloc: Global, file: &[u8], place: usize) -> Result<bool, Error> {
+    let patches = erase_places_patches_of(alloc, &mut Counted::new(file), file.len() as u64)?;
+    Ok(are_zeros(patches.as_slice(), place % 1000 + 26, 18))
+}
+
+// The same where the file is sought in.
+fn are_sought(alloc: Global, file: &[u8], place: usize) -> Result<bool, Error> {
+    let mut sought = Seekable::new(Cursor::new(file));
+    let patches = erase_places_patches_of(alloc, &mut sought, file.len() as u64)?;
+    Ok(are_zeros(patches.as_slice(), place % 1000 + 26, 18))
 }
 
 #[test]
@@ -129,19 +146,37 @@ fn places_of_streams_become_zeros(rt: HostRuntime) -> Result<(), Fail> {
     let alloc = rt.alloc();
     for row in FILES.iter().skip(1).take(2) {
         let file = joined(alloc, &[row.0, DATA, row.1])?;
-        let place = row.0.len() % 1000;
-        let len = file.len() as u64;
-        match erase_places_patches_of(alloc, &mut Counted::new(file.as_slice()), len) {
-            Ok(patches) => assert!(rt; are_zeros(patches.as_slice(), place + 26, 18)),
-            Err(_) => assert!(rt; false),
-        }
-        let mut sought = Seekable::new(Cursor::new(file.as_slice()));
-        match erase_places_patches_of(alloc, &mut sought, len) {
-            Ok(patches) => assert!(rt; are_zeros(patches.as_slice(), place + 26, 18)),
-            Err(_) => assert!(rt; false),
-        }
+        assert!(rt; matches!(are_read(alloc, file.as_slice(), row.0.len()), Ok(true)));
+        assert!(rt; matches!(are_sought(alloc, file.as_slice(), row.0.len()), Ok(true)));
     }
     Ok(())
+}
+
+// Whether an answer says that the data are scattered.
+fn are_scattered(alloc: Global, answer: &Result<(), Error>) -> Result<bool, AllocError> {
+    refuses(alloc, answer, "The Exif data do not stand in one piece")
+}
+
+// Whether the places of a file of scattered data are not erased.
+fn places_stay(alloc: Global, old: &[u8]) -> Result<bool, AllocError> {
+    let mut new = joined(alloc, &[old])?;
+    let answer = places_in_file(alloc, new.as_mut_slice());
+    Ok(are_scattered(alloc, &answer)? && new.as_slice() == old)
+}
+
+// Whether its description is not erased.
+fn field_stays(alloc: Global, old: &[u8]) -> Result<bool, AllocError> {
+    let mut new = joined(alloc, &[old])?;
+    let answer = field_in_file(alloc, new.as_mut_slice(), In(1));
+    Ok(are_scattered(alloc, &answer)? && new.as_slice() == old)
+}
+
+// Whether its description is not set.
+fn text_stays(alloc: Global, old: &[u8]) -> Result<bool, AllocError> {
+    let value = text(alloc, b"q")?;
+    let mut new = joined(alloc, &[old])?;
+    let answer = set_in_file(alloc, new.as_mut_slice(), In(1), &value);
+    Ok(are_scattered(alloc, &answer)? && new.as_slice() == old)
 }
 
 #[test]
@@ -151,16 +186,9 @@ fn scattered_data_stay(rt: HostRuntime) -> Result<(), Fail> {
         alloc,
         &[SCATTERED_HEAD, part(DATA, 0, 26), b"??", part(DATA, 26, 62)],
     )?;
-    let mut new = joined(alloc, &[old.as_slice()])?;
-    let why = "The Exif data do not stand in one piece";
-    let answer = erase_places_in_file(alloc, new.as_mut_slice());
-    assert!(rt; refuses(alloc, &answer, why)?);
-    let answer = erase_field_in_file(alloc, new.as_mut_slice(), DESCRIPTION, In(1));
-    assert!(rt; refuses(alloc, &answer, why)?);
-    let value = text(alloc, b"q")?;
-    let answer = set_value_in_file(alloc, new.as_mut_slice(), DESCRIPTION, In(1), &value);
-    assert!(rt; refuses(alloc, &answer, why)?);
-    assert!(rt; new.as_slice() == old.as_slice());
+    assert!(rt; places_stay(alloc, old.as_slice())?);
+    assert!(rt; field_stays(alloc, old.as_slice())?);
+    assert!(rt; text_stays(alloc, old.as_slice())?);
     Ok(())
 }
 
@@ -168,22 +196,23 @@ fn scattered_data_stay(rt: HostRuntime) -> Result<(), Fail> {
 fn a_copy_in_front_of_the_data_stays(rt: HostRuntime) -> Result<(), Fail> {
     let alloc = rt.alloc();
     let old = joined(alloc, &[COMMENT, DATA, SEGMENT, DATA, b"\xff\xd9"])?;
-    let mut new = joined(alloc, &[old.as_slice()])?;
-    assert!(rt; erase_places_in_file(alloc, new.as_mut_slice()).is_ok());
     // the comment ends at 68, and the segment's head at 78
-    assert!(rt; is_zeroed(old.as_slice(), new.as_slice(), 78, 26, 44));
+    assert!(rt; matches!(loses_places(alloc, old.as_slice(), 78), Ok(true)));
     Ok(())
+}
+
+// Whether all patches that set a description stand at a place.
+fn all_stand_at(alloc: Global, file: &[u8], place: u64) -> Result<bool, Error> {
+    let value = text(alloc, b"p")?;
+    let patches = set_patches(alloc, file, In(1), &value)?;
+    Ok(patches.as_slice().iter().all(|patch| patch.place == place))
 }
 
 #[test]
 fn a_value_that_stays_is_told_where_it_stands(rt: HostRuntime) -> Result<(), Fail> {
     let alloc = rt.alloc();
     let file = joined(alloc, &[COMMENT, DATA, SEGMENT, DATA, b"\xff\xd9"])?;
-    let value = text(alloc, b"p")?;
-    match set_value_patches_in_file(alloc, file.as_slice(), DESCRIPTION, In(1), &value) {
-        // the entry stands at 46 of the data, which begin at 78
-        Ok(patches) => assert!(rt; patches.iter().all(|patch| patch.place == 126)),
-        Err(_) => assert!(rt; false),
-    }
+    // the entry stands at 46 of the data, which begin at 78
+    assert!(rt; matches!(all_stand_at(alloc, file.as_slice(), 126), Ok(true)));
     Ok(())
 }

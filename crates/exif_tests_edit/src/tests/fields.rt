@@ -1,7 +1,8 @@
 //! Fields of a name erased in data.
 
-use super::{DESCRIPTION, refuses};
-use exif_edit::{erase_field, erase_field_patches};
+use super::DESCRIPTION;
+use super::calls::{field_erased, field_stays};
+use exif_edit::{Error, erase_field_patches};
 use exif_samples::files::{DESCRIBED_BIG, DESCRIBED_LITTLE};
 use exif_types::{Context, In, Tag};
 use std::alloc::Global;
@@ -72,54 +73,43 @@ fn entries_are_taken_out(rt: HostRuntime) -> Result<(), Fail> {
     let alloc = rt.alloc();
     for row in &ERASED {
         let (old, tag, want) = *row;
-        let mut bytes = Vec::from_slice(alloc, old)?;
-        assert!(rt; erase_field(alloc, bytes.as_mut_slice(), tag, In(0)).is_ok());
-        assert!(rt; bytes.as_slice() == want);
+        assert!(rt; field_erased(alloc, old, tag, want)?);
     }
     Ok(())
+}
+
+// Whether the program's name is erased by these two patches, each told by its place and its length.
+fn are_told(alloc: Global, first: (u64, usize), second: (u64, usize)) -> Result<bool, Error> {
+    let patches = erase_field_patches(alloc, THREE, Tag(Context::Tiff, 0x131), In(0))?;
+    match patches.as_slice() {
+        [a, b] => Ok((a.place, a.text.len()) == first && (b.place, b.text.len()) == second),
+        _ => Ok(false),
+    }
 }
 
 #[test]
-fn patches_are_a_directory_and_a_value(rt: HostRuntime) -> Result<(), Fail> {
-    let alloc = rt.alloc();
-    match erase_field_patches(alloc, THREE, Tag(Context::Tiff, 0x131), In(0)) {
-        Ok(patches) => {
-            assert!(rt; patches.len() == 2);
-            assert!(rt; patches[0].place == 8 && patches[0].text.len() == 42);
-            assert!(rt; patches[1].place == 50 && patches[1].text.len() == 7);
-        }
-        Err(_) => assert!(rt; false),
-    }
-    Ok(())
+fn patches_are_a_directory_and_a_value(rt: HostRuntime) {
+    assert!(rt; matches!(are_told(rt.alloc(), (8, 42), (50, 7)), Ok(true)));
 }
 
-// Whether an erasing is refused with this text, and the bytes stay.
-fn stays(alloc: Global, old: &[u8], tag: Tag, why: &str) -> Result<bool, std::alloc::AllocError> {
-    let mut bytes = Vec::from_slice(alloc, old)?;
-    let answer = erase_field(alloc, bytes.as_mut_slice(), tag, In(0));
-    let refused = refuses(alloc, &answer, why)?;
-    Ok(refused && bytes.as_slice() == old)
-}
+const SHARES: &str = "The bytes are shared with something else";
 
 #[test]
 fn refusals_change_nothing(rt: HostRuntime) -> Result<(), Fail> {
     let alloc = rt.alloc();
-    let strips = Tag(Context::Tiff, 0x111);
-    let resolution = Tag(Context::Tiff, 0x11a);
     let width = Tag(Context::Tiff, 0x100);
-    let shared = "The bytes are shared with something else";
-    assert!(rt; stays(alloc, LOOP, width, shared)?);
-    assert!(rt; stays(alloc, OVERLAPPING, width, shared)?);
-    assert!(rt;
-        stays(
-            alloc,
-            THREE,
-            strips,
-            "The field says where other bytes stand"
-        )?
-    );
-    assert!(rt; stays(alloc, THREE, DESCRIPTION, "No such field")?);
-    assert!(rt; stays(alloc, SHARED, resolution, shared)?);
-    assert!(rt; stays(alloc, b"MM\0*", DESCRIPTION, "Truncated TIFF header")?);
+    let strips = Tag(Context::Tiff, 0x111);
+    let rows: [(&[u8], Tag, &str); 6] = [
+        (LOOP, width, SHARES),
+        (OVERLAPPING, width, SHARES),
+        (THREE, strips, "The field says where other bytes stand"),
+        (THREE, DESCRIPTION, "No such field"),
+        (SHARED, Tag(Context::Tiff, 0x11a), SHARES),
+        (b"MM\0*", DESCRIPTION, "Truncated TIFF header"),
+    ];
+    for row in &rows {
+        let (old, tag, why) = *row;
+        assert!(rt; field_stays(alloc, old, tag, why)?);
+    }
     Ok(())
 }

@@ -1,6 +1,10 @@
 //! What edits answer where memory is refused: all of it, or what is behind some request.
 //! `exif_samples::shortage` says which allocator these tests need.
 
+use super::calls::{
+    all_in_file, field_in_file, field_patches, places_in_file, places_patches, set_in_file,
+    set_patches,
+};
 use super::{DESCRIPTION, put, text};
 use exif_base::Counted;
 use exif_edit::{
@@ -8,9 +12,8 @@ use exif_edit::{
     erase_places_patches, set_value, set_value_patches,
 };
 use exif_edit_files::{
-    erase_all_in_file, erase_all_patches_in_file, erase_field_in_file, erase_field_patches_in_file,
-    erase_field_patches_of, erase_places_in_file, erase_places_patches_in_file,
-    erase_places_patches_of, set_value_in_file, set_value_patches_in_file, set_value_patches_of,
+    erase_all_patches_in_file, erase_field_patches_of, erase_places_patches_of,
+    set_value_patches_of,
 };
 use exif_samples::shortage::{Outcome, in_turn};
 use exif_types::{In, Value};
@@ -76,12 +79,12 @@ fn setting(
 ) -> Result<Vec<Patch>, Error> {
     match form {
         Form::Data => set_value(alloc, &mut file[FRONT..], DESCRIPTION, In(0), value)?,
-        Form::File => set_value_in_file(alloc, &mut file[..], DESCRIPTION, In(0), value)?,
+        Form::File => set_in_file(alloc, &mut file[..], In(0), value)?,
         Form::DataPatches => {
             return set_value_patches(alloc, &file[FRONT..], DESCRIPTION, In(0), value);
         }
         Form::FilePatches => {
-            return set_value_patches_in_file(alloc, &file[..], DESCRIPTION, In(0), value);
+            return set_patches(alloc, &file[..], In(0), value);
         }
         Form::Stream => {
             let mut source = Counted::new(&file[..]);
@@ -96,9 +99,9 @@ fn setting(
 fn erasing_places(alloc: Global, form: Form, file: &mut [u8; LENGTH]) -> Result<Vec<Patch>, Error> {
     match form {
         Form::Data => erase_places(alloc, &mut file[FRONT..])?,
-        Form::File => erase_places_in_file(alloc, &mut file[..])?,
+        Form::File => places_in_file(alloc, &mut file[..])?,
         Form::DataPatches => return erase_places_patches(alloc, &file[FRONT..]),
-        Form::FilePatches => return erase_places_patches_in_file(alloc, &file[..]),
+        Form::FilePatches => return places_patches(alloc, &file[..]),
         Form::Stream => {
             let mut source = Counted::new(&file[..]);
             return erase_places_patches_of(alloc, &mut source, LENGTH as u64);
@@ -111,12 +114,12 @@ fn erasing_places(alloc: Global, form: Form, file: &mut [u8; LENGTH]) -> Result<
 fn erasing_field(alloc: Global, form: Form, file: &mut [u8; LENGTH]) -> Result<Vec<Patch>, Error> {
     match form {
         Form::Data => erase_field(alloc, &mut file[FRONT..], DESCRIPTION, In(0))?,
-        Form::File => erase_field_in_file(alloc, &mut file[..], DESCRIPTION, In(0))?,
+        Form::File => field_in_file(alloc, &mut file[..], In(0))?,
         Form::DataPatches => {
             return erase_field_patches(alloc, &file[FRONT..], DESCRIPTION, In(0));
         }
         Form::FilePatches => {
-            return erase_field_patches_in_file(alloc, &file[..], DESCRIPTION, In(0));
+            return field_patches(alloc, &file[..], In(0));
         }
         Form::Stream => {
             let mut source = Counted::new(&file[..]);
@@ -130,7 +133,7 @@ fn erasing_field(alloc: Global, form: Form, file: &mut [u8; LENGTH]) -> Result<V
 fn erasing_all(alloc: Global, form: Form, file: &mut [u8; LENGTH]) -> Result<Vec<Patch>, Error> {
     match form {
         Form::Data => erase_all(&mut file[FRONT..])?,
-        Form::File => erase_all_in_file(alloc, &mut file[..])?,
+        Form::File => all_in_file(alloc, &mut file[..])?,
         Form::DataPatches => return erase_all_patches(alloc, &file[FRONT..]),
         Form::FilePatches | Form::Stream => {
             return erase_all_patches_in_file(alloc, &file[..]);

@@ -1,54 +1,40 @@
 //! Places erased in data.
 
+use super::calls::{places_zeroed, without_places};
 use super::{is_zero, part};
-use exif_edit::{erase_places, erase_places_patches};
+use exif_edit::{Error, erase_places_patches};
 use exif_samples::files::{DESCRIBED_BIG, JOURNEY, NOTHING, PLACE_BEFORE_DESCRIPTION};
 use std::alloc::{AllocError, Global};
 use std::test::Fail;
 
 #[test]
 fn a_journey_becomes_zeros(rt: HostRuntime) -> Result<(), Fail> {
-    let alloc = rt.alloc();
-    let mut bytes = Vec::from_slice(alloc, JOURNEY)?;
-    assert!(rt; erase_places(alloc, bytes.as_mut_slice()).is_ok());
     // the GPS directory stands at 26, and all behind it is its own
-    let new = bytes.as_slice();
-    assert!(rt; new.len() == JOURNEY.len());
-    assert!(rt; part(new, 0, 26) == part(JOURNEY, 0, 26));
-    assert!(rt; is_zero(new, 26, new.len()));
+    assert!(rt; places_zeroed(rt.alloc(), JOURNEY, 26, JOURNEY.len())?);
     Ok(())
 }
 
 #[test]
 fn what_is_behind_a_place_stays(rt: HostRuntime) -> Result<(), Fail> {
-    let alloc = rt.alloc();
-    let mut bytes = Vec::from_slice(alloc, PLACE_BEFORE_DESCRIPTION)?;
-    assert!(rt; erase_places(alloc, bytes.as_mut_slice()).is_ok());
-    let old = PLACE_BEFORE_DESCRIPTION;
-    let new = bytes.as_slice();
-    assert!(rt; new.len() == old.len());
-    assert!(rt; part(new, 0, 26) == part(old, 0, 26));
-    assert!(rt; is_zero(new, 26, 44));
-    assert!(rt; part(new, 44, new.len()) == part(old, 44, old.len()));
+    assert!(rt; places_zeroed(rt.alloc(), PLACE_BEFORE_DESCRIPTION, 26, 44)?);
     Ok(())
 }
 
 // Data without a place.
 static PLAIN: [&[u8]; 2] = [DESCRIBED_BIG, NOTHING];
 
+// Whether erasing the places changes nothing, and needs no patch.
+fn nothing_changes(alloc: Global, old: &[u8]) -> Result<bool, Error> {
+    let new = without_places(alloc, old)?;
+    let patches = erase_places_patches(alloc, old)?;
+    Ok(new.as_slice() == old && patches.is_empty())
+}
+
 #[test]
-fn without_a_place_nothing_changes(rt: HostRuntime) -> Result<(), Fail> {
-    let alloc = rt.alloc();
+fn without_a_place_nothing_changes(rt: HostRuntime) {
     for old in &PLAIN {
-        let mut bytes = Vec::from_slice(alloc, old)?;
-        assert!(rt; erase_places(alloc, bytes.as_mut_slice()).is_ok());
-        assert!(rt; bytes.as_slice() == *old);
-        match erase_places_patches(alloc, old) {
-            Ok(patches) => assert!(rt; patches.is_empty()),
-            Err(_) => assert!(rt; false),
-        }
+        assert!(rt; matches!(nothing_changes(rt.alloc(), old), Ok(true)));
     }
-    Ok(())
 }
 
 // A directory at a place of the chain, with a pointer to its GPS directory, and a next one up to the
@@ -86,15 +72,16 @@ fn eight_are_erased(old: &[u8], new: &[u8]) -> bool {
     erased && part(new, 296, new.len()) == part(old, 296, old.len())
 }
 
+// Whether of so many directories the first eight lose their places.
+fn eight_of(alloc: Global, last: u8) -> Result<bool, Error> {
+    let old = chain(alloc, last)?;
+    let new = without_places(alloc, old.as_slice())?;
+    Ok(eight_are_erased(old.as_slice(), new.as_slice()))
+}
+
 #[test]
-fn eight_directories_lose_their_places(rt: HostRuntime) -> Result<(), Fail> {
-    let alloc = rt.alloc();
-    for last in [7, 8] {
-        let old = chain(alloc, last)?;
-        let mut new = Vec::from_slice(alloc, old.as_slice())?;
-        assert!(rt; erase_places(alloc, new.as_mut_slice()).is_ok());
-        // a ninth directory is not read, and keeps its place
-        assert!(rt; eight_are_erased(old.as_slice(), new.as_slice()));
-    }
-    Ok(())
+fn eight_directories_lose_their_places(rt: HostRuntime) {
+    assert!(rt; matches!(eight_of(rt.alloc(), 7), Ok(true)));
+    // a ninth directory is not read, and keeps its place
+    assert!(rt; matches!(eight_of(rt.alloc(), 8), Ok(true)));
 }

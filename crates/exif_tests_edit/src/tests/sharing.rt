@@ -1,9 +1,9 @@
 //! Data whose parts overlap or come again, and data with faults.
 
+use super::calls::{places_stay, places_zeroed, sets_numbers, text_stays, value_stays};
 use super::fields::{LOOP, OVERLAPPING, SOFT};
-use super::{DESCRIPTION, part, refuses, with_texts};
+use super::{DESCRIPTION, with_texts};
 use exif_base::Items;
-use exif_edit::{erase_places, set_value};
 use exif_samples::files::CUT_DIRECTORY;
 use exif_types::{Context, In, Tag, Value};
 use std::alloc::{AllocError, Global};
@@ -23,20 +23,14 @@ fn stays(
     ifd_num: In,
     numbers: &[u16],
 ) -> Result<bool, AllocError> {
-    let mut bytes = Vec::from_slice(alloc, old)?;
     let value = Value::Short(Items::from_slice(alloc, numbers)?);
-    let answer = set_value(alloc, bytes.as_mut_slice(), tag, ifd_num, &value);
-    let refused = refuses(alloc, &answer, SHARED)?;
-    Ok(refused && bytes.as_slice() == old)
+    value_stays(alloc, old, (tag, ifd_num), &value, SHARED)
 }
 
 // Whether setting numbers as the width puts a text behind the tag of the first entry.
 fn makes(alloc: Global, old: &[u8], numbers: &[u16], text: &[u8]) -> Result<bool, AllocError> {
-    let mut bytes = Vec::from_slice(alloc, old)?;
-    let value = Value::Short(Items::from_slice(alloc, numbers)?);
-    let answer = set_value(alloc, bytes.as_mut_slice(), WIDTH, In(0), &value);
     let want = with_texts(alloc, old, &[(12, text)])?;
-    Ok(answer.is_ok() && bytes.as_slice() == want.as_slice())
+    sets_numbers(alloc, old, WIDTH, numbers, want.as_slice())
 }
 
 #[test]
@@ -64,11 +58,7 @@ fn values_are_set_beside_faults(rt: HostRuntime) -> Result<(), Fail> {
     let alloc = rt.alloc();
     assert!(rt; makes(alloc, SOFT, &[7], b"\0\x03\0\0\0\x01\0\x07\0\0")?);
     assert!(rt; makes(alloc, CUT_DIRECTORY, &[7], b"\0\x03\0\0\0\x01\0\x07\0\0")?);
-    let mut bytes = Vec::from_slice(alloc, SOFT)?;
-    let value = super::text(alloc, b"a")?;
-    let answer = set_value(alloc, bytes.as_mut_slice(), DESCRIPTION, In(0), &value);
-    assert!(rt; refuses(alloc, &answer, "No such field")?);
-    assert!(rt; bytes.as_slice() == SOFT);
+    assert!(rt; text_stays(alloc, SOFT, DESCRIPTION, b"a", "No such field")?);
     Ok(())
 }
 
@@ -86,12 +76,7 @@ static FAULTY: [&[u8]; 5] = [
 fn places_are_erased_with_their_faults(rt: HostRuntime) -> Result<(), Fail> {
     let alloc = rt.alloc();
     for old in &FAULTY {
-        let mut bytes = Vec::from_slice(alloc, old)?;
-        assert!(rt; erase_places(alloc, bytes.as_mut_slice()).is_ok());
-        let new = bytes.as_slice();
-        assert!(rt; new.len() == old.len());
-        assert!(rt; part(new, 0, 26) == part(old, 0, 26));
-        assert!(rt; super::is_zero(new, 26, new.len()));
+        assert!(rt; places_zeroed(alloc, old, 26, old.len())?);
     }
     Ok(())
 }
@@ -110,10 +95,7 @@ static KEPT: [&[u8]; 2] = [SAME_VALUE, SAME_DIRECTORY];
 fn places_that_are_something_else_too_stay(rt: HostRuntime) -> Result<(), Fail> {
     let alloc = rt.alloc();
     for old in &KEPT {
-        let mut bytes = Vec::from_slice(alloc, old)?;
-        let answer = erase_places(alloc, bytes.as_mut_slice());
-        assert!(rt; refuses(alloc, &answer, SHARED)?);
-        assert!(rt; bytes.as_slice() == *old);
+        assert!(rt; places_stay(alloc, old, SHARED)?);
     }
     Ok(())
 }

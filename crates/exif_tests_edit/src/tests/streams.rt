@@ -1,14 +1,13 @@
 //! Edits of files that are read once and not held.
 
-use super::{DESCRIPTION, text};
+use super::calls::{field_patches, set_patches};
+use super::{DESCRIPTION, refuses, text};
 use exif_base::{Counted, Seekable};
-use exif_edit::Patch;
-use exif_edit_files::{
-    erase_field_patches_in_file, erase_field_patches_of, erase_places_patches_of,
-    set_value_patches_in_file, set_value_patches_of,
-};
+use exif_edit::{Error, Patch};
+use exif_edit_files::{erase_field_patches_of, erase_places_patches_of, set_value_patches_of};
 use exif_samples::files::{DESCRIBED_BIG, HEIF, JPEG, WEBP};
 use exif_types::In;
+use std::alloc::Global;
 use std::io::Cursor;
 use std::test::Fail;
 
@@ -29,60 +28,52 @@ fn are_same(a: &[Patch], b: &[Patch]) -> bool {
             && x.text.as_slice() == y.text.as_slice())
 }
 
-#[test]
-fn patches_are_those_of_the_whole_file(rt: HostRuntime) -> Result<(), Fail> {
-    let alloc = rt.alloc();
+// Whether the patches that set a value are those of the whole file.
+fn sets_as_the_whole(alloc: Global, file: &[u8]) -> Result<bool, Error> {
     let value = text(alloc, b"Blue")?;
-    for file in &STREAMS {
-        let len = file.len() as u64;
-        let mut read = Counted::new(*file);
-        let mut sought = Seekable::new(Cursor::new(*file));
-        match (
-            set_value_patches_of(alloc, &mut read, len, DESCRIPTION, In(0), &value),
-            set_value_patches_in_file(alloc, file, DESCRIPTION, In(0), &value),
-        ) {
-            (Ok(found), Ok(wanted)) => {
-                assert!(rt; are_same(found.as_slice(), wanted.as_slice()));
-            }
-            _ => assert!(rt; false),
-        }
-        match (
-            erase_field_patches_of(alloc, &mut sought, len, DESCRIPTION, In(0)),
-            erase_field_patches_in_file(alloc, file, DESCRIPTION, In(0)),
-        ) {
-            (Ok(found), Ok(wanted)) => {
-                assert!(rt; are_same(found.as_slice(), wanted.as_slice()));
-            }
-            _ => assert!(rt; false),
-        }
-    }
-    Ok(())
+    let mut read = Counted::new(file);
+    let len = file.len() as u64;
+    let found = set_value_patches_of(alloc, &mut read, len, DESCRIPTION, In(0), &value)?;
+    let wanted = set_patches(alloc, file, In(0), &value)?;
+    Ok(are_same(found.as_slice(), wanted.as_slice()))
+}
+
+// Whether the patches that erase a field are those of the whole file.
+fn erases_as_the_whole(alloc: Global, file: &[u8]) -> Result<bool, Error> {
+    let mut sought = Seekable::new(Cursor::new(file));
+    let len = file.len() as u64;
+    let found = erase_field_patches_of(alloc, &mut sought, len, DESCRIPTION, In(0))?;
+    let wanted = field_patches(alloc, file, In(0))?;
+    Ok(are_same(found.as_slice(), wanted.as_slice()))
 }
 
 #[test]
-fn without_a_place_there_is_no_patch(rt: HostRuntime) -> Result<(), Fail> {
-    let alloc = rt.alloc();
+fn patches_are_those_of_the_whole_file(rt: HostRuntime) {
     for file in &STREAMS {
-        match erase_places_patches_of(alloc, &mut Counted::new(*file), file.len() as u64) {
-            Ok(patches) => assert!(rt; patches.is_empty()),
-            Err(_) => assert!(rt; false),
-        }
+        assert!(rt; matches!(sets_as_the_whole(rt.alloc(), file), Ok(true)));
+        assert!(rt; matches!(erases_as_the_whole(rt.alloc(), file), Ok(true)));
     }
-    Ok(())
+}
+
+// How many patches erase the places of a file that is read once.
+fn places_of(alloc: Global, file: &[u8]) -> Result<usize, Error> {
+    let patches = erase_places_patches_of(alloc, &mut Counted::new(file), file.len() as u64)?;
+    Ok(patches.len())
+}
+
+#[test]
+fn without_a_place_there_is_no_patch(rt: HostRuntime) {
+    for file in &STREAMS {
+        assert!(rt; matches!(places_of(rt.alloc(), file), Ok(0)));
+    }
 }
 
 #[test]
 fn other_files_are_refused(rt: HostRuntime) -> Result<(), Fail> {
     let alloc = rt.alloc();
     for row in &REFUSED {
-        let (file, why) = *row;
-        match erase_places_patches_of(alloc, &mut Counted::new(file), file.len() as u64) {
-            Ok(_) => assert!(rt; false),
-            Err(error) => {
-                let shown = format!(in alloc; "{error}")?;
-                assert!(rt; shown.as_str() == why);
-            }
-        }
+        let answer = places_of(alloc, row.0).map(|_count| ());
+        assert!(rt; refuses(alloc, &answer, row.1)?);
     }
     Ok(())
 }

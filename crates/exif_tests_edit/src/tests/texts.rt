@@ -2,7 +2,14 @@
 
 use exif_edit::Error;
 use exif_tiff::Fault;
+use std::alloc::{AllocError, Global};
 use std::test::Fail;
+
+// Whether an error is shown as this text.
+fn is_shown(alloc: Global, error: &Error, text: &str) -> Result<bool, AllocError> {
+    let shown = format!(in alloc; "{error}")?;
+    Ok(shown.as_str() == text)
+}
 
 #[test]
 fn errors_are_shown(rt: HostRuntime) -> Result<(), Fail> {
@@ -28,8 +35,7 @@ fn errors_are_shown(rt: HostRuntime) -> Result<(), Fail> {
         (Error::OutOfMemory, "Out of memory"),
     ];
     for row in &rows {
-        let shown = format!(in alloc; "{}", row.0)?;
-        assert!(rt; shown.as_str() == row.1);
+        assert!(rt; is_shown(alloc, &row.0, row.1)?);
     }
     Ok(())
 }

@@ -1,8 +1,8 @@
 //! A value of each type set in data of each byte order, in its entry and outside of it.
 
-use super::{refuses, with_texts};
+use super::calls::{sets, value_stays};
+use super::with_texts;
 use exif_base::Items;
-use exif_edit::set_value;
 use exif_samples::files::{EVERY_TYPE_BIG, EVERY_TYPE_LITTLE};
 use exif_types::{Context, In, Rational, SRational, Tag, Value};
 use std::alloc::{AllocError, Global};
@@ -171,12 +171,10 @@ fn makes(
     number: u16,
     texts: &[(u16, &[u8])],
 ) -> Result<bool, AllocError> {
-    let mut bytes = Vec::from_slice(alloc, old)?;
     let value = value_of(alloc, number)?;
     let tag = Tag(Context::Tiff, number);
-    let set = set_value(alloc, bytes.as_mut_slice(), tag, In(0), &value);
     let want = with_texts(alloc, old, texts)?;
-    Ok(set.is_ok() && bytes.as_slice() == want.as_slice())
+    sets(alloc, old, (tag, In(0)), &value, want.as_slice())
 }
 
 #[test]
@@ -204,29 +202,29 @@ fn values_outside_of_their_entries(rt: HostRuntime) -> Result<(), Fail> {
     Ok(())
 }
 
+// A value that is longer than the room of a tag: six or eight bytes, or four of an entry.
+fn long_value(alloc: Global, number: u16) -> Result<Value, AllocError> {
+    match number {
+        0xfdea => Ok(Value::Short(Items::from_slice(alloc, &[1, 2, 3, 4])?)),
+        0xfdeb => Ok(Value::Long(Items::from_slice(alloc, &[1, 2, 3])?)),
+        0xfdf3 => Ok(Value::Double(Items::from_slice(alloc, &[1, 2])?)),
+        _ => Ok(Value::Byte(Items::from_slice(alloc, &[1, 2, 3, 4, 5])?)),
+    }
+}
+
 // Whether a value is too long for the room of a tag, and the data stay.
-fn is_too_long(alloc: Global, number: u16, value: &Value) -> Result<bool, AllocError> {
-    let mut bytes = Vec::from_slice(alloc, EVERY_TYPE_BIG)?;
-    let tag = Tag(Context::Tiff, number);
-    let set = set_value(alloc, bytes.as_mut_slice(), tag, In(0), value);
-    let refused = refuses(alloc, &set, "The value is too long for its room")?;
-    Ok(refused && bytes.as_slice() == EVERY_TYPE_BIG)
+fn is_too_long(alloc: Global, number: u16) -> Result<bool, AllocError> {
+    let value = long_value(alloc, number)?;
+    let name = (Tag(Context::Tiff, number), In(0));
+    let why = "The value is too long for its room";
+    value_stays(alloc, EVERY_TYPE_BIG, name, &value, why)
 }
 
 #[test]
 fn values_grow_into_their_room_alone(rt: HostRuntime) -> Result<(), Fail> {
-    let alloc = rt.alloc();
-    let bytes = Value::Byte(Items::from_slice(alloc, &[1, 2, 3, 4, 5])?);
-    let shorts = Value::Short(Items::from_slice(alloc, &[1, 2, 3, 4])?);
-    let longs = Value::Long(Items::from_slice(alloc, &[1, 2, 3])?);
-    let doubles = Value::Double(Items::from_slice(alloc, &[1, 2])?);
-    // four bytes of an entry, and six and eight outside of it
-    assert!(rt; is_too_long(alloc, 0xfde8, &bytes)?);
-    assert!(rt; is_too_long(alloc, 0xfdea, &shorts)?);
-    assert!(rt; is_too_long(alloc, 0xfdeb, &longs)?);
-    assert!(rt; is_too_long(alloc, 0xfdf3, &doubles)?);
-    // an entry of a type that is not known has no other room, nor has one of no text
-    assert!(rt; is_too_long(alloc, 0xfdf4, &bytes)?);
-    assert!(rt; is_too_long(alloc, 0xfdf5, &bytes)?);
+    // the last two: an entry of a type that is not known has no other room, nor has one of no text
+    for number in [0xfde8, 0xfdea, 0xfdeb, 0xfdf3, 0xfdf4, 0xfdf5] {
+        assert!(rt; is_too_long(rt.alloc(), number)?);
+    }
     Ok(())
 }

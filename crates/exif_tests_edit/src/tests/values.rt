@@ -1,8 +1,8 @@
 //! Values set in data.
 
-use super::{DESCRIPTION, refuses, text};
-use exif_base::Items;
-use exif_edit::{Error, erase_all, set_value, set_value_patches};
+use super::calls::{all_erased, sets_numbers, sets_text, text_stays, value_stays};
+use super::{DESCRIPTION, text};
+use exif_edit::{Error, set_value, set_value_patches};
 use exif_reader::parse_exif;
 use exif_samples::files::{DESCRIBED_BIG, DESCRIBED_LITTLE, EVERY_TYPE_BIG, EVERY_TYPE_LITTLE};
 use exif_types::{Context, In, Tag, Value};
@@ -61,11 +61,7 @@ fn texts_of_each_length(rt: HostRuntime) -> Result<(), Fail> {
     let alloc = rt.alloc();
     for row in &SET {
         let (old, new, want) = *row;
-        let mut bytes = Vec::from_slice(alloc, old)?;
-        let value = text(alloc, new)?;
-        let set = set_value(alloc, bytes.as_mut_slice(), DESCRIPTION, In(0), &value);
-        assert!(rt; set.is_ok());
-        assert!(rt; bytes.as_slice() == want);
+        assert!(rt; sets_text(alloc, old, new, want)?);
     }
     Ok(())
 }
@@ -73,59 +69,42 @@ fn texts_of_each_length(rt: HostRuntime) -> Result<(), Fail> {
 #[test]
 fn the_last_of_a_name_is_set(rt: HostRuntime) -> Result<(), Fail> {
     let alloc = rt.alloc();
-    let mut bytes = Vec::from_slice(alloc, TWICE)?;
-    let value = Value::Short(Items::from_slice(alloc, &[7])?);
     let width = Tag(Context::Tiff, 0x100);
-    let set = set_value(alloc, bytes.as_mut_slice(), width, In(0), &value);
-    assert!(rt; set.is_ok());
-    assert!(rt; bytes.as_slice() == LAST_SET);
+    assert!(rt; sets_numbers(alloc, TWICE, width, &[7], LAST_SET)?);
     Ok(())
 }
 
-// Whether a setting is refused with this text, and the bytes stay.
-fn stays(
-    alloc: Global,
-    old: &[u8],
-    tag: Tag,
-    value: &Value,
-    why: &str,
-) -> Result<bool, std::alloc::AllocError> {
-    let mut bytes = Vec::from_slice(alloc, old)?;
-    let answer = set_value(alloc, bytes.as_mut_slice(), tag, In(0), value);
-    let refused = refuses(alloc, &answer, why)?;
-    Ok(refused && bytes.as_slice() == old)
+const TOO_LONG: &str = "The value is too long for its room";
+
+const PLACED: &str = "The field says where other bytes stand";
+
+#[test]
+fn refusals_for_a_long_text_change_nothing(rt: HostRuntime) -> Result<(), Fail> {
+    let alloc = rt.alloc();
+    let rows: [(&[u8], Tag, &str); 6] = [
+        (DESCRIBED_BIG, DESCRIPTION, TOO_LONG),
+        (DESCRIBED_BIG, Tag(Context::Tiff, 0x10f), "No such field"),
+        (DESCRIBED_BIG, Tag(Context::Tiff, 0x111), PLACED),
+        (DESCRIBED_BIG, Tag(Context::Exif, 0xa005), PLACED),
+        (b"MM\0*", DESCRIPTION, "Truncated TIFF header"),
+        (b"MM\0+\0\0\0\x08", DESCRIPTION, "Invalid forty two"),
+    ];
+    for row in &rows {
+        let (old, tag, why) = *row;
+        assert!(rt; text_stays(alloc, old, tag, b"Turquoise", why)?);
+    }
+    Ok(())
 }
 
 #[test]
-fn refusals_change_nothing(rt: HostRuntime) -> Result<(), Fail> {
+fn other_refusals_change_nothing(rt: HostRuntime) -> Result<(), Fail> {
     let alloc = rt.alloc();
-    let long = text(alloc, b"Turquoise")?;
     let unknown = Value::Unknown(13, 1, 0);
-    let fraction = text(alloc, b"1234567")?;
-    let make = Tag(Context::Tiff, 0x10f);
-    let strips = Tag(Context::Tiff, 0x111);
-    let interop = Tag(Context::Exif, 0xa005);
-    let resolution = Tag(Context::Tiff, 0x11a);
-    let too_long = "The value is too long for its room";
-    let placed = "The field says where other bytes stand";
-    assert!(rt; stays(alloc, DESCRIBED_BIG, DESCRIPTION, &long, too_long)?);
-    assert!(rt; stays(alloc, DESCRIBED_BIG, make, &long, "No such field")?);
-    assert!(rt; stays(alloc, DESCRIBED_BIG, strips, &long, placed)?);
-    assert!(rt; stays(alloc, DESCRIBED_BIG, interop, &long, placed)?);
     let types = "Cannot write unknown field types";
-    assert!(rt; stays(alloc, DESCRIBED_BIG, DESCRIPTION, &unknown, types)?);
+    assert!(rt; value_stays(alloc, DESCRIBED_BIG, (DESCRIPTION, In(0)), &unknown, types)?);
+    let resolution = Tag(Context::Tiff, 0x11a);
     let shared = "The bytes are shared with something else";
-    assert!(rt; stays(alloc, SHARED, resolution, &fraction, shared)?);
-    assert!(rt; stays(alloc, b"MM\0*", DESCRIPTION, &long, "Truncated TIFF header")?);
-    assert!(rt;
-        stays(
-            alloc,
-            b"MM\0+\0\0\0\x08",
-            DESCRIPTION,
-            &long,
-            "Invalid forty two"
-        )?
-    );
+    assert!(rt; text_stays(alloc, SHARED, resolution, b"1234567", shared)?);
     Ok(())
 }
 
@@ -157,36 +136,33 @@ fn each_type_is_set_to_itself(rt: HostRuntime) {
     assert!(rt; matches!(set_each(rt.alloc(), EVERY_TYPE_LITTLE), Ok((2, true))));
 }
 
+// Whether the places and the texts of the patches that set a text are these, each in a row.
+fn are_told(alloc: Global, new: &[u8], at: &[u64], want: &[u8]) -> Result<bool, Error> {
+    let value = text(alloc, new)?;
+    let mut places = Vec::new(alloc);
+    let mut texts = Vec::new(alloc);
+    let patches = set_value_patches(alloc, DESCRIBED_BIG, DESCRIPTION, In(0), &value)?;
+    for patch in patches.as_slice() {
+        places.push(patch.place)?;
+        texts.extend_from_slice(patch.text.as_slice())?;
+    }
+    Ok(places.as_slice() == at && texts.as_slice() == want)
+}
+
 #[test]
 fn an_edit_is_told_as_patches(rt: HostRuntime) -> Result<(), Fail> {
     let alloc = rt.alloc();
-    let value = text(alloc, b"Blue")?;
-    match set_value_patches(alloc, DESCRIBED_BIG, DESCRIPTION, In(0), &value) {
-        Ok(patches) => {
-            let mut places = Vec::new(alloc);
-            let mut texts = Vec::new(alloc);
-            for patch in patches {
-                places.push(patch.place)?;
-                texts.extend_from_slice(patch.text.as_slice())?;
-            }
-            assert!(rt; places.as_slice() == [26, 12].as_slice());
-            let want: &[u8] = b"Blue\0\0\0\0\x02\0\0\0\x05\0\0\0\x1a";
-            assert!(rt; texts.as_slice() == want);
-        }
-        Err(_) => assert!(rt; false),
-    }
+    let want: &[u8] = b"Blue\0\0\0\0\x02\0\0\0\x05\0\0\0\x1a";
+    assert!(rt; matches!(are_told(alloc, b"Blue", &[26, 12], want), Ok(true)));
     Ok(())
 }
 
 #[test]
 fn all_fields_are_erased(rt: HostRuntime) -> Result<(), Fail> {
     let alloc = rt.alloc();
-    let mut bytes = Vec::from_slice(alloc, DESCRIBED_LITTLE)?;
-    assert!(rt; erase_all(bytes.as_mut_slice()).is_ok());
     let want: &[u8] = b"II*\0\x08\0\0\0\0\0\0\0\0\0\0\0\0\0\0\0\0\0\0\0\0\0\0\0\0\0\0\0\0";
-    assert!(rt; bytes.as_slice() == want);
-    let mut short = Vec::from_slice(alloc, b"MM\0*\0\0\0\x09?????")?;
-    assert!(rt; erase_all(short.as_mut_slice()).is_ok());
-    assert!(rt; short.as_slice() == b"MM\0*\0\0\0\0\0\0\0\0\0".as_slice());
+    assert!(rt; all_erased(alloc, DESCRIBED_LITTLE, want)?);
+    let want: &[u8] = b"MM\0*\0\0\0\0\0\0\0\0\0";
+    assert!(rt; all_erased(alloc, b"MM\0*\0\0\0\x09?????", want)?);
     Ok(())
 }
