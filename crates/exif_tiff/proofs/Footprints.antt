@@ -1,5 +1,5 @@
 -- Data that agree on the footprint of the one hold the same.
-use Rattle.std.proofs.Common.{◌≡◌, ◌+◌, ◌-◌, ◌*◌, ◌/◌, ◌==◌, ◌&&◌, ℕ, zero, suc, Bool, true, false, if◌then◌else◌, List, [], ◌∷◌, ◌++◌, length, Option, Some, None, Result, Ok, Err, refl, ap, arith}
+use Rattle.std.proofs.Common.{◌≡◌, ◌+◌, ◌-◌, ◌*◌, ◌/◌, ◌==◌, ◌&&◌, ℕ, zero, suc, Bool, true, false, if◌then◌else◌, List, [], ◌∷◌, ◌++◌, length, Option, Some, None, Result, Ok, Err, refl, ap, ◌∙◌, arith}
 use Rattle.std.specs.Prelude.{nat_le, nat_lt}
 use Rattle.std.specs.List.{flat_map, AllByRecursion}
 use Rattle.std.proofs.lemmas.Bool.Decides.{nat_tests}
@@ -15,7 +15,7 @@ use Rattle.exif_table.specs.declared.context.Context.TheVariants.{Tiff}
 use Rattle.exif_tiff.specs.declared.fault.Fault.{Fault}
 use Rattle.exif_tiff.specs.declared.fault.Fault.TheVariants.{TruncatedCount, TruncatedDirectory, TruncatedNextOffset}
 use Rattle.exif_tiff.specs.Footprint.{Agree, Below, named, pointed, entry_directories, directories, following, chain_directories, value_stretch, looked_at, ordered_footprint}
-use Rattle.exif_tiff.specs.Trace.{Node, Visit, Directory, chain_after, chain_nodes, child_of, depth_of, directory_end, directory_nodes, entry_nodes, entry_places, entry_value, ordered_trace, pointer_nodes, tagged_nodes, valued_nodes, whole_entries}
+use Rattle.exif_tiff.specs.Trace.{Node, Visit, Directory, chain_after, chain_nodes, child_of, depth_of, directory_end, directory_nodes, entry_nodes, entry_places, entry_value, ordered_trace, pointer_nodes, tagged_nodes, valued_nodes, whole_entries, opened}
 use Rattle.exif_tiff.proofs.Agreement.{Same, decode_same, number_same, part_same, same_of}
 use Rattle.exif_tiff.proofs.Members.{all_left, all_right}
 
@@ -172,27 +172,27 @@ module _ (order : Order) (a b : List ℕ) (as_long : length a ≡ length b) wher
     pointer_same d (Some q) h =
         let held = same d q h in let end = ends_alike d q h in rw (held, end) refl
 
-    tagged_same : (c : Context) (k n : ℕ) (v : Value) (o : Option Context)
+    tagged_same : (c : Context) (k p n e : ℕ) (v : Value) (o : Option Context)
         → AllByRecursion Alike (pointed below o (Some v))
-        → tagged_nodes f number a c k n v o ≡ tagged_nodes g number b c k n v o
-    tagged_same c k n v None h = refl
-    tagged_same c k n v (Some d) h = pointer_same d (number_in v 0) h
+        → tagged_nodes f number a c k p n e v o ≡ tagged_nodes g number b c k p n e v o
+    tagged_same c k p n e v None h = refl
+    tagged_same c k p n e v (Some d) h = pointer_same d (number_in v 0) h
 
-    nodes_same : (c : Context) (k n : ℕ) (o : Option Value)
+    nodes_same : (c : Context) (k p n e : ℕ) (o : Option Value)
         → AllByRecursion Alike (pointed below (child_of c n) o)
-        → valued_nodes f number a c k n o ≡ valued_nodes g number b c k n o
-    nodes_same c k n None h = refl
-    nodes_same c k n (Some v) h = tagged_same c k n v (child_of c n) h
+        → valued_nodes f number a c k p n e o ≡ valued_nodes g number b c k p n e o
+    nodes_same c k p n e None h = refl
+    nodes_same c k p n e (Some v) h = tagged_same c k p n e v (child_of c n) h
 
-    entry_same : (c : Context) (k e : ℕ) → Same a b e 12 → ValueAlike e
+    entry_same : (c : Context) (k p e : ℕ) → Same a b e 12 → ValueAlike e
         → AllByRecursion Alike (entry_directories below number a c e)
-        → entry_nodes f number a c k e ≡ entry_nodes g number b c k e
-    entry_same c k e h v d =
+        → entry_nodes f number a c k p e ≡ entry_nodes g number b c k p e
+    entry_same c k p e h v d =
         let tags : number_at number 2 a e ≡ number_at number 2 b e =
         number_same order 2 a b e (part_same a b e 12 e 2 (omega arith) (omega arith) h) in
         let values = value_same e h v in
         rw (← tags, ← values)
-        (ap (λ nodes. Visit ∷ nodes) (nodes_same c k (number_at number 2 a e) (entry_value number a e) d))
+        (ap (λ nodes. Visit ∷ nodes) (nodes_same c k p (number_at number 2 a e) e (entry_value number a e) d))
 
   -- the directory itself is the first of those below it
   pub first_alike : (depth : ℕ) (d : Context) (q : ℕ)
@@ -206,18 +206,19 @@ module _ (order : Order) (a b : List ℕ) (as_long : length a ≡ length b) wher
   directory_same zero k c p h = refl
   directory_same (suc depth) k c p h =
       rw (← places_same p h.0)
-      (each_same (entry_nodes (directory_nodes depth number a k) number a c k)
-      (entry_nodes (directory_nodes depth number b k) number b c k)
+      (ap (opened c p)
+      (each_same (entry_nodes (directory_nodes depth number a k) number a c k p)
+      (entry_nodes (directory_nodes depth number b k) number b c k p)
       (λ e. Same a b e 12) ValueAlike
       (λ e. AllByRecursion Alike (entry_directories (directories depth number a) number a c e))
       (entry_places number a p)
       (λ e s v d. entry_same (directories depth number a) (directory_nodes depth number a k)
       (directory_nodes depth number b k) (directory_same depth k)
-      (λ x q g. end_same q (first_alike depth x q g)) c k e s v d)
+      (λ x q g. end_same q (first_alike depth x q g)) c k p e s v d)
       (entries_same p h.0)
       (all_flat (Agree a b) (value_stretch number a) (entry_places number a p) h.0.1)
       (all_flat Alike (entry_directories (directories depth number a) number a c)
-      (entry_places number a p) h.1))
+      (entry_places number a p) h.1)))
 
   -- what follows a directory of a chain
   after_same : (rest : ℕ → List ℕ) (f g : ℕ → List Node) (x : Result ℕ Fault)
@@ -245,7 +246,8 @@ module _ (order : Order) (a b : List ℕ) (as_long : length a ≡ length b) wher
       let after = after_same (chain_directories left number a) (chain_nodes left number a (k + 1))
       (chain_nodes left number b (k + 1)) (directory_end number a p) rest behind in
       let end = end_same p (first_alike (depth_of Tiff) Tiff p here) in
-      rw (← end, nodes, after) refl
+      let others = after ∙ ap (chain_after (chain_nodes left number b (k + 1))) end in
+      λ i. nodes i ++ others i
 
   either_same : (t : Bool) (ps : List ℕ) (ns ms : List Node)
       → (AllByRecursion Alike ps → ns ≡ ms) → AllByRecursion Alike (if t then [] else ps)

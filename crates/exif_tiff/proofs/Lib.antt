@@ -11,3 +11,4 @@ pub mod ReadFields
 pub mod ReportBound
 pub mod SoftFaults
 pub mod VisitBound
+pub mod Visited

@@ -11,7 +11,7 @@ use Rattle.exif_table.specs.declared.context.Context.{Context}
 use Rattle.exif_table.specs.declared.context.Context.TheVariants.{Tiff}
 use Rattle.exif_tiff.specs.declared.fault.Fault.{Fault}
 use Rattle.exif_tiff.specs.declared.fault.Fault.TheVariants.{UnexpectedNext, TooManyDirectories}
-use Rattle.exif_tiff.specs.Trace.{Node, Visit, Found, Met, Directory, visits_of, fields_of, faults_of, cut, trace, ordered_trace, header, chain_nodes, chain_after, directory_nodes, directory_end, entry_nodes, entry_places, entry_value, valued_nodes, tagged_nodes, pointer_nodes, child_end, child_of}
+use Rattle.exif_tiff.specs.Trace.{Node, Visit, Found, Met, Directory, visits_of, fields_of, faults_of, cut, trace, ordered_trace, header, chain_nodes, chain_after, directory_nodes, directory_end, entry_nodes, entry_places, entry_value, valued_nodes, tagged_nodes, pointer_nodes, child_end, child_of, Opens}
 use Rattle.exif_tiff.specs.Visits.{ReportsAreBoundedUnder, LimitBoundsReports, LimitAndLengthBoundReports}
 use Rattle.exif_tiff.proofs.VisitBound.{visits_bounded}
 use Rattle.exif_tiff.proofs.Limits.{visits_limited}
@@ -20,8 +20,9 @@ use Rattle.exif_tiff.proofs.ReportBound.{Reports, directory_reports, entry_repor
 -- after v visits and r fields and faults, there are no more of these than visits before each further visit
 abbrev PaidFrom : ℕ → ℕ → List Node → Type 0
 PaidFrom v r [] = ⊤
+PaidFrom v r (Opens directory ∷ nodes) = PaidFrom v r nodes
 PaidFrom v r (Visit ∷ nodes) = (r ≤ v) × PaidFrom (v + 1) r nodes
-PaidFrom v r (Found field ∷ nodes) = PaidFrom v (r + 1) nodes
+PaidFrom v r (Found l ∷ nodes) = PaidFrom v (r + 1) nodes
 PaidFrom v r (Met fault ∷ nodes) = PaidFrom v (r + 1) nodes
 
 -- so from the beginning
@@ -31,16 +32,18 @@ record Paid (nodes : List Node) : Type 0 where
 -- fewer fields and faults for the visits are still paid
 paid_more : (v r w s : ℕ) (nodes : List Node) → s + v ≤ r + w → PaidFrom v r nodes → PaidFrom w s nodes
 paid_more v r w s [] h p = tt
+paid_more v r w s (Opens directory ∷ nodes) h p = paid_more v r w s nodes h p
 paid_more v r w s (Visit ∷ nodes) h p = (omega (arith, p.0), paid_more (v + 1) r (w + 1) s nodes (omega arith) p.1)
-paid_more v r w s (Found field ∷ nodes) h p = paid_more v (r + 1) w (s + 1) nodes (omega arith) p
+paid_more v r w s (Found l ∷ nodes) h p = paid_more v (r + 1) w (s + 1) nodes (omega arith) p
 paid_more v r w s (Met fault ∷ nodes) h p = paid_more v (r + 1) w (s + 1) nodes (omega arith) p
 
 paid-append : (v r : ℕ) (xs ys : List Node) → PaidFrom v r xs → PaidFrom (v + visits_of xs) (r + (length (fields_of xs) + length (faults_of xs))) ys → PaidFrom v r (xs ++ ys)
 paid-append v r [] ys p q = paid_more (v + 0) (r + 0) v r ys (omega arith) q
+paid-append v r (Opens directory ∷ xs) ys p q = paid-append v r xs ys p q
 paid-append v r (Visit ∷ xs) ys p q =
     (p.0, paid-append (v + 1) r xs ys p.1 (paid_more (v + (visits_of xs + 1)) (r + (length (fields_of xs) + length (faults_of xs))) (v + 1 + visits_of xs) (r + (length (fields_of xs) + length (faults_of xs))) ys (omega arith) q))
-paid-append v r (Found field ∷ xs) ys p q =
-    paid-append v (r + 1) xs ys p (paid_more (v + visits_of xs) (r + (length (field ∷ fields_of xs) + length (faults_of xs))) (v + visits_of xs) (r + 1 + (length (fields_of xs) + length (faults_of xs))) ys (omega arith) q)
+paid-append v r (Found l ∷ xs) ys p q =
+    paid-append v (r + 1) xs ys p (paid_more (v + visits_of xs) (r + (length (l.field ∷ fields_of xs) + length (faults_of xs))) (v + visits_of xs) (r + 1 + (length (fields_of xs) + length (faults_of xs))) ys (omega arith) q)
 paid-append v r (Met fault ∷ xs) ys p q =
     paid-append v (r + 1) xs ys p (paid_more (v + visits_of xs) (r + (length (fields_of xs) + length (fault ∷ faults_of xs))) (v + visits_of xs) (r + 1 + (length (fields_of xs) + length (faults_of xs))) ys (omega arith) q)
 
@@ -67,29 +70,30 @@ module _ (child : Directory) (number : Reading) (bytes : List ℕ) (a : (c : Con
   pointer_paid c None = record { paid = tt }
   pointer_paid c (Some q) = paid_join (child c q) (child_end (directory_end number bytes q)) (a c q) (h c q) (paid_end (directory_end number bytes q))
 
-  tagged_paid : (c : Context) (k n : ℕ) (v : Value) (o : Option Context) → Paid (tagged_nodes child number bytes c k n v o)
-  tagged_paid c k n v None = record { paid = tt }
-  tagged_paid c k n v (Some d) = pointer_paid d (number_in v 0)
+  tagged_paid : (c : Context) (k p n e : ℕ) (v : Value) (o : Option Context) → Paid (tagged_nodes child number bytes c k p n e v o)
+  tagged_paid c k p n e v None = record { paid = tt }
+  tagged_paid c k p n e v (Some d) = pointer_paid d (number_in v 0)
 
-  valued_paid : (c : Context) (k n : ℕ) (o : Option Value) → Paid (valued_nodes child number bytes c k n o)
-  valued_paid c k n None = record { paid = tt }
-  valued_paid c k n (Some v) = tagged_paid c k n v (child_of c n)
+  valued_paid : (c : Context) (k p n e : ℕ) (o : Option Value) → Paid (valued_nodes child number bytes c k p n e o)
+  valued_paid c k p n e None = record { paid = tt }
+  valued_paid c k p n e (Some v) = tagged_paid c k p n e v (child_of c n)
 
-  entry_paid : (c : Context) (k e : ℕ) → Paid (entry_nodes child number bytes c k e)
-  entry_paid c k e =
-      let v = valued_paid c k (number_at number 2 bytes e) (entry_value number bytes e) in
+  entry_paid : (c : Context) (k p e : ℕ) → Paid (entry_nodes child number bytes c k p e)
+  entry_paid c k p e =
+      let v = valued_paid c k p (number_at number 2 bytes e) e (entry_value number bytes e) in
       record {
-        paid = (omega arith, paid_more 0 0 1 0 (valued_nodes child number bytes c k (number_at number 2 bytes e) (entry_value number bytes e)) (omega arith) v.paid);
+        paid = (omega arith, paid_more 0 0 1 0 (valued_nodes child number bytes c k p (number_at number 2 bytes e) e (entry_value number bytes e)) (omega arith) v.paid);
       }
 
 directory_paid : (d : ℕ) (number : Reading) (bytes : List ℕ) (k : ℕ) (c : Context) (p : ℕ) → Paid (directory_nodes d number bytes k c p)
 directory_paid zero number bytes k c p = record { paid = tt }
 directory_paid (suc d) number bytes k c p =
     let child : Directory = directory_nodes d number bytes k in
-    paid_flat (entry_nodes child number bytes c k)
-    (entry_reports child number bytes (directory_reports d number bytes k) c k)
-    (entry_paid child number bytes (directory_reports d number bytes k) (directory_paid d number bytes k) c k)
-    (entry_places number bytes p)
+    let entries = paid_flat (entry_nodes child number bytes c k p)
+    (entry_reports child number bytes (directory_reports d number bytes k) c k p)
+    (entry_paid child number bytes (directory_reports d number bytes k) (directory_paid d number bytes k) c k p)
+    (entry_places number bytes p) in
+    record { paid = entries.paid }
 
 after_paid : (rest : ℕ → List Node) (x : Result ℕ Fault) → ((p : ℕ) → Paid (rest p)) → Paid (chain_after rest x)
 after_paid rest (Err fault) h = record { paid = tt }
@@ -116,9 +120,10 @@ by_header (Ok order) bytes = chain_paid 8 (number_of order) bytes 0 (number_at (
 cut_reports : (n v r : ℕ) (nodes : List Node) → PaidFrom v r nodes → r + (length (fields_of nodes) + length (faults_of nodes)) ≤ v + visits_of nodes + 1
     → r + (length (fields_of (cut n nodes)) + length (faults_of (cut n nodes))) ≤ v + visits_of (cut n nodes) + 1
 cut_reports n v r [] p all = all
+cut_reports n v r (Opens directory ∷ nodes) p all = cut_reports n v r nodes p all
 cut_reports zero v r (Visit ∷ nodes) p all = omega (arith, p.0)
 cut_reports (suc n) v r (Visit ∷ nodes) p all = omega (arith, cut_reports n (v + 1) r nodes p.1 (omega arith))
-cut_reports n v r (Found field ∷ nodes) p all = omega (arith, cut_reports n v (r + 1) nodes p (omega arith))
+cut_reports n v r (Found l ∷ nodes) p all = omega (arith, cut_reports n v (r + 1) nodes p (omega arith))
 cut_reports n v r (Met fault ∷ nodes) p all = omega (arith, cut_reports n v (r + 1) nodes p (omega arith))
 
 trace_paid : (bytes : List ℕ) → PaidFrom 0 0 (trace bytes)

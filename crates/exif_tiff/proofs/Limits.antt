@@ -7,7 +7,7 @@ use Rattle.std.specs.List.{AllByRecursion, Contains}
 use Rattle.exif_types.specs.declared.field.Field.{Field}
 use Rattle.exif_tiff.specs.declared.fault.Fault.{Fault}
 use Rattle.exif_tiff.specs.declared.fault.Fault.TheVariants.{TooManyEntries}
-use Rattle.exif_tiff.specs.Trace.{Node, Visit, Found, Met, visits_of, fields_of, faults_of, cut, content_of, trace}
+use Rattle.exif_tiff.specs.Trace.{Node, Visit, Found, Met, visits_of, fields_of, faults_of, cut, content_of, trace, Opens}
 use Rattle.exif_tiff.specs.Answers.{Refused, Partial, answer_of, raw_answer}
 use Rattle.exif_tiff.specs.Limits.{VisitsAreLimited, IsKeptWithin, IsCut, IsCutPast, LimitIsMet, AnswersWithin, LenientAnswersCut, StrictRefusesCut}
 use Rattle.exif_tiff.specs.SoftFaults.{is_soft, is_hard}
@@ -17,28 +17,33 @@ use Rattle.exif_tiff.proofs.SoftFaults.{each_soft, faults_soft, answer_behind, a
 
 pub visits_limited : (n : ℕ) (nodes : List Node) → VisitsAreLimited n nodes
 visits_limited n [] = omega arith
+visits_limited n (Opens directory ∷ nodes) = visits_limited n nodes
 visits_limited zero (Visit ∷ nodes) = omega arith
 visits_limited (suc n) (Visit ∷ nodes) = let e = visits_limited n nodes in omega arith
-visits_limited n (Found field ∷ nodes) = visits_limited n nodes
+visits_limited n (Found l ∷ nodes) = visits_limited n nodes
 visits_limited n (Met fault ∷ nodes) = visits_limited n nodes
 
 pub kept_within : (n : ℕ) (nodes : List Node) → IsKeptWithin n nodes
 kept_within n [] h = refl
+kept_within n (Opens directory ∷ nodes) h = ap (λ r. Opens directory ∷ r) (kept_within n nodes h)
 kept_within zero (Visit ∷ nodes) h = absurd (omega arith)
 kept_within (suc n) (Visit ∷ nodes) h = ap (λ r. Visit ∷ r) (kept_within n nodes (omega arith))
-kept_within n (Found field ∷ nodes) h = ap (λ r. Found field ∷ r) (kept_within n nodes h)
+kept_within n (Found l ∷ nodes) h = ap (λ r. Found l ∷ r) (kept_within n nodes h)
 kept_within n (Met fault ∷ nodes) h = ap (λ r. Met fault ∷ r) (kept_within n nodes h)
 
 pub cut_past : (n : ℕ) (nodes : List Node) → IsCutPast n nodes
 cut_past n [] h = absurd (omega arith)
+cut_past n (Opens directory ∷ nodes) h =
+    let c = cut_past n nodes h in
+    record { front = Opens directory ∷ c.front; rest = c.rest; whole = ap (λ r. Opens directory ∷ r) c.whole; visits = c.visits; ended = ap (λ r. Opens directory ∷ r) c.ended }
 cut_past zero (Visit ∷ nodes) h = record { front = []; rest = nodes; whole = refl; visits = refl; ended = refl }
 cut_past (suc n) (Visit ∷ nodes) h =
     let c = cut_past n nodes (omega arith) in
     let v = c.visits in
     record { front = Visit ∷ c.front; rest = c.rest; whole = ap (λ r. Visit ∷ r) c.whole; visits = omega arith; ended = ap (λ r. Visit ∷ r) c.ended }
-cut_past n (Found field ∷ nodes) h =
+cut_past n (Found l ∷ nodes) h =
     let c = cut_past n nodes h in
-    record { front = Found field ∷ c.front; rest = c.rest; whole = ap (λ r. Found field ∷ r) c.whole; visits = c.visits; ended = ap (λ r. Found field ∷ r) c.ended }
+    record { front = Found l ∷ c.front; rest = c.rest; whole = ap (λ r. Found l ∷ r) c.whole; visits = c.visits; ended = ap (λ r. Found l ∷ r) c.ended }
 cut_past n (Met fault ∷ nodes) h =
     let c = cut_past n nodes h in
     record { front = Met fault ∷ c.front; rest = c.rest; whole = ap (λ r. Met fault ∷ r) c.whole; visits = c.visits; ended = ap (λ r. Met fault ∷ r) c.ended }

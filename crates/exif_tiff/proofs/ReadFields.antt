@@ -18,7 +18,7 @@ use Rattle.exif_tiff.specs.declared.fault.Fault.{Fault}
 use Rattle.exif_tiff.specs.declared.fault.Fault.TheVariants.{UnexpectedNext, TooManyDirectories}
 use Rattle.exif_table.specs.declared.context.Context.{Context}
 use Rattle.exif_table.specs.declared.context.Context.TheVariants.{Tiff}
-use Rattle.exif_tiff.specs.Trace.{Node, Visit, Found, Met, Directory, fields_of, cut, limited, ordered_trace, chain_nodes, chain_after, directory_nodes, directory_end, entry_nodes, entry_places, entry_value, valued_nodes, tagged_nodes, pointer_nodes, child_end, child_of}
+use Rattle.exif_tiff.specs.Trace.{Node, Visit, Found, Met, Directory, fields_of, cut, limited, ordered_trace, chain_nodes, chain_after, directory_nodes, directory_end, entry_nodes, entry_places, entry_value, valued_nodes, tagged_nodes, pointer_nodes, child_end, child_of, Opens, field_of}
 use Rattle.exif_tiff.proofs.ReportBound.{fields-append}
 
 -- a text without zero bytes
@@ -111,24 +111,27 @@ module _ (child : Directory) (number : Reading) (bytes : List ℕ) (k : ℕ) (sm
   pointer_read c None = record { each = All-nil IsRead }
   pointer_read c (Some q) = join_read (child c q) (child_end (directory_end number bytes q)) (h c q) (child_end_read (directory_end number bytes q))
 
-  tagged_read : (c : Context) (n : ℕ) (v : Value) → HasPlainTexts v → (o : Option Context) → AreRead (tagged_nodes child number bytes c k n v o)
-  tagged_read c n v plain None = record {
-    each = All-cons IsRead (record { tag = record { 0 = c; 1 = n }; ifd_num = record { 0 = k }; value = v }) [] (record { plain = plain; number = small }) (All-nil IsRead);
+  tagged_read : (c : Context) (p n e : ℕ) (v : Value) → HasPlainTexts v → (o : Option Context) → AreRead (tagged_nodes child number bytes c k p n e v o)
+  tagged_read c p n e v plain None = record {
+    each = All-cons IsRead (field_of c k n v) [] (record { plain = plain; number = small }) (All-nil IsRead);
   }
-  tagged_read c n v plain (Some d) = pointer_read d (number_in v 0)
+  tagged_read c p n e v plain (Some d) = pointer_read d (number_in v 0)
 
-  valued_read : (c : Context) (n : ℕ) (o : Option Value) → IfPlain o → AreRead (valued_nodes child number bytes c k n o)
-  valued_read c n None plain = record { each = All-nil IsRead }
-  valued_read c n (Some v) plain = tagged_read c n v plain (child_of c n)
+  valued_read : (c : Context) (p n e : ℕ) (o : Option Value) → IfPlain o → AreRead (valued_nodes child number bytes c k p n e o)
+  valued_read c p n e None plain = record { each = All-nil IsRead }
+  valued_read c p n e (Some v) plain = tagged_read c p n e v plain (child_of c n)
 
-  entry_read : (c : Context) (e : ℕ) → AreRead (entry_nodes child number bytes c k e)
-  entry_read c e =
-      record { each = (valued_read c (number_at number 2 bytes e) (entry_value number bytes e) (entry_plain number bytes e)).each }
+  entry_read : (c : Context) (p e : ℕ) → AreRead (entry_nodes child number bytes c k p e)
+  entry_read c p e =
+      record { each = (valued_read c p (number_at number 2 bytes e) e (entry_value number bytes e) (entry_plain number bytes e)).each }
 
 directory_read : (d : ℕ) (number : Reading) (bytes : List ℕ) (k : ℕ) → k < 8 → (c : Context) (p : ℕ) → AreRead (directory_nodes d number bytes k c p)
-directory_read zero number bytes k small c p = none_read
+directory_read zero number bytes k small c p = record { each = All-nil IsRead }
 directory_read (suc d) number bytes k small c p =
-    flat_read (entry_nodes (directory_nodes d number bytes k) number bytes c k) (entry_read (directory_nodes d number bytes k) number bytes k small (directory_read d number bytes k small) c) (entry_places number bytes p)
+    let child : Directory = directory_nodes d number bytes k in
+    let entries = flat_read (entry_nodes child number bytes c k p)
+    (entry_read child number bytes k small (directory_read d number bytes k small) c p) (entry_places number bytes p) in
+    record { each = entries.each }
 
 after_read : (rest : ℕ → List Node) (x : Result ℕ Fault) → ((p : ℕ) → AreRead (rest p)) → AreRead (chain_after rest x)
 after_read rest (Err fault) h = record { each = All-nil IsRead }
@@ -148,10 +151,11 @@ chain_read (suc left) number bytes k p small =
 -- a cut leaves a front of the fields
 cut_read : (n : ℕ) (nodes : List Node) → All IsRead (fields_of nodes) → All IsRead (fields_of (cut n nodes))
 cut_read n [] h = h
+cut_read n (Opens directory ∷ nodes) h = cut_read n nodes h
 cut_read zero (Visit ∷ nodes) h = All-nil IsRead
 cut_read (suc n) (Visit ∷ nodes) h = cut_read n nodes h
-cut_read n (Found field ∷ nodes) h =
-    All-cons IsRead field (fields_of (cut n nodes)) (All-head IsRead field (fields_of nodes) h) (cut_read n nodes (All-tail IsRead field (fields_of nodes) h))
+cut_read n (Found l ∷ nodes) h =
+    All-cons IsRead l.field (fields_of (cut n nodes)) (All-head IsRead l.field (fields_of nodes) h) (cut_read n nodes (All-tail IsRead l.field (fields_of nodes) h))
 cut_read n (Met fault ∷ nodes) h = cut_read n nodes h
 
 pub limited_read : (limit : Option ℕ) (nodes : List Node) → All IsRead (fields_of nodes) → All IsRead (fields_of (limited limit nodes))

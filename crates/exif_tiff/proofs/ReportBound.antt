@@ -12,19 +12,21 @@ use Rattle.exif_tiff.specs.declared.fault.Fault.TheVariants.{UnexpectedNext, Too
 use Rattle.exif_base.specs.declared.endian.Order.{Order}
 use Rattle.exif_table.specs.declared.context.Context.{Context}
 use Rattle.exif_table.specs.declared.context.Context.TheVariants.{Tiff}
-use Rattle.exif_tiff.specs.Trace.{Node, Visit, Found, Met, Directory, visits_of, fields_of, faults_of, trace, ordered_trace, header, chain_nodes, chain_after, directory_nodes, directory_end, entry_nodes, entry_places, entry_value, valued_nodes, tagged_nodes, pointer_nodes, child_end, child_of}
+use Rattle.exif_tiff.specs.Trace.{Node, Visit, Found, Met, Directory, visits_of, fields_of, faults_of, trace, ordered_trace, header, chain_nodes, chain_after, directory_nodes, directory_end, entry_nodes, entry_places, entry_value, valued_nodes, tagged_nodes, pointer_nodes, child_end, child_of, Opens}
 use Rattle.exif_tiff.specs.Visits.{ReportsAreBounded}
 
 pub fields-append : (xs ys : List Node) → fields_of (xs ++ ys) ≡ fields_of xs ++ fields_of ys
 fields-append [] ys = refl
+fields-append (Opens directory ∷ xs) ys = fields-append xs ys
 fields-append (Visit ∷ xs) ys = fields-append xs ys
-fields-append (Found field ∷ xs) ys = ap (λ fs. field ∷ fs) (fields-append xs ys)
+fields-append (Found l ∷ xs) ys = ap (λ fs. l.field ∷ fs) (fields-append xs ys)
 fields-append (Met fault ∷ xs) ys = fields-append xs ys
 
 pub faults-append : (xs ys : List Node) → faults_of (xs ++ ys) ≡ faults_of xs ++ faults_of ys
 faults-append [] ys = refl
+faults-append (Opens directory ∷ xs) ys = faults-append xs ys
 faults-append (Visit ∷ xs) ys = faults-append xs ys
-faults-append (Found field ∷ xs) ys = faults-append xs ys
+faults-append (Found l ∷ xs) ys = faults-append xs ys
 faults-append (Met fault ∷ xs) ys = ap (λ fs. fault ∷ fs) (faults-append xs ys)
 
 -- fields and faults are at most the visits and k
@@ -33,8 +35,9 @@ pub record Reports (k : ℕ) (nodes : List Node) : Type 0 where
 
 visits-append : (xs ys : List Node) → visits_of (xs ++ ys) ≡ visits_of xs + visits_of ys
 visits-append [] ys = omega arith
+visits-append (Opens directory ∷ xs) ys = visits-append xs ys
 visits-append (Visit ∷ xs) ys = omega (arith, visits-append xs ys)
-visits-append (Found field ∷ xs) ys = visits-append xs ys
+visits-append (Found l ∷ xs) ys = visits-append xs ys
 visits-append (Met fault ∷ xs) ys = visits-append xs ys
 
 reports_join : (i j k : ℕ) (xs ys : List Node) → i + j ≤ k → Reports i xs → Reports j ys → Reports k (xs ++ ys)
@@ -59,23 +62,26 @@ module _ (child : Directory) (number : Reading) (bytes : List ℕ) (h : (c : Con
   pointer_reports c None = record { bound = omega arith }
   pointer_reports c (Some q) = reports_join 0 1 1 (child c q) (child_end (directory_end number bytes q)) (omega arith) (h c q) (child_end_reports (directory_end number bytes q))
 
-  tagged_reports : (c : Context) (k n : ℕ) (v : Value) (o : Option Context) → Reports 1 (tagged_nodes child number bytes c k n v o)
-  tagged_reports c k n v None = record { bound = omega arith }
-  tagged_reports c k n v (Some d) = pointer_reports d (number_in v 0)
+  tagged_reports : (c : Context) (k p n e : ℕ) (v : Value) (o : Option Context) → Reports 1 (tagged_nodes child number bytes c k p n e v o)
+  tagged_reports c k p n e v None = record { bound = omega arith }
+  tagged_reports c k p n e v (Some d) = pointer_reports d (number_in v 0)
 
-  valued_reports : (c : Context) (k n : ℕ) (o : Option Value) → Reports 1 (valued_nodes child number bytes c k n o)
-  valued_reports c k n None = record { bound = omega arith }
-  valued_reports c k n (Some v) = tagged_reports c k n v (child_of c n)
+  valued_reports : (c : Context) (k p n e : ℕ) (o : Option Value) → Reports 1 (valued_nodes child number bytes c k p n e o)
+  valued_reports c k p n e None = record { bound = omega arith }
+  valued_reports c k p n e (Some v) = tagged_reports c k p n e v (child_of c n)
 
-  pub entry_reports : (c : Context) (k e : ℕ) → Reports 0 (entry_nodes child number bytes c k e)
-  entry_reports c k e =
-      let v = valued_reports c k (number_at number 2 bytes e) (entry_value number bytes e) in
+  pub entry_reports : (c : Context) (k p e : ℕ) → Reports 0 (entry_nodes child number bytes c k p e)
+  entry_reports c k p e =
+      let v = valued_reports c k p (number_at number 2 bytes e) e (entry_value number bytes e) in
       record { bound = omega (arith, v.bound) }
 
 pub directory_reports : (d : ℕ) (number : Reading) (bytes : List ℕ) (k : ℕ) (c : Context) (p : ℕ) → Reports 0 (directory_nodes d number bytes k c p)
 directory_reports zero number bytes k c p = record { bound = omega arith }
 directory_reports (suc d) number bytes k c p =
-    reports_flat (entry_nodes (directory_nodes d number bytes k) number bytes c k) (entry_reports (directory_nodes d number bytes k) number bytes (directory_reports d number bytes k) c k) (entry_places number bytes p)
+    let child : Directory = directory_nodes d number bytes k in
+    let entries = reports_flat (entry_nodes child number bytes c k p)
+    (entry_reports child number bytes (directory_reports d number bytes k) c k p) (entry_places number bytes p) in
+    record { bound = entries.bound }
 
 after_reports : (rest : ℕ → List Node) (x : Result ℕ Fault) → ((p : ℕ) → Reports 1 (rest p)) → Reports 1 (chain_after rest x)
 after_reports rest (Err fault) h = record { bound = omega arith }

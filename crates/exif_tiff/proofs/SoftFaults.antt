@@ -13,15 +13,16 @@ use Rattle.exif_table.specs.declared.context.Context.TheVariants.{Tiff}
 use Rattle.exif_types.specs.declared.field.Field.{Field}
 use Rattle.exif_tiff.specs.declared.fault.Fault.{Fault}
 use Rattle.exif_tiff.specs.declared.fault.Fault.TheVariants.{DataTooLarge, TruncatedHeader, InvalidByteOrder, InvalidFortyTwo, TruncatedCount, TruncatedDirectory, TruncatedNextOffset, TruncatedValue, InvalidPointer, UnexpectedNext, TooManyDirectories, TooManyEntries}
-use Rattle.exif_tiff.specs.Trace.{Node, Visit, Found, Met, Directory, fields_of, faults_of, cut, limited, content_of, trace, ordered_trace, header, order_of, chain_nodes, chain_after, directory_nodes, directory_end, entry_nodes, entry_places, entry_value, valued_nodes, tagged_nodes, pointer_nodes, child_end, child_of}
+use Rattle.exif_tiff.specs.Trace.{Node, Visit, Found, Met, Directory, fields_of, faults_of, cut, limited, content_of, trace, ordered_trace, header, order_of, chain_nodes, chain_after, directory_nodes, directory_end, entry_nodes, entry_places, entry_value, valued_nodes, tagged_nodes, pointer_nodes, child_end, child_of, Opens}
 use Rattle.exif_tiff.specs.Answers.{Answer, Refused, Partial, answer_of, raw_answer}
 use Rattle.exif_tiff.specs.SoftFaults.{is_hard, is_soft, is_soft_under, FaultsAreSoft, FaultsAreSoftUnder, PassesSoftFaults, RefusesHardOrSoft, HeaderFaultsAreHard, TooLargeIsExact}
 use Rattle.exif_tiff.proofs.Members.{all_append, all_of}
 
 -- a node that is no fault but a soft one
 abbrev IsSoftNode : Node → Type 0
+IsSoftNode (Opens directory) = ⊤
 IsSoftNode Visit = ⊤
-IsSoftNode (Found field) = ⊤
+IsSoftNode (Found l) = ⊤
 IsSoftNode (Met fault) = is_soft fault ≡ true
 
 -- a directory's end with no fault but a soft one
@@ -64,22 +65,24 @@ module _ (child : Directory) (number : Reading) (bytes : List ℕ) (h : (c : Con
   pointer_soft c None = record { each = (refl, tt) }
   pointer_soft c (Some q) = soft_join (child c q) (child_end (directory_end number bytes q)) (h c q) (child_soft (directory_end number bytes q) (end_soft number bytes q))
 
-  tagged_soft : (c : Context) (k n : ℕ) (v : Value) (o : Option Context) → AreSoft (tagged_nodes child number bytes c k n v o)
-  tagged_soft c k n v None = record { each = (tt, tt) }
-  tagged_soft c k n v (Some d) = pointer_soft d (number_in v 0)
+  tagged_soft : (c : Context) (k p n e : ℕ) (v : Value) (o : Option Context) → AreSoft (tagged_nodes child number bytes c k p n e v o)
+  tagged_soft c k p n e v None = record { each = (tt, tt) }
+  tagged_soft c k p n e v (Some d) = pointer_soft d (number_in v 0)
 
-  valued_soft : (c : Context) (k n : ℕ) (o : Option Value) → AreSoft (valued_nodes child number bytes c k n o)
-  valued_soft c k n None = record { each = (refl, tt) }
-  valued_soft c k n (Some v) = tagged_soft c k n v (child_of c n)
+  valued_soft : (c : Context) (k p n e : ℕ) (o : Option Value) → AreSoft (valued_nodes child number bytes c k p n e o)
+  valued_soft c k p n e None = record { each = (refl, tt) }
+  valued_soft c k p n e (Some v) = tagged_soft c k p n e v (child_of c n)
 
-  entry_soft : (c : Context) (k e : ℕ) → AreSoft (entry_nodes child number bytes c k e)
-  entry_soft c k e = record { each = (tt, (valued_soft c k (number_at number 2 bytes e) (entry_value number bytes e)).each) }
+  entry_soft : (c : Context) (k p e : ℕ) → AreSoft (entry_nodes child number bytes c k p e)
+  entry_soft c k p e = record { each = (tt, (valued_soft c k p (number_at number 2 bytes e) e (entry_value number bytes e)).each) }
 
 directory_soft : (d : ℕ) (number : Reading) (bytes : List ℕ) (k : ℕ) (c : Context) (p : ℕ) → AreSoft (directory_nodes d number bytes k c p)
-directory_soft zero number bytes k c p = record { each = tt }
+directory_soft zero number bytes k c p = record { each = (tt, tt) }
 directory_soft (suc d) number bytes k c p =
     let child : Directory = directory_nodes d number bytes k in
-    soft_flat (entry_nodes child number bytes c k) (entry_soft child number bytes (directory_soft d number bytes k) c k) (entry_places number bytes p)
+    let entries = soft_flat (entry_nodes child number bytes c k p)
+    (entry_soft child number bytes (directory_soft d number bytes k) c k p) (entry_places number bytes p) in
+    record { each = (tt, entries.each) }
 
 after_soft : (rest : ℕ → List Node) (x : Result ℕ Fault) → IsSoftEnd x → ((p : ℕ) → AreSoft (rest p)) → AreSoft (chain_after rest x)
 after_soft rest (Err fault) e h = record { each = (e, tt) }
@@ -108,8 +111,9 @@ trace_soft bytes = (by_header (header bytes) bytes).each
 
 soft_faults : (nodes : List Node) → AllByRecursion IsSoftNode nodes → AllByRecursion (λ fault. is_soft fault ≡ true) (faults_of nodes)
 soft_faults [] h = tt
+soft_faults (Opens directory ∷ nodes) h = soft_faults nodes h.1
 soft_faults (Visit ∷ nodes) h = soft_faults nodes h.1
-soft_faults (Found field ∷ nodes) h = soft_faults nodes h.1
+soft_faults (Found l ∷ nodes) h = soft_faults nodes h.1
 soft_faults (Met fault ∷ nodes) h = (h.0, soft_faults nodes h.1)
 
 pub each_soft : (bytes : List ℕ) → AllByRecursion (λ fault. is_soft fault ≡ true) (faults_of (trace bytes))
@@ -135,9 +139,10 @@ soft_under limit TooManyEntries h = absurd cc
 
 cut_soft : (limit n : ℕ) (nodes : List Node) → AllByRecursion IsSoftNode nodes → AllByRecursion (λ fault. is_soft_under (Some limit) fault ≡ true) (faults_of (cut n nodes))
 cut_soft limit n [] h = tt
+cut_soft limit n (Opens directory ∷ nodes) h = cut_soft limit n nodes h.1
 cut_soft limit zero (Visit ∷ nodes) h = (refl, tt)
 cut_soft limit (suc n) (Visit ∷ nodes) h = cut_soft limit n nodes h.1
-cut_soft limit n (Found field ∷ nodes) h = cut_soft limit n nodes h.1
+cut_soft limit n (Found l ∷ nodes) h = cut_soft limit n nodes h.1
 cut_soft limit n (Met fault ∷ nodes) h = (soft_under (Some limit) fault h.0, cut_soft limit n nodes h.1)
 
 all_under : (limit : Option ℕ) (faults : List Fault) → AllByRecursion (λ fault. is_soft fault ≡ true) faults → AllByRecursion (λ fault. is_soft_under limit fault ≡ true) faults

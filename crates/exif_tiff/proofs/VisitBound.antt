@@ -15,13 +15,14 @@ use Rattle.exif_base.specs.declared.endian.Order.{Order}
 use Rattle.exif_base.specs.declared.endian.Order.TheVariants.{Big, Little}
 use Rattle.exif_table.specs.declared.context.Context.{Context}
 use Rattle.exif_table.specs.declared.context.Context.TheVariants.{Tiff}
-use Rattle.exif_tiff.specs.Trace.{Node, Visit, Found, Met, Directory, valued_nodes, visits_of, trace, ordered_trace, header, chain_nodes, chain_after, directory_nodes, directory_end, entry_nodes, entry_places, entry_value, whole_entries, tagged_nodes, pointer_nodes, child_end, child_of}
+use Rattle.exif_tiff.specs.Trace.{Node, Visit, Found, Met, Directory, valued_nodes, visits_of, trace, ordered_trace, header, chain_nodes, chain_after, directory_nodes, directory_end, entry_nodes, entry_places, entry_value, whole_entries, tagged_nodes, pointer_nodes, child_end, child_of, Opens}
 use Rattle.exif_tiff.specs.Visits.{AreBytes, entries_at_most, visits_at_most, VisitsAreBounded}
 
 visits-append : (xs ys : List Node) → visits_of (xs ++ ys) ≡ visits_of xs + visits_of ys
 visits-append [] ys = omega arith
+visits-append (Opens directory ∷ xs) ys = visits-append xs ys
 visits-append (Visit ∷ xs) ys = omega (arith, visits-append xs ys)
-visits-append (Found field ∷ xs) ys = visits-append xs ys
+visits-append (Found l ∷ xs) ys = visits-append xs ys
 visits-append (Met fault ∷ xs) ys = visits-append xs ys
 
 length-spaced : (p u n : ℕ) → length (spaced p u n) ≡ n
@@ -51,17 +52,17 @@ module _ (child : Directory) (number : Reading) (bytes : List ℕ) (b : ℕ) (h 
   pointer_visits c (Some q) =
       omega (arith, h c q, visits-append (child c q) (child_end (directory_end number bytes q)), child_end_visits (directory_end number bytes q))
 
-  tagged_visits : (c : Context) (k n : ℕ) (v : Value) (o : Option Context) → visits_of (tagged_nodes child number bytes c k n v o) ≤ b
-  tagged_visits c k n v None = omega arith
-  tagged_visits c k n v (Some d) = pointer_visits d (number_in v 0)
+  tagged_visits : (c : Context) (k p n e : ℕ) (v : Value) (o : Option Context) → visits_of (tagged_nodes child number bytes c k p n e v o) ≤ b
+  tagged_visits c k p n e v None = omega arith
+  tagged_visits c k p n e v (Some d) = pointer_visits d (number_in v 0)
 
-  valued_visits : (c : Context) (k n : ℕ) (o : Option Value) → visits_of (valued_nodes child number bytes c k n o) ≤ b
-  valued_visits c k n None = omega arith
-  valued_visits c k n (Some v) = tagged_visits c k n v (child_of c n)
+  valued_visits : (c : Context) (k p n e : ℕ) (o : Option Value) → visits_of (valued_nodes child number bytes c k p n e o) ≤ b
+  valued_visits c k p n e None = omega arith
+  valued_visits c k p n e (Some v) = tagged_visits c k p n e v (child_of c n)
 
-  entry_visits : (c : Context) (k e : ℕ) → visits_of (entry_nodes child number bytes c k e) ≤ b + 1
-  entry_visits c k e =
-      let v = valued_visits c k (number_at number 2 bytes e) (entry_value number bytes e) in omega arith
+  entry_visits : (c : Context) (k p e : ℕ) → visits_of (entry_nodes child number bytes c k p e) ≤ b + 1
+  entry_visits c k p e =
+      let v = valued_visits c k p (number_at number 2 bytes e) e (entry_value number bytes e) in omega arith
 
 -- entries, and b visits for each
 abbrev level : ℕ → ℕ → ℕ
@@ -79,7 +80,7 @@ directory_visits : (d : ℕ) (number : Reading) (bytes : List ℕ) (k : ℕ) →
 directory_visits zero number bytes k s c p = omega arith
 directory_visits (suc d) number bytes k s c p =
     let b = level (entries_at_most bytes) d in
-    let flat = visits_flat (entry_nodes (directory_nodes d number bytes k) number bytes c k) (b + 1) (entry_visits (directory_nodes d number bytes k) number bytes b (directory_visits d number bytes k s) c k) (entry_places number bytes p) in
+    let flat = visits_flat (entry_nodes (directory_nodes d number bytes k) number bytes c k p) (b + 1) (entry_visits (directory_nodes d number bytes k) number bytes b (directory_visits d number bytes k s) c k p) (entry_places number bytes p) in
     let many = mul-le-mul_right (b + 1) (whole_bound number bytes p s) in
     let short = rw (length-spaced (p + 2) 12 (whole_entries number bytes p)) at flat in
     le_trans short many

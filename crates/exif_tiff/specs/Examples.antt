@@ -2,13 +2,21 @@
 use Rattle.std.specs.Prelude.{true, false, None, Some, take, negsuc, ℕ, ◌≡◌, refl, List, [], ◌∷◌, Ok, Err, codes}
 use Rattle.exif_types.specs.Texts.{texts}
 use Rattle.exif_types.specs.Lookup.{last_named}
-use Rattle.exif_tiff.specs.Trace.{Visit, Found, Met, trace, ordered_trace, header, fields_of, faults_of, visits_of, cut}
+use Rattle.exif_tiff.specs.Trace.{Node, Opens, Visit, Found, Met, trace, ordered_trace, header, fields_of, faults_of, visits_of, cut}
 use Rattle.exif_tiff.specs.Answers.{Refused, Whole, Partial, raw_answer}
 use Rattle.exif_types.specs.declared.value.Value.TheVariants as value
+use Rattle.exif_table.specs.declared.context.Context.{Context}
 use Rattle.exif_table.specs.declared.context.Context.TheVariants.{Tiff, Exif}
 use Rattle.exif_types.specs.declared.field.Field.{Field}
 use Rattle.exif_tiff.specs.declared.fault.Fault.TheVariants.{TruncatedHeader, InvalidByteOrder, InvalidFortyTwo, TruncatedNextOffset, TruncatedDirectory, TruncatedValue, InvalidPointer, TooManyDirectories, UnexpectedNext, TruncatedCount, TooManyEntries}
 use Rattle.exif_base.specs.declared.endian.Order.TheVariants.{Big}
+
+-- a directory that is opened, and a field with its entry and the directory that has it
+abbrev opens : Context → ℕ → Node
+opens c p = Opens (record { place = p; context = c })
+
+abbrev found : Field → ℕ → ℕ → Node
+found field entry directory = Found (record { field = field; entry = entry; directory = directory })
 
 texts_a : texts (65 ∷ []) ≡ (65 ∷ []) ∷ []
 texts_a = refl
@@ -82,7 +90,7 @@ abbrev unknown_type : List ℕ
 unknown_type =
     77 ∷ 77 ∷ 0 ∷ 42 ∷ 0 ∷ 0 ∷ 0 ∷ 8 ∷ 0 ∷ 1 ∷ 1 ∷ 0 ∷ 255 ∷ 255 ∷ 0 ∷ 0 ∷ 0 ∷ 1 ∷ 0 ∷ 20 ∷ 0 ∷ 0 ∷ 0 ∷ 0 ∷ 0 ∷ 0 ∷ []
 
-unknown_type_trace : trace unknown_type ≡ Visit ∷ Found (record { tag = record { 0 = Tiff; 1 = 0x100 }; ifd_num = record { 0 = 0 }; value = value.Unknown 65535 1 18 }) ∷ []
+unknown_type_trace : trace unknown_type ≡ opens Tiff 8 ∷ Visit ∷ found (record { tag = record { 0 = Tiff; 1 = 0x100 }; ifd_num = record { 0 = 0 }; value = value.Unknown 65535 1 18 }) 10 8 ∷ []
 unfolding trace ordered_trace
 unknown_type_trace = refl
 
@@ -93,7 +101,7 @@ shared_child =
 abbrev exif_version : Field
 exif_version = record { tag = record { 0 = Exif; 1 = 0x9000 }; ifd_num = record { 0 = 0 }; value = value.Undefined (48 ∷ 50 ∷ 51 ∷ 49 ∷ []) 0x48 }
 
-shared_child_trace : trace shared_child ≡ Visit ∷ Found (width 0 20) ∷ Visit ∷ Found (width 0 21) ∷ Visit ∷ Visit ∷ Found exif_version ∷ Visit ∷ Visit ∷ Found exif_version ∷ []
+shared_child_trace : trace shared_child ≡ opens Tiff 8 ∷ Visit ∷ found (width 0 20) 10 8 ∷ Visit ∷ found (width 0 21) 22 8 ∷ Visit ∷ opens Exif 62 ∷ Visit ∷ found exif_version 64 62 ∷ Visit ∷ opens Exif 62 ∷ Visit ∷ found exif_version 64 62 ∷ []
 unfolding trace ordered_trace
 shared_child_trace = refl
 
@@ -105,7 +113,7 @@ shared_child_last : last_named (fields_of (trace shared_child)) (record { 0 = Ti
 unfolding trace ordered_trace
 shared_child_last = refl
 
-shared_child_cut : cut 5 (trace shared_child) ≡ Visit ∷ Found (width 0 20) ∷ Visit ∷ Found (width 0 21) ∷ Visit ∷ Visit ∷ Found exif_version ∷ Visit ∷ Met TooManyEntries ∷ []
+shared_child_cut : cut 5 (trace shared_child) ≡ opens Tiff 8 ∷ Visit ∷ found (width 0 20) 10 8 ∷ Visit ∷ found (width 0 21) 22 8 ∷ Visit ∷ opens Exif 62 ∷ Visit ∷ found exif_version 64 62 ∷ Visit ∷ opens Exif 62 ∷ Met TooManyEntries ∷ []
 unfolding trace ordered_trace
 shared_child_cut = refl
 
@@ -119,16 +127,16 @@ described_little = 73 ∷ 73 ∷ 42 ∷ 0 ∷ 8 ∷ 0 ∷ 0 ∷ 0 ∷ 1 ∷ 0 �
 abbrev description : Field
 description = record { tag = record { 0 = Tiff; 1 = 0x10e }; ifd_num = record { 0 = 0 }; value = value.Ascii (codes "Sample" ∷ []) }
 
-described_big_trace : trace described_big ≡ Visit ∷ Found description ∷ []
+described_big_trace : trace described_big ≡ opens Tiff 8 ∷ Visit ∷ found description 10 8 ∷ []
 unfolding trace ordered_trace
 described_big_trace = refl
 
-described_little_trace : trace described_little ≡ Visit ∷ Found description ∷ []
+described_little_trace : trace described_little ≡ opens Tiff 8 ∷ Visit ∷ found description 10 8 ∷ []
 unfolding trace ordered_trace
 described_little_trace = refl
 
 -- the same without its last byte
-cut_value : trace (take 32 described_big) ≡ Visit ∷ Met TruncatedValue ∷ []
+cut_value : trace (take 32 described_big) ≡ opens Tiff 8 ∷ Visit ∷ Met TruncatedValue ∷ []
 unfolding trace ordered_trace
 cut_value = refl
 
@@ -136,17 +144,17 @@ cut_value = refl
 abbrev wrong_pointers_data : List ℕ
 wrong_pointers_data = 77 ∷ 77 ∷ 0 ∷ 42 ∷ 0 ∷ 0 ∷ 0 ∷ 8 ∷ 0 ∷ 2 ∷ 135 ∷ 105 ∷ 0 ∷ 9 ∷ 0 ∷ 0 ∷ 0 ∷ 1 ∷ 0 ∷ 0 ∷ 0 ∷ 26 ∷ 135 ∷ 105 ∷ 0 ∷ 4 ∷ 0 ∷ 0 ∷ 0 ∷ 0 ∷ 0 ∷ 0 ∷ 0 ∷ 26 ∷ 0 ∷ 0 ∷ 0 ∷ 0 ∷ []
 
-wrong_pointers : trace wrong_pointers_data ≡ Visit ∷ Met InvalidPointer ∷ Visit ∷ Met InvalidPointer ∷ []
+wrong_pointers : trace wrong_pointers_data ≡ opens Tiff 8 ∷ Visit ∷ Met InvalidPointer ∷ Visit ∷ Met InvalidPointer ∷ []
 unfolding trace ordered_trace
 wrong_pointers = refl
 
 -- a child with a next place, after its field
-next_of_child : trace (77 ∷ 77 ∷ 0 ∷ 42 ∷ 0 ∷ 0 ∷ 0 ∷ 8 ∷ 0 ∷ 1 ∷ 135 ∷ 105 ∷ 0 ∷ 4 ∷ 0 ∷ 0 ∷ 0 ∷ 1 ∷ 0 ∷ 0 ∷ 0 ∷ 26 ∷ 0 ∷ 0 ∷ 0 ∷ 0 ∷ 0 ∷ 1 ∷ 144 ∷ 0 ∷ 0 ∷ 7 ∷ 0 ∷ 0 ∷ 0 ∷ 4 ∷ 48 ∷ 50 ∷ 51 ∷ 49 ∷ 0 ∷ 0 ∷ 0 ∷ 8 ∷ []) ≡ Visit ∷ Visit ∷ Found (record { tag = record { 0 = Exif; 1 = 0x9000 }; ifd_num = record { 0 = 0 }; value = value.Undefined (codes "0231") 0x24 }) ∷ Met UnexpectedNext ∷ []
+next_of_child : trace (77 ∷ 77 ∷ 0 ∷ 42 ∷ 0 ∷ 0 ∷ 0 ∷ 8 ∷ 0 ∷ 1 ∷ 135 ∷ 105 ∷ 0 ∷ 4 ∷ 0 ∷ 0 ∷ 0 ∷ 1 ∷ 0 ∷ 0 ∷ 0 ∷ 26 ∷ 0 ∷ 0 ∷ 0 ∷ 0 ∷ 0 ∷ 1 ∷ 144 ∷ 0 ∷ 0 ∷ 7 ∷ 0 ∷ 0 ∷ 0 ∷ 4 ∷ 48 ∷ 50 ∷ 51 ∷ 49 ∷ 0 ∷ 0 ∷ 0 ∷ 8 ∷ []) ≡ opens Tiff 8 ∷ Visit ∷ opens Exif 26 ∷ Visit ∷ found (record { tag = record { 0 = Exif; 1 = 0x9000 }; ifd_num = record { 0 = 0 }; value = value.Undefined (codes "0231") 0x24 }) 28 26 ∷ Met UnexpectedNext ∷ []
 unfolding trace ordered_trace
 next_of_child = refl
 
 -- two entries, of which the last lacks a byte
-cut_directory : trace (77 ∷ 77 ∷ 0 ∷ 42 ∷ 0 ∷ 0 ∷ 0 ∷ 8 ∷ 0 ∷ 2 ∷ 1 ∷ 0 ∷ 0 ∷ 3 ∷ 0 ∷ 0 ∷ 0 ∷ 1 ∷ 0 ∷ 20 ∷ 0 ∷ 0 ∷ 1 ∷ 1 ∷ 0 ∷ 3 ∷ 0 ∷ 0 ∷ 0 ∷ 1 ∷ 0 ∷ 21 ∷ 0 ∷ []) ≡ Visit ∷ Found (width 0 20) ∷ Met TruncatedDirectory ∷ []
+cut_directory : trace (77 ∷ 77 ∷ 0 ∷ 42 ∷ 0 ∷ 0 ∷ 0 ∷ 8 ∷ 0 ∷ 2 ∷ 1 ∷ 0 ∷ 0 ∷ 3 ∷ 0 ∷ 0 ∷ 0 ∷ 1 ∷ 0 ∷ 20 ∷ 0 ∷ 0 ∷ 1 ∷ 1 ∷ 0 ∷ 3 ∷ 0 ∷ 0 ∷ 0 ∷ 1 ∷ 0 ∷ 21 ∷ 0 ∷ []) ≡ opens Tiff 8 ∷ Visit ∷ found (width 0 20) 10 8 ∷ Met TruncatedDirectory ∷ []
 unfolding trace ordered_trace
 cut_directory = refl
 
@@ -171,11 +179,11 @@ unfolding raw_answer
 short_strict = refl
 
 -- a directory whose count lacks a byte, and one whose next place lacks one
-cut_count : trace (77 ∷ 77 ∷ 0 ∷ 42 ∷ 0 ∷ 0 ∷ 0 ∷ 8 ∷ 0 ∷ []) ≡ Met TruncatedCount ∷ []
+cut_count : trace (77 ∷ 77 ∷ 0 ∷ 42 ∷ 0 ∷ 0 ∷ 0 ∷ 8 ∷ 0 ∷ []) ≡ opens Tiff 8 ∷ Met TruncatedCount ∷ []
 unfolding trace ordered_trace
 cut_count = refl
 
-cut_next : trace (take 25 circle) ≡ Visit ∷ Found (width 0 20) ∷ Met TruncatedNextOffset ∷ []
+cut_next : trace (take 25 circle) ≡ opens Tiff 8 ∷ Visit ∷ found (width 0 20) 10 8 ∷ Met TruncatedNextOffset ∷ []
 unfolding trace ordered_trace
 cut_next = refl
 

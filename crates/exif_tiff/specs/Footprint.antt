@@ -1,5 +1,5 @@
 -- Where reading looks: the stretches of the data on which what they hold depends.
-use Rattle.std.specs.Prelude.{◌≡◌, ℕ, zero, suc, ◌+◌, ◌*◌, ◌==◌, ◌&&◌, nat_le, nat_lt, Bool, if◌then◌else◌, List, [], ◌∷◌, ◌++◌, All, length, Option, Some, None, Result, Ok, Err}
+use Rattle.std.specs.Prelude.{◌≡◌, ℕ, zero, suc, ◌+◌, ◌*◌, ◌==◌, ◌&&◌, nat_le, nat_lt, Bool, if◌then◌else◌, List, [], ◌∷◌, ◌++◌, All, length, map, Option, Some, None, Result, Ok, Err}
 use Rattle.std.specs.List.{flat_map}
 use Rattle.exif_base.specs.Bytes.{Reading, bytes_at, number_at}
 use Rattle.exif_base.specs.Orders.{number_of}
@@ -10,7 +10,8 @@ use Rattle.exif_table.specs.declared.context.Context.{Context}
 use Rattle.exif_table.specs.declared.context.Context.TheVariants.{Tiff}
 use Rattle.exif_tiff.specs.declared.fault.Fault.{Fault}
 use Rattle.exif_tiff.specs.Answers.{raw_answer}
-use Rattle.exif_tiff.specs.Trace.{child_of, depth_of, directory_end, entry_places, entry_value, header, trace, whole_entries}
+use Rattle.exif_tiff.specs.declared.place.DirectoryPlace.{DirectoryPlace}
+use Rattle.exif_tiff.specs.Trace.{child_of, depth_of, directories_of, directory_end, entry_places, entry_value, header, ordered_trace, trace, whole_entries}
 
 -- so many bytes from a place on
 pub record Stretch : Type 0 where
@@ -116,3 +117,9 @@ abbrev pub FootprintSettlesAnswer : Bool → Option ℕ → List ℕ → List �
 FootprintSettlesAnswer lenient limit a b =
     length a ≡ length b → All (Agree a b) (footprint a)
     → raw_answer lenient limit a ≡ raw_answer lenient limit b
+
+-- the directories that are visited are those that are looked at, in their order
+abbrev pub VisitsWhatIsLookedAt : Reading → List ℕ → Type 0
+VisitsWhatIsLookedAt number bytes =
+    map (λ (d : DirectoryPlace). d.place) (directories_of (ordered_trace number bytes))
+    ≡ chain_directories 8 number bytes (number_at number 4 bytes 4)

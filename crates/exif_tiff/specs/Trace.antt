@@ -13,13 +13,22 @@ use Rattle.exif_table.specs.declared.context.Context.TheVariants.{Tiff, Exif, Gp
 use Rattle.exif_types.specs.declared.field.Field.{Field}
 use Rattle.exif_tiff.specs.declared.fault.Fault.{Fault}
 use Rattle.exif_tiff.specs.declared.fault.Fault.TheVariants.{DataTooLarge, TruncatedHeader, InvalidByteOrder, InvalidFortyTwo, TruncatedCount, TruncatedDirectory, TruncatedNextOffset, TruncatedValue, InvalidPointer, UnexpectedNext, TooManyDirectories, TooManyEntries}
+use Rattle.exif_tiff.specs.declared.place.DirectoryPlace.{DirectoryPlace}
 use Rattle.exif_base.specs.declared.endian.Order.{Order}
 use Rattle.exif_base.specs.declared.endian.Order.TheVariants.{Big, Little}
 
--- what stands in a trace: an entry is visited, a field is found, a fault is met
+-- a field, the place of the 12 bytes of its entry, and that of the directory which has it
+pub record Located : Type 0 where
+  pub field : Field
+  pub entry : ℕ
+  pub directory : ℕ
+
+-- what stands in a trace: a directory is opened, an entry is visited, a field is found, a fault is
+-- met
 pub data Node : Type 0 where
+  Opens : DirectoryPlace → Node
   Visit : Node
-  Found : Field → Node
+  Found : Located → Node
   Met : Fault → Node
 
 -- what the entry at e holds, if its value lies in the data
@@ -72,32 +81,43 @@ abbrev pub pointer_nodes : Directory → Reading → List ℕ → Context → Op
 pointer_nodes child number bytes c None = Met InvalidPointer ∷ []
 pointer_nodes child number bytes c (Some q) = child c q ++ child_end (directory_end number bytes q)
 
--- a tag n with a value: a field, or a pointer where the tag has a child
-abbrev pub tagged_nodes : Directory → Reading → List ℕ → Context → ℕ → ℕ → Value → Option Context
-    → List Node
-tagged_nodes child number bytes c k n v None =
-    Found (record { tag = record { 0 = c; 1 = n }; ifd_num = record { 0 = k }; value = v }) ∷ []
-tagged_nodes child number bytes c k n v (Some d) =
+-- the field of a value v, of tag n in a directory of context c and number k
+abbrev pub field_of : Context → ℕ → ℕ → Value → Field
+field_of c k n v =
+    record { tag = record { 0 = c; 1 = n }; ifd_num = record { 0 = k }; value = v }
+
+-- a tag n with a value, in the entry at e: a field, or a pointer where the tag has a child
+abbrev pub tagged_nodes :
+    Directory → Reading → List ℕ → Context → ℕ → ℕ → ℕ → ℕ → Value → Option Context → List Node
+tagged_nodes child number bytes c k p n e v None =
+    Found (record { field = field_of c k n v; entry = e; directory = p }) ∷ []
+tagged_nodes child number bytes c k p n e v (Some d) =
     pointer_nodes child number bytes d (number_in v 0)
 
 -- a tag n with its value, if that lies in the data
-abbrev pub valued_nodes : Directory → Reading → List ℕ → Context → ℕ → ℕ → Option Value → List Node
-valued_nodes child number bytes c k n None = Met TruncatedValue ∷ []
-valued_nodes child number bytes c k n (Some v) =
-    tagged_nodes child number bytes c k n v (child_of c n)
+abbrev pub valued_nodes :
+    Directory → Reading → List ℕ → Context → ℕ → ℕ → ℕ → ℕ → Option Value → List Node
+valued_nodes child number bytes c k p n e None = Met TruncatedValue ∷ []
+valued_nodes child number bytes c k p n e (Some v) =
+    tagged_nodes child number bytes c k p n e v (child_of c n)
 
--- the entry at e of a directory of context c and number k
-abbrev pub entry_nodes : Directory → Reading → List ℕ → Context → ℕ → ℕ → List Node
-entry_nodes child number bytes c k e =
+-- the entry at e of the directory at p, of context c and number k
+abbrev pub entry_nodes : Directory → Reading → List ℕ → Context → ℕ → ℕ → ℕ → List Node
+entry_nodes child number bytes c k p e =
     Visit
-    ∷ valued_nodes child number bytes c k (number_at number 2 bytes e) (entry_value number bytes e)
+    ∷ valued_nodes child number bytes c k p (number_at number 2 bytes e) e
+    (entry_value number bytes e)
+
+-- a directory is opened, before what its entries hold
+abbrev pub opened : Context → ℕ → List Node → List Node
+opened c p nodes = Opens (record { place = p; context = c }) ∷ nodes
 
 -- the directory at p, with its children down to a depth
 abbrev pub directory_nodes : ℕ → Reading → List ℕ → ℕ → Directory
-directory_nodes zero number bytes k c p = []
+directory_nodes zero number bytes k c p = opened c p []
 directory_nodes (suc depth) number bytes k c p =
-    flat_map (entry_nodes (directory_nodes depth number bytes k) number bytes c k)
-    (entry_places number bytes p)
+    opened c p (flat_map (entry_nodes (directory_nodes depth number bytes k) number bytes c k p)
+    (entry_places number bytes p))
 
 -- how deep directories of a context nest: Tiff, Exif, Interop or Tiff, Gps
 abbrev pub depth_of : Context → ℕ
@@ -148,21 +168,40 @@ trace bytes =
 
 abbrev pub fields_of : List Node → List Field
 fields_of [] = []
+fields_of (Opens directory ∷ nodes) = fields_of nodes
 fields_of (Visit ∷ nodes) = fields_of nodes
-fields_of (Found field ∷ nodes) = field ∷ fields_of nodes
+fields_of (Found l ∷ nodes) = l.field ∷ fields_of nodes
 fields_of (Met fault ∷ nodes) = fields_of nodes
 
 abbrev pub faults_of : List Node → List Fault
 faults_of [] = []
+faults_of (Opens directory ∷ nodes) = faults_of nodes
 faults_of (Visit ∷ nodes) = faults_of nodes
-faults_of (Found field ∷ nodes) = faults_of nodes
+faults_of (Found l ∷ nodes) = faults_of nodes
 faults_of (Met fault ∷ nodes) = fault ∷ faults_of nodes
 
 abbrev pub visits_of : List Node → ℕ
 visits_of [] = 0
+visits_of (Opens directory ∷ nodes) = visits_of nodes
 visits_of (Visit ∷ nodes) = visits_of nodes + 1
-visits_of (Found field ∷ nodes) = visits_of nodes
+visits_of (Found l ∷ nodes) = visits_of nodes
 visits_of (Met fault ∷ nodes) = visits_of nodes
+
+-- the fields, each with its places
+abbrev pub located_of : List Node → List Located
+located_of [] = []
+located_of (Opens directory ∷ nodes) = located_of nodes
+located_of (Visit ∷ nodes) = located_of nodes
+located_of (Found l ∷ nodes) = l ∷ located_of nodes
+located_of (Met fault ∷ nodes) = located_of nodes
+
+-- the directories, those of the chain and their children
+abbrev pub directories_of : List Node → List DirectoryPlace
+directories_of [] = []
+directories_of (Opens directory ∷ nodes) = directory ∷ directories_of nodes
+directories_of (Visit ∷ nodes) = directories_of nodes
+directories_of (Found l ∷ nodes) = directories_of nodes
+directories_of (Met fault ∷ nodes) = directories_of nodes
 
 -- what was read: the fields and the faults, in order
 pub record Content : Type 0 where
@@ -179,9 +218,10 @@ strict_answer content = elim content.faults [ [] ↦ Ok content.fields | fault �
 -- the trace up to the entry after the first n, and the fault that ends it there
 abbrev pub cut : ℕ → List Node → List Node
 cut n [] = []
+cut n (Opens directory ∷ nodes) = Opens directory ∷ cut n nodes
 cut zero (Visit ∷ nodes) = Met TooManyEntries ∷ []
 cut (suc n) (Visit ∷ nodes) = Visit ∷ cut n nodes
-cut n (Found field ∷ nodes) = Found field ∷ cut n nodes
+cut n (Found l ∷ nodes) = Found l ∷ cut n nodes
 cut n (Met fault ∷ nodes) = Met fault ∷ cut n nodes
 
 -- the trace under a limit on the entries, if there is one

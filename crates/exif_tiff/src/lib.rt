@@ -3,5 +3,7 @@
 
 pub mod fault;
 pub mod laws;
+pub mod place;
 
 pub use fault::Fault;
+pub use place::{DirectoryPlace, EntryPlace};

@@ -1,0 +1,17 @@
+//! Where directories and their entries stand in TIFF data.
+
+use exif_types::Context;
+
+/// Where a directory stands, and its kind.
+#[derive(Clone, Copy, Debug)]
+pub struct DirectoryPlace {
+    pub place: u32,
+    pub context: Context,
+}
+
+/// Where the entry of a field stands, and the directory that has it.
+#[derive(Clone, Copy, Debug)]
+pub struct EntryPlace {
+    pub entry: u32,
+    pub directory: u32,
+}
