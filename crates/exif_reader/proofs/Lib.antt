@@ -2,6 +2,7 @@ pub mod LawsFiles
 pub mod ParserFollows
 pub mod ParserRuns
 pub mod ParserTurns
+pub mod PlacesTold
 pub mod ReaderBounds
 pub mod ReaderOwnData
 pub mod TiffAnswers

@@ -2,7 +2,7 @@
 use Rattle.std.proofs.Common.{◌≡◌, ◌<◌, ◌+◌, ◌-◌, ℕ, suc, List, [], ◌∷◌, ◌++◌, Option, Some, None, refl, sym, ap, ◌∙◌, arith}
 use Rattle.std.specs.List.{flat_map}
 use Rattle.exif_base.specs.Bytes.{spaced, Reading}
-use Rattle.exif_tiff.specs.Trace.{Node, depth_of, directory_nodes, entry_nodes, entry_places}
+use Rattle.exif_tiff.specs.Trace.{Node, opened, depth_of, directory_nodes, entry_nodes, entry_places}
 use Rattle.exif_reader.specs.Running.{Progress, and_then, on_node, run}
 use Rattle.exif_tiff.specs.declared.fault.Fault.{Fault}
 use Rattle.exif_table.specs.declared.context.Context.{Context}
@@ -44,8 +44,8 @@ depth_pos Exif = omega arith
 depth_pos Gps = omega arith
 depth_pos Interop = omega arith
 
--- a directory's nodes are those of its entries
-pub directory_unfold : (number : Reading) (bytes : List ℕ) (k : ℕ) (c : Context) (p : ℕ) → flat_map (entry_nodes (directory_nodes (depth_of c - 1) number bytes k) number bytes c k) (entry_places number bytes p) ≡ directory_nodes (depth_of c) number bytes k c p
+-- a directory is opened, and then its nodes are those of its entries
+pub directory_unfold : (number : Reading) (bytes : List ℕ) (k : ℕ) (c : Context) (p : ℕ) → opened c p (flat_map (entry_nodes (directory_nodes (depth_of c - 1) number bytes k) number bytes c k p) (entry_places number bytes p)) ≡ directory_nodes (depth_of c) number bytes k c p
 directory_unfold number bytes k Tiff p = refl
 directory_unfold number bytes k Exif p = refl
 directory_unfold number bytes k Gps p = refl

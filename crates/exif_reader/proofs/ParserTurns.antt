@@ -1,16 +1,17 @@
 -- A parser's turns are the visits of the trace that it walked.
 use Rattle.std.proofs.Common.{◌≡◌, ◌+◌, ◌∙◌, ℕ, zero, suc, Bool, true, false, List, [], ◌∷◌, ◌++◌, Option, Some, None, Result, Ok, Err, refl, ap, subst, arith}
 use Rattle.std.proofs.lemmas.List.{append-nil}
-use Rattle.exif_tiff.specs.Trace.{Node, Visit, Found, Met, visits_of}
+use Rattle.exif_tiff.specs.Trace.{Node, Opens, Visit, Found, Met, entry_of, visits_of}
 use Rattle.exif_tiff.specs.declared.fault.Fault.{Fault}
 use Rattle.exif_types.specs.declared.field.Field.{Field}
+use Rattle.exif_reader.specs.Noted.{Noted, directory_noted, entry_noted}
 use Rattle.exif_reader.specs.Running.{Progress, run}
 use Rattle.exif_reader.specs.Stops.{Follows, CountsTurns}
 use Rattle.exif_reader.specs.declared.stop.Stop.{Stop}
 use Rattle.exif_reader.specs.declared.stop.Stop.TheVariants as stop
 
-abbrev at_work : Bool → ℕ → List Field → List Fault → Progress
-at_work lenient left fields faults = record { lenient = lenient; left = left; fields = fields; faults = faults }
+abbrev at_work : Bool → ℕ → List Field → List Fault → Noted → Progress
+at_work lenient left fields faults places = record { lenient = lenient; left = left; fields = fields; faults = faults; places = places }
 
 -- what was walked of a trace when a run ended or stopped
 record Walked (nodes : List Node) (left : ℕ) (x : Progress × Option Fault) : Type 0 where
@@ -28,19 +29,23 @@ one_more node nodes left more x k w = record { walked = node ∷ w.walked; rest 
 none_walked : (nodes : List Node) (p : Progress) (fault : Fault) → Walked nodes p.left (p, Some fault)
 none_walked nodes p fault = record { walked = []; rest = nodes; front = refl; turns = omega arith; whole = λ e. cc }
 
-walked_run : (nodes : List Node) (lenient : Bool) (left : ℕ) (fields : List Field) (faults : List Fault) → Walked nodes left (run nodes (at_work lenient left fields faults))
-walked_run [] lenient left fields faults = record { walked = []; rest = []; front = refl; turns = omega arith; whole = λ e. refl }
-walked_run (Visit ∷ nodes) lenient zero fields faults = none_walked (Visit ∷ nodes) (at_work lenient zero fields faults) _
-walked_run (Visit ∷ nodes) lenient (suc n) fields faults =
-    one_more Visit nodes n (suc n) (run nodes (at_work lenient n fields faults)) (λ walked e. omega arith) (walked_run nodes lenient n fields faults)
-walked_run (Found field ∷ nodes) lenient left fields faults =
-    one_more (Found field) nodes left left (run nodes (at_work lenient left (fields ++ field ∷ []) faults)) (λ walked e. e) (walked_run nodes lenient left (fields ++ field ∷ []) faults)
-walked_run (Met fault ∷ nodes) true left fields faults =
-    one_more (Met fault) nodes left left (run nodes (at_work true left fields (faults ++ fault ∷ []))) (λ walked e. e) (walked_run nodes true left fields (faults ++ fault ∷ []))
-walked_run (Met fault ∷ nodes) false left fields faults = none_walked (Met fault ∷ nodes) (at_work false left fields faults) fault
+walked_run : (nodes : List Node) (lenient : Bool) (left : ℕ) (fields : List Field) (faults : List Fault) (places : Noted) → Walked nodes left (run nodes (at_work lenient left fields faults places))
+walked_run [] lenient left fields faults places = record { walked = []; rest = []; front = refl; turns = omega arith; whole = λ e. refl }
+walked_run (Opens directory ∷ nodes) lenient left fields faults places =
+    let more = directory_noted places directory in
+    one_more (Opens directory) nodes left left (run nodes (at_work lenient left fields faults more)) (λ walked e. e) (walked_run nodes lenient left fields faults more)
+walked_run (Visit ∷ nodes) lenient zero fields faults places = none_walked (Visit ∷ nodes) (at_work lenient zero fields faults places) _
+walked_run (Visit ∷ nodes) lenient (suc n) fields faults places =
+    one_more Visit nodes n (suc n) (run nodes (at_work lenient n fields faults places)) (λ walked e. omega arith) (walked_run nodes lenient n fields faults places)
+walked_run (Found l ∷ nodes) lenient left fields faults places =
+    let more = entry_noted places (entry_of l) in
+    one_more (Found l) nodes left left (run nodes (at_work lenient left (fields ++ l.field ∷ []) faults more)) (λ walked e. e) (walked_run nodes lenient left (fields ++ l.field ∷ []) faults more)
+walked_run (Met fault ∷ nodes) true left fields faults places =
+    one_more (Met fault) nodes left left (run nodes (at_work true left fields (faults ++ fault ∷ []) places)) (λ walked e. e) (walked_run nodes true left fields (faults ++ fault ∷ []) places)
+walked_run (Met fault ∷ nodes) false left fields faults places = none_walked (Met fault ∷ nodes) (at_work false left fields faults places) fault
 
 walked_at : (nodes : List Node) (old : Progress) (x : Progress × Option Fault) → run nodes old ≡ x → Walked nodes old.left x
-walked_at nodes old x e = subst (λ y. Walked nodes old.left y) e (walked_run nodes old.lenient old.left old.fields old.faults)
+walked_at nodes old x e = subst (λ y. Walked nodes old.left y) e (walked_run nodes old.lenient old.left old.fields old.faults old.places)
 
 all_walked : (nodes : List Node) (left : ℕ) (new : Progress) → Walked nodes left (new, None) → new.left + visits_of nodes ≡ left
 all_walked nodes left new w = ap (λ ns. new.left + visits_of ns) (w.front ∙ (ap (λ rest. w.walked ++ rest) (w.whole refl) ∙ append-nil w.walked)) ∙ w.turns

@@ -4,19 +4,25 @@ use Rattle.exif_base.specs.Orders.{number_of}
 use Rattle.exif_base.specs.Bytes.{Reading, number_at}
 use Rattle.exif_base.specs.declared.endian.Order.{Order}
 use Rattle.exif_tiff.specs.declared.fault.Fault.{Fault}
-use Rattle.exif_tiff.specs.Trace.{content_of, limited, cut, header, ordered_trace, chain_nodes}
+use Rattle.exif_tiff.specs.Trace.{content_of, limited, cut, header, ordered_trace, trace, chain_nodes}
 use Rattle.exif_tiff.specs.Answers.{Answer, Refused, answer_of, raw_answer}
+use Rattle.exif_reader.specs.Noted.{Noted}
 use Rattle.exif_reader.specs.Running.{Progress, on_met, run, outcome}
 use Rattle.exif_reader.specs.Results.{Says}
 use Rattle.exif_reader.specs.Stops.{Follows}
 use Rattle.exif_reader.specs.declared.stop.Stop.{Stop}
 use Rattle.exif_reader.specs.declared.stop.Stop.TheVariants as stop
-use Rattle.exif_reader.proofs.TiffOutcomes.{outcome_run, met_refused}
+use Rattle.exif_reader.proofs.TiffOutcomes.{at_work, outcome_run, met_refused}
 
 -- a header that is right leads to the directories
 pub raw_right : (lenient : Bool) (limit : Option ℕ) (bytes : List ℕ) (order : Order) → header bytes ≡ Ok order → raw_answer lenient limit bytes ≡ answer_of lenient (content_of (limited limit (ordered_trace (number_of order) bytes)))
 unfolding raw_answer
 raw_right lenient limit bytes order e = rw (e, raw_answer) refl
+
+-- so of what stands in the data
+pub trace_right : (bytes : List ℕ) (order : Order) → header bytes ≡ Ok order → trace bytes ≡ ordered_trace (number_of order) bytes
+unfolding trace
+trace_right bytes order e = rw (e, trace) refl
 
 -- a wrong one is refused
 pub raw_wrong : (lenient : Bool) (limit : Option ℕ) (bytes : List ℕ) (fault : Fault) → header bytes ≡ Err fault → raw_answer lenient limit bytes ≡ Refused fault
@@ -24,10 +30,10 @@ unfolding raw_answer
 raw_wrong lenient limit bytes fault e = rw (e, raw_answer) refl
 
 -- what running the chain comes to is the answer
-pub answered : (number : Reading) (bytes : List ℕ) (lenient : Bool) (most : ℕ) (start : Progress) (x : Progress × Option Fault) → start ≡ record { lenient = lenient; left = most; fields = []; faults = [] } → run (chain_nodes 8 number bytes 0 (number_at number 4 bytes 4)) start ≡ x → answer_of lenient (content_of (cut most (ordered_trace number bytes))) ≡ outcome x
+pub answered : (number : Reading) (bytes : List ℕ) (lenient : Bool) (most : ℕ) (places : Noted) (start : Progress) (x : Progress × Option Fault) → start ≡ at_work lenient most [] [] places → run (chain_nodes 8 number bytes 0 (number_at number 4 bytes 4)) start ≡ x → answer_of lenient (content_of (cut most (ordered_trace number bytes))) ≡ outcome x
 unfolding ordered_trace
-answered number bytes lenient most start x s e =
-    sym (outcome_run (chain_nodes 8 number bytes 0 (number_at number 4 bytes 4)) lenient most)
+answered number bytes lenient most places start x s e =
+    sym (outcome_run (chain_nodes 8 number bytes 0 (number_at number 4 bytes 4)) lenient most places)
     ∙ (ap (λ (p : Progress). outcome (run (chain_nodes 8 number bytes 0 (number_at number 4 bytes 4)) p)) (sym s) ∙ ap (λ (y : Progress × Option Fault). outcome y) e)
 
 -- where noting a fault stops, it is a refusal

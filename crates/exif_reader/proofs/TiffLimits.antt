@@ -14,11 +14,17 @@ few_visits n h =
     let d : n * n * n ≤ 4294836225 * n = mul-le-mul_right n b in
     omega arith
 
+-- the greatest limit lets all entries of data be visited
+pub all_fit : (bytes : List ℕ) → visits_of (trace bytes) ≤ visits_at_most bytes
+    → visits_of (trace bytes) ≤ 18446744073709551615
+all_fit bytes v =
+    let few : entries_at_most bytes ≤ 65535 = omega arith in
+    omega (arith, few_visits (entries_at_most bytes) few)
+
 -- reading up to the greatest limit is reading without one
 pub unlimited : (lenient : Bool) (limit : Option ℕ) (bytes : List ℕ) (most : ℕ) → most ≡ unwrap_or limit 18446744073709551615
     → visits_of (trace bytes) ≤ visits_at_most bytes → ((n : ℕ) → AnswersWithin n bytes) → raw_answer lenient limit bytes ≡ raw_answer lenient (Some most) bytes
 unlimited lenient (Some n) bytes most e v same = ap (λ k. raw_answer lenient (Some k) bytes) (sym e)
 unlimited lenient None bytes most e v same =
-    let few : entries_at_most bytes ≤ 65535 = omega arith in
-    let fits : visits_of (trace bytes) ≤ most = omega (arith, few_visits (entries_at_most bytes) few) in
+    let fits : visits_of (trace bytes) ≤ most = omega (arith, all_fit bytes v) in
     sym (same most lenient fits)

@@ -1,5 +1,6 @@
 pub mod Bounds
 pub mod Files
+pub mod Noted
 pub mod Readings
 pub mod Results
 pub mod Running

@@ -6,6 +6,7 @@ use Rattle.exif_tiff.specs.Answers.{Answer, Refused, shown}
 use Rattle.exif_reader.specs.declared.stop.Stop.{Stop}
 use Rattle.exif_reader.specs.declared.stop.Stop.TheVariants as stop
 use Rattle.exif_reader.specs.declared.tiff.Parsed.{Parsed}
+use Rattle.exif_reader.specs.declared.tiff.Placed.{Placed}
 
 -- the parsed data or a fault say the answer; out of memory says nothing
 abbrev pub Says : Result Parsed Stop → Answer → Type 0
@@ -17,6 +18,11 @@ Says (Err stop.OutOfMemory) answer = Unit {0}
 abbrev pub AsksMemory : Result Parsed Stop → List ℕ → Type 0
 AsksMemory (Err stop.OutOfMemory) bytes = IsOk (header bytes)
 AsksMemory _ bytes = Unit {0}
+
+-- what was read, without its places
+abbrev pub parsed_of : Result Placed Stop → Result Parsed Stop
+parsed_of (Ok placed) = Ok placed.parsed
+parsed_of (Err stop) = Err stop
 
 -- the order of the data
 abbrev pub SaysOrder : Result Parsed Stop → List ℕ → Type 0

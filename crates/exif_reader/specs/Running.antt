@@ -1,26 +1,34 @@
 -- What a parser that reads a trace from first to last has when it ends or stops.
 use Rattle.std.specs.Prelude.{ℕ, zero, suc, Bool, true, false, List, [], ◌∷◌, ◌++◌, Option, Some, None}
-use Rattle.exif_tiff.specs.Trace.{Node, Visit, Found, Met}
+use Rattle.exif_tiff.specs.Trace.{Located, Node, Opens, Visit, Found, Met, entry_of}
 use Rattle.exif_tiff.specs.Answers.{Answer, Refused, shown}
 use Rattle.exif_types.specs.declared.field.Field.{Field}
 use Rattle.exif_tiff.specs.declared.fault.Fault.{Fault}
+use Rattle.exif_tiff.specs.declared.place.DirectoryPlace.{DirectoryPlace}
+use Rattle.exif_reader.specs.Noted.{Noted, directory_noted, entry_noted}
 use Rattle.exif_tiff.specs.declared.fault.Fault.TheVariants.{TooManyEntries}
 
--- a parser: whether faults are noted and passed over, how many entries it may still visit, and what
--- it has read; each visit takes one of the entries that are left, so what is gone of them counts the
--- parser's turns
+-- a parser: whether faults are noted and passed over, how many entries it may still visit, what it
+-- has read, and where that stands; each visit takes one of the entries that are left, so what is
+-- gone of them counts the parser's turns
 pub record Progress : Type 0 where
   pub lenient : Bool
   pub left : ℕ
   pub fields : List Field
   pub faults : List Fault
+  pub places : Noted
 
 -- one node, and the fault at which the parser stops there
+abbrev pub on_opens : Progress → DirectoryPlace → Progress × Option Fault
+on_opens p directory = (record p { places = directory_noted p.places directory }, None)
+
 abbrev pub on_visit : Progress → Progress × Option Fault
 on_visit p = elim p.left [ zero ↦ (p, Some TooManyEntries) | suc n ↦ (record p { left = n }, None) ]
 
-abbrev pub on_found : Progress → Field → Progress × Option Fault
-on_found p field = (record p { fields = p.fields ++ field ∷ [] }, None)
+abbrev pub on_found : Progress → Located → Progress × Option Fault
+on_found p l =
+    let places = entry_noted p.places (entry_of l) in
+    (record p { fields = p.fields ++ l.field ∷ []; places = places }, None)
 
 abbrev pub on_met : Progress → Fault → Progress × Option Fault
 on_met p fault =
@@ -30,8 +38,9 @@ on_met p fault =
     ]
 
 abbrev pub on_node : Progress → Node → Progress × Option Fault
+on_node p (Opens directory) = on_opens p directory
 on_node p Visit = on_visit p
-on_node p (Found field) = on_found p field
+on_node p (Found l) = on_found p l
 on_node p (Met fault) = on_met p fault
 
 -- go on, unless the parser has stopped

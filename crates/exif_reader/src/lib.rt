@@ -6,6 +6,7 @@ mod bytes;
 pub mod directory;
 pub mod laws;
 mod parser;
+pub mod places;
 mod reader;
 pub mod stop;
 pub mod tiff;

@@ -2,24 +2,27 @@
 
 ghost use Rattle.std.specs.Prelude.{◌≡◌, ◌≤◌, ◌<◌, ◌+◌, ◌^◌, ◌-◌, length, [], OnOk};
 ghost use Rattle.exif_tiff.specs.Trace.{directory_nodes, entry_nodes, pointer_nodes, chain_nodes, depth_of};
-ghost use Rattle.exif_reader.specs.Running.{run, on_visit, on_found, on_met};
+ghost use Rattle.exif_reader.specs.Running.{run, on_opens, on_visit, on_found, on_met};
 ghost use Rattle.exif_reader.specs.Stops.{Follows, CountsTurns};
 
 use crate::directory::{child_of, directory_end, entry_value, whole_entries};
+use crate::places::Places;
 use crate::stop::Stop;
 use exif_base::Endian;
-use exif_tiff::Fault;
+use exif_tiff::{DirectoryPlace, EntryPlace, Fault};
 use exif_types::{Context, Field, In, Tag};
 use std::alloc::{AllocError, Global};
 use std::marker::Model;
 
-/// A parser of directories, with what it has read, and how many entries it may still visit.
+/// A parser of directories, with what it has read and where that stands, and how many entries it
+/// may still visit.
 #[derive(Drop)]
 pub struct Parser {
     lenient: bool,
     left: u64,
     fields: Vec<Field>,
     faults: Vec<Fault>,
+    places: Places,
 }
 
 impl Model for Parser {
@@ -32,34 +35,39 @@ impl Model for Parser {
       left = p.left;
       fields = p.fields.items;
       faults = p.faults.items;
+      places = p.places;
     } };
 }
 
 impl Parser {
     /// A parser that has read nothing.
-    pub fn new(alloc: Global, lenient: bool, left: u64) -> Parser
-        ensures { result ≡ record { lenient = lenient; left = left; fields = []; faults = [] } }
+    pub fn new(alloc: Global, lenient: bool, left: u64, places: Places) -> Parser
+        ensures { result ≡ record
+            { lenient = lenient; left = left; fields = []; faults = []; places = places } }
     {
         Parser {
             lenient,
             left,
             fields: Vec::new(alloc),
             faults: Vec::new(alloc),
+            places,
         }
     }
 
-    /// The fields and the faults, in their order.
-    pub fn into_parts(self) -> (Vec<Field>, Vec<Fault>)
+    /// The fields and the faults, in their order, and the places.
+    pub fn into_parts(self) -> (Vec<Field>, Vec<Fault>, Places)
         ensures fields { result.0.items ≡ self.fields }
         ensures faults { result.1.items ≡ self.faults }
+        ensures places { result.2 ≡ self.places }
     {
         let Parser {
             lenient: _,
             left: _,
             fields,
             faults,
+            places,
         } = self;
-        (fields, faults)
+        (fields, faults, places)
     }
 
     // Counts an entry.
@@ -83,10 +91,20 @@ impl Parser {
         self.fields.reserve(visited.next_power_of_two() as usize)
     }
 
-    // Keeps a field.
-    fn found(&mut self, field: Field) -> Result<(), Stop>
-        ensures { Follows result self.new (on_found self.old field) }
+    // Notes a directory, where that is asked for.
+    fn opens(&mut self, directory: DirectoryPlace) -> Result<(), Stop>
+        ensures { Follows result self.new (on_opens self.old directory) }
     {
+        self.places.directory(directory)?;
+        Ok(())
+    }
+
+    // Keeps a field, with the place of its entry where that is asked for.
+    fn found(&mut self, field: Field, place: EntryPlace) -> Result<(), Stop>
+        ensures { Follows result self.new (on_found self.old
+            (record { field = field; entry = place.entry; directory = place.directory })) }
+    {
+        self.places.entry(place)?;
         self.fields.push(field)?;
         Ok(())
     }
@@ -164,17 +182,18 @@ impl Parser {
             (run (directory_nodes (depth_of context) E.number_of bytes.now ifd_num.0 context place)
             self.old) }
     {
+        self.opens(DirectoryPlace { place, context })?;
         let entries = whole_entries::<E>(bytes, place);
         self.make_room(entries)?;
         let mut at = place as usize + 2;
         for _ in 0..entries {
-            self.entry::<E>(alloc, bytes, context, ifd_num, at)?;
+            self.entry::<E>(alloc, bytes, context, ifd_num, place, at)?;
             at += 12;
         }
         Ok(())
     }
 
-    // Reads the entry at a place.
+    // Reads the entry at a place, of the directory at another.
     #[cycle(nodes)]
     fn entry<E: Endian>(
         &mut self,
@@ -182,6 +201,7 @@ impl Parser {
         bytes: &[u8],
         context: Context,
         ifd_num: In,
+        directory: u32,
         at: usize,
     ) -> Result<(), Stop>
         requires small { length bytes.now < 2 ^ 32 }
@@ -189,7 +209,7 @@ impl Parser {
         ensures { Follows result self.new
             (run (entry_nodes
             (directory_nodes (depth_of context - 1) E.number_of bytes.now ifd_num.0)
-            E.number_of bytes.now context ifd_num.0 at) self.old) }
+            E.number_of bytes.now context ifd_num.0 directory at) self.old) }
     {
         self.visit()?;
         let Some(value) = entry_value::<E>(alloc, bytes, at)? else {
@@ -198,11 +218,17 @@ impl Parser {
         let number = E::loadu16(bytes, at);
         match child_of(context, number) {
             Some(child) => self.pointer::<E>(alloc, bytes, child, ifd_num, value.get_uint(0)),
-            None => self.found(Field {
-                tag: Tag(context, number),
-                ifd_num,
-                value,
-            }),
+            None => self.found(
+                Field {
+                    tag: Tag(context, number),
+                    ifd_num,
+                    value,
+                },
+                EntryPlace {
+                    entry: at as u32,
+                    directory,
+                },
+            ),
         }
     }
 

@@ -1,14 +1,16 @@
 //! TIFF data: the header, and the fields behind it (TIFF 6.0, section 2).
 
-ghost use Rattle.std.specs.Prelude.{◌≡◌, ◌≤◌, ◌<◌, ◌^◌, length, IfOk, OnOk, None, Some, false};
-ghost use Rattle.exif_tiff.specs.Trace.{header, content_of, cut, ordered_trace};
+ghost use Rattle.std.specs.Prelude.{◌≡◌, ◌≤◌, ◌<◌, ◌^◌, length, IfOk, OnOk, None, Some, false, true};
+ghost use Rattle.exif_tiff.specs.Trace.{header, content_of, cut, ordered_trace, trace};
 ghost use Rattle.exif_tiff.specs.Answers.{answer_of, raw_answer};
 ghost use Rattle.exif_reader.specs.Bounds.{FieldsAtMost};
+ghost use Rattle.exif_reader.specs.Noted.{TellsPlaces};
 ghost use Rattle.exif_reader.specs.Readings.{ParsesAs};
-ghost use Rattle.exif_reader.specs.Results.{Says, AsksMemory, SaysOrder};
+ghost use Rattle.exif_reader.specs.Results.{Says, AsksMemory, SaysOrder, parsed_of};
 
 use crate::bytes::show_bytes;
 use crate::parser::Parser;
+use crate::places::Places;
 use crate::stop::Stop;
 use exif_base::{BigEndian, Endian, LittleEndian, Order};
 use exif_tiff::Fault;
@@ -22,6 +24,13 @@ pub struct Parsed {
     pub fields: Vec<Field>,
     pub faults: Vec<Fault>,
     pub little_endian: bool,
+}
+
+/// What was read of TIFF data, and where it stands.
+#[derive(Drop)]
+pub struct Placed {
+    pub parsed: Parsed,
+    pub places: Places,
 }
 
 /// The order of the data, or what is wrong with their header.
@@ -47,43 +56,56 @@ pub fn header(bytes: &[u8]) -> Result<Order, Fault>
     Ok(order)
 }
 
-// Reads data whose header is right, up to a limit on the visited entries.
+// Reads data whose header is right, up to a limit on the visited entries, and with the places
+// where they are asked for.
 fn parse_in<E: Endian>(
     alloc: Global,
     bytes: &[u8],
     lenient: bool,
     most: u64,
+    asked: bool,
     little_endian: bool,
-) -> Result<Parsed, Stop>
+) -> Result<Placed, Stop>
     requires header { 8 ≤ length bytes.now }
     requires small { length bytes.now < 2 ^ 32 }
-    ensures says { Says result
+    ensures says { Says (parsed_of result)
         (answer_of lenient (content_of (cut most (ordered_trace E.number_of bytes.now)))) }
-    ensures order { IfOk result (λ parsed. parsed.little_endian ≡ little_endian) }
+    ensures order { IfOk result (λ placed. placed.parsed.little_endian ≡ little_endian) }
+    ensures places { lenient ≡ true → asked ≡ true → IfOk result
+        (λ placed. TellsPlaces (cut most (ordered_trace E.number_of bytes.now)) placed.places) }
 {
-    let mut parser = Parser::new(alloc, lenient, most);
+    let mut parser = Parser::new(alloc, lenient, most, Places::new(alloc, asked));
     match parser.chain::<E>(alloc, bytes, 8, E::loadu32(bytes, 4)) {
         Ok(()) => {}
         Err(Stop::Fault(fault)) => parser.met(fault)?,
         Err(Stop::OutOfMemory) => return Err(Stop::OutOfMemory),
     }
-    let (fields, faults) = parser.into_parts();
-    Ok(Parsed {
+    let (fields, faults, places) = parser.into_parts();
+    let parsed = Parsed {
         fields,
         faults,
         little_endian,
-    })
+    };
+    Ok(Placed { parsed, places })
 }
 
-// Reads TIFF data, up to so many visited entries.
-fn parse_within(alloc: Global, bytes: &[u8], lenient: bool, most: u64) -> Result<Parsed, Stop>
-    ensures says { Says result (raw_answer lenient (Some most) bytes.now) }
-    ensures order { SaysOrder result bytes.now }
-    ensures memory { AsksMemory result bytes.now }
+// Reads TIFF data, up to so many visited entries, and with the places where they are asked for.
+fn parse_within(
+    alloc: Global,
+    bytes: &[u8],
+    lenient: bool,
+    most: u64,
+    asked: bool,
+) -> Result<Placed, Stop>
+    ensures says { Says (parsed_of result) (raw_answer lenient (Some most) bytes.now) }
+    ensures order { SaysOrder (parsed_of result) bytes.now }
+    ensures memory { AsksMemory (parsed_of result) bytes.now }
+    ensures places { lenient ≡ true → asked ≡ true → IfOk result
+        (λ placed. TellsPlaces (cut most (trace bytes.now)) placed.places) }
 {
     match header(bytes) {
-        Ok(Order::Big) => parse_in::<BigEndian>(alloc, bytes, lenient, most, false),
-        Ok(Order::Little) => parse_in::<LittleEndian>(alloc, bytes, lenient, most, true),
+        Ok(Order::Big) => parse_in::<BigEndian>(alloc, bytes, lenient, most, asked, false),
+        Ok(Order::Little) => parse_in::<LittleEndian>(alloc, bytes, lenient, most, asked, true),
         Err(fault) => Err(Stop::Fault(fault)),
     }
 }
@@ -98,7 +120,21 @@ pub fn parse(alloc: Global, bytes: &[u8], lenient: bool, limit: Option<u64>) -> 
     show_bytes(bytes);
     reading_is_bounded();
     limits_cut_readings();
-    parse_within(alloc, bytes, lenient, limit.unwrap_or(u64::MAX))
+    let placed = parse_within(alloc, bytes, lenient, limit.unwrap_or(u64::MAX), false)?;
+    Ok(placed.parsed)
+}
+
+/// Reads TIFF data leniently and without a limit, with the places of what it reads.
+pub fn parse_located(alloc: Global, bytes: &[u8]) -> Result<Placed, Stop>
+    ensures says { Says (parsed_of result) (raw_answer true None bytes.now) }
+    ensures order { SaysOrder (parsed_of result) bytes.now }
+    ensures memory { AsksMemory (parsed_of result) bytes.now }
+    ensures places { IfOk result (λ placed. TellsPlaces (trace bytes.now) placed.places) }
+{
+    show_bytes(bytes);
+    reading_is_bounded();
+    limits_cut_readings();
+    parse_within(alloc, bytes, true, u64::MAX, true)
 }
 
 /// Reads TIFF data strictly: the fields, and whether the data are little endian. The first fault

@@ -14,6 +14,7 @@ use Rattle.exif_types.specs.declared.field.Field.{Field}
 use Rattle.exif_tiff.specs.declared.fault.Fault.{Fault}
 use Rattle.exif_tiff.specs.declared.fault.Fault.TheVariants.{DataTooLarge, TruncatedHeader, InvalidByteOrder, InvalidFortyTwo, TruncatedCount, TruncatedDirectory, TruncatedNextOffset, TruncatedValue, InvalidPointer, UnexpectedNext, TooManyDirectories, TooManyEntries}
 use Rattle.exif_tiff.specs.declared.place.DirectoryPlace.{DirectoryPlace}
+use Rattle.exif_tiff.specs.declared.place.EntryPlace.{EntryPlace}
 use Rattle.exif_base.specs.declared.endian.Order.{Order}
 use Rattle.exif_base.specs.declared.endian.Order.TheVariants.{Big, Little}
 
@@ -22,6 +23,10 @@ pub record Located : Type 0 where
   pub field : Field
   pub entry : ℕ
   pub directory : ℕ
+
+-- its places alone
+abbrev pub entry_of : Located → EntryPlace
+entry_of l = record { entry = l.entry; directory = l.directory }
 
 -- what stands in a trace: a directory is opened, an entry is visited, a field is found, a fault is
 -- met

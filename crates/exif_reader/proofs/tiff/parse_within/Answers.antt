@@ -1,5 +1,5 @@
 use Rattle.std.proofs.Common.{Some, sym, ◌∙◌}
-use Rattle.exif_reader.proofs.TiffAnswers.{raw_right, raw_wrong}
+use Rattle.exif_reader.proofs.TiffAnswers.{raw_right, raw_wrong, trace_right}
 use Rattle.exif_reader.proofs.tiff.parse_within.Goals as goal
 
 pub returns-in-Ok-Big-clause-says : goal.returns-in-Ok-Big-clause-says
@@ -10,3 +10,9 @@ returns-in-Ok-Little-clause-says c = rw (raw_right c.args.lenient (Some c.args.m
 
 pub returns-in-Err-clause-says : goal.returns-in-Err-clause-says
 returns-in-Err-clause-says c = raw_wrong c.args.lenient (Some c.args.most) c.args.bytes.now c.in-Err.fault (sym c.header.ensures.value ∙ c.in-Err.is)
+
+pub returns-in-Ok-Big-clause-places : goal.returns-in-Ok-Big-clause-places
+returns-in-Ok-Big-clause-places c l w = rw (trace_right c.args.bytes.now _ (sym c.header.ensures.value ∙ c.in-Ok-Big.is), c.in-Ok-Big.field-0-is) (c.parse_in.ensures.places l w)
+
+pub returns-in-Ok-Little-clause-places : goal.returns-in-Ok-Little-clause-places
+returns-in-Ok-Little-clause-places c l w = rw (trace_right c.args.bytes.now _ (sym c.header.ensures.value ∙ c.in-Ok-Little.is), c.in-Ok-Little.field-0-is) (c.parse_in-in-Ok-Little.ensures.places l w)
