@@ -1,3 +1,2 @@
+pub mod Found
 pub mod LawsLocated
-pub mod WalkFound
-pub mod WalkSteps

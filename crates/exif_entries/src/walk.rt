@@ -1,29 +1,24 @@
-//! The walk of directories that finds where fields and GPS directories stand.
+//! A reading that tells where fields and directories stand.
 
-ghost use Rattle.std.specs.Prelude.{◌≡◌, ◌≤◌, ◌<◌, ◌+◌, ◌^◌, ◌-◌, length, [], Ok, OnOk, IfOk};
-ghost use Rattle.exif_base.specs.Bytes.{number_at};
-ghost use Rattle.exif_base.specs.Orders.{order_named};
-ghost use Rattle.exif_tiff.specs.Trace.{depth_of, header};
-ghost use Rattle.exif_entries.specs.Locations.{chain_spots, directory_spots, entry_spots};
-ghost use Rattle.exif_entries.specs.Walked.{Finds, opened, walked};
+ghost use Rattle.std.specs.Prelude.{◌≡◌, ◌++◌, None, true, IfOk, OnOk};
+ghost use Rattle.exif_tiff.specs.Answers.{raw_answer};
+ghost use Rattle.exif_reader.specs.Results.{AsksMemory, Says, SaysOrder};
+ghost use Rattle.exif_entries.specs.Locations.{gps_of, gps_place};
+ghost use Rattle.exif_entries.specs.Results.{parsed_of};
+ghost use Rattle.exif_entries.specs.Walked.{Finds};
 
-use exif_base::{BigEndian, Endian, LittleEndian};
-use exif_reader::directory::{child_of, directory_end, entry_value, whole_entries};
-use exif_types::{Context, In};
+use exif_reader::places::Places;
+use exif_reader::stop::Stop;
+use exif_reader::tiff::{Parsed, parse_located};
+use exif_tiff::{DirectoryPlace, EntryPlace};
+use exif_types::Context;
 use std::alloc::{AllocError, Global};
 use std::marker::Model;
 
-/// Where the entry of a field stands, and the directory that has it.
-#[derive(Clone, Copy, Debug)]
-pub struct EntryPlace {
-    pub entry: u32,
-    pub directory: u32,
-}
-
-/// The places of the entries of fields, and of GPS directories.
+/// The places of the entries of fields and of directories, and those of GPS directories.
 #[derive(Drop)]
 pub struct Walk {
-    entries: Vec<EntryPlace>,
+    places: Places,
     gps: Vec<u32>,
 }
 
@@ -32,25 +27,26 @@ impl Model for Walk {
 
     ghost Value = { Walked };
 
-    ghost view = { λ w. record { entries = w.entries.items; gps = w.gps.items } };
+    ghost view = { λ w. record {
+      entries = w.places.entries;
+      gps = w.gps.items;
+      directories = w.places.directories;
+    } };
+}
+
+/// What was read, and where it stands.
+#[derive(Drop)]
+pub struct Located {
+    pub parsed: Parsed,
+    pub walk: Walk,
 }
 
 impl Walk {
-    // A walk that has found nothing.
-    fn new(alloc: Global) -> Walk
-        ensures { result ≡ record { entries = []; gps = [] } }
-    {
-        Walk {
-            entries: Vec::new(alloc),
-            gps: Vec::new(alloc),
-        }
-    }
-
     /// The places of entries, in the order of the fields.
     pub fn entries(&self) -> &[EntryPlace]
         ensures { result.now ≡ self.now.entries }
     {
-        self.entries.as_slice()
+        self.places.entries()
     }
 
     /// The places of GPS directories.
@@ -60,128 +56,52 @@ impl Walk {
         self.gps.as_slice()
     }
 
-    // Keeps a directory, if it is one of GPS data.
-    fn opens(&mut self, context: Context, place: u32) -> Result<(), AllocError>
-        ensures { OnOk result (self.new ≡ opened self.old context place) }
+    /// The directories, in the order in which reading visits them.
+    pub fn directories(&self) -> &[DirectoryPlace]
+        ensures { result.now ≡ self.now.directories }
     {
-        if let Context::Gps = context {
-            self.gps.push(place)?;
-        }
-        Ok(())
-    }
-
-    // Walks the chain of directories from a place on.
-    fn chain<E: Endian>(
-        &mut self,
-        alloc: Global,
-        bytes: &[u8],
-        limit: u16,
-        first: u32,
-    ) -> Result<(), AllocError>
-        requires { length bytes.now < 2 ^ 32 }
-        ensures { OnOk result (self.new
-            ≡ walked (chain_spots limit E.number_of bytes.now 0 first) self.old) }
-    {
-        let mut place = first;
-        for number in 0..limit {
-            if place == 0 {
-                return Ok(());
-            }
-            self.directory::<E>(alloc, bytes, Context::Tiff, In(number), place)?;
-            match directory_end::<E>(bytes, place) {
-                Ok(next) => place = next,
-                Err(_) => return Ok(()),
-            }
-        }
-        Ok(())
-    }
-
-    // Walks the directory at a place with its children.
-    #[cycle(nodes)]
-    fn directory<E: Endian>(
-        &mut self,
-        alloc: Global,
-        bytes: &[u8],
-        context: Context,
-        ifd_num: In,
-        place: u32,
-    ) -> Result<(), AllocError>
-        requires { length bytes.now < 2 ^ 32 }
-        ensures { OnOk result (self.new ≡ walked
-            (directory_spots (depth_of context) E.number_of bytes.now ifd_num.0 context place)
-            self.old) }
-    {
-        let mut at = place as usize + 2;
-        for _ in 0..whole_entries::<E>(bytes, place) {
-            self.entry::<E>(alloc, bytes, context, ifd_num, place, at)?;
-            at += 12;
-        }
-        Ok(())
-    }
-
-    // Walks the entry at a place, of the directory at another.
-    #[cycle(nodes)]
-    fn entry<E: Endian>(
-        &mut self,
-        alloc: Global,
-        bytes: &[u8],
-        context: Context,
-        ifd_num: In,
-        directory: u32,
-        at: usize,
-    ) -> Result<(), AllocError>
-        requires small { length bytes.now < 2 ^ 32 }
-        requires whole { at + 12 ≤ length bytes.now }
-        ensures { OnOk result (self.new ≡ walked
-            (entry_spots (directory_spots (depth_of context - 1) E.number_of bytes.now ifd_num.0)
-            E.number_of bytes.now context ifd_num.0 directory at) self.old) }
-    {
-        let Some(value) = entry_value::<E>(alloc, bytes, at)? else {
-            return Ok(());
-        };
-        match child_of(context, E::loadu16(bytes, at)) {
-            Some(child) => {
-                let Some(place) = value.get_uint(0) else {
-                    return Ok(());
-                };
-                self.opens(child, place)?;
-                self.directory::<E>(alloc, bytes, child, ifd_num, place)
-            }
-            None => {
-                self.entries.push(EntryPlace {
-                    entry: at as u32,
-                    directory,
-                })?;
-                Ok(())
-            }
-        }
+        self.places.directories()
     }
 }
 
-// The walk of data in a byte order.
-fn walk_in<E: Endian>(alloc: Global, bytes: &[u8]) -> Result<Walk, AllocError>
-    requires room { 8 ≤ length bytes.now }
-    requires small { length bytes.now < 2 ^ 32 }
-    ensures { IfOk result (λ w. w ≡ walked
-        (chain_spots 8 E.number_of bytes.now 0 (number_at E.number_of 4 bytes.now 4))
-        (record { entries = []; gps = [] })) }
+// Adds the place of a directory, if it is one of GPS data.
+fn add_gps(directory: DirectoryPlace, places: &mut Vec<u32>) -> Result<(), AllocError>
+    ensures { OnOk result (places.new.items
+        ≡ places.old.items ++ gps_place directory.context directory.place) }
 {
-    let mut walk = Walk::new(alloc);
-    walk.chain::<E>(alloc, bytes, 8, E::loadu32(bytes, 4))?;
-    Ok(walk)
+    match directory.context {
+        Context::Gps => places.push(directory.place)?,
+        Context::Tiff | Context::Exif | Context::Interop => {}
+    }
+    Ok(())
 }
 
-/// The places of the fields and of the GPS directories.
-pub fn locations(alloc: Global, bytes: &[u8], little_endian: bool) -> Result<Walk, AllocError>
-    requires header { header bytes.now ≡ Ok (order_named little_endian) }
-    requires room { 8 ≤ length bytes.now }
-    requires small { length bytes.now < 2 ^ 32 }
-    ensures { IfOk result (λ w. Finds bytes.now w) }
+// The places of the GPS directories among directories.
+fn gps_of(alloc: Global, directories: &[DirectoryPlace]) -> Result<Vec<u32>, AllocError>
+    ensures { IfOk result (λ v. v.items ≡ gps_of directories.now) }
 {
-    if little_endian {
-        let walk = walk_in::<LittleEndian>(alloc, bytes)?;
-        return Ok(walk);
+    let mut places = Vec::new(alloc);
+    for directory in directories {
+        add_gps(*directory, &mut places)?;
     }
-    let walk = walk_in::<BigEndian>(alloc, bytes)?;
-    Ok(walk)
+    Ok(places)
+}
+
+/// Reads TIFF data leniently, and tells where what is read stands.
+pub fn read_located(alloc: Global, bytes: &[u8]) -> Result<Located, Stop>
+    ensures says { Says (parsed_of result) (raw_answer true None bytes.now) }
+    ensures order { SaysOrder (parsed_of result) bytes.now }
+    ensures memory { AsksMemory (parsed_of result) bytes.now }
+    ensures places { IfOk result (λ located. Finds bytes.now located.walk) }
+{
+    let placed = parse_located(alloc, bytes)?;
+    let gps = gps_of(alloc, placed.places.directories())?;
+    let walk = Walk {
+        places: placed.places,
+        gps,
+    };
+    Ok(Located {
+        parsed: placed.parsed,
+        walk,
+    })
 }
