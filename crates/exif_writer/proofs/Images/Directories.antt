@@ -39,13 +39,13 @@ module _ (order : Order) (bytes : List ℕ) (small : length bytes < 256 ^ 4) (dr
     pub ends : (parent : Context) (tag : ℕ) (child : Context) → child_of parent tag ≡ Some child → 0 < length (draft.slots child) → directory_end (number_of order) bytes (directory_place draft start child) ≡ Ok 0
 
   content_gives : (inner : Directory) (fields : Context → List Field) → ChildrenGive inner fields
-      → (context : Context) (ifd tag place : ℕ) (content : Content) → ContentFits draft context tag content
-      → Gives (Visit ∷ tagged_nodes inner (number_of order) bytes context ifd tag (moved_to place (value_of draft start content)) (child_of context tag))
+      → (context : Context) (ifd directory e tag place : ℕ) (content : Content) → ContentFits draft context tag content
+      → Gives (Visit ∷ tagged_nodes inner (number_of order) bytes context ifd directory tag e (moved_to place (value_of draft start content)) (child_of context tag))
       (entry_fields fields context ifd (record { tag = tag; content = content; value = value_of draft start content; place = place }))
-  content_gives inner fields children context ifd tag place (Known value) h = rw h.1 (record { seen = refl; clean = refl })
-  content_gives inner fields children context ifd tag place (PlacesOf kind lengths) h = rw h.1 (record { seen = refl; clean = refl })
-  content_gives inner fields children context ifd tag place (LengthsOf kind lengths) h = rw h.1 (record { seen = refl; clean = refl })
-  content_gives inner fields children context ifd tag place (PlaceOf child) h =
+  content_gives inner fields children context ifd directory e tag place (Known value) h = rw h.1 (record { seen = refl; clean = refl })
+  content_gives inner fields children context ifd directory e tag place (PlacesOf kind lengths) h = rw h.1 (record { seen = refl; clean = refl })
+  content_gives inner fields children context ifd directory e tag place (LengthsOf kind lengths) h = rw h.1 (record { seen = refl; clean = refl })
+  content_gives inner fields children context ifd directory e tag place (PlaceOf child) h =
       let nodes = children.nodes child h.1 in
       let end = children.ends context tag child h.0 h.1 in
       let q : ℕ = directory_place draft start child in
@@ -66,14 +66,14 @@ module _ (order : Order) (bytes : List ℕ) (small : length bytes < 256 ^ 4) (dr
   values_rest entry entries h false e = (rw e at h).1
 
   pub entries_give : (inner : Directory) (fields : Context → List Field) → ChildrenGive inner fields
-      → (context : Context) (ifd at values : ℕ) (slots : List Slot) → AllByRecursion (SlotFits draft context) slots
+      → (context : Context) (ifd directory at values : ℕ) (slots : List Slot) → AllByRecursion (SlotFits draft context) slots
       → AllByRecursion (λ slot. Fits (value_of draft start slot.content)) slots
       → Stands bytes at (flat_map (entry_text order) (written draft start at values slots))
       → AllStand bytes (value_parts order (written draft start at values slots))
-      → Gives (flat_map (entry_nodes inner (number_of order) bytes context ifd) (spaced at 12 (length slots)))
+      → Gives (flat_map (entry_nodes inner (number_of order) bytes context ifd directory) (spaced at 12 (length slots)))
       (flat_map (entry_fields fields context ifd) (written draft start at values slots))
-  entries_give inner fields children context ifd at values [] fit good texts parts = gives_nothing
-  entries_give inner fields children context ifd at values (slot ∷ slots) fit good texts parts =
+  entries_give inner fields children context ifd directory at values [] fit good texts parts = gives_nothing
+  entries_give inner fields children context ifd directory at values (slot ∷ slots) fit good texts parts =
       let entry : Written = record {
         tag = slot.tag;
         content = slot.content;
@@ -88,12 +88,12 @@ module _ (order : Order) (bytes : List ℕ) (small : length bytes < 256 ^ 4) (dr
       stands_right bytes (entry_text order entry) (flat_map (entry_text order) rest) at (at + 12) texts (omega arith) in
       let inside : nat_le (value_len entry.value) 4 ≡ true → entry.place ≡ at + 8 =
       λ e. let e' : nat_le (content_len slot.content) 4 ≡ true = ap (λ n. nat_le n 4) (sym same) ∙ e in rw e' refl in
-      let is = entry_is order bytes small inner context ifd entry at fit.0.tag good.0 text inside
+      let is = entry_is order bytes small inner context ifd directory entry at fit.0.tag good.0 text inside
       (value_outside entry rest parts (nat_le (value_len entry.value) 4) refl) in
-      let one : Gives (entry_nodes inner (number_of order) bytes context ifd at) (entry_fields fields context ifd entry) =
-      rw is (content_gives inner fields children context ifd slot.tag entry.place slot.content fit.0.content) in
+      let one : Gives (entry_nodes inner (number_of order) bytes context ifd directory at) (entry_fields fields context ifd entry) =
+      rw is (content_gives inner fields children context ifd directory at slot.tag entry.place slot.content fit.0.content) in
       gives_append _ _ _ _ one
-      (entries_give inner fields children context ifd (at + 12) (after_value values (content_len slot.content)) slots fit.1 good.1 more
+      (entries_give inner fields children context ifd directory (at + 12) (after_value values (content_len slot.content)) slots fit.1 good.1 more
       (values_rest entry rest parts (nat_le (value_len entry.value) 4) refl))
 
 -- the end of a directory where no test finds a fault

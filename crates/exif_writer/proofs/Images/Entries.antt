@@ -97,13 +97,13 @@ module _ (order : Order) (bytes : List ℕ) (small : length bytes < 256 ^ 4) whe
       omega arith
 
   -- an entry is read as it was written
-  pub entry_is : (inner : Directory) (context : Context) (ifd : ℕ) (entry : Written) (e : ℕ)
+  pub entry_is : (inner : Directory) (context : Context) (ifd directory : ℕ) (entry : Written) (e : ℕ)
       → entry.tag < 256 ^ 2 → Fits entry.value → Stands bytes e (entry_text order entry)
       → (nat_le (value_len entry.value) 4 ≡ true → entry.place ≡ e + 8)
       → (nat_le (value_len entry.value) 4 ≡ false → Stands bytes entry.place (encode order entry.value))
-      → entry_nodes inner (number_of order) bytes context ifd e
-      ≡ (Visit ∷ tagged_nodes inner (number_of order) bytes context ifd entry.tag (moved_to entry.place entry.value) (child_of context entry.tag))
-  entry_is inner context ifd entry e tag h s inside outside =
+      → entry_nodes inner (number_of order) bytes context ifd directory e
+      ≡ (Visit ∷ tagged_nodes inner (number_of order) bytes context ifd directory entry.tag e (moved_to entry.place entry.value) (child_of context entry.tag))
+  entry_is inner context ifd directory entry e tag h s inside outside =
       let counts = counted entry.value h in
       let type_low = counts.type in
       let count_low = counts.count in
@@ -124,4 +124,4 @@ module _ (order : Order) (bytes : List ℕ) (small : length bytes < 256 ^ 4) whe
       let count_is : number_at (number_of order) 4 bytes (e + 4) ≡ count_of entry.value =
       number_read order 4 (count_of entry.value) (e + 4) bytes (omega arith) (stands_left bytes c d (e + 4) cs) in
       let value = value_is entry e h type_is count_is (nat_le (value_len entry.value) 4) refl ds inside outside in
-      λ i. Visit ∷ valued_nodes inner (number_of order) bytes context ifd (tag_is i) (value i)
+      λ i. Visit ∷ valued_nodes inner (number_of order) bytes context ifd directory (tag_is i) e (value i)

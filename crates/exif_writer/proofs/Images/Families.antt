@@ -18,7 +18,7 @@ use Rattle.exif_writer.proofs.Images.Words.{AllStand, Fits, ContentFits, SlotFit
 use Rattle.exif_tiff.proofs.Members.{all_left, all_right}
 use Rattle.exif_writer.proofs.Images.Places.{AllWrittenKnown, length-written}
 use Rattle.exif_writer.proofs.Images.Entries.{fits_known}
-use Rattle.exif_writer.proofs.Images.Directories.{IsWhole, directory_read, entries_give, ChildrenGive, gives_nothing}
+use Rattle.exif_writer.proofs.Images.Directories.{IsWhole, directory_read, entries_give, ChildrenGive}
 
 -- no pointer names a top directory
 no_top_child : (parent : Context) (tag : ℕ) → child_of parent tag ≡ Some Tiff → ⊥
@@ -135,7 +135,7 @@ module _ (order : Order) (bytes : List ℕ) (small : length bytes < 256 ^ 4) (dr
   -- a directory with its children gives their fields
   with_children : (inner : Directory) (fields : Context → List Field) → ((child : Context) → 0 < length (draft.slots child) → Gives (inner child (directory_place draft start child)) (fields child))
       → (ifd : ℕ) (context : Context) → 0 < length (draft.slots context)
-      → Gives (flat_map (entry_nodes inner (number_of order) bytes context ifd) (entry_places (number_of order) bytes (directory_place draft start context)))
+      → Gives (flat_map (entry_nodes inner (number_of order) bytes context ifd (directory_place draft start context)) (entry_places (number_of order) bytes (directory_place draft start context)))
       (flat_map (entry_fields fields context ifd) (entries_of draft start context))
   with_children inner fields nodes ifd context some =
       let read = each_read context some in
@@ -145,11 +145,12 @@ module _ (order : Order) (bytes : List ℕ) (small : length bytes < 256 ^ 4) (dr
       } in
       let count : whole_entries (number_of order) bytes (directory_place draft start context) ≡ length (draft.slots context) =
       read.count ∙ length-written draft start (directory_place draft start context + 2) (values_place draft start context) (draft.slots context) in
-      rw count (entries_give order bytes small draft start inner fields children context ifd (directory_place draft start context + 2) (values_place draft start context)
+      rw count (entries_give order bytes small draft start inner fields children context ifd (directory_place draft start context) (directory_place draft start context + 2) (values_place draft start context)
       (draft.slots context) (fit context) (values_fit context (draft.slots context) (fit context)) read.texts (stands.values context))
 
   pub nodes_give : (depth ifd : ℕ) (context : Context) → 0 < length (draft.slots context)
       → Gives (directory_nodes depth (number_of order) bytes ifd context (directory_place draft start context)) (directory_fields draft start ifd depth context)
-  nodes_give zero ifd context some = gives_nothing
+  nodes_give zero ifd context some = record { seen = refl; clean = refl }
   nodes_give (suc depth) ifd context some =
-      with_children (directory_nodes depth (number_of order) bytes ifd) (directory_fields draft start ifd depth) (λ child there. nodes_give depth ifd child there) ifd context some
+      let entries = with_children (directory_nodes depth (number_of order) bytes ifd) (directory_fields draft start ifd depth) (λ child there. nodes_give depth ifd child there) ifd context some in
+      record { seen = entries.seen; clean = entries.clean }
