@@ -13,7 +13,7 @@ use Rattle.exif_base.specs.Orders.{number_of}
 use Rattle.exif_base.specs.declared.endian.Order.{Order}
 use Rattle.exif_base.specs.declared.endian.Order.TheVariants.{Big, Little}
 use Rattle.exif_tiff.specs.Answers.{Whole, answer_of}
-use Rattle.exif_tiff.specs.Trace.{Node, directory_nodes, entry_nodes, chain_after, chain_nodes, content_of, directory_end, entry_places, header, order_of, ordered_trace, whole_entries}
+use Rattle.exif_tiff.specs.Trace.{Node, opened, directory_nodes, entry_nodes, chain_after, chain_nodes, content_of, directory_end, entry_places, header, order_of, ordered_trace, whole_entries}
 use Rattle.exif_tiff.specs.declared.fault.Fault.{Fault}
 use Rattle.exif_tiff.specs.declared.fault.Fault.TheVariants.{DataTooLarge, TruncatedHeader, InvalidByteOrder, InvalidFortyTwo}
 use Rattle.exif_table.specs.declared.context.Context.TheVariants.{Tiff}
@@ -139,13 +139,13 @@ zero_least : (x : ℕ) → min 0 x ≡ 0
 zero_least x = omega arith
 
 no_nodes : (f g : ℕ → List Node) (ps : List ℕ) (e : Result ℕ Fault) → ps ≡ [] → e ≡ Ok 0 → g 0 ≡ []
-    → flat_map f ps ++ chain_after g e ≡ []
+    → content_of (opened Tiff 8 (flat_map f ps) ++ chain_after g e) ≡ content_of []
 no_nodes f g ps e h k l = rw (h, k, l) refl
 
 chain_at_8 : (order : Order) (xs : List ℕ) → 14 ≤ length xs → ((i : ℕ) → 8 ≤ i → get_or xs i 0 ≡ 0)
-    → chain_nodes 8 (number_of order) xs 0 8 ≡ []
+    → content_of (chain_nodes 8 (number_of order) xs 0 8) ≡ content_of []
 chain_at_8 order xs l z =
-    no_nodes (entry_nodes (directory_nodes 2 (number_of order) xs 0) (number_of order) xs Tiff 0)
+    no_nodes (entry_nodes (directory_nodes 2 (number_of order) xs 0) (number_of order) xs Tiff 0 8)
     (chain_nodes 7 (number_of order) xs (0 + 1)) (entry_places (number_of order) xs 8)
     (directory_end (number_of order) xs 8) places (end_at_8 order xs l z) refl
   where
@@ -216,13 +216,14 @@ made order xs h =
 -- ---- the whole
 
 no_trace : (order : Order) (xs new : List ℕ) → Made order xs new
-    → ordered_trace (number_of order) new ≡ []
+    → content_of (ordered_trace (number_of order) new) ≡ content_of []
 unfolding ordered_trace
 no_trace order xs new m =
-    ap (λ q. chain_nodes 8 (number_of order) new 0 q) m.first ∙ by_test (nat_lt (length xs) 14) refl
+    ap (λ q. content_of (chain_nodes 8 (number_of order) new 0 q)) m.first
+    ∙ by_test (nat_lt (length xs) 14) refl
   where
     by_test : (b : Bool) → nat_lt (length xs) 14 ≡ b
-        → chain_nodes 8 (number_of order) new 0 (if b then 0 else 8) ≡ []
+        → content_of (chain_nodes 8 (number_of order) new 0 (if b then 0 else 8)) ≡ content_of []
     by_test true e = refl
     by_test false e = let l = m.as_long in chain_at_8 order new (grind (arith, nat_tests)) m.zeros
 
@@ -251,7 +252,7 @@ clear_sound old order h =
       header = same;
       zeros = m.zeros;
       reads = λ lenient. raw_right lenient new order (same ∙ h)
-          ∙ (ap (λ ns. answer_of lenient (content_of ns)) (no_trace order old new m)
+          ∙ (ap (answer_of lenient) (no_trace order old new m)
           ∙ nothing_shown lenient);
     }
 

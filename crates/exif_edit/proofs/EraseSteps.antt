@@ -16,7 +16,7 @@ use Rattle.exif_edit.specs.Readings.{Read, ReadsTo, reading}
 use Rattle.exif_edit.specs.declared.error.Error.{Error}
 use Rattle.exif_edit.specs.declared.patch.Patch.{Patch}
 use Rattle.exif_edit.specs.declared.patch.Span.{Span}
-use Rattle.exif_entries.proofs.WalkSteps.{spaced_step}
+use Rattle.exif_reader.proofs.ParserRuns.{spaced_step}
 
 -- one of the entries that are left
 pub value_on : (span : ℕ → Span) (at' n i : ℕ) (out new all : List Patch) → i < n

@@ -13,17 +13,16 @@ use Rattle.exif_types.specs.declared.value.Value.{Value}
 use Rattle.exif_types.specs.declared.tag.Tag.{Tag}
 use Rattle.exif_types.specs.declared.ifd.In.{In}
 use Rattle.exif_types.specs.declared.field.Field.{Field}
-use Rattle.exif_tiff.specs.Trace.{header, ordered_trace, fields_of, faults_of}
+use Rattle.exif_tiff.specs.Trace.{Node, entry_of, header, ordered_trace, trace, fields_of, faults_of, located_of}
+use Rattle.exif_tiff.specs.declared.place.EntryPlace.{EntryPlace}
 use Rattle.exif_tiff.specs.declared.fault.Fault.{Fault}
 use Rattle.exif_reader.specs.declared.stop.Stop.{Stop}
 use Rattle.exif_reader.specs.declared.stop.Stop.TheVariants as stop
 use Rattle.exif_edit.specs.Causes.{Becomes, Fails, no_field}
 use Rattle.exif_edit.specs.Finding.{IsLastAt, find_answer, last_located, replaced, with_value}
-use Rattle.exif_entries.specs.Locations.{Located, located, located_of, ordered_spots}
+use Rattle.exif_entries.specs.Locations.{Located, located}
 use Rattle.exif_edit.specs.Readings.{Read, is_little, reading, ReadsTo}
-use Rattle.exif_entries.specs.Walked.{entry_of}
 use Rattle.exif_edit.specs.declared.error.Error.{Error}
-use Rattle.exif_entries.specs.declared.walk.EntryPlace.{EntryPlace}
 use Rattle.exif_entries.proofs.LawsLocated.{ordered_fields}
 
 abbrev pub field_of : Located → Field
@@ -113,9 +112,8 @@ content_by x bytes = elim x [
 ]
 
 fields_by : (x : Result Order Fault) (bytes : List ℕ) (read : Read) → content_by x bytes ≡ Ok read
-    → map field_of
-    (elim x as (λ r. List Located)
-    [ Ok order ↦ located_of (ordered_spots (number_of order) bytes) | Err fault ↦ [] ])
+    → map field_of (located_of (elim x as (λ r. List Node)
+    [ Ok order ↦ ordered_trace (number_of order) bytes | Err fault ↦ [] ]))
     ≡ read.fields
 fields_by (Err fault) bytes read e = absurd (err_ok e)
   where
@@ -136,7 +134,7 @@ fields_by (Ok order) bytes read e =
 
 pub fields_read : (bytes : List ℕ) (read : Read) → reading bytes ≡ Ok read
     → map field_of (located bytes) ≡ read.fields
-unfolding reading located
+unfolding reading located trace
 fields_read bytes read e = fields_by (header bytes) bytes read e
 
 pub find_fault : (s : Stop) (bytes : List ℕ) (tag : Tag) (k : In) (e : Error)

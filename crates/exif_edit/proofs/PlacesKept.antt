@@ -18,16 +18,16 @@ use Rattle.exif_table.specs.declared.context.Context.TheVariants.{Tiff, Exif, Gp
 use Rattle.exif_tiff.specs.declared.fault.Fault.{Fault}
 use Rattle.exif_tiff.specs.declared.fault.Fault.TheVariants.{TruncatedCount, TruncatedDirectory, TruncatedNextOffset, TooManyDirectories}
 use Rattle.exif_tiff.specs.Footprint.{Agree, named, pointed, entry_directories, following, looked_at, value_stretch}
-use Rattle.exif_tiff.specs.Trace.{Node, Met, chain_after, chain_nodes, child_end, child_of, depth_of, directory_end, directory_nodes, entry_nodes, entry_places, entry_value, fields_of, faults_of, ordered_trace, pointer_nodes, tagged_nodes, valued_nodes, whole_entries}
+use Rattle.exif_tiff.specs.Trace.{Node, Found, Met, Opens, Visit, opened, directories_of, field_of, chain_after, chain_nodes, child_end, child_of, depth_of, directory_end, directory_nodes, entry_nodes, entry_places, entry_value, fields_of, faults_of, ordered_trace, pointer_nodes, tagged_nodes, valued_nodes, whole_entries}
 use Rattle.exif_tiff.proofs.Agreement.{Same, number_same, part_same, same_of}
 use Rattle.exif_tiff.proofs.Footprints as footprints
 use Rattle.exif_tiff.proofs.Footprints.{all_flat}
-use Rattle.exif_tiff.proofs.Members.{all_left, all_right}
-use Rattle.exif_entries.specs.Locations.{Spot, Holds, Opens, gps_of, ordered_spots, chain_spots, spots_after, directory_spots, entry_spots, valued_spots, tagged_spots, pointer_spots}
-use Rattle.exif_entries.proofs.LawsLocated.{end_has_none, fields_of-append}
+use Rattle.exif_tiff.proofs.Members.{all_append, all_left, all_right}
+use Rattle.exif_tiff.proofs.ReportBound.{faults-append, fields-append}
+use Rattle.exif_entries.specs.Locations.{gps_of, gps_place}
+use Rattle.exif_entries.proofs.LawsLocated.{end_has_none}
 use Rattle.exif_edit.specs.Erasing.{is_gps, without_gps}
 use Rattle.exif_edit.specs.PlacesAlone.{all_kept, below_kept, chain_kept, directories_kept}
-use Rattle.exif_edit.proofs.Renewed.{faults_of-append}
 
 -- the new nodes have the fields of the old ones but those of GPS data, and no more faults
 abbrev pub Kept : List Node → List Node → Type 0
@@ -43,8 +43,8 @@ joined ns os ms ps h k =
     let a = length-append (faults_of ms) (faults_of ps) in
     let b = length-append (faults_of ns) (faults_of os) in
     let split = filter-append (λ (x : Field). not (is_gps x.tag.0)) (fields_of ns) (fields_of os) in (
-      rw (fields_of-append ms ps, fields_of-append ns os, f, g) (sym split),
-      rw (faults_of-append ms ps, faults_of-append ns os) (omega (arith, a, b)),
+      rw (fields-append ms ps, fields-append ns os, f, g) (sym split),
+      rw (faults-append ms ps, faults-append ns os) (omega (arith, a, b)),
     )
 
 -- nodes without fields that are the same
@@ -53,19 +53,25 @@ unfielded ns ms h s =
     let none = ap without_gps h in
     (ap fields_of (sym s) ∙ (h ∙ sym none), let l = ap (λ xs. length (faults_of xs)) s in omega (arith, l))
 
--- the GPS places of spots, taken apart
-gps_left : (P : ℕ → Type 0) (xs ys : List Spot) → AllByRecursion P (gps_of (xs ++ ys))
-    → AllByRecursion P (gps_of xs) × AllByRecursion P (gps_of ys)
-gps_left P [] ys h = (tt, h)
-gps_left P (Holds f e p ∷ xs) ys h = gps_left P xs ys h
-gps_left P (Opens Gps q ∷ xs) ys h = let r = gps_left P xs ys h.1 in ((h.0, r.0), r.1)
-gps_left P (Opens Tiff q ∷ xs) ys h = gps_left P xs ys h
-gps_left P (Opens Exif q ∷ xs) ys h = gps_left P xs ys h
-gps_left P (Opens Interop q ∷ xs) ys h = gps_left P xs ys h
+-- the places of the GPS directories of nodes
+abbrev pub gps_in : List Node → List ℕ
+gps_in nodes = gps_of (directories_of nodes)
 
-gps_flat : (P : ℕ → Type 0) (f : ℕ → List Spot) (ps : List ℕ)
-    → AllByRecursion P (gps_of (flat_map f ps))
-    → AllByRecursion (λ p. AllByRecursion P (gps_of (f p))) ps
+-- taken apart
+gps_left : (P : ℕ → Type 0) (xs ys : List Node) → AllByRecursion P (gps_in (xs ++ ys))
+    → AllByRecursion P (gps_in xs) × AllByRecursion P (gps_in ys)
+gps_left P [] ys h = (tt, h)
+gps_left P (Opens d ∷ xs) ys h =
+    let own = gps_place d.context d.place in
+    let r = gps_left P xs ys (all_right P own (gps_in (xs ++ ys)) h) in
+    (all_append P own (gps_in xs) (all_left P own (gps_in (xs ++ ys)) h) r.0, r.1)
+gps_left P (Visit ∷ xs) ys h = gps_left P xs ys h
+gps_left P (Found l ∷ xs) ys h = gps_left P xs ys h
+gps_left P (Met fault ∷ xs) ys h = gps_left P xs ys h
+
+gps_flat : (P : ℕ → Type 0) (f : ℕ → List Node) (ps : List ℕ)
+    → AllByRecursion P (gps_in (flat_map f ps))
+    → AllByRecursion (λ p. AllByRecursion P (gps_in (f p))) ps
 gps_flat P f [] h = tt
 gps_flat P f (p ∷ ps) h =
     let r = gps_left P (f p) (flat_map f ps) h in (r.0, gps_flat P f ps r.1)
@@ -91,21 +97,27 @@ no_others f (p ∷ ps) h =
     let rest = no_others f ps h in
     let split = filter-append (λ (x : Field). not (is_gps x.tag.0)) (fields_of (f p))
     (fields_of (flat_map f ps)) in
-    rw (fields_of-append (f p) (flat_map f ps), split, one, rest) refl
+    rw (fields-append (f p) (flat_map f ps), split, one, rest) refl
 
 gps_alone : (depth : ℕ) (number : Reading) (bytes : List ℕ) (k p : ℕ)
     → without_gps (fields_of (directory_nodes depth number bytes k Gps p)) ≡ []
 gps_alone zero number bytes k p = refl
 gps_alone (suc depth) number bytes k p =
-    no_others (entry_nodes (directory_nodes depth number bytes k) number bytes Gps k)
+    no_others (entry_nodes (directory_nodes depth number bytes k) number bytes Gps k p)
     (entry_places number bytes p)
-    (λ e. by_value (number_at number 2 bytes e) (entry_value number bytes e))
+    (λ e. by_value (number_at number 2 bytes e) e (entry_value number bytes e))
   where
-    by_value : (n : ℕ) (o : Option Value)
+    by_value : (n e : ℕ) (o : Option Value)
         → without_gps (fields_of (valued_nodes (directory_nodes depth number bytes k) number bytes Gps
-        k n o)) ≡ []
-    by_value n None = refl
-    by_value n (Some v) = refl
+        k p n e o)) ≡ []
+    by_value n e None = refl
+    by_value n e (Some v) = refl
+
+-- a GPS directory is the first that it opens
+gps_first : (P : ℕ → Type 0) (depth : ℕ) (number : Reading) (bytes : List ℕ) (k q : ℕ)
+    → AllByRecursion P (gps_in (directory_nodes depth number bytes k Gps q)) → P q
+gps_first P zero number bytes k q h = h.0
+gps_first P (suc depth) number bytes k q h = h.0
 
 none_dropped : (q : ℕ) → drop {A = ℕ} q [] ≡ []
 none_dropped zero = refl
@@ -164,9 +176,9 @@ module _ (order : Order) (a b : List ℕ) (as_long : length a ≡ length b) wher
       let count = zero_at 2 q q (two_none order) (omega arith) (omega arith) z in
       let m = number_at number 2 a q in
       let held = none depth in
-      let fields = fields_of-append (directory_nodes depth number a k Gps q)
+      let fields = fields-append (directory_nodes depth number a k Gps q)
       (child_end (directory_end number a q)) in
-      let faults = faults_of-append (directory_nodes depth number a k Gps q)
+      let faults = faults-append (directory_nodes depth number a k Gps q)
       (child_end (directory_end number a q)) in
       let sum = length-append (faults_of (directory_nodes depth number a k Gps q))
       (faults_of (child_end (directory_end number a q))) in
@@ -192,7 +204,7 @@ module _ (order : Order) (a b : List ℕ) (as_long : length a ≡ length b) wher
           let w : whole_entries number b q ≡ 0 = omega (arith, count) in
           ap (spaced (q + 2) 12) w
 
-      none : (depth : ℕ) → directory_nodes depth number b k Gps q ≡ []
+      none : (depth : ℕ) → directory_nodes depth number b k Gps q ≡ opened Gps q []
       none zero = refl
       none (suc depth) = let p = no_places z in rw p refl
 
@@ -212,13 +224,13 @@ module _ (order : Order) (a b : List ℕ) (as_long : length a ≡ length b) wher
   abbrev KeptAt : ℕ → ℕ → Context → ℕ → Type 0
   KeptAt depth k c p =
       is_gps c ≡ false → AllByRecursion Alike (directories_kept depth number a c p)
-      → AllByRecursion Emptied (gps_of (directory_spots depth number a k c p))
+      → AllByRecursion Emptied (gps_in (directory_nodes depth number a k c p))
       → Kept (directory_nodes depth number a k c p) (directory_nodes depth number b k c p)
 
   module _ (depth k : ℕ) (below : (c : Context) (q : ℕ) → KeptAt depth k c q) where
     child_kept : (d : Context) (q : ℕ) → is_gps d ≡ false
         → AllByRecursion Alike (directories_kept depth number a d q)
-        → AllByRecursion Emptied (gps_of (directory_spots depth number a k d q))
+        → AllByRecursion Emptied (gps_in (directory_nodes depth number a k d q))
         → Kept (directory_nodes depth number a k d q ++ child_end (directory_end number a q))
         (directory_nodes depth number b k d q ++ child_end (directory_end number b q))
     child_kept d q other h z =
@@ -226,26 +238,35 @@ module _ (order : Order) (a b : List ℕ) (as_long : length a ≡ length b) wher
         (directory_end number a q) (directory_end number b q) (below d q other h z)
         (footprints.end_same order a b as_long q (first_alike depth d q h))
 
+    held : (d : Context) (q : ℕ)
+        → AllByRecursion Emptied
+        (gps_in (directory_nodes depth number a k d q ++ child_end (directory_end number a q)))
+        → AllByRecursion Emptied (gps_in (directory_nodes depth number a k d q))
+    held d q z =
+        (gps_left Emptied (directory_nodes depth number a k d q)
+        (child_end (directory_end number a q)) z).0
+
     pointer_kept : (d : Context) (o : Option ℕ)
         → AllByRecursion Alike (named (below_kept (directories_kept depth number a)) d o)
-        → AllByRecursion Emptied (gps_of (pointer_spots (directory_spots depth number a k) d o))
+        → AllByRecursion Emptied
+        (gps_in (pointer_nodes (directory_nodes depth number a k) number a d o))
         → Kept (pointer_nodes (directory_nodes depth number a k) number a d o)
         (pointer_nodes (directory_nodes depth number b k) number b d o)
     pointer_kept d None h z = (refl, omega arith)
-    pointer_kept Gps (Some q) h z = gone depth k q z.0
-    pointer_kept Tiff (Some q) h z = child_kept Tiff q refl h z
-    pointer_kept Exif (Some q) h z = child_kept Exif q refl h z
-    pointer_kept Interop (Some q) h z = child_kept Interop q refl h z
+    pointer_kept Gps (Some q) h z =
+        gone depth k q (gps_first Emptied depth number a k q (held Gps q z))
+    pointer_kept Tiff (Some q) h z = child_kept Tiff q refl h (held Tiff q z)
+    pointer_kept Exif (Some q) h z = child_kept Exif q refl h (held Exif q z)
+    pointer_kept Interop (Some q) h z = child_kept Interop q refl h (held Interop q z)
 
     tagged_kept : (c : Context) (p n e : ℕ) (v : Value) (o : Option Context) → is_gps c ≡ false
         → AllByRecursion Alike (pointed (below_kept (directories_kept depth number a)) o (Some v))
         → AllByRecursion Emptied
-        (gps_of (tagged_spots (directory_spots depth number a k) c k p n e v o))
-        → Kept (tagged_nodes (directory_nodes depth number a k) number a c k n v o)
-        (tagged_nodes (directory_nodes depth number b k) number b c k n v o)
+        (gps_in (tagged_nodes (directory_nodes depth number a k) number a c k p n e v o))
+        → Kept (tagged_nodes (directory_nodes depth number a k) number a c k p n e v o)
+        (tagged_nodes (directory_nodes depth number b k) number b c k p n e v o)
     tagged_kept c p n e v None other h z =
-        let field : Field =
-        record { tag = record { 0 = c; 1 = n }; ifd_num = record { 0 = k }; value = v } in
+        let field : Field = field_of c k n v in
         (ap (λ t. if not t then field ∷ [] else []) (sym other), omega arith)
     tagged_kept c p n e v (Some d) other h z = pointer_kept d (number_in v 0) h z
 
@@ -253,9 +274,9 @@ module _ (order : Order) (a b : List ℕ) (as_long : length a ≡ length b) wher
         → AllByRecursion Alike
         (pointed (below_kept (directories_kept depth number a)) (child_of c n) o)
         → AllByRecursion Emptied
-        (gps_of (valued_spots (directory_spots depth number a k) c k p n e o))
-        → Kept (valued_nodes (directory_nodes depth number a k) number a c k n o)
-        (valued_nodes (directory_nodes depth number b k) number b c k n o)
+        (gps_in (valued_nodes (directory_nodes depth number a k) number a c k p n e o))
+        → Kept (valued_nodes (directory_nodes depth number a k) number a c k p n e o)
+        (valued_nodes (directory_nodes depth number b k) number b c k p n e o)
     valued_kept c p n e None other h z = (refl, omega arith)
     valued_kept c p n e (Some v) other h z = tagged_kept c p n e v (child_of c n) other h z
 
@@ -264,9 +285,9 @@ module _ (order : Order) (a b : List ℕ) (as_long : length a ≡ length b) wher
         → AllByRecursion Alike
         (entry_directories (below_kept (directories_kept depth number a)) number a c e)
         → AllByRecursion Emptied
-        (gps_of (entry_spots (directory_spots depth number a k) number a c k p e))
-        → Kept (entry_nodes (directory_nodes depth number a k) number a c k e)
-        (entry_nodes (directory_nodes depth number b k) number b c k e)
+        (gps_in (entry_nodes (directory_nodes depth number a k) number a c k p e))
+        → Kept (entry_nodes (directory_nodes depth number a k) number a c k p e)
+        (entry_nodes (directory_nodes depth number b k) number b c k p e)
     entry_kept c p e other whole values ds z =
         let tag : number_at number 2 a e ≡ number_at number 2 b e =
         number_same order 2 a b e (part_same a b e 12 e 2 (omega arith) (omega arith) whole) in
@@ -278,13 +299,13 @@ module _ (order : Order) (a b : List ℕ) (as_long : length a ≡ length b) wher
   directory_kept zero k c p other h z = (refl, omega arith)
   directory_kept (suc depth) k c p other h z =
       rw (← footprints.places_same order a b as_long p h.0)
-      (each (entry_nodes (directory_nodes depth number a k) number a c k)
-      (entry_nodes (directory_nodes depth number b k) number b c k) (λ e. Same a b e 12)
+      (each (entry_nodes (directory_nodes depth number a k) number a c k p)
+      (entry_nodes (directory_nodes depth number b k) number b c k p) (λ e. Same a b e 12)
       (λ e. AllByRecursion (Agree a b) (value_stretch number a e))
       (λ e. AllByRecursion Alike
       (entry_directories (below_kept (directories_kept depth number a)) number a c e))
       (λ e. AllByRecursion Emptied
-      (gps_of (entry_spots (directory_spots depth number a k) number a c k p e)))
+      (gps_in (entry_nodes (directory_nodes depth number a k) number a c k p e)))
       (entry_places number a p)
       (λ e x y u v. entry_kept depth k (directory_kept depth k) c p e other x y u v)
       (footprints.entries_same order a b as_long p h.0)
@@ -292,25 +313,25 @@ module _ (order : Order) (a b : List ℕ) (as_long : length a ≡ length b) wher
       (all_flat Alike
       (entry_directories (below_kept (directories_kept depth number a)) number a c)
       (entry_places number a p) h.1)
-      (gps_flat Emptied (entry_spots (directory_spots depth number a k) number a c k p)
-      (entry_places number a p) z))
+      (gps_flat Emptied (entry_nodes (directory_nodes depth number a k) number a c k p)
+      (entry_places number a p) (all_right Emptied (gps_place c p) _ z)))
 
-  after_kept : (rest : ℕ → List ℕ) (ss : ℕ → List Spot) (f g : ℕ → List Node) (x : Result ℕ Fault)
-      → ((q : ℕ) → AllByRecursion Alike (rest q) → AllByRecursion Emptied (gps_of (ss q))
+  after_kept : (rest : ℕ → List ℕ) (f g : ℕ → List Node) (x : Result ℕ Fault)
+      → ((q : ℕ) → AllByRecursion Alike (rest q) → AllByRecursion Emptied (gps_in (f q))
       → Kept (f q) (g q)) → AllByRecursion Alike (following rest x)
-      → AllByRecursion Emptied (gps_of (spots_after ss x))
+      → AllByRecursion Emptied (gps_in (chain_after f x))
       → Kept (chain_after f x) (chain_after g x)
-  after_kept rest ss f g (Err fault) each h z = (refl, omega arith)
-  after_kept rest ss f g (Ok next) each h z = each next h z
+  after_kept rest f g (Err fault) each h z = (refl, omega arith)
+  after_kept rest f g (Ok next) each h z = each next h z
 
   linked_kept : (left k p : ℕ)
       → ((q : ℕ) → AllByRecursion Alike (chain_kept left number a q)
-      → AllByRecursion Emptied (gps_of (chain_spots left number a (k + 1) q))
+      → AllByRecursion Emptied (gps_in (chain_nodes left number a (k + 1) q))
       → Kept (chain_nodes left number a (k + 1) q) (chain_nodes left number b (k + 1) q))
       → AllByRecursion Alike (directories_kept (depth_of Tiff) number a Tiff p
       ++ following (chain_kept left number a) (directory_end number a p))
-      → AllByRecursion Emptied (gps_of (directory_spots (depth_of Tiff) number a k Tiff p
-      ++ spots_after (chain_spots left number a (k + 1)) (directory_end number a p)))
+      → AllByRecursion Emptied (gps_in (directory_nodes (depth_of Tiff) number a k Tiff p
+      ++ chain_after (chain_nodes left number a (k + 1)) (directory_end number a p)))
       → Kept (directory_nodes (depth_of Tiff) number a k Tiff p
       ++ chain_after (chain_nodes left number a (k + 1)) (directory_end number a p))
       (directory_nodes (depth_of Tiff) number b k Tiff p
@@ -320,8 +341,8 @@ module _ (order : Order) (a b : List ℕ) (as_long : length a ≡ length b) wher
       (following (chain_kept left number a) (directory_end number a p)) h in
       let behind = all_right Alike (directories_kept (depth_of Tiff) number a Tiff p)
       (following (chain_kept left number a) (directory_end number a p)) h in
-      let places = gps_left Emptied (directory_spots (depth_of Tiff) number a k Tiff p)
-      (spots_after (chain_spots left number a (k + 1)) (directory_end number a p)) z in
+      let places = gps_left Emptied (directory_nodes (depth_of Tiff) number a k Tiff p)
+      (chain_after (chain_nodes left number a (k + 1)) (directory_end number a p)) z in
       let end = footprints.end_same order a b as_long p (first_alike (depth_of Tiff) Tiff p here) in
       rw (← end)
       (joined (directory_nodes (depth_of Tiff) number a k Tiff p)
@@ -329,21 +350,21 @@ module _ (order : Order) (a b : List ℕ) (as_long : length a ≡ length b) wher
       (directory_nodes (depth_of Tiff) number b k Tiff p)
       (chain_after (chain_nodes left number b (k + 1)) (directory_end number a p))
       (directory_kept (depth_of Tiff) k Tiff p refl here places.0)
-      (after_kept (chain_kept left number a) (chain_spots left number a (k + 1))
-      (chain_nodes left number a (k + 1)) (chain_nodes left number b (k + 1))
+      (after_kept (chain_kept left number a) (chain_nodes left number a (k + 1))
+      (chain_nodes left number b (k + 1))
       (directory_end number a p) rest behind places.1))
 
-  either_kept : (t : Bool) (ps : List ℕ) (ss : List Spot) (ns ms : List Node)
-      → (AllByRecursion Alike ps → AllByRecursion Emptied (gps_of ss) → Kept ns ms)
+  either_kept : (t : Bool) (ps : List ℕ) (ns ms : List Node)
+      → (AllByRecursion Alike ps → AllByRecursion Emptied (gps_in ns) → Kept ns ms)
       → AllByRecursion Alike (if t then [] else ps)
-      → AllByRecursion Emptied (gps_of (elim t as (λ _. List Spot) [ true ↦ [] | false ↦ ss ]))
+      → AllByRecursion Emptied (gps_in (elim t as (λ _. List Node) [ true ↦ [] | false ↦ ns ]))
       → Kept (elim t as (λ _. List Node) [ true ↦ [] | false ↦ ns ])
       (elim t as (λ _. List Node) [ true ↦ [] | false ↦ ms ])
-  either_kept true ps ss ns ms each h z = (refl, omega arith)
-  either_kept false ps ss ns ms each h z = each h z
+  either_kept true ps ns ms each h z = (refl, omega arith)
+  either_kept false ps ns ms each h z = each h z
 
   nodes_kept : (left k p : ℕ) → AllByRecursion Alike (chain_kept left number a p)
-      → AllByRecursion Emptied (gps_of (chain_spots left number a k p))
+      → AllByRecursion Emptied (gps_in (chain_nodes left number a k p))
       → Kept (chain_nodes left number a k p) (chain_nodes left number b k p)
   nodes_kept zero k p h z =
       unfielded (if p == 0 then [] else Met TooManyDirectories ∷ [])
@@ -356,8 +377,6 @@ module _ (order : Order) (a b : List ℕ) (as_long : length a ≡ length b) wher
       either_kept (p == 0)
       (directories_kept (depth_of Tiff) number a Tiff p
       ++ following (chain_kept left number a) (directory_end number a p))
-      (directory_spots (depth_of Tiff) number a k Tiff p
-      ++ spots_after (chain_spots left number a (k + 1)) (directory_end number a p))
       (directory_nodes (depth_of Tiff) number a k Tiff p
       ++ chain_after (chain_nodes left number a (k + 1)) (directory_end number a p))
       (directory_nodes (depth_of Tiff) number b k Tiff p
@@ -365,9 +384,9 @@ module _ (order : Order) (a b : List ℕ) (as_long : length a ≡ length b) wher
       (linked_kept left k p (nodes_kept left (k + 1))) h z
 
   pub ordered_kept : AllByRecursion (Agree a b) (all_kept number a)
-      → AllByRecursion Emptied (gps_of (ordered_spots number a))
+      → AllByRecursion Emptied (gps_in (ordered_trace number a))
       → Kept (ordered_trace number a) (ordered_trace number b)
-  unfolding ordered_spots ordered_trace
+  unfolding ordered_trace
   ordered_kept h z =
       let s = same_of a b 0 8 h.0 in
       let first : number_at number 4 a 4 ≡ number_at number 4 b 4 =

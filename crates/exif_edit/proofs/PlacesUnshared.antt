@@ -14,11 +14,11 @@ use Rattle.exif_base.specs.declared.endian.Order.{Order}
 use Rattle.exif_types.specs.FieldEq.{field_eq, field_Decides}
 use Rattle.exif_tiff.specs.declared.fault.Fault.{Fault}
 use Rattle.exif_tiff.specs.Footprint.{Agree, Stretch}
-use Rattle.exif_tiff.specs.Trace.{header, whole_entries}
+use Rattle.exif_tiff.specs.Trace.{Node, directories_of, header, ordered_trace, trace, whole_entries}
 use Rattle.exif_tiff.proofs.Agreement.{bytes_same, same_of}
 use Rattle.exif_tiff.proofs.FootprintAnswers.{header_same}
 use Rattle.exif_tiff.proofs.Footprints.{all_flat}
-use Rattle.exif_entries.specs.Locations.{gps_of, gps_places, ordered_spots}
+use Rattle.exif_entries.specs.Locations.{directory_places, gps_of, gps_places}
 use Rattle.exif_edit.specs.Causes.{shared}
 use Rattle.exif_edit.specs.Erasing.{clears, clipped, directory_spans, erase_patches, gps_spans, kept}
 use Rattle.exif_edit.specs.Patches.{inside, patched, zeros_over}
@@ -61,11 +61,11 @@ each_gives P Q [] f h = tt
 each_gives P Q (x ∷ xs) f h = (f x h.0, each_gives P Q xs f h.1)
 
 gps_places_in : (bytes : List ℕ) (order : Order) → header bytes ≡ Ok order
-    → gps_places bytes ≡ gps_of (ordered_spots (number_of order) bytes)
-unfolding gps_places
+    → gps_places bytes ≡ gps_of (directories_of (ordered_trace (number_of order) bytes))
+unfolding gps_places directory_places trace
 gps_places_in bytes order h =
-    ap (λ (x : Result Order Fault). elim x as (λ _. List ℕ)
-    [ Ok o ↦ gps_of (ordered_spots (number_of o) bytes) | Err fault ↦ [] ]) h
+    ap (λ (x : Result Order Fault). gps_of (directories_of (elim x as (λ _. List Node)
+    [ Ok o ↦ ordered_trace (number_of o) bytes | Err fault ↦ [] ]))) h
 
 clears_by : (x : Result Read Fault) (found want : Read) → x ≡ Ok found
     → beq found.little want.little ≡ true → pointwise field_eq found.fields want.fields ≡ true
@@ -148,7 +148,8 @@ module _ (order : Order) (bytes : List ℕ) (head : header bytes ≡ Ok order)
           let past : length out ≤ i = grind (arith, nat_tests, as_long) in
           get_or_past out i 0 past
 
-  emptied : AllByRecursion (Emptied order bytes out as_long) (gps_of (ordered_spots number bytes))
+  emptied : AllByRecursion (Emptied order bytes out as_long)
+      (gps_of (directories_of (ordered_trace number bytes)))
   unfolding gps_spans
   emptied =
       subst (λ ps. AllByRecursion (Emptied order bytes out as_long) ps)

@@ -29,9 +29,9 @@ use Rattle.exif_edit.specs.declared.patch.Patch.{Patch}
 use Rattle.exif_edit.proofs.FindSteps.{field_of, fields_read}
 use Rattle.exif_edit.specs.Patches.{padded, patched, zeros_over}
 use Rattle.exif_edit.specs.declared.patch.Span.{Span}
-use Rattle.exif_entries.specs.declared.walk.EntryPlace.{EntryPlace}
+use Rattle.exif_tiff.specs.declared.place.EntryPlace.{EntryPlace}
 use Rattle.exif_edit.proofs.SetSound.{length-padded, length-spelled}
-use Rattle.exif_entries.proofs.WalkSteps.{spaced_step}
+use Rattle.exif_reader.proofs.ParserRuns.{spaced_step}
 
 -- ---- entries that pass a test
 

@@ -13,22 +13,15 @@ use Rattle.exif_types.specs.declared.value.Value.{Value}
 use Rattle.exif_table.specs.declared.context.Context.{Context}
 use Rattle.exif_table.specs.declared.context.Context.TheVariants.{Tiff}
 use Rattle.exif_tiff.specs.declared.fault.Fault.{Fault}
-use Rattle.exif_tiff.specs.declared.fault.Fault.TheVariants.{TooManyDirectories}
+use Rattle.exif_tiff.specs.declared.fault.Fault.TheVariants.{TooManyDirectories, UnexpectedNext}
 use Rattle.exif_tiff.specs.Footprint.{Agree, Below, named, pointed, entry_directories, directories, following, chain_directories}
-use Rattle.exif_tiff.specs.Trace.{Node, Visit, Found, Met, Directory, chain_after, chain_nodes, child_end, child_of, depth_of, directory_end, directory_nodes, entry_nodes, entry_places, entry_value, fields_of, faults_of, ordered_trace, pointer_nodes, tagged_nodes, valued_nodes, whole_entries}
+use Rattle.exif_tiff.specs.Trace.{Node, Opens, Visit, Found, Met, Directory, Located, field_of, located_of, chain_after, chain_nodes, child_end, child_of, depth_of, directory_end, directory_nodes, entry_nodes, entry_places, entry_value, fields_of, faults_of, ordered_trace, pointer_nodes, tagged_nodes, valued_nodes, whole_entries}
 use Rattle.exif_tiff.proofs.Agreement.{number_same, part_same, same_of}
 use Rattle.exif_tiff.proofs.Footprints.{all_flat, end_by, places_by, value_same}
 use Rattle.exif_tiff.proofs.Members.{all_left, all_right}
-use Rattle.exif_entries.specs.Locations.{Spot, Holds, Opens, Spots, Located, located_of, ordered_spots, chain_spots, spots_after, directory_spots, entry_spots, valued_spots, tagged_spots, pointer_spots}
-use Rattle.exif_entries.proofs.LawsLocated.{end_has_none, fields_of-append}
+use Rattle.exif_tiff.proofs.ReportBound.{faults-append, fields-append}
 use Rattle.exif_edit.specs.Finding.{with_value}
 use Rattle.exif_edit.specs.Sharing.{all_beside, beside, other_entry}
-
-pub faults_of-append : (xs ys : List Node) → faults_of (xs ++ ys) ≡ faults_of xs ++ faults_of ys
-faults_of-append [] ys = refl
-faults_of-append (Visit ∷ xs) ys = faults_of-append xs ys
-faults_of-append (Found field ∷ xs) ys = faults_of-append xs ys
-faults_of-append (Met fault ∷ xs) ys = ap (λ fs. fault ∷ fs) (faults_of-append xs ys)
 
 -- a located field, with the new value if it stands in the entry at e
 abbrev pub renewed : ℕ → Value → Located → Field
@@ -42,43 +35,49 @@ module _ (order : Order) (a b : List ℕ) (as_long : length a ≡ length b) (e :
   abbrev number : Reading
   number = number_of order
 
-  abbrev fields_in : List Spot → List Field
-  fields_in ss = map (renewed e new) (located_of ss)
+  abbrev fields_in : List Node → List Field
+  fields_in ns = map (renewed e new) (located_of ns)
 
-  fields_in-append : (xs ys : List Spot) → fields_in (xs ++ ys) ≡ fields_in xs ++ fields_in ys
+  fields_in-append : (xs ys : List Node) → fields_in (xs ++ ys) ≡ fields_in xs ++ fields_in ys
   fields_in-append [] ys = refl
-  fields_in-append (Holds f d p ∷ xs) ys =
-      ap (λ fs. renewed e new (record { field = f; entry = d; directory = p }) ∷ fs)
-      (fields_in-append xs ys)
-  fields_in-append (Opens c q ∷ xs) ys = fields_in-append xs ys
+  fields_in-append (Opens d ∷ xs) ys = fields_in-append xs ys
+  fields_in-append (Visit ∷ xs) ys = fields_in-append xs ys
+  fields_in-append (Found l ∷ xs) ys = ap (λ fs. renewed e new l ∷ fs) (fields_in-append xs ys)
+  fields_in-append (Met fault ∷ xs) ys = fields_in-append xs ys
 
-  -- the new nodes have the fields of the old spots, this one with its new value, and the faults of
-  -- the old nodes
-  abbrev pub Told : List Spot → List Node → List Node → Type 0
-  Told ss ns ms = (fields_of ms ≡ fields_in ss) × (faults_of ms ≡ faults_of ns)
+  -- the new nodes have the fields of the old ones, this one with its new value, and their faults
+  abbrev pub Told : List Node → List Node → Type 0
+  Told ns ms = (fields_of ms ≡ fields_in ns) × (faults_of ms ≡ faults_of ns)
 
-  joined : (ss ts : List Spot) (ns os ms ps : List Node) → Told ss ns ms → Told ts os ps
-      → Told (ss ++ ts) (ns ++ os) (ms ++ ps)
-  joined ss ts ns os ms ps h k =
+  joined : (ns os ms ps : List Node) → Told ns ms → Told os ps → Told (ns ++ os) (ms ++ ps)
+  joined ns os ms ps h k =
       let f0 = h.0 in
       let f1 = k.0 in
       let g0 = h.1 in
       let g1 = k.1 in (
-        rw (fields_of-append ms ps, fields_in-append ss ts, f0, f1) refl,
-        rw (faults_of-append ms ps, faults_of-append ns os, g0, g1) refl,
+        rw (fields-append ms ps, fields_in-append ns os, f0, f1) refl,
+        rw (faults-append ms ps, faults-append ns os, g0, g1) refl,
       )
 
-  -- nodes without fields that are the same
-  unfielded : (ns ms : List Node) → fields_of ns ≡ [] → ns ≡ ms → Told [] ns ms
-  unfielded ns ms h s = (ap fields_of (sym s) ∙ h, ap faults_of (sym s))
+  -- a fault, or none
+  fault_told : (t : Bool) (fault : Fault)
+      → Told (if t then [] else Met fault ∷ []) (if t then [] else Met fault ∷ [])
+  fault_told true fault = (refl, refl)
+  fault_told false fault = (refl, refl)
 
-  each : (f : ℕ → List Spot) (g h : ℕ → List Node) (P Q : ℕ → Type 0) (ps : List ℕ)
-      → ((p : ℕ) → P p → Q p → Told (f p) (g p) (h p)) → AllByRecursion P ps → AllByRecursion Q ps
-      → Told (flat_map f ps) (flat_map g ps) (flat_map h ps)
-  each f g h P Q [] t x y = (refl, refl)
-  each f g h P Q (p ∷ ps) t x y =
-      joined (f p) (flat_map f ps) (g p) (flat_map g ps) (h p) (flat_map h ps) (t p x.0 y.0)
-      (each f g h P Q ps t x.1 y.1)
+  end_told : (x y : Result ℕ Fault) → x ≡ y → Told (child_end x) (child_end y)
+  end_told x y s = subst (λ z. Told (child_end x) (child_end z)) s (by_end x)
+    where
+      by_end : (x : Result ℕ Fault) → Told (child_end x) (child_end x)
+      by_end (Err fault) = (refl, refl)
+      by_end (Ok next) = fault_told (next == 0) UnexpectedNext
+
+  each : (f g : ℕ → List Node) (P Q : ℕ → Type 0) (ps : List ℕ)
+      → ((p : ℕ) → P p → Q p → Told (f p) (g p)) → AllByRecursion P ps → AllByRecursion Q ps
+      → Told (flat_map f ps) (flat_map g ps)
+  each f g P Q [] t x y = (refl, refl)
+  each f g P Q (p ∷ ps) t x y =
+      joined (f p) (flat_map f ps) (g p) (flat_map g ps) (t p x.0 y.0) (each f g P Q ps t x.1 y.1)
 
   -- both agree on an entry and its value, unless it is the one at e; and on a directory but for it
   abbrev EntryAlike : ℕ → Type 0
@@ -96,58 +95,46 @@ module _ (order : Order) (a b : List ℕ) (as_long : length a ≡ length b) (e :
       (same_of a b (p + 2 + 12 * whole_entries number a p) 4 h.1.0)
 
   -- a pointer or a field, where the directories below are told
-  module _ (below : Below) (child : Spots) (f g : Directory)
-      (told : (d : Context) (q : ℕ) → AllByRecursion Alike (below d q)
-      → Told (child d q) (f d q) (g d q))
+  module _ (below : Below) (f g : Directory)
+      (told : (d : Context) (q : ℕ) → AllByRecursion Alike (below d q) → Told (f d q) (g d q))
       (ends : (d : Context) (q : ℕ) → AllByRecursion Alike (below d q)
       → directory_end number a q ≡ directory_end number b q) where
-    ended : (ss : List Spot) (ns ms : List Node) (x y : Result ℕ Fault) → Told ss ns ms → x ≡ y
-        → Told ss (ns ++ child_end x) (ms ++ child_end y)
-    ended ss ns ms x y h s =
-        subst (λ ts. Told ts (ns ++ child_end x) (ms ++ child_end y)) (append-nil ss)
-        (joined ss [] ns (child_end x) ms (child_end y) h
-        (unfielded (child_end x) (child_end y) (end_has_none x) (ap child_end s)))
-
     pointer_told : (d : Context) (o : Option ℕ) → AllByRecursion Alike (named below d o)
-        → Told (pointer_spots child d o) (pointer_nodes f number a d o) (pointer_nodes g number b d o)
+        → Told (pointer_nodes f number a d o) (pointer_nodes g number b d o)
     pointer_told d None h = (refl, refl)
     pointer_told d (Some q) h =
-        ended (child d q) (f d q) (g d q) (directory_end number a q) (directory_end number b q)
-        (told d q h) (ends d q h)
+        joined (f d q) (child_end (directory_end number a q)) (g d q)
+        (child_end (directory_end number b q)) (told d q h)
+        (end_told (directory_end number a q) (directory_end number b q) (ends d q h))
 
     tagged_told : (c : Context) (k p n d : ℕ) (v : Value) (o : Option Context) → (d == e) ≡ false
         → AllByRecursion Alike (pointed below o (Some v))
-        → Told (tagged_spots child c k p n d v o) (tagged_nodes f number a c k n v o)
-        (tagged_nodes g number b c k n v o)
+        → Told (tagged_nodes f number a c k p n d v o) (tagged_nodes g number b c k p n d v o)
     tagged_told c k p n d v None far h =
-        let field : Field =
-        record { tag = record { 0 = c; 1 = n }; ifd_num = record { 0 = k }; value = v } in
+        let field : Field = field_of c k n v in
         (ap (λ t. (if t then with_value new field else field) ∷ []) (sym far), refl)
     tagged_told c k p n d v (Some x) far h = pointer_told x (number_in v 0) h
 
     valued_told : (c : Context) (k p n d : ℕ) (o : Option Value) → (d == e) ≡ false
         → AllByRecursion Alike (pointed below (child_of c n) o)
-        → Told (valued_spots child c k p n d o) (valued_nodes f number a c k n o)
-        (valued_nodes g number b c k n o)
+        → Told (valued_nodes f number a c k p n d o) (valued_nodes g number b c k p n d o)
     valued_told c k p n d None far h = (refl, refl)
     valued_told c k p n d (Some v) far h = tagged_told c k p n d v (child_of c n) far h
 
     -- the entry at e
     target_by : (c : Context) (k p n m : ℕ) (x y : Option Value) → m ≡ n → x ≡ Some old
         → y ≡ Some new → child_of c n ≡ None → (e == e) ≡ true
-        → Told (valued_spots child c k p n e x) (Visit ∷ valued_nodes f number a c k n x)
-        (Visit ∷ valued_nodes g number b c k m y)
+        → Told (Visit ∷ valued_nodes f number a c k p n e x)
+        (Visit ∷ valued_nodes g number b c k p m e y)
     target_by c k p n m x y s t u none at' =
-        let field : Field =
-        record { tag = record { 0 = c; 1 = n }; ifd_num = record { 0 = k }; value = old } in
+        let field : Field = field_of c k n old in
         rw (s, t, u, none)
         (ap (λ z. (if z then with_value new field else field) ∷ []) (sym at'), refl)
 
     other_told : (c : Context) (k p d : ℕ) → (d == e) ≡ false
         → AllByRecursion (Agree a b) (other_entry number a e d)
         → AllByRecursion Alike (entry_directories below number a c d)
-        → Told (entry_spots child number a c k p d) (entry_nodes f number a c k d)
-        (entry_nodes g number b c k d)
+        → Told (entry_nodes f number a c k p d) (entry_nodes g number b c k p d)
     other_told c k p d far h ds =
         let there = rw far at h in
         let whole = same_of a b d 12 there.0 in
@@ -159,13 +146,11 @@ module _ (order : Order) (a b : List ℕ) (as_long : length a ≡ length b) (e :
 
     entry_told : (c : Context) (k p d : ℕ) → EntryAlike d
         → AllByRecursion Alike (entry_directories below number a c d)
-        → Told (entry_spots child number a c k p d) (entry_nodes f number a c k d)
-        (entry_nodes g number b c k d)
+        → Told (entry_nodes f number a c k p d) (entry_nodes g number b c k p d)
     entry_told c k p d h ds = by_test (d == e) refl
       where
         by_test : (t : Bool) → (d == e) ≡ t
-            → Told (entry_spots child number a c k p d) (entry_nodes f number a c k d)
-            (entry_nodes g number b c k d)
+            → Told (entry_nodes f number a c k p d) (entry_nodes g number b c k p d)
         by_test false t = other_told c k p d t h ds
         by_test true t =
             let here : d ≡ e = grind (arith, nat_tests) in
@@ -182,39 +167,33 @@ module _ (order : Order) (a b : List ℕ) (as_long : length a ≡ length b) (e :
 
   directory_told : (depth k : ℕ) (c : Context) (p : ℕ)
       → AllByRecursion Alike (directories depth number a c p)
-      → Told (directory_spots depth number a k c p) (directory_nodes depth number a k c p)
-      (directory_nodes depth number b k c p)
+      → Told (directory_nodes depth number a k c p) (directory_nodes depth number b k c p)
   directory_told zero k c p h = (refl, refl)
   directory_told (suc depth) k c p h =
       rw (← places_same p h.0)
-      (each (entry_spots (directory_spots depth number a k) number a c k p)
-      (entry_nodes (directory_nodes depth number a k) number a c k)
-      (entry_nodes (directory_nodes depth number b k) number b c k) EntryAlike
+      (each (entry_nodes (directory_nodes depth number a k) number a c k p)
+      (entry_nodes (directory_nodes depth number b k) number b c k p) EntryAlike
       (λ d. AllByRecursion Alike (entry_directories (directories depth number a) number a c d))
       (entry_places number a p)
-      (λ d x y. entry_told (directories depth number a) (directory_spots depth number a k)
-      (directory_nodes depth number a k) (directory_nodes depth number b k) (directory_told depth k)
+      (λ d x y. entry_told (directories depth number a) (directory_nodes depth number a k)
+      (directory_nodes depth number b k) (directory_told depth k)
       (λ x q z. end_same q (first_alike depth x q z)) c k p d x y)
       (all_flat (Agree a b) (other_entry number a e) (entry_places number a p) h.0.1.1)
       (all_flat Alike (entry_directories (directories depth number a) number a c)
       (entry_places number a p) h.1))
 
-  after_told : (rest : ℕ → List ℕ) (ss : ℕ → List Spot) (f g : ℕ → List Node) (x : Result ℕ Fault)
-      → ((q : ℕ) → AllByRecursion Alike (rest q) → Told (ss q) (f q) (g q))
-      → AllByRecursion Alike (following rest x)
-      → Told (spots_after ss x) (chain_after f x) (chain_after g x)
-  after_told rest ss f g (Err fault) each h = (refl, refl)
-  after_told rest ss f g (Ok next) each h = each next h
+  after_told : (rest : ℕ → List ℕ) (f g : ℕ → List Node) (x : Result ℕ Fault)
+      → ((q : ℕ) → AllByRecursion Alike (rest q) → Told (f q) (g q))
+      → AllByRecursion Alike (following rest x) → Told (chain_after f x) (chain_after g x)
+  after_told rest f g (Err fault) each h = (refl, refl)
+  after_told rest f g (Ok next) each h = each next h
 
   linked_told : (left k p : ℕ)
       → ((q : ℕ) → AllByRecursion Alike (chain_directories left number a q)
-      → Told (chain_spots left number a (k + 1) q) (chain_nodes left number a (k + 1) q)
-      (chain_nodes left number b (k + 1) q))
+      → Told (chain_nodes left number a (k + 1) q) (chain_nodes left number b (k + 1) q))
       → AllByRecursion Alike (directories (depth_of Tiff) number a Tiff p
       ++ following (chain_directories left number a) (directory_end number a p))
-      → Told (directory_spots (depth_of Tiff) number a k Tiff p
-      ++ spots_after (chain_spots left number a (k + 1)) (directory_end number a p))
-      (directory_nodes (depth_of Tiff) number a k Tiff p
+      → Told (directory_nodes (depth_of Tiff) number a k Tiff p
       ++ chain_after (chain_nodes left number a (k + 1)) (directory_end number a p))
       (directory_nodes (depth_of Tiff) number b k Tiff p
       ++ chain_after (chain_nodes left number b (k + 1)) (directory_end number b p))
@@ -225,41 +204,29 @@ module _ (order : Order) (a b : List ℕ) (as_long : length a ≡ length b) (e :
       (following (chain_directories left number a) (directory_end number a p)) h in
       let end = end_same p (first_alike (depth_of Tiff) Tiff p here) in
       rw (← end)
-      (joined (directory_spots (depth_of Tiff) number a k Tiff p)
-      (spots_after (chain_spots left number a (k + 1)) (directory_end number a p))
-      (directory_nodes (depth_of Tiff) number a k Tiff p)
+      (joined (directory_nodes (depth_of Tiff) number a k Tiff p)
       (chain_after (chain_nodes left number a (k + 1)) (directory_end number a p))
       (directory_nodes (depth_of Tiff) number b k Tiff p)
       (chain_after (chain_nodes left number b (k + 1)) (directory_end number a p))
       (directory_told (depth_of Tiff) k Tiff p here)
-      (after_told (chain_directories left number a) (chain_spots left number a (k + 1))
-      (chain_nodes left number a (k + 1)) (chain_nodes left number b (k + 1))
+      (after_told (chain_directories left number a) (chain_nodes left number a (k + 1))
+      (chain_nodes left number b (k + 1))
       (directory_end number a p) rest behind))
 
-  either_told : (t : Bool) (ps : List ℕ) (ss : List Spot) (ns ms : List Node)
-      → (AllByRecursion Alike ps → Told ss ns ms) → AllByRecursion Alike (if t then [] else ps)
-      → Told (elim t as (λ _. List Spot) [ true ↦ [] | false ↦ ss ])
-      (elim t as (λ _. List Node) [ true ↦ [] | false ↦ ns ])
+  either_told : (t : Bool) (ps : List ℕ) (ns ms : List Node)
+      → (AllByRecursion Alike ps → Told ns ms) → AllByRecursion Alike (if t then [] else ps)
+      → Told (elim t as (λ _. List Node) [ true ↦ [] | false ↦ ns ])
       (elim t as (λ _. List Node) [ true ↦ [] | false ↦ ms ])
-  either_told true ps ss ns ms each h = (refl, refl)
-  either_told false ps ss ns ms each h = each h
+  either_told true ps ns ms each h = (refl, refl)
+  either_told false ps ns ms each h = each h
 
   chain_told : (left k p : ℕ) → AllByRecursion Alike (chain_directories left number a p)
-      → Told (chain_spots left number a k p) (chain_nodes left number a k p)
-      (chain_nodes left number b k p)
-  chain_told zero k p h =
-      unfielded (if p == 0 then [] else Met TooManyDirectories ∷ [])
-      (if p == 0 then [] else Met TooManyDirectories ∷ []) (by_zero (p == 0)) refl
-    where
-      by_zero : (t : Bool) → fields_of (if t then [] else Met TooManyDirectories ∷ []) ≡ []
-      by_zero true = refl
-      by_zero false = refl
+      → Told (chain_nodes left number a k p) (chain_nodes left number b k p)
+  chain_told zero k p h = fault_told (p == 0) TooManyDirectories
   chain_told (suc left) k p h =
       either_told (p == 0)
       (directories (depth_of Tiff) number a Tiff p
       ++ following (chain_directories left number a) (directory_end number a p))
-      (directory_spots (depth_of Tiff) number a k Tiff p
-      ++ spots_after (chain_spots left number a (k + 1)) (directory_end number a p))
       (directory_nodes (depth_of Tiff) number a k Tiff p
       ++ chain_after (chain_nodes left number a (k + 1)) (directory_end number a p))
       (directory_nodes (depth_of Tiff) number b k Tiff p
@@ -267,8 +234,8 @@ module _ (order : Order) (a b : List ℕ) (as_long : length a ≡ length b) (e :
       (linked_told left k p (chain_told left (k + 1))) h
 
   pub ordered_told : AllByRecursion (Agree a b) (all_beside number a e)
-      → Told (ordered_spots number a) (ordered_trace number a) (ordered_trace number b)
-  unfolding ordered_spots ordered_trace
+      → Told (ordered_trace number a) (ordered_trace number b)
+  unfolding ordered_trace
   ordered_told h =
       let s = same_of a b 0 8 h.0 in
       let first : number_at number 4 a 4 ≡ number_at number 4 b 4 =

@@ -13,9 +13,9 @@ use Rattle.exif_types.specs.declared.field_type.FieldType.{FieldType}
 use Rattle.exif_types.specs.declared.field_type.FieldType.TheVariants as field_type
 use Rattle.exif_types.specs.declared.value.Value.{Value}
 use Rattle.exif_types.specs.declared.value.Value.TheVariants as value
-use Rattle.exif_tiff.specs.Trace.{header, entry_value}
+use Rattle.exif_tiff.specs.Trace.{Found, Met, Node, Opens, Visit, header, entry_value, located_of, ordered_trace, trace}
 use Rattle.exif_tiff.specs.declared.fault.Fault.{Fault}
-use Rattle.exif_entries.specs.Locations.{Spot, Holds, Opens, Located, located, located_of, ordered_spots}
+use Rattle.exif_entries.specs.Locations.{Located, located}
 use Rattle.exif_edit.specs.Promises.{told_by}
 use Rattle.exif_edit.specs.Removing.{told_at, told_in, untold}
 use Rattle.exif_edit.proofs.FindSteps.{field_of}
@@ -136,31 +136,33 @@ abbrev pub AllTell : List Located → Type 0
 AllTell [] = Unit {0}
 AllTell (l ∷ ls) = (told_at l.entry l.field ≡ l.field) × AllTell ls
 
-spots_tell : (number : Reading) (bytes : List ℕ) (spots : List Spot) → AreSaid number bytes spots
-    → AllTell (located_of spots)
-spots_tell number bytes [] h = tt
-spots_tell number bytes (Holds f e p ∷ spots) h = (
-  ap (λ (v : Value). ◌-with f v) (tells number bytes e f.value h.0.value),
-  spots_tell number bytes spots h.1,
+nodes_tell : (number : Reading) (bytes : List ℕ) (nodes : List Node) → AreSaid number bytes nodes
+    → AllTell (located_of nodes)
+nodes_tell number bytes [] h = tt
+nodes_tell number bytes (Opens d ∷ nodes) h = nodes_tell number bytes nodes h
+nodes_tell number bytes (Visit ∷ nodes) h = nodes_tell number bytes nodes h
+nodes_tell number bytes (Met fault ∷ nodes) h = nodes_tell number bytes nodes h
+nodes_tell number bytes (Found l ∷ nodes) h = (
+  ap (λ (v : Value). ◌-with l.field v) (tells number bytes l.entry l.field.value h.0.value),
+  nodes_tell number bytes nodes h.1,
 )
   where
     ◌-with : Field → Value → Field
     ◌-with f v = record { tag = f.tag; ifd_num = f.ifd_num; value = v }
-spots_tell number bytes (Opens c q ∷ spots) h = spots_tell number bytes spots h
 
 ordered_tell : (number : Reading) (bytes : List ℕ)
-    → AllTell (located_of (ordered_spots number bytes))
+    → AllTell (located_of (ordered_trace number bytes))
 ordered_tell number bytes =
-    spots_tell number bytes (ordered_spots number bytes) (ordered_said number bytes)
+    nodes_tell number bytes (ordered_trace number bytes) (ordered_said number bytes)
 
 by_header : (x : Result Order Fault) (bytes : List ℕ)
-    → AllTell (elim x as (λ r. List Located)
-    [ Ok order ↦ located_of (ordered_spots (number_of order) bytes) | Err fault ↦ [] ])
+    → AllTell (located_of (elim x as (λ r. List Node)
+    [ Ok order ↦ ordered_trace (number_of order) bytes | Err fault ↦ [] ]))
 by_header (Ok order) bytes = ordered_tell (number_of order) bytes
 by_header (Err fault) bytes = tt
 
 pub located_tells : (bytes : List ℕ) → AllTell (located bytes)
-unfolding located
+unfolding located trace
 located_tells bytes = by_header (header bytes) bytes
 
 -- ---- fields that are alike but for their entries

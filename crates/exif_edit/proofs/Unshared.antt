@@ -25,14 +25,14 @@ use Rattle.exif_types.specs.declared.tag.Tag.{Tag}
 use Rattle.exif_types.specs.declared.value.Value.{Value}
 use Rattle.exif_tiff.specs.declared.fault.Fault.{Fault}
 use Rattle.exif_tiff.specs.Footprint.{Agree, Stretch}
-use Rattle.exif_tiff.specs.Trace.{child_of, entry_value, fields_of, faults_of, header, ordered_trace}
+use Rattle.exif_tiff.specs.Trace.{Node, child_of, entry_value, fields_of, faults_of, header, located_of, ordered_trace, trace}
 use Rattle.exif_tiff.proofs.Agreement.{bytes_same, number_same, same_of}
 use Rattle.exif_tiff.proofs.FootprintAnswers.{header_same}
 use Rattle.exif_writer.specs.Encoding.{encode, moved_to}
 use Rattle.exif_writer.specs.Ranged.{IsRanged}
 use Rattle.exif_writer.specs.Refused.{is_unknown}
 use Rattle.exif_writer.proofs.Images.Fitting.{fits_of}
-use Rattle.exif_entries.specs.Locations.{Located, located, located_of, ordered_spots}
+use Rattle.exif_entries.specs.Locations.{Located, located}
 use Rattle.exif_entries.proofs.LawsLocated.{ordered_fields}
 use Rattle.exif_edit.specs.Causes.{Cause, place_named, shared, too_long, unknown_type, unless, ◌>>=◌}
 use Rattle.exif_edit.specs.Finding.{find_answer, last_located, replaced, with_value}
@@ -222,11 +222,11 @@ unfolding reading
 reading_in bytes order h = ap (λ x. reading_by x bytes) h
 
 located_in : (bytes : List ℕ) (order : Order) → header bytes ≡ Ok order
-    → located bytes ≡ located_of (ordered_spots (number_of order) bytes)
-unfolding located
+    → located bytes ≡ located_of (ordered_trace (number_of order) bytes)
+unfolding located trace
 located_in bytes order h =
-    ap (λ (x : Result Order Fault). elim x as (λ _. List Located)
-    [ Ok o ↦ located_of (ordered_spots (number_of o) bytes) | Err fault ↦ [] ]) h
+    ap (λ (x : Result Order Fault). located_of (elim x as (λ _. List Node)
+    [ Ok o ↦ ordered_trace (number_of o) bytes | Err fault ↦ [] ])) h
 
 pub named_order : (order : Order) → order_named (is_little order) ≡ order
 named_order Big = refl
@@ -363,7 +363,7 @@ module _ (order : Order) (bytes : List ℕ) (tag : Tag) (k : In) (value : Value)
         (omega (arith, as_long)) (omega arith) in
         let told = ordered_told order bytes out as_long e at.field.value new s.value is tag_same
         (λ c. ap (child_of c) n ∙ no_child tag.1 childless c) agree in
-        let ls = located_of (ordered_spots (number_of order) bytes) in
+        let ls = located_of (ordered_trace (number_of order) bytes) in
         let here = located_in bytes order head in
         let fields : fields_of (ordered_trace (number_of order) out)
         ≡ replaced tag k new (fields_of (ordered_trace (number_of order) bytes)) =

@@ -8,7 +8,7 @@ use Rattle.exif_tiff.specs.Trace.{trace, ordered_trace}
 use Rattle.exif_edit.specs.Causes.{no_field, place_named, too_long}
 use Rattle.exif_edit.specs.Erasing.{erase_answer, erase_patches, gps_spans}
 use Rattle.exif_edit.specs.Finding.{find_answer}
-use Rattle.exif_entries.specs.Locations.{gps_places, located, ordered_spots}
+use Rattle.exif_entries.specs.Locations.{directory_places, gps_places, located}
 use Rattle.exif_edit.specs.PlacesAlone.{places_stand_alone}
 use Rattle.exif_edit.specs.Readings.{reading}
 use Rattle.exif_edit.specs.Sharing.{stands_alone}
@@ -31,13 +31,12 @@ shorter : set_answer described (record { 0 = Tiff; 1 = 0x10e }) (record { 0 = 0 
     ∷ 1 ∷ 14 ∷ 0 ∷ 2 ∷ 0 ∷ 0 ∷ 0 ∷ 5 ∷ 0 ∷ 0 ∷ 0 ∷ 26
     ∷ 0 ∷ 0 ∷ 0 ∷ 0
     ∷ 66 ∷ 108 ∷ 117 ∷ 101 ∷ 0 ∷ 0 ∷ 0 ∷ [])
-unfolding set_patches checked_patches find_answer value_answer reading located ordered_spots trace
-    ordered_trace
+unfolding set_patches checked_patches find_answer value_answer reading located trace ordered_trace
 shorter = refl
 
 -- its entry, at 10, stands alone
 alone : stands_alone (number_of Big) described 10 ≡ true
-unfolding located ordered_spots
+unfolding located trace ordered_trace
 alone = refl
 
 -- a description and a maker's name that share one text
@@ -51,7 +50,7 @@ sharing =
     ∷ 83 ∷ 97 ∷ 109 ∷ 112 ∷ 108 ∷ 101 ∷ 0 ∷ []
 
 not_alone : stands_alone (number_of Big) sharing 10 ≡ false
-unfolding located ordered_spots
+unfolding located trace ordered_trace
 not_alone = refl
 
 -- one that stands in the entry then: its old room is zeros
@@ -62,21 +61,18 @@ inline : set_answer described (record { 0 = Tiff; 1 = 0x10e }) (record { 0 = 0 }
     ∷ 1 ∷ 14 ∷ 0 ∷ 2 ∷ 0 ∷ 0 ∷ 0 ∷ 3 ∷ 72 ∷ 105 ∷ 0 ∷ 0
     ∷ 0 ∷ 0 ∷ 0 ∷ 0
     ∷ 0 ∷ 0 ∷ 0 ∷ 0 ∷ 0 ∷ 0 ∷ 0 ∷ [])
-unfolding set_patches checked_patches find_answer value_answer reading located ordered_spots trace
-    ordered_trace
+unfolding set_patches checked_patches find_answer value_answer reading located trace ordered_trace
 inline = refl
 
 longer : set_answer described (record { 0 = Tiff; 1 = 0x10e }) (record { 0 = 0 })
     (value.Ascii (codes "Samples" ∷ []))
     ≡ Err too_long
-unfolding set_patches checked_patches find_answer value_answer reading located ordered_spots trace
-    ordered_trace
+unfolding set_patches checked_patches find_answer value_answer reading located trace ordered_trace
 longer = refl
 
 absent : set_answer described (record { 0 = Tiff; 1 = 0x10f }) (record { 0 = 0 }) (value.Ascii [])
     ≡ Err no_field
-unfolding set_patches checked_patches find_answer value_answer reading located ordered_spots trace
-    ordered_trace
+unfolding set_patches checked_patches find_answer value_answer reading located trace ordered_trace
 absent = refl
 
 -- strips may not be moved
@@ -101,7 +97,7 @@ placed =
 
 -- nothing else is looked at there
 places_alone : places_stand_alone (number_of Big) placed ≡ true
-unfolding gps_places gps_spans ordered_spots
+unfolding gps_places gps_spans directory_places trace ordered_trace
 places_alone = refl
 
 -- the directory and its value are zeros, and the byte behind them stays
@@ -116,5 +112,5 @@ without_place : erase_answer placed
     ∷ 0 ∷ 0 ∷ 0 ∷ 0
     ∷ 0 ∷ 0 ∷ 0 ∷ 0 ∷ 0 ∷ 0 ∷ 0
     ∷ 9 ∷ [])
-unfolding erase_patches reading gps_places gps_spans ordered_spots trace ordered_trace
+unfolding erase_patches reading gps_places gps_spans directory_places trace ordered_trace
 without_place = refl

@@ -26,7 +26,7 @@ use Rattle.exif_edit.specs.Setting.{names_places}
 use Rattle.exif_entries.specs.Walked.{entry_of}
 use Rattle.exif_edit.specs.declared.patch.Patch.{Patch}
 use Rattle.exif_edit.specs.declared.patch.Span.{Span}
-use Rattle.exif_entries.specs.declared.walk.EntryPlace.{EntryPlace}
+use Rattle.exif_tiff.specs.declared.place.EntryPlace.{EntryPlace}
 
 -- ---- a directory without its entries of a tag (TIFF 6.0, section 2, "Image File Directory")
 

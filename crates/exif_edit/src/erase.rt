@@ -13,10 +13,10 @@ ghost use Rattle.exif_edit.specs.Readings.{read_of};
 
 use crate::error::Error;
 use crate::patch::{Patch, Span, apply, patched, zeros};
-use crate::read::{order_named, read};
+use crate::read::{locate, order_named, read};
 use crate::set::value_room;
 use exif_base::{BigEndian, LittleEndian, Order};
-use exif_entries::locations;
+use exif_entries::Located;
 use exif_reader::directory;
 use exif_reader::stop::Stop;
 use exif_reader::tiff::Parsed;
@@ -162,8 +162,7 @@ pub fn erase_places_patches(alloc: Global, bytes: &[u8]) -> Result<Vec<Patch>, E
     ensures answer { Makes (λ ps. ps.items) result (erase_patches bytes.now) }
     ensures within { IfOk result (λ ps. All (FitsIn (length bytes.now)) ps.items) }
 {
-    let mut parsed = read(alloc, bytes)?;
-    let walk = locations(alloc, bytes, parsed.little_endian)?;
+    let Located { mut parsed, walk } = locate(alloc, bytes)?;
     let order = order_named(parsed.little_endian);
     let patches = zeroed(alloc, order, bytes, walk.gps())?;
     drop_gps(&mut parsed.fields);

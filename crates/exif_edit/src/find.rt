@@ -8,8 +8,8 @@ ghost use Rattle.exif_edit.specs.Readings.{read_of};
 ghost use Rattle.exif_edit.specs.declared.find.Found.{Found};
 
 use crate::error::Error;
-use crate::read::read;
-use exif_entries::{EntryPlace, locations};
+use crate::read::locate;
+use exif_entries::{EntryPlace, Located};
 use exif_reader::tiff::Parsed;
 use exif_types::{Field, In, Tag};
 use std::alloc::Global;
@@ -60,8 +60,7 @@ pub fn find(alloc: Global, bytes: &[u8], tag: Tag, ifd_num: In) -> Result<Found,
     ensures last { IfOk result (λ f. IsLastAt tag ifd_num f.parsed.fields.items f.index) }
     ensures small { OnOk result (length bytes.now < 2 ^ 32) }
 {
-    let parsed = read(alloc, bytes)?;
-    let walk = locations(alloc, bytes, parsed.little_endian)?;
+    let Located { parsed, walk } = locate(alloc, bytes)?;
     match last_index(parsed.fields.as_slice(), tag, ifd_num) {
         None => Err(Error::FieldNotFound),
         Some(index) => {

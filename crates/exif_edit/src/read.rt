@@ -4,9 +4,12 @@ ghost use Rattle.std.specs.Prelude.{◌≡◌, ◌≤◌, ◌<◌, ◌^◌, ◌+
 ghost use Rattle.std.specs.Cmp.Lexicographic.{pointwise};
 ghost use Rattle.exif_base.specs.Bytes.{number_at};
 ghost use Rattle.exif_base.specs.Orders.{number_of, order_named};
+ghost use Rattle.exif_entries.specs.Results.{parsed_of};
+ghost use Rattle.exif_entries.specs.Walked.{Finds};
 ghost use Rattle.exif_edit.specs.Readings.{ReadsTo, fault_eq, read_of, reading, reads_as};
 
 use exif_base::{BigEndian, Endian, LittleEndian, Order};
+use exif_entries::{Located, read_located};
 use exif_reader::stop::Stop;
 use exif_reader::tiff::{Parsed, parse};
 use exif_tiff::Fault;
@@ -19,6 +22,16 @@ pub fn read(alloc: Global, bytes: &[u8]) -> Result<Parsed, Stop>
     ensures small { OnOk result (length bytes.now < 2 ^ 32) }
 {
     parse(alloc, bytes, true, None)
+}
+
+/// Reads data leniently, and tells where what is read stands.
+pub fn locate(alloc: Global, bytes: &[u8]) -> Result<Located, Stop>
+    ensures reads { ReadsTo (parsed_of result) (reading bytes.now) }
+    ensures places { IfOk result (λ located. Finds bytes.now located.walk) }
+    ensures room { OnOk result (8 ≤ length bytes.now) }
+    ensures small { OnOk result (length bytes.now < 2 ^ 32) }
+{
+    read_located(alloc, bytes)
 }
 
 // Whether two lists of faults are one.

@@ -19,10 +19,10 @@ use crate::erase::{value_span, whole_entries};
 use crate::error::Error;
 use crate::find::is_named;
 use crate::patch::{Patch, apply, padded, patched, zeros};
-use crate::read::{number16, order_named, read};
+use crate::read::{locate, number16, order_named, read};
 use crate::set::names_places;
 use exif_base::{BigEndian, Items, LittleEndian, Order};
-use exif_entries::{EntryPlace, locations};
+use exif_entries::{EntryPlace, Located};
 use exif_reader::directory::directory_end;
 use exif_reader::stop::Stop;
 use exif_reader::tiff::Parsed;
@@ -333,8 +333,7 @@ fn named_removals(alloc: Global, bytes: &[u8], tag: Tag, ifd_num: In) -> Result<
     ensures answer { Makes (λ ps. ps.items) result (named_removals bytes.now tag ifd_num) }
     ensures within { IfOk result (λ ps. All (FitsIn (length bytes.now)) ps.items) }
 {
-    let mut parsed = read(alloc, bytes)?;
-    let walk = locations(alloc, bytes, parsed.little_endian)?;
+    let Located { mut parsed, walk } = locate(alloc, bytes)?;
     let places = directories_with(
         alloc,
         parsed.fields.as_slice(),

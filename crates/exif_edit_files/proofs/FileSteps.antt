@@ -15,7 +15,7 @@ use Rattle.exif_edit.specs.Patches.{FitsIn}
 use Rattle.exif_edit_files.specs.Pieces.{piece_in, place_before}
 use Rattle.exif_edit.specs.declared.patch.Patch.{Patch}
 use Rattle.exif_edit.proofs.ChangeSteps.{left_step}
-use Rattle.exif_entries.proofs.WalkSteps.{spaced_step}
+use Rattle.exif_reader.proofs.ParserRuns.{spaced_step}
 
 -- ---- the search of the place
 

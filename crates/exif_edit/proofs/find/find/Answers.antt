@@ -9,25 +9,21 @@ returns-in_err-parsed-clause-answer c =
     rw p.1 (find_fault c.in_err-parsed.field-0.0 c.args.bytes.now c.args.tag c.args.ifd_num p.0
     c.in_err-parsed.ensures.reads p.2)
 
-pub locations-requires-clause-header : goal.locations-requires-clause-header
-locations-requires-clause-header c =
-    header_named c.args.bytes.now (read_of c.in_ok-parsed.parsed) c.in_ok-parsed.ensures.reads
-
 pub returns-in-None-clause-answer : goal.returns-in-None-clause-answer
 returns-in-None-clause-answer c =
-    find_missing c.args.bytes.now c.args.tag c.args.ifd_num (read_of c.in_ok-parsed.parsed)
+    find_missing c.args.bytes.now c.args.tag c.args.ifd_num (read_of c.in_ok-parsed.field-0.parsed)
     c.in_ok-parsed.ensures.reads (rw c.as_slice.ensures.value at c.in-None.ensures)
 
 pub at-place-requires : goal.at-place-requires
 at-place-requires c =
     rw c.entries.ensures
-    (entry_below c.args.bytes.now c.args.tag c.args.ifd_num (read_of c.in_ok-parsed.parsed)
-    c.in-Some.index c.in_ok-walk.walk.entries c.in_ok-parsed.ensures.reads
-    (rw c.as_slice.ensures.value at c.in-Some.ensures) c.in_ok-walk.ensures.entries)
+    (entry_below c.args.bytes.now c.args.tag c.args.ifd_num (read_of c.in_ok-parsed.field-0.parsed)
+    c.in-Some.index c.in_ok-parsed.field-0.walk.entries c.in_ok-parsed.ensures.reads
+    (rw c.as_slice.ensures.value at c.in-Some.ensures) c.in_ok-parsed.ensures.places.entries)
 
 pub returns-in-Some-clause-answer : goal.returns-in-Some-clause-answer
 returns-in-Some-clause-answer c =
-    find_found c.args.bytes.now c.args.tag c.args.ifd_num (read_of c.in_ok-parsed.parsed)
-    c.in-Some.index c.at-place.result c.in_ok-walk.walk.entries c.in_ok-parsed.ensures.reads
-    (rw c.as_slice.ensures.value at c.in-Some.ensures) c.in_ok-walk.ensures.entries
+    find_found c.args.bytes.now c.args.tag c.args.ifd_num (read_of c.in_ok-parsed.field-0.parsed)
+    c.in-Some.index c.at-place.result c.in_ok-parsed.field-0.walk.entries c.in_ok-parsed.ensures.reads
+    (rw c.as_slice.ensures.value at c.in-Some.ensures) c.in_ok-parsed.ensures.places.entries
     (rw c.entries.ensures at c.at-place.ensures)

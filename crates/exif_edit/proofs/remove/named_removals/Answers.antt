@@ -12,21 +12,17 @@ returns-in_err-parsed-clause-answer c =
     rw p.1 (remove_fault c.in_err-parsed.field-0.0 c.args.bytes.now c.args.tag c.args.ifd_num p.0
     c.in_err-parsed.ensures.reads p.2)
 
-pub locations-requires-clause-header : goal.locations-requires-clause-header
-locations-requires-clause-header c =
-    header_named c.args.bytes.now (read_of c.in_ok-parsed.parsed) c.in_ok-parsed.ensures.reads
-
 pub directories_with-requires : goal.directories_with-requires
 directories_with-requires c =
     rw (c.as_slice.ensures.value, c.entries.ensures)
-    (as_many c.args.bytes.now (read_of c.in_ok-parsed.parsed) c.in_ok-walk.walk.entries
-    c.in_ok-parsed.ensures.reads c.in_ok-walk.ensures.entries)
+    (as_many c.args.bytes.now (read_of c.in_ok-parsed.field-0.parsed) c.in_ok-parsed.field-0.walk.entries
+    c.in_ok-parsed.ensures.reads c.in_ok-parsed.ensures.places.entries)
 
 pub returns-then-is_empty-clause-answer : goal.returns-then-is_empty-clause-answer
 returns-then-is_empty-clause-answer c =
-    none_named c.args.bytes.now c.args.tag c.args.ifd_num (read_of c.in_ok-parsed.parsed)
-    c.in_ok-walk.walk.entries c.in_ok-places.places.items c.in_ok-parsed.ensures.reads
-    c.in_ok-walk.ensures.entries
+    none_named c.args.bytes.now c.args.tag c.args.ifd_num (read_of c.in_ok-parsed.field-0.parsed)
+    c.in_ok-parsed.field-0.walk.entries c.in_ok-places.places.items c.in_ok-parsed.ensures.reads
+    c.in_ok-parsed.ensures.places.entries
     (rw (c.as_slice.ensures.value, c.entries.ensures) at c.in_ok-places.ensures)
     (rw c.as_slice-places.ensures.value at (sym c.is_empty.ensures ∙ c.if-is_empty.true))
 
@@ -39,9 +35,9 @@ patched-requires c =
 pub returns-then-same-clause-answer : goal.returns-then-same-clause-answer
 returns-then-same-clause-answer c =
     (remove_same c.args.bytes.now c.in_ok-new.new.items c.args.tag c.args.ifd_num
-    (read_of c.in_ok-parsed.parsed) c.in_ok-walk.walk.entries c.in_ok-places.places.items
+    (read_of c.in_ok-parsed.field-0.parsed) c.in_ok-parsed.field-0.walk.entries c.in_ok-places.places.items
     c.in_ok-patches.patches.items c.drop_named.new.fields.items c.order_named-order.result
-    c.in_ok-parsed.ensures.reads c.in_ok-walk.ensures.entries
+    c.in_ok-parsed.ensures.reads c.in_ok-parsed.ensures.places.entries
     (rw (c.as_slice.ensures.value, c.entries.ensures) at c.in_ok-places.ensures)
     c.order_named-order.ensures (rw c.as_slice-places.ensures.value at c.in_ok-patches.ensures)
     (rw c.as_slice-2.ensures.value at c.in_ok-new.ensures) c.drop_named.ensures
@@ -56,9 +52,9 @@ returns-then-same-clause-within c =
 pub returns-clause-answer : goal.returns-clause-answer
 returns-clause-answer c =
     (remove_same c.args.bytes.now c.in_ok-new.new.items c.args.tag c.args.ifd_num
-    (read_of c.in_ok-parsed.parsed) c.in_ok-walk.walk.entries c.in_ok-places.places.items
+    (read_of c.in_ok-parsed.field-0.parsed) c.in_ok-parsed.field-0.walk.entries c.in_ok-places.places.items
     c.in_ok-patches.patches.items c.drop_named.new.fields.items c.order_named-order.result
-    c.in_ok-parsed.ensures.reads c.in_ok-walk.ensures.entries
+    c.in_ok-parsed.ensures.reads c.in_ok-parsed.ensures.places.entries
     (rw (c.as_slice.ensures.value, c.entries.ensures) at c.in_ok-places.ensures)
     c.order_named-order.ensures (rw c.as_slice-places.ensures.value at c.in_ok-patches.ensures)
     (rw c.as_slice-2.ensures.value at c.in_ok-new.ensures) c.drop_named.ensures
