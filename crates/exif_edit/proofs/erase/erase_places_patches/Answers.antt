@@ -1,6 +1,5 @@
 use Rattle.std.proofs.lemmas.Result.{err_from_is_err_and}
 use Rattle.exif_edit.specs.Readings.{read_of}
-use Rattle.exif_edit.proofs.FindSteps.{header_named}
 use Rattle.exif_edit.proofs.EraseSteps.{erase_fault, erase_same, zeros_are}
 use Rattle.exif_edit.proofs.EraseSound.{gps_fit}
 use Rattle.exif_edit.proofs.erase.erase_places_patches.Goals as goal

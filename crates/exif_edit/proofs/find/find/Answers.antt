@@ -1,6 +1,6 @@
 use Rattle.std.proofs.lemmas.Result.{err_from_is_err_and}
 use Rattle.exif_edit.specs.Readings.{read_of}
-use Rattle.exif_edit.proofs.FindSteps.{header_named, find_fault, find_missing, find_found, entry_below}
+use Rattle.exif_edit.proofs.FindSteps.{find_fault, find_missing, find_found, entry_below}
 use Rattle.exif_edit.proofs.find.find.Goals as goal
 
 pub returns-in_err-parsed-clause-answer : goal.returns-in_err-parsed-clause-answer

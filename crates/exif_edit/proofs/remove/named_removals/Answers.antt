@@ -1,7 +1,6 @@
 use Rattle.std.proofs.Common.{sym, ◌∙◌}
 use Rattle.std.proofs.lemmas.Result.{err_from_is_err_and}
 use Rattle.exif_edit.specs.Readings.{read_of}
-use Rattle.exif_edit.proofs.FindSteps.{header_named}
 use Rattle.exif_edit.proofs.RemoveSteps.{as_many, none_named, remove_fault, remove_same}
 use Rattle.exif_edit.proofs.RemoveSound.{named_fits, removals_fit}
 use Rattle.exif_edit.proofs.remove.named_removals.Goals as goal

@@ -1,6 +1,6 @@
-use Rattle.std.proofs.Common.{◌≡◌, ◌∙◌, Some, sym, subst}
+use Rattle.std.proofs.Common.{◌∙◌}
 use Rattle.std.proofs.lemmas.Result.{err_from_is_err_and}
-use Rattle.exif_tiff.specs.Answers.{Answer, raw_answer}
+use Rattle.exif_tiff.specs.Answers.{Answer}
 use Rattle.exif_reader.specs.Results.{Says, parsed_of}
 use Rattle.exif_reader.proofs.TiffLimits.{unlimited}
 use Rattle.exif_reader.proofs.tiff.parse.Goals as goal
