@@ -61,7 +61,7 @@ erase_cleared : (bytes : List ℕ) (read : Read) → reading bytes ≡ Ok read
 unfolding erase_patches
 erase_cleared bytes read h = rw h refl
 
-spans_are : (number : Reading) (bytes qs : List ℕ) → qs ≡ gps_places bytes
+pub spans_are : (number : Reading) (bytes qs : List ℕ) → qs ≡ gps_places bytes
     → flat_map (directory_spans number bytes) qs ≡ gps_spans number bytes
 unfolding gps_spans
 spans_are number bytes qs e = ap (λ ps. flat_map (directory_spans number bytes) ps) e

@@ -1,3 +1,5 @@
+pub mod AloneSound
+pub mod AloneSteps
 pub mod CauseSteps
 pub mod ChangeSteps
 pub mod ClearSound
@@ -21,3 +23,4 @@ pub mod SetSound
 pub mod SetSteps
 pub mod Told
 pub mod Unshared
+pub mod WalkedDirectories

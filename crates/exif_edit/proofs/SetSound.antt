@@ -174,13 +174,13 @@ value_misses order value e bytes ps i f a b =
 -- ---- the whole
 
 -- what was found
-record WasFound (bytes : List ℕ) (tag : Tag) (k : In) (found : Read × ℕ) : Type 0 where
-  at : Located
-  reads : reading bytes ≡ Ok found.0
-  last : last_located tag k (located bytes) ≡ Some at
-  entry : at.entry ≡ found.1
+pub record WasFound (bytes : List ℕ) (tag : Tag) (k : In) (found : Read × ℕ) : Type 0 where
+  pub at : Located
+  pub reads : reading bytes ≡ Ok found.0
+  pub last : last_located tag k (located bytes) ≡ Some at
+  pub entry : at.entry ≡ found.1
 
-was_found : (bytes : List ℕ) (tag : Tag) (k : In) (found : Read × ℕ)
+pub was_found : (bytes : List ℕ) (tag : Tag) (k : In) (found : Read × ℕ)
     → find_answer bytes tag k ≡ Ok found → WasFound bytes tag k found
 unfolding find_answer
 was_found bytes tag k found e =

@@ -1,4 +1,5 @@
 pub mod Causes
+pub mod Changing
 pub mod Clearing
 pub mod Erasing
 pub mod Examples

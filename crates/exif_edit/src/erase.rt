@@ -11,6 +11,7 @@ ghost use Rattle.exif_edit.specs.Patches.{FitsIn, zeros_over};
 ghost use Rattle.exif_edit.specs.Promises.{IsErased};
 ghost use Rattle.exif_edit.specs.Readings.{read_of};
 
+use crate::alone::places_stand_alone;
 use crate::error::Error;
 use crate::patch::{Patch, Span, apply, patched, zeros};
 use crate::read::{locate, order_named, read};
@@ -165,6 +166,9 @@ pub fn erase_places_patches(alloc: Global, bytes: &[u8]) -> Result<Vec<Patch>, E
     let Located { mut parsed, walk } = locate(alloc, bytes)?;
     let order = order_named(parsed.little_endian);
     let patches = zeroed(alloc, order, bytes, walk.gps())?;
+    if places_stand_alone(order, bytes, patches.as_slice(), &walk) {
+        return Ok(patches);
+    }
     drop_gps(&mut parsed.fields);
     let new = patched(alloc, patches.as_slice(), bytes)?;
     let same = clears(alloc, new.as_slice(), &parsed)?;
@@ -179,8 +183,8 @@ pub fn erase_places_patches(alloc: Global, bytes: &[u8]) -> Result<Vec<Patch>, E
 /// empty directories. Places in XMP, in maker notes and in bytes that nothing points to stay too.
 ///
 /// Refusals are `Header` and `SharedBytes`, which places that stand alone never get (see
-/// [`laws`](crate::laws)). It takes the memory of two readings, of a copy of the data and of the
-/// zeros.
+/// [`laws`](crate::laws)). It takes the memory of one reading and of the zeros; and where bytes are
+/// shared, of a copy and a second reading.
 pub fn erase_places(alloc: Global, bytes: &mut [u8]) -> Result<(), Error>
     ensures answer { Edits result bytes.old bytes.new (erase_answer bytes.old) }
     ensures erased { OnOk result (IsErased bytes.old bytes.new) }

@@ -2,6 +2,7 @@
 
 ghost use Rattle.std.specs.Prelude.{◌≡◌, ◌<◌, ◌^◌, All, length, false, slice_get, Some, IfOk, OnOk, MatchOption};
 ghost use Rattle.exif_types.specs.Lookup.{is_named};
+ghost use Rattle.exif_entries.specs.Walked.{Finds};
 ghost use Rattle.exif_edit.specs.Causes.{Makes};
 ghost use Rattle.exif_edit.specs.Finding.{IsLastAt, find_answer};
 ghost use Rattle.exif_edit.specs.Readings.{read_of};
@@ -9,17 +10,18 @@ ghost use Rattle.exif_edit.specs.declared.find.Found.{Found};
 
 use crate::error::Error;
 use crate::read::locate;
-use exif_entries::{EntryPlace, Located};
+use exif_entries::{EntryPlace, Located, Walk};
 use exif_reader::tiff::Parsed;
 use exif_types::{Field, In, Tag};
 use std::alloc::Global;
 
-/// What was read, and where a field stands in it.
+/// What was read, and where a field stands in it, with all places.
 #[derive(Drop)]
 pub struct Found {
     pub parsed: Parsed,
     pub index: usize,
     pub entry: u32,
+    pub walk: Walk,
 }
 
 /// Whether a field has this tag, in this directory.
@@ -58,6 +60,7 @@ pub fn find(alloc: Global, bytes: &[u8], tag: Tag, ifd_num: In) -> Result<Found,
     ensures answer { Makes (λ (f : Found). (read_of f.parsed, f.entry)) result
         (find_answer bytes.now tag ifd_num) }
     ensures last { IfOk result (λ f. IsLastAt tag ifd_num f.parsed.fields.items f.index) }
+    ensures places { IfOk result (λ f. Finds bytes.now f.walk) }
     ensures small { OnOk result (length bytes.now < 2 ^ 32) }
 {
     let Located { parsed, walk } = locate(alloc, bytes)?;
@@ -69,6 +72,7 @@ pub fn find(alloc: Global, bytes: &[u8], tag: Tag, ifd_num: In) -> Result<Found,
                 parsed,
                 index,
                 entry: place.entry,
+                walk,
             })
         }
     }

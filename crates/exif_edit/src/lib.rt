@@ -3,10 +3,11 @@
 //!
 //! Each edit comes in two forms: over data in memory, and as patches, for a program that writes into
 //! a file by a seek; `exif_edit_files` has them over files. An error leaves all bytes as they were.
-//! What an edit makes is read again before it is answered; data that would read otherwise are
-//! refused. docs/CALLING.md has examples over files.
+//! Where bytes that an edit changes are shared with something else, what it makes is read again
+//! before it is answered; data that would read otherwise are refused. docs/CALLING.md has examples over files.
 #![tactic(auto)]
 
+mod alone;
 mod clear;
 mod erase;
 mod error;

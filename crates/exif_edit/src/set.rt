@@ -1,24 +1,32 @@
 //! One value put in the place of another.
 
-ghost use Rattle.std.specs.Prelude.{◌≡◌, ◌≤◌, ◌<◌, ◌+◌, ◌*◌, ◌^◌, All, [], ◌∷◌, max, length, IfOk, IfErr, OnOk};
+ghost use Rattle.std.specs.Prelude.{◌≡◌, ◌≢◌, ◌≤◌, ◌<◌, ◌+◌, ◌*◌, ◌^◌, All, [], ◌∷◌, max, length, true, false, Ok, IfOk, IfErr, OnOk};
 ghost use Rattle.exif_base.specs.Orders.{number_of};
+ghost use Rattle.exif_tiff.specs.Trace.{header};
+ghost use Rattle.exif_entries.specs.Walked.{Finds};
+ghost use Rattle.exif_types.specs.Sound.{HasPlainTexts};
 ghost use Rattle.exif_types.specs.ValueTypes.{count_of};
 ghost use Rattle.exif_types.specs.declared.error.Error.TheVariants as Failure;
 ghost use Rattle.exif_writer.specs.Encoding.{encode, moved_to};
+ghost use Rattle.exif_writer.specs.Ranged.{IsRanged};
+ghost use Rattle.exif_writer.specs.Refused.{is_unknown};
 ghost use Rattle.exif_edit.specs.Causes.{Edits, Makes};
 ghost use Rattle.exif_edit.specs.Finding.{IsLastAt, replaced};
 ghost use Rattle.exif_edit.specs.Patches.{FitsIn};
 ghost use Rattle.exif_edit.specs.Promises.{FindsValue, IsSet};
 ghost use Rattle.exif_edit.specs.Setting.{checked_patches, names_places, room_patches, set_answer, set_patches, set_place, value_answer, value_patches, value_room};
+ghost use Rattle.exif_edit.specs.Sharing.{names_child, stands_alone};
 ghost use Rattle.exif_edit.specs.declared.set.Edit.{Edit};
 
+use crate::alone::stands_alone;
 use crate::error::Error;
-use crate::find::find;
+use crate::find::{Found, find};
 use crate::patch::{Patch, Span, apply, padded, patched};
 use crate::read::{number16, number32, order_named, reads_as};
 use crate::spell::{encode, entry_text, is_unknown};
 use exif_base::{Items, Order};
 use exif_types::{Context, Field, FieldType, In, Tag, Value};
+use exif_writer::ranges::show_value_fits;
 use std::alloc::{AllocError, Global};
 
 /// What sets a value, and where the value stands then.
@@ -177,6 +185,66 @@ fn set_field(fields: &mut Vec<Field>, index: usize, value: Value, tag: Tag, ifd_
     fields[index].value = value;
 }
 
+// Whether a tag number is that of a child directory.
+fn names_child(number: u16) -> bool
+    ensures { result ≡ names_child number }
+{
+    matches!(number, 0x8769 | 0x8825 | 0xa005)
+}
+
+// Whether a text holds no zero byte.
+fn is_plain(text: &[u8]) -> bool
+    ensures { result ≡ true → All (λ b. b ≢ 0) text.now }
+{
+    text.iter().all(|byte| *byte != 0)
+}
+
+// Whether no text of a value holds a zero byte.
+fn has_plain_texts(value: &Value) -> bool
+    ensures { result ≡ true → HasPlainTexts value.now }
+{
+    match value {
+        Value::Ascii(texts) => texts.as_slice().iter().all(|text| is_plain(text.as_slice())),
+        _ => true,
+    }
+}
+
+// Whether a value of a tag is read as it is written.
+fn reads_back(tag: Tag, value: &Value) -> bool
+    ensures childless { result ≡ true → names_child tag.1 ≡ false }
+    ensures ranged { IsRanged value.now }
+    ensures plain { result ≡ true → HasPlainTexts value.now }
+{
+    show_value_fits(value);
+    !names_child(tag.1) && has_plain_texts(value)
+}
+
+// Whether what sets a value of a tag changes nothing else that is read.
+fn is_alone(
+    order: Order,
+    bytes: &[u8],
+    tag: Tag,
+    value: &Value,
+    found: &Found,
+    edit: &Edit,
+) -> bool
+    requires header { header bytes.now ≡ Ok order }
+    requires small { length bytes.now < 2 ^ 32 }
+    requires places { Finds bytes.now found.now.walk }
+    requires edit { value_answer order value.now found.now.entry bytes.now
+        ≡ Ok edit.now.patches.items }
+    ensures alone { result ≡ true
+        → stands_alone (number_of order) bytes.now found.now.entry ≡ true }
+    ensures childless { result ≡ true → names_child tag.1 ≡ false }
+    ensures ranged { result ≡ true → IsRanged value.now }
+    ensures plain { result ≡ true → HasPlainTexts value.now }
+{
+    if !reads_back(tag, value) {
+        return false;
+    }
+    stands_alone(order, bytes, edit.patches.as_slice(), found.entry, &found.walk)
+}
+
 /// What [`set_value`] puts over the data, as data: at most two patches. The data stay as they are.
 pub fn set_value_patches(
     alloc: Global,
@@ -198,7 +266,7 @@ pub fn set_value_patches(
     checked_patches(alloc, bytes, tag, ifd_num, value)
 }
 
-// The patches, after a reading of what they make.
+// The patches: at once where the entry stands alone, else after a reading of what they make.
 fn checked_patches(
     alloc: Global,
     bytes: &[u8],
@@ -206,6 +274,8 @@ fn checked_patches(
     ifd_num: In,
     value: &Value,
 ) -> Result<Vec<Patch>, Error>
+    requires movable { names_places tag ≡ false }
+    requires known { is_unknown value.now ≡ false }
     ensures answer { Makes (λ ps. ps.items) result
         (checked_patches bytes.now tag ifd_num value.now) }
     ensures within { IfOk result (λ ps. All (FitsIn (length bytes.now)) ps.items) }
@@ -213,6 +283,9 @@ fn checked_patches(
     let mut found = find(alloc, bytes, tag, ifd_num)?;
     let order = order_named(found.parsed.little_endian);
     let edit = make_edit(alloc, bytes, order, value, found.entry)?;
+    if is_alone(order, bytes, tag, value, &found, &edit) {
+        return Ok(edit.patches);
+    }
     let moved = moved(alloc, value, edit.place)?;
     set_field(&mut found.parsed.fields, found.index, moved, tag, ifd_num);
     let new = patched(alloc, edit.patches.as_slice(), bytes)?;
@@ -230,7 +303,7 @@ fn checked_patches(
 ///
 /// Refusals are `NamesPlaces`, `UnknownType`, `Header`, `FieldNotFound`, `ValueTooLong` and
 /// `SharedBytes`, which a value whose entry stands alone never gets (see [`laws`](crate::laws)). It
-/// takes the memory of two readings and of a copy of the data.
+/// takes the memory of one reading; and where bytes are shared, of a copy and a second reading.
 pub fn set_value(
     alloc: Global,
     bytes: &mut [u8],

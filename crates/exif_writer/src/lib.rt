@@ -8,7 +8,7 @@ pub mod item;
 pub mod laws;
 mod measure;
 mod plan;
-mod ranges;
+pub mod ranges;
 mod send;
 pub mod write_fault;
 mod writer;

@@ -1,7 +1,9 @@
+use Rattle.std.proofs.Common.{Ok, ap, sym, ◌∙◌}
 use Rattle.std.proofs.lemmas.Result.{err_from_is_err_and}
 use Rattle.exif_edit.specs.Readings.{read_of}
 use Rattle.exif_edit.specs.Finding.{find_answer}
 use Rattle.exif_edit.specs.Setting.{checked_patches, value_answer}
+use Rattle.exif_edit.proofs.AloneSound.{header_found, set_alone}
 use Rattle.exif_edit.proofs.CauseSteps.{refused_on}
 use Rattle.exif_edit.proofs.SetSteps.{set_find, set_edit, set_same}
 use Rattle.exif_edit.proofs.set.checked_patches.Goals as goal
@@ -29,6 +31,22 @@ returns-in_err-edit-clause-answer c =
     (λ r h. set_edit c.args.bytes.now c.args.tag c.args.ifd_num c.args.value.now
     (read_of c.in_ok-found.found.parsed) c.in_ok-found.found.entry c.order_named-order.result r
     c.in_ok-found.ensures.answer c.order_named-order.ensures h))
+
+pub is_alone-requires-clause-header : goal.is_alone-requires-clause-header
+is_alone-requires-clause-header c =
+    header_found c.args.bytes.now c.args.tag c.args.ifd_num (read_of c.in_ok-found.found.parsed)
+    c.in_ok-found.found.entry c.in_ok-found.ensures.answer
+    ∙ ap (λ o. Ok o) (sym c.order_named-order.ensures)
+
+pub returns-then-is_alone-clause-answer : goal.returns-then-is_alone-clause-answer
+returns-then-is_alone-clause-answer c =
+    let yes = c.if-is_alone.true in
+    set_alone c.args.bytes.now c.args.tag c.args.ifd_num c.args.value.now
+    (read_of c.in_ok-found.found.parsed) c.in_ok-found.found.entry c.order_named-order.result
+    c.in_ok-edit.edit.patches.items c.in_ok-found.ensures.answer c.order_named-order.ensures
+    c.in_ok-edit.ensures.answer c.requires.movable c.requires.known
+    (c.is_alone.ensures.childless yes) (c.is_alone.ensures.ranged yes)
+    (c.is_alone.ensures.plain yes) (c.is_alone.ensures.alone yes)
 
 pub returns-then-same-clause-answer : goal.returns-then-same-clause-answer
 returns-then-same-clause-answer c =

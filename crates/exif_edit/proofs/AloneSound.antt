@@ -1,0 +1,308 @@
+-- Where what an edit changes stands alone, its patches are the answer.
+use Rattle.std.proofs.Common.{◌≡◌, ◌≤◌, ◌<◌, ◌+◌, ◌*◌, max, ℕ, suc, Bool, true, false, if◌then◌else◌, List, [], ◌∷◌, ◌++◌, length, map, replicate, Result, Ok, Err, Some, refl, sym, ap, ◌∙◌, arith, subst}
+use Rattle.std.specs.Prelude.{◌&&◌, ◌||◌, ◌==◌, ◌^◌, ◌-◌, not, nat_lt, nat_le}
+use Rattle.std.specs.List.{filter, flat_map, list_any}
+use Rattle.std.proofs.lemmas.Bool.Decides.{nat_tests}
+use Rattle.std.proofs.lemmas.List.{length-replicate}
+use Rattle.exif_base.specs.Bytes.{Reading, number_at}
+use Rattle.exif_base.specs.Orders.{number_of, order_named}
+use Rattle.exif_base.specs.declared.endian.Order.{Order}
+use Rattle.exif_types.specs.FieldTypes.{type_of, known_length}
+use Rattle.exif_types.specs.Sound.{HasPlainTexts}
+use Rattle.exif_types.specs.ValueTypes.{count_of}
+use Rattle.exif_types.specs.declared.tag.Tag.{Tag}
+use Rattle.exif_types.specs.declared.ifd.In.{In}
+use Rattle.exif_types.specs.declared.value.Value.{Value}
+use Rattle.exif_tiff.specs.Footprint.{Stretch, looked_at}
+use Rattle.exif_tiff.specs.Trace.{header}
+use Rattle.exif_writer.specs.Encoding.{encode}
+use Rattle.exif_writer.specs.Ranged.{IsRanged}
+use Rattle.exif_writer.specs.Refused.{is_unknown}
+use Rattle.exif_entries.specs.Locations.{Located, gps_places, located}
+use Rattle.exif_entries.specs.Walked.{Finds, Walked, entry_of}
+use Rattle.exif_entries.specs.declared.directories.DirectoryPlace.{DirectoryPlace}
+use Rattle.exif_entries.specs.declared.walk.EntryPlace.{EntryPlace}
+use Rattle.exif_edit.specs.Causes.{Cause, no_field, of_data, or_cause, place_named, shared, too_long, unknown_type, unless, ◌>>=◌}
+use Rattle.exif_edit.specs.Changing.{ChangeEntry, ChangePlaces, changes, covers}
+use Rattle.exif_edit.specs.Erasing.{directory_spans, erase_patches, gps_spans, is_gps}
+use Rattle.exif_edit.specs.Finding.{find_answer, last_located}
+use Rattle.exif_edit.specs.Patches.{zeros_over}
+use Rattle.exif_edit.specs.PlacesAlone.{all_kept, places_stand_alone}
+use Rattle.exif_edit.specs.Readings.{Read, reading}
+use Rattle.exif_edit.specs.Setting.{answer_in, checked_patches, entry_text, names_places, room_of, room_patches, room_text, set_patches, value_answer, value_patches, value_room}
+use Rattle.exif_edit.specs.Sharing.{all_beside, beside, changed_entry, fit_answer, meets, names_child, stands_alone, standing_at}
+use Rattle.exif_edit.specs.declared.patch.Patch.{Patch}
+use Rattle.exif_edit.specs.declared.patch.Span.{Span}
+use Rattle.exif_edit.proofs.AloneSteps.{any_flat, any_kept, any_same}
+use Rattle.exif_edit.proofs.CauseSteps.{passed}
+use Rattle.exif_edit.proofs.EraseSteps.{spans_are}
+use Rattle.exif_edit.proofs.FindSteps.{header_named}
+use Rattle.exif_edit.proofs.PlacesUnshared.{places_unshared}
+use Rattle.exif_edit.proofs.SetSound.{Fits, edit_fits_in, value_fits, value_lengths, was_found}
+use Rattle.exif_edit.proofs.SetSteps.{set_known}
+use Rattle.exif_edit.proofs.Unshared.{set_unshared}
+use Rattle.exif_edit.proofs.WalkedDirectories.{kept_of, places_of, walked_kept, walked_places}
+
+-- ---- what the patches change
+
+or_turned : (a b : Bool) → (a || b) ≡ (b || a)
+or_turned true true = refl
+or_turned true false = refl
+or_turned false true = refl
+or_turned false false = refl
+
+or_none : (a : Bool) → (a || false) ≡ a
+or_none true = refl
+or_none false = refl
+
+abbrev room_by : ℕ → ℕ → Bool → Span
+room_by place size b =
+    if b then record { place = 0; len = 0 } else record { place = place; len = size }
+
+-- a room of no bytes is nowhere, and meets nothing
+no_room : (place size : ℕ) (t : Stretch) → ((room_of place size).len == 0) ≡ true
+    → meets (room_of place size) t ≡ false
+no_room place size t h = by_test (nat_le size 4) refl h
+  where
+    by_test : (b : Bool) → nat_le size 4 ≡ b → ((room_by place size b).len == 0) ≡ true
+        → meets (room_by place size b) t ≡ false
+    by_test true e h = let z : nat_lt t.place 0 ≡ false = grind (arith, nat_tests) in rw z refl
+    by_test false e h = absurd (grind (arith, nat_tests))
+
+module _ (order : Order) (value : Value) (e : ℕ) (bytes : List ℕ) (ps : List Patch)
+    (f : Fits order value e bytes ps) (t : Stretch) where
+  abbrev room : Span
+  room = value_room (number_of order) bytes e
+
+  abbrev text : List ℕ
+  text = encode order value
+
+  abbrev entry : Patch
+  entry = record { place = e + 2; text = entry_text order value room.place text }
+
+  abbrev filled : Patch
+  filled = record { place = room.place; text = room_text room.len text }
+
+  entry_covers : covers t entry ≡ meets (changed_entry e) t
+  entry_covers =
+      ap (λ n. meets (record { place = e + 2; len = n }) t) (value_lengths order value room f.text).1
+
+  room_covers : covers t filled ≡ meets room t
+  room_covers =
+      ap (λ n. meets (record { place = room.place; len = n }) t)
+      (value_lengths order value room f.text).0
+
+  by_test : (b : Bool) → (room.len == 0) ≡ b
+      → changes ((if b then [] else filled ∷ []) ++ entry ∷ []) t
+      ≡ (meets (changed_entry e) t || meets room t)
+  by_test true h =
+      let none : meets room t ≡ false =
+      no_room (number_at (number_of order) 4 bytes (e + 8))
+      (known_length (type_of (number_at (number_of order) 2 bytes (e + 2)))
+      * number_at (number_of order) 4 bytes (e + 4)) t h in
+      ap (λ b. b || false) entry_covers ∙ ap (λ b. meets (changed_entry e) t || b) (sym none)
+  by_test false h =
+      ap (λ b. b || (covers t entry || false)) room_covers
+      ∙ (ap (λ b. meets room t || b) (or_none (covers t entry) ∙ entry_covers)
+      ∙ or_turned (meets room t) (meets (changed_entry e) t))
+
+  value_changed : changes ps t ≡ (meets (changed_entry e) t || meets room t)
+  value_changed = ap (λ qs. changes qs t) f.is ∙ by_test (room.len == 0) refl
+
+-- the patches of a value change its entry and its room
+pub value_changes : (order : Order) (value : Value) (e : ℕ) (bytes : List ℕ) (ps : List Patch)
+    → Fits order value e bytes ps → ChangeEntry (number_of order) bytes e ps
+value_changes order value e bytes ps f t = value_changed order value e bytes ps f t
+
+-- zeros over spans change these
+zeros_change : (ss : List Span) (t : Stretch)
+    → changes (map zeros_over ss) t ≡ list_any (λ s. meets s t) ss
+zeros_change [] t = refl
+zeros_change (s ∷ ss) t =
+    let n : length (replicate {A = ℕ} s.len 0) ≡ s.len = length-replicate s.len 0 in
+    ap (λ x. meets (record { place = s.place; len = x }) t || changes (map zeros_over ss) t) n
+    ∙ ap (λ b. meets s t || b) (zeros_change ss t)
+
+pub places_change : (number : Reading) (bytes : List ℕ) (ps : List Patch)
+    → ps ≡ map zeros_over (gps_spans number bytes) → ChangePlaces number bytes ps
+places_change number bytes ps e t =
+    ap (λ qs. changes qs t) e ∙ zeros_change (gps_spans number bytes) t
+
+-- ---- what was asked
+
+-- of the fields at an entry, without the fields
+once_same : (e : ℕ) (ls : List Located)
+    → length (filter (λ (p : EntryPlace). p.entry == e) (map entry_of ls))
+    ≡ length (standing_at e ls)
+once_same e [] = refl
+once_same e (l ∷ ls) = by_test (l.entry == e) (once_same e ls)
+  where
+    by_test : (b : Bool)
+        → length (filter (λ (p : EntryPlace). p.entry == e) (map entry_of ls))
+        ≡ length (standing_at e ls)
+        → length (if b then entry_of l ∷ filter (λ (p : EntryPlace). p.entry == e) (map entry_of ls)
+        else filter (λ (p : EntryPlace). p.entry == e) (map entry_of ls))
+        ≡ length (if b then l ∷ standing_at e ls else standing_at e ls)
+    by_test true h = ap (λ n. suc n) h
+    by_test false h = h
+
+pub once_found : (bytes : List ℕ) (w : Walked) (e : ℕ) → Finds bytes w
+    → (length (filter (λ (p : EntryPlace). p.entry == e) w.entries) == 1)
+    ≡ (length (standing_at e (located bytes)) == 1)
+once_found bytes w e f =
+    ap (λ es. length (filter (λ (p : EntryPlace). p.entry == e) es) == 1) f.entries
+    ∙ ap (λ n. n == 1) (once_same e (located bytes))
+
+-- the header, and all directories, but for the entry
+pub beside_found : (bytes : List ℕ) (order : Order) (ps : List Patch) (e : ℕ) (w : Walked)
+    → header bytes ≡ Ok order → Finds bytes w → ChangeEntry (number_of order) bytes e ps
+    → (changes ps (record { place = 0; len = 8 })
+    || list_any (λ (d : DirectoryPlace). list_any (changes ps)
+    (beside (number_of order) bytes e d.place)) w.directories)
+    ≡ list_any
+    (λ t. meets (changed_entry e) t || meets (value_room (number_of order) bytes e) t)
+    (all_beside (number_of order) bytes e)
+beside_found bytes order ps e w h f c =
+    ap (λ b. changes ps (record { place = 0; len = 8 }) || b)
+    (any_flat (changes ps) (λ (d : DirectoryPlace). d.place) (beside (number_of order) bytes e)
+    w.directories
+    ∙ ap (λ qs. list_any (changes ps) (flat_map (beside (number_of order) bytes e) qs))
+    (walked_places bytes order w h f))
+    ∙ any_same (changes ps)
+    (λ t. meets (changed_entry e) t || meets (value_room (number_of order) bytes e) t)
+    (all_beside (number_of order) bytes e) c
+
+-- the same of what is kept where places are erased
+pub kept_found : (bytes : List ℕ) (order : Order) (ps : List Patch) (w : Walked)
+    → header bytes ≡ Ok order → Finds bytes w → ChangePlaces (number_of order) bytes ps
+    → (changes ps (record { place = 0; len = 8 })
+    || list_any (λ (d : DirectoryPlace). not (is_gps d.context)
+    && list_any (changes ps) (looked_at (number_of order) bytes d.place)) w.directories)
+    ≡ list_any (λ t. list_any (λ s. meets s t) (gps_spans (number_of order) bytes))
+    (all_kept (number_of order) bytes)
+kept_found bytes order ps w h f c =
+    ap (λ b. changes ps (record { place = 0; len = 8 }) || b)
+    (any_kept (λ (d : DirectoryPlace). not (is_gps d.context))
+    (λ (d : DirectoryPlace). list_any (changes ps) (looked_at (number_of order) bytes d.place))
+    w.directories
+    ∙ (any_flat (changes ps) (λ (d : DirectoryPlace). d.place) (looked_at (number_of order) bytes)
+    (kept_of w.directories)
+    ∙ ap (λ qs. list_any (changes ps) (flat_map (looked_at (number_of order) bytes) qs))
+    (walked_kept bytes order w h f)))
+    ∙ any_same (changes ps) (λ t. list_any (λ s. meets s t) (gps_spans (number_of order) bytes))
+    (all_kept (number_of order) bytes) c
+
+-- whether the entry stands alone, by its parts
+pub alone_parts : (bytes : List ℕ) (order : Order) (ps : List Patch) (e : ℕ) (w : Walked)
+    → header bytes ≡ Ok order → Finds bytes w → ChangeEntry (number_of order) bytes e ps
+    → (not
+    (changes ps (record { place = 0; len = 8 })
+    || list_any (λ (d : DirectoryPlace). list_any (changes ps)
+    (beside (number_of order) bytes e d.place)) w.directories)
+    && (not (meets (value_room (number_of order) bytes e) (record { place = e; len = 12 }))
+    && (length (filter (λ (p : EntryPlace). p.entry == e) w.entries) == 1)))
+    ≡ stands_alone (number_of order) bytes e
+alone_parts bytes order ps e w h f c =
+    let near = meets (value_room (number_of order) bytes e) (record { place = e; len = 12 }) in
+    ap (λ b. not b
+    && (not near && (length (filter (λ (p : EntryPlace). p.entry == e) w.entries) == 1)))
+    (beside_found bytes order ps e w h f c)
+    ∙ ap (λ b. not
+    (list_any (λ t. meets (changed_entry e) t || meets (value_room (number_of order) bytes e) t)
+    (all_beside (number_of order) bytes e)) && (not near && b)) (once_found bytes w e f)
+
+-- the first part that says no settles it
+pub first_met : (a b r x : Bool) → a ≡ true → (not (a || b) && r) ≡ x → false ≡ x
+first_met a b r x p e = rw p at e
+
+pub second_met : (a b r x : Bool) → a ≡ false → b ≡ true → (not (a || b) && r) ≡ x → false ≡ x
+second_met a b r x p q e = rw (p, q) at e
+
+pub third_met : (a b m o x : Bool) → a ≡ false → b ≡ false → m ≡ true
+    → (not (a || b) && (not m && o)) ≡ x → false ≡ x
+third_met a b m o x p q r e = rw (p, q, r) at e
+
+pub none_met : (a b m o x : Bool) → a ≡ false → b ≡ false → m ≡ false
+    → (not (a || b) && (not m && o)) ≡ x → o ≡ x
+none_met a b m o x p q r e = rw (p, q, r) at e
+
+-- neither the header nor a kept directory
+pub places_parts : (bytes : List ℕ) (order : Order) (ps : List Patch) (w : Walked)
+    → header bytes ≡ Ok order → Finds bytes w → ChangePlaces (number_of order) bytes ps
+    → changes ps (record { place = 0; len = 8 }) ≡ false
+    → list_any (λ (d : DirectoryPlace). not (is_gps d.context)
+    && list_any (changes ps) (looked_at (number_of order) bytes d.place)) w.directories ≡ false
+    → places_stand_alone (number_of order) bytes ≡ true
+places_parts bytes order ps w h f c p q =
+    ap not (sym (kept_found bytes order ps w h f c)
+    ∙ (ap (λ b. b || list_any (λ (d : DirectoryPlace). not (is_gps d.context)
+    && list_any (changes ps) (looked_at (number_of order) bytes d.place)) w.directories) p ∙ q))
+
+-- ---- the answers
+
+-- the header of data in which a field was found
+pub header_found : (bytes : List ℕ) (tag : Tag) (k : In) (read : Read) (e : ℕ)
+    → find_answer bytes tag k ≡ Ok (read, e) → header bytes ≡ Ok (order_named read.little)
+header_found bytes tag k read e h =
+    header_named bytes read (was_found bytes tag k (read, e) h).reads
+
+-- so many items fit into an entry
+few_told : (order : Order) (value : Value) (e : ℕ) (bytes : List ℕ) (ps : List Patch)
+    → value_answer order value e bytes ≡ Ok ps → nat_lt (2 ^ 32 - 1) (count_of value) ≡ false
+unfolding value_answer
+few_told order value e bytes ps h =
+    let s = value_room (number_of order) bytes e in
+    let long = nat_lt (max 4 s.len) (length (encode order value)) in
+    let a = passed (nat_lt (length bytes) (e + 12)) shared
+    (λ u. answer_in order value e s (length bytes)) ps h in
+    let b = passed (nat_lt (length bytes) (s.place + s.len)) shared
+    (λ u. unless (nat_lt (2 ^ 32 - 1) (count_of value)) too_long >>= λ v. unless long too_long
+    >>= λ w. Ok (value_patches order value e s)) ps a.1 in
+    (passed (nat_lt (2 ^ 32 - 1) (count_of value)) too_long
+    (λ v. unless long too_long >>= λ w. Ok (value_patches order value e s)) ps b.1).0
+
+fit_told : (order : Order) (tag : Tag) (value : Value) (e : ℕ) (bytes : List ℕ) (ps : List Patch)
+    → value_answer order value e bytes ≡ Ok ps → names_places tag ≡ false
+    → is_unknown value ≡ false
+    → fit_answer order tag value e (value_room (number_of order) bytes e) ≡ Ok ps
+fit_told order tag value e bytes ps h n u =
+    let few = few_told order value e bytes ps h in
+    let f = edit_fits_in order value e bytes ps h in
+    let text = f.text in
+    let fits : nat_lt (max 4 (value_room (number_of order) bytes e).len)
+    (length (encode order value)) ≡ false = grind (arith, nat_tests) in
+    rw (n, u, few, fits) (ap (λ qs. Ok qs) (sym f.is))
+
+-- a value whose entry stands alone is set
+pub set_alone : (bytes : List ℕ) (tag : Tag) (k : In) (value : Value) (read : Read) (e : ℕ)
+    (order : Order) (ps : List Patch)
+    → find_answer bytes tag k ≡ Ok (read, e) → order ≡ order_named read.little
+    → value_answer order value e bytes ≡ Ok ps → names_places tag ≡ false
+    → is_unknown value ≡ false → names_child tag.1 ≡ false → IsRanged value → HasPlainTexts value
+    → stands_alone (number_of order) bytes e ≡ true → checked_patches bytes tag k value ≡ Ok ps
+set_alone bytes tag k value read e order ps h o v n u childless ranged plain alone =
+    let w = was_found bytes tag k (read, e) h in
+    let head : header bytes ≡ Ok order =
+    header_found bytes tag k read e h ∙ ap (λ x. Ok x) (sym o) in
+    let law = set_unshared tag k value bytes order w.at head w.last
+    (subst (λ x. stands_alone (number_of order) bytes x ≡ true) (sym w.entry) alone) childless ranged
+    plain in
+    let law_at : set_patches bytes tag k value
+    ≡ fit_answer order tag value e (value_room (number_of order) bytes e) =
+    subst (λ x. set_patches bytes tag k value
+    ≡ fit_answer order tag value x (value_room (number_of order) bytes x)) w.entry law in
+    set_known bytes tag k value n u ∙ (law_at ∙ fit_told order tag value e bytes ps v n u)
+
+-- places that stand alone are erased
+pub erase_alone : (bytes : List ℕ) (order : Order) (ps : List Patch) → header bytes ≡ Ok order
+    → ps ≡ map zeros_over (gps_spans (number_of order) bytes)
+    → places_stand_alone (number_of order) bytes ≡ true → erase_patches bytes ≡ Ok ps
+erase_alone bytes order ps h z alone =
+    places_unshared bytes order h alone ∙ ap (λ qs. Ok qs) (sym z)
+
+-- the zeros over the GPS directories that were found
+pub zeros_found : (bytes qs : List ℕ) (order : Order) (ps : List Patch) → qs ≡ gps_places bytes
+    → ps ≡ map zeros_over (flat_map (directory_spans (number_of order) bytes) qs)
+    → ps ≡ map zeros_over (gps_spans (number_of order) bytes)
+zeros_found bytes qs order ps w n =
+    n ∙ ap (λ ss. map zeros_over ss) (spans_are (number_of order) bytes qs w)

@@ -1,0 +1,15 @@
+use Rattle.std.proofs.Common.{◌≡◌, false, take}
+use Rattle.std.specs.List.{list_any}
+use Rattle.exif_base.specs.Orders.{number_of}
+use Rattle.exif_entries.specs.declared.directories.DirectoryPlace.{DirectoryPlace}
+use Rattle.exif_edit.specs.Changing.{changes}
+use Rattle.exif_edit.specs.Sharing.{beside}
+use Rattle.exif_edit.proofs.alone.changes_any_beside.Given as goal
+
+-- no directory so far is changed
+abbrev pub invariant-loop-directory : goal.invariant-loop-directory
+invariant-loop-directory l =
+    list_any
+    (λ (d : DirectoryPlace). list_any (changes l.patches)
+    (beside (number_of l.order) l.bytes l.entry d.place))
+    (take l.directory-index l.directories) ≡ false

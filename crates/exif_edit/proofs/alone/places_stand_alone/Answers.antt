@@ -1,0 +1,12 @@
+use Rattle.std.proofs.Common.{sym, ◌∙◌}
+use Rattle.exif_edit.proofs.AloneSound.{places_parts}
+use Rattle.exif_edit.proofs.Unshared.{unturned}
+use Rattle.exif_edit.proofs.alone.places_stand_alone.Goals as goal
+
+pub returns : goal.returns
+returns c h =
+    let any = rw c.directories-2.ensures at c.changes_kept.ensures in
+    places_parts c.args.bytes.now c.args.order c.args.patches.now c.args.walk.now
+    c.requires.header c.requires.found c.requires.erased
+    (sym c.changes.ensures ∙ c.if-changes.false)
+    (sym any ∙ unturned c.changes_kept.result h)
