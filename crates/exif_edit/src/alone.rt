@@ -191,7 +191,8 @@ pub fn stands_alone(
 fn changes_directory(order: Order, bytes: &[u8], patches: &[Patch], place: u32) -> bool
     requires patches { All (FitsIn (2 ^ 32)) patches.now }
     requires small { length bytes.now < 2 ^ 32 }
-    ensures { result ≡ list_any (changes patches.now) (looked_at (number_of order) bytes.now place) }
+    ensures { result
+        ≡ list_any (changes patches.now) (looked_at (number_of order) bytes.now place) }
 {
     let len = 2 + 12 * whole_entries(order, bytes, place) + 4;
     changes(patches, place as usize, len) || changes_values(order, bytes, patches, place)

@@ -26,7 +26,7 @@ use crate::read::{number16, number32, order_named, reads_as};
 use crate::spell::{encode, entry_text, is_unknown};
 use exif_base::{Items, Order};
 use exif_types::{Context, Field, FieldType, In, Tag, Value};
-use exif_writer::ranges::show_value_fits;
+use exif_writer::show_value_fits;
 use std::alloc::{AllocError, Global};
 
 /// What sets a value, and where the value stands then.

@@ -8,12 +8,13 @@ pub mod item;
 pub mod laws;
 mod measure;
 mod plan;
-pub mod ranges;
+mod ranges;
 mod send;
 pub mod write_fault;
 mod writer;
 
 pub use block_kind::BlockKind;
 pub use ifd::is_own;
+pub use ranges::show_value_fits;
 pub use write_fault::WriteFault;
 pub use writer::Writer;
