@@ -1,5 +1,5 @@
 -- Where what an edit changes stands alone, its patches are the answer.
-use Rattle.std.proofs.Common.{◌≡◌, ◌≤◌, ◌<◌, ◌+◌, ◌*◌, max, ℕ, suc, Bool, true, false, if◌then◌else◌, List, [], ◌∷◌, ◌++◌, length, map, replicate, Result, Ok, Err, Some, refl, sym, ap, ◌∙◌, arith, subst}
+use Rattle.std.proofs.Common.{◌≡◌, ◌+◌, ◌*◌, max, ℕ, suc, Bool, true, false, if◌then◌else◌, List, [], ◌∷◌, ◌++◌, length, map, replicate, Ok, refl, sym, ap, ◌∙◌, arith, subst}
 use Rattle.std.specs.Prelude.{◌&&◌, ◌||◌, ◌==◌, ◌^◌, ◌-◌, not, nat_lt, nat_le}
 use Rattle.std.specs.List.{filter, flat_map, list_any}
 use Rattle.std.proofs.lemmas.Bool.Decides.{nat_tests}
@@ -22,14 +22,14 @@ use Rattle.exif_entries.specs.Locations.{Located, gps_places, located}
 use Rattle.exif_entries.specs.Walked.{Finds, Walked, entry_of}
 use Rattle.exif_entries.specs.declared.directories.DirectoryPlace.{DirectoryPlace}
 use Rattle.exif_entries.specs.declared.walk.EntryPlace.{EntryPlace}
-use Rattle.exif_edit.specs.Causes.{Cause, no_field, of_data, or_cause, place_named, shared, too_long, unknown_type, unless, ◌>>=◌}
+use Rattle.exif_edit.specs.Causes.{shared, too_long, unless, ◌>>=◌}
 use Rattle.exif_edit.specs.Changing.{ChangeEntry, ChangePlaces, changes, covers}
 use Rattle.exif_edit.specs.Erasing.{directory_spans, erase_patches, gps_spans, is_gps}
-use Rattle.exif_edit.specs.Finding.{find_answer, last_located}
+use Rattle.exif_edit.specs.Finding.{find_answer}
 use Rattle.exif_edit.specs.Patches.{zeros_over}
 use Rattle.exif_edit.specs.PlacesAlone.{all_kept, places_stand_alone}
-use Rattle.exif_edit.specs.Readings.{Read, reading}
-use Rattle.exif_edit.specs.Setting.{answer_in, checked_patches, entry_text, names_places, room_of, room_patches, room_text, set_patches, value_answer, value_patches, value_room}
+use Rattle.exif_edit.specs.Readings.{Read}
+use Rattle.exif_edit.specs.Setting.{answer_in, checked_patches, entry_text, names_places, room_of, room_text, set_patches, value_answer, value_patches, value_room}
 use Rattle.exif_edit.specs.Sharing.{all_beside, beside, changed_entry, fit_answer, meets, names_child, stands_alone, standing_at}
 use Rattle.exif_edit.specs.declared.patch.Patch.{Patch}
 use Rattle.exif_edit.specs.declared.patch.Span.{Span}
@@ -38,10 +38,10 @@ use Rattle.exif_edit.proofs.CauseSteps.{passed}
 use Rattle.exif_edit.proofs.EraseSteps.{spans_are}
 use Rattle.exif_edit.proofs.FindSteps.{header_named}
 use Rattle.exif_edit.proofs.PlacesUnshared.{places_unshared}
-use Rattle.exif_edit.proofs.SetSound.{Fits, edit_fits_in, value_fits, value_lengths, was_found}
+use Rattle.exif_edit.proofs.SetSound.{Fits, edit_fits_in, value_lengths, was_found}
 use Rattle.exif_edit.proofs.SetSteps.{set_known}
 use Rattle.exif_edit.proofs.Unshared.{set_unshared}
-use Rattle.exif_edit.proofs.WalkedDirectories.{kept_of, places_of, walked_kept, walked_places}
+use Rattle.exif_edit.proofs.WalkedDirectories.{kept_of, walked_kept, walked_places}
 
 -- ---- what the patches change
 

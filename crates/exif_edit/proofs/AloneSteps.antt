@@ -1,10 +1,8 @@
 -- The steps of asking whether patches change what is looked at.
-use Rattle.std.proofs.Common.{◌≡◌, ◌≤◌, ◌<◌, ◌+◌, ◌-◌, ◌*◌, ℕ, suc, Bool, true, false, if◌then◌else◌, List, [], ◌∷◌, ◌++◌, length, All, replicate, map, refl, sym, ap, ◌∙◌, arith, subst}
-use Rattle.std.specs.Prelude.{◌&&◌, ◌||◌, ◌==◌, ◌^◌, not, nat_lt, nat_le}
+use Rattle.std.proofs.Common.{◌≡◌, ◌≤◌, ◌<◌, ◌+◌, ◌-◌, ◌*◌, ℕ, Bool, true, false, if◌then◌else◌, List, [], ◌∷◌, length, All, map, refl, sym, ap, ◌∙◌, arith}
+use Rattle.std.specs.Prelude.{◌&&◌, ◌||◌, ◌^◌, nat_lt, nat_le}
 use Rattle.std.specs.List.{filter, flat_map, list_any}
-use Rattle.std.proofs.lemmas.Bool.{false≢true}
 use Rattle.std.proofs.lemmas.Bool.Decides.{nat_tests}
-use Rattle.std.proofs.lemmas.List.{length-replicate}
 use Rattle.std.proofs.lemmas.List.Elements.{All-head, All-tail, All-nil, All-cons}
 use Rattle.std.proofs.lemmas.List.Folds.{list_any-append}
 use Rattle.exif_base.specs.Bytes.{Reading, number_at, spaced}
@@ -14,8 +12,7 @@ use Rattle.exif_entries.proofs.WalkSteps.{spaced_step}
 use Rattle.exif_edit.specs.Changing.{changes, covers}
 use Rattle.exif_edit.specs.Erasing.{nowhere, value_span, within}
 use Rattle.exif_edit.specs.Patches.{FitsIn}
-use Rattle.exif_edit.specs.Setting.{room_of, value_room}
-use Rattle.exif_edit.specs.Sharing.{meets}
+use Rattle.exif_edit.specs.Setting.{value_room}
 use Rattle.exif_edit.specs.declared.patch.Patch.{Patch}
 use Rattle.exif_edit.specs.declared.patch.Span.{Span}
 

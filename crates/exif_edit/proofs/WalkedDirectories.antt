@@ -1,6 +1,6 @@
 -- The directories that a walk has found are those at which reading looks; without those of GPS data
 -- they are those that are kept.
-use Rattle.std.proofs.Common.{◌≡◌, ℕ, zero, suc, ◌+◌, ◌==◌, Bool, true, false, if◌then◌else◌, List, [], ◌∷◌, ◌++◌, map, Option, Some, None, Result, Ok, Err, refl, sym, ap, ◌∙◌}
+use Rattle.std.proofs.Common.{◌≡◌, ℕ, zero, suc, ◌==◌, Bool, true, false, if◌then◌else◌, List, [], ◌∷◌, ◌++◌, map, Option, Some, None, Result, Ok, Err, refl, ap, ◌∙◌}
 use Rattle.std.specs.Prelude.{not}
 use Rattle.std.specs.List.{filter, flat_map}
 use Rattle.std.proofs.lemmas.List.{map-append}
@@ -16,7 +16,7 @@ use Rattle.exif_tiff.specs.declared.fault.Fault.{Fault}
 use Rattle.exif_tiff.specs.Footprint as footprint
 use Rattle.exif_tiff.specs.Footprint.{chain_directories}
 use Rattle.exif_tiff.specs.Trace.{child_of, depth_of, directory_end, entry_places, entry_value, header}
-use Rattle.exif_entries.specs.Directories.{Below, below_entry, chain, directories, directory_places, following, named, ordered_directories, pointed}
+use Rattle.exif_entries.specs.Directories.{Below, below_entry, chain, directories, following, named, ordered_directories, pointed}
 use Rattle.exif_entries.specs.Walked.{Finds, Walked}
 use Rattle.exif_entries.specs.declared.directories.DirectoryPlace.{DirectoryPlace}
 use Rattle.exif_entries.proofs.WalkFound.{ordered_in}

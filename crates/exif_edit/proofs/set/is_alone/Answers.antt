@@ -1,4 +1,3 @@
-use Rattle.std.proofs.Common.{arith}
 use Rattle.exif_edit.proofs.AloneSound.{value_changes}
 use Rattle.exif_edit.proofs.AloneSteps.{fit_small}
 use Rattle.exif_edit.proofs.SetSound.{edit_fits_in, value_fits}
