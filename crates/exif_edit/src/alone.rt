@@ -20,7 +20,8 @@ use exif_base::Order;
 use exif_entries::{DirectoryPlace, EntryPlace, Walk};
 use exif_types::Context;
 
-// So many pairs of a patch and a stretch take less time than a small file's second reading.
+// So many pairs of a patch and a stretch are asked at most. Where places make more of them, a second
+// reading takes no longer.
 const MAX_PAIRS: usize = 100_000;
 
 // Whether two stretches have a byte in common.
@@ -225,7 +226,7 @@ fn changes_kept(
     false
 }
 
-// Whether there are few pairs of a patch and a stretch, so that asking costs less than reading.
+// Whether there are few pairs of a patch and a stretch.
 fn are_few(order: Order, bytes: &[u8], patches: &[Patch], directories: &[DirectoryPlace]) -> bool {
     let mut left = MAX_PAIRS / patches.len().max(1);
     for directory in directories {
@@ -239,7 +240,7 @@ fn are_few(order: Order, bytes: &[u8], patches: &[Patch], directories: &[Directo
 }
 
 /// Whether the patches that erase places change nothing that is looked at as anything else. Where
-/// that would take long to tell, they are said to.
+/// that would take long to tell, the answer is no.
 pub fn places_stand_alone(order: Order, bytes: &[u8], patches: &[Patch], walk: &Walk) -> bool
     requires header { header bytes.now ≡ Ok order }
     requires small { length bytes.now < 2 ^ 32 }

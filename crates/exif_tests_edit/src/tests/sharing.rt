@@ -4,7 +4,7 @@ use super::calls::{places_stay, places_zeroed, sets_numbers, text_stays, value_s
 use super::fields::{LOOP, OVERLAPPING, SOFT};
 use super::{DESCRIPTION, with_texts};
 use exif_base::Items;
-use exif_samples::files::CUT_DIRECTORY;
+use exif_samples::files::{CUT_DIRECTORY, DESCRIBED_BIG};
 use exif_types::{Context, In, Tag, Value};
 use std::alloc::{AllocError, Global};
 use std::test::Fail;
@@ -97,5 +97,37 @@ fn places_that_are_something_else_too_stay(rt: HostRuntime) -> Result<(), Fail> 
     for old in &KEPT {
         assert!(rt; places_stay(alloc, old, SHARED)?);
     }
+    Ok(())
+}
+
+// Pushes a directory of so many widths behind a first entry.
+fn push_widths(bytes: &mut Vec<u8>, count: u16, first: &[u8]) -> Result<(), AllocError> {
+    bytes.extend_from_slice(&(count + 1).to_be_bytes())?;
+    bytes.extend_from_slice(first)?;
+    for _ in 0..count {
+        bytes.extend_from_slice(b"\x01\0\0\x03\0\0\0\x01\0\x14\0\0")?;
+    }
+    bytes.extend_from_slice(b"\0\0\0\0")?;
+    Ok(())
+}
+
+// A directory of 401 entries, the first of them a pointer to a GPS directory of 401 at 4826.
+fn crowded(alloc: Global) -> Result<Vec<u8>, AllocError> {
+    let mut bytes = Vec::from_slice(alloc, b"MM\0*\0\0\0\x08")?;
+    push_widths(&mut bytes, 400, b"\x88\x25\0\x04\0\0\0\x01\0\0\x12\xda")?;
+    push_widths(&mut bytes, 400, b"\0\0\0\x01\0\0\0\x04\x02\x03\0\0")?;
+    Ok(bytes)
+}
+
+#[test]
+fn many_places_among_many_fields_are_erased(rt: HostRuntime) -> Result<(), Fail> {
+    let old = crowded(rt.alloc())?;
+    assert!(rt; places_zeroed(rt.alloc(), old.as_slice(), 4826, 9644)?);
+    Ok(())
+}
+
+#[test]
+fn a_text_that_would_be_read_as_two_is_not_set(rt: HostRuntime) -> Result<(), Fail> {
+    assert!(rt; text_stays(rt.alloc(), DESCRIBED_BIG, DESCRIPTION, b"a\0b", SHARED)?);
     Ok(())
 }
