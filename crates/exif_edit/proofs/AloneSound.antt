@@ -20,8 +20,8 @@ use Rattle.exif_writer.specs.Ranged.{IsRanged}
 use Rattle.exif_writer.specs.Refused.{is_unknown}
 use Rattle.exif_entries.specs.Locations.{Located, gps_places, located}
 use Rattle.exif_entries.specs.Walked.{Finds, Walked, entry_of}
-use Rattle.exif_entries.specs.declared.directories.DirectoryPlace.{DirectoryPlace}
-use Rattle.exif_entries.specs.declared.walk.EntryPlace.{EntryPlace}
+use Rattle.exif_tiff.specs.declared.place.DirectoryPlace.{DirectoryPlace}
+use Rattle.exif_tiff.specs.declared.place.EntryPlace.{EntryPlace}
 use Rattle.exif_edit.specs.Causes.{shared, too_long, unless, ◌>>=◌}
 use Rattle.exif_edit.specs.Changing.{ChangeEntry, ChangePlaces, changes, covers}
 use Rattle.exif_edit.specs.Erasing.{directory_spans, erase_patches, gps_spans, is_gps}

@@ -8,7 +8,7 @@ use Rattle.std.proofs.lemmas.List.Folds.{list_any-append}
 use Rattle.exif_base.specs.Bytes.{Reading, number_at, spaced}
 use Rattle.exif_types.specs.FieldTypes.{type_of, known_length}
 use Rattle.exif_tiff.specs.Footprint.{Stretch, value_stretch}
-use Rattle.exif_entries.proofs.WalkSteps.{spaced_step}
+use Rattle.exif_reader.proofs.ParserRuns.{spaced_step}
 use Rattle.exif_edit.specs.Changing.{changes, covers}
 use Rattle.exif_edit.specs.Erasing.{nowhere, value_span, within}
 use Rattle.exif_edit.specs.Patches.{FitsIn}
@@ -100,7 +100,7 @@ pub value_near : (number : Reading) (bytes : List ℕ) (e : ℕ)
     → (value_span number bytes e).place + (value_span number bytes e).len ≤ length bytes
 value_near number bytes e =
     by_test (value_room number bytes e) (nat_le ((value_room number bytes e).place +
-        (value_room number bytes e).len) (length bytes)) refl
+    (value_room number bytes e).len) (length bytes)) refl
   where
     by_test : (s : Span) (b : Bool) → nat_le (s.place + s.len) (length bytes) ≡ b
         → (if b then s else nowhere).place + (if b then s else nowhere).len ≤ length bytes

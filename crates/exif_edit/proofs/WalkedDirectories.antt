@@ -1,9 +1,9 @@
 -- The directories that a walk has found are those at which reading looks; without those of GPS data
 -- they are those that are kept.
-use Rattle.std.proofs.Common.{◌≡◌, ℕ, zero, suc, ◌==◌, Bool, true, false, if◌then◌else◌, List, [], ◌∷◌, ◌++◌, map, Option, Some, None, Result, Ok, Err, refl, ap, ◌∙◌}
+use Rattle.std.proofs.Common.{◌≡◌, ℕ, zero, suc, ◌+◌, ◌==◌, Bool, true, false, if◌then◌else◌, List, [], ◌∷◌, ◌++◌, map, Option, Some, None, Result, Ok, Err, refl, ap, ◌∙◌}
 use Rattle.std.specs.Prelude.{not}
 use Rattle.std.specs.List.{filter, flat_map}
-use Rattle.std.proofs.lemmas.List.{map-append}
+use Rattle.std.proofs.lemmas.List.{append-nil, map-append}
 use Rattle.std.proofs.lemmas.List.Elements.{filter-append}
 use Rattle.exif_base.specs.Bytes.{Reading, number_at}
 use Rattle.exif_base.specs.Orders.{number_of}
@@ -13,13 +13,13 @@ use Rattle.exif_types.specs.declared.value.Value.{Value}
 use Rattle.exif_table.specs.declared.context.Context.{Context}
 use Rattle.exif_table.specs.declared.context.Context.TheVariants.{Tiff, Exif, Gps, Interop}
 use Rattle.exif_tiff.specs.declared.fault.Fault.{Fault}
-use Rattle.exif_tiff.specs.Footprint as footprint
-use Rattle.exif_tiff.specs.Footprint.{chain_directories}
-use Rattle.exif_tiff.specs.Trace.{child_of, depth_of, directory_end, entry_places, entry_value, header}
-use Rattle.exif_entries.specs.Directories.{Below, below_entry, chain, directories, following, named, ordered_directories, pointed}
+use Rattle.exif_tiff.specs.declared.fault.Fault.TheVariants.{TooManyDirectories, UnexpectedNext}
+use Rattle.exif_tiff.specs.declared.place.DirectoryPlace.{DirectoryPlace}
+use Rattle.exif_tiff.specs.Footprint.{Below, chain_directories, entry_directories, following, named, pointed}
+use Rattle.exif_tiff.specs.Trace.{Directory, Found, Met, Node, Opens, Visit, chain_after, chain_nodes, child_end, child_of, depth_of, directories_of, directory_end, directory_nodes, entry_nodes, entry_places, entry_value, header, ordered_trace, pointer_nodes, tagged_nodes, trace, valued_nodes}
+use Rattle.exif_tiff.proofs.Visited.{visited}
+use Rattle.exif_entries.specs.Locations.{directory_places}
 use Rattle.exif_entries.specs.Walked.{Finds, Walked}
-use Rattle.exif_entries.specs.declared.directories.DirectoryPlace.{DirectoryPlace}
-use Rattle.exif_entries.proofs.WalkFound.{ordered_in}
 use Rattle.exif_edit.specs.Erasing.{is_gps}
 use Rattle.exif_edit.specs.PlacesAlone.{below_kept, chain_kept, directories_kept}
 
@@ -31,181 +31,154 @@ places_of ds = map (λ (d : DirectoryPlace). d.place) ds
 abbrev pub kept_of : List DirectoryPlace → List DirectoryPlace
 kept_of ds = filter (λ (d : DirectoryPlace). not (is_gps d.context)) ds
 
--- what is made of each list may be made of all
-flat_same : (view : List DirectoryPlace → List ℕ) (f : ℕ → List DirectoryPlace) (g : ℕ → List ℕ)
-    (es : List ℕ) → view [] ≡ []
-    → ((xs ys : List DirectoryPlace) → view (xs ++ ys) ≡ view xs ++ view ys)
-    → ((e : ℕ) → view (f e) ≡ g e) → view (flat_map f es) ≡ flat_map g es
-flat_same view f g [] none join h = none
-flat_same view f g (e ∷ es) none join h =
-    join (f e) (flat_map f es)
-    ∙ (ap (λ xs. xs ++ view (flat_map f es)) (h e)
-    ∙ ap (λ xs. g e ++ xs) (flat_same view f g es none join h))
-
--- ---- all of them
-
-places_join : (xs ys : List DirectoryPlace) → places_of (xs ++ ys) ≡ places_of xs ++ places_of ys
-places_join xs ys = map-append (λ (d : DirectoryPlace). d.place) xs ys
-
-places_pointed : (below : Below) (under : footprint.Below) (o : Option Context) (v : Option Value)
-    → ((c : Context) (p : ℕ) → places_of (below c p) ≡ under c p)
-    → places_of (pointed below o v) ≡ footprint.pointed under o v
-places_pointed below under None v h = refl
-places_pointed below under (Some d) None h = refl
-places_pointed below under (Some d) (Some v) h = by_number (number_in v 0)
-  where
-    by_number : (o : Option ℕ) → places_of (named below d o) ≡ footprint.named under d o
-    by_number None = refl
-    by_number (Some q) = h d q
-
-places_below : (depth : ℕ) (number : Reading) (bytes : List ℕ) (c : Context) (p : ℕ)
-    → places_of (directories depth number bytes c p)
-    ≡ footprint.directories depth number bytes c p
-places_below zero number bytes c p = refl
-places_below (suc depth) number bytes c p =
-    ap (λ ps. p ∷ ps)
-    (flat_same places_of (below_entry (directories depth number bytes) number bytes c)
-    (footprint.entry_directories (footprint.directories depth number bytes) number bytes c)
-    (entry_places number bytes p) refl places_join
-    (λ e. places_pointed (directories depth number bytes)
-    (footprint.directories depth number bytes) (child_of c (number_at number 2 bytes e))
-    (entry_value number bytes e) (places_below depth number bytes)))
-
-places_following : (rest : ℕ → List DirectoryPlace) (others : ℕ → List ℕ) (x : Result ℕ Fault)
-    → ((p : ℕ) → places_of (rest p) ≡ others p)
-    → places_of (following rest x) ≡ footprint.following others x
-places_following rest others (Err fault) h = refl
-places_following rest others (Ok next) h = h next
-
-places_chain : (left : ℕ) (number : Reading) (bytes : List ℕ) (p : ℕ)
-    → places_of (chain left number bytes p) ≡ chain_directories left number bytes p
-places_chain zero number bytes p = refl
-places_chain (suc left) number bytes p = by_zero (p == 0) (places_chain left number bytes)
-  where
-    by_zero : (b : Bool)
-        → ((q : ℕ) → places_of (chain left number bytes q) ≡ chain_directories left number bytes q)
-        → places_of
-        (if b then [] else directories (depth_of Tiff) number bytes Tiff p
-        ++ following (chain left number bytes) (directory_end number bytes p))
-        ≡ (if b then [] else footprint.directories (depth_of Tiff) number bytes Tiff p
-        ++ footprint.following (chain_directories left number bytes)
-        (directory_end number bytes p))
-    by_zero true h = refl
-    by_zero false h =
-        let x = places_join (directories (depth_of Tiff) number bytes Tiff p)
-        (following (chain left number bytes) (directory_end number bytes p)) in
-        let y = places_below (depth_of Tiff) number bytes Tiff p in
-        let z = places_following (chain left number bytes) (chain_directories left number bytes)
-        (directory_end number bytes p) h in
-        x ∙ (ap (λ ds. ds ++ places_of
-        (following (chain left number bytes) (directory_end number bytes p))) y
-        ∙ ap (λ ds. footprint.directories (depth_of Tiff) number bytes Tiff p ++ ds) z)
-
 -- ---- without those of GPS data
 
--- where those stand
-abbrev kept_places : List DirectoryPlace → List ℕ
-kept_places ds = places_of (kept_of ds)
+-- where the directories of nodes stand
+abbrev kept_in : List Node → List ℕ
+kept_in nodes = places_of (kept_of (directories_of nodes))
 
-kept_join : (xs ys : List DirectoryPlace)
-    → kept_places (xs ++ ys) ≡ kept_places xs ++ kept_places ys
+directories_join : (xs ys : List Node) → directories_of (xs ++ ys) ≡ directories_of xs ++ directories_of ys
+directories_join [] ys = refl
+directories_join (Opens directory ∷ xs) ys = ap (λ ds. directory ∷ ds) (directories_join xs ys)
+directories_join (Visit ∷ xs) ys = directories_join xs ys
+directories_join (Found l ∷ xs) ys = directories_join xs ys
+directories_join (Met fault ∷ xs) ys = directories_join xs ys
+
+kept_join : (xs ys : List Node) → kept_in (xs ++ ys) ≡ kept_in xs ++ kept_in ys
 kept_join xs ys =
-    ap places_of (filter-append (λ (d : DirectoryPlace). not (is_gps d.context)) xs ys)
-    ∙ places_join (kept_of xs) (kept_of ys)
+    ap (λ ds. places_of (kept_of ds)) (directories_join xs ys)
+    ∙ (ap places_of (filter-append (λ (d : DirectoryPlace). not (is_gps d.context)) (directories_of xs) (directories_of ys))
+    ∙ map-append (λ (d : DirectoryPlace). d.place) (kept_of (directories_of xs)) (kept_of (directories_of ys)))
+
+joined : (xs ys : List Node) (ps qs : List ℕ) → kept_in xs ≡ ps → kept_in ys ≡ qs
+    → kept_in (xs ++ ys) ≡ ps ++ qs
+joined xs ys ps qs e f = rw (kept_join xs ys, e, f) refl
+
+each : (f : ℕ → List Node) (g : ℕ → List ℕ) (es : List ℕ) → ((e : ℕ) → kept_in (f e) ≡ g e)
+    → kept_in (flat_map f es) ≡ flat_map g es
+each f g [] h = refl
+each f g (e ∷ es) h = joined (f e) (flat_map f es) (g e) (flat_map g es) (h e) (each f g es h)
+
+none_if : (b : Bool) (fault : Fault) → kept_in (if b then [] else Met fault ∷ []) ≡ []
+none_if true fault = refl
+none_if false fault = refl
+
+end_keeps_none : (x : Result ℕ Fault) → kept_in (child_end x) ≡ []
+end_keeps_none (Err fault) = refl
+end_keeps_none (Ok next) = none_if (next == 0) UnexpectedNext
 
 flat_none : (es : List ℕ) → flat_map {X = ℕ} {A = ℕ} (λ e. []) es ≡ []
 flat_none [] = refl
 flat_none (e ∷ es) = flat_none es
 
 -- a GPS directory has none below it
-gps_left_out : (depth : ℕ) (number : Reading) (bytes : List ℕ) (p : ℕ)
-    → kept_places (directories depth number bytes Gps p) ≡ []
-gps_left_out zero number bytes p = refl
-gps_left_out (suc depth) number bytes p =
-    flat_same kept_places (below_entry (directories depth number bytes) number bytes Gps)
-    (λ e. []) (entry_places number bytes p) refl kept_join (λ e. refl)
+gps_left_out : (depth : ℕ) (number : Reading) (bytes : List ℕ) (k p : ℕ)
+    → kept_in (directory_nodes depth number bytes k Gps p) ≡ []
+gps_left_out zero number bytes k p = refl
+gps_left_out (suc depth) number bytes k p =
+    each (entry_nodes (directory_nodes depth number bytes k) number bytes Gps k p) (λ e. [])
+    (entry_places number bytes p)
+    (λ e. by_value (number_at number 2 bytes e) e (entry_value number bytes e))
     ∙ flat_none (entry_places number bytes p)
+  where
+    by_value : (n e : ℕ) (o : Option Value)
+        → kept_in (valued_nodes (directory_nodes depth number bytes k) number bytes Gps k p n e o) ≡ []
+    by_value n e None = refl
+    by_value n e (Some v) = refl
 
 -- what is kept of the directories of a context
-abbrev Keeps : Below → footprint.Below → Type 0
-Keeps below under =
-    (c : Context) (p : ℕ) → is_gps c ≡ false → kept_places (below c p) ≡ under c p
+abbrev Keeps : Directory → Below → Type 0
+Keeps child under = (c : Context) (p : ℕ) → is_gps c ≡ false → kept_in (child c p) ≡ under c p
 
-kept_pointed : (below : Below) (under : footprint.Below) (o : Option Context) (v : Option Value)
-    → Keeps below under → ((p : ℕ) → kept_places (below Gps p) ≡ [])
-    → kept_places (pointed below o v) ≡ footprint.pointed (below_kept under) o v
-kept_pointed below under None v h g = refl
-kept_pointed below under (Some d) None h g = refl
-kept_pointed below under (Some d) (Some v) h g = by_number d (number_in v 0)
-  where
-    by_number : (c : Context) (o : Option ℕ)
-        → kept_places (named below c o) ≡ footprint.named (below_kept under) c o
-    by_number c None = refl
-    by_number Tiff (Some q) = h Tiff q refl
-    by_number Exif (Some q) = h Exif q refl
-    by_number Gps (Some q) = g q
-    by_number Interop (Some q) = h Interop q refl
+module _ (number : Reading) (bytes : List ℕ) (child : Directory) (under : Below)
+    (h : Keeps child under) (g : (p : ℕ) → kept_in (child Gps p) ≡ []) where
+  followed : (d : Context) (q : ℕ) (ps : List ℕ) → kept_in (child d q) ≡ ps
+      → kept_in (child d q ++ child_end (directory_end number bytes q)) ≡ ps
+  followed d q ps e =
+      joined (child d q) (child_end (directory_end number bytes q)) ps [] e
+      (end_keeps_none (directory_end number bytes q)) ∙ append-nil ps
 
-kept_below : (depth : ℕ) (number : Reading) (bytes : List ℕ)
-    → Keeps (directories depth number bytes) (directories_kept depth number bytes)
-kept_below zero number bytes c p k = rw k refl
-kept_below (suc depth) number bytes c p k =
-    rw k
+  pointer : (d : Context) (o : Option ℕ)
+      → kept_in (pointer_nodes child number bytes d o) ≡ named (below_kept under) d o
+  pointer d None = refl
+  pointer Tiff (Some q) = followed Tiff q (under Tiff q) (h Tiff q refl)
+  pointer Exif (Some q) = followed Exif q (under Exif q) (h Exif q refl)
+  pointer Gps (Some q) = followed Gps q [] (g q)
+  pointer Interop (Some q) = followed Interop q (under Interop q) (h Interop q refl)
+
+  tagged : (c : Context) (k p n e : ℕ) (v : Value) (o : Option Context)
+      → kept_in (tagged_nodes child number bytes c k p n e v o)
+      ≡ pointed (below_kept under) o (Some v)
+  tagged c k p n e v None = refl
+  tagged c k p n e v (Some d) = pointer d (number_in v 0)
+
+  no_value : (o : Option Context) → [] ≡ pointed (below_kept under) o None
+  no_value None = refl
+  no_value (Some d) = refl
+
+  valued : (c : Context) (k p n e : ℕ) (o : Option Value)
+      → kept_in (valued_nodes child number bytes c k p n e o)
+      ≡ pointed (below_kept under) (child_of c n) o
+  valued c k p n e None = no_value (child_of c n)
+  valued c k p n e (Some v) = tagged c k p n e v (child_of c n)
+
+kept_below : (depth : ℕ) (number : Reading) (bytes : List ℕ) (k : ℕ)
+    → Keeps (directory_nodes depth number bytes k) (directories_kept depth number bytes)
+kept_below zero number bytes k c p kept = rw kept refl
+kept_below (suc depth) number bytes k c p kept =
+    let child : Directory = directory_nodes depth number bytes k in
+    let under : Below = directories_kept depth number bytes in
+    rw kept
     (ap (λ ps. p ∷ ps)
-    (flat_same kept_places (below_entry (directories depth number bytes) number bytes c)
-    (footprint.entry_directories (below_kept (directories_kept depth number bytes)) number bytes c)
-    (entry_places number bytes p) refl kept_join
-    (λ e. kept_pointed (directories depth number bytes) (directories_kept depth number bytes)
-    (child_of c (number_at number 2 bytes e)) (entry_value number bytes e)
-    (kept_below depth number bytes) (gps_left_out depth number bytes))))
+    (each (entry_nodes child number bytes c k p)
+    (entry_directories (below_kept under) number bytes c) (entry_places number bytes p)
+    (λ e. valued number bytes child under (kept_below depth number bytes k)
+    (gps_left_out depth number bytes k) c k p (number_at number 2 bytes e) e
+    (entry_value number bytes e))))
 
-kept_following : (rest : ℕ → List DirectoryPlace) (others : ℕ → List ℕ) (x : Result ℕ Fault)
-    → ((p : ℕ) → kept_places (rest p) ≡ others p)
-    → kept_places (following rest x) ≡ footprint.following others x
-kept_following rest others (Err fault) h = refl
-kept_following rest others (Ok next) h = h next
+after : (nodes : ℕ → List Node) (rest : ℕ → List ℕ) (x : Result ℕ Fault)
+    → ((q : ℕ) → kept_in (nodes q) ≡ rest q) → kept_in (chain_after nodes x) ≡ following rest x
+after nodes rest (Err fault) h = refl
+after nodes rest (Ok next) h = h next
 
-kept_chain : (left : ℕ) (number : Reading) (bytes : List ℕ) (p : ℕ)
-    → kept_places (chain left number bytes p) ≡ chain_kept left number bytes p
-kept_chain zero number bytes p = refl
-kept_chain (suc left) number bytes p = by_zero (p == 0) (kept_chain left number bytes)
-  where
-    by_zero : (b : Bool)
-        → ((q : ℕ) → kept_places (chain left number bytes q) ≡ chain_kept left number bytes q)
-        → kept_places
-        (if b then [] else directories (depth_of Tiff) number bytes Tiff p
-        ++ following (chain left number bytes) (directory_end number bytes p))
-        ≡ (if b then [] else directories_kept (depth_of Tiff) number bytes Tiff p
-        ++ footprint.following (chain_kept left number bytes) (directory_end number bytes p))
-    by_zero true h = refl
-    by_zero false h =
-        let x = kept_join (directories (depth_of Tiff) number bytes Tiff p)
-        (following (chain left number bytes) (directory_end number bytes p)) in
-        let y = kept_below (depth_of Tiff) number bytes Tiff p refl in
-        let z = kept_following (chain left number bytes) (chain_kept left number bytes)
-        (directory_end number bytes p) h in
-        x ∙ (ap (λ ds. ds ++ kept_places
-        (following (chain left number bytes) (directory_end number bytes p))) y
-        ∙ ap (λ ds. directories_kept (depth_of Tiff) number bytes Tiff p ++ ds) z)
+either : (t : Bool) (nodes : List Node) (ps : List ℕ) → kept_in nodes ≡ ps
+    → kept_in (elim t as (λ _. List Node) [ true ↦ [] | false ↦ nodes ]) ≡ (if t then [] else ps)
+either true nodes ps h = refl
+either false nodes ps h = h
+
+kept_chain : (left : ℕ) (number : Reading) (bytes : List ℕ) (k p : ℕ)
+    → kept_in (chain_nodes left number bytes k p) ≡ chain_kept left number bytes p
+kept_chain zero number bytes k p = none_if (p == 0) TooManyDirectories
+kept_chain (suc left) number bytes k p =
+    let nodes = directory_nodes (depth_of Tiff) number bytes k Tiff p in
+    let rest = chain_after (chain_nodes left number bytes (k + 1)) (directory_end number bytes p) in
+    let here = directories_kept (depth_of Tiff) number bytes Tiff p in
+    let behind = following (chain_kept left number bytes) (directory_end number bytes p) in
+    either (p == 0) (nodes ++ rest) (here ++ behind)
+    (joined nodes rest here behind (kept_below (depth_of Tiff) number bytes k Tiff p refl)
+    (after (chain_nodes left number bytes (k + 1)) (chain_kept left number bytes)
+    (directory_end number bytes p) (kept_chain left number bytes (k + 1))))
 
 -- ---- the whole
 
-found_chain : (bytes : List ℕ) (order : Order) (w : Walked) → header bytes ≡ Ok order
-    → Finds bytes w
-    → w.directories ≡ chain 8 (number_of order) bytes (number_at (number_of order) 4 bytes 4)
-unfolding ordered_directories
-found_chain bytes order w h f = f.directories ∙ ordered_in bytes order h
+found_directories : (bytes : List ℕ) (order : Order) (w : Walked) → header bytes ≡ Ok order
+    → Finds bytes w → w.directories ≡ directories_of (ordered_trace (number_of order) bytes)
+unfolding directory_places trace
+found_directories bytes order w h f =
+    f.directories
+    ∙ ap (λ (x : Result Order Fault). directories_of (elim x as (λ _. List Node)
+    [ Ok o ↦ ordered_trace (number_of o) bytes | Err fault ↦ [] ])) h
 
 pub walked_places : (bytes : List ℕ) (order : Order) (w : Walked) → header bytes ≡ Ok order
     → Finds bytes w → places_of w.directories
     ≡ chain_directories 8 (number_of order) bytes (number_at (number_of order) 4 bytes 4)
 walked_places bytes order w h f =
-    ap places_of (found_chain bytes order w h f)
-    ∙ places_chain 8 (number_of order) bytes (number_at (number_of order) 4 bytes 4)
+    ap places_of (found_directories bytes order w h f) ∙ visited (number_of order) bytes
 
 pub walked_kept : (bytes : List ℕ) (order : Order) (w : Walked) → header bytes ≡ Ok order
     → Finds bytes w → places_of (kept_of w.directories)
     ≡ chain_kept 8 (number_of order) bytes (number_at (number_of order) 4 bytes 4)
+unfolding ordered_trace
 walked_kept bytes order w h f =
-    ap kept_places (found_chain bytes order w h f)
-    ∙ kept_chain 8 (number_of order) bytes (number_at (number_of order) 4 bytes 4)
+    ap (λ ds. places_of (kept_of ds)) (found_directories bytes order w h f)
+    ∙ kept_chain 8 (number_of order) bytes 0 (number_at (number_of order) 4 bytes 4)

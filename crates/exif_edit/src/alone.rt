@@ -87,8 +87,7 @@ fn changes_other(order: Order, bytes: &[u8], patches: &[Patch], entry: u32, at: 
     ensures { result
         ≡ list_any (changes patches.now) (other_entry (number_of order) bytes.now entry at) }
 {
-    at != entry as usize
-        && (changes(patches, at, 12) || changes_value(order, bytes, patches, at))
+    at != entry as usize && (changes(patches, at, 12) || changes_value(order, bytes, patches, at))
 }
 
 // Whether they have one of the other entries of the directory at a place, or of their values.
@@ -158,13 +157,7 @@ fn stands_once(entries: &[EntryPlace], entry: u32) -> bool
 
 /// Whether the entry at a place holds one field, and the patches that set its value change nothing
 /// that is looked at as anything else.
-pub fn stands_alone(
-    order: Order,
-    bytes: &[u8],
-    patches: &[Patch],
-    entry: u32,
-    walk: &Walk,
-) -> bool
+pub fn stands_alone(order: Order, bytes: &[u8], patches: &[Patch], entry: u32, walk: &Walk) -> bool
     requires header { header bytes.now ≡ Ok order }
     requires small { length bytes.now < 2 ^ 32 }
     requires whole { entry + 12 ≤ length bytes.now }

@@ -204,7 +204,10 @@ fn has_plain_texts(value: &Value) -> bool
     ensures { result ≡ true → HasPlainTexts value.now }
 {
     match value {
-        Value::Ascii(texts) => texts.as_slice().iter().all(|text| is_plain(text.as_slice())),
+        Value::Ascii(texts) => texts
+            .as_slice()
+            .iter()
+            .all(|text| is_plain(text.as_slice())),
         _ => true,
     }
 }
@@ -220,14 +223,7 @@ fn reads_back(tag: Tag, value: &Value) -> bool
 }
 
 // Whether what sets a value of a tag changes nothing else that is read.
-fn is_alone(
-    order: Order,
-    bytes: &[u8],
-    tag: Tag,
-    value: &Value,
-    found: &Found,
-    edit: &Edit,
-) -> bool
+fn is_alone(order: Order, bytes: &[u8], tag: Tag, value: &Value, found: &Found, edit: &Edit) -> bool
     requires header { header bytes.now ≡ Ok order }
     requires small { length bytes.now < 2 ^ 32 }
     requires places { Finds bytes.now found.now.walk }
@@ -242,7 +238,13 @@ fn is_alone(
     if !reads_back(tag, value) {
         return false;
     }
-    stands_alone(order, bytes, edit.patches.as_slice(), found.entry, &found.walk)
+    stands_alone(
+        order,
+        bytes,
+        edit.patches.as_slice(),
+        found.entry,
+        &found.walk,
+    )
 }
 
 /// What [`set_value`] puts over the data, as data: at most two patches. The data stay as they are.

@@ -1,7 +1,7 @@
 use Rattle.std.proofs.Common.{◌≡◌, false, take}
 use Rattle.std.specs.List.{list_any}
 use Rattle.exif_base.specs.Orders.{number_of}
-use Rattle.exif_entries.specs.declared.directories.DirectoryPlace.{DirectoryPlace}
+use Rattle.exif_tiff.specs.declared.place.DirectoryPlace.{DirectoryPlace}
 use Rattle.exif_edit.specs.Changing.{changes}
 use Rattle.exif_edit.specs.Sharing.{beside}
 use Rattle.exif_edit.proofs.alone.changes_any_beside.Given as goal

@@ -3,7 +3,7 @@ use Rattle.std.specs.Prelude.{◌&&◌, not}
 use Rattle.std.specs.List.{list_any}
 use Rattle.exif_base.specs.Orders.{number_of}
 use Rattle.exif_tiff.specs.Footprint.{looked_at}
-use Rattle.exif_entries.specs.declared.directories.DirectoryPlace.{DirectoryPlace}
+use Rattle.exif_tiff.specs.declared.place.DirectoryPlace.{DirectoryPlace}
 use Rattle.exif_edit.specs.Changing.{changes}
 use Rattle.exif_edit.specs.Erasing.{is_gps}
 use Rattle.exif_edit.proofs.alone.changes_kept.Given as goal

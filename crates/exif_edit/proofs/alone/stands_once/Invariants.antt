@@ -1,6 +1,6 @@
 use Rattle.std.proofs.Common.{◌≡◌, ◌≤◌, ◌==◌, length, take}
 use Rattle.std.specs.List.{filter}
-use Rattle.exif_entries.specs.declared.walk.EntryPlace.{EntryPlace}
+use Rattle.exif_tiff.specs.declared.place.EntryPlace.{EntryPlace}
 use Rattle.exif_edit.proofs.alone.stands_once.Given as goal
 
 -- so many were found so far
