@@ -1,5 +1,5 @@
 -- What a value holds, without references (TIFF 6.0, section 2, "Types").
-use Rattle.std.specs.Prelude.{ℕ, List, [], ◌∷◌, ℤ}
+use Rattle.std.specs.Prelude.{ℕ, List, [], ◌∷◌, ℤ, Option, Some, None}
 use Rattle.exif_text.specs.declared.rational.Rational.{Rational}
 use Rattle.exif_text.specs.declared.rational.SRational.{SRational}
 use Rattle.exif_text.specs.declared.contents.Contents.{Contents}
@@ -37,3 +37,18 @@ contents_view (C.SRational xs) = SignedRationals xs.now
 contents_view (C.Float xs) = Floats xs.now
 contents_view (C.Double xs) = Doubles xs.now
 contents_view (C.Unknown kind count place) = Unknown kind count place
+
+-- the first of the texts
+abbrev pub first_text : Plain → Option (List ℕ)
+first_text (Texts (text ∷ texts)) = Some text
+first_text v = None
+
+-- the only byte of a text
+abbrev pub letter_in : Option (List ℕ) → Option ℕ
+letter_in (Some (letter ∷ [])) = Some letter
+letter_in text = None
+
+-- the first of bytes of any meaning
+abbrev pub undefined_byte : Plain → Option ℕ
+undefined_byte (Undefined (byte ∷ bytes)) = Some byte
+undefined_byte v = None

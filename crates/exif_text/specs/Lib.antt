@@ -4,16 +4,9 @@ pub mod Dates
 pub mod Decimal
 pub mod Digits
 pub mod Faults
-pub mod FixedText
-pub mod Flash
-pub mod Fractions
-pub mod Kinds
-pub mod Letters
-pub mod Numbers
 pub mod Pad
 pub mod Plain
 pub mod Quoted
 pub mod Rational
 pub mod Subsec
 pub mod Unsigned
-pub mod Versions

@@ -24,7 +24,7 @@ pub fn write_date_time<W: fmt::Write>(
 }
 
 /// Writes `2016-05-04`.
-pub(crate) fn write_date<W: fmt::Write>(f: &mut fmt::Formatter<W>, date: Date) -> fmt::Result
+pub fn write_date<W: fmt::Write>(f: &mut fmt::Formatter<W>, date: Date) -> fmt::Result
     ensures { WritesOnOk W.write_str_gives f.old result (date_text date) f.new }
 {
     write_four(f, date.year)?;
@@ -46,7 +46,7 @@ fn write_time<W: fmt::Write>(f: &mut fmt::Formatter<W>, time: TimeOfDay) -> fmt:
 }
 
 /// Writes a number with zeros before it up to two places.
-pub(crate) fn write_two<W: fmt::Write>(f: &mut fmt::Formatter<W>, n: u8) -> fmt::Result
+pub fn write_two<W: fmt::Write>(f: &mut fmt::Formatter<W>, n: u8) -> fmt::Result
     ensures { WritesOnOk W.write_str_gives f.old result (zero_filled 2 (decimal n)) f.new }
 {
     write!(f, "{n:02}")

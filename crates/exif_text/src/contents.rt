@@ -1,5 +1,9 @@
 //! What a value holds, borrowed.
 
+ghost use Rattle.std.specs.Prelude.{◌≡◌};
+ghost use Rattle.std.specs.Option.{option_map};
+ghost use Rattle.exif_text.specs.Contents.{contents_view, first_text, letter_in, undefined_byte};
+
 use crate::rational::{Rational, SRational};
 use exif_base::Items;
 
@@ -34,4 +38,37 @@ pub enum Contents<'a> {
     Double(&'a [u64]),
     /// A value of another type: its type, its count and the offset of its value element.
     Unknown(u16, u32, u32),
+}
+
+impl<'a> Contents<'a> {
+    /// The first of the texts.
+    pub fn first_text(self) -> Option<&'a [u8]>
+        ensures { option_map (λ text. text.now) result ≡ first_text (contents_view self.entry) }
+    {
+        match self {
+            Contents::Ascii([text, ..]) => Some(text.as_slice()),
+            Contents::Text(text) => Some(text),
+            _ => None,
+        }
+    }
+
+    /// The only byte of the first text.
+    pub fn letter(self) -> Option<u8>
+        ensures { result ≡ letter_in (first_text (contents_view self.entry)) }
+    {
+        match self.first_text() {
+            Some([letter]) => Some(*letter),
+            _ => None,
+        }
+    }
+
+    /// The first of bytes of any meaning.
+    pub fn undefined_byte(self) -> Option<u8>
+        ensures { result ≡ undefined_byte (contents_view self.entry) }
+    {
+        match self {
+            Contents::Undefined([byte, ..]) => Some(*byte),
+            _ => None,
+        }
+    }
 }

@@ -82,7 +82,7 @@ pub(crate) fn part(bytes: &[u8], from: usize) -> Result<u8, DateFault>
 }
 
 /// The date that the digits of the fixed places spell.
-pub(crate) fn read_date(bytes: &[u8]) -> Result<Date, DateFault>
+pub fn read_date(bytes: &[u8]) -> Result<Date, DateFault>
     requires { 10 ≤ length bytes.now }
     ensures { result ≡ read_date bytes.now }
 {

@@ -1,4 +1,5 @@
-//! The printed texts of values, written from borrowed contents without memory.
+//! What values hold, borrowed, and their plain texts; dates read and written. Nothing here takes
+//! memory.
 #![tactic(auto)]
 
 pub mod clock;
@@ -6,14 +7,8 @@ pub mod contents;
 pub mod date;
 mod date_fault;
 pub mod decimal;
-mod digits;
-mod fixed;
-mod flash;
-mod fractions;
-pub mod kinds;
+pub mod digits;
 pub mod laws;
-mod letters;
-mod numbers;
 pub mod offset;
 pub mod pad;
 pub mod plain;
@@ -21,12 +16,10 @@ pub mod quoted;
 pub mod rational;
 pub mod subsec;
 pub mod unsigned;
-mod versions;
 
 pub use contents::Contents;
 pub use date_fault::DateFault;
 pub use decimal::Decimal;
-pub use kinds::write_value;
 pub use plain::PlainText;
 pub use quoted::Quoted;
 pub use rational::{Rational, SRational};

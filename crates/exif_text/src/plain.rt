@@ -26,10 +26,7 @@ impl fmt::Display for PlainText<'_> {
 }
 
 /// Writes the plain text of the contents.
-pub(crate) fn write_plain<W: fmt::Write>(
-    f: &mut fmt::Formatter<W>,
-    contents: Contents<'_>,
-) -> fmt::Result
+pub fn write_plain<W: fmt::Write>(f: &mut fmt::Formatter<W>, contents: Contents<'_>) -> fmt::Result
     ensures { WritesOnOk W.write_str_gives f.old result
         (plain_text (contents_view contents.entry)) f.new }
 {

@@ -1,7 +1,8 @@
 //! Texts by kind, and kinds at values that they don't take.
 
 use exif_table::TextKind;
-use exif_text::{Contents, Rational, SRational, write_value};
+use exif_tag_texts::write_value;
+use exif_text::{Contents, Rational, SRational};
 use std::alloc::AllocError;
 use std::fmt;
 use std::process::Abort;
