@@ -6,7 +6,7 @@ use Rattle.std.proofs.lemmas.Grind.{common_steps}
 use Rattle.exif_base.specs.Bytes.{Reading, bytes_at, number_at}
 use Rattle.exif_base.specs.Orders.{number_of}
 use Rattle.exif_base.specs.declared.endian.Order.{Order}
-use Rattle.exif_types.specs.Decode.{decode, decode_as}
+use Rattle.exif_tiff.specs.Decode.{decode, decode_as}
 use Rattle.exif_types.specs.FieldTypes.{known_length, type_of}
 use Rattle.exif_types.specs.declared.field.Field.{Field}
 use Rattle.exif_types.specs.declared.field_type.FieldType.{FieldType}

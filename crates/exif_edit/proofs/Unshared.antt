@@ -14,7 +14,7 @@ use Rattle.exif_base.specs.declared.endian.Order.{Order}
 use Rattle.exif_base.specs.declared.endian.Order.TheVariants.{Big, Little}
 use Rattle.exif_table.specs.declared.context.Context.{Context}
 use Rattle.exif_table.specs.declared.context.Context.TheVariants.{Tiff, Exif, Gps, Interop}
-use Rattle.exif_types.specs.Decode.{decode}
+use Rattle.exif_tiff.specs.Decode.{decode}
 use Rattle.exif_types.specs.FieldEq.{field_eq, field_Decides, tag_Decides}
 use Rattle.exif_types.specs.FieldTypes.{type_of, known_length}
 use Rattle.exif_types.specs.Lookup.{is_named, tag_eq}

@@ -5,8 +5,8 @@ ghost use Rattle.std.specs.Prelude.{◌≡◌, ◌≤◌, ◌<◌, ◌+◌, ◌*
 ghost use Rattle.exif_tiff.specs.Trace.{entry_value, whole_entries, directory_end, child_of};
 
 use exif_base::Endian;
-use exif_tiff::Fault;
-use exif_types::{Context, FieldType, Value, decode_value};
+use exif_tiff::{Fault, decode_value};
+use exif_types::{Context, FieldType, Value};
 use std::alloc::{AllocError, Global};
 
 /// The value of the entry at a place, if it lies in the data.

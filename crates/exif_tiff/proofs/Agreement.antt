@@ -8,9 +8,9 @@ use Rattle.exif_base.specs.Bytes.{bytes_at, number_at, spaced}
 use Rattle.exif_base.specs.Orders.{number_of}
 use Rattle.exif_base.specs.declared.endian.Order.{Order}
 use Rattle.exif_base.specs.declared.endian.Order.TheVariants.{Big, Little}
-use Rattle.exif_types.specs.Decode.{decode, decode_as}
+use Rattle.exif_tiff.specs.Decode.{decode, decode_as}
 use Rattle.exif_types.specs.FieldTypes.{known_length, type_of, unit_length}
-use Rattle.exif_types.specs.Rationals.{rational_at, srational_at}
+use Rattle.exif_tiff.specs.Rationals.{rational_at, srational_at}
 use Rattle.exif_types.specs.Texts.{texts}
 use Rattle.exif_types.specs.declared.field_type.FieldType.{FieldType}
 use Rattle.exif_types.specs.declared.field_type.FieldType.TheVariants as field_type

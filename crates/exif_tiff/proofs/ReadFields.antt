@@ -7,7 +7,7 @@ use Rattle.std.specs.Prelude.{if◌then◌else◌, ⊤, nat_le}
 use Rattle.exif_base.specs.Bytes.{Reading, number_at, bytes_at}
 use Rattle.exif_types.specs.FieldTypes.{type_of, known_length}
 use Rattle.exif_types.specs.Texts.{without_empty_last}
-use Rattle.exif_types.specs.Decode.{decode, decode_as}
+use Rattle.exif_tiff.specs.Decode.{decode, decode_as}
 use Rattle.exif_types.specs.Numbers.{number_in}
 use Rattle.exif_types.specs.Sound.{HasPlainTexts, IsRead}
 use Rattle.exif_types.specs.declared.value.Value.{Value}

@@ -1,9 +1,11 @@
 pub mod Answers
+pub mod Decode
 pub mod Examples
 pub mod Faults
 pub mod Footprint
 pub mod FootprintExamples
 pub mod Limits
+pub mod Rationals
 pub mod ReadAnswers
 pub mod SoftFaults
 pub mod Trace

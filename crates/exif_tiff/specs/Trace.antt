@@ -5,7 +5,7 @@ use Rattle.std.specs.List.{flat_map}
 use Rattle.exif_base.specs.Bytes.{Reading, number_at, spaced}
 use Rattle.exif_base.specs.Orders.{number_of}
 use Rattle.exif_types.specs.FieldTypes.{type_of, known_length}
-use Rattle.exif_types.specs.Decode.{decode}
+use Rattle.exif_tiff.specs.Decode.{decode}
 use Rattle.exif_types.specs.Numbers.{number_in}
 use Rattle.exif_types.specs.declared.value.Value.{Value}
 use Rattle.exif_table.specs.declared.context.Context.{Context}

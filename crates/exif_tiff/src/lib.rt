@@ -1,9 +1,12 @@
-//! What TIFF data say: the definitions of reading, and the laws between them.
+//! What TIFF data say: values as they are spelled, the definitions of reading, and the laws between
+//! them.
 #![tactic(auto)]
 
+pub mod decode;
 pub mod fault;
 pub mod laws;
 pub mod place;
 
+pub use decode::decode_value;
 pub use fault::Fault;
 pub use place::{DirectoryPlace, EntryPlace};

@@ -1,4 +1,3 @@
-pub mod DecodeLemmas
 pub mod IndexLemmas
 pub mod LawsLemmas
 pub mod ValueLemmas

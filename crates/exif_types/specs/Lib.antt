@@ -1,6 +1,5 @@
 pub mod Contents
 pub mod Dates
-pub mod Decode
 pub mod Defaults
 pub mod Distilling
 pub mod ErrorFalls
@@ -12,7 +11,6 @@ pub mod Located
 pub mod Lookup
 pub mod Numbers
 pub mod PlainValues
-pub mod Rationals
 pub mod Refusals
 pub mod Sound
 pub mod TagOrder

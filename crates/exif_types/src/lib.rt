@@ -2,7 +2,6 @@
 #![tactic(auto)]
 
 pub mod datetime;
-pub mod decode;
 mod defaults;
 pub mod display;
 pub mod error;
@@ -19,7 +18,6 @@ pub mod unsigned;
 pub mod value;
 
 pub use datetime::DateTime;
-pub use decode::decode_value;
 pub use display::{Display, DisplayValue};
 pub use error::{Error, PartialResult, partial_from_parts};
 pub use exif::{Exif, exif_from_parts};

@@ -13,9 +13,9 @@ use Rattle.exif_base.specs.Bytes.{number_at, items_at}
 use Rattle.exif_base.specs.Orders.{number_of}
 use Rattle.exif_text.specs.declared.rational.Rational as rational
 use Rattle.exif_text.specs.declared.rational.SRational as srational
-use Rattle.exif_types.specs.Rationals.{rational_at, srational_at}
+use Rattle.exif_tiff.specs.Rationals.{rational_at, srational_at}
 use Rattle.exif_types.specs.Texts.{texts, without_empty_last, ended}
-use Rattle.exif_types.specs.Decode.{decode}
+use Rattle.exif_tiff.specs.Decode.{decode}
 use Rattle.exif_types.specs.declared.value.Value.{Value}
 use Rattle.exif_types.specs.declared.value.Value.TheVariants.{Byte, Ascii, Short, Long, Rational, SByte, Undefined, SShort, SLong, SRational, Float, Double, Unknown}
 use Rattle.exif_writer.specs.Encoding.{spelled, encode, value_len, moved_to}

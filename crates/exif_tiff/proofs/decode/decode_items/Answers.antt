@@ -1,6 +1,6 @@
 use Rattle.std.proofs.Common.{arith}
-use Rattle.exif_types.proofs.DecodeLemmas.{room_step, push_step}
-use Rattle.exif_types.proofs.decode.decode_items.Goals as goal
+use Rattle.exif_tiff.proofs.DecodeLemmas.{room_step, push_step}
+use Rattle.exif_tiff.proofs.decode.decode_items.Goals as goal
 
 pub loop-preserved : goal.loop-preserved
 loop-preserved g c = record {

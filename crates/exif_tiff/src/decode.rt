@@ -4,13 +4,13 @@ ghost use Rattle.std.specs.Prelude.{◌≡◌, ◌==◌, ◌≤◌, ◌+◌, ◌
 ghost use Rattle.std.specs.List.{slice_split};
 ghost use Rattle.std.specs.Int.{w8, w16, w32, cast_signed};
 ghost use Rattle.exif_base.specs.Bytes.{Reading, number_at, items_at};
-ghost use Rattle.exif_types.specs.Rationals.{rational_at, srational_at};
+ghost use Rattle.exif_tiff.specs.Rationals.{rational_at, srational_at};
 ghost use Rattle.exif_types.specs.FieldTypes.{unit_length};
 ghost use Rattle.exif_types.specs.Texts.{texts};
-ghost use Rattle.exif_types.specs.Decode.{decode_as};
+ghost use Rattle.exif_tiff.specs.Decode.{decode_as};
 
-use crate::{FieldType, Rational, SRational, Value};
 use exif_base::{Endian, Items};
+use exif_types::{FieldType, Rational, SRational, Value};
 use std::alloc::{AllocError, Global};
 
 /// An item of a list in TIFF data.

@@ -1,5 +1,5 @@
 use Rattle.std.proofs.Common.{◌≡◌, map}
-use Rattle.exif_types.proofs.decode.parts_of.Given as goal
+use Rattle.exif_tiff.proofs.decode.parts_of.Given as goal
 
 -- the parts so far are those that the split gave
 abbrev pub invariant-loop-part : goal.invariant-loop-part

@@ -1,9 +1,9 @@
 use Rattle.std.proofs.Common.{◌∙◌, ◌≡◌, ap, subst}
 use Rattle.std.specs.Prelude.{IfOk}
 use Rattle.exif_types.specs.Texts.{texts}
-use Rattle.exif_types.proofs.DecodeLemmas.{split, texts_ended, texts_full}
-use Rattle.exif_types.proofs.decode.texts_of.Goals as goal
-use Rattle.exif_types.proofs.decode.texts_of.Goals.{then-last-eq0, else-last-eq0}
+use Rattle.exif_tiff.proofs.DecodeLemmas.{split, texts_ended, texts_full}
+use Rattle.exif_tiff.proofs.decode.texts_of.Goals as goal
+use Rattle.exif_tiff.proofs.decode.texts_of.Goals.{then-last-eq0, else-last-eq0}
 
 pub returns : goal.returns
 returns c =

@@ -1,6 +1,6 @@
 use Rattle.std.proofs.Common.{◌≡◌, ◌≤◌, ◌+◌, ◌*◌, ◌-◌, ◌++◌, length}
 use Rattle.exif_base.specs.Bytes.{items_at}
-use Rattle.exif_types.proofs.decode.decode_items.Given as goal
+use Rattle.exif_tiff.proofs.decode.decode_items.Given as goal
 
 -- the items so far and those that are left make up all
 abbrev pub invariant-loop : goal.invariant-loop

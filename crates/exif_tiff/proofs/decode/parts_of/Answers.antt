@@ -1,7 +1,7 @@
 use Rattle.std.proofs.Common.{◌∙◌, rules, tests, nat_eq}
 use Rattle.std.proofs.lemmas.Iterator.Splits.{YieldsList-from_slice_split}
 use Rattle.std.proofs.lemmas.Iterator.Consumers.{YieldsList-end}
-use Rattle.exif_types.proofs.decode.parts_of.Goals as goal
+use Rattle.exif_tiff.proofs.decode.parts_of.Goals as goal
 
 pub returns : goal.returns
 returns c =
