@@ -1,10 +1,10 @@
 -- Different bytes have different quoted texts.
-use Rattle.std.proofs.Common.{◌≡◌, ◌≢◌, ◌⊎◌, ℕ, ◌/◌, ◌%◌, ◌<◌, ◌≤◌, List, [], ◌∷◌, ◌++◌, false, refl, sym, ap, ◌∙◌, ⊎_elim, inl, inr, arith, append_assoc, get_or, suc}
+use Rattle.std.proofs.Common.{◌≡◌, ◌≢◌, ◌⊎◌, ℕ, ◌/◌, ◌%◌, ◌<◌, ◌≤◌, List, [], ◌∷◌, ◌++◌, true, false, refl, sym, ap, ◌∙◌, ⊎_elim, inl, inr, arith, true≢false, Bool, ◌&&◌, append_assoc, get_or, suc}
 use Rattle.std.proofs.lemmas.Bool.{cases_lt, cases_eq}
 use Rattle.std.proofs.lemmas.Bool.Decides.{nat_tests}
-use Rattle.std.specs.List.{flat_map}
+use Rattle.std.specs.List.{flat_map, list_all}
 use Rattle.std.specs.Fmt.{digit_glyph}
-use Rattle.exif_text.specs.Quoted.{quoted, escaped, hex_byte}
+use Rattle.exif_text.specs.Quoted.{quoted, escaped, hex_byte, is_plain}
 
 -- the three forms of a byte within quotes
 data Form (b : ℕ) : Type 0 where
@@ -91,3 +91,22 @@ all_bytes (x ∷ xs) h = (h 0, all_bytes xs (λ k. h (suc k)))
 -- different bytes have different texts
 pub quoted_injective : (xs ys : List ℕ) → ((k : ℕ) → get_or xs k 0 < 256) → ((k : ℕ) → get_or ys k 0 < 256) → quoted xs ≡ quoted ys → xs ≡ ys
 quoted_injective xs ys hx hy h = bodies xs ys (all_bytes xs hx) (all_bytes ys hy) cc
+
+-- ---- bytes that stand between the quotes as they are
+
+plain_itself : (b : ℕ) → is_plain b ≡ true → escaped b ≡ b ∷ []
+plain_itself b is = grind (arith, nat_tests)
+
+plain_then : (b : ℕ) (bytes : List ℕ) → (list_all is_plain bytes ≡ true → bytes ≡ flat_map escaped bytes) → is_plain b ≡ true → list_all is_plain bytes ≡ true → b ∷ bytes ≡ flat_map escaped (b ∷ bytes)
+plain_then b bytes more is all = rw (plain_itself b is) (ap (λ l. b ∷ l) (more all))
+
+both : (a b : Bool) → (a && b) ≡ true → (a ≡ true) × (b ≡ true)
+both true b h = (refl, h)
+both false b h = absurd (true≢false (sym h))
+
+-- where all do, they are their own text
+pub plain_escaped : (bytes : List ℕ) → list_all is_plain bytes ≡ true → bytes ≡ flat_map escaped bytes
+plain_escaped [] all = refl
+plain_escaped (b ∷ bytes) all =
+    let each = both (is_plain b) (list_all is_plain bytes) all in
+    plain_then b bytes (plain_escaped bytes) each.0 each.1

@@ -2,7 +2,7 @@ use Rattle.std.proofs.Common.{take}
 use Rattle.std.specs.List.{flat_map}
 use Rattle.std.specs.Fmt.{HasWritten, IsPlainFormatter}
 use Rattle.exif_text.specs.Quoted.{escaped}
-use Rattle.exif_text.proofs.quoted.QuotedDisplay.fmt.Given as goal
+use Rattle.exif_text.proofs.quoted.write_each.Given as goal
 
 abbrev pub invariant-loop-byte : goal.invariant-loop-byte
 invariant-loop-byte g l =
