@@ -27,8 +27,8 @@ use Rattle.exif_writer.specs.Sending.{lens, sum_of, symbol, symbol_of, content_s
 use Rattle.exif_writer.specs.declared.plan.Places.{Places}
 use Rattle.exif_writer.specs.declared.plan.Plan.{Plan}
 use Rattle.exif_writer.specs.declared.plan.Slot.{Slot}
-use Rattle.exif_writer.specs.declared.plan.Content.{Content}
-use Rattle.exif_writer.specs.declared.plan.Content.TheVariants.{Known, PlacesOf, LengthsOf, PlaceOf}
+use Rattle.exif_writer.specs.declared.content.Content.{Content}
+use Rattle.exif_writer.specs.declared.content.Content.TheVariants.{Known, OneShort, OneLong, PlacesOf, LengthsOf, PlaceOf}
 
 -- an entry of blocks holds the lengths of the blocks that are set
 abbrev Holds : Group → format.Content → Type 0
@@ -75,7 +75,9 @@ symbols_length [] = refl
 symbols_length (slot ∷ slots) = ap (λ n. suc n) (symbols_length slots)
 
 known_content : (content : Content) → IsKnown (symbol_of content) → IsKnownContent content
-known_content (Known value) k = sym (same_moved value.now 0).unknown ∙ k
+known_content (Known value) k = sym (same_moved value 0).unknown ∙ k
+known_content (OneShort x) k = tt
+known_content (OneLong x) k = tt
 known_content (PlacesOf kind texts) k = tt
 known_content (LengthsOf kind texts) k = tt
 known_content (PlaceOf context) k = tt
@@ -111,6 +113,8 @@ module _ (group : Group) (start next : ℕ) (plan : Plan) (is : IsPlan (draft_of
 
   settles : (content : Content) → Holds group (symbol_of content) → Settles plan.places content
   settles (Known value) e = tt
+  settles (OneShort x) e = tt
+  settles (OneLong x) e = tt
   settles (PlacesOf kind texts) e =
       let sum : sum_of texts.now ≡ blocks_len (block_list (blocks_in group kind)) = sum_total texts.now ∙ ap total e ∙ sym (len_total (block_list (blocks_in group kind))) in
       let within = blocks_within (draft_of group) start kind in

@@ -10,8 +10,8 @@ use Rattle.exif_writer.proofs.Images.Places.{length-value_of, known_value, lengt
 use Rattle.exif_writer.specs.declared.plan.Places.{Places}
 use Rattle.exif_writer.specs.declared.plan.Slot.{Slot}
 use Rattle.exif_writer.specs.declared.plan.Plan.{Plan}
-use Rattle.exif_writer.specs.declared.plan.Content.{Content}
-use Rattle.exif_writer.specs.declared.plan.Content.TheVariants.{Known, PlacesOf, LengthsOf, PlaceOf}
+use Rattle.exif_writer.specs.declared.content.Content.{Content}
+use Rattle.exif_writer.specs.declared.content.Content.TheVariants.{Known, OneShort, OneLong, PlacesOf, LengthsOf, PlaceOf}
 use Rattle.exif_writer.specs.Sending.{lens, block_place, context_place, settled, symbol_of, symbol, content_type, content_count, content_size, slot_text, after_slot, IsSettled, AreSettled, entries_text, slots_text, values_text, blocks_text}
 use Rattle.exif_writer.specs.Views.{blocks_of}
 use Rattle.exif_writer.specs.Plans.{plan_text, plans_text, sent_image}
@@ -50,6 +50,8 @@ pub record ArePlaces (draft : Draft) (start : ℕ) (places : Places) : Type 0 wh
 
 settled_is : (draft : Draft) (start : ℕ) (places : Places) → ArePlaces draft start places → (content : Content) → settled places content ≡ value_of draft start (symbol_of content)
 settled_is draft start places h (Known value) = refl
+settled_is draft start places h (OneShort x) = refl
+settled_is draft start places h (OneLong x) = refl
 settled_is draft start places h (PlacesOf blocks texts) = ap (λ p. Long (places_from p (lens texts.now))) (h.block blocks)
 settled_is draft start places h (LengthsOf kind texts) = refl
 settled_is draft start places h (PlaceOf context) = ap (λ p. Long (p ∷ [])) (h.context context)
@@ -60,13 +62,17 @@ record Measures (places : Places) (content : Content) : Type 0 where
   count : count_of (settled places content) ≡ content_count content
 
 measures : (places : Places) (content : Content) → Measures places content
-measures places (Known value) = let s = same_moved value.now 0 in record { type = s.type; count = s.count }
+measures places (Known value) = let s = same_moved value 0 in record { type = s.type; count = s.count }
+measures places (OneShort x) = record { type = refl; count = refl }
+measures places (OneLong x) = record { type = refl; count = refl }
 measures places (PlacesOf blocks texts) = record { type = refl; count = places_length (block_place places blocks) texts.now }
 measures places (LengthsOf kind texts) = record { type = refl; count = lens_length texts.now }
 measures places (PlaceOf context) = record { type = refl; count = refl }
 
 pub size_is : (content : Content) → content_len (symbol_of content) ≡ content_size content
-size_is (Known value) = (same_moved value.now 0).len
+size_is (Known value) = (same_moved value 0).len
+size_is (OneShort x) = refl
+size_is (OneLong x) = refl
 size_is (PlacesOf blocks texts) = ap (λ n. 4 * n) (lens_length texts.now)
 size_is (LengthsOf kind texts) = ap (λ n. 4 * n) (lens_length texts.now)
 size_is (PlaceOf context) = refl

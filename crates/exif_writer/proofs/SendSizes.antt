@@ -7,8 +7,8 @@ use Rattle.exif_writer.proofs.Images.Room.{count_within as value_within}
 use Rattle.exif_writer.proofs.SendMembers.{around}
 use Rattle.exif_writer.proofs.SendRunning.{state-append}
 use Rattle.std.specs.List.{AllByRecursion}
-use Rattle.exif_writer.specs.declared.plan.Content.{Content}
-use Rattle.exif_writer.specs.declared.plan.Content.TheVariants.{Known, PlacesOf, LengthsOf, PlaceOf}
+use Rattle.exif_writer.specs.declared.content.Content.{Content}
+use Rattle.exif_writer.specs.declared.content.Content.TheVariants.{Known, OneShort, OneLong, PlacesOf, LengthsOf, PlaceOf}
 use Rattle.exif_writer.specs.Sending.{content_count, content_size, content_type, slot_text, IsKnownContent, slots_text, entries_text, after_slot, values_end, element, settled, value_text}
 use Rattle.std.proofs.lemmas.Bool.{le-leb, lt-leb}
 use Rattle.exif_base.specs.declared.endian.Order.{Order}
@@ -38,7 +38,9 @@ known_unit (Double xs) type h = let e : field_type.Double ≡ type = cc in ap un
 known_unit (Unknown type count old) other h = absurd cc
 
 pub count_within : (content : Content) → IsKnownContent content → content_count content ≤ content_size content
-count_within (Known value) h = value_within value.now h
+count_within (Known value) h = value_within value h
+count_within (OneShort x) h = omega arith
+count_within (OneLong x) h = omega arith
 count_within (PlacesOf blocks texts) h = omega arith
 count_within (LengthsOf kind texts) h = omega arith
 count_within (PlaceOf context) h = omega arith

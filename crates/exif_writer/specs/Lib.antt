@@ -8,6 +8,7 @@ pub mod Image
 pub mod ImageExamples
 pub mod Layout
 pub mod Measuring
+pub mod Noting
 pub mod Places
 pub mod Plans
 pub mod Pushing

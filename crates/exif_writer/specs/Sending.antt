@@ -6,10 +6,10 @@ use Rattle.exif_writer.specs.Slots as format
 use Rattle.exif_writer.specs.Running.{state}
 use Rattle.exif_writer.specs.declared.plan.Places.{Places}
 use Rattle.exif_writer.specs.declared.plan.Slot.{Slot}
-use Rattle.exif_writer.specs.declared.plan.Content.{Content}
-use Rattle.exif_writer.specs.declared.plan.Content.TheVariants.{Known, PlacesOf, LengthsOf, PlaceOf}
+use Rattle.exif_writer.specs.declared.content.Content.{Content}
+use Rattle.exif_writer.specs.declared.content.Content.TheVariants.{Known, OneShort, OneLong, PlacesOf, LengthsOf, PlaceOf}
 use Rattle.exif_types.specs.declared.value.Value.{Value}
-use Rattle.exif_types.specs.declared.value.Value.TheVariants.{Long}
+use Rattle.exif_types.specs.declared.value.Value.TheVariants.{Short, Long}
 use Rattle.exif_table.specs.declared.context.Context.{Context}
 use Rattle.exif_table.specs.declared.context.Context.TheVariants.{Tiff, Exif, Gps, Interop}
 use Rattle.exif_writer.specs.declared.block_kind.BlockKind.{BlockKind}
@@ -43,7 +43,9 @@ context_place places Interop = places.interop
 
 -- the value of an entry
 abbrev pub settled : Places → Content → Value
-settled places (Known value) = moved_to 0 value.now
+settled places (Known value) = moved_to 0 value
+settled places (OneShort x) = Short (x ∷ [])
+settled places (OneLong x) = Long (x ∷ [])
 settled places (PlacesOf kind blocks) =
     Long (places_from (block_place places kind) (lens blocks.now))
 settled places (LengthsOf kind blocks) = Long (lens blocks.now)
@@ -52,13 +54,17 @@ settled places (PlaceOf context) = Long (context_place places context ∷ [])
 -- the places and lengths of blocks fit into 32 bits
 abbrev pub Settles : Places → Content → Type 0
 Settles places (Known value) = ⊤
+Settles places (OneShort x) = ⊤
+Settles places (OneLong x) = ⊤
 Settles places (PlacesOf kind blocks) = block_place places kind + sum_of blocks.now ≤ 4294967295
 Settles places (LengthsOf kind blocks) = sum_of blocks.now ≤ 4294967295
 Settles places (PlaceOf context) = ⊤
 
 -- where the value comes from, in the words of images
 abbrev pub symbol_of : Content → format.Content
-symbol_of (Known value) = format.Known (moved_to 0 value.now)
+symbol_of (Known value) = format.Known (moved_to 0 value)
+symbol_of (OneShort x) = format.Known (Short (x ∷ []))
+symbol_of (OneLong x) = format.Known (Long (x ∷ []))
 symbol_of (PlacesOf kind blocks) = format.PlacesOf kind (lens blocks.now)
 symbol_of (LengthsOf kind blocks) = format.LengthsOf kind (lens blocks.now)
 symbol_of (PlaceOf context) = format.PlaceOf context
@@ -68,13 +74,17 @@ symbol slot = record { tag = slot.tag; content = symbol_of slot.content }
 
 -- the value's type, how many members and how many bytes it has
 abbrev pub content_type : Content → ℕ
-content_type (Known value) = type_number value.now
+content_type (Known value) = type_number value
+content_type (OneShort x) = 3
+content_type (OneLong x) = 4
 content_type (PlacesOf kind blocks) = 4
 content_type (LengthsOf kind blocks) = 4
 content_type (PlaceOf context) = 4
 
 abbrev pub content_count : Content → ℕ
-content_count (Known value) = count_of value.now
+content_count (Known value) = count_of value
+content_count (OneShort x) = 1
+content_count (OneLong x) = 1
 content_count (PlacesOf kind blocks) = length blocks.now
 content_count (LengthsOf kind blocks) = length blocks.now
 content_count (PlaceOf context) = 1
@@ -83,7 +93,9 @@ abbrev pub content_size : Content → ℕ
 content_size content = unit (content_type content) * content_count content
 
 abbrev pub IsKnownContent : Content → Type 0
-IsKnownContent (Known value) = is_unknown value.now ≡ false
+IsKnownContent (Known value) = is_unknown value ≡ false
+IsKnownContent (OneShort x) = ⊤
+IsKnownContent (OneLong x) = ⊤
 IsKnownContent (PlacesOf kind blocks) = ⊤
 IsKnownContent (LengthsOf kind blocks) = ⊤
 IsKnownContent (PlaceOf context) = ⊤

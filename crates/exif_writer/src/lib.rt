@@ -3,6 +3,7 @@
 #![tactic(auto)]
 
 pub mod block_kind;
+mod content;
 mod ifd;
 pub mod item;
 pub mod laws;

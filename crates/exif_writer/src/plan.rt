@@ -2,7 +2,7 @@
 //! here.
 
 ghost use Rattle.std.specs.Prelude.{◌≡◌, ◌≤◌, map, OnOk, ◌++◌, IfOk, length, None};
-ghost use Rattle.exif_writer.specs.Sending.{symbol, symbol_of, IsKnownContent, content_type, content_count, content_size, settle, settle_slot, after_slot, values_end, IsMeasurable};
+ghost use Rattle.exif_writer.specs.Sending.{symbol, symbol_of, settle, settle_slot, after_slot, values_end, IsMeasurable};
 ghost use Rattle.exif_writer.specs.Places.{after_blocks, draft_end};
 ghost use Rattle.exif_writer.specs.Groups.{places_tag, lengths_tag};
 ghost use Rattle.exif_writer.specs.Slots.{in_tag_order, draft_of, known, set_slots, pointer_slots};
@@ -12,9 +12,10 @@ ghost use Rattle.exif_writer.specs.Views.{blocks_of, set_in, entries_in};
 ghost use Rattle.exif_writer.specs.Refused.{write_fault};
 
 use crate::block_kind::BlockKind;
+use crate::content::Content;
 use crate::ifd::Ifd;
-use crate::measure::{FIRST, context_len, value_size};
-use exif_types::{Context, Field, FieldType, Tag, Value};
+use crate::measure::{FIRST, context_len};
+use exif_types::{Context, Field, Tag};
 use std::alloc::{AllocError, Global};
 
 /// The places of the parts of one directory of the chain and its children.
@@ -48,58 +49,6 @@ pub struct Places {
     pub end: u32,
     /// The next directory of the chain, or 0.
     pub next: u32,
-}
-
-/// What the value of an entry is made of.
-#[derive(Drop)]
-pub enum Content<'a> {
-    /// A pushed field.
-    Known(&'a Value),
-    /// The places of these blocks.
-    PlacesOf(BlockKind, &'a [&'a [u8]]),
-    /// Their lengths.
-    LengthsOf(BlockKind, &'a [&'a [u8]]),
-    /// The place of a child directory.
-    PlaceOf(Context),
-}
-
-impl<'a> Content<'a> {
-    /// The number of the value's type.
-    pub fn type_number(&self) -> u16
-        ensures { result ≡ content_type self.now }
-    {
-        match self {
-            Content::Known(value) => value.type_number(),
-            Content::PlacesOf(_, _) | Content::LengthsOf(_, _) | Content::PlaceOf(_) => {
-                FieldType::Long.number()
-            }
-        }
-    }
-
-    /// How many items the value has.
-    pub fn count(&self) -> u32
-        requires { content_count self.now ≤ 4294967295 }
-        ensures { result ≡ content_count self.now }
-    {
-        match self {
-            Content::Known(value) => value.count().unwrap(),
-            Content::PlacesOf(_, blocks) | Content::LengthsOf(_, blocks) => blocks.len() as u32,
-            Content::PlaceOf(_) => 1,
-        }
-    }
-
-    /// How many bytes the value takes.
-    pub fn size(&self) -> u32
-        requires known { IsKnownContent self.now }
-        requires room { content_size self.now ≤ 4294967295 }
-        ensures { result ≡ content_size self.now }
-    {
-        match self {
-            Content::Known(value) => value_size(value).unwrap(),
-            Content::PlacesOf(_, blocks) | Content::LengthsOf(_, blocks) => 4 * blocks.len() as u32,
-            Content::PlaceOf(_) => 4,
-        }
-    }
 }
 
 /// An entry of a directory.
@@ -226,13 +175,17 @@ pub fn lengths_tag(kind: BlockKind) -> u16
     }
 }
 
-// Entries of pushed fields, as they came.
+// How many entries a directory can have beside pushed ones: two for each kind of blocks, and pointers
+// to two children.
+const OTHERS: usize = 8;
+
+// Entries of pushed fields, as they came, with room for the others.
 fn known_slots<'a>(alloc: Global, fields: &[&'a Field]) -> Result<Vec<Slot<'a>>, AllocError>
     ensures { IfOk result (λ slots. map symbol slots.items ≡ map known (entries_in fields.now)) }
 {
-    let mut slots = Vec::new(alloc);
+    let mut slots = Vec::with_capacity(alloc, fields.len() + OTHERS)?;
     for field in fields {
-        slots.push(Slot::new(field.tag.1, Content::Known(&field.value)))?;
+        slots.push(Slot::new(field.tag.1, Content::of(&field.value)))?;
     }
     Ok(slots)
 }

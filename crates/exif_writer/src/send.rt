@@ -10,12 +10,13 @@ ghost use Rattle.exif_base.specs.Sent.{Sends};
 ghost use Rattle.exif_writer.specs.Plans.{IsReadyPlan, directories_text, plan_values_text, plan_blocks_text, plan_text, plans_text, sent_image};
 
 use crate::block_kind::BlockKind;
+use crate::content::Content;
 use crate::item::{
     send_entry, send_head, send_u16, send_u32, send_value, send_zeros, spelled_short, spelled_u32,
 };
-use crate::plan::{Content, Places, Plan, Slot};
+use crate::plan::{Places, Plan, Slot};
 use exif_base::{Order, Sink, send_all};
-use exif_types::{Context, Value};
+use exif_types::Context;
 use std::io;
 
 impl Places {
@@ -78,7 +79,9 @@ impl<'a> Content<'a> {
             (encode order (settled places.now self.now)) }
     {
         match self {
-            Content::Known(value) => send_value(out, order, value),
+            Content::Known(noted) => send_value(out, order, noted.value()),
+            Content::OneShort(x) => send_u16(out, order, *x),
+            Content::OneLong(x) => send_u32(out, order, *x),
             Content::PlacesOf(kind, blocks) => send_places(out, order, places.block(*kind), blocks),
             Content::LengthsOf(_, blocks) => send_lengths(out, order, blocks),
             Content::PlaceOf(context) => send_u32(out, order, places.context(*context)),
@@ -110,15 +113,9 @@ impl<'a> Slot<'a> {
         if self.size > 4 {
             return Some(spelled_u32(order, self.place));
         }
-        match &self.content {
-            Content::Known(Value::Short(items)) if self.size == 2 => match items.as_slice() {
-                [x] => Some(spelled_short(order, *x)),
-                _ => None,
-            },
-            Content::Known(Value::Long(items)) if self.size == 4 => match items.as_slice() {
-                [x] => Some(spelled_u32(order, *x)),
-                _ => None,
-            },
+        match self.content {
+            Content::OneShort(x) if self.size == 2 => Some(spelled_short(order, x)),
+            Content::OneLong(x) if self.size == 4 => Some(spelled_u32(order, x)),
             _ => None,
         }
     }
