@@ -16,3 +16,4 @@ pub mod SendMembers
 pub mod SendMoved
 pub mod SendRunning
 pub mod SendSizes
+pub mod TagOrder

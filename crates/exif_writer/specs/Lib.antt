@@ -1,3 +1,4 @@
+pub mod Arranging
 pub mod Calls
 pub mod Counting
 pub mod Drafts

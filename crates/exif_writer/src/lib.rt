@@ -11,6 +11,7 @@ mod measure;
 mod plan;
 mod ranges;
 mod send;
+mod tag_order;
 pub mod write_fault;
 mod writer;
 

@@ -15,6 +15,7 @@ use crate::block_kind::BlockKind;
 use crate::content::Content;
 use crate::ifd::Ifd;
 use crate::measure::{FIRST, context_len};
+use crate::tag_order::sort;
 use exif_types::{Context, Field, Tag};
 use std::alloc::{AllocError, Global};
 
@@ -120,13 +121,6 @@ pub struct Plan<'a> {
     pub jpeg: &'a [&'a [u8]],
 }
 
-/// Puts entries in the order of their tags, equal tags in the order in which they came.
-pub fn sort(slots: &mut Vec<Slot>) -> Result<(), AllocError>
-    ensures { OnOk result (map symbol slots.new.items ≡ in_tag_order (map symbol slots.old.items)) }
-{
-    slots.sort_by_key(|slot| slot.tag)
-}
-
 /// Settles the sizes and the places of values that stand one behind the other from a place on;
 /// answers where they end.
 pub fn settle(slots: &mut [Slot], start: u32) -> u32
@@ -175,8 +169,8 @@ pub fn lengths_tag(kind: BlockKind) -> u16
     }
 }
 
-// How many entries a directory can have beside pushed ones: two for each kind of blocks, and pointers
-// to two children.
+// How many entries a directory can have beside pushed ones: two for each kind of blocks, and the
+// pointers to two children.
 const OTHERS: usize = 8;
 
 // Entries of pushed fields, as they came, with room for the others.
@@ -230,7 +224,7 @@ fn sorted_slots<'a>(alloc: Global, fields: &[&'a Field]) -> Result<Vec<Slot<'a>>
         ≡ in_tag_order (map known (entries_in fields.now))) }
 {
     let mut slots = known_slots(alloc, fields)?;
-    sort(&mut slots)?;
+    sort(alloc, &mut slots)?;
     Ok(slots)
 }
 
@@ -256,7 +250,7 @@ fn directories_of<'b>(alloc: Global, ifd: &'b Ifd) -> Result<Directories<'b>, Al
         Context::Interop,
         interop.as_slice(),
     )?;
-    sort(&mut exif)?;
+    sort(alloc, &mut exif)?;
     let mut tiff = known_slots(alloc, ifd.fields(Context::Tiff))?;
     push_blocks(&mut tiff, BlockKind::Strips, ifd.set(BlockKind::Strips))?;
     push_blocks(&mut tiff, BlockKind::Tiles, ifd.set(BlockKind::Tiles))?;
@@ -273,7 +267,7 @@ fn directories_of<'b>(alloc: Global, ifd: &'b Ifd) -> Result<Directories<'b>, Al
         Context::Gps,
         gps.as_slice(),
     )?;
-    sort(&mut tiff)?;
+    sort(alloc, &mut tiff)?;
     Ok(Directories {
         tiff,
         exif,
