@@ -1,5 +1,6 @@
 pub mod Agreement
 pub mod AnswerFields
+pub mod ApartLists
 pub mod DecodeLemmas
 pub mod FirstFault
 pub mod FootprintAnswers

@@ -1,4 +1,5 @@
 pub mod Answers
+pub mod Apart
 pub mod Decode
 pub mod Examples
 pub mod Faults

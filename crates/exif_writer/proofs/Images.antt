@@ -7,6 +7,9 @@ pub mod Slots
 pub mod Whole
 pub mod Entries
 pub mod Directories
+pub mod Looked
+pub mod Once
+pub mod Apart
 pub mod Families
 pub mod Fitting
 pub mod ReadBack

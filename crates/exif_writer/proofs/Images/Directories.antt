@@ -55,12 +55,12 @@ module _ (order : Order) (bytes : List ℕ) (small : length bytes < 256 ^ 4) (dr
       })
 
   -- the first of some values stands, where it doesn't fit into its entry
-  value_outside : (entry : Written) (entries : List Written) → AllStand bytes (value_parts order (entry ∷ entries))
+  pub value_outside : (entry : Written) (entries : List Written) → AllStand bytes (value_parts order (entry ∷ entries))
       → (fits : Bool) → nat_le (value_len entry.value) 4 ≡ fits → fits ≡ false → Stands bytes entry.place (encode order entry.value)
   value_outside entry entries h true e f = absurd cc
   value_outside entry entries h false e f = (rw e at h).0
 
-  values_rest : (entry : Written) (entries : List Written) → AllStand bytes (value_parts order (entry ∷ entries))
+  pub values_rest : (entry : Written) (entries : List Written) → AllStand bytes (value_parts order (entry ∷ entries))
       → (fits : Bool) → nat_le (value_len entry.value) 4 ≡ fits → AllStand bytes (value_parts order entries)
   values_rest entry entries h true e = rw e at h
   values_rest entry entries h false e = (rw e at h).1

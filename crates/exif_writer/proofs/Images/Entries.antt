@@ -96,14 +96,16 @@ module _ (order : Order) (bytes : List ℕ) (small : length bytes < 256 ^ 4) whe
       let len = length-encode order entry.value (fits_known entry.value h) in
       omega arith
 
-  -- an entry is read as it was written
-  pub entry_is : (inner : Directory) (context : Context) (ifd directory : ℕ) (entry : Written) (e : ℕ)
-      → entry.tag < 256 ^ 2 → Fits entry.value → Stands bytes e (entry_text order entry)
-      → (nat_le (value_len entry.value) 4 ≡ true → entry.place ≡ e + 8)
-      → (nat_le (value_len entry.value) 4 ≡ false → Stands bytes entry.place (encode order entry.value))
-      → entry_nodes inner (number_of order) bytes context ifd directory e
-      ≡ (Visit ∷ tagged_nodes inner (number_of order) bytes context ifd directory entry.tag e (moved_to entry.place entry.value) (child_of context entry.tag))
-  entry_is inner context ifd directory entry e tag h s inside outside =
+  -- the numbers of an entry whose text stands, and its last 4 bytes
+  pub record IsSpelled (entry : Written) (e : ℕ) : Type 0 where
+    pub tag : number_at (number_of order) 2 bytes e ≡ entry.tag
+    pub type : number_at (number_of order) 2 bytes (e + 2) ≡ type_number entry.value
+    pub count : number_at (number_of order) 4 bytes (e + 4) ≡ count_of entry.value
+    pub element : Stands bytes (e + 8) (if nat_le (value_len entry.value) 4 then encode order entry.value ++ replicate (4 - value_len entry.value) 0 else spelled order 4 entry.place)
+
+  pub entry_spelled : (entry : Written) (e : ℕ) → entry.tag < 256 ^ 2 → Fits entry.value → Stands bytes e (entry_text order entry)
+      → (nat_le (value_len entry.value) 4 ≡ false → Stands bytes entry.place (encode order entry.value)) → IsSpelled entry e
+  entry_spelled entry e tag h s outside =
       let counts = counted entry.value h in
       let type_low = counts.type in
       let count_low = counts.count in
@@ -116,12 +118,29 @@ module _ (order : Order) (bytes : List ℕ) (small : length bytes < 256 ^ 4) whe
       let cl : length c ≡ 4 = length_spelled order 4 (count_of entry.value) in
       let bs : Stands bytes (e + 2) (b ++ (c ++ d)) = stands_right bytes a (b ++ (c ++ d)) e (e + 2) s (omega arith) in
       let cs : Stands bytes (e + 4) (c ++ d) = stands_right bytes b (c ++ d) (e + 2) (e + 4) bs (omega arith) in
-      let ds : Stands bytes (e + 8) d = stands_right bytes c d (e + 4) (e + 8) cs (omega arith) in
-      let tag_is : number_at (number_of order) 2 bytes e ≡ entry.tag = number_read order 2 entry.tag e bytes tag (stands_left bytes a (b ++ (c ++ d)) e s) in
-      let type_is : number_at (number_of order) 2 bytes (e + 2) ≡ type_number entry.value =
-      number_read order 2 (type_number entry.value) (e + 2) bytes (omega arith) (stands_left bytes b (c ++ d) (e + 2) bs) in
       let few : value_len entry.value < 256 ^ 4 = short_value entry h outside (nat_le (value_len entry.value) 4) refl in
-      let count_is : number_at (number_of order) 4 bytes (e + 4) ≡ count_of entry.value =
-      number_read order 4 (count_of entry.value) (e + 4) bytes (omega arith) (stands_left bytes c d (e + 4) cs) in
-      let value = value_is entry e h type_is count_is (nat_le (value_len entry.value) 4) refl ds inside outside in
-      λ i. Visit ∷ valued_nodes inner (number_of order) bytes context ifd directory (tag_is i) e (value i)
+      record {
+        tag = number_read order 2 entry.tag e bytes tag (stands_left bytes a (b ++ (c ++ d)) e s);
+        type = number_read order 2 (type_number entry.value) (e + 2) bytes (omega arith) (stands_left bytes b (c ++ d) (e + 2) bs);
+        count = number_read order 4 (count_of entry.value) (e + 4) bytes (omega arith) (stands_left bytes c d (e + 4) cs);
+        element = stands_right bytes c d (e + 4) (e + 8) cs (omega arith);
+      }
+
+  -- what reading finds as the value of an entry
+  pub value_at : (entry : Written) (e : ℕ) → Fits entry.value → IsSpelled entry e
+      → (nat_le (value_len entry.value) 4 ≡ true → entry.place ≡ e + 8)
+      → (nat_le (value_len entry.value) 4 ≡ false → Stands bytes entry.place (encode order entry.value))
+      → entry_value (number_of order) bytes e ≡ Some (moved_to entry.place entry.value)
+  value_at entry e h is inside outside = value_is entry e h is.type is.count (nat_le (value_len entry.value) 4) refl is.element inside outside
+
+  -- an entry is read as it was written
+  pub entry_is : (inner : Directory) (context : Context) (ifd directory : ℕ) (entry : Written) (e : ℕ)
+      → entry.tag < 256 ^ 2 → Fits entry.value → Stands bytes e (entry_text order entry)
+      → (nat_le (value_len entry.value) 4 ≡ true → entry.place ≡ e + 8)
+      → (nat_le (value_len entry.value) 4 ≡ false → Stands bytes entry.place (encode order entry.value))
+      → entry_nodes inner (number_of order) bytes context ifd directory e
+      ≡ (Visit ∷ tagged_nodes inner (number_of order) bytes context ifd directory entry.tag e (moved_to entry.place entry.value) (child_of context entry.tag))
+  entry_is inner context ifd directory entry e tag h s inside outside =
+      let is = entry_spelled entry e tag h s outside in
+      let value = value_at entry e h is inside outside in
+      λ i. Visit ∷ valued_nodes inner (number_of order) bytes context ifd directory (is.tag i) e (value i)

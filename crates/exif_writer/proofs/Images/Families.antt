@@ -108,7 +108,7 @@ module _ (order : Order) (bytes : List ℕ) (small : length bytes < 256 ^ 4) (dr
       rw h.0 (lengths_low bytes (blocks_place draft start blocks) (draft.blocks blocks) small (stands.blocks blocks))
   value_fits context tag (PlaceOf child) h = let within = (stands.directory child h.1).within in (omega arith, tt)
 
-  values_fit : (context : Context) (slots : List Slot) → AllByRecursion (SlotFits draft context) slots → AllByRecursion (λ slot. Fits (value_of draft start slot.content)) slots
+  pub values_fit : (context : Context) (slots : List Slot) → AllByRecursion (SlotFits draft context) slots → AllByRecursion (λ slot. Fits (value_of draft start slot.content)) slots
   values_fit context [] h = tt
   values_fit context (slot ∷ slots) h = (value_fits context slot.tag slot.content h.0.content, values_fit context slots h.1)
 

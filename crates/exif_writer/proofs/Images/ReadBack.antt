@@ -37,7 +37,7 @@ spans_le start end (p ∷ ps) s =
     let more = spans_le (p.place + length p.text) end ps s.2 in
     omega arith
 
-draft_end_le : (order : Order) (group : Group) (start : ℕ) → IsAccepted group → start ≤ draft_end (draft_of group) start
+pub draft_end_le : (order : Order) (group : Group) (start : ℕ) → IsAccepted group → start ≤ draft_end (draft_of group) start
 draft_end_le order group start h = spans_le start (draft_end (draft_of group) start) _ (draft_spans order (draft_of group) start 0 h.some (known_slots group h))
 
 otherwise : (b : Bool) (nodes : List Node) → b ≡ false → elim b as (λ _. List Node) [ true ↦ [] | false ↦ nodes ] ≡ nodes
@@ -69,7 +69,7 @@ even_le : (n : ℕ) → n ≤ even n
 even_le n = omega arith
 
 module _ (order : Order) (bytes : List ℕ) (small : length bytes < 256 ^ 4) where
-  next_low : (start : ℕ) (groups : List Group) → AllByRecursion IsAccepted groups → AllStand bytes (parts_from order start (map draft_of groups)) → next_place start (map draft_of groups) < 256 ^ 4
+  pub next_low : (start : ℕ) (groups : List Group) → AllByRecursion IsAccepted groups → AllStand bytes (parts_from order start (map draft_of groups)) → next_place start (map draft_of groups) < 256 ^ 4
   unfolding tiff_place
   next_low start [] h stands = omega arith
   next_low start (group ∷ groups) h stands =
@@ -118,7 +118,7 @@ unfolding image
 image_mark Big groups = refl
 image_mark Little groups = refl
 
-image_first : (order : Order) (groups : List Group) → number_at (number_of order) 4 (image order groups) 4 ≡ 8
+pub image_first : (order : Order) (groups : List Group) → number_at (number_of order) 4 (image order groups) 4 ≡ 8
 unfolding image
 image_first Big groups = refl
 image_first Little groups = refl

@@ -1,8 +1,10 @@
 //! Laws of writing: what images have, what reading them gives, and when they are equal.
 
-ghost use Rattle.std.specs.Prelude.{◌≡◌, List, None};
+ghost use Rattle.std.specs.Prelude.{◌≡◌, List, None, true};
 ghost use Rattle.exif_base.specs.declared.endian.Order.{Order};
+ghost use Rattle.exif_tiff.specs.Apart.{looks_apart};
 ghost use Rattle.exif_writer.specs.Groups.{Group};
+ghost use Rattle.exif_writer.specs.Image.{image};
 ghost use Rattle.exif_writer.specs.Ranged.{AreRanged, HavePlainTexts, AreReadable};
 ghost use Rattle.exif_writer.specs.Refused.{write_fault};
 ghost use Rattle.exif_writer.specs.Layout.{LaidOut, LengthIsEnd, BlocksStand};
@@ -11,7 +13,8 @@ ghost use Rattle.exif_writer.specs.Rewriting.{RewritesSame, RewritesInEachOrder,
 
 /// The parts of an image stand side by side from its first byte to its last, but for single zero
 /// bytes between them, it ends where its last part ends and within 4,294,967,295 bytes, and each
-/// strip, tile and thumbnail stands where its two fields say.
+/// strip, tile and thumbnail stands where its two fields say. Reading looks at no byte of it as two
+/// things.
 pub fn images_are_laid_out()
     ensures parts { (order : Order) (groups : List Group)
         → write_fault groups ≡ None
@@ -22,6 +25,9 @@ pub fn images_are_laid_out()
     ensures blocks { (order : Order) (groups : List Group)
         → AreRanged groups → write_fault groups ≡ None
         → BlocksStand order groups }
+    ensures apart { (order : Order) (groups : List Group)
+        → AreRanged groups → HavePlainTexts groups → write_fault groups ≡ None
+        → looks_apart (image order groups) ≡ true }
 {}
 
 /// An image is read as the fields that were written, with no fault. Of more than eight

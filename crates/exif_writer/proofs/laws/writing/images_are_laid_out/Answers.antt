@@ -1,3 +1,4 @@
+use Rattle.exif_writer.proofs.Images.Apart.{image_looks_apart}
 use Rattle.exif_writer.proofs.Images.Laws.{laid_out, length_is_end, blocks_named}
 use Rattle.exif_writer.proofs.laws.writing.images_are_laid_out.Goals as goal
 
@@ -9,3 +10,6 @@ returns-clause-ends c = length_is_end
 
 pub returns-clause-blocks : goal.returns-clause-blocks
 returns-clause-blocks c = blocks_named
+
+pub returns-clause-apart : goal.returns-clause-apart
+returns-clause-apart c = image_looks_apart
