@@ -288,7 +288,6 @@ module _ (draft : Draft) (start : ℕ) where
   in_own Gps t h = h
   in_own Interop t h = h
 
-
 -- a directory that a pointer of another one names stands below it
 pub child_is : (parent child : Context) (tag : ℕ) → child_of parent tag ≡ Some child → IsChild parent child
 child_is Tiff child tag h = go (tag == 0x8769) (tag == 0x8825) h
@@ -344,17 +343,20 @@ module _ (order : Order) (bytes : List ℕ) (small : length bytes < 256 ^ 4) (dr
   own_apart c =
       let front = in_front draft start c in
       let from : ℕ = values_place draft start c in
-      let to : ℕ = after_values from (draft.slots c) in
-      (all_weaker (Lies from to) (IsApart (record { place = place c; len = directory_len (draft.slots c) })) (λ s l. inl (omega (arith, l.0, front)))
-      (value_stretches from (draft.slots c)) (values_lie from (draft.slots c)), values_apart from (draft.slots c))
+      let to : ℕ = after_values from (draft.slots c) in (
+        all_weaker (Lies from to) (IsApart (record { place = place c; len = directory_len (draft.slots c) })) (λ s l. inl (omega (arith, l.0, front)))
+            (value_stretches from (draft.slots c)) (values_lie from (draft.slots c)),
+        values_apart from (draft.slots c),
+      )
 
   own_of : (c : Context) → AllByRecursion (Of draft start c) (own c)
   unfolding Of directory_to values_to
   own_of c =
       let from : ℕ = values_place draft start c in
-      let to : ℕ = after_values from (draft.slots c) in
-      (inl (omega arith, omega arith),
-      all_weaker (Lies from to) (Of draft start c) (λ s l. inr l) (value_stretches from (draft.slots c)) (values_lie from (draft.slots c)))
+      let to : ℕ = after_values from (draft.slots c) in (
+        inl (omega arith, omega arith),
+        all_weaker (Lies from to) (Of draft start c) (λ s l. inr l) (value_stretches from (draft.slots c)) (values_lie from (draft.slots c)),
+      )
 
   -- what reading finds of a directory
   pub record Found (depth : ℕ) (c : Context) : Type 0 where
@@ -367,7 +369,7 @@ module _ (order : Order) (bytes : List ℕ) (small : length bytes < 256 ^ 4) (dr
       let slots : List Slot = draft.slots c in
       let read = each_read order bytes small draft start next low stands few fit c some in
       let looks = entries_look order bytes small draft start (below depth) c (place c + 2) (values_place draft start c) slots (fit c)
-          (values_fit order bytes small draft start next low stands few fit c slots (fit c)) read.texts (stands.values c) in
+      (values_fit order bytes small draft start next low stands few fit c slots (fit c)) read.texts (stands.values c) in
       let count : whole_entries (number_of order) bytes (place c) ≡ length slots =
       read.count ∙ length-written draft start (place c + 2) (values_place draft start c) slots in
       let long : 2 + 12 * whole_entries (number_of order) bytes (place c) + 4 ≡ directory_len slots =
@@ -441,9 +443,10 @@ module _ (order : Order) (bytes : List ℕ) (small : length bytes < 256 ^ 4) (dr
   others : (c named : Context) (slot : Slot) (slots : List Slot) → child_named slot.content ≡ Some named → AllByRecursion (Differ slot) slots
       → AllByRecursion (SlotFits draft c) slots → AllByRecursion (λ (s : Slot). Names (Other c named) s.content) slots
   others c named slot [] is h f = tt
-  others c named slot (next ∷ slots) is h f =
-      (λ child there. (fit_names c next.tag next.content f.0.content child there, λ same. h.0 child (subst (λ x. child_named slot.content ≡ Some x) same is) there),
-      others c named slot slots is h.1 f.1)
+  others c named slot (next ∷ slots) is h f = (
+    λ child there. (fit_names c next.tag next.content f.0.content child there, λ same. h.0 child (subst (λ x. child_named slot.content ≡ Some x) same is) there),
+    others c named slot slots is h.1 f.1,
+  )
 
   module _ (depth : ℕ) (good : (child : Context) → 0 < length (draft.slots child) → Good child (looked (below depth child (place child)))) where
     content_apart : (c : Context) (tag : ℕ) (content : Content) (slots : List Slot) → ContentFits draft c tag content
@@ -584,6 +587,7 @@ image_looks_apart order groups ranged clean h =
     let all : footprint bytes ≡ header_stretch ∷ ordered_footprint (number_of order) bytes =
     λ i. header_stretch ∷ elim (image_header order groups h i) as (λ _. List Stretch) [ Ok found ↦ ordered_footprint (number_of found) bytes | Err fault ↦ [] ] in
     ap are_apart all
-    ∙ apart_computes (header_stretch ∷ ordered_footprint (number_of order) bytes)
-    (all_weaker (λ (t : Stretch). 8 ≤ t.place) (IsApart header_stretch) (λ t a. inl (omega (arith, a))) (ordered_footprint (number_of order) bytes) behind.behind,
-    behind.apart)
+    ∙ apart_computes (header_stretch ∷ ordered_footprint (number_of order) bytes) (
+      all_weaker (λ (t : Stretch). 8 ≤ t.place) (IsApart header_stretch) (λ t a. inl (omega (arith, a))) (ordered_footprint (number_of order) bytes) behind.behind,
+      behind.apart,
+    )

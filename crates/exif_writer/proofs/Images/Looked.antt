@@ -109,7 +109,7 @@ module _ (order : Order) (bytes : List ℕ) (small : length bytes < 256 ^ 4) whe
         let is : IsSpelled order bytes small entry at = entry_spelled order bytes small entry at fit.0.tag good.0 text outside in
         let value = value_at order bytes small entry at good.0 is inside outside in
         let ih = entries_look context (at + 12) (after_value values len) slots fit.1 good.1 more
-            (values_rest order bytes small draft start entry rest parts (nat_le (value_len entry.value) 4) refl) in
+        (values_rest order bytes small draft start entry rest parts (nat_le (value_len entry.value) 4) refl) in
         let stretch : value_stretch (number_of order) bytes at ≡ outside_of (nat_le len 4) (even values) len =
         stretch_when entry at good.0 is (nat_le (value_len entry.value) 4) refl outside ∙ placed (nat_le len 4) refl same in
         let child : entry_directories below (number_of order) bytes context at ≡ below_content below (directory_place draft start) slot.content =
