@@ -100,11 +100,11 @@ fn places_that_are_something_else_too_stay(rt: HostRuntime) -> Result<(), Fail> 
     Ok(())
 }
 
-// Pushes a directory of so many widths behind a first entry.
+// Pushes a directory of so many entries: a first one, and widths.
 fn push_widths(bytes: &mut Vec<u8>, count: u16, first: &[u8]) -> Result<(), AllocError> {
-    bytes.extend_from_slice(&(count + 1).to_be_bytes())?;
+    bytes.extend_from_slice(&count.to_be_bytes())?;
     bytes.extend_from_slice(first)?;
-    for _ in 0..count {
+    for _ in 1..count {
         bytes.extend_from_slice(b"\x01\0\0\x03\0\0\0\x01\0\x14\0\0")?;
     }
     bytes.extend_from_slice(b"\0\0\0\0")?;
@@ -114,8 +114,8 @@ fn push_widths(bytes: &mut Vec<u8>, count: u16, first: &[u8]) -> Result<(), Allo
 // A directory of 401 entries, the first of them a pointer to a GPS directory of 401 at 4826.
 fn crowded(alloc: Global) -> Result<Vec<u8>, AllocError> {
     let mut bytes = Vec::from_slice(alloc, b"MM\0*\0\0\0\x08")?;
-    push_widths(&mut bytes, 400, b"\x88\x25\0\x04\0\0\0\x01\0\0\x12\xda")?;
-    push_widths(&mut bytes, 400, b"\0\0\0\x01\0\0\0\x04\x02\x03\0\0")?;
+    push_widths(&mut bytes, 401, b"\x88\x25\0\x04\0\0\0\x01\0\0\x12\xda")?;
+    push_widths(&mut bytes, 401, b"\0\0\0\x01\0\0\0\x04\x02\x03\0\0")?;
     Ok(bytes)
 }
 
