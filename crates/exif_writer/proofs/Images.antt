@@ -9,6 +9,7 @@ pub mod Entries
 pub mod Directories
 pub mod Looked
 pub mod Once
+pub mod Regions
 pub mod Apart
 pub mod Families
 pub mod Fitting

@@ -16,4 +16,5 @@ pub mod SendMembers
 pub mod SendMoved
 pub mod SendRunning
 pub mod SendSizes
+pub mod TagMoves
 pub mod TagOrder

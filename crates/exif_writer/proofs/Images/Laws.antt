@@ -1,25 +1,18 @@
 -- The laws, from the words of the proofs to those of the definitions.
-use Rattle.std.proofs.Common.{◌≡◌, ◌∙◌, ℕ, List, [], ◌∷◌, Bool, true, false, None, map, refl, sym, ap, arith}
-use Rattle.std.proofs.lemmas.List.Elements.{All-head, All-tail}
-use Rattle.std.specs.Prelude.{◌≢◌}
-use Rattle.std.specs.List.{All, AllByRecursion}
+use Rattle.std.proofs.Common.{◌≡◌, ◌∙◌, List, [], ◌∷◌, Bool, true, false, None, map, refl, sym, ap, arith}
 use Rattle.exif_base.specs.declared.endian.Order.{Order}
 use Rattle.exif_base.specs.declared.endian.Order.TheVariants.{Big, Little}
 use Rattle.exif_base.specs.Orders.{number_of}
-use Rattle.exif_types.specs.Sound.{HasPlainTexts}
-use Rattle.exif_types.specs.declared.value.Value.{Value}
-use Rattle.exif_types.specs.declared.value.Value.TheVariants.{Byte, Ascii, Short, Long, Rational, SByte, Undefined, SShort, SLong, SRational, Float, Double, Unknown}
-use Rattle.exif_table.specs.declared.context.Context.{Context}
 use Rattle.exif_types.specs.declared.field.Field.{Field}
 use Rattle.exif_tiff.specs.declared.fault.Fault.TheVariants.{TooManyDirectories}
 use Rattle.exif_tiff.specs.Trace.{ordered_trace}
 use Rattle.exif_tiff.specs.Answers.{Whole, answer_of}
-use Rattle.exif_writer.specs.Groups.{Group, Entry, pushed_in}
+use Rattle.exif_writer.specs.Groups.{Group}
 use Rattle.exif_writer.specs.Slots.{draft_of}
 use Rattle.exif_writer.specs.Image.{parts, image}
 use Rattle.exif_writer.specs.Flat.{flat}
 use Rattle.exif_writer.specs.Refused.{write_fault}
-use Rattle.exif_writer.specs.Ranged.{IsEntry, AreRanged, HavePlainTexts, AreReadable}
+use Rattle.exif_writer.specs.Ranged.{AreRanged, HavePlainTexts, AreReadable}
 use Rattle.exif_writer.specs.Layout.{Stands, IsOutside, LaidOut, LengthIsEnd, BlocksStand}
 use Rattle.exif_writer.specs.ReadBack.{ReadsBack, ReadsFirstEight, first_eight}
 use Rattle.exif_writer.specs.Rewriting.{RewritesSame, RewritesInEachOrder, pushed_all, all_blocks_set, EqualByContents, LengthsAgree, OrdersAgree}

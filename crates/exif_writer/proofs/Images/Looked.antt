@@ -1,13 +1,12 @@
 -- Where reading looks in a directory of an image: at the directory, at its values, and at its children.
-use Rattle.std.proofs.Common.{◌≡◌, ℕ, suc, ◌+◌, ◌*◌, ◌<◌, ◌≤◌, ◌^◌, List, [], ◌∷◌, ◌++◌, length, refl, sym, ap, ◌∙◌, arith, Bool, true, false, Some, None}
-use Rattle.std.specs.Prelude.{if◌then◌else◌, ◌&&◌, nat_le, nat_lt}
+use Rattle.std.proofs.Common.{◌≡◌, ℕ, ◌+◌, ◌*◌, ◌<◌, ◌^◌, List, [], ◌∷◌, ◌++◌, length, refl, sym, ap, ◌∙◌, arith, Bool, true, false, Some}
+use Rattle.std.specs.Prelude.{if◌then◌else◌, nat_le, nat_lt}
 use Rattle.std.specs.List.{AllByRecursion, flat_map}
 use Rattle.std.proofs.lemmas.Bool.{le-leb, leb-true, leb-false, lt-ltb, le-ltb}
 use Rattle.exif_base.specs.declared.endian.Order.{Order}
 use Rattle.exif_base.specs.Bytes.{number_at, spaced}
 use Rattle.exif_base.specs.Orders.{number_of}
 use Rattle.exif_types.specs.FieldTypes.{type_of, known_length}
-use Rattle.exif_types.specs.ValueTypes.{type_number, count_of}
 use Rattle.exif_table.specs.declared.context.Context.{Context}
 use Rattle.exif_tiff.specs.Footprint.{Below, Stretch, entry_directories, pointed, value_stretch}
 use Rattle.exif_tiff.specs.Trace.{child_of}

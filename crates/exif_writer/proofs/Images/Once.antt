@@ -1,5 +1,5 @@
 -- No child directory is named by two entries of a directory.
-use Rattle.std.proofs.Common.{◌≡◌, ℕ, refl, subst, append_assoc, List, [], ◌∷◌, ◌++◌, Bool, true, false, map, Option, Some, None, sym, ◌∙◌}
+use Rattle.std.proofs.Common.{◌≡◌, ℕ, refl, subst, append_assoc, List, [], ◌∷◌, ◌++◌, true, false, map, Option, Some, None, sym, ◌∙◌}
 use Rattle.std.specs.Prelude.{if◌then◌else◌, nat_le}
 use Rattle.std.specs.List.{AllByRecursion}
 use Rattle.exif_table.specs.declared.context.Context.{Context}
