@@ -17,7 +17,7 @@ use Rattle.exif_tiff.specs.Trace.{Node, opened, directory_nodes, entry_nodes, ch
 use Rattle.exif_tiff.specs.declared.fault.Fault.{Fault}
 use Rattle.exif_tiff.specs.declared.fault.Fault.TheVariants.{DataTooLarge, TruncatedHeader, InvalidByteOrder, InvalidFortyTwo}
 use Rattle.exif_table.specs.declared.context.Context.TheVariants.{Tiff}
-use Rattle.exif_writer.specs.Encoding.{spelled}
+use Rattle.exif_images.specs.Encoding.{spelled}
 use Rattle.exif_edit.specs.Causes.{of_data, wrong_header}
 use Rattle.exif_edit.specs.Clearing.{IsCleared, clear_patches, clearing, empty_place}
 use Rattle.exif_edit.specs.Patches.{FitsIn, patched, put_at, zeros_over}

@@ -13,7 +13,7 @@ use Rattle.exif_types.specs.declared.ifd.In.{In}
 use Rattle.exif_types.specs.declared.value.Value.{Value}
 use Rattle.exif_tiff.specs.Trace.{header}
 use Rattle.exif_tiff.specs.declared.fault.Fault.{Fault}
-use Rattle.exif_writer.specs.Encoding.{encode}
+use Rattle.exif_images.specs.Encoding.{encode}
 use Rattle.exif_entries.specs.Locations.{Located, located}
 use Rattle.exif_edit.specs.Finding.{last_located}
 use Rattle.exif_edit.specs.Patches.{FitsIn, patched, put_at}

@@ -11,14 +11,14 @@ use Rattle.exif_types.specs.ValueTypes.{count_of, type_number}
 use Rattle.exif_types.specs.declared.value.Value.{Value}
 use Rattle.exif_tiff.specs.Trace.{entry_value}
 use Rattle.exif_tiff.proofs.Agreement.{bytes_same}
-use Rattle.exif_writer.specs.Encoding.{encode, moved_to, spelled, value_len}
-use Rattle.exif_writer.specs.Layout.{Stands}
-use Rattle.exif_writer.specs.Places.{Written}
-use Rattle.exif_writer.specs.Slots.{Known}
-use Rattle.exif_writer.proofs.Images.Entries.{counted, fits_known, value_is}
-use Rattle.exif_writer.proofs.Images.Standing.{number_read, stands_left, stands_of, stands_right}
-use Rattle.exif_writer.proofs.Images.Values.{length-encode}
-use Rattle.exif_writer.proofs.Images.Words.{Fits as IsReadable}
+use Rattle.exif_images.specs.Encoding.{encode, moved_to, spelled, value_len}
+use Rattle.exif_images.specs.Layout.{Stands}
+use Rattle.exif_images.specs.Places.{Written}
+use Rattle.exif_images.specs.Slots.{Known}
+use Rattle.exif_images.proofs.Images.Entries.{counted, fits_known, value_is}
+use Rattle.exif_images.proofs.Images.Standing.{number_read, stands_left, stands_of, stands_right}
+use Rattle.exif_images.proofs.Images.Values.{length-encode}
+use Rattle.exif_images.proofs.Images.Words.{Fits as IsReadable}
 use Rattle.exif_edit.specs.Patches.{padded, patched, put_at}
 use Rattle.exif_edit.specs.Setting.{element_text, entry_text, is_small, room_patches, room_text, set_place, value_room}
 use Rattle.exif_edit.specs.declared.patch.Patch.{Patch}

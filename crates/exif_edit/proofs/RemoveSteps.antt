@@ -15,7 +15,7 @@ use Rattle.exif_types.specs.declared.tag.Tag.{Tag}
 use Rattle.exif_types.specs.declared.ifd.In.{In}
 use Rattle.exif_tiff.specs.Trace.{directory_end, whole_entries}
 use Rattle.exif_tiff.specs.declared.fault.Fault.{Fault}
-use Rattle.exif_writer.specs.Encoding.{spelled}
+use Rattle.exif_images.specs.Encoding.{spelled}
 use Rattle.exif_reader.specs.declared.stop.Stop.{Stop}
 use Rattle.exif_reader.specs.declared.stop.Stop.TheVariants as stop
 use Rattle.exif_edit.specs.Causes.{Becomes, Cause, Fails, no_field, place_named, shared}

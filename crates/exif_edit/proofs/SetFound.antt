@@ -13,7 +13,7 @@ use Rattle.exif_types.specs.declared.value.Value.{Value}
 use Rattle.exif_tiff.specs.Answers.{answer_of, shown}
 use Rattle.exif_tiff.specs.Trace.{fields_of, faults_of, trace}
 use Rattle.exif_tiff.specs.declared.fault.Fault.{Fault}
-use Rattle.exif_writer.specs.Encoding.{moved_to}
+use Rattle.exif_images.specs.Encoding.{moved_to}
 use Rattle.exif_edit.specs.Finding.{last_located, replaced, with_value}
 use Rattle.exif_entries.specs.Locations.{Located, located}
 use Rattle.exif_edit.specs.Promises.{FindsNone, FindsValue, IsFieldErased, IsSet, told_by}

@@ -13,8 +13,8 @@ use Rattle.exif_types.specs.declared.tag.Tag.{Tag}
 use Rattle.exif_types.specs.declared.ifd.In.{In}
 use Rattle.exif_types.specs.declared.value.Value.{Value}
 use Rattle.exif_tiff.specs.Trace.{fields_of, trace}
-use Rattle.exif_writer.specs.Encoding.{encode, moved_to, spelled}
-use Rattle.exif_writer.specs.Refused.{is_unknown}
+use Rattle.exif_images.specs.Encoding.{encode, moved_to, spelled}
+use Rattle.exif_images.specs.Refused.{is_unknown}
 use Rattle.exif_edit.specs.Causes.{Cause, no_field, of_data, or_cause, place_named, shared, too_long, unknown_type, unless, ◌>>=◌}
 use Rattle.exif_edit.specs.Finding.{find_answer, last_located, replaced}
 use Rattle.exif_entries.specs.Locations.{Located, located}

@@ -11,7 +11,7 @@ use Rattle.exif_types.specs.declared.field.Field.{Field}
 use Rattle.exif_tiff.specs.Trace.{header, trace, fields_of, faults_of}
 use Rattle.exif_tiff.specs.Answers.{answer_of, raw_answer, shown}
 use Rattle.exif_tiff.specs.declared.fault.Fault.{Fault}
-use Rattle.exif_writer.specs.Encoding.{moved_to}
+use Rattle.exif_images.specs.Encoding.{moved_to}
 use Rattle.exif_edit.specs.Erasing.{gps_spans, without_gps}
 use Rattle.exif_edit.specs.Finding.{last_located, replaced}
 use Rattle.exif_entries.specs.Locations.{Located, located}

@@ -15,7 +15,7 @@ use Rattle.exif_types.specs.declared.value.Value.TheVariants.{Undefined, Unknown
 use Rattle.exif_types.specs.declared.field.Field.{Field}
 use Rattle.exif_tiff.specs.Trace.{directory_end, entry_places, whole_entries}
 use Rattle.exif_tiff.specs.declared.fault.Fault.{Fault}
-use Rattle.exif_writer.specs.Encoding.{spelled}
+use Rattle.exif_images.specs.Encoding.{spelled}
 use Rattle.exif_edit.specs.Causes.{Cause, no_field, of_data, place_named, shared, unless, ◌>>=◌}
 use Rattle.exif_edit.specs.Erasing.{directory_span, value_span}
 use Rattle.exif_edit.specs.Finding.{with_value}

@@ -1,7 +1,7 @@
 //! All fields erased: the header stays, and no directory is left.
 
 ghost use Rattle.std.specs.Prelude.{◌≡◌, ◌≤◌, ◌-◌, ◌<◌, ◌^◌, All, length, replicate, IfOk, OnOk};
-ghost use Rattle.exif_writer.specs.Encoding.{spelled};
+ghost use Rattle.exif_images.specs.Encoding.{spelled};
 ghost use Rattle.exif_edit.specs.Causes.{Edits, Makes};
 ghost use Rattle.exif_edit.specs.Clearing.{IsCleared, clear_answer, clear_patches, clearing, empty_place};
 ghost use Rattle.exif_edit.specs.Patches.{FitsIn, put_at};
@@ -10,7 +10,7 @@ use crate::error::Error;
 use crate::patch::{Patch, Span, zeros};
 use exif_base::{BigEndian, Endian, Items, LittleEndian, Order};
 use exif_reader::tiff::header;
-use exif_writer::item::spelled_u32;
+use exif_images::item::spelled_u32;
 use std::alloc::{AllocError, Global};
 
 // Where the directory of the chain stands in data of a length: behind the header, if there is

@@ -6,7 +6,7 @@ ghost use Rattle.exif_base.specs.Bytes.{spaced};
 ghost use Rattle.exif_base.specs.Orders.{number_of};
 ghost use Rattle.exif_tiff.specs.Trace.{directory_end};
 ghost use Rattle.exif_types.specs.Lookup.{is_named};
-ghost use Rattle.exif_writer.specs.Encoding.{spelled};
+ghost use Rattle.exif_images.specs.Encoding.{spelled};
 ghost use Rattle.exif_edit.specs.Causes.{Edits, Makes};
 ghost use Rattle.exif_edit.specs.Erasing.{value_span};
 ghost use Rattle.exif_edit.specs.Patches.{FitsIn, zeros_over};
@@ -27,7 +27,7 @@ use exif_reader::directory::directory_end;
 use exif_reader::stop::Stop;
 use exif_reader::tiff::Parsed;
 use exif_types::{Field, In, Tag, Value};
-use exif_writer::item::{spelled_u16, spelled_u32};
+use exif_images::item::{spelled_u16, spelled_u32};
 use std::alloc::{AllocError, Global};
 
 /// Entries that stay in a directory: how many they are, and their bytes.

@@ -7,9 +7,9 @@ ghost use Rattle.exif_entries.specs.Walked.{Finds};
 ghost use Rattle.exif_types.specs.Sound.{HasPlainTexts};
 ghost use Rattle.exif_types.specs.ValueTypes.{count_of};
 ghost use Rattle.exif_types.specs.declared.error.Error.TheVariants as Failure;
-ghost use Rattle.exif_writer.specs.Encoding.{encode, moved_to};
-ghost use Rattle.exif_writer.specs.Ranged.{IsRanged};
-ghost use Rattle.exif_writer.specs.Refused.{is_unknown};
+ghost use Rattle.exif_images.specs.Encoding.{encode, moved_to};
+ghost use Rattle.exif_images.specs.Ranged.{IsRanged};
+ghost use Rattle.exif_images.specs.Refused.{is_unknown};
 ghost use Rattle.exif_edit.specs.Causes.{Edits, Makes};
 ghost use Rattle.exif_edit.specs.Finding.{IsLastAt, replaced};
 ghost use Rattle.exif_edit.specs.Patches.{FitsIn};
@@ -25,8 +25,8 @@ use crate::patch::{Patch, Span, apply, padded, patched};
 use crate::read::{number16, number32, order_named, reads_as};
 use crate::spell::{encode, entry_text, is_unknown};
 use exif_base::{Items, Order};
+use exif_images::show_value_fits;
 use exif_types::{Context, Field, FieldType, In, Tag, Value};
-use exif_writer::show_value_fits;
 use std::alloc::{AllocError, Global};
 
 /// What sets a value, and where the value stands then.

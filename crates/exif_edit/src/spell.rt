@@ -3,13 +3,13 @@
 ghost use Rattle.std.specs.Prelude.{◌≡◌, IfOk};
 ghost use Rattle.exif_edit.specs.Setting.{entry_text};
 ghost use Rattle.exif_types.specs.ValueTypes.{count_of};
-ghost use Rattle.exif_writer.specs.Encoding.{encode};
-ghost use Rattle.exif_writer.specs.Refused.{is_unknown};
+ghost use Rattle.exif_images.specs.Encoding.{encode};
+ghost use Rattle.exif_images.specs.Refused.{is_unknown};
 
 use crate::patch::padded;
 use exif_base::{Counted, Order};
 use exif_types::Value;
-use exif_writer::item::{send_value, spelled_u16, spelled_u32};
+use exif_images::item::{send_value, spelled_u16, spelled_u32};
 use std::alloc::{AllocError, Global};
 
 /// The bytes of a value.

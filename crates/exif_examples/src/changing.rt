@@ -7,8 +7,8 @@ ghost use Rattle.exif_edit_files.specs.InFiles.{IsEditedIn};
 ghost use Rattle.exif_rewrite_base.specs.declared.remove.Remove.TheVariants.{Metadata};
 ghost use Rattle.exif_rewrite_jpeg.specs.Rewriting.{ends, finished};
 ghost use Rattle.exif_rewrite.specs.RewrittenFile.{file_rewriting};
-ghost use Rattle.exif_writer.specs.Image.{image};
-ghost use Rattle.exif_writer.specs.Scrubbing.{scrubbed};
+ghost use Rattle.exif_images.specs.Image.{image};
+ghost use Rattle.exif_images.specs.Scrubbing.{scrubbed};
 ghost use Rattle.exif_examples.specs.Fields.{orientation_patches};
 
 use exif::{Counted, Exif, In, Items, Tag, Value};

@@ -5,11 +5,11 @@ ghost use Rattle.std.specs.Io.KnownBytes.{Appends, Keeps};
 ghost use Rattle.exif_base.specs.Device.{count_after};
 ghost use Rattle.exif_base.specs.Sent.{SendsFront};
 ghost use Rattle.exif_types.specs.Refusals.{IsInterrupted, is_io, is_io_error, refusal_of};
-ghost use Rattle.exif_writer.specs.Image.{image};
-ghost use Rattle.exif_writer.specs.Refused.{write_fault};
-ghost use Rattle.exif_writer.specs.Rewriting.{pushed_all};
-ghost use Rattle.exif_writer.specs.Scrubbing.{is_kept, kept, scrubbed, IsScrubbed, LeavesKept};
-ghost use Rattle.exif_writer.specs.WriteFaults.{write_refusal};
+ghost use Rattle.exif_images.specs.Image.{image};
+ghost use Rattle.exif_images.specs.Refused.{write_fault};
+ghost use Rattle.exif_images.specs.Rewriting.{pushed_all};
+ghost use Rattle.exif_images.specs.Scrubbing.{is_kept, kept, scrubbed, IsScrubbed, LeavesKept};
+ghost use Rattle.exif_images.specs.WriteFaults.{write_refusal};
 ghost use Rattle.exif_base.specs.Orders.{order_named};
 
 use exif::experimental::Writer;

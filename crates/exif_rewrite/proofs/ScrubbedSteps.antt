@@ -7,16 +7,16 @@ use Rattle.exif_types.specs.Refusals.{Fails, IsInterrupted, Refusal, refusal_of}
 use Rattle.exif_types.specs.Sound.{IsRead}
 use Rattle.exif_types.specs.declared.error.Error.TheVariants as error
 use Rattle.exif_types.specs.declared.field.Field.{Field}
-use Rattle.exif_writer.specs.Flat.{flat}
-use Rattle.exif_writer.specs.Groups.{Group}
-use Rattle.exif_writer.specs.Image.{image}
-use Rattle.exif_writer.specs.Pushing.{HasPushedAlone, HoldsInTagOrder, PushesFew, PushesPlainTexts}
-use Rattle.exif_writer.specs.Ranged.{HavePlainTexts}
-use Rattle.exif_writer.specs.ReadBack.{ReadsBack}
-use Rattle.exif_writer.specs.Refused.{write_fault}
-use Rattle.exif_writer.specs.Rewriting.{pushed_all}
-use Rattle.exif_writer.specs.WriteFaults.{write_refusal}
-use Rattle.exif_writer.specs.declared.write_fault.WriteFault.{WriteFault}
+use Rattle.exif_images.specs.Flat.{flat}
+use Rattle.exif_images.specs.Groups.{Group}
+use Rattle.exif_images.specs.Image.{image}
+use Rattle.exif_images.specs.Pushing.{HasPushedAlone, HoldsInTagOrder, PushesFew, PushesPlainTexts}
+use Rattle.exif_images.specs.Ranged.{HavePlainTexts}
+use Rattle.exif_images.specs.ReadBack.{ReadsBack}
+use Rattle.exif_images.specs.Refused.{write_fault}
+use Rattle.exif_images.specs.Rewriting.{pushed_all}
+use Rattle.exif_images.specs.WriteFaults.{write_refusal}
+use Rattle.exif_images.specs.declared.write_fault.WriteFault.{WriteFault}
 use Rattle.exif_rewrite.specs.ScrubbedExif.{ReadsAs, image_or, scrubbed_answer}
 
 -- nothing is wanted where no field is

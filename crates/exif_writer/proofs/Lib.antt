@@ -1,6 +1,5 @@
+pub mod BlockSums
 pub mod Growth
-pub mod IfdCounts
-pub mod Images
 pub mod Marks
 pub mod MeasureSteps
 pub mod MeasureTails
@@ -8,12 +7,10 @@ pub mod PlanChain
 pub mod PlanOrder
 pub mod PlanPlaces
 pub mod PlanSettling
-pub mod RangesMembers
 pub mod Ready
 pub mod SendChains
 pub mod SendLaid
 pub mod SendMembers
-pub mod SendMoved
 pub mod SendRunning
 pub mod SendSizes
 pub mod TagMoves

@@ -7,8 +7,8 @@ use Rattle.std.proofs.lemmas.List.{append-nil, take_all, drop_all, with_items_is
 use Rattle.std.specs.Vec.{with_items}
 use Rattle.std.specs.declared.vec.Vec.{Vec}
 use mir.Val.{bool_byte}
-use Rattle.exif_writer.specs.Slots as format
-use Rattle.exif_writer.specs.Places.{even, after_value}
+use Rattle.exif_images.specs.Slots as format
+use Rattle.exif_images.specs.Places.{even, after_value}
 use Rattle.exif_writer.specs.Sending.{content_size, symbol, after_slot, values_end, settle_slot, settle, IsSettled, AreSettled}
 use Rattle.exif_writer.specs.declared.plan.Slot.{Slot}
 

@@ -7,20 +7,20 @@ use denote.Ref.{Bor}
 use Rattle.exif_base.specs.declared.endian.Order.{Order}
 use Rattle.exif_table.specs.declared.context.Context.{Context}
 use Rattle.exif_table.specs.declared.context.Context.TheVariants.{Tiff, Exif, Gps, Interop}
-use Rattle.exif_writer.specs.declared.block_kind.BlockKind.{BlockKind}
-use Rattle.exif_writer.specs.Groups.{Group, blocks_in, pushed_in}
-use Rattle.exif_writer.specs.Image.{image}
-use Rattle.exif_writer.specs.Places.{after_value, after_values, draft_end, drafts_end, next_place, values_place}
-use Rattle.exif_writer.specs.Refused.{write_fault}
-use Rattle.exif_writer.specs.Slots as format
-use Rattle.exif_writer.specs.Slots.{Draft, draft_of, slots_of, block_list, block_slots, set_slots, known, content_len}
-use Rattle.exif_writer.proofs.Images.Room.{blocks_len, blocks_within, values_within, values_room, drafts_low}
-use Rattle.exif_writer.proofs.Images.Shares.{always}
-use Rattle.exif_writer.proofs.Images.Slots.{all_slots}
-use Rattle.exif_writer.proofs.Images.Whole.{known_slots, not_refused}
-use Rattle.exif_writer.proofs.Images.Words.{IsAccepted, IsKnown, AllKnown}
+use Rattle.exif_images.specs.declared.block_kind.BlockKind.{BlockKind}
+use Rattle.exif_images.specs.Groups.{Group, blocks_in, pushed_in}
+use Rattle.exif_images.specs.Image.{image}
+use Rattle.exif_images.specs.Places.{after_value, after_values, draft_end, drafts_end, next_place, values_place}
+use Rattle.exif_images.specs.Refused.{write_fault}
+use Rattle.exif_images.specs.Slots as format
+use Rattle.exif_images.specs.Slots.{Draft, draft_of, slots_of, block_list, block_slots, set_slots, known, content_len}
+use Rattle.exif_images.proofs.Images.Room.{blocks_len, blocks_within, values_within, values_room, drafts_low}
+use Rattle.exif_images.proofs.Images.Shares.{always}
+use Rattle.exif_images.proofs.Images.Slots.{all_slots}
+use Rattle.exif_images.proofs.Images.Whole.{known_slots, not_refused}
+use Rattle.exif_images.proofs.Images.Words.{IsAccepted, IsKnown, AllKnown}
 use Rattle.exif_writer.proofs.SendLaid.{ArePlaces, are_places, size_is, IsSendable, image_is}
-use Rattle.exif_writer.proofs.SendMoved.{same_moved}
+use Rattle.exif_images.proofs.Moved.{same_moved}
 use Rattle.exif_writer.specs.Drafts.{IsPlan, ArePlans}
 use Rattle.exif_writer.specs.Plans.{CanSettle, IsReadyDirectory, IsReadyPlan, sent_image}
 use Rattle.exif_writer.specs.Sending.{lens, sum_of, symbol, symbol_of, content_size, Settles, IsKnownContent, IsMeasurable, IsReady, values_end}

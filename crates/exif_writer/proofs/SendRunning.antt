@@ -10,8 +10,8 @@ use Rattle.exif_writer.specs.Sending.{lens, sum_of}
 use Rattle.exif_writer.proofs.SendChains.{HasSent, sends_whole, sends_then, sends_stop}
 use Rattle.exif_writer.proofs.SendMembers.{around}
 use Rattle.exif_base.specs.declared.endian.Order.{Order}
-use Rattle.exif_writer.specs.Encoding.{spelled}
-use Rattle.exif_writer.specs.Places.{places_from}
+use Rattle.exif_images.specs.Encoding.{spelled}
+use Rattle.exif_images.specs.Places.{places_from}
 use Rattle.exif_base.specs.Sent.{Sends}
 use Rattle.exif_base.specs.declared.device.Sink as sink
 

@@ -2,7 +2,7 @@
 use Rattle.std.specs.Prelude.{ℕ, ◌≡◌, ◌+◌, ◌-◌, ◌*◌, ◌≤◌, ◌++◌, nat_le, ◌%◌, ◌==◌, false, if◌then◌else◌, List, [], ◌∷◌, length, map, replicate, ⊤}
 use denote.Ref.{Bor}
 use Rattle.std.specs.List.{flat_map}
-use Rattle.exif_writer.specs.Slots as format
+use Rattle.exif_images.specs.Slots as format
 use Rattle.exif_writer.specs.Running.{state}
 use Rattle.exif_writer.specs.declared.plan.Places.{Places}
 use Rattle.exif_writer.specs.declared.plan.Slot.{Slot}
@@ -12,15 +12,15 @@ use Rattle.exif_types.specs.declared.value.Value.{Value}
 use Rattle.exif_types.specs.declared.value.Value.TheVariants.{Short, Long}
 use Rattle.exif_table.specs.declared.context.Context.{Context}
 use Rattle.exif_table.specs.declared.context.Context.TheVariants.{Tiff, Exif, Gps, Interop}
-use Rattle.exif_writer.specs.declared.block_kind.BlockKind.{BlockKind}
-use Rattle.exif_writer.specs.declared.block_kind.BlockKind.TheVariants.{Strips, Tiles, Jpeg}
-use Rattle.exif_writer.specs.Encoding.{spelled, encode, moved_to}
+use Rattle.exif_images.specs.declared.block_kind.BlockKind.{BlockKind}
+use Rattle.exif_images.specs.declared.block_kind.BlockKind.TheVariants.{Strips, Tiles, Jpeg}
+use Rattle.exif_images.specs.Encoding.{spelled, encode, moved_to}
 use Rattle.exif_types.specs.ValueTypes.{type_number, count_of}
 use Rattle.exif_types.specs.FieldTypes.{unit}
 use Rattle.exif_base.specs.declared.endian.Order.{Order}
-use Rattle.exif_writer.specs.Places.{places_from, even, after_value}
-use Rattle.exif_writer.specs.Refused.{is_unknown}
-use Rattle.exif_writer.specs.Views.{blocks_of}
+use Rattle.exif_images.specs.Places.{places_from, even, after_value}
+use Rattle.exif_images.specs.Refused.{is_unknown}
+use Rattle.exif_images.specs.Views.{blocks_of}
 
 -- how long borrowed blocks are, and all of them
 abbrev pub lens : List (Bor (List ℕ)) → List ℕ

@@ -3,12 +3,12 @@
 
 ghost use Rattle.std.specs.Prelude.{◌≡◌, ◌≤◌, false};
 ghost use Rattle.exif_types.specs.ValueTypes.{type_number, count_of};
-ghost use Rattle.exif_writer.specs.Encoding.{value_len, moved_to};
-ghost use Rattle.exif_writer.specs.Refused.{is_unknown};
+ghost use Rattle.exif_images.specs.Encoding.{value_len, moved_to};
+ghost use Rattle.exif_images.specs.Refused.{is_unknown};
 ghost use Rattle.exif_writer.specs.Sending.{symbol_of, IsKnownContent, content_type, content_count, content_size};
-ghost use Rattle.exif_writer.specs.Slots as format;
+ghost use Rattle.exif_images.specs.Slots as format;
 
-use crate::block_kind::BlockKind;
+use exif_images::BlockKind;
 use exif_types::{Context, FieldType, Value};
 use std::marker::Model;
 

@@ -3,19 +3,18 @@
 
 ghost use Rattle.std.specs.Prelude.{◌≡◌, ◌≤◌, map, OnOk, ◌++◌, IfOk, length, None};
 ghost use Rattle.exif_writer.specs.Sending.{symbol, symbol_of, settle, settle_slot, after_slot, values_end, IsMeasurable};
-ghost use Rattle.exif_writer.specs.Places.{after_blocks, draft_end};
-ghost use Rattle.exif_writer.specs.Groups.{places_tag, lengths_tag};
-ghost use Rattle.exif_writer.specs.Slots.{in_tag_order, draft_of, known, set_slots, pointer_slots};
+ghost use Rattle.exif_images.specs.Places.{after_blocks, draft_end};
+ghost use Rattle.exif_images.specs.Groups.{places_tag, lengths_tag};
+ghost use Rattle.exif_images.specs.Slots.{in_tag_order, draft_of, known, set_slots, pointer_slots};
 ghost use Rattle.exif_writer.specs.Drafts.{AreDirectories, AreSettledDirectories, HasRoom, IsSettledPlan, next_of, places_of, ArePlans};
 ghost use Rattle.exif_writer.specs.Plans.{CanSettle};
-ghost use Rattle.exif_writer.specs.Views.{blocks_of, set_in, entries_in};
-ghost use Rattle.exif_writer.specs.Refused.{write_fault};
+ghost use Rattle.exif_images.specs.Views.{blocks_of, set_in, entries_in};
+ghost use Rattle.exif_images.specs.Refused.{write_fault};
 
-use crate::block_kind::BlockKind;
 use crate::content::Content;
-use crate::ifd::Ifd;
 use crate::measure::{FIRST, context_len};
 use crate::tag_order::sort;
+use exif_images::{BlockKind, Ifd};
 use exif_types::{Context, Field, Tag};
 use std::alloc::{AllocError, Global};
 

@@ -3,19 +3,19 @@
 ghost use Rattle.std.specs.Prelude.{◌≡◌, ◌+◌, ◌*◌, ◌++◌, ◌^◌, ◌<◌, ◌≤◌, length, map, false, IfSome};
 ghost use Rattle.std.specs.List.{flat_map, AllByRecursion};
 ghost use Rattle.exif_writer.specs.Sending.{block_place, context_place, lens, sum_of, settled, Settles, element, slot_text, IsReady, entries_text, slots_text, value_text, values_text, blocks_text};
-ghost use Rattle.exif_writer.specs.Encoding.{spelled, encode};
-ghost use Rattle.exif_writer.specs.Places.{places_from};
-ghost use Rattle.exif_writer.specs.Image.{header_text, order_mark};
+ghost use Rattle.exif_images.specs.Encoding.{spelled, encode};
+ghost use Rattle.exif_images.specs.Places.{places_from};
+ghost use Rattle.exif_images.specs.Image.{header_text, order_mark};
 ghost use Rattle.exif_base.specs.Sent.{Sends};
 ghost use Rattle.exif_writer.specs.Plans.{IsReadyPlan, directories_text, plan_values_text, plan_blocks_text, plan_text, plans_text, sent_image};
 
-use crate::block_kind::BlockKind;
 use crate::content::Content;
-use crate::item::{
-    send_entry, send_head, send_u16, send_u32, send_value, send_zeros, spelled_short, spelled_u32,
-};
 use crate::plan::{Places, Plan, Slot};
 use exif_base::{Order, Sink, send_all};
+use exif_images::BlockKind;
+use exif_images::item::{
+    send_entry, send_head, send_u16, send_u32, send_value, send_zeros, spelled_short, spelled_u32,
+};
 use exif_types::Context;
 use std::io;
 
@@ -70,7 +70,7 @@ fn send_lengths<W: Sink>(out: &mut W, order: Order, blocks: &[&[u8]]) -> io::Res
     Ok(())
 }
 
-#[tactic(auto, using(crate::proofs::SendMoved::encode_moved))]
+#[tactic(auto, using(exif_images::proofs::Moved::encode_moved))]
 impl<'a> Content<'a> {
     // Sends the bytes of the value.
     fn send<W: Sink>(&self, out: &mut W, order: Order, places: &Places) -> io::Result<()>

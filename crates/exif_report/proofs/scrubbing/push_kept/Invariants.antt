@@ -1,6 +1,6 @@
 use Rattle.std.proofs.Common.{◌≡◌}
-use Rattle.exif_writer.specs.Rewriting.{pushed_all}
-use Rattle.exif_writer.specs.Scrubbing.{kept}
+use Rattle.exif_images.specs.Rewriting.{pushed_all}
+use Rattle.exif_images.specs.Scrubbing.{kept}
 use Rattle.exif_report.proofs.scrubbing.push_kept.Given as goal
 
 -- what is left of the fields takes the writer where all of them do

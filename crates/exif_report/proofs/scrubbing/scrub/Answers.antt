@@ -1,10 +1,10 @@
 use Rattle.std.proofs.Common.{◌≡◌, ◌∙◌, List, None, Result, Ok, Err, OnOk, ap, subst}
 use Rattle.exif_types.specs.Failures.{Failure}
-use Rattle.exif_writer.specs.Groups.{Group}
-use Rattle.exif_writer.specs.Ranged.{AreRanged}
-use Rattle.exif_writer.specs.Refused.{write_fault}
-use Rattle.exif_writer.specs.Rewriting.{pushed_all}
-use Rattle.exif_writer.specs.Scrubbing.{kept, scrubbed, IsScrubbed}
+use Rattle.exif_images.specs.Groups.{Group}
+use Rattle.exif_images.specs.Ranged.{AreRanged}
+use Rattle.exif_images.specs.Refused.{write_fault}
+use Rattle.exif_images.specs.Rewriting.{pushed_all}
+use Rattle.exif_images.specs.Scrubbing.{kept, scrubbed, IsScrubbed}
 use Rattle.exif_base.specs.Orders.{order_named}
 use Rattle.exif_report.proofs.ReportingFindings.{on_err}
 use Rattle.exif_base.proofs.Sent.{keeps_same, front_none}

@@ -1,7 +1,7 @@
 use Rattle.std.proofs.Common.{get_or, refl, rules, ap}
 use Rattle.std.proofs.lemmas.List.{take_all}
 use Rattle.exif_writer.specs.Sending.{sum_of}
-use Rattle.exif_writer.proofs.IfdCounts.{end_is_sum, sum_more}
+use Rattle.exif_writer.proofs.BlockSums.{end_is_sum, sum_more}
 use Rattle.exif_writer.proofs.SendRunning.{sum_within, no_text}
 use Rattle.exif_writer.proofs.measure.blocks_end.Goals as goal
 

@@ -1,5 +1,5 @@
 use Rattle.std.proofs.Common.{rules}
-use Rattle.exif_writer.proofs.IfdCounts.{count_low}
+use Rattle.exif_writer.proofs.BlockSums.{count_low}
 use Rattle.exif_writer.proofs.measure.items_size.Goals as goal
 
 pub returns-in_err-ok : goal.returns-in_err-ok

@@ -1,0 +1,4 @@
+pub mod IfdCounts
+pub mod Images
+pub mod Moved
+pub mod RangesMembers

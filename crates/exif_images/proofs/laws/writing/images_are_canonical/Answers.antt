@@ -1,0 +1,17 @@
+use Rattle.exif_images.proofs.Images.Laws.{rewrites, rewrites_in_each_order, equal_by_contents, lengths_agree, orders_agree}
+use Rattle.exif_images.proofs.laws.writing.images_are_canonical.Goals as goal
+
+pub returns-clause-rewriting : goal.returns-clause-rewriting
+returns-clause-rewriting c = rewrites
+
+pub returns-clause-each_order : goal.returns-clause-each_order
+returns-clause-each_order c = rewrites_in_each_order
+
+pub returns-clause-equality : goal.returns-clause-equality
+returns-clause-equality c = equal_by_contents
+
+pub returns-clause-lengths : goal.returns-clause-lengths
+returns-clause-lengths c = lengths_agree
+
+pub returns-clause-orders : goal.returns-clause-orders
+returns-clause-orders c = orders_agree

@@ -1,0 +1,31 @@
+-- Sizes of blocks added up, and where they end.
+use Rattle.std.proofs.Common.{◌≡◌, ℕ, zero, suc, ◌+◌, ◌*◌, ◌<◌, ◌≤◌, List, [], ◌∷◌, length, take, get_or, refl, ap, ◌∙◌, arith}
+use denote.Ref.{Bor}
+use Rattle.exif_images.specs.Places.{after_blocks, places_from}
+use Rattle.exif_images.specs.Views.{blocks_of}
+use Rattle.exif_writer.specs.Sending.{lens, sum_of}
+use Rattle.exif_writer.proofs.SendRunning.{up_to, sum_append}
+
+-- a product is no less than its second factor
+pub count_low : (unit count : ℕ) → 1 ≤ unit → count ≤ unit * count
+count_low zero count h = absurd (omega arith)
+count_low (suc n) count h = omega arith
+
+-- where blocks end
+pub end_is_sum : (place : ℕ) (texts : List (Bor (List ℕ))) → after_blocks place (blocks_of texts) ≡ place + sum_of texts
+end_is_sum place [] = omega arith
+end_is_sum place (text ∷ texts) = let e = end_is_sum (place + length text.now) texts in omega arith
+
+pub sum_more : (texts : List (Bor (List ℕ))) (i : ℕ) (x d : Bor (List ℕ)) → i < length texts → x ≡ get_or texts i d
+    → sum_of (take (i + 1) texts) ≡ sum_of (take i texts) + length x.now
+sum_more texts i x d h e =
+    let k : sum_of (take (i + 1) texts) ≡ sum_of (take i texts) + (length x.now + 0) = ap sum_of (up_to texts i x d h e) ∙ sum_append (take i texts) (x ∷ []) in
+    omega arith
+
+pub places_length : (place : ℕ) (texts : List (Bor (List ℕ))) → length (places_from place (lens texts)) ≡ length texts
+places_length place [] = refl
+places_length place (t ∷ texts) = ap suc (places_length (place + length t.now) texts)
+
+pub lens_length : (texts : List (Bor (List ℕ))) → length (lens texts) ≡ length texts
+lens_length [] = refl
+lens_length (t ∷ texts) = ap suc (lens_length texts)
