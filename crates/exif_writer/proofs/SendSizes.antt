@@ -4,6 +4,7 @@ use Rattle.std.specs.Prelude.{if◌then◌else◌, nat_le, ◌-◌, replicate}
 use Rattle.exif_writer.specs.declared.plan.Places.{Places}
 use Rattle.exif_writer.specs.declared.plan.Slot.{Slot}
 use Rattle.exif_images.proofs.Images.Room.{count_within as value_within}
+pub use Rattle.exif_images.proofs.Moved.{encode_moved}
 use Rattle.exif_writer.proofs.SendMembers.{around}
 use Rattle.exif_writer.proofs.SendRunning.{state-append}
 use Rattle.std.specs.List.{AllByRecursion}

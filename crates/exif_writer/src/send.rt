@@ -70,7 +70,7 @@ fn send_lengths<W: Sink>(out: &mut W, order: Order, blocks: &[&[u8]]) -> io::Res
     Ok(())
 }
 
-#[tactic(auto, using(exif_images::proofs::Moved::encode_moved))]
+#[tactic(auto, using(crate::proofs::SendSizes::encode_moved))]
 impl<'a> Content<'a> {
     // Sends the bytes of the value.
     fn send<W: Sink>(&self, out: &mut W, order: Order, places: &Places) -> io::Result<()>
