@@ -13,5 +13,7 @@ pub mod SendLaid
 pub mod SendMembers
 pub mod SendRunning
 pub mod SendSizes
+pub mod TagCounts
 pub mod TagMoves
 pub mod TagOrder
+pub mod TagRanks

@@ -1,4 +1,5 @@
 pub mod Arranging
+pub mod Counted
 pub mod Drafts
 pub mod Noting
 pub mod Plans

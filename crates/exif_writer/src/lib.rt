@@ -5,6 +5,7 @@ mod content;
 mod measure;
 mod plan;
 mod send;
+mod tag_counts;
 mod tag_order;
 mod writer;
 
