@@ -1,3 +1,4 @@
+pub mod ApartCounts
 pub mod AloneSound
 pub mod AloneSteps
 pub mod CauseSteps

@@ -1,3 +1,4 @@
+pub mod Apart
 pub mod Causes
 pub mod Changing
 pub mod Clearing
