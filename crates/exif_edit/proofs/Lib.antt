@@ -1,4 +1,7 @@
 pub mod ApartCounts
+pub mod ApartEntries
+pub mod ApartLocated
+pub mod ApartPlaces
 pub mod AloneSound
 pub mod AloneSteps
 pub mod CauseSteps

@@ -1,4 +1,5 @@
-use Rattle.exif_edit.proofs.ApartCounts.{apart_holders}
+use Rattle.exif_edit.proofs.ApartPlaces.{places_apart}
+use Rattle.exif_edit.proofs.ApartLocated.{located_times}
 use Rattle.exif_edit.proofs.laws.what_is_looked_at_once_stands_alone.Goals as goal
 
 pub returns-clause-fields : goal.returns-clause-fields
