@@ -1,9 +1,10 @@
-pub mod ApartCounts
-pub mod ApartEntries
-pub mod ApartLocated
-pub mod ApartPlaces
 pub mod AloneSound
 pub mod AloneSteps
+pub mod ApartCounts
+pub mod ApartEntries
+pub mod ApartFields
+pub mod ApartLocated
+pub mod ApartPlaces
 pub mod CauseSteps
 pub mod ChangeSteps
 pub mod ClearSound

@@ -106,7 +106,7 @@ none_standing e new (l ∷ ls) h = by_test (l.entry == e) refl (none_standing e 
         let rest = r h in
         rw (t, rest) refl
 
-last_stands : (tag : Tag) (k : In) (ls : List Located) (at : Located)
+pub last_stands : (tag : Tag) (k : In) (ls : List Located) (at : Located)
     → last_located tag k ls ≡ Some at → 0 < length (standing_at at.entry ls)
 last_stands tag k [] at h = absurd (none_some h)
   where
@@ -221,7 +221,7 @@ pub reading_in : (bytes : List ℕ) (order : Order) → header bytes ≡ Ok orde
 unfolding reading
 reading_in bytes order h = ap (λ x. reading_by x bytes) h
 
-located_in : (bytes : List ℕ) (order : Order) → header bytes ≡ Ok order
+pub located_in : (bytes : List ℕ) (order : Order) → header bytes ≡ Ok order
     → located bytes ≡ located_of (ordered_trace (number_of order) bytes)
 unfolding located trace
 located_in bytes order h =
