@@ -1,21 +1,17 @@
 -- What reading looks at but for one entry, with what it looks at of that entry, is all that it looks
 -- at: where it looks at each byte once, these stand apart.
-use Rattle.std.proofs.Common.{◌≡◌, ◌≤◌, ◌<◌, ◌+◌, ◌*◌, ◌==◌, ℕ, zero, suc, Bool, true, false, if◌then◌else◌, List, [], ◌∷◌, ◌++◌, length, ◌⊎◌, inl, inr, Option, Some, None, refl, sym, ap, subst, ◌∙◌, arith}
+use Rattle.std.proofs.Common.{◌≡◌, ◌≤◌, ◌<◌, ◌+◌, ◌*◌, ◌==◌, ℕ, zero, suc, Bool, true, false, if◌then◌else◌, List, [], ◌∷◌, ◌++◌, length, refl, ap, ◌∙◌, arith}
 use Rattle.std.specs.Prelude.{◌&&◌, ◌||◌, nat_le, nat_lt}
 use Rattle.std.specs.List.{AllByRecursion, flat_map, list_any}
 use Rattle.std.proofs.lemmas.Bool.Decides.{nat_tests}
-use Rattle.std.proofs.lemmas.Grind.{flat_map-append}
 use Rattle.exif_base.specs.Bytes.{Reading, number_at, spaced}
 use Rattle.exif_types.specs.FieldTypes.{type_of, known_length}
-use Rattle.exif_types.specs.declared.value.Value.{Value}
 use Rattle.exif_tiff.specs.Apart.{are_apart}
-use Rattle.exif_tiff.specs.Decode.{decode}
 use Rattle.exif_tiff.specs.Footprint.{Stretch, chain_directories, looked_at, ordered_footprint, value_stretch}
-use Rattle.exif_tiff.specs.Trace.{entry_places, entry_value, whole_entries}
+use Rattle.exif_tiff.specs.Trace.{entry_places, whole_entries}
 use Rattle.exif_tiff.proofs.ApartLists.{IsApart}
 use Rattle.exif_tiff.proofs.Members.{all_append}
-use Rattle.exif_edit.specs.Setting.{room_of, value_room}
-use Rattle.exif_edit.specs.Sharing.{all_beside, beside, changed_entry, meets, other_entry}
+use Rattle.exif_edit.specs.Sharing.{all_beside, beside, meets, other_entry}
 use Rattle.exif_edit.specs.declared.patch.Span.{Span}
 use Rattle.exif_edit.proofs.ApartCounts.{HaveBytes, Lacks, all_apart, apart_holders, apart_misses, apart_of, has, has_inside, has_parts, holders, holders-append, holders_more, holders_none}
 
@@ -127,14 +123,20 @@ module _ (number : Reading) (bytes : List ℕ) where
       by_test false = (omega arith, value_has d)
 
   beside_has : (e p : ℕ) → HaveBytes (beside number bytes e p)
-  beside_has e p =
-      (omega arith, (omega arith,
-      all_have (other_entry number bytes e) (entry_places number bytes p) (other_has e)))
+  beside_has e p = (
+    omega arith,
+    (
+      omega arith,
+      all_have (other_entry number bytes e) (entry_places number bytes p) (other_has e),
+    ),
+  )
 
   all_beside_has : (e : ℕ) → HaveBytes (all_beside number bytes e)
-  all_beside_has e =
-      (omega arith, all_have (beside number bytes e)
-      (chain_directories 8 number bytes (number_at number 4 bytes 4)) (beside_has e))
+  all_beside_has e = (
+    omega arith,
+    all_have (beside number bytes e)
+        (chain_directories 8 number bytes (number_at number 4 bytes 4)) (beside_has e),
+  )
 
   -- ---- counted byte by byte
 

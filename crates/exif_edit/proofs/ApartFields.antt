@@ -1,8 +1,8 @@
 -- Where reading looks at no byte as two things, each field stands alone, and so edits of it are not
 -- refused as shared.
-use Rattle.std.proofs.Common.{◌≡◌, ◌≤◌, ◌<◌, ◌+◌, ◌*◌, ◌==◌, ℕ, Bool, true, false, if◌then◌else◌, List, [], ◌∷◌, length, Option, Some, None, Result, Ok, Err, refl, sym, ap, subst, ◌∙◌, arith}
+use Rattle.std.proofs.Common.{◌≡◌, ◌≤◌, ◌<◌, ◌+◌, ◌*◌, ◌==◌, ℕ, Bool, true, false, if◌then◌else◌, List, [], ◌∷◌, length, Option, Some, None, Result, Ok, Err, refl, sym, ap, subst, ◌∙◌, arith, eq-eqb}
 use Rattle.std.specs.Prelude.{◌&&◌, ◌||◌, nat_le, nat_lt, not}
-use Rattle.std.specs.List.{list_any}
+use Rattle.std.specs.List.{AllByRecursion, list_any}
 use Rattle.std.proofs.lemmas.Bool.Decides.{nat_tests}
 use Rattle.exif_base.specs.Bytes.{Reading, number_at}
 use Rattle.exif_base.specs.Orders.{number_of}
@@ -15,7 +15,8 @@ use Rattle.exif_tiff.specs.declared.fault.Fault.{Fault}
 use Rattle.exif_tiff.specs.Apart.{are_apart, looks_apart}
 use Rattle.exif_tiff.specs.Decode.{decode}
 use Rattle.exif_tiff.specs.Footprint.{Stretch, ordered_footprint, value_stretch}
-use Rattle.exif_tiff.specs.Trace.{entry_value, header, located_of, ordered_trace}
+use Rattle.exif_tiff.specs.Trace.{Found, Met, Node, Opens, Visit, entry_value, header, located_of, ordered_trace}
+use Rattle.exif_tiff.proofs.Members.{all_of}
 use Rattle.exif_images.specs.Groups.{Group}
 use Rattle.exif_images.specs.Image.{image}
 use Rattle.exif_images.specs.Ranged.{AreRanged, HavePlainTexts}
@@ -23,16 +24,16 @@ use Rattle.exif_images.specs.Refused.{write_fault}
 use Rattle.exif_images.proofs.Images.Apart.{image_looks_apart}
 use Rattle.exif_images.proofs.Images.ReadBack.{image_header}
 use Rattle.exif_entries.specs.Locations.{Located, located}
-use Rattle.exif_edit.specs.Apart.{AreErasedApart, AreErasedInImage, FieldStandsAlone, IsSetApart, IsSetInImage, PlacesStandAlone}
+use Rattle.exif_edit.specs.Apart.{AreErasedApart, AreErasedInImage, EachStandsAlone, IsSetApart, IsSetInImage, LastStandsAlone, PlacesStandAlone}
 use Rattle.exif_edit.specs.Finding.{last_located}
-use Rattle.exif_edit.specs.Setting.{room_of, value_room}
+use Rattle.exif_edit.specs.Setting.{value_room}
 use Rattle.exif_edit.specs.Sharing.{all_beside, changed_entry, meets, standing_at, stands_alone}
 use Rattle.exif_edit.specs.declared.patch.Span.{Span}
 use Rattle.exif_edit.proofs.ApartCounts.{apart_misses}
 use Rattle.exif_edit.proofs.ApartEntries.{all_entries, all_looked, entry_apart, neither_any, none_met, nothing_met, once, room_apart, room_beside, times}
-use Rattle.exif_edit.proofs.ApartLocated.{located_times}
+use Rattle.exif_edit.proofs.ApartLocated.{located_times, one_more}
 use Rattle.exif_edit.proofs.ApartPlaces.{places_apart}
-use Rattle.exif_edit.proofs.LocatedEntries.{last_said}
+use Rattle.exif_edit.proofs.LocatedEntries.{AreSaid, IsSaid, last_said, ordered_said}
 use Rattle.exif_edit.proofs.PlacesUnshared.{places_unshared}
 use Rattle.exif_edit.proofs.Unshared.{last_stands, located_in, set_unshared}
 
@@ -128,20 +129,80 @@ module _ (number : Reading) (bytes : List ℕ) (e : ℕ)
           → (not x && (not y && (n == 1))) ≡ true
       by_parts x y n p q r = rw (p, q, r) refl
 
-pub field_apart : (tag : Tag) (k : In) (bytes : List ℕ) → FieldStandsAlone tag k bytes
-field_apart tag k bytes order at head apart last =
+-- ---- fields
+
+module _ (bytes : List ℕ) (order : Order) (head : header bytes ≡ Ok order)
+    (apart : looks_apart bytes ≡ true) where
+  -- what its entry says stands there
+  abbrev Said : Located → Type 0
+  Said l = IsSaid (number_of order) bytes l.field l.entry
+
+  -- some field stands in its entry
+  abbrev Held : Located → Type 0
+  Held l = 0 < length (standing_at l.entry (located bytes))
+
+  abbrev Alone : Located → Type 0
+  Alone l = stands_alone (number_of order) bytes l.entry ≡ true
+
+  one_alone : (l : Located) → Said l → Held l → Alone l
+  one_alone l said some =
+      let looked = looked_apart bytes order head apart in
+      let most = located_times l.entry (number_of order) bytes in
+      let same = ap (λ ls. length (standing_at l.entry ls)) (located_in bytes order head) in
+      let few = once (number_of order) bytes l.entry looked in
+      let there : 0 < times 1 l.entry (all_entries (number_of order) bytes) = omega arith in
+      let one : length (standing_at l.entry (located bytes)) ≡ 1 = omega arith in
+      free_alone (number_of order) bytes l.entry looked there
+      (room_free (number_of order) bytes l.entry looked there l.field.value said.value) one
+
+  all_said : (nodes : List Node) → AreSaid (number_of order) bytes nodes
+      → AllByRecursion Said (located_of nodes)
+  all_said [] h = tt
+  all_said (Opens d ∷ nodes) h = all_said nodes h
+  all_said (Visit ∷ nodes) h = all_said nodes h
+  all_said (Found l ∷ nodes) h = (h.0, all_said nodes h.1)
+  all_said (Met fault ∷ nodes) h = all_said nodes h
+
+  all_held : (ls : List Located)
+      → ((e : ℕ) → length (standing_at e ls) ≤ length (standing_at e (located bytes)))
+      → AllByRecursion Held ls
+  all_held [] h = tt
+  all_held (l ∷ ls) h =
+      let itself = eq-eqb l.entry l.entry refl in
+      let one = one_more l.entry l ls ∙ ap (λ t. (if t then 1 else 0) + length (standing_at l.entry ls)) itself in
+      let some = h l.entry in
+      (omega arith, all_held ls (λ e. fewer e (h e)))
+    where
+      fewer : (e : ℕ) → length (standing_at e (l ∷ ls)) ≤ length (standing_at e (located bytes))
+          → length (standing_at e ls) ≤ length (standing_at e (located bytes))
+      fewer e few =
+          by_number (if l.entry == e then 1 else 0) (one_more e l ls)
+        where
+          by_number : (n : ℕ) → length (standing_at e (l ∷ ls)) ≡ n + length (standing_at e ls)
+              → length (standing_at e ls) ≤ length (standing_at e (located bytes))
+          by_number n more = omega arith
+
+  all_alone : (ls : List Located) → AllByRecursion Said ls → AllByRecursion Held ls
+      → AllByRecursion Alone ls
+  all_alone [] h k = tt
+  all_alone (l ∷ ls) h k = (one_alone l h.0 k.0, all_alone ls h.1 k.1)
+
+pub each_apart : (bytes : List ℕ) → EachStandsAlone bytes
+each_apart bytes order head apart =
+    let here = located_in bytes order head in
+    let nodes = ordered_trace (number_of order) bytes in
+    let said = subst (λ ls. AllByRecursion (Said bytes order head apart) ls) (sym here)
+    (all_said bytes order head apart nodes (ordered_said (number_of order) bytes)) in
+    let held = all_held bytes order head apart (located bytes) (λ e. omega arith) in
+    all_of (Alone bytes order head apart) (located bytes)
+    (all_alone bytes order head apart (located bytes) said held)
+
+pub last_apart : (tag : Tag) (k : In) (bytes : List ℕ) → LastStandsAlone tag k bytes
+last_apart tag k bytes order at head last apart =
     let here = located_in bytes order head in
     let found = subst (λ ls. last_located tag k ls ≡ Some at) here last in
     let said = (last_said (number_of order) bytes tag k at found).0 in
-    let looked = looked_apart bytes order head apart in
-    let some = last_stands tag k (located bytes) at last in
-    let most = located_times at.entry (number_of order) bytes in
-    let same = ap (λ ls. length (standing_at at.entry ls)) here in
-    let few = once (number_of order) bytes at.entry looked in
-    let there : 0 < times 1 at.entry (all_entries (number_of order) bytes) = omega arith in
-    let one : length (standing_at at.entry (located bytes)) ≡ 1 = omega arith in
-    free_alone (number_of order) bytes at.entry looked there
-    (room_free (number_of order) bytes at.entry looked there at.field.value said.value) one
+    one_alone bytes order head apart at said (last_stands tag k (located bytes) at last)
 
 pub places_alone : (bytes : List ℕ) → PlacesStandAlone bytes
 places_alone bytes order head apart =
@@ -150,9 +211,9 @@ places_alone bytes order head apart =
 -- ---- so edits are not refused as shared
 
 pub set_apart : (tag : Tag) (k : In) (value : Value) (bytes : List ℕ) → IsSetApart tag k value bytes
-set_apart tag k value bytes order at head apart last =
+set_apart tag k value bytes order at head last apart =
     set_unshared tag k value bytes order at head last
-    (field_apart tag k bytes order at head apart last)
+    (last_apart tag k bytes order at head last apart)
 
 pub erased_apart : (bytes : List ℕ) → AreErasedApart bytes
 erased_apart bytes order head apart =
@@ -161,8 +222,8 @@ erased_apart bytes order head apart =
 pub set_in_image : (tag : Tag) (k : In) (value : Value) (order : Order) (groups : List Group)
     → AreRanged groups → HavePlainTexts groups → write_fault groups ≡ None
     → IsSetInImage tag k value order groups
-set_in_image tag k value order groups ranged plain written at =
-    set_apart tag k value (image order groups) order at (image_header order groups written)
+set_in_image tag k value order groups ranged plain written at last =
+    set_apart tag k value (image order groups) order at (image_header order groups written) last
     (image_looks_apart order groups ranged plain written)
 
 pub erased_in_image : (order : Order) (groups : List Group)

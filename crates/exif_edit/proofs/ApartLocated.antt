@@ -1,8 +1,7 @@
 -- Each field stands in an entry of a directory that is looked at, at most one in each time that the
 -- entry is among them.
-use Rattle.std.proofs.Common.{◌≡◌, ◌≤◌, ◌+◌, ◌==◌, ℕ, zero, suc, Bool, true, false, if◌then◌else◌, List, [], ◌∷◌, ◌++◌, length, Option, Some, None, Result, Ok, Err, refl, ap, ◌∙◌, arith}
+use Rattle.std.proofs.Common.{◌≡◌, ◌≤◌, ◌+◌, ◌==◌, ℕ, zero, suc, Bool, true, false, if◌then◌else◌, List, [], ◌∷◌, ◌++◌, length, Option, Some, None, Result, Ok, Err, refl, arith}
 use Rattle.std.specs.List.{flat_map}
-use Rattle.std.proofs.lemmas.Grind.{flat_map-append}
 use Rattle.exif_base.specs.Bytes.{Reading, number_at}
 use Rattle.exif_types.specs.Numbers.{number_in}
 use Rattle.exif_types.specs.declared.value.Value.{Value}
@@ -13,14 +12,14 @@ use Rattle.exif_tiff.specs.declared.fault.Fault.TheVariants.{UnexpectedNext, Too
 use Rattle.exif_tiff.specs.Footprint.{Below, chain_directories, directories, entry_directories, following, named, pointed}
 use Rattle.exif_tiff.specs.Trace.{Directory, Found, Located, Met, Node, Opens, Visit, chain_after, chain_nodes, child_end, child_of, depth_of, directory_end, directory_nodes, entry_nodes, entry_places, entry_value, field_of, located_of, opened, ordered_trace, pointer_nodes, tagged_nodes, valued_nodes}
 use Rattle.exif_edit.specs.Sharing.{standing_at}
-use Rattle.exif_edit.proofs.ApartEntries.{all_entries, times, times-append, times_else, times_more, times_none, times_there}
+use Rattle.exif_edit.proofs.ApartEntries.{all_entries, times, times-append, times_more, times_none}
 
 module _ (e : ℕ) where
   -- how many fields of nodes stand in the entry at e
   standing : List Node → ℕ
   standing nodes = length (standing_at e (located_of nodes))
 
-  one_more : (l : Located) (ls : List Located) → length (standing_at e (l ∷ ls))
+  pub one_more : (l : Located) (ls : List Located) → length (standing_at e (l ∷ ls))
       ≡ (if l.entry == e then 1 else 0) + length (standing_at e ls)
   one_more l ls = by_test (l.entry == e)
     where

@@ -1,8 +1,8 @@
 -- What reading looks at of GPS directories stands apart from what it looks at of all others, where
 -- it looks at no byte as two things.
-use Rattle.std.proofs.Common.{◌≡◌, ◌≤◌, ◌<◌, ◌+◌, ◌-◌, ◌*◌, min, ℕ, Bool, true, false, if◌then◌else◌, List, [], ◌∷◌, ◌++◌, length, map, ◌⊎◌, inl, inr, Ok, refl, sym, ap, ◌∙◌, arith}
-use Rattle.std.specs.Prelude.{◌&&◌, ◌||◌, nat_le, nat_lt, not}
-use Rattle.std.specs.List.{AllByRecursion, flat_map, list_any}
+use Rattle.std.proofs.Common.{◌≡◌, ◌≤◌, ◌<◌, ◌+◌, ◌-◌, ◌*◌, min, ℕ, Bool, true, false, if◌then◌else◌, List, [], ◌∷◌, ◌++◌, length, map, inl, inr, Ok, refl, ap, ◌∙◌, arith}
+use Rattle.std.specs.Prelude.{◌&&◌, nat_le, nat_lt, not}
+use Rattle.std.specs.List.{flat_map, list_any}
 use Rattle.std.proofs.lemmas.Bool.Decides.{nat_tests}
 use Rattle.std.proofs.lemmas.List.Folds.{list_any-append}
 use Rattle.exif_base.specs.Bytes.{Reading, number_at}
@@ -16,9 +16,9 @@ use Rattle.exif_tiff.specs.Apart.{are_apart}
 use Rattle.exif_tiff.specs.Footprint.{Stretch, chain_directories, directory_stretch, looked_at, value_stretch}
 use Rattle.exif_tiff.specs.Trace.{entry_of, entry_places, header, whole_entries}
 use Rattle.exif_tiff.proofs.ApartLists.{IsApart}
-use Rattle.exif_entries.specs.Locations.{directory_places, gps_of, gps_place, gps_places, located}
+use Rattle.exif_entries.specs.Locations.{directory_places, gps_of, gps_places, located}
 use Rattle.exif_entries.specs.Walked.{Finds, Walked}
-use Rattle.exif_edit.specs.Erasing.{clipped, directory_span, directory_spans, gps_spans, nowhere, value_span, within}
+use Rattle.exif_edit.specs.Erasing.{clipped, directory_spans, gps_spans, nowhere, value_span, within}
 use Rattle.exif_edit.specs.PlacesAlone.{all_kept, chain_kept, places_stand_alone}
 use Rattle.exif_edit.specs.Sharing.{meets}
 use Rattle.exif_edit.specs.declared.patch.Span.{Span}
@@ -227,9 +227,11 @@ places_apart bytes order head apart =
     kept = walked_kept bytes order (walk bytes) head (walk_finds bytes)
 
     have : HaveBytes (all_kept number bytes)
-    have =
-        (omega arith, all_have number bytes (looked_at number bytes)
-        (chain_kept 8 number bytes (number_at number 4 bytes 4)) (looked_has number bytes))
+    have = (
+      omega arith,
+      all_have number bytes (looked_at number bytes)
+          (chain_kept 8 number bytes (number_at number 4 bytes 4)) (looked_has number bytes),
+    )
 
     few : (i : ℕ) → holders i (all_kept number bytes) + holders i (looked number bytes (gps_of ds)) ≤ 1
     few i =

@@ -1,8 +1,7 @@
--- What follows for edits where reading looks at no byte as two things.
-use Rattle.std.specs.Prelude.{◌≡◌, List, true, false, map, Some, Ok}
+-- What follows for edits where reading looks at no byte of the data as two things.
+use Rattle.std.specs.Prelude.{◌≡◌, ℕ, true, false, All, List, map, Some, Ok}
 use Rattle.exif_base.specs.Orders.{number_of}
 use Rattle.exif_base.specs.declared.endian.Order.{Order}
-use Rattle.std.specs.Prelude.{ℕ}
 use Rattle.exif_types.specs.Sound.{HasPlainTexts}
 use Rattle.exif_types.specs.declared.tag.Tag.{Tag}
 use Rattle.exif_types.specs.declared.ifd.In.{In}
@@ -20,25 +19,33 @@ use Rattle.exif_edit.specs.PlacesAlone.{places_stand_alone}
 use Rattle.exif_edit.specs.Setting.{set_patches, value_room}
 use Rattle.exif_edit.specs.Sharing.{fit_answer, names_child, stands_alone}
 
--- the last field of a name stands alone
-abbrev pub FieldStandsAlone : Tag → In → List ℕ → Type 0
-FieldStandsAlone tag k bytes =
-    (order : Order) (at : Located) → header bytes ≡ Ok order → looks_apart bytes ≡ true
-    → last_located tag k (located bytes) ≡ Some at
-    → stands_alone (number_of order) bytes at.entry ≡ true
+-- each field stands alone then
+abbrev pub EachStandsAlone : List ℕ → Type 0
+EachStandsAlone bytes =
+    (order : Order) → header bytes ≡ Ok order
+    → looks_apart bytes ≡ true
+    → All (λ (l : Located). stands_alone (number_of order) bytes l.entry ≡ true) (located bytes)
 
--- the GPS directories and their values do
+-- so the last of a name does
+abbrev pub LastStandsAlone : Tag → In → List ℕ → Type 0
+LastStandsAlone tag k bytes =
+    (order : Order) (at : Located) → header bytes ≡ Ok order
+    → last_located tag k (located bytes) ≡ Some at
+    → looks_apart bytes ≡ true → stands_alone (number_of order) bytes at.entry ≡ true
+
+-- and GPS directories do, with their values
 abbrev pub PlacesStandAlone : List ℕ → Type 0
 PlacesStandAlone bytes =
-    (order : Order) → header bytes ≡ Ok order → looks_apart bytes ≡ true
-    → places_stand_alone (number_of order) bytes ≡ true
+    (order : Order) → header bytes ≡ Ok order
+    → looks_apart bytes ≡ true → places_stand_alone (number_of order) bytes ≡ true
 
--- a value that reads back as it was is set if it fits
+-- a value that reads back as it was is set if only it fits
 abbrev pub IsSetApart : Tag → In → Value → List ℕ → Type 0
 IsSetApart tag k value bytes =
-    (order : Order) (at : Located) → header bytes ≡ Ok order → looks_apart bytes ≡ true
-    → last_located tag k (located bytes) ≡ Some at → names_child tag.1 ≡ false → IsRanged value
-    → HasPlainTexts value → set_patches bytes tag k value
+    (order : Order) (at : Located) → header bytes ≡ Ok order
+    → last_located tag k (located bytes) ≡ Some at → looks_apart bytes ≡ true
+    → names_child tag.1 ≡ false → IsRanged value → HasPlainTexts value
+    → set_patches bytes tag k value
     ≡ fit_answer order tag value at.entry (value_room (number_of order) bytes at.entry)
 
 -- places are erased
@@ -47,7 +54,7 @@ AreErasedApart bytes =
     (order : Order) → header bytes ≡ Ok order → looks_apart bytes ≡ true
     → erase_patches bytes ≡ Ok (map zeros_over (gps_spans (number_of order) bytes))
 
--- a value that reads back as it was is set in an image if it fits
+-- a value that reads back as it was is set in an image if only it fits
 abbrev pub IsSetInImage : Tag → In → Value → Order → List Group → Type 0
 IsSetInImage tag k value order groups =
     (at : Located) → last_located tag k (located (image order groups)) ≡ Some at

@@ -8,7 +8,7 @@ ghost use Rattle.exif_types.specs.declared.value.Value.{Value as Content};
 ghost use Rattle.exif_images.specs.Groups.{Group};
 ghost use Rattle.exif_images.specs.Ranged.{AreRanged, HavePlainTexts};
 ghost use Rattle.exif_images.specs.Refused.{write_fault};
-ghost use Rattle.exif_edit.specs.Apart.{AreErasedApart, AreErasedInImage, FieldStandsAlone, IsSetApart, IsSetInImage, PlacesStandAlone};
+ghost use Rattle.exif_edit.specs.Apart.{AreErasedApart, AreErasedInImage, EachStandsAlone, IsSetApart, IsSetInImage, LastStandsAlone, PlacesStandAlone};
 ghost use Rattle.exif_edit.specs.PlacesAlone.{AreErasedUnshared};
 ghost use Rattle.exif_edit.specs.Promises.{SetsBack};
 ghost use Rattle.exif_edit.specs.Sharing.{IsSetUnshared};
@@ -34,10 +34,11 @@ pub fn places_that_stand_alone_are_erased()
     ensures { (bytes : List ℕ) → AreErasedUnshared bytes }
 {}
 
-/// Where reading looks at no byte of the data as two things, each field stands alone, the last of
-/// its name or the only one, and so do GPS directories with their values.
+/// Where reading looks at no byte of the data as two things, each field stands alone, so the last
+/// of each name does, and GPS directories with their values do.
 pub fn what_is_looked_at_once_stands_alone()
-    ensures fields { (tag : Name) (k : Ifd) (bytes : List ℕ) → FieldStandsAlone tag k bytes }
+    ensures each { (bytes : List ℕ) → EachStandsAlone bytes }
+    ensures last { (tag : Name) (k : Ifd) (bytes : List ℕ) → LastStandsAlone tag k bytes }
     ensures places { (bytes : List ℕ) → PlacesStandAlone bytes }
 {}
 
