@@ -295,7 +295,8 @@ module _ (number : Reading) (bytes : List ℕ) where
           let c = has_inside i itself (omega arith) (omega arith) in
           omega arith
 
-      pub entry_apart : AllByRecursion (IsApart (record { place = e + 2; len = 10 })) (all_beside number bytes e)
+      pub entry_apart :
+          AllByRecursion (IsApart (record { place = e + 2; len = 10 })) (all_beside number bytes e)
       entry_apart =
           all_apart (record { place = e + 2; len = 10 }) (all_beside number bytes e) (omega arith)
           (all_beside_has e) entry_lacks

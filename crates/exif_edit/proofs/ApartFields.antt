@@ -169,14 +169,14 @@ module _ (bytes : List ℕ) (order : Order) (head : header bytes ≡ Ok order)
   all_held [] h = tt
   all_held (l ∷ ls) h =
       let itself = eq-eqb l.entry l.entry refl in
-      let one = one_more l.entry l ls ∙ ap (λ t. (if t then 1 else 0) + length (standing_at l.entry ls)) itself in
+      let one = one_more l.entry l ls
+      ∙ ap (λ t. (if t then 1 else 0) + length (standing_at l.entry ls)) itself in
       let some = h l.entry in
       (omega arith, all_held ls (λ e. fewer e (h e)))
     where
       fewer : (e : ℕ) → length (standing_at e (l ∷ ls)) ≤ length (standing_at e (located bytes))
           → length (standing_at e ls) ≤ length (standing_at e (located bytes))
-      fewer e few =
-          by_number (if l.entry == e then 1 else 0) (one_more e l ls)
+      fewer e few = by_number (if l.entry == e then 1 else 0) (one_more e l ls)
         where
           by_number : (n : ℕ) → length (standing_at e (l ∷ ls)) ≡ n + length (standing_at e ls)
               → length (standing_at e ls) ≤ length (standing_at e (located bytes))

@@ -48,6 +48,10 @@ module _ (e : ℕ) where
           ≡ length (standing_at e (l ∷ located_of xs)) + length (standing_at e (located_of ys))
       by_test n a b c = omega arith
 
+  nothing_stands : standing [] ≡ 0
+  unfolding standing
+  nothing_stands = refl
+
   none_if : (b : Bool) (fault : Fault) → standing (if b then [] else Met fault ∷ []) ≡ 0
   unfolding standing
   none_if true fault = refl
@@ -98,14 +102,14 @@ module _ (e : ℕ) where
           ≤ times 1 e (f ∷ []) + entered (pointed below o (Some v))
       unfolding standing
       tagged c k p n f v None =
-          by_number (if f == e then 1 else 0) (times_more 1 e f [])
-          (one_more (record { field = field_of c k n v; entry = f; directory = p }) [])
+          by_number (if f == e then 1 else 0) (times_more 1 e f []) (one_more here [])
         where
+          here : Located
+          here = record { field = field_of c k n v; entry = f; directory = p }
+
           by_number : (m : ℕ) → times 1 e (f ∷ []) ≡ m + times 1 e []
-              → length (standing_at e (record { field = field_of c k n v; entry = f; directory = p } ∷ []))
-              ≡ m + 0
-              → length (standing_at e (record { field = field_of c k n v; entry = f; directory = p } ∷ []))
-              ≤ times 1 e (f ∷ []) + entered []
+              → length (standing_at e (here ∷ [])) ≡ m + 0
+              → length (standing_at e (here ∷ [])) ≤ times 1 e (f ∷ []) + entered []
           by_number m a b = omega arith
       tagged c k p n f v (Some d) = let a = pointer d (number_in v 0) in omega arith
 
@@ -125,7 +129,7 @@ module _ (e : ℕ) where
       entries : (c : Context) (k p : ℕ) (fs : List ℕ)
           → standing (flat_map (entry_nodes child number bytes c k p) fs)
           ≤ times 1 e fs + entered (flat_map (entry_directories below number bytes c) fs)
-      entries c k p [] = let a = none_if true TooManyDirectories in omega arith
+      entries c k p [] = let a = nothing_stands in omega arith
       entries c k p (f ∷ fs) =
           let one = entry c k p f in
           let rest = entries c k p fs in
@@ -145,7 +149,7 @@ module _ (e : ℕ) where
         → standing (directory_nodes depth number bytes k c p)
         ≤ entered (directories depth number bytes c p)
     directory zero k c p =
-        let a = none_if true TooManyDirectories in
+        let a = nothing_stands in
         let b = opened_same c p [] in
         omega arith
     directory (suc depth) k c p =
@@ -167,7 +171,7 @@ module _ (e : ℕ) where
     either : (t : Bool) (nodes : List Node) (ps : List ℕ) → standing nodes ≤ entered ps
         → standing (elim t as (λ _. List Node) [ true ↦ [] | false ↦ nodes ])
         ≤ entered (if t then [] else ps)
-    either true nodes ps h = let a = none_if true TooManyDirectories in omega arith
+    either true nodes ps h = let a = nothing_stands in omega arith
     either false nodes ps h = h
 
     chain : (left k p : ℕ)
