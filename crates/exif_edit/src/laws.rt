@@ -43,8 +43,9 @@ pub fn what_is_looked_at_once_stands_alone()
 {}
 
 /// So a value is set there if it fits, and places are erased: neither edit is refused as shared.
-/// Nor is it in any image, the bytes that a writer has written. The numbers of the value fit their
-/// types, its texts hold no zero byte, and its tag's number names no child directory.
+/// Nor is it in an image, the bytes that are written of groups, where no pushed text holds a zero
+/// byte. The numbers of the value fit their types, its texts hold no zero byte, and its tag's
+/// number names no child directory.
 pub fn what_is_looked_at_once_is_edited()
     ensures values { (tag : Name) (k : Ifd) (value : Content) (bytes : List ℕ)
         → IsSetApart tag k value bytes }
