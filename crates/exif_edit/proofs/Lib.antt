@@ -22,10 +22,12 @@ pub mod ReadSound
 pub mod ReadSteps
 pub mod RemoveSound
 pub mod RemoveSteps
+pub mod RemovedLists
 pub mod Renewed
 pub mod SetFound
 pub mod SetSound
 pub mod SetSteps
+pub mod ShrunkValues
 pub mod Told
 pub mod Unshared
 pub mod WalkedDirectories

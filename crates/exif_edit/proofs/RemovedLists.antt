@@ -1,0 +1,135 @@
+-- Members of lists, and pieces of stretches that stand apart.
+use Rattle.std.proofs.Common.{◌≡◌, ◌≢◌, ◌≤◌, ◌+◌, ◌==◌, ℕ, Bool, true, false, List, [], ◌∷◌, ◌++◌, ◌⊎◌, inl, inr, refl, sym, subst, arith, eq-eqb}
+use Rattle.std.specs.Prelude.{◌&&◌, ◌||◌, nat_lt, not}
+use Rattle.std.specs.List.{AllByRecursion, flat_map, list_any}
+use Rattle.std.proofs.lemmas.Bool.{false≢true}
+use Rattle.std.proofs.lemmas.Bool.Decides.{nat_tests}
+use Rattle.exif_tiff.specs.Apart.{are_apart, overlap}
+use Rattle.exif_tiff.specs.Footprint.{Stretch}
+use Rattle.exif_tiff.proofs.ApartLists.{AreApart, EachApart, IsApart, all_weaker, apart_turned}
+use Rattle.exif_tiff.proofs.Footprints.{all_flat}
+use Rattle.exif_tiff.proofs.Members.{all_left, all_right}
+use Rattle.exif_edit.proofs.PatchSteps.{split}
+use Rattle.exif_edit.proofs.Unshared.{neither, unturned}
+
+-- ---- members
+
+-- whether a number is among some
+abbrev pub has : List ℕ → ℕ → Bool
+has xs x = list_any (λ y. y == x) xs
+
+pub or_second : (a b : Bool) → b ≡ true → (a || b) ≡ true
+or_second true b h = refl
+or_second false b h = h
+
+pub has_first : (x : ℕ) (xs : List ℕ) → has (x ∷ xs) x ≡ true
+has_first x xs = let e : (x == x) ≡ true = eq-eqb x x refl in rw e refl
+
+-- what holds of all of them holds of a member, and the other way round
+pub member_all : (P : ℕ → Type 0) (xs : List ℕ) (x : ℕ) → AllByRecursion P xs → has xs x ≡ true → P x
+member_all P [] x h m = absurd (false≢true m)
+member_all P (y ∷ ys) x h m = by_test (y == x) refl (member_all P ys x h.1) m
+  where
+    by_test : (t : Bool) → (y == x) ≡ t → (has ys x ≡ true → P x) → (t || has ys x) ≡ true → P x
+    by_test true e r m = let s : y ≡ x = grind (arith, nat_tests) in subst P s h.0
+    by_test false e r m = r m
+
+pub all_members : (P : ℕ → Type 0) (xs : List ℕ) → ((x : ℕ) → has xs x ≡ true → P x)
+    → AllByRecursion P xs
+all_members P [] h = tt
+all_members P (y ∷ ys) h =
+    (h y (has_first y ys), all_members P ys (λ x m. h x (or_second (y == x) (has ys x) m)))
+
+-- ---- what the test tells
+
+apart_pair : (s t : Stretch) → overlap s t ≡ false → IsApart s t
+apart_pair s t h =
+    by_tests (nat_lt t.place (s.place + s.len)) (nat_lt s.place (t.place + t.len)) refl refl h
+  where
+    by_tests : (a b : Bool) → nat_lt t.place (s.place + s.len) ≡ a
+        → nat_lt s.place (t.place + t.len) ≡ b → (a && b) ≡ false → IsApart s t
+    by_tests false b p q h = inl (grind (arith, nat_tests))
+    by_tests true false p q h = inr (grind (arith, nat_tests))
+    by_tests true true p q h = absurd (false≢true (sym h))
+
+apart_row : (s : Stretch) (ts : List Stretch) → list_any (overlap s) ts ≡ false
+    → AllByRecursion (IsApart s) ts
+apart_row s [] h = tt
+apart_row s (t ∷ ts) h =
+    let a = neither (overlap s t) (list_any (overlap s) ts) h in
+    (apart_pair s t a.0, apart_row s ts a.1)
+
+pub apart_told : (ts : List Stretch) → are_apart ts ≡ true → AreApart ts
+apart_told [] h = tt
+apart_told (t ∷ ts) h =
+    let a = split (not (list_any (overlap t) ts)) (are_apart ts) h in
+    (apart_row t ts (unturned (list_any (overlap t) ts) a.0), apart_told ts a.1)
+
+-- ---- pieces
+
+front_apart : (ss ts : List Stretch) → AreApart (ss ++ ts) → AreApart ss
+front_apart [] ts h = tt
+front_apart (s ∷ ss) ts h = (all_left (IsApart s) ss ts h.0, front_apart ss ts h.1)
+
+back_apart : (ss ts : List Stretch) → AreApart (ss ++ ts) → AreApart ts
+back_apart [] ts h = h
+back_apart (s ∷ ss) ts h = back_apart ss ts h.1
+
+between : (ss ts : List Stretch) → AreApart (ss ++ ts) → EachApart ss ts
+between [] ts h = tt
+between (s ∷ ss) ts h = (all_right (IsApart s) ss ts h.0, between ss ts h.1)
+
+heads : (ss : List Stretch) (t : Stretch) (ts : List Stretch) → EachApart ss (t ∷ ts)
+    → AllByRecursion (IsApart t) ss × EachApart ss ts
+heads [] t ts h = (tt, tt)
+heads (s ∷ ss) t ts h =
+    let r = heads ss t ts h.1 in ((apart_turned s t h.0.0, r.0), (h.0.1, r.1))
+
+pub each_turned : (ss ts : List Stretch) → EachApart ss ts → EachApart ts ss
+each_turned ss [] h = tt
+each_turned ss (t ∷ ts) h = let r = heads ss t ts h in (r.0, each_turned ss ts r.1)
+
+-- a piece is apart
+pub piece : (f : ℕ → List Stretch) (ds : List ℕ) (p : ℕ) → AreApart (flat_map f ds)
+    → has ds p ≡ true → AreApart (f p)
+piece f [] p h m = absurd (false≢true m)
+piece f (d ∷ ds) p h m =
+    by_test (d == p) refl (piece f ds p (back_apart (f d) (flat_map f ds) h)) m
+  where
+    by_test : (t : Bool) → (d == p) ≡ t → (has ds p ≡ true → AreApart (f p))
+        → (t || has ds p) ≡ true → AreApart (f p)
+    by_test true e r m =
+        let s : d ≡ p = grind (arith, nat_tests) in
+        subst (λ x. AreApart (f x)) s (front_apart (f d) (flat_map f ds) h)
+    by_test false e r m = r m
+
+-- one piece is apart from what follows
+beside_piece : (f : ℕ → List Stretch) (ss : List Stretch) (ds : List ℕ) (q : ℕ)
+    → EachApart ss (flat_map f ds) → has ds q ≡ true → EachApart ss (f q)
+beside_piece f ss ds q h m =
+    all_weaker (λ s. AllByRecursion (IsApart s) (flat_map f ds)) (λ s. AllByRecursion (IsApart s) (f q))
+    (λ s k. member_all (λ p. AllByRecursion (IsApart s) (f p)) ds q (all_flat (IsApart s) f ds k) m) ss h
+
+-- and two of them are apart from one another
+pub pieces : (f : ℕ → List Stretch) (ds : List ℕ) (p q : ℕ) → AreApart (flat_map f ds)
+    → has ds p ≡ true → has ds q ≡ true → p ≢ q → EachApart (f p) (f q)
+pieces f [] p q h m n ne = absurd (false≢true m)
+pieces f (d ∷ ds) p q h m n ne =
+    by_tests (d == p) (d == q) refl refl
+    (λ x y. pieces f ds p q (back_apart (f d) (flat_map f ds) h) x y ne) m n
+  where
+    first : EachApart (f d) (flat_map f ds)
+    first = between (f d) (flat_map f ds) h
+
+    by_tests : (s t : Bool) → (d == p) ≡ s → (d == q) ≡ t
+        → (has ds p ≡ true → has ds q ≡ true → EachApart (f p) (f q))
+        → (s || has ds p) ≡ true → (t || has ds q) ≡ true → EachApart (f p) (f q)
+    by_tests true true x y r m n = absurd (grind (arith, nat_tests))
+    by_tests true false x y r m n =
+        let e : d ≡ p = grind (arith, nat_tests) in
+        subst (λ z. EachApart (f z) (f q)) e (beside_piece f (f d) ds q first n)
+    by_tests false true x y r m n =
+        let e : d ≡ q = grind (arith, nat_tests) in
+        subst (λ z. EachApart (f p) (f z)) e
+        (each_turned (f d) (f p) (beside_piece f (f d) ds p first m))
+    by_tests false false x y r m n = r m n
