@@ -27,6 +27,7 @@ pub mod Renewed
 pub mod SetFound
 pub mod SetSound
 pub mod SetSteps
+pub mod ShrunkNodes
 pub mod ShrunkValues
 pub mod Told
 pub mod Unshared
