@@ -23,6 +23,7 @@ pub mod ReadSteps
 pub mod RemoveSound
 pub mod RemoveSteps
 pub mod RemovedLists
+pub mod RemovedVisits
 pub mod Renewed
 pub mod SetFound
 pub mod SetSound

@@ -71,11 +71,11 @@ front_apart : (ss ts : List Stretch) → AreApart (ss ++ ts) → AreApart ss
 front_apart [] ts h = tt
 front_apart (s ∷ ss) ts h = (all_left (IsApart s) ss ts h.0, front_apart ss ts h.1)
 
-back_apart : (ss ts : List Stretch) → AreApart (ss ++ ts) → AreApart ts
+pub back_apart : (ss ts : List Stretch) → AreApart (ss ++ ts) → AreApart ts
 back_apart [] ts h = h
 back_apart (s ∷ ss) ts h = back_apart ss ts h.1
 
-between : (ss ts : List Stretch) → AreApart (ss ++ ts) → EachApart ss ts
+pub between : (ss ts : List Stretch) → AreApart (ss ++ ts) → EachApart ss ts
 between [] ts h = tt
 between (s ∷ ss) ts h = (all_right (IsApart s) ss ts h.0, between ss ts h.1)
 
@@ -104,7 +104,7 @@ piece f (d ∷ ds) p h m =
     by_test false e r m = r m
 
 -- one piece is apart from what follows
-beside_piece : (f : ℕ → List Stretch) (ss : List Stretch) (ds : List ℕ) (q : ℕ)
+pub beside_piece : (f : ℕ → List Stretch) (ss : List Stretch) (ds : List ℕ) (q : ℕ)
     → EachApart ss (flat_map f ds) → has ds q ≡ true → EachApart ss (f q)
 beside_piece f ss ds q h m =
     all_weaker (λ s. AllByRecursion (IsApart s) (flat_map f ds)) (λ s. AllByRecursion (IsApart s) (f q))
