@@ -22,6 +22,7 @@ pub mod ReadSound
 pub mod ReadSteps
 pub mod RemoveSound
 pub mod RemoveSteps
+pub mod RemovedBytes
 pub mod RemovedLists
 pub mod RemovedVisits
 pub mod Renewed

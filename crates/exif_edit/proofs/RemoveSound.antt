@@ -40,7 +40,7 @@ use Rattle.exif_edit.proofs.Told.{located_tells, settled}
 
 -- ---- the patches lie in the data
 
-directory_fits : (order : Order) (bytes : List ℕ) (n p : ℕ)
+pub directory_fits : (order : Order) (bytes : List ℕ) (n p : ℕ)
     → All (FitsIn (length bytes)) (directory_patches order bytes n p)
 directory_fits order bytes n p =
     by_test (nat_le (p + length (directory_without order bytes n p)) (length bytes)) refl
@@ -91,7 +91,7 @@ any-append i (x ∷ xs) ys h =
     let q = any-append i xs ys p.1 in
     (rw p.0 q.0, q.1)
 
-directory_misses : (order : Order) (bytes : List ℕ) (n p i : ℕ)
+pub directory_misses : (order : Order) (bytes : List ℕ) (n p i : ℕ)
     → inside i (directory_span (number_of order) bytes p) ≡ false
     → All (Misses i) (directory_patches order bytes n p)
 directory_misses order bytes n p i h =
@@ -138,13 +138,13 @@ directories_miss order bytes n (p ∷ ps) i h =
     (flat_map (directory_patches order bytes n) ps) (directory_misses order bytes n p i q.0)
     (directories_miss order bytes n ps i q.1)
 
-patched-append : (ps qs : List Patch) (bytes : List ℕ)
+pub patched-append : (ps qs : List Patch) (bytes : List ℕ)
     → patched (ps ++ qs) bytes ≡ patched qs (patched ps bytes)
 patched-append [] qs bytes = refl
 patched-append (p ∷ ps) qs bytes = patched-append ps qs _
 
 -- each byte: zero in a value, else as the directories make it
-removed_at : (order : Order) (bytes : List ℕ) (n : ℕ) (ps : List ℕ) (i : ℕ)
+pub removed_at : (order : Order) (bytes : List ℕ) (n : ℕ) (ps : List ℕ) (i : ℕ)
     → get_or (patched (removals order bytes n ps) bytes) i 0
     ≡ (if list_any (inside i) (named_values (number_of order) bytes n ps) then 0 else get_or
     (patched (flat_map (directory_patches order bytes n) ps) bytes) i 0)
@@ -164,7 +164,7 @@ value_zero order bytes n ps i h =
     ∙ ap (λ b. if b then 0 else get_or
     (patched (flat_map (directory_patches order bytes n) ps) bytes) i 0) h
 
-stays_outside : (order : Order) (bytes : List ℕ) (n : ℕ) (ps : List ℕ) (i : ℕ)
+pub stays_outside : (order : Order) (bytes : List ℕ) (n : ℕ) (ps : List ℕ) (i : ℕ)
     → list_any (inside i) (named_spans (number_of order) bytes n ps) ≡ false
     → get_or (patched (removals order bytes n ps) bytes) i 0 ≡ get_or bytes i 0
 stays_outside order bytes n ps i h =

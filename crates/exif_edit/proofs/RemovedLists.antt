@@ -1,14 +1,14 @@
 -- Members of lists, and pieces of stretches that stand apart.
-use Rattle.std.proofs.Common.{◌≡◌, ◌≢◌, ◌≤◌, ◌+◌, ◌==◌, ℕ, Bool, true, false, List, [], ◌∷◌, ◌++◌, ◌⊎◌, inl, inr, refl, sym, subst, arith, eq-eqb}
+use Rattle.std.proofs.Common.{◌≡◌, ◌≢◌, ◌≤◌, ◌+◌, ◌==◌, ℕ, Bool, true, false, if◌then◌else◌, List, [], ◌∷◌, ◌++◌, ◌⊎◌, inl, inr, refl, sym, subst, arith, eq-eqb}
 use Rattle.std.specs.Prelude.{◌&&◌, ◌||◌, nat_lt, not}
-use Rattle.std.specs.List.{AllByRecursion, flat_map, list_any}
+use Rattle.std.specs.List.{AllByRecursion, filter, flat_map, list_any}
 use Rattle.std.proofs.lemmas.Bool.{false≢true}
 use Rattle.std.proofs.lemmas.Bool.Decides.{nat_tests}
 use Rattle.exif_tiff.specs.Apart.{are_apart, overlap}
 use Rattle.exif_tiff.specs.Footprint.{Stretch}
 use Rattle.exif_tiff.proofs.ApartLists.{AreApart, EachApart, IsApart, all_weaker, apart_turned}
 use Rattle.exif_tiff.proofs.Footprints.{all_flat}
-use Rattle.exif_tiff.proofs.Members.{all_left, all_right}
+use Rattle.exif_tiff.proofs.Members.{all_append, all_left, all_right}
 use Rattle.exif_edit.proofs.PatchSteps.{split}
 use Rattle.exif_edit.proofs.Unshared.{neither, unturned}
 
@@ -40,6 +40,36 @@ all_members P [] h = tt
 all_members P (y ∷ ys) h =
     (h y (has_first y ys), all_members P ys (λ x m. h x (or_second (y == x) (has ys x) m)))
 
+-- members that pass a test
+pub filter_member : (t : ℕ → Bool) (es : List ℕ) (e : ℕ) → has (filter t es) e ≡ true
+    → (has es e ≡ true) × (t e ≡ true)
+filter_member t [] e m = absurd (false≢true m)
+filter_member t (x ∷ xs) e m = by_test (t x) refl (filter_member t xs e) m
+  where
+    first : (s : Bool) → (x == e) ≡ s → t x ≡ true
+        → (has (filter t xs) e ≡ true → (has xs e ≡ true) × (t e ≡ true))
+        → (s || has (filter t xs) e) ≡ true → ((s || has xs e) ≡ true) × (t e ≡ true)
+    first true p q r m = let e : x ≡ e = grind (arith, nat_tests) in (refl, subst (λ z. t z ≡ true) e q)
+    first false p q r m = r m
+
+    by_test : (b : Bool) → t x ≡ b → (has (filter t xs) e ≡ true → (has xs e ≡ true) × (t e ≡ true))
+        → has (if b then x ∷ filter t xs else filter t xs) e ≡ true
+        → (has (x ∷ xs) e ≡ true) × (t e ≡ true)
+    by_test true q r m = first (x == e) refl q r m
+    by_test false q r m = let k = r m in (or_second (x == e) (has xs e) k.0, k.1)
+
+pub filter_all : {X : Type 0} (P : X → Type 0) (f : ℕ → List X) (t : ℕ → Bool) (es : List ℕ)
+    → AllByRecursion P (flat_map f es) → AllByRecursion P (flat_map f (filter t es))
+filter_all P f t [] h = tt
+filter_all P f t (e ∷ es) h =
+    by_test (t e) (filter_all P f t es (all_right P (f e) (flat_map f es) h))
+  where
+    by_test : (b : Bool) → AllByRecursion P (flat_map f (filter t es))
+        → AllByRecursion P (flat_map f (if b then e ∷ filter t es else filter t es))
+    by_test true r =
+        all_append P (f e) (flat_map f (filter t es)) (all_left P (f e) (flat_map f es) h) r
+    by_test false r = r
+
 -- ---- what the test tells
 
 apart_pair : (s t : Stretch) → overlap s t ≡ false → IsApart s t
@@ -64,6 +94,22 @@ apart_told [] h = tt
 apart_told (t ∷ ts) h =
     let a = split (not (list_any (overlap t) ts)) (are_apart ts) h in
     (apart_row t ts (unturned (list_any (overlap t) ts) a.0), apart_told ts a.1)
+
+-- each of some is apart from all pieces that it is apart from one by one
+pub each_flat : (ss : List Stretch) (f : ℕ → List Stretch) (qs : List ℕ)
+    → AllByRecursion (λ q. EachApart ss (f q)) qs → EachApart ss (flat_map f qs)
+each_flat [] f qs h = tt
+each_flat (s ∷ ss) f qs h = (row qs h, each_flat ss f qs (rows qs h))
+  where
+    row : (qs : List ℕ) → AllByRecursion (λ q. EachApart (s ∷ ss) (f q)) qs
+        → AllByRecursion (IsApart s) (flat_map f qs)
+    row [] h = tt
+    row (q ∷ qs) h = all_append (IsApart s) (f q) (flat_map f qs) h.0.0 (row qs h.1)
+
+    rows : (qs : List ℕ) → AllByRecursion (λ q. EachApart (s ∷ ss) (f q)) qs
+        → AllByRecursion (λ q. EachApart ss (f q)) qs
+    rows [] h = tt
+    rows (q ∷ qs) h = (h.0.1, rows qs h.1)
 
 -- ---- pieces
 
