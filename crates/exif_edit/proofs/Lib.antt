@@ -24,6 +24,7 @@ pub mod RemoveSound
 pub mod RemoveSteps
 pub mod RemovedBytes
 pub mod RemovedLists
+pub mod RemovedTexts
 pub mod RemovedVisits
 pub mod Renewed
 pub mod SetFound

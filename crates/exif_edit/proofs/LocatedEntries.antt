@@ -54,7 +54,7 @@ module _ (number : Reading) (bytes : List ℕ) where
   spaced_whole q zero h = tt
   spaced_whole q (suc w) h = (omega arith, spaced_whole (q + 12) w (omega arith))
 
-  places_whole : (p : ℕ) → AllByRecursion (λ e. e + 12 ≤ length bytes) (entry_places number bytes p)
+  pub places_whole : (p : ℕ) → AllByRecursion (λ e. e + 12 ≤ length bytes) (entry_places number bytes p)
   places_whole p = by_count (whole_entries number bytes p) (omega arith)
     where
       by_count : (w : ℕ) → w ≤ (length bytes - p - 2) / 12

@@ -81,7 +81,7 @@ few_passed t (x ∷ xs) = by_test (t x) (few_passed t xs)
     by_test true h = omega arith
     by_test false h = omega arith
 
-length-spaced : (p unit n : ℕ) → length (spaced p unit n) ≡ n
+pub length-spaced : (p unit n : ℕ) → length (spaced p unit n) ≡ n
 length-spaced p unit zero = refl
 length-spaced p unit (suc n) = ap suc (length-spaced (p + unit) unit n)
 

@@ -53,7 +53,7 @@ not_inside place len more i t h in' apart =
     by_tests true true p q low high (inr a) = absurd (grind (arith, nat_tests))
 
 module _ (number : Reading) (a : List ℕ) where
-  outside_directory : (q i : ℕ) (t : Stretch) → IsIn i t → IsApart t (directory_stretch number a q)
+  pub outside_directory : (q i : ℕ) (t : Stretch) → IsIn i t → IsApart t (directory_stretch number a q)
       → inside i (directory_span number a q) ≡ false
   outside_directory q i t in' apart = by_test (nat_le q (length a))
     where
@@ -194,7 +194,7 @@ module _ (order : Order) (a : List ℕ) (n : ℕ) (ps : List ℕ) where
         (λ t k. (k.0, filter_all (IsApart t) (value_stretch number a) (has_tag number a n)
         (entry_places number a q) k.1)) ts h
 
-    other : (p q : ℕ) → has ds p ≡ true → has ds q ≡ true → p ≢ q
+    pub other : (p q : ℕ) → has ds p ≡ true → has ds q ≡ true → p ≢ q
         → EachApart (looked_at number a p) (changed number a n q)
     other p q m l ne =
         narrowed q (looked_at number a p) (pieces (looked_at number a) ds p q apart m l ne)

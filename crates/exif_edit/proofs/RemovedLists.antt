@@ -1,5 +1,5 @@
 -- Members of lists, and pieces of stretches that stand apart.
-use Rattle.std.proofs.Common.{◌≡◌, ◌≢◌, ◌≤◌, ◌+◌, ◌==◌, ℕ, Bool, true, false, if◌then◌else◌, List, [], ◌∷◌, ◌++◌, ◌⊎◌, inl, inr, refl, sym, subst, arith, eq-eqb}
+use Rattle.std.proofs.Common.{◌≡◌, ◌≢◌, ◌≤◌, ◌<◌, ◌+◌, ◌==◌, ℕ, suc, Bool, true, false, if◌then◌else◌, List, [], ◌∷◌, ◌++◌, ◌⊎◌, inl, inr, length, refl, sym, ap, subst, ◌∙◌, arith, eq-eqb}
 use Rattle.std.specs.Prelude.{◌&&◌, ◌||◌, nat_lt, not}
 use Rattle.std.specs.List.{AllByRecursion, filter, flat_map, list_any}
 use Rattle.std.proofs.lemmas.Bool.{false≢true}
@@ -69,6 +69,48 @@ filter_all P f t (e ∷ es) h =
     by_test true r =
         all_append P (f e) (flat_map f (filter t es)) (all_left P (f e) (flat_map f es) h) r
     by_test false r = r
+
+pub filter_each : (P : ℕ → Type 0) (t : ℕ → Bool) (es : List ℕ) → AllByRecursion P es
+    → AllByRecursion P (filter t es)
+filter_each P t [] h = tt
+filter_each P t (e ∷ es) h = by_test (t e) (filter_each P t es h.1)
+  where
+    by_test : (b : Bool) → AllByRecursion P (filter t es)
+        → AllByRecursion P (if b then e ∷ filter t es else filter t es)
+    by_test true r = (h.0, r)
+    by_test false r = r
+
+pub all_pass : (es : List ℕ) → filter (λ e. true) es ≡ es
+all_pass [] = refl
+all_pass (e ∷ es) = ap (λ xs. e ∷ xs) (all_pass es)
+
+-- fewer are left than there were, where one of them is taken out
+pub fewer_left : (t : ℕ → Bool) (es : List ℕ) (e : ℕ) → has es e ≡ true → t e ≡ true
+    → length (filter (λ x. not (t x)) es) < length es
+fewer_left t [] e m h = absurd (false≢true m)
+fewer_left t (x ∷ xs) e m h =
+    by_tests (x == e) (t x) refl refl (fewer_left t xs e) (no_more xs) m
+  where
+    no_more : (xs : List ℕ) → length (filter (λ y. not (t y)) xs) ≤ length xs
+    no_more [] = omega arith
+    no_more (y ∷ ys) = by_test (t y) (no_more ys)
+      where
+        by_test : (b : Bool) → length (filter (λ z. not (t z)) ys) ≤ length ys
+            → length (if not b then y ∷ filter (λ z. not (t z)) ys else filter (λ z. not (t z)) ys)
+            ≤ suc (length ys)
+        by_test true r = omega arith
+        by_test false r = omega arith
+
+    by_tests : (s b : Bool) → (x == e) ≡ s → t x ≡ b
+        → (has xs e ≡ true → t e ≡ true → length (filter (λ y. not (t y)) xs) < length xs)
+        → length (filter (λ y. not (t y)) xs) ≤ length xs → (s || has xs e) ≡ true
+        → length (if not b then x ∷ filter (λ y. not (t y)) xs else filter (λ y. not (t y)) xs)
+        < suc (length xs)
+    by_tests s true p q r few m = omega arith
+    by_tests true false p q r few m =
+        let same : x ≡ e = grind (arith, nat_tests) in
+        absurd (false≢true (sym q ∙ (ap t same ∙ h)))
+    by_tests false false p q r few m = let more = r m h in omega arith
 
 -- ---- what the test tells
 
