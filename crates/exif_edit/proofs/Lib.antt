@@ -23,6 +23,7 @@ pub mod ReadSteps
 pub mod RemoveSound
 pub mod RemoveSteps
 pub mod RemovedBytes
+pub mod RemovedDirectories
 pub mod RemovedLists
 pub mod RemovedTexts
 pub mod RemovedVisits

@@ -53,7 +53,7 @@ tells_inside number (Some field_type.SRational) type count bytes e = refl
 tells_inside number (Some field_type.Float) type count bytes e = refl
 tells_inside number (Some field_type.Double) type count bytes e = refl
 
-length-bytes_at : (n : ℕ) (bytes : List ℕ) (p : ℕ) → p + n ≤ length bytes
+pub length-bytes_at : (n : ℕ) (bytes : List ℕ) (p : ℕ) → p + n ≤ length bytes
     → length (bytes_at n bytes p) ≡ n
 length-bytes_at n bytes p h = grind (arith, common_steps)
 
