@@ -26,6 +26,7 @@ pub mod RemovedBytes
 pub mod RemovedDirectories
 pub mod RemovedLists
 pub mod RemovedTexts
+pub mod RemovedUnshared
 pub mod RemovedVisits
 pub mod Renewed
 pub mod SetFound

@@ -206,7 +206,7 @@ unfolding named_removals
 remove_fault stop.OutOfMemory bytes tag k e h b = rw b refl
 remove_fault (stop.Fault fault) bytes tag k e h b = rw (b, h) refl
 
-named_from : (bytes : List ℕ) (tag : Tag) (k : In) (read : Read) → reading bytes ≡ Ok read
+pub named_from : (bytes : List ℕ) (tag : Tag) (k : In) (read : Read) → reading bytes ≡ Ok read
     → named_removals bytes tag k
     ≡ removals_from tag k read bytes
     (directories_with tag k read.fields (map entry_of (located bytes)))

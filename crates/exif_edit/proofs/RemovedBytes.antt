@@ -186,7 +186,7 @@ module _ (order : Order) (a : List ℕ) (n : ℕ) (ps : List ℕ) where
   module _ (ds : List ℕ) (apart : AreApart (flat_map (looked_at number a) ds))
       (known : AllByRecursion (λ q. has ds q ≡ true) ps) where
     -- what is changed of a directory is part of what is looked at
-    narrowed : (q : ℕ) (ts : List Stretch) → EachApart ts (looked_at number a q)
+    pub narrowed : (q : ℕ) (ts : List Stretch) → EachApart ts (looked_at number a q)
         → EachApart ts (changed number a n q)
     narrowed q ts h =
         all_weaker (λ t. AllByRecursion (IsApart t) (looked_at number a q))

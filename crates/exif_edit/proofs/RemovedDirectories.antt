@@ -116,7 +116,7 @@ module _ (order : Order) (a : List ℕ) (tag : Tag) (k : In) (ps ds : List ℕ)
   abbrev b : List ℕ
   b = made order a tag.1 ps
 
-  pub long : length a ≡ length b
+  abbrev long : length a ≡ length b
   long = as_long order a tag.1 ps
 
   abbrev AreFollowing : List ℕ → ℕ → Type 0

@@ -258,7 +258,7 @@ looked_once number bytes (d ∷ ds) h = (
     by_test true e = absurd (none (12 * whole_entries number bytes d) (itself e))
     by_test false e = refl
 
-among_has : (t : Visited) (vs : List Visited) → Among t vs → has (places_in vs) t.place ≡ true
+pub among_has : (t : Visited) (vs : List Visited) → Among t vs → has (places_in vs) t.place ≡ true
 among_has t [] h = absurd h
 among_has t (v ∷ vs) (inl e) =
     ap (λ (x : Visited). has (v.place ∷ places_in vs) x.place) e ∙ has_first v.place (places_in vs)

@@ -4,6 +4,7 @@ pub mod Changing
 pub mod Clearing
 pub mod Erasing
 pub mod Examples
+pub mod FieldsApart
 pub mod Finding
 pub mod Patches
 pub mod PlacesAlone

@@ -9,6 +9,7 @@ ghost use Rattle.exif_images.specs.Groups.{Group};
 ghost use Rattle.exif_images.specs.Ranged.{AreRanged, HavePlainTexts};
 ghost use Rattle.exif_images.specs.Refused.{write_fault};
 ghost use Rattle.exif_edit.specs.Apart.{AreErasedApart, AreErasedInImage, EachStandsAlone, IsSetApart, IsSetInImage, LastStandsAlone, PlacesStandAlone};
+ghost use Rattle.exif_edit.specs.FieldsApart.{FieldsAreErasedApart};
 ghost use Rattle.exif_edit.specs.PlacesAlone.{AreErasedUnshared};
 ghost use Rattle.exif_edit.specs.Promises.{SetsBack};
 ghost use Rattle.exif_edit.specs.Sharing.{IsSetUnshared};
@@ -57,4 +58,10 @@ pub fn what_is_looked_at_once_is_edited()
     ensures places_in_images { (order : Endian) (groups : List Group)
         → AreRanged groups → HavePlainTexts groups → write_fault groups ≡ None
         → AreErasedInImage order groups }
+{}
+
+/// Where reading looks at no byte of the data as two things, the fields of a name are erased, and
+/// never refused as shared. Their tag is none whose values say where other bytes stand.
+pub fn fields_looked_at_once_are_erased()
+    ensures { (tag : Name) (k : Ifd) (bytes : List ℕ) → FieldsAreErasedApart tag k bytes }
 {}
