@@ -1,31 +1,26 @@
 -- Where reading looks at no byte as two things, taking entries out changes no byte of what is left,
 -- and the directories without them stand where they stood.
-use Rattle.std.proofs.Common.{◌≡◌, ◌≢◌, ◌≤◌, ◌<◌, ◌+◌, ◌-◌, ◌*◌, ◌==◌, min, ℕ, Bool, true, false, if◌then◌else◌, List, [], ◌∷◌, ◌++◌, length, get_or, map, take, drop, ◌⊎◌, inl, inr, All, refl, sym, ap, subst, ◌∙◌, arith}
-use Rattle.std.specs.Prelude.{◌&&◌, ◌||◌, nat_le, nat_lt, not, slice_index}
-use Rattle.std.specs.List.{flat_map, filter, list_any, AllByRecursion}
+use Rattle.std.proofs.Common.{◌≡◌, ◌≢◌, ◌≤◌, ◌<◌, ◌+◌, ◌-◌, ◌*◌, ◌==◌, min, ℕ, Bool, true, false, if◌then◌else◌, List, [], ◌∷◌, ◌++◌, length, map, inl, inr, refl, sym, ap, subst, ◌∙◌, arith}
+use Rattle.std.specs.Prelude.{◌&&◌, ◌||◌, nat_le, nat_lt}
+use Rattle.std.specs.List.{flat_map, list_any, AllByRecursion}
 use Rattle.std.proofs.lemmas.Bool.{false≢true}
 use Rattle.std.proofs.lemmas.Bool.Decides.{nat_tests}
-use Rattle.std.proofs.lemmas.List.{ext_get_or, get_or-drop, get_or-take, length-drop, length-take-le}
-use Rattle.exif_base.specs.Bytes.{Reading, bytes_at, number_at}
+use Rattle.exif_base.specs.Bytes.{Reading, number_at}
 use Rattle.exif_base.specs.Orders.{number_of}
 use Rattle.exif_base.specs.declared.endian.Order.{Order}
 use Rattle.exif_types.specs.FieldTypes.{type_of, known_length}
 use Rattle.exif_tiff.specs.Footprint.{Agree, Stretch, directory_stretch, looked_at, value_stretch}
 use Rattle.exif_tiff.specs.Trace.{entry_places, whole_entries}
 use Rattle.exif_tiff.proofs.Agreement.{bytes_same}
-use Rattle.exif_tiff.proofs.ApartLists.{AreApart, EachApart, IsApart, all_weaker, apart_turned}
+use Rattle.exif_tiff.proofs.ApartLists.{AreApart, EachApart, IsApart, all_weaker}
 use Rattle.exif_tiff.proofs.Footprints.{all_flat}
 use Rattle.exif_tiff.proofs.Members.{all_append, all_left, all_right}
-use Rattle.exif_images.specs.Layout.{Stands}
-use Rattle.exif_edit.specs.Erasing.{clipped, directory_span, nowhere, value_span, within}
-use Rattle.exif_edit.specs.Patches.{inside, patched, put_at}
-use Rattle.exif_edit.specs.Removing.{directory_patches, directory_without, entries_with, has_tag, named_spans, named_values, removals, taken_spans}
-use Rattle.exif_edit.specs.Setting.{room_of, value_room}
-use Rattle.exif_edit.specs.declared.patch.Patch.{Patch}
+use Rattle.exif_edit.specs.Erasing.{directory_span, nowhere, value_span, within}
+use Rattle.exif_edit.specs.Patches.{inside, patched}
+use Rattle.exif_edit.specs.Removing.{entries_with, has_tag, named_spans, named_values, removals, taken_spans}
 use Rattle.exif_edit.specs.declared.patch.Span.{Span}
-use Rattle.exif_edit.proofs.PatchSteps.{fit_in, length-patched, patched_outside, put_on}
-use Rattle.exif_edit.proofs.RemoveSound.{directory_fits, directory_misses, patched-append, removals_fit, removed_at, stays_outside}
-use Rattle.exif_edit.proofs.RemoveSteps.{directory_length}
+use Rattle.exif_edit.proofs.PatchSteps.{length-patched}
+use Rattle.exif_edit.proofs.RemoveSound.{removals_fit, stays_outside}
 use Rattle.exif_edit.proofs.RemovedLists.{all_members, each_flat, each_turned, filter_all, filter_member, has, member_all, piece, pieces}
 
 -- a byte of a stretch
@@ -191,8 +186,11 @@ module _ (order : Order) (a : List ℕ) (n : ℕ) (ps : List ℕ) where
     narrowed q ts h =
         all_weaker (λ t. AllByRecursion (IsApart t) (looked_at number a q))
         (λ t. AllByRecursion (IsApart t) (changed number a n q))
-        (λ t k. (k.0, filter_all (IsApart t) (value_stretch number a) (has_tag number a n)
-        (entry_places number a q) k.1)) ts h
+        (λ t k. (
+          k.0,
+          filter_all (IsApart t) (value_stretch number a) (has_tag number a n)
+              (entry_places number a q) k.1,
+        )) ts h
 
     pub other : (p q : ℕ) → has ds p ≡ true → has ds q ≡ true → p ≢ q
         → EachApart (looked_at number a p) (changed number a n q)
@@ -226,9 +224,11 @@ module _ (order : Order) (a : List ℕ) (n : ℕ) (ps : List ℕ) where
         let mine = piece (looked_at number a) ds p apart m in
         let here = all_flat (IsApart (directory_stretch number a p)) (value_stretch number a)
         (entry_places number a p) mine.0 in
-        let dir : EachApart (directory_stretch number a p ∷ []) (value_stretch number a e) =
-        (member_all (λ x. AllByRecursion (IsApart (directory_stretch number a p)) (value_stretch number a x))
-        (entry_places number a p) e here l, tt) in
+        let dir : EachApart (directory_stretch number a p ∷ []) (value_stretch number a e) = (
+          member_all (λ x. AllByRecursion (IsApart (directory_stretch number a p)) (value_stretch number a x))
+              (entry_places number a p) e here l,
+          tt,
+        ) in
         beside (value_stretch number a e)
         (each_turned (directory_stretch number a p ∷ []) (value_stretch number a e) dir)
         (each_flat (value_stretch number a e) (value_stretch number a) (entries_with number a n p)

@@ -1,16 +1,15 @@
 -- Where reading looks at no byte as two things, each directory lacks what is taken out, and nothing else.
-use Rattle.std.proofs.Common.{◌≡◌, ◌≤◌, ◌<◌, ◌+◌, ◌-◌, ◌*◌, ◌/◌, ◌^◌, ◌==◌, min, ℕ, zero, suc, Bool, true, false, if◌then◌else◌, List, [], ◌∷◌, ◌++◌, length, drop, replicate, inl, inr, Option, None, Result, Ok, Err, refl, sym, ap, subst, ◌∙◌, arith}
+use Rattle.std.proofs.Common.{◌≡◌, ◌≤◌, ◌<◌, ◌+◌, ◌-◌, ◌*◌, ◌/◌, ◌^◌, ℕ, zero, suc, Bool, true, false, if◌then◌else◌, List, [], ◌∷◌, ◌++◌, length, drop, replicate, inl, inr, None, Result, Ok, Err, refl, sym, ap, subst, ◌∙◌, arith}
 use Rattle.std.specs.Prelude.{◌&&◌, nat_lt, not}
 use Rattle.std.specs.List.{flat_map, filter, AllByRecursion}
 use Rattle.std.proofs.lemmas.Bool.{false≢true}
 use Rattle.std.proofs.lemmas.Bool.Decides.{nat_tests}
-use Rattle.std.proofs.lemmas.List.{get_or-drop, length-append, length-replicate, replicate-append-replicate}
+use Rattle.std.proofs.lemmas.List.{get_or-drop, length-append, replicate-append-replicate}
 use Rattle.byteorder.specs.Numbers.{big_from-lt, little_from-lt}
 use Rattle.exif_base.specs.Bytes.{Reading, bytes_at, number_at, spaced}
 use Rattle.exif_base.specs.Orders.{number_of}
 use Rattle.exif_base.specs.declared.endian.Order.{Order}
 use Rattle.exif_base.specs.declared.endian.Order.TheVariants.{Big, Little}
-use Rattle.exif_table.specs.declared.context.Context.{Context}
 use Rattle.exif_types.specs.declared.ifd.In.{In}
 use Rattle.exif_types.specs.declared.tag.Tag.{Tag}
 use Rattle.exif_tiff.specs.declared.fault.Fault.{Fault}
@@ -21,12 +20,10 @@ use Rattle.exif_tiff.specs.Visits.{AreBytes}
 use Rattle.exif_tiff.proofs.Agreement.{Same, bytes_same}
 use Rattle.exif_tiff.proofs.ApartLists.{AreApart}
 use Rattle.exif_tiff.proofs.Footprints.{end_same, entries_same, places_same}
-use Rattle.exif_tiff.proofs.Footprints as footprints
 use Rattle.exif_images.specs.Encoding.{spelled}
 use Rattle.exif_images.specs.Layout.{Stands}
 use Rattle.exif_images.proofs.Images.Standing.{number_read, stands_left, stands_right}
-use Rattle.exif_edit.specs.Patches.{padded}
-use Rattle.exif_edit.specs.Removing.{directory_without, entries_text, entries_without, has_tag, next_text}
+use Rattle.exif_edit.specs.Removing.{entries_text, entries_without, has_tag, next_text}
 use Rattle.exif_edit.proofs.LocatedEntries.{places_whole}
 use Rattle.exif_edit.proofs.RemoveSteps.{length-spaced}
 use Rattle.exif_edit.proofs.SetSound.{length-padded, length-spelled}

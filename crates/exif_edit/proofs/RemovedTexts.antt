@@ -1,8 +1,7 @@
 -- Where reading looks at no byte as two things, directories without entries stand where they stood.
-use Rattle.std.proofs.Common.{◌≡◌, ◌≢◌, ◌≤◌, ◌<◌, ◌+◌, ◌-◌, ◌*◌, ◌==◌, ℕ, Bool, true, false, if◌then◌else◌, List, [], ◌∷◌, ◌++◌, length, get_or, take, drop, All, refl, sym, ap, subst, ◌∙◌, arith}
+use Rattle.std.proofs.Common.{◌≡◌, ◌≢◌, ◌≤◌, ◌<◌, ◌+◌, ◌-◌, ◌==◌, ℕ, Bool, true, false, if◌then◌else◌, List, [], ◌∷◌, length, get_or, drop, All, refl, sym, ap, subst, ◌∙◌, arith}
 use Rattle.std.specs.Prelude.{◌||◌, nat_le}
-use Rattle.std.specs.List.{flat_map, list_any, AllByRecursion}
-use Rattle.std.proofs.lemmas.Bool.{false≢true}
+use Rattle.std.specs.List.{flat_map, AllByRecursion}
 use Rattle.std.proofs.lemmas.Bool.Decides.{nat_tests}
 use Rattle.std.proofs.lemmas.List.{ext_get_or, get_or-drop, get_or-take, length-drop, length-take-le}
 use Rattle.exif_base.specs.Bytes.{Reading, bytes_at}
@@ -12,8 +11,8 @@ use Rattle.exif_tiff.specs.Footprint.{Stretch, directory_stretch, looked_at, val
 use Rattle.exif_tiff.specs.Trace.{entry_places}
 use Rattle.exif_tiff.proofs.ApartLists.{AreApart, EachApart, IsApart}
 use Rattle.exif_images.specs.Layout.{Stands}
-use Rattle.exif_edit.specs.Patches.{FitsIn, inside, patched, put_at}
-use Rattle.exif_edit.specs.Removing.{directory_patches, directory_without, entries_with, has_tag, named_values}
+use Rattle.exif_edit.specs.Patches.{FitsIn, patched}
+use Rattle.exif_edit.specs.Removing.{directory_patches, directory_without, entries_with, has_tag}
 use Rattle.exif_edit.specs.declared.patch.Patch.{Patch}
 use Rattle.exif_edit.proofs.PatchSteps.{fit_in, length-patched, patched_outside, put_on}
 use Rattle.exif_edit.proofs.RemoveSound.{directory_fits, directory_misses, patched-append, removed_at}
@@ -116,9 +115,11 @@ module _ (order : Order) (a : List ℕ) (n : ℕ) (ps ds : List ℕ)
       by_test true e =
           let same : p ≡ q = grind (arith, nat_tests) in
           subst (λ x. EachApart (here ∷ []) (flat_map (value_stretch number a) (entries_with number a n x)))
-          same
-          (filter_all (IsApart here) (value_stretch number a) (has_tag number a n) (entry_places number a p)
-          (piece (looked_at number a) ds p apart m).0, tt)
+          same (
+            filter_all (IsApart here) (value_stretch number a) (has_tag number a n) (entry_places number a p)
+                (piece (looked_at number a) ds p apart m).0,
+            tt,
+          )
       by_test false e = ((other order a n ps ds apart known p q m k (unlike e)).0.1, tt)
         where
           unlike : (p == q) ≡ false → p ≢ q

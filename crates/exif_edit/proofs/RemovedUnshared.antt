@@ -1,6 +1,6 @@
 -- Where reading looks at no byte as two things, the fields of a name are erased: the edit is not
 -- refused as shared.
-use Rattle.std.proofs.Common.{◌≡◌, ◌≤◌, ◌<◌, ◌+◌, ◌-◌, ◌*◌, ◌==◌, ℕ, Bool, true, false, if◌then◌else◌, List, [], ◌∷◌, ◌++◌, length, map, Option, None, Result, Ok, Err, refl, sym, ap, subst, ◌∙◌, arith, eq-eqb}
+use Rattle.std.proofs.Common.{◌≡◌, ◌==◌, ℕ, Bool, true, false, if◌then◌else◌, List, [], ◌∷◌, ◌++◌, length, map, Option, None, Result, Ok, Err, refl, sym, ap, subst, ◌∙◌, arith, eq-eqb}
 use Rattle.std.specs.Prelude.{◌&&◌, ◌||◌, nat_le}
 use Rattle.std.specs.Bool.{beq}
 use Rattle.std.specs.Cmp.{booleans_Decides}
@@ -16,11 +16,9 @@ use Rattle.exif_table.specs.declared.context.Context.{Context}
 use Rattle.exif_table.specs.declared.context.Context.TheVariants.{Tiff, Exif, Gps, Interop}
 use Rattle.exif_types.specs.FieldEq.{context_Decides, field_Decides, field_eq, tag_Decides, ifd_Decides}
 use Rattle.exif_types.specs.Lookup.{context_eq, is_named, tag_eq}
-use Rattle.exif_types.specs.declared.field.Field.{Field}
 use Rattle.exif_types.specs.declared.ifd.In.{In}
 use Rattle.exif_types.specs.declared.tag.Tag.{Tag}
 use Rattle.exif_tiff.specs.declared.fault.Fault.{Fault}
-use Rattle.exif_tiff.specs.declared.place.EntryPlace.{EntryPlace}
 use Rattle.exif_tiff.specs.Apart.{looks_apart}
 use Rattle.exif_tiff.specs.Footprint.{Stretch, chain_directories, footprint, looked_at, ordered_footprint}
 use Rattle.exif_tiff.specs.Trace.{Found, Located, Met, Node, Opens, Visit, child_of, entry_of, entry_places, fields_of, header, located_of, ordered_trace, trace}
@@ -32,14 +30,13 @@ use Rattle.exif_tiff.proofs.Footprints.{all_flat}
 use Rattle.exif_tiff.proofs.Visited.{visited}
 use Rattle.exif_entries.specs.Locations.{located}
 use Rattle.exif_entries.proofs.LawsLocated.{ordered_fields}
-use Rattle.exif_edit.specs.Causes.{Cause, no_field, shared}
+use Rattle.exif_edit.specs.Causes.{shared}
 use Rattle.exif_edit.specs.FieldsApart.{AreErasedApart, some_removals}
 use Rattle.exif_edit.specs.Patches.{patched}
 use Rattle.exif_edit.specs.Promises.{named_directories}
 use Rattle.exif_edit.specs.Readings.{Read, reading}
-use Rattle.exif_edit.specs.Removing.{checked_removals, directories_with, field_patches, has_tag, named_removals, noted, read_without, removals, removals_from, still_reads, untold, without_named}
+use Rattle.exif_edit.specs.Removing.{checked_removals, directories_with, field_patches, has_tag, noted, read_without, removals, removals_from, still_reads, untold}
 use Rattle.exif_edit.specs.Setting.{names_places}
-use Rattle.exif_edit.specs.declared.patch.Patch.{Patch}
 use Rattle.exif_edit.proofs.PatchSteps.{split}
 use Rattle.exif_edit.proofs.RemoveSteps.{field_else, named_from}
 use Rattle.exif_edit.proofs.RemovedBytes.{as_long, changed, made, narrowed, stays}
@@ -314,10 +311,12 @@ module _ (tag : Tag) (k : In) (order : Order) (a : List ℕ) (head : header a �
       let far : EachApart (start ∷ []) (flat_map (changed number a tag.1) ps) =
       each_flat (start ∷ []) (changed number a tag.1) ps
       (all_members (λ q. EachApart (start ∷ []) (changed number a tag.1 q)) ps
-      (λ q l. narrowed order a tag.1 ps ds apart.1 known q (start ∷ [])
-      (member_all (λ x. AllByRecursion (IsApart start) (looked_at number a x)) ds q
-      (all_flat (IsApart start) (looked_at number a) ds apart.0)
-      (member_all (λ x. has ds x ≡ true) ps q known l), tt))) in
+      (λ q l. narrowed order a tag.1 ps ds apart.1 known q (start ∷ []) (
+        member_all (λ x. AllByRecursion (IsApart start) (looked_at number a x)) ds q
+            (all_flat (IsApart start) (looked_at number a) ds apart.0)
+            (member_all (λ x. has ds x ≡ true) ps q known l),
+        tt,
+      ))) in
       same_of a b 0 8 (stays order a tag.1 ps (start ∷ []) far).0
 
   head_out : header b ≡ Ok order

@@ -1,10 +1,8 @@
 -- Where nodes come from: each directory is visited with its context and its number, and where reading
 -- looks at no byte as two things it is visited once.
 use Rattle.std.proofs.Common.{◌≡◌, ◌≤◌, ◌+◌, ◌*◌, ◌==◌, ℕ, zero, suc, Bool, true, false, if◌then◌else◌, List, [], ◌∷◌, ◌++◌, ◌⊎◌, inl, inr, map, Option, Some, None, Result, Ok, Err, refl, sym, ap, ◌∙◌, arith}
-use Rattle.std.specs.Prelude.{◌||◌}
 use Rattle.std.specs.List.{flat_map, AllByRecursion}
 use Rattle.std.proofs.lemmas.Bool.{false≢true}
-use Rattle.std.proofs.lemmas.Bool.Decides.{nat_tests}
 use Rattle.std.proofs.lemmas.List.{map-append}
 use Rattle.exif_base.specs.Bytes.{Reading, number_at}
 use Rattle.exif_types.specs.Numbers.{number_in}
@@ -151,36 +149,36 @@ module _ (number : Reading) (bytes : List ℕ) where
   -- ---- the entries of a directory
 
   module _ (child : Directory) (h : (x : Context) (q : ℕ) → Walks [] (child x q)) (c : Context) (k p : ℕ)
-      where
-    abbrev me : List Visited
-    me = record { place = p; context = c; number = k } ∷ []
+    where
+      abbrev me : List Visited
+      me = record { place = p; context = c; number = k } ∷ []
 
-    tagged_walks : (n e : ℕ) (v : Value) (o : Option Context)
-        → has (entry_places number bytes p) e ≡ true → number_at number 2 bytes e ≡ n
-        → Walks me (tagged_nodes child number bytes c k p n e v o)
-    tagged_walks n e v None m s =
-        record { visits = []; places = refl; come = ((inl refl, m, s), tt) }
-    tagged_walks n e v (Some d) m s =
-        owned me (pointer_nodes child number bytes d (number_in v 0))
-        (pointer_walks child d (number_in v 0) h)
+      tagged_walks : (n e : ℕ) (v : Value) (o : Option Context)
+          → has (entry_places number bytes p) e ≡ true → number_at number 2 bytes e ≡ n
+          → Walks me (tagged_nodes child number bytes c k p n e v o)
+      tagged_walks n e v None m s =
+          record { visits = []; places = refl; come = ((inl refl, m, s), tt) }
+      tagged_walks n e v (Some d) m s =
+          owned me (pointer_nodes child number bytes d (number_in v 0))
+          (pointer_walks child d (number_in v 0) h)
 
-    valued_walks : (n e : ℕ) (o : Option Value) → has (entry_places number bytes p) e ≡ true
-        → number_at number 2 bytes e ≡ n → Walks me (valued_nodes child number bytes c k p n e o)
-    valued_walks n e None m s = record { visits = []; places = refl; come = (tt, tt) }
-    valued_walks n e (Some v) m s = tagged_walks n e v (child_of c n) m s
+      valued_walks : (n e : ℕ) (o : Option Value) → has (entry_places number bytes p) e ≡ true
+          → number_at number 2 bytes e ≡ n → Walks me (valued_nodes child number bytes c k p n e o)
+      valued_walks n e None m s = record { visits = []; places = refl; come = (tt, tt) }
+      valued_walks n e (Some v) m s = tagged_walks n e v (child_of c n) m s
 
-    entry_walks : (e : ℕ) → has (entry_places number bytes p) e ≡ true
-        → Walks me (entry_nodes child number bytes c k p e)
-    entry_walks e m =
-        let w = valued_walks (number_at number 2 bytes e) e (entry_value number bytes e) m refl in
-        record { visits = w.visits; places = w.places; come = (tt, w.come) }
+      entry_walks : (e : ℕ) → has (entry_places number bytes p) e ≡ true
+          → Walks me (entry_nodes child number bytes c k p e)
+      entry_walks e m =
+          let w = valued_walks (number_at number 2 bytes e) e (entry_value number bytes e) m refl in
+          record { visits = w.visits; places = w.places; come = (tt, w.come) }
 
-    entries_walk : (es : List ℕ) → AllByRecursion (λ e. has (entry_places number bytes p) e ≡ true) es
-        → Walks me (flat_map (entry_nodes child number bytes c k p) es)
-    entries_walk [] m = none_walks me
-    entries_walk (e ∷ es) m =
-        joined me (entry_nodes child number bytes c k p e)
-        (flat_map (entry_nodes child number bytes c k p) es) (entry_walks e m.0) (entries_walk es m.1)
+      entries_walk : (es : List ℕ) → AllByRecursion (λ e. has (entry_places number bytes p) e ≡ true) es
+          → Walks me (flat_map (entry_nodes child number bytes c k p) es)
+      entries_walk [] m = none_walks me
+      entries_walk (e ∷ es) m =
+          joined me (entry_nodes child number bytes c k p e)
+          (flat_map (entry_nodes child number bytes c k p) es) (entry_walks e m.0) (entries_walk es m.1)
 
   directory_walks : (depth k : ℕ) (c : Context) (p : ℕ)
       → Walks [] (directory_nodes depth number bytes k c p)
