@@ -5,6 +5,7 @@ pub mod Clearing
 pub mod Erasing
 pub mod Examples
 pub mod FieldsApart
+pub mod FieldsApartExamples
 pub mod Finding
 pub mod Patches
 pub mod PlacesAlone
