@@ -31,7 +31,7 @@ use Rattle.exif_tiff.proofs.Visited.{visited}
 use Rattle.exif_entries.specs.Locations.{located}
 use Rattle.exif_entries.proofs.LawsLocated.{ordered_fields}
 use Rattle.exif_edit.specs.Causes.{shared}
-use Rattle.exif_edit.specs.FieldsApart.{AreErasedApart, some_removals}
+use Rattle.exif_edit.specs.FieldsApart.{FieldsAreErasedApart, some_removals}
 use Rattle.exif_edit.specs.Patches.{patched}
 use Rattle.exif_edit.specs.Promises.{named_directories}
 use Rattle.exif_edit.specs.Readings.{Read, reading}
@@ -372,6 +372,6 @@ module _ (tag : Tag) (k : In) (order : Order) (a : List ℕ) (head : header a �
       ∙ ap (some_removals order a tag.1)
       (sym places_are ∙ ap (λ fs. directories_with tag k fs (map entry_of (located a))) (sym trace_is)))))
 
-pub erased_apart : (tag : Tag) (k : In) (bytes : List ℕ) → AreErasedApart tag k bytes
+pub erased_apart : (tag : Tag) (k : In) (bytes : List ℕ) → FieldsAreErasedApart tag k bytes
 erased_apart tag k bytes order head are_bytes alone names =
     erased tag k order bytes head are_bytes alone names

@@ -18,8 +18,8 @@ some_removals order bytes n [] = Err no_field
 some_removals order bytes n (p ∷ ps) = Ok (removals order bytes n (p ∷ ps))
 
 -- where reading looks at no byte as two things, the fields of a name are erased
-abbrev pub AreErasedApart : Tag → In → List ℕ → Type 0
-AreErasedApart tag k bytes =
+abbrev pub FieldsAreErasedApart : Tag → In → List ℕ → Type 0
+FieldsAreErasedApart tag k bytes =
     (order : Order) → header bytes ≡ Ok order → AreBytes bytes → looks_apart bytes ≡ true
     → names_places tag ≡ false
     → field_patches bytes tag k ≡ some_removals order bytes tag.1 (named_directories bytes tag k)
