@@ -9,8 +9,8 @@ ghost use Rattle.exif_edit.specs.Patches.{FitsIn, put_at};
 use crate::error::Error;
 use crate::patch::{Patch, Span, zeros};
 use exif_base::{BigEndian, Endian, Items, LittleEndian, Order};
-use exif_reader::tiff::header;
 use exif_images::item::spelled_u32;
+use exif_reader::tiff::header;
 use std::alloc::{AllocError, Global};
 
 // Where the directory of the chain stands in data of a length: behind the header, if there is

@@ -23,11 +23,11 @@ use crate::read::{locate, number16, order_named, read};
 use crate::set::names_places;
 use exif_base::{BigEndian, Items, LittleEndian, Order};
 use exif_entries::{EntryPlace, Located};
+use exif_images::item::{spelled_u16, spelled_u32};
 use exif_reader::directory::directory_end;
 use exif_reader::stop::Stop;
 use exif_reader::tiff::Parsed;
 use exif_types::{Field, In, Tag, Value};
-use exif_images::item::{spelled_u16, spelled_u32};
 use std::alloc::{AllocError, Global};
 
 /// Entries that stay in a directory: how many they are, and their bytes.

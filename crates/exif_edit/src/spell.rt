@@ -8,8 +8,8 @@ ghost use Rattle.exif_images.specs.Refused.{is_unknown};
 
 use crate::patch::padded;
 use exif_base::{Counted, Order};
-use exif_types::Value;
 use exif_images::item::{send_value, spelled_u16, spelled_u32};
+use exif_types::Value;
 use std::alloc::{AllocError, Global};
 
 /// The bytes of a value.
