@@ -1,10 +1,11 @@
 //! Bytes put in the place of others.
 
 ghost use Rattle.std.specs.Prelude.{◌≡◌, ◌≤◌, ◌+◌, All, length, IfOk};
-ghost use Rattle.exif_edit.specs.Patches.{FitsIn, padded, patched, put_at, zeros_over};
+ghost use Rattle.exif_edit.specs.Patches.{FitsIn, padded, patched, put_at, put_back, swapped, swapped_back, taken, zeros_over};
 
 use exif_base::Items;
 use std::alloc::{AllocError, Global};
+use std::mem;
 
 /// A stretch of the data.
 #[derive(Clone, Copy, Debug)]
@@ -39,6 +40,46 @@ pub fn apply(patches: &[Patch], bytes: &mut [u8])
 {
     for patch in patches {
         put(bytes, patch.place as usize, patch.text.as_slice());
+    }
+}
+
+// Puts a patch over the bytes, and what stood there into the patch.
+fn exchange_one(alloc: Global, bytes: &mut [u8], patch: &mut Patch)
+    requires { FitsIn (length bytes.old) patch.old }
+    ensures value { bytes.new ≡ put_at patch.old.place patch.old.text bytes.old }
+    ensures len { length bytes.new ≡ length bytes.old }
+    ensures taken { patch.new ≡ taken bytes.old patch.old }
+{
+    let mut text = mem::replace(&mut patch.text, Items::from_vec(Vec::new(alloc))).into_vec();
+    let place = patch.place as usize;
+    bytes[place..place + text.len()].swap_with_slice(text.as_mut_slice());
+    patch.text = Items::from_vec(text);
+}
+
+/// Puts patches over the bytes, one after another, and what stood there into the patches. It takes
+/// no memory, and [`put_back`] undoes it.
+pub fn exchange(alloc: Global, bytes: &mut [u8], patches: &mut [Patch])
+    requires { All (FitsIn (length bytes.old)) patches.old }
+    ensures value { bytes.new ≡ patched patches.old bytes.old }
+    ensures len { length bytes.new ≡ length bytes.old }
+    ensures swapped { patches.new ≡ swapped patches.old bytes.old }
+{
+    for patch in patches.iter_mut() {
+        exchange_one(alloc, bytes, patch);
+    }
+}
+
+/// The same from the last patch to the first.
+pub fn put_back(alloc: Global, bytes: &mut [u8], patches: &mut [Patch])
+    requires { All (FitsIn (length bytes.old)) patches.old }
+    ensures value { bytes.new ≡ put_back patches.old bytes.old }
+    ensures len { length bytes.new ≡ length bytes.old }
+    ensures swapped { patches.new ≡ swapped_back patches.old bytes.old }
+{
+    let mut i = patches.len();
+    while i > 0 {
+        i -= 1;
+        exchange_one(alloc, bytes, &mut patches[i]);
     }
 }
 
