@@ -75,28 +75,14 @@ zeros_are bytes qs ps read order o w n =
     n ∙ (ap (λ ss. map zeros_over ss) (spans_are (number_of order) bytes qs w)
     ∙ ap (λ x. map zeros_over (gps_spans (number_of x) bytes)) o)
 
--- what is answered, as the zeroed bytes are read so or not
-pub erase_same : (bytes new : List ℕ) (ps : List Patch) (read : Read) (fs : List Field)
+-- the patches are the answer if the data are read without the fields then
+pub erase_wanted : (bytes : List ℕ) (ps : List Patch) (read : Read) (fs : List Field)
     → reading bytes ≡ Ok read
     → ps ≡ map zeros_over (gps_spans (number_of (order_named read.little)) bytes)
-    → new ≡ patched ps bytes
     → fs ≡ without_gps read.fields
-    → (b : Bool) → b
-    ≡ clears new (record { little = read.little; fields = fs; faults = read.faults })
-    → (b ≡ true → erase_patches bytes ≡ Ok ps) × (b ≡ false → erase_patches bytes ≡ Err shared)
-erase_same bytes new ps read fs h p n f b t =
-    let q : b ≡ clears (patched ps bytes) (kept read) =
-    t ∙ (ap (λ x. clears new
-    (record { little = read.little; fields = x; faults = read.faults })) f
-    ∙ ap (λ xs. clears xs (kept read)) n) in
-    let s : erase_patches bytes ≡ cleared (kept read) bytes ps =
-    erase_cleared bytes read h ∙ ap (λ x. cleared (kept read) bytes x) (sym p) in (
-      λ y. s ∙ by_test (clears (patched ps bytes) (kept read)) true (sym q ∙ y),
-      λ y. s
-          ∙ by_test (clears (patched ps bytes) (kept read)) false (sym q ∙ y),
-    )
-  where
-    by_test : (x c : Bool) → x ≡ c
-        → ◌≡◌ {A = Result (List Patch) Cause} (if x then Ok ps else Err shared)
-        (if c then Ok ps else Err shared)
-    by_test x c e = ap (λ y. if y then Ok ps else Err shared) e
+    → cleared (record { little = read.little; fields = fs; faults = read.faults }) bytes ps
+    ≡ erase_patches bytes
+erase_wanted bytes ps read fs h p f =
+    ap (λ x. cleared (record { little = read.little; fields = x; faults = read.faults }) bytes ps)
+    f
+    ∙ (ap (λ x. cleared (kept read) bytes x) p ∙ sym (erase_cleared bytes read h))

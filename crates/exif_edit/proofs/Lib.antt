@@ -17,6 +17,7 @@ pub mod NewEntry
 pub mod PatchSteps
 pub mod PlacesKept
 pub mod PlacesUnshared
+pub mod PlanSteps
 pub mod PutBack
 pub mod ReadFaults
 pub mod ReadSound

@@ -237,40 +237,25 @@ none_named bytes tag k read ps [] h w q n =
     ap (directories_with tag k read.fields) (sym w) ∙ sym q in
     named_from bytes tag k read h ∙ ap (removals_from tag k read bytes) d
 
--- what is answered, as what is left is read or not
-pub remove_same : (bytes new : List ℕ) (tag : Tag) (k : In) (read : Read) (es : List EntryPlace)
+-- the patches are the answer if the data are read without the fields then
+pub remove_wanted : (bytes : List ℕ) (tag : Tag) (k : In) (read : Read) (es : List EntryPlace)
     (qs : List ℕ) (ps : List Patch) (fs : List Field) (order : Order)
     → reading bytes ≡ Ok read → es ≡ map entry_of (located bytes)
     → qs ≡ directories_with tag k read.fields es → order ≡ order_named read.little
-    → ps ≡ removals order bytes tag.1 qs → new ≡ patched ps bytes
-    → fs ≡ without_named tag k read.fields
-    → (length qs == 0) ≡ false → (b : Bool)
-    → b ≡ still_reads new (record { little = read.little; fields = fs; faults = read.faults })
-    → (b ≡ true → named_removals bytes tag k ≡ Ok ps)
-    × (b ≡ false → named_removals bytes tag k ≡ Err shared)
-remove_same bytes new tag k read es [] ps fs order h w q o p n f z b t = absurd (false≢true (sym z))
-remove_same bytes new tag k read es (p0 ∷ rest) ps fs order h w q o p n f z b t =
+    → ps ≡ removals order bytes tag.1 qs
+    → fs ≡ without_named tag k read.fields → (length qs == 0) ≡ false
+    → checked_removals (record { little = read.little; fields = fs; faults = read.faults }) bytes ps
+    ≡ named_removals bytes tag k
+remove_wanted bytes tag k read es [] ps fs order h w q o p f z = absurd (false≢true (sym z))
+remove_wanted bytes tag k read es (p0 ∷ rest) ps fs order h w q o p f z =
     let d : directories_with tag k read.fields (map entry_of (located bytes)) ≡ p0 ∷ rest =
     ap (directories_with tag k read.fields) (sym w) ∙ sym q in
     let r : ps ≡ removals (order_named read.little) bytes tag.1 (p0 ∷ rest) =
     p ∙ ap (λ x. removals x bytes tag.1 (p0 ∷ rest)) o in
-    let g : b ≡ still_reads (patched ps bytes) (read_without tag k read) =
-    t ∙ (ap (λ x. still_reads new
-    (record { little = read.little; fields = x; faults = read.faults })) f
-    ∙ ap (λ xs. still_reads xs (read_without tag k read)) n) in
-    let s : named_removals bytes tag k ≡ checked_removals (read_without tag k read) bytes ps =
-    named_from bytes tag k read h
-    ∙ (ap (removals_from tag k read bytes) d
-    ∙ ap (checked_removals (read_without tag k read) bytes) (sym r)) in (
-      λ y. s ∙ by_test (still_reads (patched ps bytes) (read_without tag k read)) true (sym g ∙ y),
-      λ y. s ∙ by_test (still_reads (patched ps bytes) (read_without tag k read)) false
-          (sym g ∙ y),
-    )
-  where
-    by_test : (x c : Bool) → x ≡ c
-        → ◌≡◌ {A = Result (List Patch) Cause} (if x then Ok ps else Err shared)
-        (if c then Ok ps else Err shared)
-    by_test x c e = ap (λ y. if y then Ok ps else Err shared) e
+    ap (λ x. checked_removals
+    (record { little = read.little; fields = x; faults = read.faults }) bytes ps) f
+    ∙ (ap (checked_removals (read_without tag k read) bytes) r
+    ∙ sym (named_from bytes tag k read h ∙ ap (removals_from tag k read bytes) d))
 
 pub field_named : (bytes : List ℕ) (tag : Tag) (k : In) → names_places tag ≡ true
     → field_patches bytes tag k ≡ Err place_named

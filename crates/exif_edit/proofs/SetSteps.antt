@@ -124,32 +124,18 @@ expected_is : (bytes : List ℕ) (tag : Tag) (k : In) (value moved : Value) (rea
     (expected tag k value e bytes read)
 expected_is bytes tag k value moved read e place fs f m p = rw (f, m, p) refl
 
--- what is answered, as the edited bytes are read so or not
-pub set_same : (bytes new : List ℕ) (ps : List Patch) (tag : Tag) (k : In) (value moved : Value)
+-- the patches are the answer if the data are read with the value then
+pub set_wanted : (bytes : List ℕ) (ps : List Patch) (tag : Tag) (k : In) (value moved : Value)
     (read : Read) (e place : ℕ) (fs : List Field) (order : Order)
     → find_answer bytes tag k ≡ Ok (read, e) → order ≡ order_named read.little
-    → value_answer order value e bytes ≡ Ok ps → new ≡ patched ps bytes
+    → value_answer order value e bytes ≡ Ok ps
     → fs ≡ replaced tag k moved read.fields → moved ≡ moved_to place value
     → place ≡ set_place (value_room (number_of order) bytes e).place e (encode order value)
-    → (b : Bool) → b
-    ≡ reads_as new (record { little = read.little; fields = fs; faults = read.faults })
-    → (b ≡ true → checked_patches bytes tag k value ≡ Ok ps)
-    × (b ≡ false → checked_patches bytes tag k value ≡ Err shared)
-set_same bytes new ps tag k value moved read e place fs order h o g n f m p b t =
+    → checked (record { little = read.little; fields = fs; faults = read.faults }) bytes ps
+    ≡ checked_patches bytes tag k value
+set_wanted bytes ps tag k value moved read e place fs order h o g f m p =
     let g1 : value_answer (order_named read.little) value e bytes ≡ Ok ps = rw o at g in
     let p1 : place ≡ set_place (value_room (number_of (order_named read.little)) bytes e).place e
     (encode (order_named read.little) value) = rw o at p in
-    let want = expected tag k value e bytes read in
-    let q : b ≡ reads_as (patched ps bytes) want =
-    t ∙ (ap (λ r. reads_as new r) (expected_is bytes tag k value moved read e place fs f m p1)
-    ∙ ap (λ xs. reads_as xs want) n) in
-    let s = set_checked bytes ps tag k value read e h g1 in (
-      λ y. s ∙ by_test (reads_as (patched ps bytes) want) true (sym q ∙ y),
-      λ y. s
-          ∙ by_test (reads_as (patched ps bytes) want) false (sym q ∙ y),
-    )
-  where
-    by_test : (x c : Bool) → x ≡ c
-        → ◌≡◌ {A = Result (List Patch) Cause} (if x then Ok ps else Err shared)
-        (if c then Ok ps else Err shared)
-    by_test x c e = ap (λ y. if y then Ok ps else Err shared) e
+    ap (λ r. checked r bytes ps) (expected_is bytes tag k value moved read e place fs f m p1)
+    ∙ sym (set_checked bytes ps tag k value read e h g1)

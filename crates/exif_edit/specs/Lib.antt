@@ -9,6 +9,7 @@ pub mod FieldsApartExamples
 pub mod Finding
 pub mod Patches
 pub mod PlacesAlone
+pub mod Plans
 pub mod Promises
 pub mod Readings
 pub mod Removing

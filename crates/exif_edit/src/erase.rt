@@ -8,12 +8,14 @@ ghost use Rattle.exif_tiff.specs.Trace.{whole_entries};
 ghost use Rattle.exif_edit.specs.Causes.{Edits, Makes};
 ghost use Rattle.exif_edit.specs.Erasing.{clears, clipped, directory_spans, erase_answer, erase_patches, is_gps, value_span, without_gps};
 ghost use Rattle.exif_edit.specs.Patches.{FitsIn, zeros_over};
+ghost use Rattle.exif_edit.specs.Plans.{Plans};
 ghost use Rattle.exif_edit.specs.Promises.{IsErased};
 ghost use Rattle.exif_edit.specs.Readings.{read_of};
 
 use crate::alone::places_stand_alone;
 use crate::error::Error;
-use crate::patch::{Patch, Span, apply, patched, zeros};
+use crate::patch::{Patch, Span, zeros};
+use crate::plan::{Plan, Wanted, carry_out, try_on_copy};
 use crate::read::{locate, order_named, read};
 use crate::set::value_room;
 use exif_base::{BigEndian, LittleEndian, Order};
@@ -142,8 +144,8 @@ fn drop_gps(fields: &mut Vec<Field>)
     fields.retain(|field| is_kept(field));
 }
 
-// Whether data are read so, with no more faults.
-fn clears(alloc: Global, bytes: &[u8], wanted: &Parsed) -> Result<bool, AllocError>
+/// Whether data are read so, with no more faults.
+pub fn clears(alloc: Global, bytes: &[u8], wanted: &Parsed) -> Result<bool, AllocError>
     ensures { IfOk result (λ same. same ≡ clears bytes.now (read_of wanted.now)) }
 {
     match read(alloc, bytes) {
@@ -157,26 +159,36 @@ fn clears(alloc: Global, bytes: &[u8], wanted: &Parsed) -> Result<bool, AllocErr
     }
 }
 
-/// What [`erase_places`] puts over the data, as data: zeros over each GPS directory, and over each
-/// of its values. The data stay as they are.
-pub fn erase_places_patches(alloc: Global, bytes: &[u8]) -> Result<Vec<Patch>, Error>
-    ensures answer { Makes (λ ps. ps.items) result (erase_patches bytes.now) }
-    ensures within { IfOk result (λ ps. All (FitsIn (length bytes.now)) ps.items) }
+// What erases places, and how the data must be read then: as anything where the places stand alone.
+fn plan(alloc: Global, bytes: &[u8]) -> Result<Plan, Error>
+    ensures answer { Plans result bytes.now (erase_patches bytes.now) }
+    ensures within { IfOk result (λ p. All (FitsIn (length bytes.now)) p.patches.items) }
 {
     let Located { mut parsed, walk } = locate(alloc, bytes)?;
     let order = order_named(parsed.little_endian);
     let patches = zeroed(alloc, order, bytes, walk.gps())?;
     if places_stand_alone(order, bytes, patches.as_slice(), &walk) {
-        return Ok(patches);
+        return Ok(Plan {
+            patches,
+            wanted: Wanted::Anything,
+        });
     }
     drop_gps(&mut parsed.fields);
-    let new = patched(alloc, patches.as_slice(), bytes)?;
-    let same = clears(alloc, new.as_slice(), &parsed)?;
-    if same {
-        Ok(patches)
-    } else {
-        Err(Error::SharedBytes)
-    }
+    Ok(Plan {
+        patches,
+        wanted: Wanted::Cleared(parsed),
+    })
+}
+
+/// What [`erase_places`] puts over the data, as data: zeros over each GPS directory, and over each
+/// of its values. The data stay as they are. Where bytes are shared, it takes the memory of a copy,
+/// too.
+pub fn erase_places_patches(alloc: Global, bytes: &[u8]) -> Result<Vec<Patch>, Error>
+    ensures answer { Makes (λ ps. ps.items) result (erase_patches bytes.now) }
+    ensures within { IfOk result (λ ps. All (FitsIn (length bytes.now)) ps.items) }
+{
+    let plan = plan(alloc, bytes)?;
+    try_on_copy(alloc, bytes, plan)
 }
 
 /// Puts zeros over the GPS directories of the chain and over their values. The pointers stay, to
@@ -184,12 +196,11 @@ pub fn erase_places_patches(alloc: Global, bytes: &[u8]) -> Result<Vec<Patch>, E
 ///
 /// Refusals are `Header` and `SharedBytes`, which places that stand alone never get (see
 /// [`laws`](crate::laws)). It takes the memory of one reading and of the zeros; and where bytes are
-/// shared, of a copy and a second reading.
+/// shared, of a second reading and no copy.
 pub fn erase_places(alloc: Global, bytes: &mut [u8]) -> Result<(), Error>
     ensures answer { Edits result bytes.old bytes.new (erase_answer bytes.old) }
     ensures erased { OnOk result (IsErased bytes.old bytes.new) }
 {
-    let patches = erase_places_patches(alloc, bytes)?;
-    apply(patches.as_slice(), bytes);
-    Ok(())
+    let plan = plan(alloc, bytes)?;
+    carry_out(alloc, bytes, plan)
 }

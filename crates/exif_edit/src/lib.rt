@@ -14,6 +14,7 @@ mod error;
 mod find;
 pub mod laws;
 pub mod patch;
+mod plan;
 mod read;
 mod remove;
 mod set;

@@ -10,6 +10,7 @@ ghost use Rattle.exif_images.specs.Encoding.{spelled};
 ghost use Rattle.exif_edit.specs.Causes.{Edits, Makes};
 ghost use Rattle.exif_edit.specs.Erasing.{value_span};
 ghost use Rattle.exif_edit.specs.Patches.{FitsIn, zeros_over};
+ghost use Rattle.exif_edit.specs.Plans.{Plans};
 ghost use Rattle.exif_edit.specs.Promises.{FindsNone, IsFieldErased};
 ghost use Rattle.exif_edit.specs.Readings.{read_of};
 ghost use Rattle.exif_edit.specs.Removing.{directories_with, directory_patches, directory_text, directory_without, entries_text, field_answer, field_patches, has_tag, named_removals, next_text, noted, removals, still_reads, taken_spans, told_at, untold, without_named};
@@ -18,7 +19,8 @@ ghost use Rattle.exif_edit.specs.declared.remove.Kept.{Kept};
 use crate::erase::{value_span, whole_entries};
 use crate::error::Error;
 use crate::find::is_named;
-use crate::patch::{Patch, apply, padded, patched, zeros};
+use crate::patch::{Patch, padded, zeros};
+use crate::plan::{Plan, Wanted, carry_out, try_on_copy};
 use crate::read::{locate, number16, order_named, read};
 use crate::set::names_places;
 use exif_base::{BigEndian, Items, LittleEndian, Order};
@@ -309,8 +311,8 @@ fn untell(fields: &mut [Field])
     }
 }
 
-// Whether data are read so, wherever the entries stand, with no more faults.
-fn still_reads(alloc: Global, bytes: &[u8], mut wanted: Parsed) -> Result<bool, AllocError>
+/// Whether data are read so, wherever the entries stand, with no more faults.
+pub fn still_reads(alloc: Global, bytes: &[u8], mut wanted: Parsed) -> Result<bool, AllocError>
     ensures { IfOk result (λ same. same ≡ still_reads bytes.now (read_of wanted)) }
 {
     untell(wanted.fields.as_mut_slice());
@@ -328,10 +330,10 @@ fn still_reads(alloc: Global, bytes: &[u8], mut wanted: Parsed) -> Result<bool, 
     }
 }
 
-// The patches, after a reading of what they make.
-fn named_removals(alloc: Global, bytes: &[u8], tag: Tag, ifd_num: In) -> Result<Vec<Patch>, Error>
-    ensures answer { Makes (λ ps. ps.items) result (named_removals bytes.now tag ifd_num) }
-    ensures within { IfOk result (λ ps. All (FitsIn (length bytes.now)) ps.items) }
+// What takes the fields of a name out of their directories, and how the data must be read then.
+fn plan_removals(alloc: Global, bytes: &[u8], tag: Tag, ifd_num: In) -> Result<Plan, Error>
+    ensures answer { Plans result bytes.now (named_removals bytes.now tag ifd_num) }
+    ensures within { IfOk result (λ p. All (FitsIn (length bytes.now)) p.patches.items) }
 {
     let Located { mut parsed, walk } = locate(alloc, bytes)?;
     let places = directories_with(
@@ -348,17 +350,25 @@ fn named_removals(alloc: Global, bytes: &[u8], tag: Tag, ifd_num: In) -> Result<
     let order = order_named(parsed.little_endian);
     let patches = removals(alloc, order, bytes, tag.1, places)?;
     drop_named(&mut parsed.fields, tag, ifd_num);
-    let new = patched(alloc, patches.as_slice(), bytes)?;
-    let same = still_reads(alloc, new.as_slice(), parsed)?;
-    if same {
-        Ok(patches)
-    } else {
-        Err(Error::SharedBytes)
+    Ok(Plan {
+        patches,
+        wanted: Wanted::Left(parsed),
+    })
+}
+
+// The same, unless the field says where other bytes stand.
+fn plan(alloc: Global, bytes: &[u8], tag: Tag, ifd_num: In) -> Result<Plan, Error>
+    ensures answer { Plans result bytes.now (field_patches bytes.now tag ifd_num) }
+    ensures within { IfOk result (λ p. All (FitsIn (length bytes.now)) p.patches.items) }
+{
+    if names_places(tag) {
+        return Err(Error::NamesPlaces);
     }
+    plan_removals(alloc, bytes, tag, ifd_num)
 }
 
 /// What [`erase_field`] puts over the data, as data: each directory that has such a field without
-/// it, and zeros over the values. The data stay as they are.
+/// it, and zeros over the values. The data stay as they are. It takes the memory of a copy, too.
 pub fn erase_field_patches(
     alloc: Global,
     bytes: &[u8],
@@ -368,10 +378,8 @@ pub fn erase_field_patches(
     ensures answer { Makes (λ ps. ps.items) result (field_patches bytes.now tag ifd_num) }
     ensures within { IfOk result (λ ps. All (FitsIn (length bytes.now)) ps.items) }
 {
-    if names_places(tag) {
-        return Err(Error::NamesPlaces);
-    }
-    named_removals(alloc, bytes, tag, ifd_num)
+    let plan = plan(alloc, bytes, tag, ifd_num)?;
+    try_on_copy(alloc, bytes, plan)
 }
 
 /// Takes all fields of a name out of their directories. The entries behind them and the place of
@@ -379,13 +387,12 @@ pub fn erase_field_patches(
 /// A directory that was cut ends with no next place then.
 ///
 /// Refusals are `NamesPlaces`, `Header`, `FieldNotFound` and `SharedBytes`. It takes the memory of
-/// two readings, of a copy of the data and of the directories.
+/// two readings and of the directories, and no copy.
 pub fn erase_field(alloc: Global, bytes: &mut [u8], tag: Tag, ifd_num: In) -> Result<(), Error>
     ensures answer { Edits result bytes.old bytes.new (field_answer bytes.old tag ifd_num) }
     ensures erased { OnOk result (IsFieldErased bytes.old tag ifd_num bytes.new) }
     ensures gone { OnOk result (FindsNone tag ifd_num bytes.new) }
 {
-    let patches = erase_field_patches(alloc, bytes, tag, ifd_num)?;
-    apply(patches.as_slice(), bytes);
-    Ok(())
+    let plan = plan(alloc, bytes, tag, ifd_num)?;
+    carry_out(alloc, bytes, plan)
 }

@@ -13,6 +13,7 @@ ghost use Rattle.exif_images.specs.Refused.{is_unknown};
 ghost use Rattle.exif_edit.specs.Causes.{Edits, Makes};
 ghost use Rattle.exif_edit.specs.Finding.{IsLastAt, replaced};
 ghost use Rattle.exif_edit.specs.Patches.{FitsIn};
+ghost use Rattle.exif_edit.specs.Plans.{Plans};
 ghost use Rattle.exif_edit.specs.Promises.{FindsValue, IsSet};
 ghost use Rattle.exif_edit.specs.Setting.{checked_patches, names_places, room_patches, set_answer, set_patches, set_place, value_answer, value_patches, value_room};
 ghost use Rattle.exif_edit.specs.Sharing.{names_child, stands_alone};
@@ -21,8 +22,9 @@ ghost use Rattle.exif_edit.specs.declared.set.Edit.{Edit};
 use crate::alone::stands_alone;
 use crate::error::Error;
 use crate::find::{Found, find};
-use crate::patch::{Patch, Span, apply, padded, patched};
-use crate::read::{number16, number32, order_named, reads_as};
+use crate::patch::{Patch, Span, padded};
+use crate::plan::{Plan, Wanted, carry_out, try_on_copy};
+use crate::read::{number16, number32, order_named};
 use crate::spell::{encode, entry_text, is_unknown};
 use exif_base::{Items, Order};
 use exif_images::show_value_fits;
@@ -247,7 +249,52 @@ fn is_alone(order: Order, bytes: &[u8], tag: Tag, value: &Value, found: &Found, 
     )
 }
 
+// What puts a value in the place of the last one of a name, and how the data must be read then.
+fn plan(alloc: Global, bytes: &[u8], tag: Tag, ifd_num: In, value: &Value) -> Result<Plan, Error>
+    ensures answer { Plans result bytes.now (set_patches bytes.now tag ifd_num value.now) }
+    ensures within { IfOk result (λ p. All (FitsIn (length bytes.now)) p.patches.items) }
+{
+    if names_places(tag) {
+        return Err(Error::NamesPlaces);
+    }
+    if is_unknown(value) {
+        return Err(Error::UnknownType);
+    }
+    plan_known(alloc, bytes, tag, ifd_num, value)
+}
+
+// The same of a value that may be set: they need no reading where the entry stands alone.
+fn plan_known(
+    alloc: Global,
+    bytes: &[u8],
+    tag: Tag,
+    ifd_num: In,
+    value: &Value,
+) -> Result<Plan, Error>
+    requires movable { names_places tag ≡ false }
+    requires known { is_unknown value.now ≡ false }
+    ensures answer { Plans result bytes.now (checked_patches bytes.now tag ifd_num value.now) }
+    ensures within { IfOk result (λ p. All (FitsIn (length bytes.now)) p.patches.items) }
+{
+    let mut found = find(alloc, bytes, tag, ifd_num)?;
+    let order = order_named(found.parsed.little_endian);
+    let edit = make_edit(alloc, bytes, order, value, found.entry)?;
+    if is_alone(order, bytes, tag, value, &found, &edit) {
+        return Ok(Plan {
+            patches: edit.patches,
+            wanted: Wanted::Anything,
+        });
+    }
+    let moved = moved(alloc, value, edit.place)?;
+    set_field(&mut found.parsed.fields, found.index, moved, tag, ifd_num);
+    Ok(Plan {
+        patches: edit.patches,
+        wanted: Wanted::Same(found.parsed),
+    })
+}
+
 /// What [`set_value`] puts over the data, as data: at most two patches. The data stay as they are.
+/// Where bytes are shared, it takes the memory of a copy, too.
 pub fn set_value_patches(
     alloc: Global,
     bytes: &[u8],
@@ -259,44 +306,8 @@ pub fn set_value_patches(
         (set_patches bytes.now tag ifd_num value.now) }
     ensures within { IfOk result (λ ps. All (FitsIn (length bytes.now)) ps.items) }
 {
-    if names_places(tag) {
-        return Err(Error::NamesPlaces);
-    }
-    if is_unknown(value) {
-        return Err(Error::UnknownType);
-    }
-    checked_patches(alloc, bytes, tag, ifd_num, value)
-}
-
-// The patches: at once where the entry stands alone, else after a reading of what they make.
-fn checked_patches(
-    alloc: Global,
-    bytes: &[u8],
-    tag: Tag,
-    ifd_num: In,
-    value: &Value,
-) -> Result<Vec<Patch>, Error>
-    requires movable { names_places tag ≡ false }
-    requires known { is_unknown value.now ≡ false }
-    ensures answer { Makes (λ ps. ps.items) result
-        (checked_patches bytes.now tag ifd_num value.now) }
-    ensures within { IfOk result (λ ps. All (FitsIn (length bytes.now)) ps.items) }
-{
-    let mut found = find(alloc, bytes, tag, ifd_num)?;
-    let order = order_named(found.parsed.little_endian);
-    let edit = make_edit(alloc, bytes, order, value, found.entry)?;
-    if is_alone(order, bytes, tag, value, &found, &edit) {
-        return Ok(edit.patches);
-    }
-    let moved = moved(alloc, value, edit.place)?;
-    set_field(&mut found.parsed.fields, found.index, moved, tag, ifd_num);
-    let new = patched(alloc, edit.patches.as_slice(), bytes)?;
-    let same = reads_as(alloc, new.as_slice(), &found.parsed)?;
-    if same {
-        Ok(edit.patches)
-    } else {
-        Err(Error::SharedBytes)
-    }
+    let plan = plan(alloc, bytes, tag, ifd_num, value)?;
+    try_on_copy(alloc, bytes, plan)
 }
 
 /// Puts a value in the place of the last one of a name: into its entry where it takes at most four
@@ -305,7 +316,7 @@ fn checked_patches(
 ///
 /// Refusals are `NamesPlaces`, `UnknownType`, `Header`, `FieldNotFound`, `ValueTooLong` and
 /// `SharedBytes`, which a value whose entry stands alone never gets (see [`laws`](crate::laws)). It
-/// takes the memory of one reading; and where bytes are shared, of a copy and a second reading.
+/// takes the memory of one reading; and where bytes are shared, of a second reading and no copy.
 pub fn set_value(
     alloc: Global,
     bytes: &mut [u8],
@@ -318,7 +329,6 @@ pub fn set_value(
     ensures set { OnOk result (IsSet bytes.old tag ifd_num value.now bytes.new) }
     ensures found { OnOk result (FindsValue tag ifd_num value.now bytes.new) }
 {
-    let patches = set_value_patches(alloc, bytes, tag, ifd_num, value)?;
-    apply(patches.as_slice(), bytes);
-    Ok(())
+    let plan = plan(alloc, bytes, tag, ifd_num, value)?;
+    carry_out(alloc, bytes, plan)
 }

@@ -1,12 +1,14 @@
-use Rattle.std.proofs.Common.{Ok, ap, sym, ◌∙◌}
+use Rattle.std.proofs.Common.{Ok, ap, refl, sym, ◌∙◌}
 use Rattle.std.proofs.lemmas.Result.{err_from_is_err_and}
 use Rattle.exif_edit.specs.Readings.{read_of}
 use Rattle.exif_edit.specs.Finding.{find_answer}
+use Rattle.exif_edit.specs.Plans.{planned}
 use Rattle.exif_edit.specs.Setting.{checked_patches, value_answer}
 use Rattle.exif_edit.proofs.AloneSound.{header_found, set_alone}
+use Rattle.exif_edit.proofs.PlanSteps.{any_planned}
 use Rattle.exif_edit.proofs.CauseSteps.{refused_on}
-use Rattle.exif_edit.proofs.SetSteps.{set_find, set_edit, set_same}
-use Rattle.exif_edit.proofs.set.checked_patches.Goals as goal
+use Rattle.exif_edit.proofs.SetSteps.{set_find, set_edit, set_wanted}
+use Rattle.exif_edit.proofs.set.plan_known.Goals as goal
 
 pub returns-in_err-found-clause-answer : goal.returns-in_err-found-clause-answer
 returns-in_err-found-clause-answer c =
@@ -41,31 +43,20 @@ is_alone-requires-clause-header c =
 pub returns-then-is_alone-clause-answer : goal.returns-then-is_alone-clause-answer
 returns-then-is_alone-clause-answer c =
     let yes = c.if-is_alone.true in
-    set_alone c.args.bytes.now c.args.tag c.args.ifd_num c.args.value.now
+    any_planned c.args.bytes.now _ refl
+    ∙ sym (set_alone c.args.bytes.now c.args.tag c.args.ifd_num c.args.value.now
     (read_of c.in_ok-found.found.parsed) c.in_ok-found.found.entry c.order_named-order.result
     c.in_ok-edit.edit.patches.items c.in_ok-found.ensures.answer c.order_named-order.ensures
     c.in_ok-edit.ensures.answer c.requires.movable c.requires.known
     (c.is_alone.ensures.childless yes) (c.is_alone.ensures.ranged yes)
-    (c.is_alone.ensures.plain yes) (c.is_alone.ensures.alone yes)
-
-pub returns-then-same-clause-answer : goal.returns-then-same-clause-answer
-returns-then-same-clause-answer c =
-    (set_same c.args.bytes.now c.in_ok-new.new.items c.in_ok-edit.edit.patches.items c.args.tag
-    c.args.ifd_num c.args.value.now c.in_ok-moved.moved (read_of c.in_ok-found.found.parsed)
-    c.in_ok-found.found.entry c.in_ok-edit.edit.place c.set_field.new.fields.items
-    c.order_named-order.result
-    c.in_ok-found.ensures.answer c.order_named-order.ensures c.in_ok-edit.ensures.answer
-    (rw c.as_slice.ensures.value at c.in_ok-new.ensures) c.set_field.ensures
-    c.in_ok-moved.ensures.answer c.in_ok-edit.ensures.place c.in_ok-same.same
-    (rw c.as_slice-2.ensures.value at c.in_ok-same.ensures)).0 c.if-same.true
+    (c.is_alone.ensures.plain yes) (c.is_alone.ensures.alone yes))
 
 pub returns-clause-answer : goal.returns-clause-answer
+unfolding planned
 returns-clause-answer c =
-    (set_same c.args.bytes.now c.in_ok-new.new.items c.in_ok-edit.edit.patches.items c.args.tag
+    set_wanted c.args.bytes.now c.in_ok-edit.edit.patches.items c.args.tag
     c.args.ifd_num c.args.value.now c.in_ok-moved.moved (read_of c.in_ok-found.found.parsed)
     c.in_ok-found.found.entry c.in_ok-edit.edit.place c.set_field.new.fields.items
     c.order_named-order.result
     c.in_ok-found.ensures.answer c.order_named-order.ensures c.in_ok-edit.ensures.answer
-    (rw c.as_slice.ensures.value at c.in_ok-new.ensures) c.set_field.ensures
-    c.in_ok-moved.ensures.answer c.in_ok-edit.ensures.place c.in_ok-same.same
-    (rw c.as_slice-2.ensures.value at c.in_ok-same.ensures)).1 c.if-same.false
+    c.set_field.ensures c.in_ok-moved.ensures.answer c.in_ok-edit.ensures.place

@@ -1,9 +1,10 @@
 use Rattle.std.proofs.Common.{sym, ◌∙◌}
 use Rattle.std.proofs.lemmas.Result.{err_from_is_err_and}
+use Rattle.exif_edit.specs.Plans.{planned}
 use Rattle.exif_edit.specs.Readings.{read_of}
-use Rattle.exif_edit.proofs.RemoveSteps.{as_many, none_named, remove_fault, remove_same}
-use Rattle.exif_edit.proofs.RemoveSound.{named_fits, removals_fit}
-use Rattle.exif_edit.proofs.remove.named_removals.Goals as goal
+use Rattle.exif_edit.proofs.RemoveSteps.{as_many, none_named, remove_fault, remove_wanted}
+use Rattle.exif_edit.proofs.RemoveSound.{removals_fit}
+use Rattle.exif_edit.proofs.remove.plan_removals.Goals as goal
 
 pub returns-in_err-parsed-clause-answer : goal.returns-in_err-parsed-clause-answer
 returns-in_err-parsed-clause-answer c =
@@ -25,37 +26,20 @@ returns-then-is_empty-clause-answer c =
     (rw (c.as_slice.ensures.value, c.entries.ensures) at c.in_ok-places.ensures)
     (rw c.as_slice-places.ensures.value at (sym c.is_empty.ensures ∙ c.if-is_empty.true))
 
-pub patched-requires : goal.patched-requires
-patched-requires c =
-    rw (c.as_slice-2.ensures.value, c.in_ok-patches.ensures)
+pub returns-clause-answer : goal.returns-clause-answer
+unfolding planned
+returns-clause-answer c =
+    remove_wanted c.args.bytes.now c.args.tag c.args.ifd_num
+    (read_of c.in_ok-parsed.field-0.parsed) c.in_ok-parsed.field-0.walk.entries c.in_ok-places.places.items
+    c.in_ok-patches.patches.items c.drop_named.new.fields.items c.order_named-order.result
+    c.in_ok-parsed.ensures.reads c.in_ok-parsed.ensures.places.entries
+    (rw (c.as_slice.ensures.value, c.entries.ensures) at c.in_ok-places.ensures)
+    c.order_named-order.ensures (rw c.as_slice-places.ensures.value at c.in_ok-patches.ensures)
+    c.drop_named.ensures
+    (rw c.as_slice-places.ensures.value at (sym c.is_empty.ensures ∙ c.if-is_empty.false))
+
+pub returns-clause-within : goal.returns-clause-within
+returns-clause-within c =
+    rw c.in_ok-patches.ensures
     (removals_fit c.order_named-order.result c.args.bytes.now c.args.tag.1
     c.as_slice-places.result.now)
-
-pub returns-then-same-clause-answer : goal.returns-then-same-clause-answer
-returns-then-same-clause-answer c =
-    (remove_same c.args.bytes.now c.in_ok-new.new.items c.args.tag c.args.ifd_num
-    (read_of c.in_ok-parsed.field-0.parsed) c.in_ok-parsed.field-0.walk.entries c.in_ok-places.places.items
-    c.in_ok-patches.patches.items c.drop_named.new.fields.items c.order_named-order.result
-    c.in_ok-parsed.ensures.reads c.in_ok-parsed.ensures.places.entries
-    (rw (c.as_slice.ensures.value, c.entries.ensures) at c.in_ok-places.ensures)
-    c.order_named-order.ensures (rw c.as_slice-places.ensures.value at c.in_ok-patches.ensures)
-    (rw c.as_slice-2.ensures.value at c.in_ok-new.ensures) c.drop_named.ensures
-    (rw c.as_slice-places.ensures.value at (sym c.is_empty.ensures ∙ c.if-is_empty.false))
-    c.in_ok-same.same (rw c.as_slice-3.ensures.value at c.in_ok-same.ensures)).0 c.if-same.true
-
-pub returns-then-same-clause-within : goal.returns-then-same-clause-within
-returns-then-same-clause-within c =
-    named_fits c.args.bytes.now c.args.tag c.args.ifd_num c.in_ok-patches.patches.items
-    (returns-then-same-clause-answer c)
-
-pub returns-clause-answer : goal.returns-clause-answer
-returns-clause-answer c =
-    (remove_same c.args.bytes.now c.in_ok-new.new.items c.args.tag c.args.ifd_num
-    (read_of c.in_ok-parsed.field-0.parsed) c.in_ok-parsed.field-0.walk.entries c.in_ok-places.places.items
-    c.in_ok-patches.patches.items c.drop_named.new.fields.items c.order_named-order.result
-    c.in_ok-parsed.ensures.reads c.in_ok-parsed.ensures.places.entries
-    (rw (c.as_slice.ensures.value, c.entries.ensures) at c.in_ok-places.ensures)
-    c.order_named-order.ensures (rw c.as_slice-places.ensures.value at c.in_ok-patches.ensures)
-    (rw c.as_slice-2.ensures.value at c.in_ok-new.ensures) c.drop_named.ensures
-    (rw c.as_slice-places.ensures.value at (sym c.is_empty.ensures ∙ c.if-is_empty.false))
-    c.in_ok-same.same (rw c.as_slice-3.ensures.value at c.in_ok-same.ensures)).1 c.if-same.false

@@ -1,6 +1,6 @@
 use Rattle.std.proofs.Common.{sym, ◌∙◌}
 use Rattle.exif_edit.proofs.SetSteps.{set_named, set_unknown, set_known}
-use Rattle.exif_edit.proofs.set.set_value_patches.Goals as goal
+use Rattle.exif_edit.proofs.set.plan.Goals as goal
 
 pub returns-then-names_places-clause-answer : goal.returns-then-names_places-clause-answer
 returns-then-names_places-clause-answer c =
@@ -17,4 +17,4 @@ pub returns-clause-answer : goal.returns-clause-answer
 returns-clause-answer c =
     rw (set_known c.args.bytes.now c.args.tag c.args.ifd_num c.args.value.now
     (sym c.names_places.ensures ∙ c.if-names_places.false)
-    (sym c.is_unknown.ensures ∙ c.if-is_unknown.false)) at c.checked_patches.ensures.answer
+    (sym c.is_unknown.ensures ∙ c.if-is_unknown.false)) at c.plan_known.ensures.answer
