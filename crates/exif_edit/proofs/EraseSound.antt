@@ -129,7 +129,7 @@ pub record WasErased (bytes : List ℕ) (ps : List Patch) : Type 0 where
   pub fields : found.fields ≡ without_gps read.fields
   pub fewer : length found.faults ≤ length read.faults
 
-was_erased : (bytes : List ℕ) (ps : List Patch) → erase_patches bytes ≡ Ok ps → WasErased bytes ps
+pub was_erased : (bytes : List ℕ) (ps : List Patch) → erase_patches bytes ≡ Ok ps → WasErased bytes ps
 unfolding erase_patches
 was_erased bytes ps e =
     let a = bound (of_data (reading bytes))

@@ -1,5 +1,5 @@
 -- The steps of erasing.
-use Rattle.std.proofs.Common.{◌≡◌, ◌<◌, ◌+◌, ◌-◌, ℕ, suc, Bool, true, false, if◌then◌else◌, List, [], ◌∷◌, ◌++◌, length, map, drop, get_or, append_assoc, refl, sym, ap, ◌∙◌, arith, drop-cons, Result, Ok, Err}
+use Rattle.std.proofs.Common.{◌≡◌, ◌<◌, ◌+◌, ◌-◌, ℕ, suc, List, [], ◌∷◌, ◌++◌, length, map, drop, get_or, append_assoc, refl, sym, ap, ◌∙◌, arith, drop-cons, Ok, Err}
 use Rattle.std.proofs.lemmas.List.{map-append}
 use Rattle.std.specs.List.{flat_map}
 use Rattle.exif_base.specs.Bytes.{Reading, spaced}
@@ -8,10 +8,10 @@ use Rattle.exif_base.specs.declared.endian.Order.{Order}
 use Rattle.exif_types.specs.declared.field.Field.{Field}
 use Rattle.exif_reader.specs.declared.stop.Stop.{Stop}
 use Rattle.exif_reader.specs.declared.stop.Stop.TheVariants as stop
-use Rattle.exif_edit.specs.Causes.{Becomes, Cause, Fails, shared}
-use Rattle.exif_edit.specs.Erasing.{cleared, clears, directory_spans, erase_patches, gps_spans, kept, without_gps}
+use Rattle.exif_edit.specs.Causes.{Becomes, Fails}
+use Rattle.exif_edit.specs.Erasing.{cleared, directory_spans, erase_patches, gps_spans, kept, without_gps}
 use Rattle.exif_entries.specs.Locations.{gps_places}
-use Rattle.exif_edit.specs.Patches.{patched, zeros_over}
+use Rattle.exif_edit.specs.Patches.{zeros_over}
 use Rattle.exif_edit.specs.Readings.{Read, ReadsTo, reading}
 use Rattle.exif_edit.specs.declared.error.Error.{Error}
 use Rattle.exif_edit.specs.declared.patch.Patch.{Patch}

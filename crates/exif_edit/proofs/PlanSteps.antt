@@ -7,7 +7,6 @@ use Rattle.exif_edit.specs.Plans.{carried_out, if_read, is_read, planned}
 use Rattle.exif_edit.specs.declared.error.Error.{Error}
 use Rattle.exif_edit.specs.declared.patch.Patch.{Patch}
 use Rattle.exif_edit.specs.declared.plan.Plan.{Plan}
-use Rattle.exif_edit.specs.declared.plan.Wanted.{Wanted}
 use Rattle.exif_edit.specs.declared.plan.Wanted.TheVariants.{Anything}
 use Rattle.exif_edit.proofs.CauseSteps.{bound, ok_same}
 use Rattle.exif_edit.proofs.PatchSteps.{fit_in, length-patched}

@@ -226,7 +226,7 @@ from_places bytes tag k read (q ∷ qs) ps e =
     let t = tested (still_reads (patched rs bytes) (read_without tag k read)) rs ps shared e in
     (sym t.1, subst (λ xs. still_reads (patched xs bytes) (read_without tag k read) ≡ true) t.1 t.0)
 
-was_removed : (bytes : List ℕ) (tag : Tag) (k : In) (ps : List Patch)
+pub was_removed : (bytes : List ℕ) (tag : Tag) (k : In) (ps : List Patch)
     → named_removals bytes tag k ≡ Ok ps → WasRemoved bytes tag k ps
 unfolding named_removals
 was_removed bytes tag k ps e =
@@ -246,7 +246,7 @@ was_removed bytes tag k ps e =
       fewer = c.3;
     }
 
-named_of_field : (bytes : List ℕ) (tag : Tag) (k : In) (ps : List Patch)
+pub named_of_field : (bytes : List ℕ) (tag : Tag) (k : In) (ps : List Patch)
     → field_patches bytes tag k ≡ Ok ps → named_removals bytes tag k ≡ Ok ps
 unfolding field_patches
 named_of_field bytes tag k ps e =

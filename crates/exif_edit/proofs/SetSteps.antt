@@ -1,6 +1,6 @@
 -- The steps of setting a value.
-use Rattle.std.proofs.Common.{◌≡◌, ◌≤◌, ◌<◌, ◌+◌, max, ℕ, Bool, true, false, List, length, Result, Ok, Err, refl, sym, ap, ◌∙◌, arith}
-use Rattle.std.specs.Prelude.{nat_lt, ◌^◌, ◌-◌, if◌then◌else◌}
+use Rattle.std.proofs.Common.{◌≡◌, ◌≤◌, ◌<◌, ◌+◌, max, ℕ, true, false, List, length, Ok, Err, refl, sym, ap, ◌∙◌, arith}
+use Rattle.std.specs.Prelude.{nat_lt, ◌^◌, ◌-◌}
 use Rattle.std.proofs.lemmas.Bool.Decides.{nat_tests}
 use Rattle.exif_base.specs.Orders.{number_of, order_named}
 use Rattle.exif_base.specs.declared.endian.Order.{Order}
@@ -13,8 +13,7 @@ use Rattle.exif_images.specs.Encoding.{encode, moved_to}
 use Rattle.exif_images.specs.Refused.{is_unknown}
 use Rattle.exif_edit.specs.Causes.{Cause, place_named, shared, too_long, unknown_type}
 use Rattle.exif_edit.specs.Finding.{find_answer, replaced}
-use Rattle.exif_edit.specs.Patches.{patched}
-use Rattle.exif_edit.specs.Readings.{Read, reads_as}
+use Rattle.exif_edit.specs.Readings.{Read}
 use Rattle.exif_edit.specs.Setting.{answer_in, checked, checked_patches, expected, names_places, set_patches, set_place, value_answer, value_patches, value_room}
 use Rattle.exif_edit.specs.declared.patch.Patch.{Patch}
 use Rattle.exif_edit.specs.declared.patch.Span.{Span}

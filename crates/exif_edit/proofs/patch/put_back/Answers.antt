@@ -1,4 +1,4 @@
-use Rattle.std.proofs.Common.{◌≡◌, ◌<◌, ◌≤◌, ◌+◌, ◌-◌, ◌∙◌, ◌++◌, ℕ, length, take, drop, refl, subst, arith}
+use Rattle.std.proofs.Common.{◌≡◌, ◌<◌, ◌+◌, ◌-◌, ◌∙◌, ◌++◌, ℕ, length, take, drop, refl, subst, arith}
 use Rattle.std.proofs.lemmas.List.{length-set}
 use Rattle.exif_edit.specs.Patches.{put_back, swapped_back}
 use Rattle.exif_edit.specs.declared.patch.Patch.{Patch}
