@@ -11,6 +11,7 @@ pub mod ClearSound
 pub mod EraseSound
 pub mod EraseSteps
 pub mod FindSteps
+pub mod HeaderMarks
 pub mod LawsSetting
 pub mod LocatedEntries
 pub mod NewEntry

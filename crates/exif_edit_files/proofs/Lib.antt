@@ -4,3 +4,4 @@ pub mod LawsStreams
 pub mod Splicing
 pub mod StreamSound
 pub mod StreamSteps
+pub mod TiffFiles

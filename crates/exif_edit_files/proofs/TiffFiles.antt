@@ -1,21 +1,16 @@
 -- TIFF data are edited as a file as they are edited alone.
-use Rattle.std.proofs.Common.{◌≡◌, ◌<◌, ◌≤◌, ◌+◌, ◌-◌, ◌*◌, ◌==◌, ℕ, Bool, true, false, List, [], ◌∷◌, length, map, take, Option, Some, None, Result, Ok, Err, refl, sym, ap, subst, ◌∙◌, arith}
-use Rattle.std.specs.Prelude.{◌&&◌, ◌||◌, ◌^◌, if◌then◌else◌, nat_lt, OnOk}
+use Rattle.std.proofs.Common.{◌≡◌, ◌<◌, ◌≤◌, ◌+◌, ◌-◌, ℕ, inl, inr, Bool, true, false, List, [], ◌∷◌, length, map, take, Option, Some, None, Result, Ok, Err, refl, sym, ap, subst, ◌∙◌, arith}
+use Rattle.std.specs.Prelude.{codes, ◌&&◌, ◌||◌, ◌^◌, if◌then◌else◌, nat_lt, OnOk}
 use Rattle.std.specs.Str.{bytes_eq}
 use Rattle.std.proofs.lemmas.Bool.{false≢true}
 use Rattle.std.proofs.lemmas.Bool.Decides.{nat_tests}
-use Rattle.std.proofs.lemmas.List.{take_all}
+use Rattle.std.proofs.lemmas.List.{take-take, take_all}
 use Rattle.std.proofs.lemmas.Slice.Eq.{bytes_eq-Decides}
-use Rattle.exif_base.specs.Bytes.{bytes_at, number_at}
-use Rattle.exif_base.specs.Orders.{number_of}
-use Rattle.exif_base.specs.declared.endian.Order.{Order}
-use Rattle.exif_base.specs.declared.endian.Order.TheVariants.{Big, Little}
+use Rattle.exif_base.specs.Bytes.{bytes_at}
 use Rattle.exif_types.specs.declared.tag.Tag.{Tag}
 use Rattle.exif_types.specs.declared.ifd.In.{In}
 use Rattle.exif_types.specs.declared.value.Value.{Value}
-use Rattle.exif_tiff.specs.Trace.{header, order_of}
-use Rattle.exif_tiff.specs.declared.fault.Fault.{Fault}
-use Rattle.exif_tiff.specs.declared.fault.Fault.TheVariants.{DataTooLarge, TruncatedHeader, InvalidByteOrder, InvalidFortyTwo}
+use Rattle.exif_containers.specs.Answer.{Answer}
 use Rattle.exif_containers.specs.Container.{begins_tiff, container_answer, format_in}
 use Rattle.exif_containers.specs.declared.container.Format.TheVariants.{Tiff}
 use Rattle.exif_containers.proofs.ContainerSteps.{tiff_is_whole}
@@ -29,8 +24,7 @@ use Rattle.exif_edit.specs.declared.error.Error.{Error}
 use Rattle.exif_edit.specs.declared.patch.Patch.{Patch}
 use Rattle.exif_edit.proofs.CauseSteps.{bound, ok_same}
 use Rattle.exif_edit.proofs.EraseSound.{was_erased}
-use Rattle.exif_edit.proofs.FindSteps.{header_named}
-use Rattle.exif_edit.proofs.PatchSteps.{split}
+use Rattle.exif_edit.proofs.HeaderMarks.{IsMarked, reading_marked}
 use Rattle.exif_edit.proofs.RemoveSound.{named_of_field, was_removed}
 use Rattle.exif_edit.proofs.SetSound.{was_set}
 use Rattle.exif_edit_files.specs.InFiles.{Edit, IsEditedIn, edited_file, holds, in_file, place_answer, placed, serves, serves_as_told, shifted, told_place}
@@ -40,102 +34,13 @@ use Rattle.exif_edit_files.proofs.FileSteps.{place_as_told, told_refused}
 
 -- ---- data with a good header begin as TIFF data do
 
-text_of_order : (a b c d : ℕ) (rest : List ℕ) (x : Order)
-    → order_of (a ∷ b ∷ c ∷ d ∷ rest) ≡ Some x
-    → number_at (number_of x) 2 (a ∷ b ∷ c ∷ d ∷ rest) 2 ≡ 42
-    → begins_tiff (a ∷ b ∷ c ∷ d ∷ rest) ≡ true
-text_of_order a b c d rest x o n = by_big ((a == 77) && (b == 77)) refl o
-  where
-    bytes = a ∷ b ∷ c ∷ d ∷ rest
+marks_begin : (bytes : List ℕ) → IsMarked bytes → begins_tiff bytes ≡ true
+marks_begin bytes (inl e) = rw e refl
+marks_begin bytes (inr e) = rw e refl
 
-    by_little : (t : Bool) → ((a == 73) && (b == 73)) ≡ t
-        → (if t then Some Little else None) ≡ Some x → begins_tiff bytes ≡ true
-    by_little true e k =
-        let s : Little ≡ x = cc in
-        let p = split (a == 73) (b == 73) e in
-        let p0 = p.0 in
-        let p1 = p.1 in
-        let q : a ≡ 73 = grind (arith, nat_tests) in
-        let r : b ≡ 73 = grind (arith, nat_tests) in
-        let m : number_at (number_of Little) 2 bytes 2 ≡ 42 =
-        subst (λ y. number_at (number_of y) 2 bytes 2 ≡ 42) (sym s) n in
-        let u : c ≡ 42 = omega (arith, m) in
-        let v : d ≡ 0 = omega (arith, m) in
-        rw (q, r, u, v) refl
-    by_little false e k = absurd (none_some k)
-      where
-        none_some : ◌≡◌ {A = Option Order} None (Some x) → ⊥
-        none_some k = cc
-
-    by_big : (t : Bool) → ((a == 77) && (b == 77)) ≡ t
-        → (if t then Some Big else
-        (if (a == 73) && (b == 73) then Some Little else None)) ≡ Some x
-        → begins_tiff bytes ≡ true
-    by_big true e k =
-        let s : Big ≡ x = cc in
-        let p = split (a == 77) (b == 77) e in
-        let p0 = p.0 in
-        let p1 = p.1 in
-        let q : a ≡ 77 = grind (arith, nat_tests) in
-        let r : b ≡ 77 = grind (arith, nat_tests) in
-        let m : number_at (number_of Big) 2 bytes 2 ≡ 42 =
-        subst (λ y. number_at (number_of y) 2 bytes 2 ≡ 42) (sym s) n in
-        let u : c ≡ 0 = omega (arith, m) in
-        let v : d ≡ 42 = omega (arith, m) in
-        rw (q, r, u, v) refl
-    by_big false e k = by_little ((a == 73) && (b == 73)) refl k
-
-marked : (bytes : List ℕ) (order : Order) → 8 ≤ length bytes → order_of bytes ≡ Some order
-    → number_at (number_of order) 2 bytes 2 ≡ 42 → begins_tiff bytes ≡ true
-marked (a ∷ b ∷ c ∷ d ∷ rest) order h o n = text_of_order a b c d rest order o n
-marked [] order h o n = absurd (omega arith)
-marked (a ∷ []) order h o n = absurd (omega arith)
-marked (a ∷ b ∷ []) order h o n = absurd (omega arith)
-marked (a ∷ b ∷ c ∷ []) order h o n = absurd (omega arith)
-
-pub header_begins : (bytes : List ℕ) (order : Order) → header bytes ≡ Ok order
+reading_begins : (bytes : List ℕ) (read : Read) → reading bytes ≡ Ok read
     → begins_tiff bytes ≡ true
-header_begins bytes order e = by_large (nat_lt (2 ^ 32 - 1) (length bytes)) e
-  where
-    err_ok : (fault : Fault) → ◌≡◌ {A = Result Order Fault} (Err fault) (Ok order) → ⊥
-    err_ok fault k = cc
-
-    by_mark : (x : Order) (t : Bool) → (number_at (number_of x) 2 bytes 2 == 42) ≡ t
-        → order_of bytes ≡ Some x → 8 ≤ length bytes
-        → (if t then Ok x else Err InvalidFortyTwo) ≡ Ok order → begins_tiff bytes ≡ true
-    by_mark x true t o h k = marked bytes x h o (grind (arith, nat_tests))
-    by_mark x false t o h k = absurd (err_ok InvalidFortyTwo k)
-
-    by_order : (o : Option Order) → order_of bytes ≡ o → 8 ≤ length bytes
-        → (elim o as (λ _. Result Order Fault) [
-        | None ↦ Err InvalidByteOrder
-        | Some x ↦ if number_at (number_of x) 2 bytes 2 == 42 then Ok x else Err InvalidFortyTwo
-        ]) ≡ Ok order → begins_tiff bytes ≡ true
-    by_order None o h k = absurd (err_ok InvalidByteOrder k)
-    by_order (Some x) o h k = by_mark x (number_at (number_of x) 2 bytes 2 == 42) refl o h k
-
-    by_short : (t : Bool) → nat_lt (length bytes) 8 ≡ t
-        → (if t then Err TruncatedHeader else
-        (elim (order_of bytes) as (λ _. Result Order Fault) [
-        | None ↦ Err InvalidByteOrder
-        | Some x ↦ if number_at (number_of x) 2 bytes 2 == 42 then Ok x else Err InvalidFortyTwo
-        ])) ≡ Ok order → begins_tiff bytes ≡ true
-    by_short true t k = absurd (err_ok TruncatedHeader k)
-    by_short false t k = by_order (order_of bytes) refl (grind (arith, nat_tests)) k
-
-    by_large : (t : Bool)
-        → (if t then Err DataTooLarge else
-        (if nat_lt (length bytes) 8 then Err TruncatedHeader else
-        (elim (order_of bytes) as (λ _. Result Order Fault) [
-        | None ↦ Err InvalidByteOrder
-        | Some x ↦ if number_at (number_of x) 2 bytes 2 == 42 then Ok x else Err InvalidFortyTwo
-        ]))) ≡ Ok order → begins_tiff bytes ≡ true
-    by_large true k = absurd (err_ok DataTooLarge k)
-    by_large false k = by_short (nat_lt (length bytes) 8) refl k
-
-pub reading_begins : (bytes : List ℕ) (read : Read) → reading bytes ≡ Ok read
-    → begins_tiff bytes ≡ true
-reading_begins bytes read e = header_begins bytes _ (header_named bytes read e)
+reading_begins bytes read e = marks_begin bytes (reading_marked bytes read e)
 
 -- ---- edits that leave data which begin so
 
@@ -159,11 +64,23 @@ field_tiff tag k old ps e =
 
 shifted_none : (ps : List Patch) → map (shifted 0) ps ≡ ps
 shifted_none [] = refl
-shifted_none (p ∷ ps) = ap (λ qs. p ∷ qs) (shifted_none ps)
+shifted_none (p ∷ ps) =
+    let e : 0 + p.place ≡ p.place = omega arith in
+    let one : shifted 0 p ≡ p = ap (λ (n : ℕ). record { place = n; text = p.text }) e in
+    ap (λ q. q ∷ map (shifted 0) ps) one ∙ ap (λ qs. p ∷ qs) (shifted_none ps)
+
+head_begins : (file : List ℕ) → begins_tiff file ≡ true → begins_tiff (take 4096 file) ≡ true
+head_begins file h =
+    ap (λ t. bytes_eq t (codes "MM\0*") || bytes_eq t (codes "II*\0"))
+    (take-take 4 4096 file (omega arith)) ∙ h
+
+tiff_piece : (file : List ℕ) → begins_tiff file ≡ true
+    → ◌≡◌ {A = Answer} (piece_in file) (Err whole_file)
+unfolding format_in piece_in
+tiff_piece file h = rw (head_begins file h) refl
 
 tiff_told : (file : List ℕ) → begins_tiff file ≡ true → 0 ≡ told_place file
-unfolding format_in piece_in
-tiff_told file h = ?
+tiff_told file h = told_refused file whole_file (tiff_piece file h)
 
 holds_itself : (file : List ℕ) → begins_tiff file ≡ true → holds file file ≡ true
 holds_itself file h =

@@ -16,7 +16,8 @@ use exif_containers::container::is_tiff;
 use exif_containers::exif_attr_of_stream;
 use exif_edit::patch::{apply, patched, put};
 use exif_edit::{
-    Error, Patch, erase_all_patches, erase_field_patches, erase_places_patches, set_value_patches,
+    Error, Patch, erase_all_patches, erase_field, erase_field_patches, erase_places,
+    erase_places_patches, set_value, set_value_patches,
 };
 use exif_types::{In, Tag, Value};
 use std::alloc::{AllocError, Global};
@@ -185,6 +186,9 @@ pub fn set_value_patches_in_file(
         (in_file (λ old. set_patches old tag ifd_num value.now) file.now) }
     ensures within { IfOk result (λ ps. All (FitsIn (length file.now)) ps.items) }
 {
+    if is_tiff(file) {
+        return set_value_patches(alloc, file, tag, ifd_num, value);
+    }
     let old = data_of(alloc, file)?;
     let patches = set_value_patches(alloc, old.as_slice(), tag, ifd_num, value)?;
     let placed = placed(alloc, file, old.as_slice(), patches)?;
@@ -196,6 +200,9 @@ pub fn erase_places_patches_in_file(alloc: Global, file: &[u8]) -> Result<Vec<Pa
     ensures answer { Makes (λ ps. ps.items) result (in_file erase_patches file.now) }
     ensures within { IfOk result (λ ps. All (FitsIn (length file.now)) ps.items) }
 {
+    if is_tiff(file) {
+        return erase_places_patches(alloc, file);
+    }
     let old = data_of(alloc, file)?;
     let patches = erase_places_patches(alloc, old.as_slice())?;
     let placed = placed(alloc, file, old.as_slice(), patches)?;
@@ -213,6 +220,9 @@ pub fn erase_field_patches_in_file(
         (in_file (λ old. field_patches old tag ifd_num) file.now) }
     ensures within { IfOk result (λ ps. All (FitsIn (length file.now)) ps.items) }
 {
+    if is_tiff(file) {
+        return erase_field_patches(alloc, file, tag, ifd_num);
+    }
     let old = data_of(alloc, file)?;
     let patches = erase_field_patches(alloc, old.as_slice(), tag, ifd_num)?;
     let placed = placed(alloc, file, old.as_slice(), patches)?;
@@ -258,6 +268,9 @@ pub fn set_value_in_file(
     ensures edited { OnOk result
         (IsEditedIn (λ old. set_patches old tag ifd_num value.now) file.old file.new) }
 {
+    if is_tiff(file) {
+        return set_value(alloc, file, tag, ifd_num, value);
+    }
     let patches = set_value_patches_in_file(alloc, file, tag, ifd_num, value)?;
     apply(patches.as_slice(), file);
     Ok(())
@@ -270,6 +283,9 @@ pub fn erase_places_in_file(alloc: Global, file: &mut [u8]) -> Result<(), Error>
     ensures answer { Edits result file.old file.new (edited_file (in_file erase_patches) file.old) }
     ensures edited { OnOk result (IsEditedIn erase_patches file.old file.new) }
 {
+    if is_tiff(file) {
+        return erase_places(alloc, file);
+    }
     let patches = erase_places_patches_in_file(alloc, file)?;
     apply(patches.as_slice(), file);
     Ok(())
@@ -289,6 +305,9 @@ pub fn erase_field_in_file(
     ensures edited { OnOk result
         (IsEditedIn (λ old. field_patches old tag ifd_num) file.old file.new) }
 {
+    if is_tiff(file) {
+        return erase_field(alloc, file, tag, ifd_num);
+    }
     let patches = erase_field_patches_in_file(alloc, file, tag, ifd_num)?;
     apply(patches.as_slice(), file);
     Ok(())

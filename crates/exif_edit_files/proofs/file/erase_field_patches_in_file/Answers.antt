@@ -1,3 +1,4 @@
+use Rattle.std.proofs.Common.{sym, ◌∙◌}
 use Rattle.std.proofs.lemmas.Result.{err_from_is_err_and}
 use Rattle.exif_containers.specs.Container.{container_answer}
 use Rattle.exif_edit.specs.Causes.{of_container}
@@ -7,7 +8,14 @@ use Rattle.exif_edit.proofs.RemoveSound.{field_fits}
 use Rattle.exif_edit.proofs.CauseSteps.{refused_on}
 use Rattle.exif_edit_files.proofs.FileSteps.{file_data, file_edit, file_placed}
 use Rattle.exif_edit_files.proofs.FileSound.{file_fits}
+use Rattle.exif_edit_files.proofs.TiffFiles.{field_tiff, tiff_in_file}
 use Rattle.exif_edit_files.proofs.file.erase_field_patches_in_file.Goals as goal
+
+pub returns-then-is_tiff-clause-answer : goal.returns-then-is_tiff-clause-answer
+returns-then-is_tiff-clause-answer c =
+    let edit : Edit = λ old. field_patches old c.args.tag c.args.ifd_num in
+    rw (← tiff_in_file edit c.args.file.now (field_tiff c.args.tag c.args.ifd_num) (sym c.is_tiff.ensures ∙ c.if-is_tiff.true))
+    c.erase_field_patches.ensures.answer
 
 pub returns-in_err-old-clause-answer : goal.returns-in_err-old-clause-answer
 returns-in_err-old-clause-answer c =
