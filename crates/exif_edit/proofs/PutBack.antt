@@ -11,7 +11,7 @@ use Rattle.exif_edit.proofs.PatchSteps.{fit_behind, fit_in, length-put_at}
 
 -- ---- one patch
 
-length-bytes_at : (n place : ℕ) (bytes : List ℕ) → place + n ≤ length bytes
+pub length-bytes_at : (n place : ℕ) (bytes : List ℕ) → place + n ≤ length bytes
     → length (bytes_at n bytes place) ≡ n
 length-bytes_at n place bytes h = grind (arith, common_steps)
 
@@ -38,7 +38,7 @@ in_three place n bytes =
     ∙ take-append-drop place bytes)
 
 -- the old bytes put over the new ones are there again
-put_twice : (place : ℕ) (text bytes : List ℕ) → place + length text ≤ length bytes
+pub put_twice : (place : ℕ) (text bytes : List ℕ) → place + length text ≤ length bytes
     → put_at place (bytes_at (length text) bytes place) (put_at place text bytes) ≡ bytes
 put_twice place text bytes h =
     let l = length-bytes_at (length text) place bytes h in
@@ -48,7 +48,7 @@ put_twice place text bytes h =
     ∙ in_three place (length text) bytes
 
 -- and what they take the place of is the text
-text_there : (place : ℕ) (text bytes : List ℕ) → place + length text ≤ length bytes
+pub text_there : (place : ℕ) (text bytes : List ℕ) → place + length text ≤ length bytes
     → bytes_at (length text) (put_at place text bytes) place ≡ text
 text_there place text bytes h = grind (arith, common_steps)
 

@@ -1,5 +1,6 @@
 pub mod FileSound
 pub mod FileSteps
+pub mod InPlace
 pub mod LawsStreams
 pub mod Splicing
 pub mod StreamSound

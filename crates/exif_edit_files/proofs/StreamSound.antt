@@ -165,7 +165,7 @@ put_front front p rest text place h =
     (ap (λ xs. take place p ++ xs) (sym (append_assoc text (drop n p) rest))
     ∙ sym (append_assoc (take place p) (text ++ drop n p) rest)))
 
-patched_front : (ps : List Patch) (front p rest : List ℕ) → All (FitsIn (length p)) ps
+pub patched_front : (ps : List Patch) (front p rest : List ℕ) → All (FitsIn (length p)) ps
     → patched (map (shifted (length front)) ps) (front ++ (p ++ rest)) ≡ front
     ++ (patched ps p ++ rest)
 patched_front [] front p rest h = refl

@@ -1,7 +1,8 @@
 -- Exif data edited where they stand in a file.
-use Rattle.std.specs.Prelude.{◌≡◌, ℕ, ◌+◌, ◌-◌, ◌<◌, ◌≤◌, ◌&&◌, ◌⊎◌, nat_lt, if◌then◌else◌, Bool, false, List, length, map, slice_index, Option, Some, None, Result, Ok, Err}
+use Rattle.std.specs.Prelude.{◌≡◌, ℕ, ◌+◌, ◌-◌, ◌<◌, ◌≤◌, ◌&&◌, ◌⊎◌, nat_lt, if◌then◌else◌, Bool, true, false, List, length, map, slice_index, Option, Some, None, Result, Ok, Err}
 use Rattle.std.specs.List.{find}
 use Rattle.std.specs.Str.{bytes_eq}
+use Rattle.std.specs.declared.alloc.AllocError.{AllocError}
 use Rattle.exif_base.specs.Bytes.{bytes_at, spaced}
 use Rattle.exif_containers.specs.Container.{begins_tiff, container_answer}
 use Rattle.exif_edit.specs.Causes.{Cause, of_container, or_cause, picture, scattered, unless, ◌>>=◌}
@@ -65,6 +66,23 @@ place_answer file old patches =
 abbrev pub placed : List ℕ → List ℕ → List Patch → Result (List Patch) Cause
 placed file old patches =
     place_answer file old patches >>= λ place. Ok (map (shifted place) patches)
+
+-- the file with patches of its data where they serve
+abbrev pub searched_file : List ℕ → List ℕ → List Patch → Result (List ℕ) Cause
+searched_file file old patches =
+    search_answer file old patches >>= λ place. Ok (patched (map (shifted place) patches) file)
+
+abbrev pub placed_file : List ℕ → List ℕ → List Patch → Result (List ℕ) Cause
+placed_file file old patches = placed file old patches >>= λ qs. Ok (patched qs file)
+
+-- what a try of patches at a place tells and leaves: all is as it was, unless they serve
+abbrev pub Tries : Result Bool AllocError → List ℕ → List ℕ → List Patch → ℕ → List ℕ → List Patch
+    → Type 0
+Tries (Ok true) file old patches place new left =
+    (serves file old patches place ≡ true) × (new ≡ patched (map (shifted place) patches) file)
+Tries (Ok false) file old patches place new left =
+    (serves file old patches place ≡ false) × (new ≡ file) × (left ≡ patches)
+Tries (Err e) file old patches place new left = (new ≡ file) × (left ≡ patches)
 
 -- what edits the data of a file, or why that is refused
 unfoldable pub in_file : Edit → Edit

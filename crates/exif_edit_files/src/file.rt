@@ -10,11 +10,12 @@ ghost use Rattle.exif_edit.specs.Patches.{FitsIn, patched};
 ghost use Rattle.exif_edit.specs.Removing.{field_patches};
 ghost use Rattle.exif_edit.specs.Setting.{set_patches};
 
+use crate::in_place::put_in_file;
 use crate::stream::piece_in;
 use exif_base::Counted;
 use exif_containers::container::is_tiff;
 use exif_containers::exif_attr_of_stream;
-use exif_edit::patch::{apply, patched, put};
+use exif_edit::patch::{patched, put};
 use exif_edit::{
     Error, Patch, erase_all_patches, erase_field, erase_field_patches, erase_places,
     erase_places_patches, set_value, set_value_patches,
@@ -37,8 +38,8 @@ fn data_of(alloc: Global, file: &[u8]) -> Result<Vec<u8>, Error>
     }
 }
 
-// Puts patches of data that stand at a place of a file over the file.
-fn apply_at(patches: &[Patch], place: usize, file: &mut [u8])
+/// Puts patches of data that stand at a place of a file over the file.
+pub fn apply_at(patches: &[Patch], place: usize, file: &mut [u8])
     requires { All (λ p. FitsIn (length file.old) (shifted place p)) patches.now }
     ensures value { file.new ≡ patched (map (shifted place) patches.now) file.old }
     ensures len { length file.new ≡ length file.old }
@@ -48,8 +49,8 @@ fn apply_at(patches: &[Patch], place: usize, file: &mut [u8])
     }
 }
 
-// Whether a file holds these data.
-fn holds(alloc: Global, file: &[u8], wanted: &[u8]) -> Result<bool, AllocError>
+/// Whether a file holds these data.
+pub fn holds(alloc: Global, file: &[u8], wanted: &[u8]) -> Result<bool, AllocError>
     ensures { IfOk result (λ held. held ≡ holds file.now wanted.now) }
 {
     match data_of(alloc, file) {
@@ -125,8 +126,8 @@ fn searched_place(
     Err(Error::ScatteredData)
 }
 
-// The place that lengths tell, in a JPEG stream and a WebP file.
-fn piece_place(alloc: Global, file: &[u8]) -> Result<Option<usize>, AllocError>
+/// The place that lengths tell, in a JPEG stream and a WebP file.
+pub fn piece_place(alloc: Global, file: &[u8]) -> Result<Option<usize>, AllocError>
     ensures { IfOk result (λ place. place ≡ piece_place file.now) }
 {
     match piece_in(alloc, &mut Counted::new(file), file.len() as u64) {
@@ -271,9 +272,9 @@ pub fn set_value_in_file(
     if is_tiff(file) {
         return set_value(alloc, file, tag, ifd_num, value);
     }
-    let patches = set_value_patches_in_file(alloc, file, tag, ifd_num, value)?;
-    apply(patches.as_slice(), file);
-    Ok(())
+    let old = data_of(alloc, file)?;
+    let patches = set_value_patches(alloc, old.as_slice(), tag, ifd_num, value)?;
+    put_in_file(alloc, file, old.as_slice(), patches)
 }
 
 /// Erases the places in the Exif data of a file of each container.
@@ -286,9 +287,9 @@ pub fn erase_places_in_file(alloc: Global, file: &mut [u8]) -> Result<(), Error>
     if is_tiff(file) {
         return erase_places(alloc, file);
     }
-    let patches = erase_places_patches_in_file(alloc, file)?;
-    apply(patches.as_slice(), file);
-    Ok(())
+    let old = data_of(alloc, file)?;
+    let patches = erase_places_patches(alloc, old.as_slice())?;
+    put_in_file(alloc, file, old.as_slice(), patches)
 }
 
 /// Takes all fields of a name out of the Exif data of a file of each container.
@@ -308,9 +309,9 @@ pub fn erase_field_in_file(
     if is_tiff(file) {
         return erase_field(alloc, file, tag, ifd_num);
     }
-    let patches = erase_field_patches_in_file(alloc, file, tag, ifd_num)?;
-    apply(patches.as_slice(), file);
-    Ok(())
+    let old = data_of(alloc, file)?;
+    let patches = erase_field_patches(alloc, old.as_slice(), tag, ifd_num)?;
+    put_in_file(alloc, file, old.as_slice(), patches)
 }
 
 /// Erases all fields of the Exif data of a file, but not of a TIFF file, whose picture stands in the
@@ -319,7 +320,19 @@ pub fn erase_all_in_file(alloc: Global, file: &mut [u8]) -> Result<(), Error>
     ensures answer { Edits result file.old file.new (edited_file clear_file_patches file.old) }
     ensures edited { OnOk result (IsEditedIn clear_patches file.old file.new) }
 {
-    let patches = erase_all_patches_in_file(alloc, file)?;
-    apply(patches.as_slice(), file);
-    Ok(())
+    if is_tiff(file) {
+        return Err(Error::PictureData);
+    }
+    clear_in(alloc, file)
+}
+
+// Erases all fields of the data of a file.
+fn clear_in(alloc: Global, file: &mut [u8]) -> Result<(), Error>
+    ensures answer { Edits result file.old file.new
+        (edited_file (in_file clear_patches) file.old) }
+    ensures edited { OnOk result (IsEditedIn clear_patches file.old file.new) }
+{
+    let old = data_of(alloc, file)?;
+    let patches = erase_all_patches(alloc, old.as_slice())?;
+    put_in_file(alloc, file, old.as_slice(), patches)
 }

@@ -12,6 +12,7 @@
 #![tactic(auto)]
 
 mod file;
+mod in_place;
 pub mod laws;
 mod stream;
 

@@ -1,14 +1,17 @@
-use Rattle.std.proofs.Common.{sym, subst}
-use Rattle.exif_edit.specs.Clearing.{clear_patches}
-use Rattle.exif_edit_files.specs.InFiles.{IsEditedIn}
-use Rattle.exif_edit_files.proofs.FileSound.{clear_file_answered, file_sound}
-use Rattle.exif_edit.proofs.ClearSound.{clear_fits}
+use Rattle.std.proofs.Common.{refl, sym, ap, ◌∙◌, Ok}
+use Rattle.exif_edit.specs.Causes.{◌>>=◌}
+use Rattle.exif_edit.specs.Patches.{patched}
+use Rattle.exif_edit_files.proofs.FileSteps.{clear_file_else, clear_file_tiff}
 use Rattle.exif_edit_files.proofs.file.erase_all_in_file.Goals as goal
 
-pub returns-clause-edited : goal.returns-clause-edited
-returns-clause-edited c =
-    subst (λ xs. IsEditedIn clear_patches c.args.file.now xs)
-    (sym (rw c.as_slice.ensures.value at c.apply.ensures.value))
-    (file_sound clear_patches c.args.file.now c.in_ok-patches.patches.items clear_fits
-    (clear_file_answered c.args.file.now c.in_ok-patches.patches.items
-    c.in_ok-patches.ensures.answer))
+pub returns-then-is_tiff-clause-answer : goal.returns-then-is_tiff-clause-answer
+returns-then-is_tiff-clause-answer c = (
+  refl,
+  ap (λ x. x >>= λ ps. Ok (patched ps c.args.file.now))
+      (clear_file_tiff c.args.file.now (sym c.is_tiff.ensures ∙ c.if-is_tiff.true)),
+)
+
+pub returns-clause-answer : goal.returns-clause-answer
+returns-clause-answer c =
+    rw (clear_file_else c.args.file.now (sym c.is_tiff.ensures ∙ c.if-is_tiff.false))
+    c.clear_in.ensures.answer
