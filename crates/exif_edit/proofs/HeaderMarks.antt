@@ -1,5 +1,5 @@
 -- Data with a good header begin as TIFF data do.
-use Rattle.std.proofs.Common.{◌≡◌, ◌<◌, ◌≤◌, ◌+◌, ◌-◌, ◌*◌, ◌==◌, ◌⊎◌, inl, inr, ℕ, Bool, true, false, List, [], ◌∷◌, length, take, Option, Some, None, Result, Ok, Err, refl, sym, subst, arith}
+use Rattle.std.proofs.Common.{◌≡◌, ◌≤◌, ◌-◌, ◌==◌, ◌⊎◌, inl, inr, ℕ, Bool, true, false, List, [], ◌∷◌, length, take, Option, Some, None, Result, Ok, Err, refl, sym, subst, arith}
 use Rattle.std.specs.Prelude.{◌&&◌, ◌^◌, codes, if◌then◌else◌, nat_lt}
 use Rattle.std.proofs.lemmas.Bool.Decides.{nat_tests}
 use Rattle.exif_base.specs.Bytes.{number_at}
@@ -86,8 +86,8 @@ header_marked bytes order e = by_large (nat_lt (2 ^ 32 - 1) (length bytes)) e
 
     by_order : (o : Option Order) → order_of bytes ≡ o → 8 ≤ length bytes
         → (elim o as (λ _. Result Order Fault) [
-        | None ↦ Err InvalidByteOrder
-        | Some x ↦ if number_at (number_of x) 2 bytes 2 == 42 then Ok x else Err InvalidFortyTwo
+          | None ↦ Err InvalidByteOrder
+          | Some x ↦ if number_at (number_of x) 2 bytes 2 == 42 then Ok x else Err InvalidFortyTwo
         ]) ≡ Ok order → IsMarked bytes
     by_order None o h k = absurd (err_ok InvalidByteOrder k)
     by_order (Some x) o h k = by_mark x (number_at (number_of x) 2 bytes 2 == 42) refl o h k
@@ -95,8 +95,8 @@ header_marked bytes order e = by_large (nat_lt (2 ^ 32 - 1) (length bytes)) e
     by_short : (t : Bool) → nat_lt (length bytes) 8 ≡ t
         → (if t then Err TruncatedHeader else
         (elim (order_of bytes) as (λ _. Result Order Fault) [
-        | None ↦ Err InvalidByteOrder
-        | Some x ↦ if number_at (number_of x) 2 bytes 2 == 42 then Ok x else Err InvalidFortyTwo
+          | None ↦ Err InvalidByteOrder
+          | Some x ↦ if number_at (number_of x) 2 bytes 2 == 42 then Ok x else Err InvalidFortyTwo
         ])) ≡ Ok order → IsMarked bytes
     by_short true t k = absurd (err_ok TruncatedHeader k)
     by_short false t k = by_order (order_of bytes) refl (grind (arith, nat_tests)) k
@@ -105,8 +105,8 @@ header_marked bytes order e = by_large (nat_lt (2 ^ 32 - 1) (length bytes)) e
         → (if t then Err DataTooLarge else
         (if nat_lt (length bytes) 8 then Err TruncatedHeader else
         (elim (order_of bytes) as (λ _. Result Order Fault) [
-        | None ↦ Err InvalidByteOrder
-        | Some x ↦ if number_at (number_of x) 2 bytes 2 == 42 then Ok x else Err InvalidFortyTwo
+          | None ↦ Err InvalidByteOrder
+          | Some x ↦ if number_at (number_of x) 2 bytes 2 == 42 then Ok x else Err InvalidFortyTwo
         ]))) ≡ Ok order → IsMarked bytes
     by_large true k = absurd (err_ok DataTooLarge k)
     by_large false k = by_short (nat_lt (length bytes) 8) refl k

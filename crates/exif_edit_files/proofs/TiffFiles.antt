@@ -1,8 +1,7 @@
 -- TIFF data are edited as a file as they are edited alone.
-use Rattle.std.proofs.Common.{◌≡◌, ◌<◌, ◌≤◌, ◌+◌, ◌-◌, ℕ, inl, inr, Bool, true, false, List, [], ◌∷◌, length, map, take, Option, Some, None, Result, Ok, Err, refl, sym, ap, subst, ◌∙◌, arith}
-use Rattle.std.specs.Prelude.{codes, ◌&&◌, ◌||◌, ◌^◌, if◌then◌else◌, nat_lt, OnOk}
+use Rattle.std.proofs.Common.{◌≡◌, ◌+◌, ◌-◌, ℕ, inl, inr, Bool, true, false, List, [], ◌∷◌, length, map, take, Result, Ok, Err, refl, sym, ap, subst, ◌∙◌, arith}
+use Rattle.std.specs.Prelude.{codes, ◌&&◌, ◌||◌, nat_lt, OnOk}
 use Rattle.std.specs.Str.{bytes_eq}
-use Rattle.std.proofs.lemmas.Bool.{false≢true}
 use Rattle.std.proofs.lemmas.Bool.Decides.{nat_tests}
 use Rattle.std.proofs.lemmas.List.{take-take, take_all}
 use Rattle.std.proofs.lemmas.Slice.Eq.{bytes_eq-Decides}
@@ -11,8 +10,7 @@ use Rattle.exif_types.specs.declared.tag.Tag.{Tag}
 use Rattle.exif_types.specs.declared.ifd.In.{In}
 use Rattle.exif_types.specs.declared.value.Value.{Value}
 use Rattle.exif_containers.specs.Answer.{Answer}
-use Rattle.exif_containers.specs.Container.{begins_tiff, container_answer, format_in}
-use Rattle.exif_containers.specs.declared.container.Format.TheVariants.{Tiff}
+use Rattle.exif_containers.specs.Container.{begins_tiff, format_in}
 use Rattle.exif_containers.proofs.ContainerSteps.{tiff_is_whole}
 use Rattle.exif_edit.specs.Causes.{Cause, Edits, of_container, ◌>>=◌}
 use Rattle.exif_edit.specs.Erasing.{erase_patches}
@@ -27,7 +25,7 @@ use Rattle.exif_edit.proofs.EraseSound.{was_erased}
 use Rattle.exif_edit.proofs.HeaderMarks.{IsMarked, reading_marked}
 use Rattle.exif_edit.proofs.RemoveSound.{named_of_field, was_removed}
 use Rattle.exif_edit.proofs.SetSound.{was_set}
-use Rattle.exif_edit_files.specs.InFiles.{Edit, IsEditedIn, edited_file, holds, in_file, place_answer, placed, serves, serves_as_told, shifted, told_place}
+use Rattle.exif_edit_files.specs.InFiles.{Edit, IsEditedIn, edited_file, holds, in_file, placed, serves, serves_as_told, shifted, told_place}
 use Rattle.exif_edit_files.specs.Pieces.{piece_in, whole_file}
 use Rattle.exif_edit_files.proofs.FileSound.{StaysIn, file_sound}
 use Rattle.exif_edit_files.proofs.FileSteps.{place_as_told, told_refused}

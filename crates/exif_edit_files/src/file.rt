@@ -256,7 +256,9 @@ fn cleared_in(alloc: Global, file: &[u8]) -> Result<Vec<Patch>, Error>
 /// Sets a value in the Exif data of a file: TIFF data, a JPEG stream, a WebP file or a HEIF file
 /// whose item stands in one piece.
 ///
-/// Refusals are those of [`set_value`](exif_edit::set_value), `Container` and `ScatteredData`.
+/// Refusals are those of [`set_value`](exif_edit::set_value), `Container` and `ScatteredData`. A TIFF
+/// file is edited as the data that it is; of others it takes the memory of the Exif data, too, and
+/// no copy of the file.
 pub fn set_value_in_file(
     alloc: Global,
     file: &mut [u8],
@@ -321,9 +323,10 @@ pub fn erase_all_in_file(alloc: Global, file: &mut [u8]) -> Result<(), Error>
     ensures edited { OnOk result (IsEditedIn clear_patches file.old file.new) }
 {
     if is_tiff(file) {
-        return Err(Error::PictureData);
+        Err(Error::PictureData)
+    } else {
+        clear_in(alloc, file)
     }
-    clear_in(alloc, file)
 }
 
 // Erases all fields of the data of a file.

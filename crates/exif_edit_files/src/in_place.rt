@@ -23,13 +23,7 @@ fn stand_at(file: &[u8], place: usize, old: &[u8]) -> bool
 }
 
 // Exchanges patches with the bytes of a stretch of a file.
-fn exchange_at(
-    alloc: Global,
-    file: &mut [u8],
-    place: usize,
-    len: usize,
-    patches: &mut [Patch],
-)
+fn exchange_at(alloc: Global, file: &mut [u8], place: usize, len: usize, patches: &mut [Patch])
     requires within { place + len ≤ length file.old }
     requires fit { All (FitsIn len) patches.old }
     ensures value { file.new
@@ -41,13 +35,7 @@ fn exchange_at(
 }
 
 // Puts back what stood there.
-fn put_back_at(
-    alloc: Global,
-    file: &mut [u8],
-    place: usize,
-    len: usize,
-    patches: &mut [Patch],
-)
+fn put_back_at(alloc: Global, file: &mut [u8], place: usize, len: usize, patches: &mut [Patch])
     requires within { place + len ≤ length file.old }
     requires fit { All (FitsIn len) patches.old }
     ensures value { file.new

@@ -11,7 +11,7 @@ returns-then-is_tiff-clause-answer c = (
       (clear_file_tiff c.args.file.now (sym c.is_tiff.ensures ∙ c.if-is_tiff.true)),
 )
 
-pub returns-clause-answer : goal.returns-clause-answer
-returns-clause-answer c =
+pub returns-else-is_tiff-clause-answer : goal.returns-else-is_tiff-clause-answer
+returns-else-is_tiff-clause-answer c =
     rw (clear_file_else c.args.file.now (sym c.is_tiff.ensures ∙ c.if-is_tiff.false))
     c.clear_in.ensures.answer

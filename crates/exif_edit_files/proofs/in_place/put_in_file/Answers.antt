@@ -1,4 +1,4 @@
-use Rattle.std.proofs.Common.{rules, ◌<◌, ◌≤◌, ◌+◌, ◌^◌, ◌∙◌, length, sym, subst}
+use Rattle.std.proofs.Common.{rules, ◌<◌, ◌^◌, ◌∙◌, length, sym, subst}
 use Rattle.exif_edit.specs.Causes.{Edits}
 use Rattle.exif_edit_files.proofs.LawsStreams.{piece_missing, piece_stands}
 use Rattle.exif_edit_files.proofs.InPlace.{placed_put, placed_searched, there_fit}

@@ -1,4 +1,3 @@
-use Rattle.std.proofs.Common.{Ok}
 use Rattle.exif_edit_files.proofs.FileSteps.{place_found, place_none, place_on}
 use Rattle.exif_edit_files.proofs.InPlace.{searched_none, searched_put, tried_else, tried_served}
 use Rattle.exif_edit.specs.Causes.{scattered}
