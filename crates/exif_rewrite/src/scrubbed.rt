@@ -10,9 +10,9 @@ ghost use Rattle.exif_images.specs.Rewriting.{pushed_all};
 ghost use Rattle.exif_rewrite.specs.ScrubbedExif.{ReadsAs, is_wanted, scrubbed_answer, wanted};
 
 use exif_base::Counted;
-use exif_types::{Error, Exif, Field, In, Tag, Value};
 use exif_images::is_own;
 use exif_images::laws::{images_hold_what_was_pushed, pushing_keeps};
+use exif_types::{Error, Exif, Field, In, Tag, Value};
 use exif_writer::Writer;
 use std::alloc::Global;
 
