@@ -4,7 +4,8 @@
 //! Each edit comes in two forms: over data in memory, and as patches, for a program that writes into
 //! a file by a seek; `exif_edit_files` has them over files. An error leaves all bytes as they were.
 //! Where bytes that an edit changes are shared with something else, what it makes is read again
-//! before it is answered; data that would read otherwise are refused. docs/CALLING.md has examples over files.
+//! before it is answered; data that read otherwise are refused, and what stood there is put back.
+//! docs/CALLING.md has examples over files.
 #![tactic(auto)]
 
 mod alone;

@@ -10,6 +10,7 @@ mod sharing;
 mod streams;
 mod texts;
 mod types;
+mod undone;
 mod values;
 
 use exif_edit::Error;

@@ -81,8 +81,8 @@ fn places_are_erased_with_their_faults(rt: HostRuntime) -> Result<(), Fail> {
     Ok(())
 }
 
-// A resolution and an altitude, whose values are the same eight bytes.
-const SAME_VALUE: &[u8] =
+/// A resolution and an altitude, whose values are the same eight bytes.
+pub const SAME_VALUE: &[u8] =
     b"MM\0*\0\0\0\x08\0\x02\x01\x1a\0\x05\0\0\0\x01\0\0\0\x38\x88\x25\0\x04\0\0\0\x01\0\0\0\x26\0\0\0\0\0\x01\0\x06\0\x05\0\0\0\x01\0\0\0\x38\0\0\0\0\0\0\0\x48\0\0\0\x01";
 
 // A GPS directory that is the second one of the chain too.
