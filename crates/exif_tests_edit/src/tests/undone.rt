@@ -3,8 +3,8 @@
 
 use super::calls::{is_zeroed, places_in_file};
 use super::fields::OVERLAPPING;
-use super::sharing::SAME_VALUE;
 use super::put;
+use super::sharing::SAME_VALUE;
 use exif_base::Items;
 use exif_edit::{Error, erase_places, set_value};
 use exif_samples::files::PLACE_BEFORE_DESCRIPTION;
