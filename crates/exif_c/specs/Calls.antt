@@ -8,7 +8,7 @@ use Rattle.exif_containers.specs.Container.{container_answer, format_in}
 use Rattle.exif_containers.specs.declared.container.Format.TheVariants.{Tiff}
 use Rattle.exif_reader.specs.Files.{ReadsContainer}
 use Rattle.exif_json.specs.Answers.{Tells}
-use Rattle.exif_edit.specs.Causes.{Cause}
+use Rattle.exif_edit_base.specs.Causes.{Cause}
 use Rattle.exif_change.specs.Changes as changes
 use Rattle.exif_change.specs.Setting.{IsSetHere, entry_limit}
 use Rattle.exif_change.specs.declared.scrubbing.Removed.TheVariants.{Metadata}

@@ -4,9 +4,9 @@ use Rattle.exif_types.specs.Failures.{Failure}
 use Rattle.exif_types.specs.Refusals as refusals
 use Rattle.exif_types.specs.Refusals.{invalid_format, not_found, blank_value, too_big, not_supported, unexpected_value}
 use Rattle.exif_types.specs.declared.error.Error.TheVariants as error
-use Rattle.exif_edit.specs.Causes.{Cause, no_field, unknown_type, too_long, place_named, shared, scattered, picture, wrong_header, no_data}
-use Rattle.exif_edit.specs.declared.error.Error.{Error}
-use Rattle.exif_edit.specs.declared.error.Error.TheVariants as edit
+use Rattle.exif_edit_base.specs.Causes.{Cause, no_field, unknown_type, too_long, place_named, shared, scattered, picture, wrong_header, no_data}
+use Rattle.exif_edit_base.specs.declared.error.Error.{Error}
+use Rattle.exif_edit_base.specs.declared.error.Error.TheVariants as edit
 use Rattle.exif_change.specs.declared.refusal.Refusal.{Refusal}
 use Rattle.exif_change.specs.declared.refusal.Refusal.TheVariants as change
 use Rattle.exif_c.specs.declared.status.Status.{Status}

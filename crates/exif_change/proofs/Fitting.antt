@@ -1,7 +1,7 @@
 -- Fields set where they stand, one after the other.
 use Rattle.std.proofs.Common.{◌≡◌, ℕ, ◌<◌, ◌+◌, suc, length, get_or, drop, drop-cons, arith, List, ◌∷◌, ◌++◌, Result, Ok, sym, ap, ◌∙◌}
 use Rattle.exif_types.specs.declared.field.Field.{Field}
-use Rattle.exif_edit.specs.Causes.{Cause, ◌>>=◌}
+use Rattle.exif_edit_base.specs.Causes.{Cause, ◌>>=◌}
 use Rattle.exif_change.specs.InPlace.{all_set, field_set}
 
 -- fields that are left over in front of those of an answer

@@ -3,7 +3,7 @@ use Rattle.std.specs.Prelude.{◌≡◌, ◌⊎◌, ℕ, List, [], ◌∷◌, Op
 use Rattle.exif_containers.specs.Container.{format_in}
 use Rattle.exif_containers.specs.declared.container.Format.{Format}
 use Rattle.exif_containers.specs.declared.container.Format.TheVariants.{Tiff, Jpeg, Heif, WebP}
-use Rattle.exif_edit.specs.Causes.{no_data}
+use Rattle.exif_edit_base.specs.Causes.{no_data}
 use Rattle.exif_edit.specs.Erasing.{erase_patches}
 use Rattle.exif_edit_files.specs.InFiles.{Edit, clear_file_patches, edited_file, in_file}
 use Rattle.exif_rewrite.specs.RewrittenFile.{file_rewriting}

@@ -2,10 +2,10 @@
 use Rattle.std.specs.Prelude.{ℕ, ◌&&◌, Bool, true, false, List, [], ◌∷◌, Some, None, Result, Ok, Err, if◌then◌else◌}
 use Rattle.exif_types.specs.Refusals.{not_found}
 use Rattle.exif_types.specs.declared.field.Field.{Field}
-use Rattle.exif_edit.specs.Causes.{Cause, cause_of, no_data, no_field, scattered, shared, too_long, ◌>>=◌}
-use Rattle.exif_edit.specs.declared.error.Error.{Error}
-use Rattle.exif_edit_files.specs.InFiles.{edited_file, in_file}
+use Rattle.exif_edit_base.specs.Causes.{Cause, cause_of, no_data, no_field, scattered, shared, too_long, ◌>>=◌}
+use Rattle.exif_edit_base.specs.declared.error.Error.{Error}
 use Rattle.exif_edit.specs.Setting.{set_patches}
+use Rattle.exif_edit_files.specs.InFiles.{edited_file, in_file}
 
 -- a field set in a file where its name stands
 abbrev pub field_set : Field → List ℕ → Result (List ℕ) Cause

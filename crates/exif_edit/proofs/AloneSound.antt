@@ -22,21 +22,21 @@ use Rattle.exif_entries.specs.Locations.{Located, gps_places, located}
 use Rattle.exif_entries.specs.Walked.{Finds, Walked, entry_of}
 use Rattle.exif_tiff.specs.declared.place.DirectoryPlace.{DirectoryPlace}
 use Rattle.exif_tiff.specs.declared.place.EntryPlace.{EntryPlace}
-use Rattle.exif_edit.specs.Causes.{shared, too_long, unless, ◌>>=◌}
+use Rattle.exif_edit_base.specs.Causes.{shared, too_long, unless, ◌>>=◌}
+use Rattle.exif_edit_base.specs.Finding.{find_answer}
+use Rattle.exif_edit_base.specs.Patches.{zeros_over}
+use Rattle.exif_edit_base.specs.Readings.{Read}
+use Rattle.exif_edit_base.specs.declared.patch.Patch.{Patch}
+use Rattle.exif_edit_base.specs.declared.patch.Span.{Span}
+use Rattle.exif_edit_base.proofs.CauseSteps.{passed}
+use Rattle.exif_edit_base.proofs.FindSteps.{header_named}
 use Rattle.exif_edit.specs.Changing.{ChangeEntry, ChangePlaces, changes, covers}
 use Rattle.exif_edit.specs.Erasing.{directory_spans, erase_patches, gps_spans, is_gps}
-use Rattle.exif_edit.specs.Finding.{find_answer}
-use Rattle.exif_edit.specs.Patches.{zeros_over}
 use Rattle.exif_edit.specs.PlacesAlone.{all_kept, places_stand_alone}
-use Rattle.exif_edit.specs.Readings.{Read}
 use Rattle.exif_edit.specs.Setting.{answer_in, checked_patches, entry_text, names_places, room_of, room_text, set_patches, value_answer, value_patches, value_room}
 use Rattle.exif_edit.specs.Sharing.{all_beside, beside, changed_entry, fit_answer, meets, names_child, stands_alone, standing_at}
-use Rattle.exif_edit.specs.declared.patch.Patch.{Patch}
-use Rattle.exif_edit.specs.declared.patch.Span.{Span}
 use Rattle.exif_edit.proofs.AloneSteps.{any_flat, any_kept, any_same}
-use Rattle.exif_edit.proofs.CauseSteps.{passed}
 use Rattle.exif_edit.proofs.EraseSteps.{spans_are}
-use Rattle.exif_edit.proofs.FindSteps.{header_named}
 use Rattle.exif_edit.proofs.PlacesUnshared.{places_unshared}
 use Rattle.exif_edit.proofs.SetSound.{Fits, edit_fits_in, value_lengths, was_found}
 use Rattle.exif_edit.proofs.SetSteps.{set_known}

@@ -9,12 +9,12 @@ use Rattle.exif_base.specs.Bytes.{Reading, number_at, spaced}
 use Rattle.exif_types.specs.FieldTypes.{type_of, known_length}
 use Rattle.exif_tiff.specs.Footprint.{Stretch, value_stretch}
 use Rattle.exif_reader.proofs.ParserRuns.{spaced_step}
+use Rattle.exif_edit_base.specs.Patches.{FitsIn}
+use Rattle.exif_edit_base.specs.declared.patch.Patch.{Patch}
+use Rattle.exif_edit_base.specs.declared.patch.Span.{Span}
 use Rattle.exif_edit.specs.Changing.{changes, covers}
 use Rattle.exif_edit.specs.Erasing.{nowhere, value_span, within}
-use Rattle.exif_edit.specs.Patches.{FitsIn}
 use Rattle.exif_edit.specs.Setting.{value_room}
-use Rattle.exif_edit.specs.declared.patch.Patch.{Patch}
-use Rattle.exif_edit.specs.declared.patch.Span.{Span}
 
 -- ---- loops over entries
 

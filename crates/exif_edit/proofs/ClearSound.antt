@@ -18,14 +18,14 @@ use Rattle.exif_tiff.specs.declared.fault.Fault.{Fault}
 use Rattle.exif_tiff.specs.declared.fault.Fault.TheVariants.{DataTooLarge, TruncatedHeader, InvalidByteOrder, InvalidFortyTwo}
 use Rattle.exif_table.specs.declared.context.Context.TheVariants.{Tiff}
 use Rattle.exif_images.specs.Encoding.{spelled}
-use Rattle.exif_edit.specs.Causes.{of_data, wrong_header}
+use Rattle.exif_edit_base.specs.Causes.{of_data, wrong_header}
+use Rattle.exif_edit_base.specs.Patches.{FitsIn, patched, put_at, zeros_over}
+use Rattle.exif_edit_base.specs.declared.patch.Patch.{Patch}
+use Rattle.exif_edit_base.proofs.CauseSteps.{bound, data_read, ok_same}
+use Rattle.exif_edit_base.proofs.PatchSteps.{length-put_at, put_before, put_on, put_zero}
+use Rattle.exif_edit_base.proofs.ReadSteps.{header_room}
 use Rattle.exif_edit.specs.Clearing.{IsCleared, clear_patches, clearing, empty_place}
-use Rattle.exif_edit.specs.Patches.{FitsIn, patched, put_at, zeros_over}
-use Rattle.exif_edit.specs.declared.patch.Patch.{Patch}
-use Rattle.exif_edit.proofs.CauseSteps.{bound, data_read, ok_same}
-use Rattle.exif_edit.proofs.PatchSteps.{length-put_at, put_before, put_on, put_zero}
 use Rattle.exif_edit.proofs.ReadSound.{raw_right}
-use Rattle.exif_edit.proofs.ReadSteps.{header_room}
 use Rattle.exif_edit.proofs.SetSound.{length-spelled}
 
 -- ---- numbers by their bytes

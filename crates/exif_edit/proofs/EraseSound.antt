@@ -14,18 +14,18 @@ use Rattle.exif_base.specs.Orders.{number_of, order_named}
 use Rattle.exif_types.specs.FieldEq.{field_eq, field_Decides}
 use Rattle.exif_tiff.specs.Trace.{trace, fields_of, faults_of, whole_entries, entry_places}
 use Rattle.exif_tiff.specs.declared.fault.Fault.{Fault}
-use Rattle.exif_edit.specs.Causes.{of_data, shared}
-use Rattle.exif_edit.specs.Erasing.{cleared, clears, clipped, directory_spans, erase_patches, gps_spans, kept, nowhere, value_span, within, without_gps}
+use Rattle.exif_edit_base.specs.Causes.{of_data, shared}
+use Rattle.exif_edit_base.specs.Patches.{FitsIn, patched, zeros_over}
 use Rattle.exif_entries.specs.Locations.{gps_places}
-use Rattle.exif_edit.specs.Patches.{FitsIn, patched, zeros_over}
+use Rattle.exif_edit_base.specs.Readings.{Read, reading}
+use Rattle.exif_edit_base.specs.declared.patch.Patch.{Patch}
+use Rattle.exif_edit_base.specs.declared.patch.Span.{Span}
+use Rattle.exif_edit_base.proofs.CauseSteps.{bound, data_read, tested}
+use Rattle.exif_edit_base.proofs.FindSteps.{header_named}
+use Rattle.exif_edit_base.proofs.PatchSteps.{AllWithin, length-patched, split, zeroed_at}
+use Rattle.exif_edit.specs.Erasing.{cleared, clears, clipped, directory_spans, erase_patches, gps_spans, kept, nowhere, value_span, within, without_gps}
 use Rattle.exif_edit.specs.Promises.{IsErased, ReadAs}
-use Rattle.exif_edit.specs.Readings.{Read, reading}
 use Rattle.exif_edit.specs.Setting.{value_room}
-use Rattle.exif_edit.specs.declared.patch.Patch.{Patch}
-use Rattle.exif_edit.specs.declared.patch.Span.{Span}
-use Rattle.exif_edit.proofs.CauseSteps.{bound, data_read, tested}
-use Rattle.exif_edit.proofs.FindSteps.{header_named}
-use Rattle.exif_edit.proofs.PatchSteps.{AllWithin, length-patched, split, zeroed_at}
 use Rattle.exif_edit.proofs.ReadSound.{reads_are}
 
 -- ---- the spans lie in the data

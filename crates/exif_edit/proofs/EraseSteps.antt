@@ -8,14 +8,14 @@ use Rattle.exif_base.specs.declared.endian.Order.{Order}
 use Rattle.exif_types.specs.declared.field.Field.{Field}
 use Rattle.exif_reader.specs.declared.stop.Stop.{Stop}
 use Rattle.exif_reader.specs.declared.stop.Stop.TheVariants as stop
-use Rattle.exif_edit.specs.Causes.{Becomes, Fails}
-use Rattle.exif_edit.specs.Erasing.{cleared, directory_spans, erase_patches, gps_spans, kept, without_gps}
+use Rattle.exif_edit_base.specs.Causes.{Becomes, Fails}
+use Rattle.exif_edit_base.specs.Patches.{zeros_over}
 use Rattle.exif_entries.specs.Locations.{gps_places}
-use Rattle.exif_edit.specs.Patches.{zeros_over}
-use Rattle.exif_edit.specs.Readings.{Read, ReadsTo, reading}
-use Rattle.exif_edit.specs.declared.error.Error.{Error}
-use Rattle.exif_edit.specs.declared.patch.Patch.{Patch}
-use Rattle.exif_edit.specs.declared.patch.Span.{Span}
+use Rattle.exif_edit_base.specs.Readings.{Read, ReadsTo, reading}
+use Rattle.exif_edit_base.specs.declared.error.Error.{Error}
+use Rattle.exif_edit_base.specs.declared.patch.Patch.{Patch}
+use Rattle.exif_edit_base.specs.declared.patch.Span.{Span}
+use Rattle.exif_edit.specs.Erasing.{cleared, directory_spans, erase_patches, gps_spans, kept, without_gps}
 use Rattle.exif_reader.proofs.ParserRuns.{spaced_step}
 
 -- one of the entries that are left

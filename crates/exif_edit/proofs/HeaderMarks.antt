@@ -9,9 +9,9 @@ use Rattle.exif_base.specs.declared.endian.Order.TheVariants.{Big, Little}
 use Rattle.exif_tiff.specs.Trace.{header, order_of}
 use Rattle.exif_tiff.specs.declared.fault.Fault.{Fault}
 use Rattle.exif_tiff.specs.declared.fault.Fault.TheVariants.{DataTooLarge, TruncatedHeader, InvalidByteOrder, InvalidFortyTwo}
-use Rattle.exif_edit.specs.Readings.{Read, reading}
-use Rattle.exif_edit.proofs.FindSteps.{header_named}
-use Rattle.exif_edit.proofs.PatchSteps.{split}
+use Rattle.exif_edit_base.specs.Readings.{Read, reading}
+use Rattle.exif_edit_base.proofs.FindSteps.{header_named}
+use Rattle.exif_edit_base.proofs.PatchSteps.{split}
 
 -- the order and the number 42 in it
 abbrev pub IsMarked : List ℕ → Type 0

@@ -15,15 +15,15 @@ use Rattle.exif_tiff.specs.Trace.{header}
 use Rattle.exif_tiff.specs.declared.fault.Fault.{Fault}
 use Rattle.exif_images.specs.Encoding.{encode}
 use Rattle.exif_entries.specs.Locations.{Located, located}
-use Rattle.exif_edit.specs.Finding.{last_located}
-use Rattle.exif_edit.specs.Patches.{FitsIn, patched, put_at}
+use Rattle.exif_edit_base.specs.Finding.{last_located}
+use Rattle.exif_edit_base.specs.Patches.{FitsIn, patched, put_at}
+use Rattle.exif_edit_base.specs.declared.patch.Patch.{Patch}
+use Rattle.exif_edit_base.specs.declared.patch.Span.{Span}
+use Rattle.exif_edit_base.proofs.CauseSteps.{bound, ok_same}
+use Rattle.exif_edit_base.proofs.FindSteps.{header_named}
+use Rattle.exif_edit_base.proofs.PatchSteps.{Misses, fit_behind, fit_in, length-patched, patched_outside, put_before, put_behind, put_on}
 use Rattle.exif_edit.specs.Promises.{SetsBack}
 use Rattle.exif_edit.specs.Setting.{entry_text, room_text, set_answer, set_patches, value_patches, value_room}
-use Rattle.exif_edit.specs.declared.patch.Patch.{Patch}
-use Rattle.exif_edit.specs.declared.patch.Span.{Span}
-use Rattle.exif_edit.proofs.CauseSteps.{bound, ok_same}
-use Rattle.exif_edit.proofs.FindSteps.{header_named}
-use Rattle.exif_edit.proofs.PatchSteps.{Misses, fit_behind, fit_in, length-patched, patched_outside, put_before, put_behind, put_on}
 use Rattle.exif_edit.proofs.SetSound.{Fits, WasSet, both, value_fits, value_lengths, was_set}
 
 -- whether a patch touches the byte at i

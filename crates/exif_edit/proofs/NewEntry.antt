@@ -19,11 +19,11 @@ use Rattle.exif_images.proofs.Images.Entries.{counted, fits_known, value_is}
 use Rattle.exif_images.proofs.Images.Standing.{number_read, stands_left, stands_of, stands_right}
 use Rattle.exif_images.proofs.Images.Values.{length-encode}
 use Rattle.exif_images.proofs.Images.Words.{Fits as IsReadable}
-use Rattle.exif_edit.specs.Patches.{padded, patched, put_at}
+use Rattle.exif_edit_base.specs.Patches.{padded, patched, put_at}
+use Rattle.exif_edit_base.specs.declared.patch.Patch.{Patch}
+use Rattle.exif_edit_base.specs.declared.patch.Span.{Span}
+use Rattle.exif_edit_base.proofs.PatchSteps.{length-put_at, put_before, put_behind}
 use Rattle.exif_edit.specs.Setting.{element_text, entry_text, is_small, room_patches, room_text, set_place, value_room}
-use Rattle.exif_edit.specs.declared.patch.Patch.{Patch}
-use Rattle.exif_edit.specs.declared.patch.Span.{Span}
-use Rattle.exif_edit.proofs.PatchSteps.{length-put_at, put_before, put_behind}
 use Rattle.exif_edit.proofs.SetSound.{Fits, length-spelled, value_lengths}
 
 -- what was put stands

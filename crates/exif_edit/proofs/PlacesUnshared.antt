@@ -19,16 +19,16 @@ use Rattle.exif_tiff.proofs.Agreement.{bytes_same, same_of}
 use Rattle.exif_tiff.proofs.FootprintAnswers.{header_same}
 use Rattle.exif_tiff.proofs.Footprints.{all_flat}
 use Rattle.exif_entries.specs.Locations.{directory_places, gps_of, gps_places}
-use Rattle.exif_edit.specs.Causes.{shared}
+use Rattle.exif_edit_base.specs.Causes.{shared}
+use Rattle.exif_edit_base.specs.Patches.{inside, patched, zeros_over}
+use Rattle.exif_edit_base.specs.Readings.{Read, reading}
+use Rattle.exif_edit_base.specs.declared.patch.Patch.{Patch}
+use Rattle.exif_edit_base.specs.declared.patch.Span.{Span}
+use Rattle.exif_edit_base.proofs.PatchSteps.{length-patched, zeroed_at}
 use Rattle.exif_edit.specs.Erasing.{clears, clipped, directory_spans, erase_patches, gps_spans, kept}
-use Rattle.exif_edit.specs.Patches.{inside, patched, zeros_over}
 use Rattle.exif_edit.specs.PlacesAlone.{AreErasedUnshared, all_kept, places_stand_alone}
-use Rattle.exif_edit.specs.Readings.{Read, reading}
 use Rattle.exif_edit.specs.Sharing.{meets}
-use Rattle.exif_edit.specs.declared.patch.Patch.{Patch}
-use Rattle.exif_edit.specs.declared.patch.Span.{Span}
 use Rattle.exif_edit.proofs.EraseSound.{spans_within, zeros_fit}
-use Rattle.exif_edit.proofs.PatchSteps.{length-patched, zeroed_at}
 use Rattle.exif_edit.proofs.PlacesKept.{Emptied, ordered_kept}
 use Rattle.exif_edit.proofs.Unshared.{missed, named_order, neither, read_in, reading_in, unturned}
 

@@ -1,16 +1,16 @@
 -- The steps of trying a plan.
 use Rattle.std.proofs.Common.{◌≡◌, Bool, true, false, ℕ, List, length, All, Result, Ok, Err, sym, ap, subst, ◌∙◌}
 use Rattle.std.specs.Prelude.{if◌then◌else◌, OnOk}
-use Rattle.exif_edit.specs.Causes.{Cause, Edits, shared}
-use Rattle.exif_edit.specs.Patches.{FitsIn, patched, put_back, swapped}
+use Rattle.exif_edit_base.specs.Causes.{Cause, Edits, shared}
+use Rattle.exif_edit_base.specs.Patches.{FitsIn, patched, put_back, swapped}
+use Rattle.exif_edit_base.specs.declared.error.Error.{Error}
+use Rattle.exif_edit_base.specs.declared.patch.Patch.{Patch}
+use Rattle.exif_edit_base.proofs.CauseSteps.{bound, ok_same}
+use Rattle.exif_edit_base.proofs.PatchSteps.{fit_in, length-patched}
+use Rattle.exif_edit_base.proofs.PutBack.{bytes_put_back, swapped_fit}
 use Rattle.exif_edit.specs.Plans.{carried_out, if_read, is_read, planned}
-use Rattle.exif_edit.specs.declared.error.Error.{Error}
-use Rattle.exif_edit.specs.declared.patch.Patch.{Patch}
 use Rattle.exif_edit.specs.declared.plan.Plan.{Plan}
 use Rattle.exif_edit.specs.declared.plan.Wanted.TheVariants.{Anything}
-use Rattle.exif_edit.proofs.CauseSteps.{bound, ok_same}
-use Rattle.exif_edit.proofs.PatchSteps.{fit_in, length-patched}
-use Rattle.exif_edit.proofs.PutBack.{bytes_put_back, swapped_fit}
 use Rattle.exif_edit.proofs.SetSound.{answer_made, answer_refused}
 
 -- where nothing is wanted the patches are the answer

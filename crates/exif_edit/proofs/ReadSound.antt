@@ -14,10 +14,10 @@ use Rattle.exif_tiff.specs.Answers.{Answer, Refused, answer_of, raw_answer}
 use Rattle.exif_tiff.specs.Trace.{Node, content_of, header, trace, ordered_trace, fields_of, faults_of}
 use Rattle.exif_tiff.specs.declared.fault.Fault.{Fault}
 use Rattle.exif_tiff.specs.declared.fault.Fault.TheVariants.{DataTooLarge, TruncatedHeader, InvalidByteOrder, InvalidFortyTwo, TruncatedCount, TruncatedDirectory, TruncatedNextOffset, TruncatedValue, InvalidPointer, UnexpectedNext, TooManyDirectories, TooManyEntries}
+use Rattle.exif_edit_base.specs.Readings.{Read, fault_eq, is_little, read_eq, reading, reads_as}
+use Rattle.exif_edit_base.proofs.PatchSteps.{split}
+use Rattle.exif_edit_base.proofs.ReadSteps.{reading_by}
 use Rattle.exif_edit.specs.Promises.{ReadAs}
-use Rattle.exif_edit.specs.Readings.{Read, fault_eq, is_little, read_eq, reading, reads_as}
-use Rattle.exif_edit.proofs.PatchSteps.{split}
-use Rattle.exif_edit.proofs.ReadSteps.{reading_by}
 
 -- ---- the tests decide
 

@@ -18,17 +18,17 @@ use Rattle.exif_tiff.specs.declared.fault.Fault.{Fault}
 use Rattle.exif_images.specs.Encoding.{spelled}
 use Rattle.exif_reader.specs.declared.stop.Stop.{Stop}
 use Rattle.exif_reader.specs.declared.stop.Stop.TheVariants as stop
-use Rattle.exif_edit.specs.Causes.{Becomes, Fails, no_field, place_named}
+use Rattle.exif_edit_base.specs.Causes.{Becomes, Fails, no_field, place_named}
 use Rattle.exif_entries.specs.Locations.{located}
-use Rattle.exif_edit.specs.Readings.{Read, ReadsTo, reading}
+use Rattle.exif_edit_base.specs.Readings.{Read, ReadsTo, reading}
+use Rattle.exif_edit_base.specs.declared.error.Error.{Error}
+use Rattle.exif_edit_base.specs.declared.patch.Patch.{Patch}
+use Rattle.exif_entries.specs.Walked.{entry_of}
+use Rattle.exif_edit_base.specs.Patches.{padded, zeros_over}
+use Rattle.exif_edit_base.specs.declared.patch.Span.{Span}
+use Rattle.exif_edit_base.proofs.FindSteps.{field_of, fields_read}
 use Rattle.exif_edit.specs.Removing.{checked_removals, directories_with, directory_without, entries_text, field_patches, has_tag, named_removals, next_text, noted, read_without, removals, removals_from, without_named}
 use Rattle.exif_edit.specs.Setting.{names_places}
-use Rattle.exif_entries.specs.Walked.{entry_of}
-use Rattle.exif_edit.specs.declared.error.Error.{Error}
-use Rattle.exif_edit.specs.declared.patch.Patch.{Patch}
-use Rattle.exif_edit.proofs.FindSteps.{field_of, fields_read}
-use Rattle.exif_edit.specs.Patches.{padded, zeros_over}
-use Rattle.exif_edit.specs.declared.patch.Span.{Span}
 use Rattle.exif_tiff.specs.declared.place.EntryPlace.{EntryPlace}
 use Rattle.exif_edit.proofs.SetSound.{length-padded, length-spelled}
 use Rattle.exif_reader.proofs.ParserRuns.{spaced_step}

@@ -19,7 +19,7 @@ use Rattle.exif_tiff.proofs.Agreement.{number_same, part_same, same_of}
 use Rattle.exif_tiff.proofs.Footprints.{all_flat, end_by, places_by, value_same}
 use Rattle.exif_tiff.proofs.Members.{all_left, all_right}
 use Rattle.exif_tiff.proofs.ReportBound.{faults-append, fields-append}
-use Rattle.exif_edit.specs.Finding.{with_value}
+use Rattle.exif_edit_base.specs.Finding.{with_value}
 use Rattle.exif_edit.specs.Sharing.{all_beside, beside, other_entry}
 
 -- a located field, with the new value if it stands in the entry at e

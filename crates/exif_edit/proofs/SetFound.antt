@@ -14,14 +14,14 @@ use Rattle.exif_tiff.specs.Answers.{answer_of, shown}
 use Rattle.exif_tiff.specs.Trace.{fields_of, faults_of, trace}
 use Rattle.exif_tiff.specs.declared.fault.Fault.{Fault}
 use Rattle.exif_images.specs.Encoding.{moved_to}
-use Rattle.exif_edit.specs.Finding.{last_located, replaced, with_value}
+use Rattle.exif_edit_base.specs.Finding.{last_located, replaced, with_value}
 use Rattle.exif_entries.specs.Locations.{Located, located}
+use Rattle.exif_edit_base.proofs.FindSteps.{any_map, field_of}
+use Rattle.exif_edit_base.proofs.PatchSteps.{split}
+use Rattle.exif_edit_base.proofs.ReadSteps.{is_refused, not_refused, unshown, unshown_shown}
+use Rattle.exif_entries.proofs.LawsLocated.{located_fields}
 use Rattle.exif_edit.specs.Promises.{FindsNone, FindsValue, IsFieldErased, IsSet, told_by}
 use Rattle.exif_edit.specs.Removing.{told_at, without_named}
-use Rattle.exif_edit.proofs.FindSteps.{any_map, field_of}
-use Rattle.exif_entries.proofs.LawsLocated.{located_fields}
-use Rattle.exif_edit.proofs.PatchSteps.{split}
-use Rattle.exif_edit.proofs.ReadSteps.{is_refused, not_refused, unshown, unshown_shown}
 
 -- ---- the last of a name
 

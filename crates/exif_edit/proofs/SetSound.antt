@@ -15,18 +15,18 @@ use Rattle.exif_types.specs.declared.value.Value.{Value}
 use Rattle.exif_tiff.specs.Trace.{fields_of, trace}
 use Rattle.exif_images.specs.Encoding.{encode, moved_to, spelled}
 use Rattle.exif_images.specs.Refused.{is_unknown}
-use Rattle.exif_edit.specs.Causes.{Cause, no_field, of_data, or_cause, place_named, shared, too_long, unknown_type, unless, ◌>>=◌}
-use Rattle.exif_edit.specs.Finding.{find_answer, last_located, replaced}
+use Rattle.exif_edit_base.specs.Causes.{Cause, no_field, of_data, or_cause, place_named, shared, too_long, unknown_type, unless, ◌>>=◌}
+use Rattle.exif_edit_base.specs.Finding.{find_answer, last_located, replaced}
 use Rattle.exif_entries.specs.Locations.{Located, located}
-use Rattle.exif_edit.specs.Patches.{FitsIn, inside, padded, patched}
+use Rattle.exif_edit_base.specs.Patches.{FitsIn, inside, padded, patched}
+use Rattle.exif_edit_base.specs.Readings.{Read, reading, reads_as}
+use Rattle.exif_edit_base.specs.declared.patch.Patch.{Patch}
+use Rattle.exif_edit_base.specs.declared.patch.Span.{Span}
+use Rattle.exif_edit_base.proofs.CauseSteps.{bound, data_read, ok_same, option_told, passed, tested}
+use Rattle.exif_edit_base.proofs.FindSteps.{header_named}
+use Rattle.exif_edit_base.proofs.PatchSteps.{Misses, length-patched, outside_place, patched_outside}
 use Rattle.exif_edit.specs.Promises.{IsSet, ReadAs}
-use Rattle.exif_edit.specs.Readings.{Read, reading, reads_as}
 use Rattle.exif_edit.specs.Setting.{answer_in, checked, checked_patches, entry_text, expected, is_small, names_places, room_patches, room_text, set_patches, set_place, value_answer, value_patches, value_room}
-use Rattle.exif_edit.specs.declared.patch.Patch.{Patch}
-use Rattle.exif_edit.specs.declared.patch.Span.{Span}
-use Rattle.exif_edit.proofs.CauseSteps.{bound, data_read, ok_same, option_told, passed, tested}
-use Rattle.exif_edit.proofs.FindSteps.{header_named}
-use Rattle.exif_edit.proofs.PatchSteps.{Misses, length-patched, outside_place, patched_outside}
 use Rattle.exif_edit.proofs.ReadSound.{reads_are, reads_so}
 
 -- ---- the texts of the patches are as long as their rooms

@@ -11,12 +11,12 @@ use Rattle.exif_types.specs.declared.value.Value.{Value}
 use Rattle.exif_types.specs.declared.field.Field.{Field}
 use Rattle.exif_images.specs.Encoding.{encode, moved_to}
 use Rattle.exif_images.specs.Refused.{is_unknown}
-use Rattle.exif_edit.specs.Causes.{Cause, place_named, shared, too_long, unknown_type}
-use Rattle.exif_edit.specs.Finding.{find_answer, replaced}
-use Rattle.exif_edit.specs.Readings.{Read}
+use Rattle.exif_edit_base.specs.Causes.{Cause, place_named, shared, too_long, unknown_type}
+use Rattle.exif_edit_base.specs.Finding.{find_answer, replaced}
+use Rattle.exif_edit_base.specs.Readings.{Read}
+use Rattle.exif_edit_base.specs.declared.patch.Patch.{Patch}
+use Rattle.exif_edit_base.specs.declared.patch.Span.{Span}
 use Rattle.exif_edit.specs.Setting.{answer_in, checked, checked_patches, expected, names_places, set_patches, set_place, value_answer, value_patches, value_room}
-use Rattle.exif_edit.specs.declared.patch.Patch.{Patch}
-use Rattle.exif_edit.specs.declared.patch.Span.{Span}
 
 -- ---- one edit
 

@@ -16,10 +16,10 @@ use Rattle.exif_types.specs.declared.value.Value.TheVariants as value
 use Rattle.exif_tiff.specs.Trace.{Found, Met, Node, Opens, Visit, header, entry_value, located_of, ordered_trace, trace}
 use Rattle.exif_tiff.specs.declared.fault.Fault.{Fault}
 use Rattle.exif_entries.specs.Locations.{Located, located}
+use Rattle.exif_edit_base.proofs.FindSteps.{field_of}
+use Rattle.exif_edit_base.proofs.LocatedEntries.{AreSaid, ordered_said}
 use Rattle.exif_edit.specs.Promises.{told_by}
 use Rattle.exif_edit.specs.Removing.{told_at, told_in, untold}
-use Rattle.exif_edit.proofs.FindSteps.{field_of}
-use Rattle.exif_edit.proofs.LocatedEntries.{AreSaid, ordered_said}
 
 -- ---- a value of an entry
 

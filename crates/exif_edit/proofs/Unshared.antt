@@ -34,20 +34,20 @@ use Rattle.exif_images.specs.Refused.{is_unknown}
 use Rattle.exif_images.proofs.Images.Fitting.{fits_of}
 use Rattle.exif_entries.specs.Locations.{Located, located}
 use Rattle.exif_entries.proofs.LawsLocated.{ordered_fields}
-use Rattle.exif_edit.specs.Causes.{Cause, place_named, shared, too_long, unknown_type, unless, ◌>>=◌}
-use Rattle.exif_edit.specs.Finding.{find_answer, last_located, replaced, with_value}
-use Rattle.exif_edit.specs.Patches.{FitsIn, inside, patched}
-use Rattle.exif_edit.specs.Readings.{Read, fault_eq, is_little, read_eq, reading, reads_as}
+use Rattle.exif_edit_base.specs.Causes.{Cause, place_named, shared, too_long, unknown_type, unless, ◌>>=◌}
+use Rattle.exif_edit_base.specs.Finding.{find_answer, last_located, replaced, with_value}
+use Rattle.exif_edit_base.specs.Patches.{FitsIn, inside, patched}
+use Rattle.exif_edit_base.specs.Readings.{Read, fault_eq, is_little, read_eq, reading, reads_as}
+use Rattle.exif_edit_base.specs.declared.patch.Patch.{Patch}
+use Rattle.exif_edit_base.specs.declared.patch.Span.{Span}
+use Rattle.exif_edit_base.proofs.FindSteps.{any_map, field_of}
+use Rattle.exif_edit_base.proofs.LocatedEntries.{IsSaid, last_said}
+use Rattle.exif_edit_base.proofs.PatchSteps.{length-patched, patched_outside, split}
+use Rattle.exif_edit_base.proofs.ReadSteps.{header_room, reading_by}
 use Rattle.exif_edit.specs.Setting.{checked, checked_patches, expected, names_places, set_patches, set_place, value_answer, value_patches, value_room}
 use Rattle.exif_edit.specs.Sharing.{IsSetUnshared, all_beside, changed_entry, meets, names_child, standing_at, stands_alone}
-use Rattle.exif_edit.specs.declared.patch.Patch.{Patch}
-use Rattle.exif_edit.specs.declared.patch.Span.{Span}
-use Rattle.exif_edit.proofs.FindSteps.{any_map, field_of}
-use Rattle.exif_edit.proofs.LocatedEntries.{IsSaid, last_said}
 use Rattle.exif_edit.proofs.NewEntry.{new_value}
-use Rattle.exif_edit.proofs.PatchSteps.{length-patched, patched_outside, split}
 use Rattle.exif_edit.proofs.ReadSound.{fault_Decides}
-use Rattle.exif_edit.proofs.ReadSteps.{header_room, reading_by}
 use Rattle.exif_edit.proofs.Renewed.{ordered_told, renewed}
 use Rattle.exif_edit.proofs.SetSound.{Fits, value_fits, value_misses}
 

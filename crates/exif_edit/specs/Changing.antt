@@ -3,10 +3,10 @@ use Rattle.std.specs.Prelude.{◌≡◌, ℕ, ◌||◌, Bool, List, length}
 use Rattle.std.specs.List.{list_any}
 use Rattle.exif_base.specs.Bytes.{Reading}
 use Rattle.exif_tiff.specs.Footprint.{Stretch}
+use Rattle.exif_edit_base.specs.declared.patch.Patch.{Patch}
 use Rattle.exif_edit.specs.Erasing.{gps_spans}
 use Rattle.exif_edit.specs.Setting.{value_room}
 use Rattle.exif_edit.specs.Sharing.{changed_entry, meets}
-use Rattle.exif_edit.specs.declared.patch.Patch.{Patch}
 
 -- whether a patch has a byte of a stretch
 abbrev pub covers : Stretch → Patch → Bool

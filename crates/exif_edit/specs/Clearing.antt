@@ -4,9 +4,9 @@ use Rattle.exif_base.specs.declared.endian.Order.{Order}
 use Rattle.exif_tiff.specs.Answers.{Whole, raw_answer}
 use Rattle.exif_tiff.specs.Trace.{header}
 use Rattle.exif_images.specs.Encoding.{spelled}
-use Rattle.exif_edit.specs.Causes.{Cause, of_data, ◌>>=◌}
-use Rattle.exif_edit.specs.Patches.{patched, zeros_over}
-use Rattle.exif_edit.specs.declared.patch.Patch.{Patch}
+use Rattle.exif_edit_base.specs.Causes.{Cause, of_data, ◌>>=◌}
+use Rattle.exif_edit_base.specs.Patches.{patched, zeros_over}
+use Rattle.exif_edit_base.specs.declared.patch.Patch.{Patch}
 
 -- where the directory of the chain stands then: behind the header, or nowhere where there is no room
 -- for its count and its next place

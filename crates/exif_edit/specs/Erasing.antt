@@ -10,13 +10,13 @@ use Rattle.exif_table.specs.declared.context.Context.TheVariants.{Tiff, Exif, Gp
 use Rattle.exif_types.specs.FieldEq.{field_eq}
 use Rattle.exif_types.specs.declared.field.Field.{Field}
 use Rattle.exif_tiff.specs.Trace.{whole_entries, entry_places}
-use Rattle.exif_edit.specs.Causes.{Cause, of_data, shared, ◌>>=◌}
+use Rattle.exif_edit_base.specs.Causes.{Cause, of_data, shared, ◌>>=◌}
 use Rattle.exif_entries.specs.Locations.{gps_places}
-use Rattle.exif_edit.specs.Patches.{patched, zeros_over}
-use Rattle.exif_edit.specs.Readings.{Read, reading}
+use Rattle.exif_edit_base.specs.Patches.{patched, zeros_over}
+use Rattle.exif_edit_base.specs.Readings.{Read, reading}
+use Rattle.exif_edit_base.specs.declared.patch.Patch.{Patch}
+use Rattle.exif_edit_base.specs.declared.patch.Span.{Span}
 use Rattle.exif_edit.specs.Setting.{value_room}
-use Rattle.exif_edit.specs.declared.patch.Patch.{Patch}
-use Rattle.exif_edit.specs.declared.patch.Span.{Span}
 
 -- no span
 abbrev pub nowhere : Span

@@ -5,12 +5,12 @@ use Rattle.exif_base.specs.declared.endian.Order.TheVariants.{Big}
 use Rattle.exif_table.specs.declared.context.Context.TheVariants.{Tiff}
 use Rattle.exif_types.specs.declared.value.Value.TheVariants as value
 use Rattle.exif_tiff.specs.Trace.{trace, ordered_trace}
-use Rattle.exif_edit.specs.Causes.{no_field, place_named, too_long}
-use Rattle.exif_edit.specs.Erasing.{erase_answer, erase_patches, gps_spans}
-use Rattle.exif_edit.specs.Finding.{find_answer}
+use Rattle.exif_edit_base.specs.Causes.{no_field, place_named, too_long}
+use Rattle.exif_edit_base.specs.Finding.{find_answer}
+use Rattle.exif_edit_base.specs.Readings.{reading}
 use Rattle.exif_entries.specs.Locations.{directory_places, gps_places, located}
+use Rattle.exif_edit.specs.Erasing.{erase_answer, erase_patches, gps_spans}
 use Rattle.exif_edit.specs.PlacesAlone.{places_stand_alone}
-use Rattle.exif_edit.specs.Readings.{reading}
 use Rattle.exif_edit.specs.Sharing.{stands_alone}
 use Rattle.exif_edit.specs.Setting.{checked_patches, set_answer, set_patches, value_answer}
 

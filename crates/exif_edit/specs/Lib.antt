@@ -1,17 +1,10 @@
-pub mod Apart
-pub mod Causes
 pub mod Changing
 pub mod Clearing
 pub mod Erasing
 pub mod Examples
-pub mod FieldsApart
-pub mod FieldsApartExamples
-pub mod Finding
-pub mod Patches
 pub mod PlacesAlone
 pub mod Plans
 pub mod Promises
-pub mod Readings
 pub mod Removing
 pub mod Setting
 pub mod Sharing

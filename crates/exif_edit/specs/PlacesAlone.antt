@@ -7,8 +7,8 @@ use Rattle.exif_base.specs.declared.endian.Order.{Order}
 use Rattle.exif_table.specs.declared.context.Context.TheVariants.{Tiff}
 use Rattle.exif_tiff.specs.Footprint.{Below, Stretch, entry_directories, following, looked_at}
 use Rattle.exif_tiff.specs.Trace.{depth_of, directory_end, entry_places, header}
+use Rattle.exif_edit_base.specs.Patches.{zeros_over}
 use Rattle.exif_edit.specs.Erasing.{erase_patches, gps_spans, is_gps}
-use Rattle.exif_edit.specs.Patches.{zeros_over}
 use Rattle.exif_edit.specs.Sharing.{meets}
 
 -- the directories below, but those of GPS data

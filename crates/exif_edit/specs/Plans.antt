@@ -1,12 +1,12 @@
 -- What an edit means to do: its patches, and how the data must be read with them.
 use Rattle.std.specs.Prelude.{◌≡◌, Bool, true, ℕ, List, Result, Ok, Err, if◌then◌else◌}
-use Rattle.exif_edit.specs.Causes.{Cause, Fails, shared, ◌>>=◌}
+use Rattle.exif_edit_base.specs.Causes.{Cause, Fails, shared, ◌>>=◌}
+use Rattle.exif_edit_base.specs.Patches.{patched}
+use Rattle.exif_edit_base.specs.Readings.{read_of, reads_as}
+use Rattle.exif_edit_base.specs.declared.error.Error.{Error}
+use Rattle.exif_edit_base.specs.declared.patch.Patch.{Patch}
 use Rattle.exif_edit.specs.Erasing.{clears}
-use Rattle.exif_edit.specs.Patches.{patched}
-use Rattle.exif_edit.specs.Readings.{read_of, reads_as}
 use Rattle.exif_edit.specs.Removing.{still_reads}
-use Rattle.exif_edit.specs.declared.error.Error.{Error}
-use Rattle.exif_edit.specs.declared.patch.Patch.{Patch}
 use Rattle.exif_edit.specs.declared.plan.Plan.{Plan}
 use Rattle.exif_edit.specs.declared.plan.Wanted.{Wanted}
 use Rattle.exif_edit.specs.declared.plan.Wanted.TheVariants.{Anything, Same, Cleared, Left}

@@ -12,12 +12,12 @@ use Rattle.exif_types.specs.declared.ifd.In.{In}
 use Rattle.exif_types.specs.declared.value.Value.{Value}
 use Rattle.exif_images.specs.Encoding.{encode, moved_to, spelled}
 use Rattle.exif_images.specs.Refused.{is_unknown}
-use Rattle.exif_edit.specs.Causes.{Cause, place_named, shared, too_long, unless, unknown_type, ◌>>=◌}
-use Rattle.exif_edit.specs.Finding.{find_answer, replaced}
-use Rattle.exif_edit.specs.Patches.{padded, patched}
-use Rattle.exif_edit.specs.Readings.{Read, reads_as}
-use Rattle.exif_edit.specs.declared.patch.Patch.{Patch}
-use Rattle.exif_edit.specs.declared.patch.Span.{Span}
+use Rattle.exif_edit_base.specs.Causes.{Cause, place_named, shared, too_long, unless, unknown_type, ◌>>=◌}
+use Rattle.exif_edit_base.specs.Finding.{find_answer, replaced}
+use Rattle.exif_edit_base.specs.Patches.{padded, patched}
+use Rattle.exif_edit_base.specs.Readings.{Read, reads_as}
+use Rattle.exif_edit_base.specs.declared.patch.Patch.{Patch}
+use Rattle.exif_edit_base.specs.declared.patch.Span.{Span}
 
 -- the tags of context Tiff whose values say where other bytes stand, or how many: strips, free
 -- bytes, tiles, child directories, thumbnails and their tables (TIFF 6.0, sections 8, 15, 22 and its

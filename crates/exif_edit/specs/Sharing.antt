@@ -15,11 +15,11 @@ use Rattle.exif_images.specs.Encoding.{encode}
 use Rattle.exif_images.specs.Ranged.{IsRanged}
 use Rattle.exif_images.specs.Refused.{is_unknown}
 use Rattle.exif_entries.specs.Locations.{Located, located}
-use Rattle.exif_edit.specs.Causes.{Cause, place_named, too_long, unknown_type, unless, ◌>>=◌}
-use Rattle.exif_edit.specs.Finding.{last_located}
+use Rattle.exif_edit_base.specs.Causes.{Cause, place_named, too_long, unknown_type, unless, ◌>>=◌}
+use Rattle.exif_edit_base.specs.Finding.{last_located}
+use Rattle.exif_edit_base.specs.declared.patch.Patch.{Patch}
+use Rattle.exif_edit_base.specs.declared.patch.Span.{Span}
 use Rattle.exif_edit.specs.Setting.{names_places, set_patches, value_patches, value_room}
-use Rattle.exif_edit.specs.declared.patch.Patch.{Patch}
-use Rattle.exif_edit.specs.declared.patch.Span.{Span}
 
 -- whether a stretch has a byte of a span
 abbrev pub meets : Span → Stretch → Bool

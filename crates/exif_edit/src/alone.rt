@@ -7,16 +7,16 @@ ghost use Rattle.exif_base.specs.Orders.{number_of};
 ghost use Rattle.exif_tiff.specs.Footprint.{looked_at, value_stretch};
 ghost use Rattle.exif_tiff.specs.Trace.{entry_places, header};
 ghost use Rattle.exif_entries.specs.Walked.{Finds};
+ghost use Rattle.exif_edit_base.specs.Patches.{FitsIn};
 ghost use Rattle.exif_edit.specs.Changing.{ChangeEntry, ChangePlaces, changes, covers};
 ghost use Rattle.exif_edit.specs.Erasing.{is_gps};
-ghost use Rattle.exif_edit.specs.Patches.{FitsIn};
 ghost use Rattle.exif_edit.specs.PlacesAlone.{places_stand_alone};
 ghost use Rattle.exif_edit.specs.Sharing.{beside, other_entry, stands_alone};
 
 use crate::erase::{value_span, whole_entries};
-use crate::patch::Patch;
 use crate::set::value_room;
 use exif_base::Order;
+use exif_edit_base::patch::Patch;
 use exif_entries::{DirectoryPlace, EntryPlace, Walk};
 use exif_types::Context;
 

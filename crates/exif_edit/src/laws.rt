@@ -1,15 +1,9 @@
 //! Laws of edits. They hold for all bytes, and speak of the definitions alone.
 
-ghost use Rattle.std.specs.Prelude.{◌≡◌, ℕ, List, None};
-ghost use Rattle.exif_base.specs.declared.endian.Order.{Order as Endian};
+ghost use Rattle.std.specs.Prelude.{ℕ, List};
 ghost use Rattle.exif_types.specs.declared.ifd.In.{In as Ifd};
 ghost use Rattle.exif_types.specs.declared.tag.Tag.{Tag as Name};
 ghost use Rattle.exif_types.specs.declared.value.Value.{Value as Content};
-ghost use Rattle.exif_images.specs.Groups.{Group};
-ghost use Rattle.exif_images.specs.Ranged.{AreRanged, HavePlainTexts};
-ghost use Rattle.exif_images.specs.Refused.{write_fault};
-ghost use Rattle.exif_edit.specs.Apart.{AreErasedApart, AreErasedInImage, EachStandsAlone, IsSetApart, IsSetInImage, LastStandsAlone, PlacesStandAlone};
-ghost use Rattle.exif_edit.specs.FieldsApart.{FieldsAreErasedApart};
 ghost use Rattle.exif_edit.specs.PlacesAlone.{AreErasedUnshared};
 ghost use Rattle.exif_edit.specs.Promises.{SetsBack};
 ghost use Rattle.exif_edit.specs.Sharing.{IsSetUnshared};
@@ -33,35 +27,4 @@ pub fn a_value_that_stands_alone_is_set()
 /// erased, and never refused as shared.
 pub fn places_that_stand_alone_are_erased()
     ensures { (bytes : List ℕ) → AreErasedUnshared bytes }
-{}
-
-/// Where reading looks at no byte of the data as two things, each field stands alone, so the last
-/// of each name does, and GPS directories with their values do.
-pub fn what_is_looked_at_once_stands_alone()
-    ensures each { (bytes : List ℕ) → EachStandsAlone bytes }
-    ensures last { (tag : Name) (k : Ifd) (bytes : List ℕ) → LastStandsAlone tag k bytes }
-    ensures places { (bytes : List ℕ) → PlacesStandAlone bytes }
-{}
-
-/// So a value is set there if it fits, and places are erased: neither edit is refused as shared.
-/// Nor is it in an image, the bytes that are written of groups, where no pushed text holds a zero
-/// byte. The numbers of the value fit their types, its texts hold no zero byte, and its tag's
-/// number names no child directory.
-pub fn what_is_looked_at_once_is_edited()
-    ensures values { (tag : Name) (k : Ifd) (value : Content) (bytes : List ℕ)
-        → IsSetApart tag k value bytes }
-    ensures places { (bytes : List ℕ) → AreErasedApart bytes }
-    ensures values_in_images { (tag : Name) (k : Ifd) (value : Content) (order : Endian)
-        (groups : List Group)
-        → AreRanged groups → HavePlainTexts groups → write_fault groups ≡ None
-        → IsSetInImage tag k value order groups }
-    ensures places_in_images { (order : Endian) (groups : List Group)
-        → AreRanged groups → HavePlainTexts groups → write_fault groups ≡ None
-        → AreErasedInImage order groups }
-{}
-
-/// Where reading looks at no byte of the data as two things, the fields of a name are erased, and
-/// never refused as shared. Their tag is none whose values say where other bytes stand.
-pub fn fields_looked_at_once_are_erased()
-    ensures { (tag : Name) (k : Ifd) (bytes : List ℕ) → FieldsAreErasedApart tag k bytes }
 {}

@@ -11,19 +11,14 @@
 mod alone;
 mod clear;
 mod erase;
-mod error;
-mod find;
 pub mod laws;
-pub mod patch;
 mod plan;
-mod read;
 mod remove;
 mod set;
 mod spell;
 
 pub use clear::{erase_all, erase_all_patches};
 pub use erase::{erase_places, erase_places_patches};
-pub use error::Error;
-pub use patch::Patch;
+pub use exif_edit_base::{Error, Patch};
 pub use remove::{erase_field, erase_field_patches};
 pub use set::{set_value, set_value_patches};

@@ -1,15 +1,15 @@
 //! What an edit means to do: its patches, and how the data must be read with them.
 
 ghost use Rattle.std.specs.Prelude.{◌≡◌, All, length, IfOk};
-ghost use Rattle.exif_edit.specs.Causes.{Edits, Makes};
-ghost use Rattle.exif_edit.specs.Patches.{FitsIn};
+ghost use Rattle.exif_edit_base.specs.Causes.{Edits, Makes};
+ghost use Rattle.exif_edit_base.specs.Patches.{FitsIn};
 ghost use Rattle.exif_edit.specs.Plans.{carried_out, is_read, planned};
 
 use crate::erase::clears;
-use crate::error::Error;
-use crate::patch::{Patch, exchange, patched, put_back};
-use crate::read::reads_as;
 use crate::remove::still_reads;
+use exif_edit_base::Error;
+use exif_edit_base::patch::{Patch, exchange, patched, put_back};
+use exif_edit_base::read::reads_as;
 use exif_reader::tiff::Parsed;
 use std::alloc::{AllocError, Global};
 

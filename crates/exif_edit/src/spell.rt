@@ -6,8 +6,8 @@ ghost use Rattle.exif_types.specs.ValueTypes.{count_of};
 ghost use Rattle.exif_images.specs.Encoding.{encode};
 ghost use Rattle.exif_images.specs.Refused.{is_unknown};
 
-use crate::patch::padded;
 use exif_base::{Counted, Order};
+use exif_edit_base::patch::padded;
 use exif_images::item::{send_value, spelled_u16, spelled_u32};
 use exif_types::Value;
 use std::alloc::{AllocError, Global};

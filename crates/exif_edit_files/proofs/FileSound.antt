@@ -10,13 +10,13 @@ use Rattle.std.proofs.lemmas.List.Elements.{All-nil, All-cons, All-head, All-tai
 use Rattle.exif_base.specs.Bytes.{bytes_at, spaced}
 use Rattle.exif_types.specs.Refusals.{Refusal}
 use Rattle.exif_containers.specs.Container.{begins_tiff, container_answer}
-use Rattle.exif_edit.specs.Causes.{of_container, picture, scattered, ◌>>=◌}
+use Rattle.exif_edit_base.specs.Causes.{of_container, picture, scattered, ◌>>=◌}
+use Rattle.exif_edit_base.specs.Patches.{FitsIn, patched}
+use Rattle.exif_edit_base.specs.declared.patch.Patch.{Patch}
+use Rattle.exif_edit_base.proofs.CauseSteps.{bound, data_held, ok_same, option_told, passed}
+use Rattle.exif_edit_base.proofs.PatchSteps.{Misses, length-patched, patched_outside, split}
 use Rattle.exif_edit.specs.Clearing.{clear_patches}
 use Rattle.exif_edit_files.specs.InFiles.{Edit, IsEditedIn, clear_file_patches, holds, in_file, place_answer, place_for, placed, search_answer, serves, serves_as_told, shifted, told_place}
-use Rattle.exif_edit.specs.Patches.{FitsIn, patched}
-use Rattle.exif_edit.specs.declared.patch.Patch.{Patch}
-use Rattle.exif_edit.proofs.CauseSteps.{bound, data_held, ok_same, option_told, passed}
-use Rattle.exif_edit.proofs.PatchSteps.{Misses, length-patched, patched_outside, split}
 
 -- ---- the place that serves
 

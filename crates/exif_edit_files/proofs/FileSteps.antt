@@ -8,13 +8,13 @@ use Rattle.exif_base.specs.Bytes.{spaced}
 use Rattle.exif_types.specs.Refusals.{Refusal}
 use Rattle.exif_containers.specs.Answer.{Answer, found}
 use Rattle.exif_containers.specs.Container.{begins_tiff, container_answer}
-use Rattle.exif_edit.specs.Causes.{Cause, of_container, or_cause, picture, scattered}
+use Rattle.exif_edit_base.specs.Causes.{Cause, of_container, or_cause, picture, scattered}
+use Rattle.exif_edit_base.specs.Patches.{FitsIn}
+use Rattle.exif_edit_base.specs.declared.patch.Patch.{Patch}
+use Rattle.exif_edit_base.proofs.ChangeSteps.{left_step}
 use Rattle.exif_edit.specs.Clearing.{clear_patches}
 use Rattle.exif_edit_files.specs.InFiles.{Edit, clear_file_patches, in_file, place_answer, place_for, placed, search_answer, serves, serves_as_told, told_place}
-use Rattle.exif_edit.specs.Patches.{FitsIn}
 use Rattle.exif_edit_files.specs.Pieces.{piece_in, place_before}
-use Rattle.exif_edit.specs.declared.patch.Patch.{Patch}
-use Rattle.exif_edit.proofs.ChangeSteps.{left_step}
 use Rattle.exif_reader.proofs.ParserRuns.{spaced_step}
 
 -- ---- the search of the place

@@ -8,12 +8,12 @@ use Rattle.std.proofs.lemmas.Slice.Eq.{bytes_eq-Decides}
 use Rattle.std.proofs.lemmas.List.Elements.{All-weaker}
 use Rattle.exif_base.specs.Bytes.{bytes_at}
 use Rattle.exif_containers.specs.Container.{container_answer}
-use Rattle.exif_edit.specs.Causes.{Cause, Edits, of_container, ◌>>=◌}
-use Rattle.exif_edit.specs.Patches.{FitsIn, patched, put_at, put_back, swapped, swapped_back}
-use Rattle.exif_edit.specs.declared.error.Error.{Error}
-use Rattle.exif_edit.specs.declared.patch.Patch.{Patch}
-use Rattle.exif_edit.proofs.PatchSteps.{fit_in, length-patched}
-use Rattle.exif_edit.proofs.PutBack.{bytes_put_back, in_three, length-bytes_at, patches_put_back, put_twice, swapped_fit, text_there}
+use Rattle.exif_edit_base.specs.Causes.{Cause, Edits, of_container, ◌>>=◌}
+use Rattle.exif_edit_base.specs.Patches.{FitsIn, patched, put_at, put_back, swapped, swapped_back}
+use Rattle.exif_edit_base.specs.declared.error.Error.{Error}
+use Rattle.exif_edit_base.specs.declared.patch.Patch.{Patch}
+use Rattle.exif_edit_base.proofs.PatchSteps.{fit_in, length-patched}
+use Rattle.exif_edit_base.proofs.PutBack.{bytes_put_back, in_three, length-bytes_at, patches_put_back, put_twice, swapped_fit, text_there}
 use Rattle.exif_edit_files.specs.InFiles.{Edit, Tries, edited_file, holds, in_file, place_answer, placed, placed_file, search_answer, searched_file, serves, shifted}
 use Rattle.exif_edit_files.proofs.FileSteps.{file_placed}
 use Rattle.exif_edit_files.proofs.StreamSound.{patched_front}

@@ -10,12 +10,12 @@ use Rattle.exif_base.specs.Bytes.{bytes_at, spaced}
 use Rattle.exif_types.specs.Refusals.{Refusal}
 use Rattle.exif_containers.specs.Answer.{Answer, found}
 use Rattle.exif_containers.specs.Container.{container_answer}
-use Rattle.exif_edit.specs.Causes.{of_container, ◌>>=◌}
+use Rattle.exif_edit_base.specs.Causes.{of_container, ◌>>=◌}
+use Rattle.exif_edit_base.specs.Patches.{FitsIn, patched}
+use Rattle.exif_edit_base.specs.declared.patch.Patch.{Patch}
 use Rattle.exif_edit_files.specs.InFiles.{Edit, holds, piece_place, place_answer, search_answer, serves, serves_as_told, shifted, told_place}
-use Rattle.exif_edit.specs.Patches.{FitsIn, patched}
 use Rattle.exif_edit_files.specs.Pieces.{piece_in, place_before}
 use Rattle.exif_edit_files.specs.Streams.{IsEditedAlike}
-use Rattle.exif_edit.specs.declared.patch.Patch.{Patch}
 use Rattle.exif_edit_files.proofs.FileSteps.{file_placed, place_as_told, place_found, place_searched, told_found, told_refused}
 use Rattle.exif_edit_files.proofs.FileSound.{told_serves}
 use Rattle.exif_edit_files.proofs.StreamSound.{PieceAt, piece_at, streamed_at}

@@ -18,14 +18,14 @@ use Rattle.exif_containers.specs.Webp.{webp_answer}
 use Rattle.exif_containers.specs.WebpGrammar.{print_header}
 use Rattle.exif_containers.specs.declared.container.Format.{Format}
 use Rattle.exif_containers.specs.declared.container.Format.TheVariants.{Tiff, Jpeg, Heif, WebP}
-use Rattle.exif_edit.specs.Causes.{of_container, ◌>>=◌}
+use Rattle.exif_edit_base.specs.Causes.{of_container, ◌>>=◌}
+use Rattle.exif_edit_base.specs.Patches.{FitsIn, patched, put_at}
+use Rattle.exif_edit_base.specs.declared.patch.Patch.{Patch}
+use Rattle.exif_edit_base.proofs.CauseSteps.{bound, data_held, ok_same}
+use Rattle.exif_edit_base.proofs.PatchSteps.{Misses, fit_behind, length-patched, patched_outside}
 use Rattle.exif_edit_files.specs.InFiles.{Edit, IsEditedIn, shifted}
-use Rattle.exif_edit.specs.Patches.{FitsIn, patched, put_at}
 use Rattle.exif_edit_files.specs.Streams.{in_stream, piece_as, piece_in, place_before, whole_file}
-use Rattle.exif_edit.specs.declared.patch.Patch.{Patch}
-use Rattle.exif_edit.proofs.CauseSteps.{bound, data_held, ok_same}
 use Rattle.exif_edit_files.proofs.FileSound.{StaysIn, shifted_fit, shifted_miss}
-use Rattle.exif_edit.proofs.PatchSteps.{Misses, fit_behind, length-patched, patched_outside}
 use Rattle.exif_edit_files.proofs.Splicing.{jpeg_around, refused_found, webp_around}
 
 -- ---- the container of a file whose data are replaced

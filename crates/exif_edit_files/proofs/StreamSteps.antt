@@ -15,14 +15,14 @@ use Rattle.exif_containers.specs.Container.{format_in}
 use Rattle.exif_containers.specs.Jpeg.{jpeg_answer}
 use Rattle.exif_containers.specs.declared.container.Format.{Format}
 use Rattle.exif_containers.specs.declared.container.Format.TheVariants.{Jpeg}
-use Rattle.exif_edit.specs.Causes.{Cause, Fails as FailsAs, Stops, cause_of, no_data, ◌>>=◌}
+use Rattle.exif_edit_base.specs.Causes.{Cause, Fails as FailsAs, Stops, cause_of, no_data, ◌>>=◌}
+use Rattle.exif_edit_base.specs.Patches.{FitsIn, patched}
+use Rattle.exif_edit_base.specs.declared.error.Error.{Error}
+use Rattle.exif_edit_base.specs.declared.error.Error.TheVariants as error
+use Rattle.exif_edit_base.specs.declared.patch.Patch.{Patch}
+use Rattle.exif_edit_base.proofs.CauseSteps.{bound}
 use Rattle.exif_edit_files.specs.InFiles.{Edit, IsEditedIn, shifted}
-use Rattle.exif_edit.specs.Patches.{FitsIn, patched}
 use Rattle.exif_edit_files.specs.Streams.{IsStopped, in_stream, piece_as, piece_in, place_before}
-use Rattle.exif_edit.specs.declared.error.Error.{Error}
-use Rattle.exif_edit.specs.declared.error.Error.TheVariants as error
-use Rattle.exif_edit.specs.declared.patch.Patch.{Patch}
-use Rattle.exif_edit.proofs.CauseSteps.{bound}
 use Rattle.exif_edit_files.proofs.FileSound.{StaysIn, shifted_fit}
 use Rattle.exif_edit_files.proofs.StreamSound.{piece_around, piece_by, stream_sound, take_small}
 

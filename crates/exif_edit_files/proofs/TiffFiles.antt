@@ -12,15 +12,15 @@ use Rattle.exif_types.specs.declared.value.Value.{Value}
 use Rattle.exif_containers.specs.Answer.{Answer}
 use Rattle.exif_containers.specs.Container.{begins_tiff, format_in}
 use Rattle.exif_containers.proofs.ContainerSteps.{tiff_is_whole}
-use Rattle.exif_edit.specs.Causes.{Cause, Edits, of_container, ◌>>=◌}
+use Rattle.exif_edit_base.specs.Causes.{Cause, Edits, of_container, ◌>>=◌}
+use Rattle.exif_edit_base.specs.Patches.{patched}
+use Rattle.exif_edit_base.specs.Readings.{Read, reading}
+use Rattle.exif_edit_base.specs.declared.error.Error.{Error}
+use Rattle.exif_edit_base.specs.declared.patch.Patch.{Patch}
+use Rattle.exif_edit_base.proofs.CauseSteps.{bound, ok_same}
 use Rattle.exif_edit.specs.Erasing.{erase_patches}
-use Rattle.exif_edit.specs.Patches.{patched}
 use Rattle.exif_edit.specs.Removing.{field_patches}
-use Rattle.exif_edit.specs.Readings.{Read, reading}
 use Rattle.exif_edit.specs.Setting.{set_patches}
-use Rattle.exif_edit.specs.declared.error.Error.{Error}
-use Rattle.exif_edit.specs.declared.patch.Patch.{Patch}
-use Rattle.exif_edit.proofs.CauseSteps.{bound, ok_same}
 use Rattle.exif_edit.proofs.EraseSound.{was_erased}
 use Rattle.exif_edit.proofs.HeaderMarks.{IsMarked, reading_marked}
 use Rattle.exif_edit.proofs.RemoveSound.{named_of_field, was_removed}

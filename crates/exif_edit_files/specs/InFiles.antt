@@ -5,11 +5,11 @@ use Rattle.std.specs.Str.{bytes_eq}
 use Rattle.std.specs.declared.alloc.AllocError.{AllocError}
 use Rattle.exif_base.specs.Bytes.{bytes_at, spaced}
 use Rattle.exif_containers.specs.Container.{begins_tiff, container_answer}
-use Rattle.exif_edit.specs.Causes.{Cause, of_container, or_cause, picture, scattered, unless, ◌>>=◌}
+use Rattle.exif_edit_base.specs.Causes.{Cause, of_container, or_cause, picture, scattered, unless, ◌>>=◌}
+use Rattle.exif_edit_base.specs.Patches.{patched}
+use Rattle.exif_edit_base.specs.declared.patch.Patch.{Patch}
 use Rattle.exif_edit.specs.Clearing.{clear_patches}
-use Rattle.exif_edit.specs.Patches.{patched}
 use Rattle.exif_edit_files.specs.Pieces.{piece_in, place_before}
-use Rattle.exif_edit.specs.declared.patch.Patch.{Patch}
 
 -- an edit: what is put over data, or why that is refused
 abbrev pub Edit : Type 0

@@ -3,14 +3,14 @@
 use Rattle.std.specs.Prelude.{◌≡◌, ◌<◌, ◌^◌, ⊤, ℕ, All, Bool, false, List, length, map, Result, Ok, Err, MatchOption, ◌++◌}
 use Rattle.exif_types.specs.Refusals.{IsInterrupted, is_io_error}
 use Rattle.exif_containers.specs.Answer.{Answer, found}
-use Rattle.exif_edit.specs.Causes.{Cause, cause_of, of_container, ◌>>=◌}
+use Rattle.exif_edit_base.specs.Causes.{Cause, cause_of, of_container, ◌>>=◌}
+use Rattle.exif_edit_base.specs.Patches.{FitsIn}
+use Rattle.exif_edit_base.specs.declared.patch.Patch.{Patch}
 use Rattle.exif_edit_files.specs.InFiles.{Edit, in_file, shifted}
-use Rattle.exif_edit.specs.Patches.{FitsIn}
-use Rattle.exif_edit.specs.declared.patch.Patch.{Patch}
 pub use Rattle.exif_edit_files.specs.Pieces.{piece_as, place_before, whole_file}
 unfoldable pub use Rattle.exif_edit_files.specs.Pieces.{piece_in}
-use Rattle.exif_edit.specs.declared.error.Error.{Error}
-use Rattle.exif_edit.specs.declared.error.Error.TheVariants as error
+use Rattle.exif_edit_base.specs.declared.error.Error.{Error}
+use Rattle.exif_edit_base.specs.declared.error.Error.TheVariants as error
 
 -- what edits the data of a file, or why that is refused
 unfoldable pub in_stream : Edit → Edit

@@ -2,24 +2,24 @@
 
 ghost use Rattle.std.specs.Prelude.{◌≡◌, ◌≤◌, ◌<◌, ◌+◌, ◌^◌, All, Ok, length, map, IfOk, OnOk};
 ghost use Rattle.exif_containers.specs.Container.{container_answer};
-ghost use Rattle.exif_edit.specs.Causes.{Edits, Makes, of_container};
+ghost use Rattle.exif_edit_base.specs.Causes.{Edits, Makes, of_container};
+ghost use Rattle.exif_edit_base.specs.Patches.{FitsIn, patched};
 ghost use Rattle.exif_edit.specs.Clearing.{clear_patches};
 ghost use Rattle.exif_edit.specs.Erasing.{erase_patches};
-ghost use Rattle.exif_edit_files.specs.InFiles.{IsEditedIn, clear_file_patches, edited_file, holds, in_file, piece_place, place_answer, placed, search_answer, serves, shifted};
-ghost use Rattle.exif_edit.specs.Patches.{FitsIn, patched};
 ghost use Rattle.exif_edit.specs.Removing.{field_patches};
 ghost use Rattle.exif_edit.specs.Setting.{set_patches};
+ghost use Rattle.exif_edit_files.specs.InFiles.{IsEditedIn, clear_file_patches, edited_file, holds, in_file, piece_place, place_answer, placed, search_answer, serves, shifted};
 
 use crate::in_place::put_in_file;
 use crate::stream::piece_in;
 use exif_base::Counted;
 use exif_containers::container::is_tiff;
 use exif_containers::exif_attr_of_stream;
-use exif_edit::patch::{patched, put};
 use exif_edit::{
     Error, Patch, erase_all_patches, erase_field, erase_field_patches, erase_places,
     erase_places_patches, set_value, set_value_patches,
 };
+use exif_edit_base::patch::{patched, put};
 use exif_types::{In, Tag, Value};
 use std::alloc::{AllocError, Global};
 

@@ -5,13 +5,13 @@ ghost use Rattle.std.specs.Prelude.{◌≡◌, ◌≤◌, ◌+◌, All, IfOk, Ok
 ghost use Rattle.std.specs.Str.{bytes_eq};
 ghost use Rattle.exif_base.specs.Bytes.{bytes_at};
 ghost use Rattle.exif_containers.specs.Container.{container_answer};
-ghost use Rattle.exif_edit.specs.Causes.{Edits};
-ghost use Rattle.exif_edit.specs.Patches.{FitsIn, patched, put_at, put_back, swapped, swapped_back};
+ghost use Rattle.exif_edit_base.specs.Causes.{Edits};
+ghost use Rattle.exif_edit_base.specs.Patches.{FitsIn, patched, put_at, put_back, swapped, swapped_back};
 ghost use Rattle.exif_edit_files.specs.InFiles.{Tries, holds, placed_file, searched_file, shifted};
 
 use crate::file::{apply_at, holds, piece_place};
-use exif_edit::patch::{exchange, put_back};
 use exif_edit::{Error, Patch};
+use exif_edit_base::patch::{exchange, put_back};
 use std::alloc::{AllocError, Global};
 
 // Whether data stand at a place of a file.

@@ -5,11 +5,11 @@ ghost use Rattle.exif_base.specs.Reads.{Counts};
 ghost use Rattle.exif_base.specs.Told.{WhereTold};
 ghost use Rattle.exif_types.specs.Refusals.{Fails, is_io};
 ghost use Rattle.exif_containers.specs.Answer.{found};
+ghost use Rattle.exif_edit_base.specs.Patches.{FitsIn, patched};
 ghost use Rattle.exif_edit.specs.Erasing.{erase_patches};
-ghost use Rattle.exif_edit_files.specs.InFiles.{IsEditedIn, shifted};
-ghost use Rattle.exif_edit.specs.Patches.{FitsIn, patched};
 ghost use Rattle.exif_edit.specs.Removing.{field_patches};
 ghost use Rattle.exif_edit.specs.Setting.{set_patches};
+ghost use Rattle.exif_edit_files.specs.InFiles.{IsEditedIn, shifted};
 ghost use Rattle.exif_edit_files.specs.Streams.{Tells, in_stream, is_device, piece_as, piece_in, place_before};
 ghost use Rattle.exif_edit_files.specs.declared.stream.Piece.{Piece};
 

@@ -1,7 +1,7 @@
 use Rattle.std.proofs.Common.{◌+◌, ◌≤◌, arith, ap, subst, sym, length, ◌∙◌}
 use Rattle.exif_base.specs.Orders.{number_of}
+use Rattle.exif_edit_base.specs.declared.patch.Span.{Span}
 use Rattle.exif_edit.specs.Changing.{changes}
-use Rattle.exif_edit.specs.declared.patch.Span.{Span}
 use Rattle.exif_edit.proofs.AloneSteps.{stretch_of, value_near, value_same}
 use Rattle.exif_edit.proofs.alone.changes_value.Goals as goal
 

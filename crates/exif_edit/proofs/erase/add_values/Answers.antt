@@ -1,7 +1,7 @@
 use Rattle.std.proofs.Common.{arith, ap, ◌∙◌, ◌++◌, ◌∷◌, []}
 use Rattle.exif_base.specs.Orders.{number_of}
+use Rattle.exif_edit_base.specs.Patches.{zeros_over}
 use Rattle.exif_edit.specs.Erasing.{value_span}
-use Rattle.exif_edit.specs.Patches.{zeros_over}
 use Rattle.exif_edit.proofs.EraseSteps.{value_on}
 use Rattle.exif_edit.proofs.erase.add_values.Goals as goal
 

@@ -1,8 +1,8 @@
 use Rattle.std.proofs.Common.{◌≡◌, ◌≤◌, ◌<◌, ◌+◌, ◌*◌, ◌-◌, ◌++◌, length, map}
 use Rattle.exif_base.specs.Bytes.{spaced}
 use Rattle.exif_base.specs.Orders.{number_of}
+use Rattle.exif_edit_base.specs.Patches.{zeros_over}
 use Rattle.exif_edit.specs.Erasing.{value_span}
-use Rattle.exif_edit.specs.Patches.{zeros_over}
 use Rattle.exif_edit.proofs.erase.add_values.Given as goal
 
 -- what is left of the entries adds what all of them do

@@ -1,12 +1,12 @@
 use Rattle.std.proofs.Common.{Ok, ap, refl, sym, ◌∙◌}
 use Rattle.std.proofs.lemmas.Result.{err_from_is_err_and}
 use Rattle.exif_base.specs.Orders.{number_of}
+use Rattle.exif_edit_base.specs.Readings.{read_of}
+use Rattle.exif_edit_base.proofs.FindSteps.{header_named}
 use Rattle.exif_edit.specs.Plans.{planned}
-use Rattle.exif_edit.specs.Readings.{read_of}
 use Rattle.exif_edit.proofs.PlanSteps.{any_planned}
 use Rattle.exif_edit.proofs.AloneSound.{erase_alone, places_change, zeros_found}
 use Rattle.exif_edit.proofs.AloneSteps.{fit_small}
-use Rattle.exif_edit.proofs.FindSteps.{header_named}
 use Rattle.exif_edit.proofs.EraseSteps.{erase_fault, erase_wanted, zeros_are}
 use Rattle.exif_edit.proofs.EraseSound.{gps_fit}
 use Rattle.exif_edit.proofs.erase.plan.Goals as goal

@@ -1,8 +1,8 @@
 use Rattle.std.proofs.Common.{◌≡◌, ◌++◌, map, drop}
 use Rattle.std.specs.List.{flat_map}
 use Rattle.exif_base.specs.Orders.{number_of}
+use Rattle.exif_edit_base.specs.Patches.{zeros_over}
 use Rattle.exif_edit.specs.Erasing.{directory_spans}
-use Rattle.exif_edit.specs.Patches.{zeros_over}
 use Rattle.exif_edit.proofs.erase.zeroed.Given as goal
 
 -- what is left of the directories adds what all of them do

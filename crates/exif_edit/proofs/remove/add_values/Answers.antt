@@ -1,8 +1,8 @@
 use Rattle.std.proofs.Common.{refl, arith, map}
 use Rattle.std.proofs.Math.Nat.{sub-zero}
 use Rattle.exif_base.specs.Orders.{number_of}
+use Rattle.exif_edit_base.specs.Patches.{zeros_over}
 use Rattle.exif_edit.specs.Erasing.{value_span}
-use Rattle.exif_edit.specs.Patches.{zeros_over}
 use Rattle.exif_edit.specs.Removing.{has_tag}
 use Rattle.exif_edit.proofs.RemoveSteps.{passed_on, zeros_append}
 use Rattle.exif_edit.proofs.remove.add_values.Goals as goal

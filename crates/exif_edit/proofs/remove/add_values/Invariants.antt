@@ -2,8 +2,8 @@ use Rattle.std.proofs.Common.{◌≡◌, ◌≤◌, ◌<◌, ◌+◌, ◌*◌, �
 use Rattle.std.specs.List.{filter}
 use Rattle.exif_base.specs.Bytes.{spaced}
 use Rattle.exif_base.specs.Orders.{number_of}
+use Rattle.exif_edit_base.specs.Patches.{zeros_over}
 use Rattle.exif_edit.specs.Erasing.{value_span}
-use Rattle.exif_edit.specs.Patches.{zeros_over}
 use Rattle.exif_edit.specs.Removing.{has_tag, taken_spans}
 use Rattle.exif_edit.proofs.remove.add_values.Given as goal
 

@@ -1,4 +1,4 @@
-use Rattle.exif_edit.specs.Patches.{patched}
+use Rattle.exif_edit_base.specs.Patches.{patched}
 use Rattle.exif_edit.specs.Promises.{FindsNone, IsFieldErased}
 use Rattle.exif_edit.specs.Removing.{field_patches}
 use Rattle.exif_edit.proofs.PlanSteps.{carried_sound}

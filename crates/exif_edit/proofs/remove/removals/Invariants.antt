@@ -1,7 +1,7 @@
 use Rattle.std.proofs.Common.{◌≡◌, ◌++◌, map, drop}
 use Rattle.std.specs.List.{flat_map}
 use Rattle.exif_base.specs.Orders.{number_of}
-use Rattle.exif_edit.specs.Patches.{zeros_over}
+use Rattle.exif_edit_base.specs.Patches.{zeros_over}
 use Rattle.exif_edit.specs.Removing.{directory_patches, removals, taken_spans}
 use Rattle.exif_edit.proofs.remove.removals.Given as goal
 

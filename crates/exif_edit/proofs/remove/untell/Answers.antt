@@ -1,6 +1,6 @@
 use Rattle.std.proofs.Common.{◌∙◌, ◌≤◌, ◌<◌, refl, arith, length}
+use Rattle.exif_edit_base.proofs.ChangeSteps.{change_step, change_end}
 use Rattle.exif_edit.specs.Removing.{told_at}
-use Rattle.exif_edit.proofs.ChangeSteps.{change_step, change_end}
 use Rattle.exif_edit.proofs.remove.untell.Goals as goal
 
 pub loop-field-preserved : goal.loop-field-preserved

@@ -1,6 +1,6 @@
 use Rattle.std.proofs.Common.{◌≡◌, length, drop, map}
+use Rattle.exif_edit_base.specs.Patches.{patched}
 use Rattle.exif_edit_files.specs.InFiles.{shifted}
-use Rattle.exif_edit.specs.Patches.{patched}
 use Rattle.exif_edit_files.proofs.file.apply_at.Given as goal
 
 abbrev pub invariant-loop-patch : goal.invariant-loop-patch

@@ -1,9 +1,9 @@
 use Rattle.std.proofs.Common.{refl}
 use Rattle.std.proofs.lemmas.Result.{err_from_is_err_and}
 use Rattle.exif_containers.specs.Container.{container_answer}
-use Rattle.exif_edit.specs.Causes.{of_container}
+use Rattle.exif_edit_base.specs.Causes.{of_container}
+use Rattle.exif_edit_base.proofs.CauseSteps.{refused_on}
 use Rattle.exif_edit.specs.Clearing.{clear_patches}
-use Rattle.exif_edit.proofs.CauseSteps.{refused_on}
 use Rattle.exif_edit.proofs.ClearSound.{clear_fits}
 use Rattle.exif_edit_files.specs.InFiles.{Edit, edited_file, in_file}
 use Rattle.exif_edit_files.proofs.FileSteps.{file_data, file_edit}

@@ -1,6 +1,6 @@
 use Rattle.std.proofs.Common.{refl, sym, ap, ◌∙◌, Ok}
-use Rattle.exif_edit.specs.Causes.{◌>>=◌}
-use Rattle.exif_edit.specs.Patches.{patched}
+use Rattle.exif_edit_base.specs.Causes.{◌>>=◌}
+use Rattle.exif_edit_base.specs.Patches.{patched}
 use Rattle.exif_edit_files.proofs.FileSteps.{clear_file_else, clear_file_tiff}
 use Rattle.exif_edit_files.proofs.file.erase_all_in_file.Goals as goal
 

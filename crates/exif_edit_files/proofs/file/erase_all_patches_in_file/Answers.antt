@@ -1,8 +1,8 @@
 use Rattle.std.proofs.Common.{sym, ◌∙◌}
 use Rattle.std.proofs.lemmas.Result.{err_from_is_err_and}
+use Rattle.exif_edit_base.proofs.CauseSteps.{refused_on}
 use Rattle.exif_edit.specs.Clearing.{clear_patches}
 use Rattle.exif_edit_files.specs.InFiles.{clear_file_patches, in_file}
-use Rattle.exif_edit.proofs.CauseSteps.{refused_on}
 use Rattle.exif_edit_files.proofs.FileSteps.{clear_file_else, clear_file_tiff}
 use Rattle.exif_edit_files.proofs.file.erase_all_patches_in_file.Goals as goal
 

@@ -1,11 +1,11 @@
 use Rattle.std.proofs.Common.{sym, ◌∙◌}
 use Rattle.std.proofs.lemmas.Result.{err_from_is_err_and}
 use Rattle.exif_containers.specs.Container.{container_answer}
-use Rattle.exif_edit.specs.Causes.{of_container}
-use Rattle.exif_edit_files.specs.InFiles.{Edit, in_file, placed}
+use Rattle.exif_edit_base.specs.Causes.{of_container}
+use Rattle.exif_edit_base.proofs.CauseSteps.{refused_on}
 use Rattle.exif_edit.specs.Removing.{field_patches}
 use Rattle.exif_edit.proofs.RemoveSound.{field_fits}
-use Rattle.exif_edit.proofs.CauseSteps.{refused_on}
+use Rattle.exif_edit_files.specs.InFiles.{Edit, in_file, placed}
 use Rattle.exif_edit_files.proofs.FileSteps.{file_data, file_edit, file_placed}
 use Rattle.exif_edit_files.proofs.FileSound.{file_fits}
 use Rattle.exif_edit_files.proofs.TiffFiles.{field_tiff, tiff_in_file}

@@ -1,5 +1,5 @@
 use Rattle.std.proofs.Common.{rules, ◌<◌, ◌^◌, ◌∙◌, length, sym, subst}
-use Rattle.exif_edit.specs.Causes.{Makes}
+use Rattle.exif_edit_base.specs.Causes.{Makes}
 use Rattle.exif_edit_files.proofs.LawsStreams.{piece_missing, piece_stands}
 use Rattle.exif_edit_files.proofs.file.place_of.Goals as goal
 

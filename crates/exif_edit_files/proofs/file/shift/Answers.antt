@@ -1,7 +1,7 @@
 use Rattle.std.proofs.Common.{◌∙◌, ◌≤◌, ◌<◌, subst, refl, arith, length}
+use Rattle.exif_edit_base.specs.Patches.{FitsIn}
+use Rattle.exif_edit_base.proofs.ChangeSteps.{change_step, change_end}
 use Rattle.exif_edit_files.specs.InFiles.{shifted}
-use Rattle.exif_edit.specs.Patches.{FitsIn}
-use Rattle.exif_edit.proofs.ChangeSteps.{change_step, change_end}
 use Rattle.exif_edit_files.proofs.FileSteps.{change_left, first_left}
 use Rattle.exif_edit_files.proofs.file.shift.Goals as goal
 

@@ -1,6 +1,6 @@
 use Rattle.std.proofs.Common.{◌≡◌, ◌++◌, All, drop, take, map}
+use Rattle.exif_edit_base.specs.Patches.{FitsIn}
 use Rattle.exif_edit_files.specs.InFiles.{shifted}
-use Rattle.exif_edit.specs.Patches.{FitsIn}
 use Rattle.exif_edit_files.proofs.file.shift.Given as goal
 
 -- those behind the index are as they were

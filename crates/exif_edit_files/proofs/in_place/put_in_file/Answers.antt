@@ -1,5 +1,5 @@
 use Rattle.std.proofs.Common.{rules, ◌<◌, ◌^◌, ◌∙◌, length, sym, subst}
-use Rattle.exif_edit.specs.Causes.{Edits}
+use Rattle.exif_edit_base.specs.Causes.{Edits}
 use Rattle.exif_edit_files.proofs.LawsStreams.{piece_missing, piece_stands}
 use Rattle.exif_edit_files.proofs.InPlace.{placed_put, placed_searched, there_fit}
 use Rattle.exif_edit_files.proofs.in_place.put_in_file.Goals as goal

@@ -1,6 +1,6 @@
+use Rattle.exif_edit_base.specs.Causes.{scattered}
 use Rattle.exif_edit_files.proofs.FileSteps.{place_found, place_none, place_on}
 use Rattle.exif_edit_files.proofs.InPlace.{searched_none, searched_put, tried_else, tried_served}
-use Rattle.exif_edit.specs.Causes.{scattered}
 use Rattle.exif_edit_files.proofs.in_place.put_where_they_serve.Goals as goal
 
 pub returns-then-served : goal.returns-then-served

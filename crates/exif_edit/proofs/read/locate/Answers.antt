@@ -1,7 +1,0 @@
-use Rattle.exif_entries.specs.Results.{parsed_of}
-use Rattle.exif_edit.proofs.ReadSteps.{says_reads}
-use Rattle.exif_edit.proofs.read.locate.Goals as goal
-
-pub returns-clause-reads : goal.returns-clause-reads
-returns-clause-reads c =
-    says_reads (parsed_of c.read_located.result) c.args.bytes.now c.read_located.ensures.says c.read_located.ensures.order

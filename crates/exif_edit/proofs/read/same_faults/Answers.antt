@@ -1,6 +1,0 @@
-use Rattle.std.proofs.Common.{◌∙◌}
-use Rattle.exif_edit.proofs.ReadFaults.{faults_same}
-use Rattle.exif_edit.proofs.read.same_faults.Goals as goal
-
-pub returns : goal.returns
-returns c = c.eq.ensures ∙ faults_same c.args.a.now c.args.b.now

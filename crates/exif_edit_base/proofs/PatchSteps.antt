@@ -1,0 +1,150 @@
+-- Bytes put over others: which stay, and which are new.
+use Rattle.std.proofs.Common.{◌≡◌, ◌-◌, ◌≤◌, ◌<◌, ◌+◌, ℕ, suc, Bool, true, false, if◌then◌else◌, List, [], ◌∷◌, length, get_or, drop, inl, inr, ◌⊎◌, map, replicate, All, refl, sym, ap, subst, ◌∙◌, arith, drop-cons}
+use Rattle.std.specs.Prelude.{◌&&◌, ◌||◌, nat_lt, nat_le}
+use Rattle.std.specs.List.{list_any}
+use Rattle.std.proofs.lemmas.Bool.{false≢true}
+use Rattle.std.proofs.lemmas.Bool.Decides.{nat_tests}
+use Rattle.std.proofs.lemmas.Grind.{common_steps}
+use Rattle.std.proofs.lemmas.List.{length-replicate}
+use Rattle.std.proofs.lemmas.List.Elements.{All-head, All-tail}
+use Rattle.exif_edit_base.specs.Patches.{FitsIn, inside, patched, put_at, zeros_over}
+use Rattle.exif_edit_base.specs.declared.patch.Patch.{Patch}
+use Rattle.exif_edit_base.specs.declared.patch.Span.{Span}
+
+pub split : (a b : Bool) → (a && b) ≡ true → (a ≡ true) × (b ≡ true)
+split true b e = (refl, e)
+split false b e = absurd (false≢true e)
+
+-- ---- one patch
+
+-- a byte before it, or behind it, stays
+pub put_before : (place : ℕ) (text bytes : List ℕ) (i : ℕ) → place + length text ≤ length bytes
+    → i < place → get_or (put_at place text bytes) i 0 ≡ get_or bytes i 0
+put_before place text bytes i h l = grind (arith, common_steps)
+
+pub put_behind : (place : ℕ) (text bytes : List ℕ) (i : ℕ) → place + length text ≤ length bytes
+    → place + length text ≤ i → get_or (put_at place text bytes) i 0 ≡ get_or bytes i 0
+put_behind place text bytes i h l = grind (arith, common_steps)
+
+pub put_zero : (place len : ℕ) (bytes : List ℕ) (i : ℕ) → place + len ≤ length bytes → place ≤ i
+    → i < place + len → get_or (put_at place (replicate len 0) bytes) i 0 ≡ 0
+put_zero place len bytes i h l m = grind (arith, common_steps)
+
+-- a byte of it is there
+pub put_on : (place : ℕ) (text bytes : List ℕ) (i : ℕ) → place + length text ≤ length bytes
+    → place ≤ i
+    → i < place + length text → get_or (put_at place text bytes) i 0 ≡ get_or text (i - place) 0
+put_on place text bytes i h l m = grind (arith, common_steps)
+
+pub length-put_at : (place : ℕ) (text bytes : List ℕ) → place + length text ≤ length bytes
+    → length (put_at place text bytes) ≡ length bytes
+length-put_at place text bytes h = grind (arith, common_steps)
+
+-- ---- patches
+
+-- the lengths of the bytes may be told otherwise
+pub fit_in : (m n : ℕ) (ps : List Patch) → m ≡ n → All (FitsIn m) ps → All (FitsIn n) ps
+fit_in m n ps e h = subst (λ x. All (FitsIn x) ps) e h
+
+-- the patches behind the first fit after it
+pub fit_behind : (p : Patch) (ps : List Patch) (bytes : List ℕ)
+    → All (FitsIn (length bytes)) (p ∷ ps)
+    → All (FitsIn (length (put_at p.place p.text bytes))) ps
+fit_behind p ps bytes h =
+    fit_in (length bytes) (length (put_at p.place p.text bytes)) ps
+    (sym (length-put_at p.place p.text bytes (All-head (FitsIn (length bytes)) p ps h)))
+    (All-tail (FitsIn (length bytes)) p ps h)
+
+pub length-patched : (ps : List Patch) (bytes : List ℕ) → All (FitsIn (length bytes)) ps
+    → length (patched ps bytes) ≡ length bytes
+length-patched [] bytes h = refl
+length-patched (p ∷ ps) bytes h =
+    length-patched ps (put_at p.place p.text bytes) (fit_behind p ps bytes h)
+    ∙ length-put_at p.place p.text bytes (All-head (FitsIn (length bytes)) p ps h)
+
+-- a patch does not touch the byte at i
+abbrev pub Misses : ℕ → Patch → Type 0
+Misses i p = (i < p.place) ⊎ (p.place + length p.text ≤ i)
+
+-- a byte that no patch touches stays
+pub patched_outside : (ps : List Patch) (bytes : List ℕ) (i : ℕ) → All (FitsIn (length bytes)) ps
+    → All (Misses i) ps → get_or (patched ps bytes) i 0 ≡ get_or bytes i 0
+patched_outside [] bytes i h m = refl
+patched_outside (p ∷ ps) bytes i h m =
+    let fits = All-head (FitsIn (length bytes)) p ps h in
+    patched_outside ps (put_at p.place p.text bytes) i (fit_behind p ps bytes h)
+    (All-tail (Misses i) p ps m)
+    ∙ (elim (All-head (Misses i) p ps m)
+    as (λ x. get_or (put_at p.place p.text bytes) i 0 ≡ get_or bytes i 0) [
+      | inl a ↦ put_before p.place p.text bytes i fits a
+      | inr a ↦ put_behind p.place p.text bytes i fits a
+    ])
+
+-- one of the patches that are left is put
+pub patch_on : (ps : List Patch) (i : ℕ) (p : Patch) (out new all : List ℕ) → i < length ps
+    → p ≡ get_or ps i p → new ≡ put_at p.place p.text out → patched (drop i ps) out ≡ all
+    → patched (drop (i + 1) ps) new ≡ all
+patch_on ps i p out new all h g e f =
+    let d : drop i ps ≡ p ∷ drop (i + 1) ps = let n : i + 1 ≡ suc i =
+    omega arith in rw n (drop-cons ps i p h ∙ ap (λ q. q ∷ drop (suc i) ps) (sym g)) in
+    let k : patched (p ∷ drop (i + 1) ps) out ≡ all = rw d at f in
+    ap (λ xs. patched (drop (i + 1) ps) xs) e ∙ k
+
+-- ---- zeros in spans
+
+bools : (a b : Bool) (x : ℕ) → (if b then 0 else (if a then 0 else x)) ≡ (if (a || b) then 0 else x)
+bools true true x = refl
+bools true false x = refl
+bools false true x = refl
+bools false false x = refl
+
+inside_place : (i : ℕ) (s : Span) → inside i s ≡ true → (s.place ≤ i) × (i < s.place + s.len)
+inside_place i s e =
+    let p = split (nat_le s.place i) (nat_lt i (s.place + s.len)) e in
+    let a = p.0 in
+    let b = p.1 in
+    (grind (arith, nat_tests), grind (arith, nat_tests))
+
+pub outside_place : (i : ℕ) (s : Span) → inside i s ≡ false → (i < s.place) ⊎ (s.place + s.len ≤ i)
+outside_place i s e = by_tests (nat_le s.place i) (nat_lt i (s.place + s.len)) refl refl e
+  where
+    by_tests : (a b : Bool) → nat_le s.place i ≡ a → nat_lt i (s.place + s.len) ≡ b
+        → (a && b) ≡ false → (i < s.place) ⊎ (s.place + s.len ≤ i)
+    by_tests true true p q e = absurd (false≢true (sym e))
+    by_tests true false p q e = inr (grind (arith, nat_tests))
+    by_tests false b p q e = inl (grind (arith, nat_tests))
+
+one_zeroed : (s : Span) (bytes : List ℕ) (i : ℕ) → s.place + s.len ≤ length bytes
+    → get_or (put_at s.place (replicate s.len 0) bytes) i 0
+    ≡ (if inside i s then 0 else get_or bytes i 0)
+one_zeroed s bytes i h = by_test (inside i s) refl
+  where
+    by_test : (b : Bool) → inside i s ≡ b
+        → get_or (put_at s.place (replicate s.len 0) bytes) i 0
+        ≡ (if b then 0 else get_or bytes i 0)
+    by_test true e = let p = inside_place i s e in put_zero s.place s.len bytes i h p.0 p.1
+    by_test false e =
+        let l : length (replicate {A = ℕ} s.len 0) ≡ s.len = length-replicate s.len 0 in
+        elim (outside_place i s e) [
+          | inl a ↦ put_before s.place (replicate s.len 0) bytes i (omega (arith, l)) a
+          | inr a ↦ put_behind s.place (replicate s.len 0) bytes i (omega (arith, l))
+              (omega (arith, l))
+        ]
+
+-- all the spans lie in data of a length
+abbrev pub AllWithin : ℕ → List Span → Type 0
+AllWithin total [] = Unit {0}
+AllWithin total (s ∷ ss) = (s.place + s.len ≤ total) × AllWithin total ss
+
+pub zeroed_at : (ss : List Span) (bytes : List ℕ) (i : ℕ) → AllWithin (length bytes) ss
+    → get_or (patched (map zeros_over ss) bytes) i 0
+    ≡ (if list_any (inside i) ss then 0 else get_or bytes i 0)
+zeroed_at [] bytes i h = refl
+zeroed_at (s ∷ ss) bytes i h =
+    let l : length (replicate {A = ℕ} s.len 0) ≡ s.len = length-replicate s.len 0 in
+    let e : length (put_at s.place (replicate s.len 0) bytes) ≡ length bytes =
+    length-put_at s.place (replicate s.len 0) bytes (let a = h.0 in omega (arith, l)) in
+    zeroed_at ss (put_at s.place (replicate s.len 0) bytes) i
+    (subst (λ n. AllWithin n ss) (sym e) h.1)
+    ∙ (ap (λ x. if list_any (inside i) ss then 0 else x) (one_zeroed s bytes i h.0)
+    ∙ bools (inside i s) (list_any (inside i) ss) (get_or bytes i 0))

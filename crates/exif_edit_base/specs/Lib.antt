@@ -1,0 +1,4 @@
+pub mod Causes
+pub mod Finding
+pub mod Patches
+pub mod Readings

@@ -1,0 +1,79 @@
+//! The last field of a name, and where its entry stands.
+
+ghost use Rattle.std.specs.Prelude.{◌≡◌, ◌<◌, ◌^◌, All, length, false, slice_get, Some, IfOk, OnOk, MatchOption};
+ghost use Rattle.exif_types.specs.Lookup.{is_named};
+ghost use Rattle.exif_entries.specs.Walked.{Finds};
+ghost use Rattle.exif_edit_base.specs.Causes.{Makes};
+ghost use Rattle.exif_edit_base.specs.Finding.{IsLastAt, find_answer};
+ghost use Rattle.exif_edit_base.specs.Readings.{read_of};
+ghost use Rattle.exif_edit_base.specs.declared.find.Found.{Found};
+
+use crate::error::Error;
+use crate::read::locate;
+use exif_entries::{EntryPlace, Located, Walk};
+use exif_reader::tiff::Parsed;
+use exif_types::{Field, In, Tag};
+use std::alloc::Global;
+
+/// What was read, and where a field stands in it, with all places.
+#[derive(Drop)]
+pub struct Found {
+    pub parsed: Parsed,
+    pub index: usize,
+    pub entry: u32,
+    pub walk: Walk,
+}
+
+/// Whether a field has this tag, in this directory.
+pub fn is_named(field: &Field, tag: Tag, ifd_num: In) -> bool
+    ensures { result ≡ is_named tag ifd_num field.now }
+{
+    field.tag == tag && field.ifd_num == ifd_num
+}
+
+// The index of the last field of a name.
+fn last_index(fields: &[Field], tag: Tag, ifd_num: In) -> Option<usize>
+    ensures { MatchOption result
+        (All (λ f. is_named tag ifd_num f ≡ false) fields.now)
+        (λ i. IsLastAt tag ifd_num fields.now i) }
+{
+    let mut i = fields.len();
+    while i > 0 {
+        i -= 1;
+        if is_named(&fields[i], tag, ifd_num) {
+            return Some(i);
+        }
+    }
+    None
+}
+
+// The entry at an index.
+fn at(entries: &[EntryPlace], index: usize) -> EntryPlace
+    requires { index < length entries.now }
+    ensures { slice_get entries.now index ≡ Some result }
+{
+    entries[index]
+}
+
+/// Reads the data and finds the last field of a name.
+pub fn find(alloc: Global, bytes: &[u8], tag: Tag, ifd_num: In) -> Result<Found, Error>
+    ensures answer { Makes (λ (f : Found). (read_of f.parsed, f.entry)) result
+        (find_answer bytes.now tag ifd_num) }
+    ensures last { IfOk result (λ f. IsLastAt tag ifd_num f.parsed.fields.items f.index) }
+    ensures places { IfOk result (λ f. Finds bytes.now f.walk) }
+    ensures small { OnOk result (length bytes.now < 2 ^ 32) }
+{
+    let Located { parsed, walk } = locate(alloc, bytes)?;
+    match last_index(parsed.fields.as_slice(), tag, ifd_num) {
+        None => Err(Error::FieldNotFound),
+        Some(index) => {
+            let place = at(walk.entries(), index);
+            Ok(Found {
+                parsed,
+                index,
+                entry: place.entry,
+                walk,
+            })
+        }
+    }
+}

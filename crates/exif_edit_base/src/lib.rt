@@ -1,0 +1,11 @@
+//! What all edits of Exif data share: patches, the data read and read again, the last field of a
+//! name, and why an edit is refused. `exif_edit` has the edits.
+#![tactic(auto)]
+
+pub mod error;
+pub mod find;
+pub mod patch;
+pub mod read;
+
+pub use error::Error;
+pub use patch::Patch;

@@ -1,0 +1,246 @@
+-- What reading looks at of GPS directories stands apart from what it looks at of all others, where
+-- it looks at no byte as two things.
+use Rattle.std.proofs.Common.{◌≡◌, ◌≤◌, ◌<◌, ◌+◌, ◌-◌, ◌*◌, min, ℕ, Bool, true, false, if◌then◌else◌, List, [], ◌∷◌, ◌++◌, length, map, inl, inr, Ok, refl, ap, ◌∙◌, arith}
+use Rattle.std.specs.Prelude.{◌&&◌, nat_le, nat_lt, not}
+use Rattle.std.specs.List.{flat_map, list_any}
+use Rattle.std.proofs.lemmas.Bool.Decides.{nat_tests}
+use Rattle.std.proofs.lemmas.List.Folds.{list_any-append}
+use Rattle.exif_base.specs.Bytes.{Reading, number_at}
+use Rattle.exif_base.specs.Orders.{number_of}
+use Rattle.exif_base.specs.declared.endian.Order.{Order}
+use Rattle.exif_types.specs.FieldTypes.{type_of, known_length}
+use Rattle.exif_table.specs.declared.context.Context.{Context}
+use Rattle.exif_table.specs.declared.context.Context.TheVariants.{Tiff, Exif, Gps, Interop}
+use Rattle.exif_tiff.specs.declared.place.DirectoryPlace.{DirectoryPlace}
+use Rattle.exif_tiff.specs.Apart.{are_apart}
+use Rattle.exif_tiff.specs.Footprint.{Stretch, chain_directories, directory_stretch, looked_at, value_stretch}
+use Rattle.exif_tiff.specs.Trace.{entry_of, entry_places, header, whole_entries}
+use Rattle.exif_tiff.proofs.ApartLists.{IsApart}
+use Rattle.exif_entries.specs.Locations.{directory_places, gps_of, gps_places, located}
+use Rattle.exif_entries.specs.Walked.{Finds, Walked}
+use Rattle.exif_edit_base.specs.declared.patch.Span.{Span}
+use Rattle.exif_edit.specs.Erasing.{clipped, directory_spans, gps_spans, nowhere, value_span, within}
+use Rattle.exif_edit.specs.PlacesAlone.{all_kept, chain_kept, places_stand_alone}
+use Rattle.exif_edit.specs.Sharing.{meets}
+use Rattle.exif_edit.proofs.WalkedDirectories.{kept_of, places_of, walked_kept, walked_places}
+use Rattle.exif_edit_laws.proofs.ApartCounts.{HaveBytes, Lacks, apart_holders, apart_misses, apart_of, Where, behind, before, has, has_before, has_behind, has_inside, inside, stands, holders, holders-append, holders_more, holders_none}
+use Rattle.exif_edit_laws.proofs.ApartEntries.{all_have, all_looked, looked_has, nothing_met}
+
+-- what a walk of the data finds
+walk : List ℕ → Walked
+walk bytes = record {
+  entries = map entry_of (located bytes);
+  gps = gps_places bytes;
+  directories = directory_places bytes;
+}
+
+walk_finds : (bytes : List ℕ) → Finds bytes (walk bytes)
+unfolding walk
+walk_finds bytes = record { entries = refl; gps = refl; directories = refl }
+
+module _ (number : Reading) (bytes : List ℕ) where
+  abbrev looked : List ℕ → List Stretch
+  looked ps = flat_map (looked_at number bytes) ps
+
+  -- directories are those of GPS data and the others
+  pub looked_parts : (i : ℕ) (ds : List DirectoryPlace)
+      → holders i (looked (places_of (kept_of ds))) + holders i (looked (gps_of ds))
+      ≡ holders i (looked (places_of ds))
+  looked_parts i [] = let a = holders_none i in omega arith
+  looked_parts i (d ∷ ds) = by_context d.context d.place (looked_parts i ds)
+    where
+      other : (p : ℕ)
+          → holders i (looked (places_of (kept_of ds))) + holders i (looked (gps_of ds))
+          ≡ holders i (looked (places_of ds))
+          → holders i (looked (p ∷ places_of (kept_of ds))) + holders i (looked (gps_of ds))
+          ≡ holders i (looked (p ∷ places_of ds))
+      other p rest =
+          let a = holders-append i (looked_at number bytes p) (looked (places_of (kept_of ds))) in
+          let b = holders-append i (looked_at number bytes p) (looked (places_of ds)) in
+          omega arith
+
+      by_context : (c : Context) (p : ℕ)
+          → holders i (looked (places_of (kept_of ds))) + holders i (looked (gps_of ds))
+          ≡ holders i (looked (places_of ds))
+          → holders i (looked (places_of (kept_of (record { place = p; context = c } ∷ ds))))
+          + holders i (looked (gps_of (record { place = p; context = c } ∷ ds)))
+          ≡ holders i (looked (p ∷ places_of ds))
+      by_context Tiff p rest = other p rest
+      by_context Exif p rest = other p rest
+      by_context Interop p rest = other p rest
+      by_context Gps p rest =
+          let a = holders-append i (looked_at number bytes p) (looked (gps_of ds)) in
+          let b = holders-append i (looked_at number bytes p) (looked (places_of ds)) in
+          omega arith
+
+  -- ---- a stretch without a byte of GPS directories and their values
+
+  module _ (t : Stretch) (some : 0 < t.len) where
+    abbrev Free : List Stretch → Type 0
+    Free ss = Lacks t ss
+
+    left_free : (ss ts : List Stretch) → Free (ss ++ ts) → Free ss
+    left_free ss ts h i low high =
+        let a = h i low high in
+        let b = holders-append i ss ts in
+        omega arith
+
+    right_free : (ss ts : List Stretch) → Free (ss ++ ts) → Free ts
+    right_free ss ts h i low high =
+        let a = h i low high in
+        let b = holders-append i ss ts in
+        omega arith
+
+    -- a stretch that it lacks stands apart from it
+    one_apart : (s : Stretch) (ss : List Stretch) → 0 < s.len → Free (s ∷ ss) → IsApart s t
+    one_apart s ss more h =
+        apart_of s t more some (λ i low high. none i (λ near far. h i near far) low high)
+      where
+        none : (i : ℕ) → (t.place ≤ i → i < t.place + t.len → holders i (s ∷ ss) ≡ 0)
+            → s.place ≤ i → i < s.place + s.len → has i t ≡ 0
+        none i k low high = by_place (stands i t)
+          where
+            by_place : Where i t → has i t ≡ 0
+            by_place (inside near far) =
+                let a = k near far in
+                let b = holders_more i s ss in
+                let c = has_inside i s low high in
+                absurd (omega arith)
+            by_place (before near) = has_before i t near
+            by_place (behind far) = has_behind i t far
+
+    -- so the directory, as far as it lies in the data
+    clipped_misses : (q n : ℕ) (ss : List Stretch) → 0 < n
+        → Free (record { place = q; len = n } ∷ ss)
+        → meets (clipped (length bytes) (record { place = q; len = n })) t ≡ false
+    clipped_misses q n ss more h = by_test (nat_le q (length bytes))
+        (one_apart (record { place = q; len = n }) ss more h)
+      where
+        shorter : (m : ℕ) → m ≤ n → IsApart (record { place = q; len = n }) t
+            → IsApart (record { place = q; len = m }) t
+        shorter m few (inl k) = inl (omega arith)
+        shorter m few (inr k) = inr k
+
+        by_test : (b : Bool) → IsApart (record { place = q; len = n }) t
+            → meets (if b then record { place = q; len = min n (length bytes - q) } else nowhere) t
+            ≡ false
+        by_test true k =
+            apart_misses (record { place = q; len = min n (length bytes - q) }) t
+            (shorter (min n (length bytes - q)) (omega arith) k)
+        by_test false k = nothing_met t
+
+    -- and the value of an entry
+    value_misses : (e : ℕ) → Free (value_stretch number bytes e)
+        → meets (value_span number bytes e) t ≡ false
+    value_misses e h =
+        by_tests (nat_le size 4) (nat_lt 4 size) (nat_le (place + size) (length bytes)) refl refl refl h
+      where
+        size : ℕ
+        size = known_length (type_of (number_at number 2 bytes (e + 2))) * number_at number 4 bytes (e + 4)
+
+        place : ℕ
+        place = number_at number 4 bytes (e + 8)
+
+        none_within : (d : Bool) → meets (if d then nowhere else nowhere) t ≡ false
+        none_within true = nothing_met t
+        none_within false = nothing_met t
+
+        by_tests : (a b c : Bool) → nat_le size 4 ≡ a → nat_lt 4 size ≡ b
+            → nat_le (place + size) (length bytes) ≡ c
+            → Free (if b && c then record { place = place; len = size } ∷ [] else [])
+            → meets
+            (within (length bytes)
+            (if a then nowhere else record { place = place; len = size })) t ≡ false
+        by_tests true b c p q r h = none_within (nat_le (0 + 0) (length bytes))
+        by_tests false false c p q r h = absurd (grind (arith, nat_tests))
+        by_tests false true true p q r h = rw r (apart_misses (record { place = place; len = size }) t
+            (one_apart (record { place = place; len = size }) [] (grind (arith, nat_tests)) h))
+        by_tests false true false p q r h = rw r (nothing_met t)
+
+    none_met : (es : List ℕ) → Free (flat_map (value_stretch number bytes) es)
+        → list_any (λ s. meets s t) (map (value_span number bytes) es) ≡ false
+    none_met [] h = refl
+    none_met (e ∷ es) h =
+        let a = value_misses e
+        (left_free (value_stretch number bytes e) (flat_map (value_stretch number bytes) es) h) in
+        let b = none_met es
+        (right_free (value_stretch number bytes e) (flat_map (value_stretch number bytes) es) h) in
+        rw (a, b) refl
+
+    spans_missed : (q : ℕ) → Free (looked_at number bytes q)
+        → list_any (λ s. meets s t) (directory_spans number bytes q) ≡ false
+    spans_missed q h =
+        let values = flat_map (value_stretch number bytes) (entry_places number bytes q) in
+        let a = clipped_misses q (2 + 12 * whole_entries number bytes q + 4) values (omega arith) h in
+        let b = none_met (entry_places number bytes q)
+        (right_free (directory_stretch number bytes q ∷ []) values h) in
+        rw (a, b) refl
+
+    pub all_missed : (qs : List ℕ) → Free (looked qs)
+        → list_any (λ s. meets s t) (flat_map (directory_spans number bytes) qs) ≡ false
+    all_missed [] h = refl
+    all_missed (q ∷ qs) h =
+        let a = spans_missed q (left_free (looked_at number bytes q) (looked qs) h) in
+        let b = all_missed qs (right_free (looked_at number bytes q) (looked qs) h) in
+        let c = list_any-append (λ (s : Span). meets s t) (directory_spans number bytes q)
+        (flat_map (directory_spans number bytes) qs) in
+        c ∙ rw (a, b) refl
+
+  -- of stretches that share no byte with them
+  none_any : (qs : List ℕ) (ts : List Stretch) → HaveBytes ts
+      → ((i : ℕ) → holders i ts + holders i (looked qs) ≤ 1)
+      → list_any (λ t. list_any (λ s. meets s t) (flat_map (directory_spans number bytes) qs)) ts
+      ≡ false
+  none_any qs [] some h = refl
+  none_any qs (t ∷ ts) some h =
+      let a = all_missed t some.0 qs (λ i low high. lacks i (h i) (has_inside i t low high)) in
+      let b = none_any qs ts some.1 (λ i. fewer i (h i)) in
+      rw (a, b) refl
+    where
+      lacks : (i : ℕ) → holders i (t ∷ ts) + holders i (looked qs) ≤ 1 → has i t ≡ 1
+          → holders i (looked qs) ≡ 0
+      lacks i few one = let more = holders_more i t ts in omega arith
+
+      fewer : (i : ℕ) → holders i (t ∷ ts) + holders i (looked qs) ≤ 1
+          → holders i ts + holders i (looked qs) ≤ 1
+      fewer i few = let more = holders_more i t ts in omega arith
+
+-- ---- the whole
+
+pub places_apart : (bytes : List ℕ) (order : Order) → header bytes ≡ Ok order
+    → are_apart (all_looked (number_of order) bytes) ≡ true
+    → places_stand_alone (number_of order) bytes ≡ true
+unfolding gps_spans gps_places walk
+places_apart bytes order head apart =
+    ap not (none_any number bytes (gps_of ds) (all_kept number bytes) have few)
+  where
+    number : Reading
+    number = number_of order
+
+    ds : List DirectoryPlace
+    ds = directory_places bytes
+
+    all : places_of ds ≡ chain_directories 8 number bytes (number_at number 4 bytes 4)
+    all = walked_places bytes order (walk bytes) head (walk_finds bytes)
+
+    kept : places_of (kept_of ds) ≡ chain_kept 8 number bytes (number_at number 4 bytes 4)
+    kept = walked_kept bytes order (walk bytes) head (walk_finds bytes)
+
+    have : HaveBytes (all_kept number bytes)
+    have = (
+      omega arith,
+      all_have number bytes (looked_at number bytes)
+          (chain_kept 8 number bytes (number_at number 4 bytes 4)) (looked_has number bytes),
+    )
+
+    few : (i : ℕ) → holders i (all_kept number bytes) + holders i (looked number bytes (gps_of ds)) ≤ 1
+    few i =
+        let a = apart_holders i (all_looked number bytes) apart in
+        let b = looked_parts number bytes i ds in
+        let c = ap (λ ps. holders i (looked number bytes ps)) all in
+        let d = ap (λ ps. holders i (looked number bytes ps)) kept in
+        let f = holders_more i (record { place = 0; len = 8 })
+        (looked number bytes (chain_directories 8 number bytes (number_at number 4 bytes 4))) in
+        let g = holders_more i (record { place = 0; len = 8 })
+        (looked number bytes (chain_kept 8 number bytes (number_at number 4 bytes 4))) in
+        omega arith

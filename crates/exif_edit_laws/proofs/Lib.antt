@@ -1,0 +1,13 @@
+mod ApartCounts
+mod ApartEntries
+mod ApartFields
+mod ApartLocated
+mod ApartPlaces
+mod RemovedBytes
+mod RemovedDirectories
+mod RemovedLists
+mod RemovedTexts
+mod RemovedUnshared
+mod RemovedVisits
+mod ShrunkNodes
+mod ShrunkValues

@@ -1,0 +1,70 @@
+-- What follows for edits where reading looks at no byte of the data as two things.
+use Rattle.std.specs.Prelude.{◌≡◌, ℕ, true, false, All, List, map, Some, Ok}
+use Rattle.exif_base.specs.Orders.{number_of}
+use Rattle.exif_base.specs.declared.endian.Order.{Order}
+use Rattle.exif_types.specs.Sound.{HasPlainTexts}
+use Rattle.exif_types.specs.declared.tag.Tag.{Tag}
+use Rattle.exif_types.specs.declared.ifd.In.{In}
+use Rattle.exif_types.specs.declared.value.Value.{Value}
+use Rattle.exif_tiff.specs.Apart.{looks_apart}
+use Rattle.exif_tiff.specs.Trace.{header}
+use Rattle.exif_images.specs.Groups.{Group}
+use Rattle.exif_images.specs.Image.{image}
+use Rattle.exif_images.specs.Ranged.{IsRanged}
+use Rattle.exif_entries.specs.Locations.{Located, located}
+use Rattle.exif_edit_base.specs.Finding.{last_located}
+use Rattle.exif_edit_base.specs.Patches.{zeros_over}
+use Rattle.exif_edit.specs.Erasing.{erase_patches, gps_spans}
+use Rattle.exif_edit.specs.PlacesAlone.{places_stand_alone}
+use Rattle.exif_edit.specs.Setting.{set_patches, value_room}
+use Rattle.exif_edit.specs.Sharing.{fit_answer, names_child, stands_alone}
+
+-- each field stands alone then
+abbrev pub EachStandsAlone : List ℕ → Type 0
+EachStandsAlone bytes =
+    (order : Order) → header bytes ≡ Ok order
+    → looks_apart bytes ≡ true
+    → All (λ (l : Located). stands_alone (number_of order) bytes l.entry ≡ true) (located bytes)
+
+-- so the last of a name does
+abbrev pub LastStandsAlone : Tag → In → List ℕ → Type 0
+LastStandsAlone tag k bytes =
+    (order : Order) (at : Located) → header bytes ≡ Ok order
+    → last_located tag k (located bytes) ≡ Some at
+    → looks_apart bytes ≡ true → stands_alone (number_of order) bytes at.entry ≡ true
+
+-- and GPS directories do, with their values
+abbrev pub PlacesStandAlone : List ℕ → Type 0
+PlacesStandAlone bytes =
+    (order : Order) → header bytes ≡ Ok order
+    → looks_apart bytes ≡ true → places_stand_alone (number_of order) bytes ≡ true
+
+-- a value that reads back as it was is set if only it fits
+abbrev pub IsSetApart : Tag → In → Value → List ℕ → Type 0
+IsSetApart tag k value bytes =
+    (order : Order) (at : Located) → header bytes ≡ Ok order
+    → last_located tag k (located bytes) ≡ Some at → looks_apart bytes ≡ true
+    → names_child tag.1 ≡ false → IsRanged value → HasPlainTexts value
+    → set_patches bytes tag k value
+    ≡ fit_answer order tag value at.entry (value_room (number_of order) bytes at.entry)
+
+-- places are erased
+abbrev pub AreErasedApart : List ℕ → Type 0
+AreErasedApart bytes =
+    (order : Order) → header bytes ≡ Ok order → looks_apart bytes ≡ true
+    → erase_patches bytes ≡ Ok (map zeros_over (gps_spans (number_of order) bytes))
+
+-- a value that reads back as it was is set in an image if only it fits
+abbrev pub IsSetInImage : Tag → In → Value → Order → List Group → Type 0
+IsSetInImage tag k value order groups =
+    (at : Located) → last_located tag k (located (image order groups)) ≡ Some at
+    → names_child tag.1 ≡ false → IsRanged value → HasPlainTexts value
+    → set_patches (image order groups) tag k value
+    ≡ fit_answer order tag value at.entry
+    (value_room (number_of order) (image order groups) at.entry)
+
+-- places are erased in an image
+abbrev pub AreErasedInImage : Order → List Group → Type 0
+AreErasedInImage order groups =
+    erase_patches (image order groups)
+    ≡ Ok (map zeros_over (gps_spans (number_of order) (image order groups)))
