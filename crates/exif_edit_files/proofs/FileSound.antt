@@ -1,5 +1,5 @@
 -- What an answered edit in a file promises.
-use Rattle.std.proofs.Common.{◌≡◌, ◌≤◌, ◌<◌, ◌+◌, ◌-◌, ℕ, zero, suc, Bool, true, false, List, [], ◌∷◌, length, map, All, Option, Some, None, Result, Ok, Err, inl, inr, ◌⊎◌, refl, sym, ap, subst, ◌∙◌, arith}
+use Rattle.std.proofs.Common.{◌≡◌, ◌≤◌, ◌<◌, ◌+◌, ◌-◌, ℕ, Bool, true, false, List, [], ◌∷◌, length, map, All, Option, Some, None, Result, Ok, Err, inl, inr, ◌⊎◌, refl, sym, ap, subst, ◌∙◌, arith}
 use Rattle.std.specs.Prelude.{if◌then◌else◌, nat_lt}
 use Rattle.std.proofs.lemmas.Bool.Decides.{nat_tests}
 use Rattle.std.specs.List.{find}
@@ -7,7 +7,7 @@ use Rattle.std.specs.Str.{bytes_eq}
 use Rattle.std.proofs.lemmas.Slice.Eq.{bytes_eq-Decides}
 use Rattle.std.proofs.lemmas.Bool.{false≢true}
 use Rattle.std.proofs.lemmas.List.Elements.{All-nil, All-cons, All-head, All-tail}
-use Rattle.exif_base.specs.Bytes.{bytes_at, spaced}
+use Rattle.exif_base.specs.Bytes.{bytes_at}
 use Rattle.exif_types.specs.Refusals.{Refusal}
 use Rattle.exif_containers.specs.Container.{begins_tiff, container_answer}
 use Rattle.exif_edit_base.specs.Causes.{of_container, picture, scattered, ◌>>=◌}
@@ -16,7 +16,8 @@ use Rattle.exif_edit_base.specs.declared.patch.Patch.{Patch}
 use Rattle.exif_edit_base.proofs.CauseSteps.{bound, data_held, ok_same, option_told, passed}
 use Rattle.exif_edit_base.proofs.PatchSteps.{Misses, length-patched, patched_outside, split}
 use Rattle.exif_edit.specs.Clearing.{clear_patches}
-use Rattle.exif_edit_files.specs.InFiles.{Edit, IsEditedIn, clear_file_patches, holds, in_file, place_answer, place_for, placed, search_answer, serves, serves_as_told, shifted, told_place}
+use Rattle.exif_edit_files.specs.InFiles.{Edit, IsEditedIn, clear_file_patches, holds, in_file, place_answer, place_for, placed, search_answer, serves, serves_as_told, shifted, standing_places, told_place}
+use Rattle.exif_edit_files.proofs.StandingPlaces.{standing_within}
 
 -- ---- the place that serves
 
@@ -33,17 +34,19 @@ found_serves test (x ∷ xs) p e = by_test (test x) refl e (found_serves test xs
     by_test false t e k = k e
 
 -- it is one of those that were tried
-found_below : (test : ℕ → Bool) (low n p : ℕ) → find test (spaced low 1 n) ≡ Some p → p < low + n
-found_below test low zero p e = absurd (none_some e)
+found_among : (P : ℕ → Type 0) (test : ℕ → Bool) (xs : List ℕ) (p : ℕ) → All P xs
+    → find test xs ≡ Some p → P p
+found_among P test [] p all e = absurd (none_some e)
   where
     none_some : ◌≡◌ {A = Option ℕ} None (Some p) → ⊥
     none_some e = cc
-found_below test low (suc n) p e = by_test (test low) e (found_below test (low + 1) n p)
+found_among P test (x ∷ xs) p all e =
+    by_test (test x) e (found_among P test xs p (All-tail P x xs all))
   where
-    by_test : (b : Bool) → (if b then Some low else find test (spaced (low + 1) 1 n)) ≡ Some p
-        → (find test (spaced (low + 1) 1 n) ≡ Some p → p < low + 1 + n) → p < low + suc n
-    by_test true e k = let s : low ≡ p = cc in omega arith
-    by_test false e k = let h = k e in omega arith
+    by_test : (b : Bool) → (if b then Some x else find test xs) ≡ Some p
+        → (find test xs ≡ Some p → P p) → P p
+    by_test true e k = let s : x ≡ p = cc in subst P s (All-head P x xs all)
+    by_test false e k = k e
 
 held_by : (x : Result (List ℕ) Refusal) (text : List ℕ)
     → (elim x [ Ok found ↦ bytes_eq found text | Err r ↦ false ]) ≡ true → x ≡ Ok text
@@ -94,11 +97,11 @@ searched_serves : (file old : List ℕ) (ps : List Patch) (place : ℕ)
 unfolding search_answer
 searched_serves file old ps place e =
     let f = option_told (place_for file old ps) scattered place e in
-    let n = length file + 1 - length old in
-    let l = found_below (serves file old ps) 0 n place f in
+    let l = found_among (λ p. p + length old ≤ length file) (serves file old ps)
+    (standing_places file old) place (standing_within file old) f in
     record {
       below = omega arith;
-      good = found_serves (serves file old ps) (spaced 0 1 n) place f;
+      good = found_serves (serves file old ps) (standing_places file old) place f;
     }
 
 pub told_serves : (file old : List ℕ) (ps : List Patch) (place : ℕ)

@@ -1,10 +1,10 @@
 -- The steps of an edit in a file.
-use Rattle.std.proofs.Common.{◌≡◌, ◌≤◌, ◌<◌, ◌+◌, ◌-◌, ℕ, true, false, List, ◌∷◌, length, get_or, set, drop, All, Some, None, Result, Ok, Err, refl, sym, ap, ◌∙◌, arith}
+use Rattle.std.proofs.Common.{◌≡◌, ◌≤◌, ◌<◌, ◌+◌, ℕ, Bool, true, false, List, [], ◌∷◌, length, get_or, set, drop, All, Some, None, Result, Ok, Err, refl, sym, ap, ◌∙◌, arith}
 use Rattle.std.specs.Prelude.{if◌then◌else◌}
 use Rattle.std.specs.List.{find}
-use Rattle.std.proofs.lemmas.List.{drop-set-lt}
+use Rattle.std.proofs.lemmas.Grind.{common_steps}
+use Rattle.std.proofs.lemmas.List.{drop-set-lt, get_or_default}
 use Rattle.std.proofs.lemmas.List.Elements.{All-head, All-rest, All-same}
-use Rattle.exif_base.specs.Bytes.{spaced}
 use Rattle.exif_types.specs.Refusals.{Refusal}
 use Rattle.exif_containers.specs.Answer.{Answer, found}
 use Rattle.exif_containers.specs.Container.{begins_tiff, container_answer}
@@ -15,38 +15,43 @@ use Rattle.exif_edit_base.proofs.ChangeSteps.{left_step}
 use Rattle.exif_edit.specs.Clearing.{clear_patches}
 use Rattle.exif_edit_files.specs.InFiles.{Edit, clear_file_patches, in_file, place_answer, place_for, placed, search_answer, serves, serves_as_told, told_place}
 use Rattle.exif_edit_files.specs.Pieces.{piece_in, place_before}
-use Rattle.exif_reader.proofs.ParserRuns.{spaced_step}
 
 -- ---- the search of the place
 
-pub place_on : (file old : List ℕ) (ps : List Patch) (place count : ℕ) → place < count
-    → find (serves file old ps) (spaced place 1 (count - place)) ≡ place_for file old ps
-    → serves file old ps place ≡ false
-    → find (serves file old ps) (spaced (place + 1) 1 (count - (place + 1))) ≡ place_for file old ps
-place_on file old ps place count h f s =
-    let g : find (serves file old ps) (place ∷ spaced (place + 1) 1 (count - (place + 1)))
-    ≡ place_for file old ps = rw (spaced_step count place place 1 h) at f in
-    sym (ap (λ b. if b then Some place else find (serves file old ps)
-    (spaced (place + 1) 1 (count - (place + 1)))) s) ∙ g
+-- from one of the places that are tried to the next
+step_on : (test : ℕ → Bool) (xs : List ℕ) (i : ℕ) → i < length xs
+    → find test (drop i xs)
+    ≡ (if test (get_or xs i 0) then Some (get_or xs i 0) else find test (drop (i + 1) xs))
+step_on test xs i h =
+    ap (find test) (left_step xs i (get_or xs i 0) h (get_or_default xs i 0 (get_or xs i 0) h))
 
-pub place_found : (file old : List ℕ) (ps : List Patch) (place count : ℕ) → place < count
-    → find (serves file old ps) (spaced place 1 (count - place)) ≡ place_for file old ps
-    → serves file old ps place ≡ true → search_answer file old ps ≡ Ok place
+pub place_on : (file old : List ℕ) (ps : List Patch) (xs : List ℕ) (i : ℕ) → i < length xs
+    → find (serves file old ps) (drop i xs) ≡ place_for file old ps
+    → serves file old ps (get_or xs i 0) ≡ false
+    → find (serves file old ps) (drop (i + 1) xs) ≡ place_for file old ps
+place_on file old ps xs i h f s =
+    let test = serves file old ps in
+    sym (ap (λ b. if b then Some (get_or xs i 0) else find test (drop (i + 1) xs)) s)
+    ∙ (sym (step_on test xs i h) ∙ f)
+
+pub place_found : (file old : List ℕ) (ps : List Patch) (xs : List ℕ) (i : ℕ) → i < length xs
+    → find (serves file old ps) (drop i xs) ≡ place_for file old ps
+    → serves file old ps (get_or xs i 0) ≡ true
+    → search_answer file old ps ≡ Ok (get_or xs i 0)
 unfolding search_answer
-place_found file old ps place count h f s =
-    let g : find (serves file old ps) (place ∷ spaced (place + 1) 1 (count - (place + 1)))
-    ≡ place_for file old ps = rw (spaced_step count place place 1 h) at f in
-    let e : Some place ≡ place_for file old ps =
-    sym (ap (λ b. if b then Some place else find (serves file old ps)
-    (spaced (place + 1) 1 (count - (place + 1)))) s) ∙ g in
-    ap (λ p. or_cause p scattered) (sym e)
+place_found file old ps xs i h f s =
+    let test = serves file old ps in
+    let e : Some (get_or xs i 0) ≡ place_for file old ps =
+    sym (ap (λ b. if b then Some (get_or xs i 0) else find test (drop (i + 1) xs)) s)
+    ∙ (sym (step_on test xs i h) ∙ f) in
+    ap (λ q. or_cause q scattered) (sym e)
 
-pub place_none : (file old : List ℕ) (ps : List Patch) (place count : ℕ) → count ≤ place
-    → find (serves file old ps) (spaced place 1 (count - place)) ≡ place_for file old ps
+pub place_none : (file old : List ℕ) (ps : List Patch) (xs : List ℕ) (i : ℕ) → length xs ≤ i
+    → find (serves file old ps) (drop i xs) ≡ place_for file old ps
     → search_answer file old ps ≡ Err scattered
 unfolding search_answer
-place_none file old ps place count h f =
-    let z : count - place ≡ 0 = omega arith in
+place_none file old ps xs i h f =
+    let z : drop i xs ≡ [] = grind (arith, common_steps) in
     let g : None ≡ place_for file old ps = rw z at f in
     ap (λ p. or_cause p scattered) (sym g)
 

@@ -1,12 +1,11 @@
 -- A JPEG stream and a WebP file are edited alike, held or read once.
 use Rattle.std.proofs.Common.{◌≡◌, ◌≤◌, ◌<◌, ◌+◌, ◌-◌, ◌^◌, ◌&&◌, ℕ, Bool, true, false, List, [], All, length, map, Option, Some, None, Result, Ok, Err, refl, sym, ap, subst, ◌∙◌, arith}
 use Rattle.std.specs.Prelude.{nat_lt}
-use Rattle.std.specs.List.{find}
 use Rattle.std.specs.Str.{bytes_eq}
 use Rattle.std.proofs.lemmas.Bool.Decides.{nat_tests}
 use Rattle.std.proofs.lemmas.Slice.Eq.{bytes_eq-Decides}
 use Rattle.std.proofs.lemmas.List.Elements.{All-nil}
-use Rattle.exif_base.specs.Bytes.{bytes_at, spaced}
+use Rattle.exif_base.specs.Bytes.{bytes_at}
 use Rattle.exif_types.specs.Refusals.{Refusal}
 use Rattle.exif_containers.specs.Answer.{Answer, found}
 use Rattle.exif_containers.specs.Container.{container_answer}
@@ -16,7 +15,8 @@ use Rattle.exif_edit_base.specs.declared.patch.Patch.{Patch}
 use Rattle.exif_edit_files.specs.InFiles.{Edit, holds, piece_place, place_answer, search_answer, serves, serves_as_told, shifted, told_place}
 use Rattle.exif_edit_files.specs.Pieces.{piece_in, place_before}
 use Rattle.exif_edit_files.specs.Streams.{IsEditedAlike}
-use Rattle.exif_edit_files.proofs.FileSteps.{file_placed, place_as_told, place_found, place_searched, told_found, told_refused}
+use Rattle.exif_edit_files.proofs.FileSteps.{file_placed, place_as_told, place_searched, told_found, told_refused}
+use Rattle.exif_edit_files.proofs.StandingPlaces.{stands_first}
 use Rattle.exif_edit_files.proofs.FileSound.{told_serves}
 use Rattle.exif_edit_files.proofs.StreamSound.{PieceAt, piece_at, streamed_at}
 
@@ -106,11 +106,8 @@ place_refused file old ps r e =
         → search_answer file old ps ≡ place_answer file old ps
     by_told false h = place_searched file old ps h
     by_told true h =
-        let n = length file + 1 - length old in
         let t = told_serves file old ps 0 h zero_told in
-        let z : n - 0 ≡ n = omega arith in
-        place_found file old ps 0 n t.below
-        (ap (λ m. find (serves file old ps) (spaced 0 1 m)) z) t.good
+        stands_first file old ps t.below t.good
         ∙ sym (place_as_told file old ps 0 h (sym zero_told))
 
 -- where lengths tell a place, patches serve there

@@ -3,6 +3,7 @@ pub mod FileSteps
 pub mod InPlace
 pub mod LawsStreams
 pub mod Splicing
+pub mod StandingPlaces
 pub mod StreamSound
 pub mod StreamSteps
 pub mod TiffFiles

@@ -1,9 +1,10 @@
 -- Exif data edited where they stand in a file.
-use Rattle.std.specs.Prelude.{◌≡◌, ℕ, ◌+◌, ◌-◌, ◌<◌, ◌≤◌, ◌&&◌, ◌⊎◌, nat_lt, if◌then◌else◌, Bool, true, false, List, length, map, slice_index, Option, Some, None, Result, Ok, Err}
+use Rattle.std.specs.Prelude.{◌≡◌, ℕ, ◌+◌, ◌-◌, ◌<◌, ◌≤◌, ◌&&◌, ◌⊎◌, nat_lt, if◌then◌else◌, Bool, true, false, List, length, map, slice_index, take, Option, Some, None, Result, Ok, Err}
 use Rattle.std.specs.List.{find}
 use Rattle.std.specs.Str.{bytes_eq}
 use Rattle.std.specs.declared.alloc.AllocError.{AllocError}
-use Rattle.exif_base.specs.Bytes.{bytes_at, spaced}
+use Rattle.memchr.specs.Find.{matches}
+use Rattle.exif_base.specs.Bytes.{bytes_at}
 use Rattle.exif_containers.specs.Container.{begins_tiff, container_answer}
 use Rattle.exif_edit_base.specs.Causes.{Cause, of_container, or_cause, picture, scattered, unless, ◌>>=◌}
 use Rattle.exif_edit_base.specs.Patches.{patched}
@@ -30,10 +31,14 @@ serves file old patches place =
     bytes_eq (bytes_at (length old) file place) old
     && holds (patched (map (shifted place) patches) file) (patched patches old)
 
--- the first place that serves
+-- the first places at which data stand in a file, none within another: eight at most are tried, so
+-- that a file that holds its data many times costs so many readings
+abbrev pub standing_places : List ℕ → List ℕ → List ℕ
+standing_places file data' = take 8 (matches file data' 0)
+
+-- the first of them that serves
 abbrev pub place_for : List ℕ → List ℕ → List Patch → Option ℕ
-place_for file old patches =
-    find (serves file old patches) (spaced 0 1 (length file + 1 - length old))
+place_for file old patches = find (serves file old patches) (standing_places file old)
 
 -- the same, or why there is none
 unfoldable pub search_answer : List ℕ → List ℕ → List Patch → Result ℕ Cause

@@ -11,6 +11,7 @@ ghost use Rattle.exif_edit.specs.Setting.{set_patches};
 ghost use Rattle.exif_edit_files.specs.InFiles.{IsEditedIn, clear_file_patches, edited_file, holds, in_file, piece_place, place_answer, placed, search_answer, serves, shifted};
 
 use crate::in_place::put_in_file;
+use crate::standing::standing_places;
 use crate::stream::piece_in;
 use exif_base::Counted;
 use exif_containers::container::is_tiff;
@@ -102,7 +103,7 @@ pub fn shift(patches: &mut [Patch], place: usize, len: usize)
     }
 }
 
-// The first place of a file at which patches of its data serve.
+// The first place of a file at which patches of its data serve, of those that are tried.
 fn searched_place(
     alloc: Global,
     file: &[u8],
@@ -116,11 +117,11 @@ fn searched_place(
         (search_answer file.now old.now patches.now) }
     ensures within { IfOk result (λ place. place + length old.now ≤ length file.now) }
 {
-    let count = (file.len() + 1).saturating_sub(old.len());
-    for place in 0..count {
-        let found = serves(alloc, file, old, new, patches, place)?;
+    let places = standing_places(alloc, file, old)?;
+    for place in &places {
+        let found = serves(alloc, file, old, new, patches, *place)?;
         if found {
-            return Ok(place);
+            return Ok(*place);
         }
     }
     Err(Error::ScatteredData)

@@ -10,6 +10,7 @@ ghost use Rattle.exif_edit_base.specs.Patches.{FitsIn, patched, put_at, put_back
 ghost use Rattle.exif_edit_files.specs.InFiles.{Tries, holds, placed_file, searched_file, shifted};
 
 use crate::file::{apply_at, holds, piece_place};
+use crate::standing::standing_places;
 use exif_edit::{Error, Patch};
 use exif_edit_base::patch::{exchange, put_back};
 use std::alloc::{AllocError, Global};
@@ -89,9 +90,9 @@ fn put_where_they_serve(
     requires { All (FitsIn (length old.now)) patches.old }
     ensures { Edits result file.old file.new (searched_file file.old old.now patches.old) }
 {
-    let count = (file.len() + 1).saturating_sub(old.len());
-    for place in 0..count {
-        let served = try_at(alloc, file, place, old, patches)?;
+    let places = standing_places(alloc, file, old)?;
+    for place in &places {
+        let served = try_at(alloc, file, *place, old, patches)?;
         if served {
             return Ok(());
         }

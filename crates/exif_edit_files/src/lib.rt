@@ -14,6 +14,7 @@
 mod file;
 mod in_place;
 pub mod laws;
+mod standing;
 mod stream;
 
 pub use file::{

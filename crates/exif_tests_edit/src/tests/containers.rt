@@ -5,6 +5,7 @@ use super::calls::{
     field_in_file, field_patches, is_zeroed, places_in_file, places_patches, set_in_file,
     set_patches,
 };
+use super::undone::HEAD;
 use super::{is_zero, part, refuses, text};
 use exif_base::{Counted, Seekable};
 use exif_edit::{Error, Patch};
@@ -198,6 +199,35 @@ fn a_copy_in_front_of_the_data_stays(rt: HostRuntime) -> Result<(), Fail> {
     let old = joined(alloc, &[COMMENT, DATA, SEGMENT, DATA, b"\xff\xd9"])?;
     // the comment ends at 68, and the segment's head at 78
     assert!(rt; matches!(loses_places(alloc, old.as_slice(), 78), Ok(true)));
+    Ok(())
+}
+
+// A HEIF file with so many copies of its data in front of them: the item's place, and the size of the
+// box with the copies, end in these bytes.
+fn crowded(alloc: Global, copies: usize, place: &[u8], size: &[u8]) -> Result<Vec<u8>, AllocError> {
+    let parts = [
+        part(HEAD, 0, 56),
+        place,
+        part(HEAD, 58, 98),
+        size,
+        part(HEAD, 100, 104),
+    ];
+    let mut file = joined(alloc, &parts)?;
+    for _ in 0..copies {
+        file.extend_from_slice(DATA)?;
+    }
+    file.extend_from_slice(b"\0\0\0\0")?;
+    file.extend_from_slice(DATA)?;
+    Ok(file)
+}
+
+#[test]
+fn data_are_tried_at_eight_places(rt: HostRuntime) -> Result<(), Fail> {
+    let alloc = rt.alloc();
+    let eighth = crowded(alloc, 7, b"\x02\x1a", b"\x01\xba")?;
+    assert!(rt; matches!(loses_places(alloc, eighth.as_slice(), 542), Ok(true)));
+    let ninth = crowded(alloc, 8, b"\x02\x58", b"\x01\xf8")?;
+    assert!(rt; places_stay(alloc, ninth.as_slice())?);
     Ok(())
 }
 

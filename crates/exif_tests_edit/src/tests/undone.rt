@@ -14,7 +14,7 @@ use std::alloc::Global;
 use std::test::Fail;
 
 // A HEIF file up to its item: a copy of its data, which begins at 104, stands in front of it.
-const HEAD: &[u8] =
+pub(super) const HEAD: &[u8] =
     b"\0\0\0\x14ftypmif1\0\0\0\0mif1\0\0\0Lmeta\0\0\0\0\0\0\0\x1eiloc\0\0\0\0D\0\0\x01\x1e\x1d\0\0\0\x01\0\0\0\xa6\0\0\0B\0\0\0\"iinf\0\0\0\0\0\x01\0\0\0\x14infe\x02\0\0\0\x1e\x1d\0\0Exif\0\0\0\x46free";
 
 // Where the data of that file begin, and where it ends.
