@@ -13,6 +13,18 @@ gives "faults are passed over" 3 "$exif_show" -c files/faulty.jpg
 gives "a name that is no UTF-8 is refused" 1 sh -c '"$1" "$(printf "files/\377.jpg")"' sh "$exif_show"
 says "the refusal is a sentence" "The name is not UTF-8"
 
+# Directories in front of gigabytes, with memory for none of these: the front says all, and more than 2^32 bytes are too many.
+printf 'MM\0*\0\0\0\010\0\001\001\016\0\002\0\0\0\007\0\0\0\032\0\0\0\0Sample\0' >large.tif
+truncate -s 3G large.tif
+gives "3 GB are shown by their front" 0 sh -c 'ulimit -v 65536 && exec "$1" large.tif' sh "$exif_show"
+holds "the field in front is shown" 'ImageDescription primary "Sample"'
+truncate -s 4294967295 large.tif
+gives "as many as places of 32 bits reach are shown" 0 sh -c 'ulimit -v 65536 && exec "$1" large.tif' sh "$exif_show"
+truncate -s 4294967296 large.tif
+gives "one more is refused" 1 sh -c 'ulimit -v 65536 && exec "$1" large.tif' sh "$exif_show"
+says "the refusal is named" "TIFF data too large"
+rm large.tif
+
 # What the first call says: tools/ in a repository of four crates, one of them proved, with an rt that only tells.
 mkdir -p young/bin young/crates/exif_show young/crates/base/out young/crates/other/src
 cp -r "$root/tools" "$root/exif_show" young

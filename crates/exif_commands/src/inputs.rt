@@ -75,12 +75,12 @@ pub fn read(
     match input {
         Input::Bytes(bytes) => {
             let format = format_of(bytes.as_slice());
-            let answer = by.read_from_container(alloc, &mut Counted::new(bytes.as_slice()));
+            let answer = by.read_by_need(alloc, &mut Counted::new(bytes.as_slice()));
             Ok((format, answer))
         }
         Input::File(mut file) => {
             let format = format_of(head_of(alloc, &mut file)?.as_slice());
-            let answer = by.read_from_container(alloc, &mut Seekable::new(file));
+            let answer = by.read_by_need(alloc, &mut Seekable::new(file));
             Ok((format, answer))
         }
     }

@@ -4,6 +4,7 @@ pub mod ParserRuns
 pub mod ParserTurns
 pub mod PlacesTold
 pub mod ReaderBounds
+pub mod ReaderFronts
 pub mod ReaderOwnData
 pub mod TiffAnswers
 pub mod TiffLimits

@@ -7,7 +7,7 @@ use Rattle.exif_types.specs.Refusals.{Refusal, refusal_of, IsInterrupted, ◌>>=
 use Rattle.exif_types.specs.declared.error.Error.TheVariants as error
 use Rattle.exif_tiff.specs.Answers.{Answer, raw_answer, first_fault}
 use Rattle.exif_containers.specs.Container.{container_answer, container_refusals}
-use Rattle.exif_reader.specs.Readings.{IsRefusal, ReadsAs, ReadsOr}
+use Rattle.exif_reader.specs.Readings.{HoldsData, HoldsFront, IsRefusal, ReadsAs, ReadsHeld}
 
 -- the answer of a file, or the refusal of its container
 abbrev pub file_answer : Bool → Option ℕ → List ℕ → Result Answer Refusal
@@ -21,13 +21,24 @@ StrictIsFirstFaultOfFile limit bytes =
     file_answer false limit bytes
     ≡ (file_answer true limit bytes >>= λ answer. Ok (first_fault answer))
 
--- what is read of a container: the answer of its data, or its refusal
-abbrev pub ReadsContainer :
-    (List ℕ → Answer) → Result (List ℕ) Refusal → Result ExifContents Failure → Type 0
-ReadsContainer answer (Ok bytes) result = ReadsOr IsInterrupted (answer bytes) bytes result
-ReadsContainer answer (Err r) (Ok exif) = ⊥
-ReadsContainer answer (Err r) (Err e) =
+-- what is read of a container: the answer of its data, to which H ties the contents, or its refusal
+abbrev pub ReadsContainerHeld : (ExifContents → List ℕ → Type 0) → (List ℕ → Answer)
+    → Result (List ℕ) Refusal → Result ExifContents Failure → Type 0
+ReadsContainerHeld H answer (Ok bytes) result =
+    ReadsHeld H IsInterrupted (answer bytes) bytes result
+ReadsContainerHeld H answer (Err r) (Ok exif) = ⊥
+ReadsContainerHeld H answer (Err r) (Err e) =
     MatchOption (refusal_of e) (IsInterrupted e) (λ refused. refused ≡ r)
+
+-- so with all the data
+abbrev pub ReadsContainer : (List ℕ → Answer) → Result (List ℕ) Refusal
+    → Result ExifContents Failure → Type 0
+ReadsContainer = ReadsContainerHeld HoldsData
+
+-- or with a front of them
+abbrev pub ReadsByNeed : (List ℕ → Answer) → Result (List ℕ) Refusal
+    → Result ExifContents Failure → Type 0
+ReadsByNeed = ReadsContainerHeld HoldsFront
 
 -- ---- what is said where a source tells no bytes, as that of a file
 

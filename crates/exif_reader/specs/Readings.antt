@@ -1,5 +1,5 @@
 -- What the public calls say of data.
-use Rattle.std.specs.Prelude.{◌≡◌, ℕ, Bool, map, List, Option, Result, Ok, Err, IsOk, MatchOption, Vec}
+use Rattle.std.specs.Prelude.{◌≡◌, ℕ, ◌++◌, Bool, map, List, Option, Result, Ok, Err, IsOk, MatchOption, Vec}
 use Rattle.std.specs.Global.{Global}
 use Rattle.exif_base.specs.Orders.{order_named}
 use Rattle.exif_types.specs.Contents.{ExifContents}
@@ -29,16 +29,27 @@ IsRefusal answer r = (fault : Fault) × (answer ≡ Refused fault) × (r ≡ ref
 abbrev pub FailsAs : Answer → (Failure → Type 0) → Failure → Type 0
 FailsAs answer P e = MatchOption (refusal_of e) (P e) (IsRefusal answer)
 
--- the fields are all there are; or they come with the faults; or the data are refused; P holds of
--- other errors
-abbrev pub ReadsOr : (Failure → Type 0) → Answer → List ℕ → Result ExifContents Failure → Type 0
-ReadsOr P answer bytes (Ok exif) = (answer ≡ Whole exif.fields) × HoldsData exif bytes
-ReadsOr P answer bytes (Err (error.PartialResult partial)) =
+-- the contents are those of the data, or of a front of them
+abbrev pub HoldsFront : ExifContents → List ℕ → Type 0
+HoldsFront exif bytes =
+    ((rest : List ℕ) × (bytes ≡ exif.buf ++ rest))
+    × (header bytes ≡ Ok (order_named exif.little_endian))
+
+-- the fields are all there are; or they come with the faults; or the data are refused; H ties the
+-- contents to the data, and P holds of other errors
+abbrev pub ReadsHeld : (ExifContents → List ℕ → Type 0) → (Failure → Type 0) → Answer → List ℕ
+    → Result ExifContents Failure → Type 0
+ReadsHeld H P answer bytes (Ok exif) = (answer ≡ Whole exif.fields) × H exif bytes
+ReadsHeld H P answer bytes (Err (error.PartialResult partial)) =
     (faults : List Fault)
     × (answer ≡ Partial partial.exif.fields faults)
     × (map bytes_of partial.faults ≡ map text_of faults)
-    × HoldsData partial.exif bytes
-ReadsOr P answer bytes (Err e) = FailsAs answer P e
+    × H partial.exif bytes
+ReadsHeld H P answer bytes (Err e) = FailsAs answer P e
+
+-- so where the contents are those of the data
+abbrev pub ReadsOr : (Failure → Type 0) → Answer → List ℕ → Result ExifContents Failure → Type 0
+ReadsOr = ReadsHeld HoldsData
 
 -- out of memory, which comes only behind a right header
 abbrev pub RunsOut : List ℕ → Failure → Type 0

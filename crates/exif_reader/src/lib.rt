@@ -2,6 +2,7 @@
 //! container.
 #![tactic(auto)]
 
+mod by_need;
 mod bytes;
 pub mod directory;
 pub mod laws;

@@ -1,25 +1,34 @@
 //! Readers of Exif metadata.
 
-ghost use Rattle.std.specs.Prelude.{◌≡◌, All, map, IfOk, IfSome, None, Some, false};
+ghost use Rattle.std.specs.Prelude.{◌≡◌, ◌≤◌, ◌++◌, ◌^◌, length, All, map, IfOk, IfSome, None, Some, Ok, false};
 ghost use Rattle.exif_base.specs.Device.{count_after};
+ghost use Rattle.exif_base.specs.Orders.{order_named};
+ghost use Rattle.exif_base.specs.Reads.{Counts};
 ghost use Rattle.exif_types.specs.Failures.{told_text, bytes_of, IsInvalidFormat};
-ghost use Rattle.exif_types.specs.Refusals.{is_io};
+ghost use Rattle.exif_types.specs.Refusals.{IsInterrupted, is_io};
 ghost use Rattle.exif_tiff.specs.Faults.{text_of};
-ghost use Rattle.exif_tiff.specs.Answers.{raw_answer};
+ghost use Rattle.exif_tiff.specs.Answers.{Whole, raw_answer};
+ghost use Rattle.exif_tiff.specs.Trace.{header};
 ghost use Rattle.exif_containers.specs.Container.{container_answer};
 ghost use Rattle.exif_reader.specs.Bounds.{ReportsAtMost};
-ghost use Rattle.exif_reader.specs.Files.{AnswersOwnData, ReadsContainer};
-ghost use Rattle.exif_reader.specs.Readings.{ReadsAs};
+ghost use Rattle.exif_reader.specs.Files.{AnswersOwnData, ReadsByNeed, ReadsContainer};
+ghost use Rattle.exif_reader.specs.Readings.{HoldsFront, ReadsAs, ReadsHeld};
 
+use crate::by_need::{FRONT, parse_front, pass_rest, read_at_most, read_rest};
 use crate::bytes::show_bytes;
-use crate::tiff;
-use exif_base::Source;
+use crate::tiff::{self, Parsed};
+use exif_base::{Blocks, Source, read_front};
+use exif_containers::container::is_tiff;
 use exif_containers::exif_attr_of_stream;
+use exif_containers::laws::tiff_data_stand_alone;
 use exif_tiff::Fault;
-use exif_tiff::laws::{answers_show_what_was_read, reading_is_bounded};
+use exif_tiff::laws::{a_front_may_say_all, answers_show_what_was_read, reading_is_bounded};
 use exif_types::{Error, Exif, exif_from_parts, partial_from_parts};
 use std::alloc::{AllocError, Global};
 use std::marker::Model;
+
+// How many bytes are read ahead, to see whether they begin TIFF data.
+const HEAD: usize = 4096;
 
 /// A reader of Exif metadata: how it takes faults, and how many entries it visits at most. It holds
 /// nothing of a file, so one reader serves for many.
@@ -145,6 +154,114 @@ impl Reader {
     {
         let bytes = exif_attr_of_stream(alloc, source)?;
         let exif = self.read_raw(alloc, bytes)?;
+        Ok(exif)
+    }
+
+    /// Reads as `read_from_container` does, but of TIFF data no more than a front of 262,144 bytes,
+    /// where strict reading meets no fault there: then all the data say the same. The rest is
+    /// skipped, so a large file costs no more than a small one where its directories stand in front.
+    ///
+    /// The fields, the faults and the byte order are those of `read_from_container`; the data that
+    /// are handed on (`buf`) may be the front alone, so strips and thumbnails may lie behind it.
+    /// An error of the device behind the front is not met where the source seeks over it.
+    ///
+    /// ```
+    /// let exif = Reader::new().read_by_need(alloc, &mut Seekable::new(file))?;
+    /// let taken = exif.get_field(Tag::DateTimeOriginal, In::PRIMARY);
+    /// ```
+    pub fn read_by_need<R: Source>(&self, alloc: Global, source: &mut R) -> Result<Exif, Error>
+        ensures reads { IfSome (R.left source.old)
+            (λ bytes. ReadsByNeed (raw_answer self.now.lenient self.now.limit)
+            (container_answer bytes) result) }
+        ensures own { AnswersOwnData (raw_answer self.now.lenient self.now.limit) result }
+        ensures bounded { ReportsAtMost self.now.limit result }
+        ensures count { R.failures source.new ≡ count_after (is_io result) (R.failures source.old) }
+        ensures same { R.through source.new ≡ R.through source.old }
+    {
+        let mut block = [0u8; HEAD];
+        let filled = read_front(source, &mut block)?;
+        let begins_tiff = is_tiff(&block[..filled]);
+        tiff_data_stand_alone();
+        let mut blocks = Blocks::new(&mut block, filled, source);
+        if begins_tiff {
+            let exif = self.read_tiff(alloc, &mut blocks)?;
+            return Ok(exif);
+        }
+        let exif = self.read_from_container(alloc, &mut blocks)?;
+        Ok(exif)
+    }
+
+    // Reads TIFF data by a front of them, where that says all.
+    fn read_tiff<R: Source>(&self, alloc: Global, source: &mut R) -> Result<Exif, Error>
+        ensures reads { IfSome (R.left source.old) (λ bytes. ReadsHeld HoldsFront IsInterrupted
+            (raw_answer self.now.lenient self.now.limit bytes) bytes result) }
+        ensures own { AnswersOwnData (raw_answer self.now.lenient self.now.limit) result }
+        ensures bounded { ReportsAtMost self.now.limit result }
+        ensures counts { Counts R.Source source.old source.new (is_io result) }
+    {
+        let mut front = Vec::new(alloc);
+        let n = read_at_most(source, &mut front, FRONT)?;
+        if n < FRONT {
+            let exif = self.read_raw(alloc, front)?;
+            return Ok(exif);
+        }
+        match parse_front(alloc, front.as_slice(), self.limit)? {
+            Some(parsed) => {
+                let exif = self.read_no_more(alloc, source, front, parsed)?;
+                Ok(exif)
+            }
+            None => {
+                let exif = self.read_on(alloc, source, front)?;
+                Ok(exif)
+            }
+        }
+    }
+
+    // What was read of TIFF data by a front of them that says all.
+    fn read_no_more<R: Source>(
+        &self,
+        alloc: Global,
+        source: &mut R,
+        front: Vec<u8>,
+        parsed: Parsed,
+    ) -> Result<Exif, Error>
+        requires whole { raw_answer false self.now.limit front.items ≡ Whole parsed.fields.items }
+        requires order { header front.items ≡ Ok (order_named parsed.little_endian) }
+        requires room { length front.items ≤ 2 ^ 32 }
+        ensures reads { IfSome (R.left source.old) (λ rest. ReadsHeld HoldsFront IsInterrupted
+            (raw_answer self.now.lenient self.now.limit (front.items ++ rest)) (front.items ++ rest)
+            result) }
+        ensures own { AnswersOwnData (raw_answer self.now.lenient self.now.limit) result }
+        ensures bounded { ReportsAtMost self.now.limit result }
+        ensures counts { Counts R.Source source.old source.new (is_io result) }
+    {
+        show_bytes(front.as_slice());
+        reading_is_bounded();
+        answers_show_what_was_read();
+        a_front_may_say_all();
+        if !pass_rest(source, front.len() as u64)? {
+            return Err(Error::TooBig(Fault::DataTooLarge.message()));
+        }
+        let exif = exif_from_parts(alloc, front, parsed.fields, parsed.little_endian)?;
+        Ok(exif)
+    }
+
+    // Reads TIFF data behind a front of them, and then all.
+    fn read_on<R: Source>(
+        &self,
+        alloc: Global,
+        source: &mut R,
+        mut data: Vec<u8>,
+    ) -> Result<Exif, Error>
+        ensures reads { IfSome (R.left source.old) (λ rest. ReadsHeld HoldsFront IsInterrupted
+            (raw_answer self.now.lenient self.now.limit (data.items ++ rest)) (data.items ++ rest)
+            result) }
+        ensures own { AnswersOwnData (raw_answer self.now.lenient self.now.limit) result }
+        ensures bounded { ReportsAtMost self.now.limit result }
+        ensures counts { Counts R.Source source.old source.new (is_io result) }
+    {
+        read_rest(source, &mut data)?;
+        let exif = self.read_raw(alloc, data)?;
         Ok(exif)
     }
 

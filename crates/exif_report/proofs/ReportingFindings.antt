@@ -15,7 +15,7 @@ use Rattle.exif_tiff.specs.Answers.{Answer, Refused, Whole, Partial}
 use Rattle.exif_tiff.specs.Faults.{text_of}
 use Rattle.exif_tiff.specs.declared.fault.Fault.{Fault}
 use Rattle.exif_containers.specs.Container.{container_refusals}
-use Rattle.exif_reader.specs.Files.{AnswersOwnData, ReadsContainer, IsDataRefusal}
+use Rattle.exif_reader.specs.Files.{AnswersOwnData, ReadsByNeed, IsDataRefusal}
 use Rattle.exif_reader.specs.Readings.{IsRefusal}
 use Rattle.exif_report.specs.Lines.{field_line, fault_line, error_line}
 use Rattle.exif_report.specs.Reports.{Finds, FindsOwn, Holds, HoldsAnswer, Reports, ReportsSome, WritesWhole, IsRefusedAs, IsNamedRefusal, given_by, report_text, answer_text, fault_count}
@@ -25,13 +25,13 @@ use Rattle.exif_base.proofs.Sent.{keeps_same, front_none}
 
 -- all the fields
 pub finds_whole : (answer : List ℕ → Answer) (container : Result (List ℕ) Refusal) (exif : ExifContents) (errors : List Failure) → errors ≡ []
-    → ReadsContainer answer container (Ok exif) → HoldsAnswer (given_by answer container) exif errors
+    → ReadsByNeed answer container (Ok exif) → HoldsAnswer (given_by answer container) exif errors
 finds_whole answer (Ok bytes) exif errors none h = rw (h.0) (refl, none)
 finds_whole answer (Err r) exif errors none h = h
 
 -- the fields and the faults of a partial result
 pub finds_partial : (answer : List ℕ → Answer) (container : Result (List ℕ) Refusal) (partial : PartialContents (Bor (List ℕ))) (exif : ExifContents) (errors : List Failure)
-    → ReadsContainer answer container (Err (error.PartialResult partial)) → exif ≡ partial.exif → map told_text errors ≡ partial.faults
+    → ReadsByNeed answer container (Err (error.PartialResult partial)) → exif ≡ partial.exif → map told_text errors ≡ partial.faults
     → HoldsAnswer (given_by answer container) exif errors
 finds_partial answer (Ok bytes) partial exif errors h same told =
     rw (h.1) (ap (λ (e : ExifContents). e.fields) same, ap (map bytes_of) told ∙ h.2)
@@ -57,7 +57,7 @@ finds_error answer (Err r) e h = by_refusal e (refusal_of e) (λ q. q ≡ r) (Is
 
 -- an error that is no partial result
 pub other_error : (answer : List ℕ → Answer) (container : Result (List ℕ) Refusal) (e : Failure) → ((partial : PartialContents (Bor (List ℕ))) → e ≡ error.PartialResult partial → ⊥)
-    → ReadsContainer answer container (Err e) → Finds (given_by answer container) (Err e)
+    → ReadsByNeed answer container (Err e) → Finds (given_by answer container) (Err e)
 other_error answer (Err r) e differs h = finds_error answer (Err r) e h
 other_error answer (Ok bytes) (error.PartialResult x) differs h = absurd (differs x refl)
 other_error answer (Ok bytes) error.OutOfMemory differs h = finds_error answer (Ok bytes) error.OutOfMemory h

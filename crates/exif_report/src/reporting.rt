@@ -9,7 +9,7 @@ ghost use Rattle.std.specs.String.{string_bytes};
 ghost use Rattle.exif_types.specs.Failures.{IsInvalidFormat};
 ghost use Rattle.exif_types.specs.Refusals.{Refusal, is_io, is_io_error, IsInterrupted};
 ghost use Rattle.exif_tiff.specs.Answers.{Answer, raw_answer};
-ghost use Rattle.exif_reader.specs.Files.{AnswersOwnData, ReadsContainer, file_answer};
+ghost use Rattle.exif_reader.specs.Files.{AnswersOwnData, ReadsByNeed, file_answer};
 ghost use Rattle.exif_report.specs.Lines.{field_line, error_line};
 ghost use Rattle.exif_report.specs.Writes.{Writes};
 ghost use Rattle.exif_report.specs.Reports.{Finds, FindsOwn, Reports, ReportsSome, given_by};
@@ -75,7 +75,7 @@ fn write_errors<W: Sink>(alloc: Global, errors: &[Error], out: &mut W) -> Result
 /// The fields that were read, and the faults that were passed over.
 fn found_of(alloc: Global, answer: Result<Exif, Error>) -> Result<(Exif, Vec<Error>), Error>
     ensures finds { (expected : List ℕ → Answer) (container : Result (List ℕ) Refusal)
-        → ReadsContainer expected container answer.entry
+        → ReadsByNeed expected container answer.entry
         → Finds (given_by expected container) result }
     ensures own { (expected : List ℕ → Answer) → AnswersOwnData expected answer.entry
         → FindsOwn expected result }
@@ -127,7 +127,7 @@ fn report_by<R: Source, W: Sink>(
     ensures read_through { R.through reader.new ≡ R.through reader.old }
     ensures written_through { W.through out.new ≡ W.through out.old }
 {
-    let (exif, errors) = found_of(alloc, by.read_from_container(alloc, reader))?;
+    let (exif, errors) = found_of(alloc, by.read_by_need(alloc, reader))?;
     let faults = errors.as_slice();
     write_all(alloc, &exif, faults, out)?;
     Ok(faults.len() as u64)

@@ -30,6 +30,11 @@ pub fn answer_of(alloc: Global, reader: &Reader, bytes: &[u8]) -> Result<Exif, E
     file_answer(alloc, reader, bytes)
 }
 
+/// What a reader answers of a file in memory, of which it reads what it needs.
+pub fn needed_answer(alloc: Global, reader: &Reader, bytes: &[u8]) -> Result<Exif, Error> {
+    reader.read_by_need(alloc, &mut Counted::new(bytes))
+}
+
 /// What a reader answers of a file that comes byte by byte.
 pub fn slow_answer(alloc: Global, reader: &Reader, file: Slow) -> Result<Exif, Error> {
     file_answer(alloc, reader, file)
@@ -130,6 +135,16 @@ fn limited_report(
     let mut out = Counted::new(Vec::new(alloc));
     let answer = report_limited(alloc, &mut Counted::new(bytes), &mut out, lenient, limit);
     (answer, out.into_inner())
+}
+
+/// Bytes, and zeros behind them, so many in all.
+pub fn padded(alloc: Global, bytes: &[u8], len: usize) -> Result<Vec<u8>, Fail> {
+    let mut padded = Vec::with_capacity(alloc, len)?;
+    padded.extend_from_slice(bytes)?;
+    while padded.len() < len {
+        padded.push(0)?;
+    }
+    Ok(padded)
 }
 
 /// Three directories of so many entries side by side: pointers to the second, pointers to the

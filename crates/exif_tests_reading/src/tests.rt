@@ -1,5 +1,6 @@
 //! What is read of small files, and what is said of them.
 
+mod by_need;
 mod containers;
 mod devices;
 mod fields;

@@ -100,45 +100,59 @@ srational_same order a b p h =
     let denom = number_same order 4 a b (p + 4) (part_same a b p 8 (p + 4) 4 (omega arith) (omega arith) h) in
     rw (num, denom) refl
 
--- a value of a type
-type_same : (order : Order) (t : FieldType) (count : ℕ) (a b : List ℕ) (p : ℕ) → length a ≡ length b
-    → Same a b p (unit_length t * count)
-    → decode_as (number_of order) t count a p ≡ decode_as (number_of order) t count b p
-type_same order field_type.Byte count a b p e h =
-    ap value.Byte (bytes_same a b p count e (part_same a b p (1 * count) p count (omega arith) (omega arith) h))
-type_same order field_type.Ascii count a b p e h =
-    ap (λ xs. value.Ascii (texts xs)) (bytes_same a b p count e (part_same a b p (1 * count) p count (omega arith) (omega arith) h))
-type_same order field_type.Short count a b p e h =
-    ap value.Short (items_same (number_at (number_of order) 2 a) (number_at (number_of order) 2 b) a b 2 (number_same order 2 a b) count p h)
-type_same order field_type.Long count a b p e h =
-    ap value.Long (items_same (number_at (number_of order) 4 a) (number_at (number_of order) 4 b) a b 4 (number_same order 4 a b) count p h)
-type_same order field_type.Rational count a b p e h =
-    ap value.Rational (items_same (rational_at (number_of order) a) (rational_at (number_of order) b) a b 8 (rational_same order a b) count p h)
-type_same order field_type.SByte count a b p e h =
-    ap value.SByte (items_same (λ q. cast_signed w8 (slice_index a q)) (λ q. cast_signed w8 (slice_index b q)) a b 1 (λ q s. ap (cast_signed w8) (s q (omega arith) (omega arith))) count p h)
-type_same order field_type.Undefined count a b p e h =
-    ap (λ xs. value.Undefined xs p) (bytes_same a b p count e (part_same a b p (1 * count) p count (omega arith) (omega arith) h))
-type_same order field_type.SShort count a b p e h =
-    ap value.SShort (items_same (λ q. cast_signed w16 (number_at (number_of order) 2 a q)) (λ q. cast_signed w16 (number_at (number_of order) 2 b q)) a b 2 (λ q s. ap (cast_signed w16) (number_same order 2 a b q s)) count p h)
-type_same order field_type.SLong count a b p e h =
-    ap value.SLong (items_same (λ q. cast_signed w32 (number_at (number_of order) 4 a q)) (λ q. cast_signed w32 (number_at (number_of order) 4 b q)) a b 4 (λ q s. ap (cast_signed w32) (number_same order 4 a b q s)) count p h)
-type_same order field_type.SRational count a b p e h =
-    ap value.SRational (items_same (srational_at (number_of order) a) (srational_at (number_of order) b) a b 8 (srational_same order a b) count p h)
-type_same order field_type.Float count a b p e h =
-    ap value.Float (items_same (number_at (number_of order) 4 a) (number_at (number_of order) 4 b) a b 4 (number_same order 4 a b) count p h)
-type_same order field_type.Double count a b p e h =
-    ap value.Double (items_same (number_at (number_of order) 8 a) (number_at (number_of order) 8 b) a b 8 (number_same order 8 a b) count p h)
+-- items of one byte
+single_alike : (count : ℕ) (a b : List ℕ) (p : ℕ) → bytes_at (1 * count) a p ≡ bytes_at (1 * count) b p
+    → bytes_at count a p ≡ bytes_at count b p
+single_alike count a b p e =
+    let one : 1 * count ≡ count = omega arith in
+    rw one at e
 
-known_same : (order : Order) (o : Option FieldType) (type count : ℕ) (a b : List ℕ) (p : ℕ)
-    → length a ≡ length b → Same a b p (known_length o * count)
+-- a value of a type, where the bytes that it stands in are the same
+type_alike : (order : Order) (t : FieldType) (count : ℕ) (a b : List ℕ) (p : ℕ)
+    → bytes_at (unit_length t * count) a p ≡ bytes_at (unit_length t * count) b p
+    → decode_as (number_of order) t count a p ≡ decode_as (number_of order) t count b p
+type_alike order field_type.Byte count a b p e = ap value.Byte (single_alike count a b p e)
+type_alike order field_type.Ascii count a b p e =
+    ap (λ xs. value.Ascii (texts xs)) (single_alike count a b p e)
+type_alike order field_type.Short count a b p e =
+    ap value.Short (items_same (number_at (number_of order) 2 a) (number_at (number_of order) 2 b) a b 2 (number_same order 2 a b) count p (same_of a b p (2 * count) e))
+type_alike order field_type.Long count a b p e =
+    ap value.Long (items_same (number_at (number_of order) 4 a) (number_at (number_of order) 4 b) a b 4 (number_same order 4 a b) count p (same_of a b p (4 * count) e))
+type_alike order field_type.Rational count a b p e =
+    ap value.Rational (items_same (rational_at (number_of order) a) (rational_at (number_of order) b) a b 8 (rational_same order a b) count p (same_of a b p (8 * count) e))
+type_alike order field_type.SByte count a b p e =
+    ap value.SByte (items_same (λ q. cast_signed w8 (slice_index a q)) (λ q. cast_signed w8 (slice_index b q)) a b 1 (λ q s. ap (cast_signed w8) (s q (omega arith) (omega arith))) count p (same_of a b p (1 * count) e))
+type_alike order field_type.Undefined count a b p e =
+    ap (λ xs. value.Undefined xs p) (single_alike count a b p e)
+type_alike order field_type.SShort count a b p e =
+    ap value.SShort (items_same (λ q. cast_signed w16 (number_at (number_of order) 2 a q)) (λ q. cast_signed w16 (number_at (number_of order) 2 b q)) a b 2 (λ q s. ap (cast_signed w16) (number_same order 2 a b q s)) count p (same_of a b p (2 * count) e))
+type_alike order field_type.SLong count a b p e =
+    ap value.SLong (items_same (λ q. cast_signed w32 (number_at (number_of order) 4 a q)) (λ q. cast_signed w32 (number_at (number_of order) 4 b q)) a b 4 (λ q s. ap (cast_signed w32) (number_same order 4 a b q s)) count p (same_of a b p (4 * count) e))
+type_alike order field_type.SRational count a b p e =
+    ap value.SRational (items_same (srational_at (number_of order) a) (srational_at (number_of order) b) a b 8 (srational_same order a b) count p (same_of a b p (8 * count) e))
+type_alike order field_type.Float count a b p e =
+    ap value.Float (items_same (number_at (number_of order) 4 a) (number_at (number_of order) 4 b) a b 4 (number_same order 4 a b) count p (same_of a b p (4 * count) e))
+type_alike order field_type.Double count a b p e =
+    ap value.Double (items_same (number_at (number_of order) 8 a) (number_at (number_of order) 8 b) a b 8 (number_same order 8 a b) count p (same_of a b p (8 * count) e))
+
+known_alike : (order : Order) (o : Option FieldType) (type count : ℕ) (a b : List ℕ) (p : ℕ)
+    → bytes_at (known_length o * count) a p ≡ bytes_at (known_length o * count) b p
     → elim o as (λ x. Value)
     [ Some t ↦ decode_as (number_of order) t count a p | None ↦ value.Unknown type count p ]
     ≡ elim o as (λ x. Value)
     [ Some t ↦ decode_as (number_of order) t count b p | None ↦ value.Unknown type count p ]
-known_same order None type count a b p e h = refl
-known_same order (Some t) type count a b p e h = type_same order t count a b p e h
+known_alike order None type count a b p e = refl
+known_alike order (Some t) type count a b p e = type_alike order t count a b p e
+
+pub decode_alike : (order : Order) (type count : ℕ) (a b : List ℕ) (p : ℕ)
+    → bytes_at (known_length (type_of type) * count) a p
+    ≡ bytes_at (known_length (type_of type) * count) b p
+    → decode (number_of order) type count a p ≡ decode (number_of order) type count b p
+decode_alike order type count a b p e = known_alike order (type_of type) type count a b p e
 
 pub decode_same : (order : Order) (type count : ℕ) (a b : List ℕ) (p : ℕ) → length a ≡ length b
     → Same a b p (known_length (type_of type) * count)
     → decode (number_of order) type count a p ≡ decode (number_of order) type count b p
-decode_same order type count a b p e h = known_same order (type_of type) type count a b p e h
+decode_same order type count a b p e h =
+    decode_alike order type count a b p
+    (bytes_same a b p (known_length (type_of type) * count) e h)

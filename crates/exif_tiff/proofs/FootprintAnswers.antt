@@ -16,14 +16,14 @@ use Rattle.exif_tiff.proofs.Footprints.{ordered_same}
 use Rattle.exif_tiff.proofs.Members.{each_of}
 
 -- a header by its order
-abbrev ordered : List ℕ → Option Order → Result Order Fault
+abbrev pub ordered : List ℕ → Option Order → Result Order Fault
 ordered bytes o = elim o [
   | None ↦ Err InvalidByteOrder
   | Some order ↦
       if number_at (number_of order) 2 bytes 2 == 42 then Ok order else Err InvalidFortyTwo
 ]
 
-module _ (a b : List ℕ) (as_long : length a ≡ length b) where
+module _ (a b : List ℕ) where
   by_order : (o : Option Order) → Same a b 0 8 → ordered a o ≡ ordered b o
   by_order None s = refl
   by_order (Some order) s =
@@ -31,14 +31,20 @@ module _ (a b : List ℕ) (as_long : length a ≡ length b) where
       (part_same a b 0 8 2 2 (omega arith) (omega arith) s) in
       rw number refl
 
-  pub header_same : Same a b 0 8 → header a ≡ header b
-  header_same s =
+  -- data that begin alike are of one order
+  pub ordered_alike : Same a b 0 8 → ordered a (order_of a) ≡ ordered b (order_of b)
+  ordered_alike s =
       let zeroth : slice_index a 0 ≡ slice_index b 0 = s 0 (omega arith) (omega arith) in
       let first : slice_index a 1 ≡ slice_index b 1 = s 1 (omega arith) (omega arith) in
       let order : order_of a ≡ order_of b = rw (zeroth, first) refl in
-      rw (← as_long, ← order)
+      by_order (order_of a) s ∙ ap (ordered b) order
+
+module _ (a b : List ℕ) (as_long : length a ≡ length b) where
+  pub header_same : Same a b 0 8 → header a ≡ header b
+  header_same s =
+      rw (← as_long)
       (ap (λ r. if nat_lt (2 ^ 32 - 1) (length a) then Err DataTooLarge else
-      (if nat_lt (length a) 8 then Err TruncatedHeader else r)) (by_order (order_of a) s))
+      (if nat_lt (length a) 8 then Err TruncatedHeader else r)) (ordered_alike a b s))
 
   -- what data hold behind this header
   abbrev Behind : Result Order Fault → Type 0

@@ -37,6 +37,12 @@ each_same f g P Q R (p ∷ ps) each h k l =
     let rest = each_same f g P Q R ps each h.1 k.1 l.1 in
     rw (one, rest) refl
 
+-- how a directory ends, by its three tests
+abbrev pub ends : Bool → Bool → Bool → ℕ → Result ℕ Fault
+ends s t u next =
+    if s then Err TruncatedCount else
+    (if t then Err TruncatedDirectory else (if u then Err TruncatedNextOffset else Ok next))
+
 module _ (order : Order) (a b : List ℕ) (as_long : length a ≡ length b) where
   abbrev pub number : Reading
   number = number_of order
@@ -69,12 +75,6 @@ module _ (order : Order) (a b : List ℕ) (as_long : length a ≡ length b) wher
 
   pub places_same : (p : ℕ) → Alike p → entry_places number a p ≡ entry_places number b p
   places_same p h = places_by p (counts p h)
-
-  -- how a directory ends, by its three tests
-  abbrev ends : Bool → Bool → Bool → ℕ → Result ℕ Fault
-  ends s t u next =
-      if s then Err TruncatedCount else
-      (if t then Err TruncatedDirectory else (if u then Err TruncatedNextOffset else Ok next))
 
   ends_same : (s t u : Bool) (x y : ℕ) → (t ≡ false → x ≡ y) → ends s t u x ≡ ends s t u y
   ends_same true t u x y h = refl

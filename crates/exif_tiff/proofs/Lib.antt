@@ -6,6 +6,7 @@ pub mod FirstFault
 pub mod FootprintAnswers
 pub mod FootprintShared
 pub mod Footprints
+pub mod Fronts
 pub mod LimitBound
 pub mod Limits
 pub mod Members

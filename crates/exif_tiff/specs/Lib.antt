@@ -5,6 +5,7 @@ pub mod Examples
 pub mod Faults
 pub mod Footprint
 pub mod FootprintExamples
+pub mod Fronts
 pub mod Limits
 pub mod Rationals
 pub mod ReadAnswers

@@ -1,0 +1,208 @@
+-- Data of which no more than a front is read.
+use Rattle.std.proofs.Common.{◌≡◌, ◌≤◌, ◌<◌, ◌+◌, ◌^◌, ◌++◌, ⊎_elim, ℕ, zero, suc, Bool, true, false, List, [], ◌∷◌, length, take, Option, Some, None, Result, Ok, Err, inr, refl, sym, ap, subst, ◌∙◌, arith}
+use Rattle.std.proofs.lemmas.Bool.{cases_lt}
+use Rattle.std.proofs.lemmas.Bool.Decides.{Decides-or}
+use Rattle.std.proofs.lemmas.List.{append-nil, length-append, length-take, take-append-le}
+use Rattle.std.proofs.lemmas.Slice.Eq.{bytes_eq-Decides}
+use Rattle.std.specs.Prelude.{IfSome, codes, ◌||◌}
+use Rattle.std.specs.Str.{bytes_eq}
+use Rattle.std.specs.Borrow.{Bor}
+use Rattle.std.specs.Io.KnownBytes.{Consumes, IsAtEnd, prepend_known}
+use Rattle.exif_base.specs.Orders.{order_named}
+use Rattle.exif_base.specs.Told.{TakesAll}
+use Rattle.exif_types.specs.Contents.{ExifContents}
+use Rattle.exif_types.specs.Failures.{Failure}
+use Rattle.exif_types.specs.Refusals.{Refusal, too_big, IsInterrupted}
+use Rattle.exif_types.specs.declared.error.Error.TheVariants as error
+use Rattle.exif_types.specs.declared.field.Field.{Field}
+use Rattle.exif_tiff.specs.declared.fault.Fault.TheVariants.{DataTooLarge}
+use Rattle.exif_tiff.specs.Answers.{Answer, Refused, Whole, raw_answer}
+use Rattle.exif_tiff.specs.Faults.{text_of}
+use Rattle.exif_tiff.specs.Fronts.{FrontHasHeader, FrontSaysAll, TooLargeIsRefused}
+use Rattle.exif_tiff.specs.Trace.{header}
+use Rattle.exif_containers.specs.Container.{TiffIsWhole, begins_tiff, container_answer}
+use Rattle.exif_reader.specs.Files.{AnswersOwnData, ReadsByNeed, ReadsContainer}
+use Rattle.exif_reader.specs.Readings.{HoldsData, HoldsFront, ReadsAs, ReadsHeld}
+
+-- ---- told bytes
+
+-- what holds of a front and all that follows it
+pub told_front : (old new : Option (List ℕ)) (front : List ℕ) (P : List ℕ → Type 0)
+    → Consumes old new front → IfSome new (λ rest. P (front ++ rest)) → IfSome old P
+told_front None new front P h k = tt
+told_front (Some xs) None front P h k = absurd h
+told_front (Some xs) (Some ys) front P h k = subst P (sym h) k
+
+-- and of a front that nothing follows
+pub told_all : (old new : Option (List ℕ)) (front : List ℕ) (P : List ℕ → Type 0)
+    → Consumes old new front → IsAtEnd new → P front → IfSome old P
+told_all None new front P h e k = tt
+told_all (Some xs) None front P h e k = absurd h
+told_all (Some xs) (Some ys) front P h e k =
+    subst P (sym (h ∙ (ap (λ t. front ++ t) e ∙ append-nil front))) k
+
+-- what holds of a list and all that was put at its end
+pub told_rest : (left : Option (List ℕ)) (old new : List ℕ) (P : List ℕ → Type 0)
+    → TakesAll left old new → P new → IfSome left (λ rest. P (old ++ rest))
+told_rest None old new P h k = tt
+told_rest (Some xs) old new P h k = subst P h k
+
+-- what follows of what is told
+pub told_so : (left : Option (List ℕ)) (P Q : List ℕ → Type 0)
+    → ((bytes : List ℕ) → P bytes → Q bytes) → IfSome left P → IfSome left Q
+told_so None P Q f h = tt
+told_so (Some bytes) P Q f h = f bytes h
+
+-- bytes whose front begins TIFF data begin them
+long_by : (front text : List ℕ) → length text ≡ 4 → take 4 front ≡ text → 4 ≤ length front
+long_by front text four e =
+    let len = length-take 4 front in
+    let same = ap length e in
+    grind arith
+
+pub begins_more : (front rest : List ℕ) → begins_tiff front ≡ true
+    → begins_tiff (front ++ rest) ≡ true
+begins_more front rest h =
+    let big : List ℕ = codes "MM\0*" in
+    let little : List ℕ = codes "II*\0" in
+    let either = Decides-or (bytes_eq (take 4 front) big) (bytes_eq (take 4 front) little)
+    (bytes_eq-Decides (take 4 front) big) (bytes_eq-Decides (take 4 front) little) in
+    let long : 4 ≤ length front =
+    ⊎_elim (long_by front big refl) (long_by front little refl) (either.0 h) in
+    ap (λ t. bytes_eq t big || bytes_eq t little) (take-append-le 4 front rest long) ∙ h
+
+-- ---- what was read of all
+
+held_all : (exif : ExifContents) (bytes : List ℕ) → HoldsData exif bytes → HoldsFront exif bytes
+held_all exif bytes h = (([], sym h.0 ∙ sym (append-nil exif.buf)), h.1)
+
+-- what data in memory are read as
+pub reads_all : (answer : Answer) (bytes : List ℕ) (result : Result ExifContents Failure)
+    → ReadsAs answer bytes result → ReadsHeld HoldsFront IsInterrupted answer bytes result
+reads_all answer bytes (Ok exif) h = (h.0, held_all exif bytes h.1)
+reads_all answer bytes (Err (error.PartialResult partial)) h =
+    (h.0, h.1, h.2, held_all partial.exif bytes h.3)
+reads_all answer bytes (Err error.OutOfMemory) h = tt
+reads_all answer bytes (Err (error.Io cause)) h = tt
+reads_all answer bytes (Err (error.InvalidFormat text)) h = h
+reads_all answer bytes (Err (error.NotFound text)) h = h
+reads_all answer bytes (Err (error.BlankValue text)) h = h
+reads_all answer bytes (Err (error.TooBig text)) h = h
+reads_all answer bytes (Err (error.NotSupported text)) h = h
+reads_all answer bytes (Err (error.UnexpectedValue text)) h = h
+
+-- what is read of a container
+pub container_all : (answer : List ℕ → Answer) (container : Result (List ℕ) Refusal)
+    (result : Result ExifContents Failure)
+    → ReadsContainer answer container result → ReadsByNeed answer container result
+container_all answer (Ok bytes) (Ok exif) h = (h.0, held_all exif bytes h.1)
+container_all answer (Ok bytes) (Err (error.PartialResult partial)) h =
+    (h.0, h.1, h.2, held_all partial.exif bytes h.3)
+container_all answer (Ok bytes) (Err error.OutOfMemory) h = h
+container_all answer (Ok bytes) (Err (error.Io cause)) h = h
+container_all answer (Ok bytes) (Err (error.InvalidFormat text)) h = h
+container_all answer (Ok bytes) (Err (error.NotFound text)) h = h
+container_all answer (Ok bytes) (Err (error.BlankValue text)) h = h
+container_all answer (Ok bytes) (Err (error.TooBig text)) h = h
+container_all answer (Ok bytes) (Err (error.NotSupported text)) h = h
+container_all answer (Ok bytes) (Err (error.UnexpectedValue text)) h = h
+container_all answer (Err r) (Ok exif) h = h
+container_all answer (Err r) (Err e) h = h
+
+-- what is read of a container by a front at hand and what follows it
+pub told_container : (answer : List ℕ → Answer) (old new left : Option (List ℕ)) (front : List ℕ)
+    (result : Result ExifContents Failure) → Consumes old new front → left ≡ prepend_known front new
+    → IfSome left (λ bytes. ReadsContainer answer (container_answer bytes) result)
+    → IfSome old (λ bytes. ReadsByNeed answer (container_answer bytes) result)
+told_container answer None new left front result h e k = tt
+told_container answer (Some xs) None left front result h e k = absurd h
+told_container answer (Some xs) (Some ys) left front result h e k =
+    let P : List ℕ → Type 0 = λ bytes. ReadsByNeed answer (container_answer bytes) result in
+    let R : Option (List ℕ) → Type 0 =
+    λ l. IfSome l (λ bytes. ReadsContainer answer (container_answer bytes) result) in
+    subst P (sym h) (container_all answer (container_answer (front ++ ys)) result (subst R e k))
+
+-- and of TIFF data
+pub told_tiff : (answer : List ℕ → Answer) (old new left : Option (List ℕ)) (front : List ℕ)
+    (result : Result ExifContents Failure) → Consumes old new front → left ≡ prepend_known front new
+    → begins_tiff front ≡ true → ((bytes : List ℕ) → TiffIsWhole bytes)
+    → IfSome left (λ bytes. ReadsHeld HoldsFront IsInterrupted (answer bytes) bytes result)
+    → IfSome old (λ bytes. ReadsByNeed answer (container_answer bytes) result)
+told_tiff answer None new left front result h e begins whole k = tt
+told_tiff answer (Some xs) None left front result h e begins whole k = absurd h
+told_tiff answer (Some xs) (Some ys) left front result h e begins whole k =
+    let P : List ℕ → Type 0 = λ bytes. ReadsByNeed answer (container_answer bytes) result in
+    let Q : Result (List ℕ) Refusal → Type 0 = λ container. ReadsByNeed answer container result in
+    let R : Option (List ℕ) → Type 0 =
+    λ l. IfSome l (λ bytes. ReadsHeld HoldsFront IsInterrupted (answer bytes) bytes result) in
+    let alone = whole (front ++ ys) (begins_more front ys begins) in
+    subst P (sym h) (subst Q (sym alone) (subst R e k))
+
+-- ---- what was read of a front that says all
+
+module _ (lenient : Bool) (limit : Option ℕ) (front : List ℕ)
+    (says : (lenient : Bool) (limit : Option ℕ) (front rest : List ℕ)
+    → FrontSaysAll lenient limit front rest)
+    (heads : (front rest : List ℕ) → FrontHasHeader front rest)
+    (too_large : (lenient : Bool) (limit : Option ℕ) (bytes : List ℕ)
+    → TooLargeIsRefused lenient limit bytes) where
+  pub reads_front : (exif : ExifContents) (rest : List ℕ) → exif.buf ≡ front
+      → raw_answer false limit front ≡ Whole exif.fields
+      → header front ≡ Ok (order_named exif.little_endian)
+      → length front + length rest < 2 ^ 32
+      → ReadsHeld HoldsFront IsInterrupted (raw_answer lenient limit (front ++ rest)) (front ++ rest)
+      (Ok exif)
+  reads_front exif rest buf said order small =
+      let both : length (front ++ rest) < 2 ^ 32 = omega (arith, small, length-append front rest) in (
+        says lenient limit front rest exif.fields said both,
+        (
+          (rest, ap (λ xs. xs ++ rest) (sym buf)),
+          heads front rest (order_named exif.little_endian) order both,
+        ),
+      )
+
+  not_refused : (fields : List Field) → raw_answer false limit front ≡ Whole fields
+      → raw_answer false limit front ≡ Refused DataTooLarge → ⊥
+  not_refused fields said refused = differ fields (sym refused ∙ said)
+    where
+      differ : (fields : List Field) → ◌≡◌ {A = Answer} (Refused DataTooLarge) (Whole fields) → ⊥
+      differ fields e = cc
+
+  small_front : (fields : List Field) → raw_answer false limit front ≡ Whole fields
+      → length front < 2 ^ 32
+  small_front fields said =
+      ⊎_elim (λ lt. lt) (λ ge. absurd (not_refused fields said (too_large false limit front ge)))
+      (cases_lt (length front) (2 ^ 32))
+
+  -- so it is what the front itself is read as
+  pub reads_own : (exif : ExifContents) → exif.buf ≡ front
+      → raw_answer false limit front ≡ Whole exif.fields
+      → header front ≡ Ok (order_named exif.little_endian)
+      → ReadsAs (raw_answer lenient limit front) front (Ok exif)
+  reads_own exif buf said order =
+      let alone = append-nil front in
+      let small : length (front ++ []) < 2 ^ 32 =
+      omega (arith, small_front exif.fields said, ap length alone) in
+      let answer = says lenient limit front [] exif.fields said small in
+      (ap (raw_answer lenient limit) (sym alone) ∙ answer, (buf, order))
+
+  -- ---- too many bytes
+
+  pub reads_too_large : (text : Bor (List ℕ)) (rest : List ℕ) → text.now ≡ text_of DataTooLarge
+      → 2 ^ 32 ≤ length front + length rest
+      → ReadsHeld HoldsFront IsInterrupted (raw_answer lenient limit (front ++ rest)) (front ++ rest)
+      (Err (error.TooBig text))
+  reads_too_large text rest is large =
+      let both : 2 ^ 32 ≤ length (front ++ rest) = omega (arith, large, length-append front rest) in
+      (DataTooLarge, too_large lenient limit (front ++ rest) both, ap too_big is)
+
+  so_many : (n : ℕ) → (bytes : List ℕ) × (length bytes ≡ n)
+  so_many zero = ([], refl)
+  so_many (suc n) = let bytes = so_many n in (0 ∷ bytes.0, ap suc bytes.1)
+
+  pub own_too_large : (text : Bor (List ℕ)) → text.now ≡ text_of DataTooLarge
+      → AnswersOwnData (raw_answer lenient limit) (Err (error.TooBig text))
+  own_too_large text is =
+      let bytes = so_many (2 ^ 32) in
+      let large : 2 ^ 32 ≤ length bytes.0 = omega (arith, bytes.1) in
+      inr (bytes.0, (DataTooLarge, too_large lenient limit bytes.0 large, ap too_big is))

@@ -1,0 +1,70 @@
+//! Files of which no more is read than is needed.
+
+use exif::Reader;
+use exif_samples::answers::{distilled, text_of};
+use exif_samples::files;
+use exif_samples::readings::{needed_answer, padded, reader_of};
+use std::alloc::Global;
+use std::test::Fail;
+
+/// How long the front is that is read first.
+const FRONT: usize = 262144;
+
+/// One text of eight bytes at 0x40002, behind the front.
+const FAR_TEXT: &[u8] = b"MM\0*\0\0\0\x08\0\x01\x01\x0e\0\x02\0\0\0\x08\0\x04\0\x02\0\0\0\0";
+
+/// One text at 0x01000000, where no file of this module reaches.
+const LOST_TEXT: &[u8] = b"MM\0*\0\0\0\x08\0\x01\x01\x0e\0\x02\0\0\0\x08\x01\0\0\0\0\0\0\0";
+
+// Of how many bytes the data are that a strict reader hands on, where it reads one field.
+fn held(alloc: Global, bytes: &[u8]) -> Result<usize, Fail> {
+    let exif = needed_answer(alloc, &Reader::new(), bytes)?;
+    Ok(if exif.fields().len() == 1 {
+        exif.buf().len()
+    } else {
+        0
+    })
+}
+
+#[test]
+fn a_front_says_all(rt: HostRuntime) -> Result<(), Fail> {
+    let alloc = rt.alloc();
+    for (len, kept) in [
+        (33, 33),
+        (FRONT - 1, FRONT - 1),
+        (FRONT, FRONT),
+        (FRONT + 1, FRONT),
+        (300000, FRONT),
+    ] {
+        let bytes = padded(alloc, files::DESCRIBED_BIG, len)?;
+        assert_eq!(rt; held(alloc, bytes.as_slice())?, kept);
+    }
+    Ok(())
+}
+
+#[test]
+fn a_value_behind_the_front_is_read(rt: HostRuntime) -> Result<(), Fail> {
+    let bytes = padded(rt.alloc(), FAR_TEXT, 300000)?;
+    assert_eq!(rt; held(rt.alloc(), bytes.as_slice())?, 300000);
+    Ok(())
+}
+
+// How many fields and faults a lenient reader answers, and of how many bytes.
+fn leniently(alloc: Global, bytes: &[u8]) -> Result<(usize, usize, usize), Fail> {
+    let (exif, faults) = distilled(needed_answer(alloc, &reader_of(true), bytes))?;
+    Ok((exif.fields().len(), faults, exif.buf().len()))
+}
+
+#[test]
+fn a_fault_in_the_front_has_all_read(rt: HostRuntime) -> Result<(), Fail> {
+    let bytes = padded(rt.alloc(), LOST_TEXT, 300000)?;
+    assert_eq!(rt; leniently(rt.alloc(), bytes.as_slice())?, (0, 1, 300000));
+    match needed_answer(rt.alloc(), &Reader::new(), bytes.as_slice()) {
+        Ok(_exif) => Err(Fail::new("read")),
+        Err(error) => {
+            let text = text_of(rt.alloc(), &error)?;
+            assert_eq!(rt; text.as_str(), "Truncated field value");
+            Ok(())
+        }
+    }
+}
