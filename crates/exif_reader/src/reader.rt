@@ -27,8 +27,8 @@ use exif_types::{Error, Exif, exif_from_parts, partial_from_parts};
 use std::alloc::{AllocError, Global};
 use std::marker::Model;
 
-// How many bytes are read ahead, to see whether they begin TIFF data.
-const HEAD: usize = 4096;
+// How many bytes say whether TIFF data begin with them.
+const HEAD: usize = 4;
 
 /// A reader of Exif metadata: how it takes faults, and how many entries it visits at most. It holds
 /// nothing of a file, so one reader serves for many.

@@ -100,7 +100,7 @@ fn assert_beside(
 ) -> Result<(), AllocError> {
     let (field, other) = (field?, other?);
     let shown = field.display_value().with_unit(&other);
-    assert!(rt; format!(in rt.alloc(); "{shown}")?.as_str() == text);
+    assert!(rt; is_shown(rt.alloc(), &shown, text)?, "{text}");
     Ok(())
 }
 
@@ -247,7 +247,7 @@ fn units_of_the_fields_that_were_read(rt: HostRuntime) -> Result<(), Fail> {
     ] {
         resolution.ifd_num = directory;
         let value = resolution.display_value().with_unit(&exif);
-        assert!(rt; format!(in alloc; "{value}")?.as_str() == shown);
+        assert!(rt; is_shown(alloc, &value, shown)?, "{shown}");
     }
     Ok(())
 }
