@@ -6,7 +6,7 @@ ghost use Rattle.std.specs.String.{string_bytes};
 ghost use Rattle.exif_table.specs.declared.context.Context.TheVariants as Context;
 ghost use Rattle.exif_tiff.specs.Answers.{raw_answer};
 ghost use Rattle.exif_containers.specs.Container.{container_answer};
-ghost use Rattle.exif_reader.specs.Files.{ReadsContainer};
+ghost use Rattle.exif_reader.specs.Files.{ReadsByNeed, ReadsContainer};
 ghost use Rattle.exif_json.specs.Finding.{number_of};
 ghost use Rattle.exif_report.specs.Lines.{field_line};
 
@@ -21,6 +21,15 @@ pub fn read_picture<R: ReadSeek + Drop>(alloc: Global, picture: R) -> Result<Exi
         (λ bytes. ReadsContainer (raw_answer false None) (container_answer bytes) result) }
 {
     Reader::new().read_from_container(alloc, &mut Seekable::new(picture))
+}
+
+/// The same where the fields alone are wanted: of large TIFF data, as a camera's raw file, no more
+/// is read than a front that says all.
+pub fn read_fields<R: ReadSeek + Drop>(alloc: Global, picture: R) -> Result<Exif, Error>
+    ensures reads { IfSome (R.remaining picture)
+        (λ bytes. ReadsByNeed (raw_answer false None) (container_answer bytes) result) }
+{
+    Reader::new().read_by_need(alloc, &mut Seekable::new(picture))
 }
 
 /// What can be read of a damaged picture, and how many faults were passed over.

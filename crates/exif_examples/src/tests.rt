@@ -6,8 +6,8 @@ use crate::changing::{erase_place, set_orientation, without_metadata, without_pl
 use crate::dates::date_taken;
 use crate::places::place;
 use crate::reading::{
-    field_lines, orientation, print_orientation, read_damaged, read_from_stranger, read_picture,
-    size, thumbnail,
+    field_lines, orientation, print_orientation, read_damaged, read_fields, read_from_stranger,
+    read_picture, size, thumbnail,
 };
 use crate::values::{artist, resolution_unit, width};
 use crate::writing::{new_exif, written_again};
@@ -29,6 +29,13 @@ fn what_the_picture_says(rt: HostRuntime) -> Result<(), Fail> {
     let exif = read(rt.alloc())?;
     assert!(rt; orientation(&exif) == Some(6));
     assert!(rt; size(&exif) == Some((32, 8)));
+    Ok(())
+}
+
+#[test]
+fn what_the_fields_say(rt: HostRuntime) -> Result<(), Fail> {
+    let exif = read_fields(rt.alloc(), Cursor::new(PICTURE))?;
+    assert!(rt; orientation(&exif) == Some(6));
     Ok(())
 }
 

@@ -166,8 +166,7 @@ impl Reader {
     /// An error of the device behind the front is not met where the source seeks over it.
     ///
     /// ```
-    /// let exif = Reader::new().read_by_need(alloc, &mut Seekable::new(file))?;
-    /// let taken = exif.get_field(Tag::DateTimeOriginal, In::PRIMARY);
+    /// Reader::new().read_by_need(alloc, &mut Seekable::new(picture))
     /// ```
     pub fn read_by_need<R: Source>(&self, alloc: Global, source: &mut R) -> Result<Exif, Error>
         ensures reads { IfSome (R.left source.old)
