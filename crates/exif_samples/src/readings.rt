@@ -141,7 +141,7 @@ fn limited_report(
 pub fn padded(alloc: Global, bytes: &[u8], len: usize) -> Result<Vec<u8>, Fail> {
     let mut padded = Vec::with_capacity(alloc, len)?;
     padded.extend_from_slice(bytes)?;
-    while padded.len() < len {
+    for _ in bytes.len()..len {
         padded.push(0)?;
     }
     Ok(padded)
