@@ -10,7 +10,7 @@ import tempfile
 
 ROOT = os.path.dirname(os.path.dirname(os.path.abspath(__file__)))
 BENCH = f"{ROOT}/crates/exif_bench"
-WORKS = ("read", "report", "write")
+WORKS = ("read", "whole", "report", "write")
 
 
 def built(crate):
@@ -26,6 +26,8 @@ def times(program, path, calls):
     found = {name: int(best) for name, best in zip(words, words[1:]) if name in ("decoded", *WORKS)}
     # What reads values later has read them all only once it has decoded them.
     found["read"] = found.get("decoded", found.get("read"))
+    # What reads by need hands on a front of TIFF data; the original hands on all of them.
+    found.setdefault("whole", found["read"])
     found["fields"] = int(words[words.index("fields") + 1])
     return found
 
@@ -43,8 +45,8 @@ def main():
     original = sys.argv[1] if len(sys.argv) > 1 else None
     bench, show = built("exif_bench"), built("exif_show")
     names = [line.split()[0] for line in subprocess.run([bench, "--list"], stdout=subprocess.PIPE, text=True, check=True).stdout.splitlines()]
-    print("load average %.1f; ns a call: read report write; KB: peak memory of exif_show; ms: its processor time" % os.getloadavg()[0])
-    print("%-26s %10s %10s %10s %8s %6s%s" % ("", *WORKS, "KB", "ms", "   ratios" if original else ""))
+    print("load average %.1f; ns a call: read (by need), read whole, report, write; KB: peak memory of exif_show; ms: its processor time" % os.getloadavg()[0])
+    print("%-26s %10s %10s %10s %10s %8s %6s%s" % ("", *WORKS, "KB", "ms", "   ratios" if original else ""))
     growth = {}
     with tempfile.TemporaryDirectory() as room:
         for name in names:
@@ -56,7 +58,7 @@ def main():
             if original:
                 theirs = times(original, path, calls)
                 ratios = "  " + " ".join("%6.2f" % (ours[work] / max(theirs[work], 1)) for work in WORKS)
-            print("%-26s %10d %10d %10d %8d %6.1f%s" % (name, *(ours[work] for work in WORKS), memory, spent, ratios), flush=True)
+            print("%-26s %10d %10d %10d %10d %8d %6.1f%s" % (name, *(ours[work] for work in WORKS), memory, spent, ratios), flush=True)
             kind, _, count = name.rpartition("-")
             if count.isdigit() and kind.startswith("numbers"):
                 growth.setdefault(kind, []).append((int(count), ours))

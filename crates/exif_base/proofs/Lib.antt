@@ -1,6 +1,7 @@
+pub mod BlockSteps
 pub mod EndianSteps
 pub mod Feeding
 pub mod ReadSteps
-pub mod ScanSteps
+pub mod SeekableSteps
 pub mod Sending
 pub mod Sent

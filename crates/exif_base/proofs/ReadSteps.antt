@@ -1,10 +1,10 @@
 -- One step after another on told bytes.
-use Rattle.std.proofs.Common.{◌≡◌, ℕ, ◌+◌, ◌-◌, ◌<◌, ◌≤◌, List, ◌++◌, length, take, drop, Option, None, Some, ap, sym, ◌∙◌, refl, arith, append_assoc, length-append, length-drop}
+use Rattle.std.proofs.Common.{◌≡◌, ℕ, ◌+◌, ◌-◌, ◌<◌, ◌≤◌, List, [], ◌++◌, length, take, drop, Option, None, Some, ap, sym, ◌∙◌, refl, arith, append_assoc, append-nil, length-append, length-drop}
 use Rattle.std.proofs.Math.Seq.{take-add, take-append-add}
 use Rattle.std.proofs.lemmas.List.{length-take-le, take-append-le, drop-drop, drop_at}
 use borrow.Rule.Slice.PartMut.{put_mid, post_of}
 use Rattle.std.specs.Io.KnownBytes.{Consumes, IsAtEnd}
-use Rattle.exif_base.specs.Told.{HasFewer, Skips}
+use Rattle.exif_base.specs.Told.{HasFewer, IsFetchedOnto, Skips}
 
 -- bytes, and then more bytes
 pub consumes_append : (a b c : Option (List ℕ)) (xs ys : List ℕ) → Consumes a b xs → Consumes b c ys → Consumes a c (xs ++ ys)
@@ -12,6 +12,21 @@ consumes_append None b c xs ys h k = tt
 consumes_append (Some p) None c xs ys h k = absurd h
 consumes_append (Some p) (Some q) None xs ys h k = absurd k
 consumes_append (Some p) (Some q) (Some r) xs ys h k = h ∙ ap (λ t. xs ++ t) k ∙ sym (append_assoc xs ys r)
+
+-- nothing was put at the end of a list
+pub nothing_fetched : (a : Option (List ℕ)) (list : List ℕ) → IsFetchedOnto a a list list 0
+nothing_fetched None list = ([], tt, refl, sym (append-nil list))
+nothing_fetched (Some p) list = ([], refl, refl, sym (append-nil list))
+
+-- bytes were put at the end of a list, and then more bytes
+pub fetched_more : (a b c : Option (List ℕ)) (old mid new : List ℕ) (m n k : ℕ) → IsFetchedOnto a b old mid m → IsFetchedOnto b c mid new n
+    → m + n ≡ k → IsFetchedOnto a c old new k
+fetched_more a b c old mid new m n k h e s = (
+  h.0 ++ e.0,
+  consumes_append a b c h.0 e.0 h.1 e.1,
+  omega (arith, length-append h.0 e.0, h.2, e.2),
+  e.3 ∙ ap (λ t. t ++ e.0) h.3 ∙ append_assoc old h.0 e.0,
+)
 
 -- a skip, and then more bytes
 pub skips_more : (a b c : Option (List ℕ)) (m k : ℕ) (bs : List ℕ) → Skips a b m → Consumes b c bs → m + length bs ≡ k → Skips a c k

@@ -1,6 +1,6 @@
 -- What a clause reads of a `Blocks`.
 use Rattle.std.specs.Prelude.{ℕ, List, drop, take, Option, None, Some}
-use Rattle.exif_base.specs.declared.scan.Blocks.{Blocks}
+use Rattle.exif_base.specs.declared.blocks.Blocks.{Blocks}
 
 -- the bytes that were read and not taken
 abbrev pub at_hand : {R : Type 0} → Blocks R → List ℕ

@@ -2,11 +2,9 @@ pub mod Blocks
 pub mod Bytes
 pub mod Counted
 pub mod Device
-pub mod Exact
 pub mod Orders
 pub mod ReadFaults
 pub mod Reads
-pub mod Scan
 pub mod Seekable
 pub mod Sent
 pub mod Told

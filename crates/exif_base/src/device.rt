@@ -1,15 +1,13 @@
 //! Where bytes come from and go to: readers and writers that count their failures.
 
-ghost use Rattle.std.specs.Prelude.{◌≡◌, ◌≢◌, ◌<◌, ◌≤◌, ℕ, List, [], Option, Err, length, is_err, IfOk, true};
+ghost use Rattle.std.specs.Prelude.{◌≡◌, ◌<◌, ◌≤◌, ℕ, List, [], Option, length, is_err, IfOk, true};
 ghost use Rattle.std.specs.Io.{ReadsAtMost, StartsWith, WritesAtMost};
 ghost use Rattle.std.specs.Io.KnownBytes.{IsAtEnd, Keeps, ReadConsumes, WriteAppends};
 ghost use Rattle.exif_base.specs.Device.{count_after, put_failed};
-ghost use Rattle.exif_base.specs.ReadFaults.{is_io_fault};
-ghost use Rattle.exif_base.specs.Told.{IsFetchedOnto, Skips};
+ghost use Rattle.exif_base.specs.Told.{IsFetchedOnto, PassesOthers, Skips};
 ghost use Rattle.exif_base.specs.Counted.{counted_inner, counted_failures};
-ghost use Rattle.exif_base.specs.declared.read.ReadFault.TheVariants.{End};
 
-use crate::read::ReadFault;
+use std::alloc::AllocError;
 use std::io;
 use std::io::{Read, Write};
 
@@ -61,25 +59,40 @@ pub trait Source {
         Ok(len)
     }
 
-    /// Puts the next bytes at the end of the list, and answers how many.
+    /// Whether all bytes that are left are at hand, so that reading them by blocks gains nothing.
     ///
-    /// They go through the block, as many as it holds. A source that has more of them in memory
-    /// copies all of these at once. After a fault the list holds what it held and then some of the
-    /// bytes.
-    fn fetch_onto(&mut self, buf: &mut Vec<u8>, block: &mut [u8]) -> Result<usize, ReadFault>
+    /// It says how to read fast, not what is read: `false` is always a right answer.
+    fn is_at_hand(&self) -> bool {
+        false
+    }
+
+    /// Puts bytes that are at hand at the end of the list, at most `most`, and answers how many.
+    ///
+    /// It reads nothing, so only memory can fail it. Which bytes are at hand is the source's own
+    /// choice, and 0 is always a right answer. Where memory fails the list holds what it held and
+    /// then some of the bytes.
+    fn take_at_hand(&mut self, list: &mut Vec<u8>, most: u64) -> Result<u64, AllocError>
+        ensures bound { IfOk result (λ n. n ≤ most) }
         ensures bytes { IfOk result (λ n.
-            IsFetchedOnto (left self.old) (left self.new) buf.old.items buf.new.items n) }
-        ensures end { IfOk result
-            (λ n. n ≡ 0 → 0 < length block.old → IsAtEnd (left self.new)) }
-        ensures no_end { result ≢ Err End }
-        ensures kept { StartsWith buf.new.items buf.old.items }
-        ensures block { length block.new ≡ length block.old }
-        ensures count { failures self.new ≡ count_after (is_io_fault result) (failures self.old) }
+            IsFetchedOnto (left self.old) (left self.new) list.old.items list.new.items n) }
+        ensures kept { StartsWith list.new.items list.old.items }
+        ensures count { failures self.new ≡ failures self.old }
         ensures same { through self.new ≡ through self.old }
     {
-        let n = self.fetch(block)?;
-        buf.extend_from_slice(&block[..n])?;
-        Ok(n)
+        Ok(0)
+    }
+
+    /// Takes bytes at hand up to the first `stop`, at most `most`, and answers how many.
+    ///
+    /// It reads nothing, so it cannot fail. Which bytes are at hand is the source's own choice, and
+    /// 0 is always a right answer.
+    fn pass_others(&mut self, stop: u8, most: u64) -> u64
+        ensures bound { result ≤ most }
+        ensures passed { PassesOthers (left self.old) (left self.new) stop result }
+        ensures count { failures self.new ≡ failures self.old }
+        ensures same { through self.new ≡ through self.old }
+    {
+        0
     }
 }
 

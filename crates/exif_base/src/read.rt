@@ -1,12 +1,12 @@
 //! Reads and skips, which keep apart the end of the bytes, a reader's error and out of memory.
 
-ghost use Rattle.std.specs.Prelude.{◌≡◌, ◌≢◌, ◌<◌, ◌≤◌, ◌∷◌, [], ◌++◌, List, ℕ, length, take, Err, OnOk, IfOk, is_err};
+ghost use Rattle.std.specs.Prelude.{◌≡◌, ◌≢◌, ◌<◌, ◌≤◌, ◌∷◌, [], length, take, Err, OnOk, IfOk, false, is_err};
 ghost use Rattle.std.specs.Io.{StartsWith};
 ghost use Rattle.std.specs.Io.KnownBytes.{Consumes, IsAtEnd};
 ghost use Rattle.byteorder.specs.Endian.{ReadsNumber, big_number};
 ghost use Rattle.exif_base.specs.ReadFaults.{is_io_fault};
 ghost use Rattle.exif_base.specs.Reads.{Counts, Reads};
-ghost use Rattle.exif_base.specs.Told.{Skips, TakesAll};
+ghost use Rattle.exif_base.specs.Told.{IsFetchedOnto, Skips, TakesAll};
 ghost use Rattle.exif_base.specs.declared.read.ReadFault.TheVariants.{End, Io, OutOfMemory};
 
 use crate::device::Source;
@@ -113,32 +113,7 @@ pub fn read64<R: Source>(source: &mut R) -> Result<u64, ReadFault>
 }
 
 // How many bytes go through the stack at a time.
-const BLOCK: usize = 4096;
-
-// How many of a whole stream, of which there may be many.
-const LONG_BLOCK: usize = 8192;
-
-// One fetch of at least one byte and at most `most`, to the front of the block.
-fn fetch_some<R: Source>(
-    source: &mut R,
-    block: &mut [u8; BLOCK],
-    most: u64,
-) -> Result<usize, ReadFault>
-    requires { 0 < most }
-    ensures some { IfOk result
-        (λ n. (0 < n) × (n ≤ most) × (n ≤ BLOCK) × (length (take n block.new) ≡ n)) }
-    ensures taken { IfOk result
-        (λ n. Consumes (R.left source.old) (R.left source.new) (take n block.new)) }
-    ensures reads { Reads R.Source source.old source.new 1 result }
-    ensures no_memory { result ≢ Err OutOfMemory }
-{
-    let room = most.min(BLOCK as u64) as usize;
-    let n = source.fetch(&mut block[..room])?;
-    if n == 0 {
-        return Err(ReadFault::End);
-    }
-    Ok(n)
-}
+const BLOCK: usize = 8192;
 
 /// Takes the next `len` bytes and forgets them, without memory. Faults are those of `read_exact`.
 #[tactic(auto, using(crate::proofs::ReadSteps::skipped_short))]
@@ -154,27 +129,97 @@ pub fn discard_exact<R: Source>(source: &mut R, len: u64) -> Result<(), ReadFaul
     Ok(())
 }
 
+// Puts bytes at hand at the end of the list, at most `most`, and answers how many.
+fn take_at_hand<R: Source>(source: &mut R, list: &mut Vec<u8>, most: u64) -> Result<u64, AllocError>
+    ensures bound { IfOk result (λ n. n ≤ most) }
+    ensures taken { IfOk result (λ n. IsFetchedOnto (R.left source.old) (R.left source.new)
+        list.old.items list.new.items n) }
+    ensures kept { StartsWith list.new.items list.old.items }
+    ensures counts { Counts R.Source source.old source.new false }
+{
+    let mut missing = most;
+    while missing > 0 {
+        let n = source.take_at_hand(list, missing)?;
+        if n == 0 {
+            return Ok(most - missing);
+        }
+        missing -= n;
+    }
+    Ok(most)
+}
+
+// Puts the next bytes at the end of the list by blocks, at most `most`, and answers how many: fewer
+// only where they end.
+fn read_by_blocks<R: Source>(
+    source: &mut R,
+    list: &mut Vec<u8>,
+    most: u64,
+) -> Result<u64, ReadFault>
+    ensures bound { IfOk result (λ n. n ≤ most) }
+    ensures taken { IfOk result (λ n. IsFetchedOnto (R.left source.old) (R.left source.new)
+        list.old.items list.new.items n) }
+    ensures end { IfOk result (λ n. n < most → IsAtEnd (R.left source.new)) }
+    ensures no_end { result ≢ Err End }
+    ensures kept { StartsWith list.new.items list.old.items }
+    ensures counts { Counts R.Source source.old source.new (is_io_fault result) }
+{
+    let mut block = [0u8; BLOCK];
+    let mut missing = most;
+    while missing > 0 {
+        let room = missing.min(BLOCK as u64) as usize;
+        let n = source.fetch(&mut block[..room])?;
+        if n == 0 {
+            return Ok(most - missing);
+        }
+        list.extend_from_slice(&block[..n])?;
+        missing -= n as u64;
+    }
+    Ok(most)
+}
+
+/// Puts the next bytes at the end of the list, at most `most`, and answers how many: fewer only
+/// where they end.
+///
+/// What is at hand is copied once, and the rest comes by blocks. The list grows only as far as
+/// bytes come, so a length that lies takes no memory. The end is no fault here. After a fault the
+/// list holds what it held and then some of the bytes.
+pub fn read_at_most<R: Source>(
+    source: &mut R,
+    list: &mut Vec<u8>,
+    most: u64,
+) -> Result<u64, ReadFault>
+    ensures bound { IfOk result (λ n. n ≤ most) }
+    ensures taken { IfOk result (λ n. IsFetchedOnto (R.left source.old) (R.left source.new)
+        list.old.items list.new.items n) }
+    ensures end { IfOk result (λ n. n < most → IsAtEnd (R.left source.new)) }
+    ensures no_end { result ≢ Err End }
+    ensures kept { StartsWith list.new.items list.old.items }
+    ensures counts { Counts R.Source source.old source.new (is_io_fault result) }
+{
+    let at_hand = take_at_hand(source, list, most)?;
+    if at_hand == most {
+        return Ok(most);
+    }
+    let behind = read_by_blocks(source, list, most - at_hand)?;
+    Ok(at_hand + behind)
+}
+
 /// Puts the next `len` bytes at the end of the list.
 ///
-/// The list grows only as far as bytes come, so a length that lies takes no memory. After a fault
-/// it holds what it held and then some of the bytes.
+/// All is as `read_at_most` has it, but that an end before is a fault.
 pub fn read_exact_len<R: Source>(
     source: &mut R,
     buf: &mut Vec<u8>,
     len: u64,
 ) -> Result<(), ReadFault>
-    ensures taken { OnOk result ((bytes : List ℕ)
-        × Consumes (R.left source.old) (R.left source.new) bytes
-        × (length bytes ≡ len) × (buf.new.items ≡ buf.old.items ++ bytes)) }
+    ensures taken { OnOk result (IsFetchedOnto (R.left source.old) (R.left source.new)
+        buf.old.items buf.new.items len) }
     ensures reads { Reads R.Source source.old source.new len result }
     ensures kept { StartsWith buf.new.items buf.old.items }
 {
-    let mut block = [0u8; BLOCK];
-    let mut missing = len;
-    while missing > 0 {
-        let n = fetch_some(source, &mut block, missing)?;
-        buf.extend_from_slice(&block[..n])?;
-        missing -= n as u64;
+    let n = read_at_most(source, buf, len)?;
+    if n < len {
+        return Err(ReadFault::End);
     }
     Ok(())
 }
@@ -189,11 +234,6 @@ pub fn read_to_end<R: Source>(source: &mut R, buf: &mut Vec<u8>) -> Result<(), R
     ensures kept { StartsWith buf.new.items buf.old.items }
     ensures counts { Counts R.Source source.old source.new (is_io_fault result) }
 {
-    let mut block = [0u8; LONG_BLOCK];
-    loop {
-        let n = source.fetch_onto(buf, &mut block)?;
-        if n == 0 {
-            return Ok(());
-        }
-    }
+    read_at_most(source, buf, u64::MAX)?;
+    Ok(())
 }

@@ -1,15 +1,14 @@
 //! Sources that seek over what they skip.
 
-ghost use Rattle.std.specs.Prelude.{◌≡◌, ◌≢◌, ◌<◌, ◌≤◌, ◌++◌, List, ℕ, [], Err, IfOk, IfSome, OnOk, length, true};
+ghost use Rattle.std.specs.Prelude.{◌≡◌, ◌<◌, ◌≤◌, ◌++◌, [], IfOk, OnOk, true};
 ghost use Rattle.std.specs.Io.{StartsWith};
 ghost use Rattle.std.specs.Io.KnownBytes.{IsAtEnd};
 ghost use Rattle.exif_base.specs.Device.{count_after};
 ghost use Rattle.exif_base.specs.Seekable.{left_behind, seekable_failures, seekable_inner};
-ghost use Rattle.exif_base.specs.Told.{IsFetchedOnto, Skips, WhereTold};
-ghost use Rattle.exif_base.specs.declared.read.ReadFault.TheVariants.{End};
+ghost use Rattle.exif_base.specs.Told.{IsFetchedOnto, PassesOthers, Skips};
 
 use crate::device::Source;
-use crate::read::ReadFault;
+use crate::search::others_between;
 use std::alloc::AllocError;
 use std::fs::File;
 use std::io;
@@ -30,12 +29,34 @@ pub trait ReadSeek: Read + Seek {
         ensures { Self.remaining self.now
             ≡ left_behind (Self.stream_position self.now) (Self.stream_bytes self.now) };
 
-    /// All the bytes that reads will give, where they are in memory.
-    fn in_memory(&self) -> Option<&[u8]>
-        ensures { IfSome result
-            (λ bytes. IfSome (Self.remaining self.now) (λ left. bytes.now ≡ left)) }
+    /// Whether all bytes that reads will give are in memory.
+    ///
+    /// It says how to read fast, not what is read: `false` is always a right answer.
+    fn is_in_memory(&self) -> bool {
+        false
+    }
+
+    /// Puts the next bytes at the end of the list, at most `most`, where they are in memory, and
+    /// answers how many.
+    ///
+    /// Where memory fails the list holds what it held and then some of the bytes.
+    fn take_in_memory(&mut self, list: &mut Vec<u8>, most: u64) -> Result<u64, AllocError>
+        ensures bound { IfOk result (λ n. n ≤ most) }
+        ensures bytes { IfOk result (λ n. IsFetchedOnto (Self.remaining self.old)
+            (Self.remaining self.new) list.old.items list.new.items n) }
+        ensures kept { StartsWith list.new.items list.old.items }
     {
-        None
+        Ok(0)
+    }
+
+    /// Takes the next bytes up to the first `stop`, at most `most`, where they are in memory, and
+    /// answers how many.
+    fn pass_in_memory(&mut self, stop: u8, most: u64) -> u64
+        ensures bound { result ≤ most }
+        ensures passed { PassesOthers (Self.remaining self.old) (Self.remaining self.new) stop
+            result }
+    {
+        0
     }
 }
 
@@ -50,10 +71,27 @@ impl ReadSeek for &File {
 impl<T: AsBytes> ReadSeek for Cursor<T> {
     fn reads_in_place(&self) {}
 
-    fn in_memory(&self) -> Option<&[u8]> {
+    fn is_in_memory(&self) -> bool {
+        true
+    }
+
+    fn take_in_memory(&mut self, list: &mut Vec<u8>, most: u64) -> Result<u64, AllocError> {
+        let place = self.position();
         let all = self.get_ref().as_byte_slice();
-        let start = self.position().min(all.len() as u64) as usize;
-        Some(&all[start..])
+        let start = place.min(all.len() as u64) as usize;
+        let n = most.min((all.len() - start) as u64);
+        copy_in_pieces(&all[start..start + n as usize], list)?;
+        self.set_position(place + n);
+        Ok(n)
+    }
+
+    fn pass_in_memory(&mut self, stop: u8, most: u64) -> u64 {
+        let place = self.position();
+        let all = self.get_ref().as_byte_slice();
+        let start = place.min(all.len() as u64) as usize;
+        let n = others_between(all, start, all.len(), stop, most) as u64;
+        self.set_position(place + n);
+        n
     }
 }
 
@@ -116,42 +154,17 @@ impl<R: ReadSeek> Source for Seekable<R> {
         result
     }
 
-    fn fetch_onto(&mut self, buf: &mut Vec<u8>, block: &mut [u8]) -> Result<usize, ReadFault> {
-        let result = fetch_onto_in(&mut self.inner, buf, block);
-        if matches!(result, Err(ReadFault::Io(_))) {
-            self.count_failure();
-        }
-        result
+    fn is_at_hand(&self) -> bool {
+        self.inner.is_in_memory()
     }
-}
 
-// Puts the next bytes at the end of the list: all where they are in memory, or as many as the block
-// holds. Answers how many.
-fn fetch_onto_in<R: ReadSeek>(
-    stream: &mut R,
-    buf: &mut Vec<u8>,
-    block: &mut [u8],
-) -> Result<usize, ReadFault>
-    ensures bytes { IfOk result (λ n.
-        IsFetchedOnto (R.remaining stream.old) (R.remaining stream.new)
-        buf.old.items buf.new.items n) }
-    ensures end { IfOk result
-        (λ n. n ≡ 0 → 0 < length block.old → IsAtEnd (R.remaining stream.new)) }
-    ensures no_end { result ≢ Err End }
-    ensures kept { StartsWith buf.new.items buf.old.items }
-    ensures block { length block.new ≡ length block.old }
-{
-    if let Some(bytes) = stream.in_memory() {
-        let n = bytes.len();
-        if n > 0 {
-            copy_in_pieces(bytes, buf)?;
-            pass_all(stream)?;
-        }
-        return Ok(n);
+    fn take_at_hand(&mut self, list: &mut Vec<u8>, most: u64) -> Result<u64, AllocError> {
+        self.inner.take_in_memory(list, most)
     }
-    let n = stream.read(block)?;
-    buf.extend_from_slice(&block[..n])?;
-    Ok(n)
+
+    fn pass_others(&mut self, stop: u8, most: u64) -> u64 {
+        self.inner.pass_in_memory(stop, most)
+    }
 }
 
 // Puts the bytes at the end of the list, in pieces that stay in the nearest cache: a long copy at
@@ -167,17 +180,6 @@ fn copy_in_pieces(bytes: &[u8], buf: &mut Vec<u8>) -> Result<(), AllocError>
         buf.extend_from_slice(&bytes[at..end])?;
         at = end;
     }
-    Ok(())
-}
-
-// Moves the place to the end.
-fn pass_all<R: ReadSeek>(stream: &mut R) -> io::Result<()>
-    ensures told { OnOk result
-        (WhereTold (R.remaining stream.old) (R.remaining stream.new) (λ _ ys. ys ≡ [])) }
-{
-    stream.reads_in_place();
-    stream.seek(SeekFrom::End(0))?;
-    stream.reads_in_place();
     Ok(())
 }
 

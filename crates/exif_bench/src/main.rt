@@ -20,7 +20,7 @@ use work::{Work, read};
 
 const USAGE: &str = "usage: exif_bench [--list]
        exif_bench --write NAME FILE
-       exif_bench FILE N [read|report|write]
+       exif_bench FILE N [read|whole|report|write]
 
 With no argument: times each case, a line a case.
 --list          names each case, its bytes and its fields

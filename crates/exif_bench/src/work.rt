@@ -9,9 +9,11 @@ use std::io::Cursor;
 /// A work on a file.
 #[derive(Clone, Copy, PartialEq, Eq)]
 pub enum Work {
-    /// All fields read, with their values.
+    /// All fields read, with their values; of TIFF data a front of them, where it says all.
     Read,
-    /// The same, and the report of it written into memory.
+    /// The same, and all the data handed on.
+    Whole,
+    /// All fields read, and the report of it written into memory.
     Report,
     /// The fields that were read written as an image into memory.
     Write,
@@ -19,12 +21,13 @@ pub enum Work {
 
 impl Work {
     /// Each work.
-    pub const ALL: [Work; 3] = [Work::Read, Work::Report, Work::Write];
+    pub const ALL: [Work; 4] = [Work::Read, Work::Whole, Work::Report, Work::Write];
 
     /// Its name in a line of times.
     pub fn name(self) -> &'static str {
         match self {
             Work::Read => "read",
+            Work::Whole => "whole",
             Work::Report => "report",
             Work::Write => "write",
         }
@@ -38,6 +41,11 @@ impl Work {
 
 /// What a file says.
 pub fn read(alloc: Global, bytes: &[u8]) -> Result<Exif, Error> {
+    Reader::new().read_by_need(alloc, &mut Seekable::new(Cursor::new(bytes)))
+}
+
+// What a file says, with all its data.
+fn read_whole(alloc: Global, bytes: &[u8]) -> Result<Exif, Error> {
     Reader::new().read_from_container(alloc, &mut Seekable::new(Cursor::new(bytes)))
 }
 
@@ -67,10 +75,8 @@ fn image_len(alloc: Global, exif: &Exif) -> Result<usize, Error> {
 /// What one call of a work makes: so many fields, or bytes. `exif` is what the file says.
 pub fn made_by(alloc: Global, work: Work, bytes: &[u8], exif: &Exif) -> usize {
     let made = match work {
-        Work::Read => match read(alloc, bytes) {
-            Ok(exif) => Ok(exif.fields().len()),
-            Err(error) => Err(error),
-        },
+        Work::Read => read(alloc, bytes).map(|exif| exif.fields().len()),
+        Work::Whole => read_whole(alloc, bytes).map(|exif| exif.fields().len()),
         Work::Report => report_len(alloc, bytes),
         Work::Write => image_len(alloc, exif),
     };

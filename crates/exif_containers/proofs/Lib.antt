@@ -2,8 +2,8 @@ pub mod ContainerNames
 pub mod ContainerSteps
 pub mod IsobmffExtents
 pub mod IsobmffFile
+pub mod IsobmffFront
 pub mod IsobmffNames
-pub mod JpegCalls
 pub mod JpegMoves
 pub mod JpegUnits
 pub mod LawsJpeg

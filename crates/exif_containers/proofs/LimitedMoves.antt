@@ -8,7 +8,7 @@ use Rattle.std.proofs.lemmas.List.{length-take-le, take-append-drop, drop-drop}
 use Rattle.exif_base.specs.Told.{Skips}
 use Rattle.byteorder.specs.Endian.{ReadsNumber, big_number}
 use Rattle.exif_containers.specs.Jpeg.{from_mark}
-use Rattle.exif_base.specs.Scan.{PassesOthers}
+use Rattle.exif_base.specs.Told.{PassesOthers}
 use Rattle.exif_containers.specs.Within.{Moves}
 
 -- a skip of bytes that count

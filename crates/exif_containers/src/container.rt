@@ -11,7 +11,7 @@ use crate::isobmff::{self, is_heif};
 use crate::jpeg::{self, is_jpeg};
 use crate::util::read_all;
 use crate::webp::{self, is_webp};
-use exif_base::{Blocks, Scan, Source, read_front};
+use exif_base::{Blocks, Source, read_front};
 use exif_types::Error;
 use std::alloc::Global;
 use std::io;
@@ -67,7 +67,11 @@ pub fn format_of(head: &[u8]) -> Option<Format>
 
 // The data of this container, or the refusal of bytes that begin none.
 #[tactic(auto, unfolding(crate::specs::Container::answer_as))]
-fn attr_as<R: Scan>(alloc: Global, format: Option<Format>, source: &mut R) -> Result<Vec<u8>, Error>
+fn attr_as<R: Source>(
+    alloc: Global,
+    format: Option<Format>,
+    source: &mut R,
+) -> Result<Vec<u8>, Error>
     ensures gives { IfSome (R.left source.old)
         (λ bytes. Gives (λ v. v.items) result (answer_as format bytes)) }
     ensures named { IfErr result (IsNamed container_refusals) }
@@ -96,6 +100,25 @@ fn read_head<R: Source>(source: &mut R, block: &mut [u8]) -> io::Result<usize>
     read_front(source, &mut block[..room])
 }
 
+// The Exif data of a stream that is read through this block.
+fn attr_through<R: Source>(
+    alloc: Global,
+    source: &mut R,
+    block: &mut [u8],
+) -> Result<Vec<u8>, Error>
+    requires { HEAD ≤ length block.now }
+    ensures gives { IfSome (R.left source.old)
+        (λ bytes. Gives (λ v. v.items) result (container_answer bytes)) }
+    ensures named { IfErr result (IsNamed container_refusals) }
+    ensures counts { Counts R.Source source.old source.new (is_io result) }
+{
+    let filled = read_head(source, block)?;
+    let format = format_of(&block[..filled]);
+    let mut blocks = Blocks::new(block, filled, source);
+    let payload = attr_as(alloc, format, &mut blocks)?;
+    Ok(payload)
+}
+
 /// The Exif data of a stream: all bytes of TIFF data, or what a JPEG stream, a HEIF file or a
 /// WebP file holds. The first 4096 bytes choose, or all if there are fewer, whatever the source's
 /// cuts.
@@ -108,10 +131,8 @@ pub fn exif_attr_of_stream<R: Source>(alloc: Global, source: &mut R) -> Result<V
     ensures named { IfErr result (IsNamed container_refusals) }
     ensures counts { Counts R.Source source.old source.new (is_io result) }
 {
-    let mut block = [0u8; BLOCK];
-    let filled = read_head(source, &mut block)?;
-    let format = format_of(&block[..filled]);
-    let mut blocks = Blocks::new(&mut block, filled, source);
-    let payload = attr_as(alloc, format, &mut blocks)?;
-    Ok(payload)
+    if source.is_at_hand() {
+        return attr_through(alloc, source, &mut [0; HEAD]);
+    }
+    attr_through(alloc, source, &mut [0; BLOCK])
 }

@@ -14,7 +14,8 @@ mod extents;
 mod front;
 
 use self::extents::bytes_in_file;
-use self::front::{read_boxes, read_rest};
+use self::front::read_boxes;
+use crate::util::read_rest;
 use exif_base::Source;
 pub use exif_isobmff::is_heif;
 use exif_isobmff::{

@@ -12,7 +12,7 @@ ghost use Rattle.exif_containers.specs.Jpeg.{JpegUnit, answer_at_code, answer_fr
 
 mod limited;
 
-use exif_base::{Exact, Scan, Source};
+use exif_base::Source;
 use exif_types::Error;
 use limited::{collect_within, fill_within, next_code, next16, skip_within};
 use std::alloc::Global;
@@ -119,7 +119,7 @@ fn segment<R: Source>(
 }
 
 // The next unit: its Exif bytes, where it answers them.
-fn next_unit<R: Scan>(
+fn next_unit<R: Source>(
     alloc: Global,
     source: &mut R,
     budget: &mut u64,
@@ -155,7 +155,7 @@ fn next_unit<R: Scan>(
 /// the bytes end before an answer, or after `LIMIT` bytes. What is skipped takes no memory:
 /// `OutOfMemory` comes only where a payload is collected. After an error, how far the source was
 /// read is left open.
-pub fn get_exif_attr<R: Scan>(alloc: Global, source: &mut R) -> Result<Vec<u8>, Error>
+pub fn get_exif_attr<R: Source>(alloc: Global, source: &mut R) -> Result<Vec<u8>, Error>
     ensures found { IfOk result (λ v. WhereTold (R.left source.old) (R.left source.new)
         (λ xs ys. (rest : List ℕ) × (jpeg_answer (take LIMIT xs) ≡ found v.items rest)
         × (ys ≡ rest ++ drop LIMIT xs))) }
@@ -198,7 +198,5 @@ pub fn get_exif_attr_from_jpeg<R: Source>(alloc: Global, source: &mut R) -> Resu
         (λ xs. IsCollected broken_jpeg (jpeg_answer (take LIMIT xs)))) }
     ensures counts { Counts R.Source source.old source.new (is_io result) }
 {
-    let mut exact = Exact::new(source);
-    let payload = get_exif_attr(alloc, &mut exact)?;
-    Ok(payload)
+    get_exif_attr(alloc, source)
 }

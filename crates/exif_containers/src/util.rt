@@ -1,14 +1,14 @@
 //! What the containers share above the reads of their bytes.
 
-ghost use Rattle.std.specs.Prelude.{◌≡◌, ◌≢◌, ◌<◌, length, IfOk, OnOk, IfErr, IfSome, Err};
+ghost use Rattle.std.specs.Prelude.{◌≡◌, ◌≢◌, ◌<◌, ◌≤◌, length, IfOk, OnOk, IfErr, IfSome, Err};
 ghost use Rattle.std.specs.Io.KnownBytes.{Consumes, IsAtEnd};
 ghost use Rattle.exif_base.specs.Reads.{Counts};
-ghost use Rattle.exif_base.specs.Told.{Skips};
+ghost use Rattle.exif_base.specs.Told.{IsFetchedOnto, Skips, TakesAll};
 ghost use Rattle.exif_types.specs.Refusals.{IsInterrupted, invalid_format, is_io};
 ghost use Rattle.exif_types.specs.declared.error.Error.TheVariants.{OutOfMemory};
 ghost use Rattle.exif_containers.specs.Answer.{IsErrorOf, IsShort};
 
-use exif_base::{ReadFault, Source, discard_exact, read_exact, read_exact_len, read_to_end};
+use exif_base::{ReadFault, Source, discard_exact, read_exact, read_exact_len};
 use exif_types::Error;
 use std::alloc::Global;
 
@@ -63,9 +63,37 @@ pub fn collect<R: Source>(
     Ok(bytes)
 }
 
-/// All the bytes that are left.
+/// Puts the next bytes at the end of the list, at most `most`, and answers how many: fewer only
+/// where they end.
 ///
 /// It answers `Io` or `OutOfMemory`, and no refusal. How far the source was read then is left open.
+pub fn read_at_most<R: Source>(source: &mut R, list: &mut Vec<u8>, most: u64) -> Result<u64, Error>
+    ensures taken { IfOk result (λ n. IsFetchedOnto (R.left source.old) (R.left source.new)
+        list.old.items list.new.items n) }
+    ensures bound { IfOk result (λ n. n ≤ most) }
+    ensures end { IfOk result (λ n. n < most → IsAtEnd (R.left source.new)) }
+    ensures interrupted { IfErr result IsInterrupted }
+    ensures counts { Counts R.Source source.old source.new (is_io result) }
+{
+    match exif_base::read_at_most(source, list, most) {
+        Ok(n) => Ok(n),
+        Err(ReadFault::Io(cause)) => Err(Error::Io(cause)),
+        Err(ReadFault::End | ReadFault::OutOfMemory) => Err(Error::OutOfMemory),
+    }
+}
+
+/// Puts all the bytes that are left at the end of the list. Faults are those of `read_at_most`.
+pub fn read_rest<R: Source>(source: &mut R, list: &mut Vec<u8>) -> Result<(), Error>
+    ensures taken { OnOk result (TakesAll (R.left source.old) list.old.items list.new.items) }
+    ensures at_end { OnOk result (IsAtEnd (R.left source.new)) }
+    ensures interrupted { IfErr result IsInterrupted }
+    ensures counts { Counts R.Source source.old source.new (is_io result) }
+{
+    read_at_most(source, list, u64::MAX)?;
+    Ok(())
+}
+
+/// All the bytes that are left. Faults are those of `read_at_most`.
 pub fn read_all<R: Source>(alloc: Global, source: &mut R) -> Result<Vec<u8>, Error>
     ensures taken { IfOk result (λ v. IfSome (R.left source.old) (λ bytes. v.items ≡ bytes)) }
     ensures at_end { OnOk result (IsAtEnd (R.left source.new)) }
@@ -73,9 +101,6 @@ pub fn read_all<R: Source>(alloc: Global, source: &mut R) -> Result<Vec<u8>, Err
     ensures counts { Counts R.Source source.old source.new (is_io result) }
 {
     let mut bytes = Vec::new(alloc);
-    match read_to_end(source, &mut bytes) {
-        Ok(()) => Ok(bytes),
-        Err(ReadFault::Io(cause)) => Err(Error::Io(cause)),
-        Err(ReadFault::End | ReadFault::OutOfMemory) => Err(Error::OutOfMemory),
-    }
+    read_rest(source, &mut bytes)?;
+    Ok(bytes)
 }

@@ -14,7 +14,7 @@ ghost use Rattle.exif_edit_files.specs.Streams.{Tells, in_stream, is_device, pie
 ghost use Rattle.exif_edit_files.specs.declared.stream.Piece.{Piece};
 
 use crate::file::shift;
-use exif_base::{Blocks, Scan, Source, read_front};
+use exif_base::{Blocks, Source, read_front};
 use exif_containers::container::{Format, format_of};
 use exif_containers::{jpeg, webp};
 use exif_edit::{Error, Patch, erase_field_patches, erase_places_patches, set_value_patches};
@@ -32,7 +32,7 @@ pub struct Piece {
 }
 
 // The Exif data of a container whose files are not held. What follows them is left.
-fn data_as<R: Scan>(
+fn data_as<R: Source>(
     alloc: Global,
     format: Option<Format>,
     source: &mut R,

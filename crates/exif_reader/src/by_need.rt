@@ -1,10 +1,8 @@
 //! TIFF data of which no more than a front is read, where that says all.
 
-ghost use Rattle.std.specs.Prelude.{◌≡◌, ◌<◌, ◌≤◌, ◌+◌, ◌^◌, length, IfOk, IfErr, IfSome, OnOk, Ok, false, true};
-ghost use Rattle.std.specs.Io.KnownBytes.{IsAtEnd};
+ghost use Rattle.std.specs.Prelude.{◌≡◌, ◌<◌, ◌≤◌, ◌+◌, ◌^◌, length, IfOk, IfErr, IfSome, Ok, false, true};
 ghost use Rattle.exif_base.specs.Orders.{order_named};
 ghost use Rattle.exif_base.specs.Reads.{Counts};
-ghost use Rattle.exif_base.specs.Told.{IsFetchedOnto, TakesAll};
 ghost use Rattle.exif_types.specs.Refusals.{IsInterrupted, is_io};
 ghost use Rattle.exif_types.specs.declared.error.Error.TheVariants.{OutOfMemory};
 ghost use Rattle.exif_tiff.specs.Answers.{Whole, raw_answer};
@@ -12,7 +10,7 @@ ghost use Rattle.exif_tiff.specs.Trace.{header};
 
 use crate::stop::Stop;
 use crate::tiff::{Parsed, parse};
-use exif_base::{ReadFault, Source, discard_exact, read_to_end};
+use exif_base::{ReadFault, Source, discard_exact};
 use exif_tiff::laws::answers_show_what_was_read;
 use exif_types::Error;
 use std::alloc::Global;
@@ -21,47 +19,8 @@ use std::alloc::Global;
 /// values, in front of the strips.
 pub const FRONT: u64 = 262144;
 
-// How many bytes are read at a time.
-const BLOCK: usize = 8192;
-
 // So many bytes are more than places of 32 bits reach.
 const TOO_MANY: u64 = 4294967296;
-
-/// Puts the next bytes at the end of the list, at most so many: fewer only where they end.
-pub fn read_at_most<R: Source>(source: &mut R, buf: &mut Vec<u8>, most: u64) -> Result<u64, Error>
-    ensures taken { IfOk result (λ n. IsFetchedOnto (R.left source.old) (R.left source.new)
-        buf.old.items buf.new.items n) }
-    ensures bound { IfOk result (λ n. n ≤ most) }
-    ensures end { IfOk result (λ n. n < most → IsAtEnd (R.left source.new)) }
-    ensures interrupted { IfErr result IsInterrupted }
-    ensures counts { Counts R.Source source.old source.new (is_io result) }
-{
-    let mut block = [0u8; BLOCK];
-    let mut missing = most;
-    while missing > 0 {
-        let room = missing.min(BLOCK as u64) as usize;
-        let n = source.fetch(&mut block[..room])?;
-        if n == 0 {
-            return Ok(most - missing);
-        }
-        buf.extend_from_slice(&block[..n])?;
-        missing -= n as u64;
-    }
-    Ok(most)
-}
-
-/// Puts all the bytes that are left at the end of the list.
-pub fn read_rest<R: Source>(source: &mut R, buf: &mut Vec<u8>) -> Result<(), Error>
-    ensures taken { OnOk result (TakesAll (R.left source.old) buf.old.items buf.new.items) }
-    ensures interrupted { IfErr result IsInterrupted }
-    ensures counts { Counts R.Source source.old source.new (is_io result) }
-{
-    match read_to_end(source, buf) {
-        Ok(()) => Ok(()),
-        Err(ReadFault::Io(cause)) => Err(Error::Io(cause)),
-        Err(ReadFault::End | ReadFault::OutOfMemory) => Err(Error::OutOfMemory),
-    }
-}
 
 /// What strict reading finds in a front, where it meets no fault there.
 pub fn parse_front(alloc: Global, front: &[u8], limit: Option<u64>) -> Result<Option<Parsed>, Error>

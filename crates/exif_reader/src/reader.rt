@@ -1,7 +1,6 @@
 //! Readers of Exif metadata.
 
 ghost use Rattle.std.specs.Prelude.{◌≡◌, ◌≤◌, ◌++◌, ◌^◌, length, All, map, IfOk, IfSome, None, Some, Ok, false};
-ghost use Rattle.exif_base.specs.Device.{count_after};
 ghost use Rattle.exif_base.specs.Orders.{order_named};
 ghost use Rattle.exif_base.specs.Reads.{Counts};
 ghost use Rattle.exif_types.specs.Failures.{told_text, bytes_of, IsInvalidFormat};
@@ -14,13 +13,14 @@ ghost use Rattle.exif_reader.specs.Bounds.{ReportsAtMost};
 ghost use Rattle.exif_reader.specs.Files.{AnswersOwnData, ReadsByNeed, ReadsContainer};
 ghost use Rattle.exif_reader.specs.Readings.{HoldsFront, ReadsAs, ReadsHeld};
 
-use crate::by_need::{FRONT, parse_front, pass_rest, read_at_most, read_rest};
+use crate::by_need::{FRONT, parse_front, pass_rest};
 use crate::bytes::show_bytes;
 use crate::tiff::{self, Parsed};
 use exif_base::{Blocks, Source, read_front};
 use exif_containers::container::is_tiff;
 use exif_containers::exif_attr_of_stream;
 use exif_containers::laws::tiff_data_stand_alone;
+use exif_containers::util::{read_at_most, read_rest};
 use exif_tiff::Fault;
 use exif_tiff::laws::{a_front_may_say_all, answers_show_what_was_read, reading_is_bounded};
 use exif_types::{Error, Exif, exif_from_parts, partial_from_parts};
@@ -149,8 +149,7 @@ impl Reader {
             (container_answer bytes) result) }
         ensures own { AnswersOwnData (raw_answer self.now.lenient self.now.limit) result }
         ensures bounded { ReportsAtMost self.now.limit result }
-        ensures count { R.failures source.new ≡ count_after (is_io result) (R.failures source.old) }
-        ensures same { R.through source.new ≡ R.through source.old }
+        ensures counts { Counts R.Source source.old source.new (is_io result) }
     {
         let bytes = exif_attr_of_stream(alloc, source)?;
         let exif = self.read_raw(alloc, bytes)?;
@@ -159,7 +158,7 @@ impl Reader {
 
     /// Reads as `read_from_container` does, but of TIFF data no more than a front of 262,144 bytes,
     /// where strict reading meets no fault there: then all the data say the same. The rest is
-    /// skipped, so a large file costs no more than a small one where its directories stand in front.
+    /// skipped, so a large file costs no more than a small one where its directories are in front.
     ///
     /// The fields, the faults and the byte order are those of `read_from_container`; the data that
     /// are handed on (`buf`) may be the front alone, so strips and thumbnails may lie behind it.
@@ -174,8 +173,7 @@ impl Reader {
             (container_answer bytes) result) }
         ensures own { AnswersOwnData (raw_answer self.now.lenient self.now.limit) result }
         ensures bounded { ReportsAtMost self.now.limit result }
-        ensures count { R.failures source.new ≡ count_after (is_io result) (R.failures source.old) }
-        ensures same { R.through source.new ≡ R.through source.old }
+        ensures counts { Counts R.Source source.old source.new (is_io result) }
     {
         let mut block = [0u8; HEAD];
         let filled = read_front(source, &mut block)?;

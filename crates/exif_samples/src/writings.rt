@@ -59,10 +59,39 @@ pub fn descriptions(alloc: Global, texts: &[&[u8]]) -> Result<Vec<Field>, Fail> 
     Ok(fields)
 }
 
+/// Pushes a field. It promises nothing, as the calls below: what a test makes of a writer it looks
+/// at by its image, and calls of the writer itself would cost each test their proof.
+pub fn push<'a>(writer: &mut Writer<'a>, field: &'a Field) -> Result<(), Error> {
+    writer.push_field(field)
+}
+
+/// Sets the strips of a directory.
+pub fn put_strips<'a>(
+    writer: &mut Writer<'a>,
+    strips: &'a [&'a [u8]],
+    ifd_num: In,
+) -> Result<(), Error> {
+    writer.set_strips(strips, ifd_num)
+}
+
+/// Sets the tiles of a directory.
+pub fn put_tiles<'a>(
+    writer: &mut Writer<'a>,
+    tiles: &'a [&'a [u8]],
+    ifd_num: In,
+) -> Result<(), Error> {
+    writer.set_tiles(tiles, ifd_num)
+}
+
+/// Sets the thumbnail of a directory.
+pub fn put_jpeg<'a>(writer: &mut Writer<'a>, jpeg: &'a [u8], ifd_num: In) -> Result<(), Error> {
+    writer.set_jpeg(jpeg, ifd_num)
+}
+
 /// Pushes fields in their order.
 pub fn push_all<'a>(writer: &mut Writer<'a>, fields: &'a [Field]) -> Result<(), Error> {
     for field in fields {
-        writer.push_field(field)?;
+        push(writer, field)?;
     }
     Ok(())
 }
@@ -71,7 +100,7 @@ pub fn push_all<'a>(writer: &mut Writer<'a>, fields: &'a [Field]) -> Result<(), 
 pub fn writer_of<'a>(alloc: Global, exif: &'a Exif) -> Result<Writer<'a>, Error> {
     let mut writer = Writer::new(alloc);
     for field in exif.fields() {
-        writer.push_field(field)?;
+        push(&mut writer, field)?;
     }
     Ok(writer)
 }

@@ -9,8 +9,8 @@ ghost use Rattle.exif_isobmff.specs.HeifRefusals.{heif_refusals};
 ghost use Rattle.exif_containers.specs.Answer.{IsNamed};
 ghost use Rattle.exif_containers.specs.HeifSteps.{PlaceIsReached, one_part};
 
-use super::front::{read_at_most, read_rest};
-use crate::util::skip;
+use super::front::read_whole;
+use crate::util::{read_rest, skip};
 use exif_base::{ReadFault, Source, discard_exact};
 use exif_isobmff::{Location, MAX_EXIF_SIZE, extent_front, item_bytes};
 use exif_types::Error;
@@ -92,7 +92,7 @@ fn one_extent<R: Source>(
         return Err(Error::InvalidFormat("Exif data too large"));
     }
     let wanted = if len == 0 { TOO_MANY } else { len };
-    let _whole = read_at_most(source, &mut bytes, wanted.saturating_sub(at_hand))?;
+    let _whole = read_whole(source, &mut bytes, wanted.saturating_sub(at_hand))?;
     part_of(alloc, len, &bytes[start..])
 }
 

@@ -3,40 +3,17 @@
 ghost use Rattle.std.specs.Prelude.{◌≡◌, ◌≤◌, ◌<◌, ◌+◌, length, OnOk, IfOk, IfErr, IfSome, true, false};
 ghost use Rattle.std.specs.Io.KnownBytes.{IsAtEnd};
 ghost use Rattle.exif_base.specs.Reads.{Counts};
-ghost use Rattle.exif_base.specs.Told.{TakesAll};
 ghost use Rattle.exif_types.specs.Refusals.{IsInterrupted, is_io};
 ghost use Rattle.exif_containers.specs.HeifSteps.{GoesOn};
 
-use exif_base::{ReadFault, Source, read_front, read_to_end};
+use crate::util::read_at_most;
+use exif_base::Source;
 use exif_isobmff::{BoxSplitter, Kind};
 use exif_types::Error;
 
-// How many bytes go through the stack at a time.
-const BLOCK: usize = 4096;
-
-// Reads at most as many bytes as there are in the block, and answers whether it was filled.
-fn read_block<R: Source>(
-    source: &mut R,
-    bytes: &mut Vec<u8>,
-    block: &mut [u8],
-) -> Result<bool, Error>
-    ensures read { OnOk result
-        (GoesOn (R.left source.old) (R.left source.new) bytes.old.items bytes.new.items) }
-    ensures len { length block.new ≡ length block.old }
-    ensures grows { IfOk result (λ filled. filled ≡ true
-        → length bytes.old.items + length block.old ≤ length bytes.new.items) }
-    ensures kept { OnOk result (length bytes.old.items ≤ length bytes.new.items) }
-    ensures end { IfOk result (λ filled. filled ≡ false → IsAtEnd (R.left source.new)) }
-    ensures interrupted { IfErr result IsInterrupted }
-    ensures counts { Counts R.Source source.old source.new (is_io result) }
-{
-    let n = read_front(source, block)?;
-    bytes.extend_from_slice(&block[..n])?;
-    Ok(n == block.len())
-}
-
 /// Reads so many bytes, or as far as they go, and answers whether all came.
-pub fn read_at_most<R: Source>(source: &mut R, bytes: &mut Vec<u8>, len: u64) -> Result<bool, Error>
+#[tactic(auto, using(crate::proofs::IsobmffFront::goes_on))]
+pub fn read_whole<R: Source>(source: &mut R, bytes: &mut Vec<u8>, len: u64) -> Result<bool, Error>
     ensures read { OnOk result
         (GoesOn (R.left source.old) (R.left source.new) bytes.old.items bytes.new.items) }
     ensures grows { IfOk result (λ whole. whole ≡ true
@@ -46,29 +23,8 @@ pub fn read_at_most<R: Source>(source: &mut R, bytes: &mut Vec<u8>, len: u64) ->
     ensures interrupted { IfErr result IsInterrupted }
     ensures counts { Counts R.Source source.old source.new (is_io result) }
 {
-    let mut block = [0u8; BLOCK];
-    let mut missing = len;
-    while missing > 0 {
-        let room = missing.min(BLOCK as u64) as usize;
-        if !read_block(source, bytes, &mut block[..room])? {
-            return Ok(false);
-        }
-        missing -= room as u64;
-    }
-    Ok(true)
-}
-
-/// Reads all bytes that are left.
-pub fn read_rest<R: Source>(source: &mut R, bytes: &mut Vec<u8>) -> Result<(), Error>
-    ensures read { OnOk result (TakesAll (R.left source.old) bytes.old.items bytes.new.items) }
-    ensures interrupted { IfErr result IsInterrupted }
-    ensures counts { Counts R.Source source.old source.new (is_io result) }
-{
-    match read_to_end(source, bytes) {
-        Ok(()) => Ok(()),
-        Err(ReadFault::Io(cause)) => Err(Error::Io(cause)),
-        Err(ReadFault::End | ReadFault::OutOfMemory) => Err(Error::OutOfMemory),
-    }
+    let n = read_at_most(source, bytes, len)?;
+    Ok(n == len)
 }
 
 // The type of the next box and the length of its body, where both are said.
@@ -81,11 +37,11 @@ fn header<R: Source>(source: &mut R, bytes: &mut Vec<u8>) -> Result<Option<(Kind
     ensures counts { Counts R.Source source.old source.new (is_io result) }
 {
     let start = bytes.len();
-    if !read_at_most(source, bytes, 8)? {
+    if !read_whole(source, bytes, 8)? {
         return Ok(None);
     }
     let whole = BoxSplitter::new(&bytes[start..]).has_header();
-    if !whole && !read_at_most(source, bytes, 8)? {
+    if !whole && !read_whole(source, bytes, 8)? {
         return Ok(None);
     }
     Ok(said_header(&bytes[start..]))
@@ -113,7 +69,7 @@ fn next_box<R: Source>(source: &mut R, bytes: &mut Vec<u8>) -> Result<bool, Erro
     let Some((kind, len)) = header(source, bytes)? else {
         return Ok(false);
     };
-    let whole = read_at_most(source, bytes, len)?;
+    let whole = read_whole(source, bytes, len)?;
     Ok(whole && kind != Kind::Meta)
 }
 

@@ -10,7 +10,7 @@ ghost use Rattle.exif_containers.specs.Jpeg.{after_marks, broken_jpeg, code_onwa
 
 use crate::jpeg::MARK;
 use crate::util::{collect, error_of, fill, skip};
-use exif_base::{Scan, Source, read8, read16};
+use exif_base::{Source, read8, read16};
 use exif_types::Error;
 use std::alloc::Global;
 
@@ -114,7 +114,7 @@ pub fn next16<R: Source>(source: &mut R, budget: &mut u64) -> Result<u16, Error>
 }
 
 // Takes what is at hand and no ff.
-fn pass_at_hand<R: Scan>(source: &mut R, budget: &mut u64)
+fn pass_at_hand<R: Source>(source: &mut R, budget: &mut u64)
     ensures taken { Moves (R.left source.old) budget.old (R.left source.new) budget.new
         (λ xs ys. from_mark xs ≡ from_mark ys) }
     ensures spent { budget.new ≤ budget.old }
@@ -125,7 +125,7 @@ fn pass_at_hand<R: Scan>(source: &mut R, budget: &mut u64)
 }
 
 // Takes what is no ff, and one ff.
-fn skip_to_mark<R: Scan>(source: &mut R, budget: &mut u64) -> Result<(), Error>
+fn skip_to_mark<R: Source>(source: &mut R, budget: &mut u64) -> Result<(), Error>
     ensures taken { OnOk result (Moves (R.left source.old) budget.old (R.left source.new) budget.new
         (λ xs ys. from_mark xs ≡ 255 ∷ ys)) }
     ensures spent { OnOk result (budget.new < budget.old) }
@@ -163,7 +163,7 @@ fn code_after_marks<R: Source>(source: &mut R, budget: &mut u64) -> Result<u8, E
 }
 
 /// Takes what is no ff, the ffs behind it and the code of the next unit, and gives that code.
-pub fn next_code<R: Scan>(source: &mut R, budget: &mut u64) -> Result<u8, Error>
+pub fn next_code<R: Source>(source: &mut R, budget: &mut u64) -> Result<u8, Error>
     ensures taken { IfOk result (λ code.
         Moves (R.left source.old) budget.old (R.left source.new) budget.new
         (λ xs ys. code_onwards xs ≡ code ∷ ys)) }

@@ -7,7 +7,8 @@ use exif_samples::answers::{are_bytes, kind_of, reason};
 use exif_samples::readings::read_strictly;
 use exif_samples::shortage::{Outcome, in_turn, take_most, take_rest};
 use exif_samples::writings::{
-    description, field, four_fields, is_image, push_all, scrub_into, write_into, written,
+    description, field, four_fields, is_image, push, push_all, put_jpeg, put_strips, put_tiles,
+    scrub_into, write_into, written,
 };
 use exif_samples::{files, images};
 use std::alloc::{AllocError, Global};
@@ -33,7 +34,7 @@ fn writing_runs_out_of_memory(rt: HostRuntime) -> Result<(), Fail> {
     let fields = four_fields(alloc)?;
     let mut writer = Writer::new(alloc);
     push_all(&mut writer, fields.as_slice())?;
-    writer.set_jpeg(b"JPEG", In::THUMBNAIL)?;
+    put_jpeg(&mut writer, b"JPEG", In::THUMBNAIL)?;
     let wants = in_turn(alloc, || writing(&mut writer, files::EVERY_DIRECTORY))?;
     assert!(rt; wants > 0);
     Ok(())
@@ -63,10 +64,10 @@ fn scrubbing_runs_out_of_memory(rt: HostRuntime) -> Result<(), Fail> {
 // Changes the sixth directory in one of the four ways.
 fn change<'a>(writer: &mut Writer<'a>, field: &'a Field, way: u8) -> Result<(), Error> {
     match way {
-        0 => writer.push_field(field),
-        1 => writer.set_strips(&[b"STRIP"], In(5)),
-        2 => writer.set_tiles(&[b"TILE"], In(5)),
-        _ => writer.set_jpeg(b"JPEG", In(5)),
+        0 => push(writer, field),
+        1 => put_strips(writer, &[b"STRIP"], In(5)),
+        2 => put_tiles(writer, &[b"TILE"], In(5)),
+        _ => put_jpeg(writer, b"JPEG", In(5)),
     }
 }
 
@@ -112,7 +113,7 @@ fn refused_in(rt: &(impl Abort + AllocGlobal), way: u8) -> Result<u16, Fail> {
     let field = description(rt.alloc(), In::PRIMARY, b"Sample")?;
     let later = description(rt.alloc(), In(5), b"later")?;
     let mut writer = Writer::new(rt.alloc());
-    writer.push_field(&field)?;
+    push(&mut writer, &field)?;
     refused_changes(rt, &mut writer, &later, way)
 }
 
@@ -151,7 +152,7 @@ fn no_directory_is_refused_without_memory(rt: HostRuntime) -> Result<(), Fail> {
 fn unknown_values_are_refused_without_memory(rt: HostRuntime) -> Result<(), Fail> {
     let unknown = field(Tag::ImageWidth, In::PRIMARY, Value::Unknown(65535, 1, 18));
     let mut writer = Writer::new(rt.alloc());
-    writer.push_field(&unknown)?;
+    push(&mut writer, &unknown)?;
     assert!(rt; is_refused(&rt, &mut writer, "Cannot write unknown field types")?);
     Ok(())
 }
@@ -159,7 +160,7 @@ fn unknown_values_are_refused_without_memory(rt: HostRuntime) -> Result<(), Fail
 #[test]
 fn empty_directories_are_refused_without_memory(rt: HostRuntime) -> Result<(), Fail> {
     let mut writer = Writer::new(rt.alloc());
-    writer.set_jpeg(b"JPEG", In::THUMBNAIL)?;
+    put_jpeg(&mut writer, b"JPEG", In::THUMBNAIL)?;
     assert!(rt; is_refused(&rt, &mut writer, "IFD must not be empty")?);
     Ok(())
 }
@@ -175,7 +176,7 @@ fn a_writer_over_memory_fails_where_its_memory_does(rt: HostRuntime) -> Result<(
     strip.resize(40_000, b' ')?;
     let strips: [&[u8]; 1] = [strip.as_slice()];
     let mut writer = Writer::new(alloc);
-    writer.set_strips(&strips, In::PRIMARY)?;
+    put_strips(&mut writer, &strips, In::PRIMARY)?;
     let most = take_most(alloc)?;
     let rest = take_rest(alloc, 8192)?;
     let (answer, sent) = written(alloc, &mut writer, false);

@@ -2,7 +2,7 @@
 
 use super::devices::{dripping, one_byte};
 use exif_base::{
-    BigEndian, Blocks, Counted, Endian, Exact, Feed, Items, LittleEndian, Order, ReadFault, Scan,
+    BigEndian, Blocks, Counted, Endian, Feed, Items, LittleEndian, Order, ReadFault, Seekable,
     Sink, Source, discard_exact, read_exact, read_exact_len, read_front, read_to_end, read8,
     read16, read64, send_all,
 };
@@ -194,14 +194,6 @@ fn sends_to_a_writer_without_room(rt: HostRuntime) {
 }
 
 #[test]
-fn exact_reads_pass_through(rt: HostRuntime) -> Result<(), Fail> {
-    reads_all(&rt, &mut Exact::new(&mut Counted::new(DIGITS)))?;
-    let mut source = Counted::new(DIGITS);
-    assert_eq!(rt; Exact::new(&mut source).pass_others(b'4', 9), 0);
-    Ok(())
-}
-
-#[test]
 fn bytes_at_hand_come_first(rt: HostRuntime) -> Result<(), Fail> {
     let mut source = one_byte(b"3456789", 100, ErrorKind::Other);
     let mut block = *b"012.";
@@ -210,7 +202,7 @@ fn bytes_at_hand_come_first(rt: HostRuntime) -> Result<(), Fail> {
 }
 
 /// Passes the first four digits.
-fn passes_four<S: Scan>(rt: &impl Abort, source: &mut S) {
+fn passes_four<S: Source>(rt: &impl Abort, source: &mut S) {
     assert!(rt; source.pass_others(b'4', 3) == 3);
     assert!(rt; source.pass_others(b'4', 9) == 1);
     assert!(rt; source.pass_others(b'4', 9) == 0);
@@ -235,6 +227,24 @@ fn bytes_at_hand_are_passed(rt: HostRuntime) -> Result<(), Fail> {
     passes_four(&rt, &mut blocks);
     reads_behind_four(&rt, &mut blocks)?;
     Ok(())
+}
+
+#[test]
+fn bytes_in_memory_are_passed(rt: HostRuntime) -> Result<(), Fail> {
+    let mut source = Seekable::new(Cursor::new(b"123456789".as_slice()));
+    let mut block = *b"0";
+    let mut blocks = Blocks::new(&mut block, 1, &mut source);
+    assert!(rt; blocks.pass_others(b'4', 9) == 1);
+    assert!(rt; blocks.pass_others(b'4', 2) == 2);
+    assert!(rt; blocks.pass_others(b'4', 9) == 1);
+    assert!(rt; blocks.pass_others(b'4', 9) == 0);
+    reads_behind_four(&rt, &mut blocks)?;
+    Ok(())
+}
+
+#[test]
+fn a_reader_passes_none(rt: HostRuntime) {
+    assert!(rt; Counted::new(DIGITS).pass_others(b'4', 9) == 0);
 }
 
 #[test]

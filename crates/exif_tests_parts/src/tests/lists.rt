@@ -1,7 +1,7 @@
-//! Bytes that a source puts onto a list: those in memory, those at hand, and a block of them.
+//! Bytes that are put onto a list: those at hand, and those that are read by blocks.
 
 use super::devices::{one_byte, seeking};
-use exif_base::{Blocks, Counted, Exact, ReadFault, Seekable, Source};
+use exif_base::{Blocks, Counted, ReadFault, Seekable, Source, read_at_most};
 use std::alloc::Global;
 use std::io::{Cursor, ErrorKind};
 use std::process::Abort;
@@ -9,54 +9,46 @@ use std::test::Fail;
 
 const DIGITS: &[u8] = b"0123456789";
 
-/// How many bytes a call puts onto the list, through a block of three.
-fn puts<R: Source>(source: &mut R, list: &mut Vec<u8>) -> Result<usize, ReadFault> {
-    source.fetch_onto(list, &mut [0u8; 3])
-}
-
 /// A list of two bytes.
 fn begun(alloc: Global) -> Result<Vec<u8>, ReadFault> {
     Ok(Vec::from_slice(alloc, b"x:")?)
 }
 
-/// Puts five digits onto the list by blocks.
-fn puts_five<R: Source>(
+/// Reads five digits, of which none is at hand, three and two at a time.
+fn reads_five<R: Source>(
     rt: &impl Abort,
     source: &mut R,
     list: &mut Vec<u8>,
 ) -> Result<(), ReadFault> {
-    assert!(rt; puts(source, list)? == 3);
-    assert!(rt; puts(source, list)? == 2);
-    assert!(rt; puts(source, list)? == 0);
+    assert!(rt; source.take_at_hand(list, 9)? == 0);
+    assert!(rt; read_at_most(source, list, 3)? == 3);
+    assert!(rt; read_at_most(source, list, 9)? == 2);
+    assert!(rt; read_at_most(source, list, 9)? == 0);
     assert!(rt; list.as_slice() == b"x:56789".as_slice());
     Ok(())
 }
 
 #[test]
-fn a_reader_gives_blocks(rt: HostRuntime) -> Result<(), Fail> {
+fn a_reader_has_nothing_at_hand(rt: HostRuntime) -> Result<(), Fail> {
     let digits = b"56789".as_slice();
-    puts_five(&rt, &mut Counted::new(digits), &mut begun(rt.alloc())?)?;
-    puts_five(
+    reads_five(&rt, &mut Counted::new(digits), &mut begun(rt.alloc())?)?;
+    reads_five(
         &rt,
         &mut seeking(digits, 100, ErrorKind::Other),
-        &mut begun(rt.alloc())?,
-    )?;
-    puts_five(
-        &rt,
-        &mut Exact::new(&mut Counted::new(digits)),
         &mut begun(rt.alloc())?,
     )?;
     Ok(())
 }
 
 #[test]
-fn what_is_in_memory_comes_at_once(rt: HostRuntime) -> Result<(), Fail> {
+fn what_is_in_memory_is_at_hand(rt: HostRuntime) -> Result<(), Fail> {
     let mut list = begun(rt.alloc())?;
     let mut source = Seekable::new(Cursor::new(DIGITS));
-    assert!(rt; source.skip(6)? == 6);
-    assert!(rt; puts(&mut source, &mut list)? == 4);
-    assert!(rt; puts(&mut source, &mut list)? == 0);
-    assert!(rt; list.as_slice() == b"x:6789".as_slice());
+    assert!(rt; source.skip(5)? == 5);
+    assert!(rt; source.take_at_hand(&mut list, 1)? == 1);
+    assert!(rt; source.take_at_hand(&mut list, 9)? == 4);
+    assert!(rt; source.take_at_hand(&mut list, 9)? == 0);
+    assert!(rt; list.as_slice() == b"x:56789".as_slice());
     assert!(rt; source.into_inner().position() == 10);
     Ok(())
 }
@@ -69,7 +61,7 @@ fn more_than_a_piece_in_memory(rt: HostRuntime) -> Result<(), Fail> {
     bytes[4096] = 2;
     bytes[9999] = 3;
     let mut source = Seekable::new(Cursor::new(bytes.as_slice()));
-    assert!(rt; puts(&mut source, &mut list)? == 10_000);
+    assert!(rt; read_at_most(&mut source, &mut list, u64::MAX)? == 10_000);
     assert!(rt; list.as_slice() == bytes.as_slice());
     Ok(())
 }
@@ -78,10 +70,11 @@ fn more_than_a_piece_in_memory(rt: HostRuntime) -> Result<(), Fail> {
 fn a_place_behind_the_end(rt: HostRuntime) -> Result<(), Fail> {
     let mut list = begun(rt.alloc())?;
     let mut behind = Cursor::new(DIGITS);
-    behind.set_position(20);
+    behind.set_position(u64::MAX);
     let mut source = Seekable::new(behind);
-    assert!(rt; puts(&mut source, &mut list)? == 0);
-    assert!(rt; source.into_inner().position() == 20);
+    assert!(rt; read_at_most(&mut source, &mut list, 9)? == 0);
+    assert!(rt; source.pass_others(b'4', 9) == 0);
+    assert!(rt; source.into_inner().position() == u64::MAX);
     Ok(())
 }
 
@@ -89,12 +82,13 @@ fn a_place_behind_the_end(rt: HostRuntime) -> Result<(), Fail> {
 fn blocks_give_what_is_at_hand_first(rt: HostRuntime) -> Result<(), Fail> {
     let mut list = begun(rt.alloc())?;
     let mut block = *b"01234...";
-    let mut source = Counted::new(b"56789".as_slice());
+    let mut source = Seekable::new(Cursor::new(b"56789".as_slice()));
     let mut blocks = Blocks::new(&mut block, 5, &mut source);
-    assert!(rt; blocks.skip(4)? == 4);
-    assert!(rt; puts(&mut blocks, &mut list)? == 1);
-    assert!(rt; puts(&mut blocks, &mut list)? == 3);
-    assert!(rt; list.as_slice() == b"x:4567".as_slice());
+    assert!(rt; blocks.skip(2)? == 2);
+    assert!(rt; blocks.take_at_hand(&mut list, 1)? == 1);
+    assert!(rt; blocks.take_at_hand(&mut list, 9)? == 2);
+    assert!(rt; read_at_most(&mut blocks, &mut list, 3)? == 3);
+    assert!(rt; list.as_slice() == b"x:234567".as_slice());
     Ok(())
 }
 
@@ -102,8 +96,8 @@ fn blocks_give_what_is_at_hand_first(rt: HostRuntime) -> Result<(), Fail> {
 fn a_reader_that_fails(rt: HostRuntime) -> Result<(), Fail> {
     let mut list = begun(rt.alloc())?;
     let mut source = one_byte(DIGITS, 1, ErrorKind::Interrupted);
-    assert!(rt; puts(&mut source, &mut list)? == 1);
-    assert!(rt; matches!(puts(&mut source, &mut list), Err(ReadFault::Io(_))));
+    let fault = read_at_most(&mut source, &mut list, 9);
+    assert!(rt; matches!(fault, Err(ReadFault::Io(_))));
     assert!(rt; list.as_slice() == b"x:0".as_slice());
     Ok(())
 }

@@ -1,9 +1,7 @@
 //! Skips of each source: of nothing, to the end, past it, and where a device fails.
 
 use super::devices::{one_byte, seeking, without_an_end};
-use exif_base::{
-    Blocks, Counted, Exact, ReadFault, Seekable, Source, discard_exact, read_to_end, read8,
-};
+use exif_base::{Blocks, Counted, ReadFault, Seekable, Source, discard_exact, read_to_end, read8};
 use std::io;
 use std::io::{Cursor, ErrorKind};
 use std::process::Abort;
@@ -57,13 +55,6 @@ fn a_source_of_more_than_a_block(rt: HostRuntime) -> Result<(), Fail> {
     let mut source = Counted::new(bytes.as_slice());
     assert!(rt; source.skip(9_999)? == 9_999);
     assert!(rt; source.skip(9_999)? == 1);
-    Ok(())
-}
-
-#[test]
-fn exact_hands_skips_on(rt: HostRuntime) -> Result<(), Fail> {
-    skips_to_the_end(&rt, &mut Exact::new(&mut Counted::new(DIGITS)))?;
-    skips_past_the_end(&rt, &mut Exact::new(&mut Counted::new(DIGITS)))?;
     Ok(())
 }
 

@@ -5,7 +5,7 @@ use exif::{Exif, In, Reader, Tag};
 use exif_samples::answers::are_bytes;
 use exif_samples::found::{is_bytes, is_number, is_text, is_version};
 use exif_samples::readings::answer_of;
-use exif_samples::writings::{four_fields, image, push_all};
+use exif_samples::writings::{four_fields, image, push_all, put_jpeg};
 use std::alloc::{AllocError, Global};
 use std::process::Abort;
 use std::test::Fail;
@@ -15,7 +15,7 @@ fn written(alloc: Global, little_endian: bool) -> Result<Vec<u8>, Fail> {
     let fields = four_fields(alloc)?;
     let mut writer = Writer::new(alloc);
     push_all(&mut writer, fields.as_slice())?;
-    writer.set_jpeg(b"JPEG", In::THUMBNAIL)?;
+    put_jpeg(&mut writer, b"JPEG", In::THUMBNAIL)?;
     Ok(image(alloc, &mut writer, little_endian)?)
 }
 

@@ -3,7 +3,7 @@
 use exif::experimental::Writer;
 use exif::{In, Items, Tag, Value};
 use exif_samples::answers::debugs;
-use exif_samples::writings::field;
+use exif_samples::writings::{field, push, put_jpeg, put_strips, put_tiles};
 use std::test::Fail;
 
 const NOTHING: &str = "Writer { alloc: Global, ifds: [] }";
@@ -25,15 +25,15 @@ fn a_writer_of_fields(rt: HostRuntime) -> Result<(), Fail> {
     let width = Value::Short(Items::from_slice(alloc, &[20])?);
     let width = field(Tag::ImageWidth, In::PRIMARY, width);
     let mut writer = Writer::new(alloc);
-    writer.push_field(&width)?;
+    push(&mut writer, &width)?;
     debugs(alloc, &writer, FIELDS)
 }
 
 #[test]
 fn a_writer_of_blocks(rt: HostRuntime) -> Result<(), Fail> {
     let mut writer = Writer::new(rt.alloc());
-    writer.set_strips(&[b"A"], In::PRIMARY)?;
-    writer.set_tiles(&[], In::PRIMARY)?;
-    writer.set_jpeg(b"\xff\xd8", In::PRIMARY)?;
+    put_strips(&mut writer, &[b"A"], In::PRIMARY)?;
+    put_tiles(&mut writer, &[], In::PRIMARY)?;
+    put_jpeg(&mut writer, b"\xff\xd8", In::PRIMARY)?;
     debugs(rt.alloc(), &writer, BLOCKS)
 }

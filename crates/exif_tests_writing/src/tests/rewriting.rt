@@ -4,7 +4,9 @@ use exif::experimental::Writer;
 use exif::{Context, In, Reader, Tag};
 use exif_samples::found::{is_bytes, is_no_number, is_number, is_text, is_version};
 use exif_samples::readings::{read_leniently, read_strictly, refusal};
-use exif_samples::writings::{descriptions, image, is_image, push_all, writer_of};
+use exif_samples::writings::{
+    descriptions, image, is_image, push_all, put_jpeg, put_strips, writer_of,
+};
 use exif_samples::{answers, files, images};
 use std::alloc::Global;
 use std::process::Abort;
@@ -52,7 +54,7 @@ fn a_thumbnail_in_both_orders(rt: HostRuntime) -> Result<(), Fail> {
     let alloc = rt.alloc();
     let exif = read_strictly(alloc, files::EVERY_DIRECTORY)?;
     let mut writer = writer_of(alloc, &exif)?;
-    writer.set_jpeg(b"JPEG", In::THUMBNAIL)?;
+    put_jpeg(&mut writer, b"JPEG", In::THUMBNAIL)?;
     both_orders(&rt, files::EVERY_DIRECTORY, &mut writer)
 }
 
@@ -61,7 +63,7 @@ fn a_strip_in_both_orders(rt: HostRuntime) -> Result<(), Fail> {
     let alloc = rt.alloc();
     let exif = read_strictly(alloc, images::STRIP)?;
     let mut writer = writer_of(alloc, &exif)?;
-    writer.set_strips(&[b"STRIP"], In::THUMBNAIL)?;
+    put_strips(&mut writer, &[b"STRIP"], In::THUMBNAIL)?;
     both_orders(&rt, images::STRIP, &mut writer)
 }
 
@@ -72,7 +74,7 @@ fn no_strips_in_both_orders(rt: HostRuntime) -> Result<(), Fail> {
     assert!(rt; is_no_number(exif.fields().next(), Tag::StripOffsets));
     assert!(rt; is_no_number(exif.fields().nth(1), Tag::StripByteCounts));
     let mut writer = writer_of(alloc, &exif)?;
-    writer.set_strips(&[], In::PRIMARY)?;
+    put_strips(&mut writer, &[], In::PRIMARY)?;
     both_orders(&rt, images::NO_STRIPS, &mut writer)
 }
 

@@ -4,7 +4,9 @@ use exif::In;
 use exif::experimental::Writer;
 use exif_samples::answers::ends_with;
 use exif_samples::devices::Drip;
-use exif_samples::writings::{description, dripping_write, four_fields, push_all};
+use exif_samples::writings::{
+    description, dripping_write, four_fields, push, push_all, put_jpeg, put_strips,
+};
 use exif_samples::{files, images};
 use std::alloc::Global;
 use std::io::ErrorKind;
@@ -64,7 +66,7 @@ fn four_directories(rt: HostRuntime) -> Result<(), Fail> {
     let fields = four_fields(alloc)?;
     let mut writer = Writer::new(alloc);
     push_all(&mut writer, fields.as_slice())?;
-    writer.set_jpeg(b"JPEG", In::THUMBNAIL)?;
+    put_jpeg(&mut writer, b"JPEG", In::THUMBNAIL)?;
     let other = Some(ErrorKind::Other);
     let fifty = (other, &files::EVERY_DIRECTORY[..50]);
     assert!(rt; leaves(alloc, &mut writer, false, (50, other), fifty));
@@ -81,8 +83,8 @@ fn one_strip(rt: HostRuntime) -> Result<(), Fail> {
     let alloc = rt.alloc();
     let tif = description(alloc, In::PRIMARY, b"tif")?;
     let mut writer = Writer::new(alloc);
-    writer.push_field(&tif)?;
-    writer.set_strips(&[b"STRIP"], In::THUMBNAIL)?;
+    push(&mut writer, &tif)?;
+    put_strips(&mut writer, &[b"STRIP"], In::THUMBNAIL)?;
     fails_at_each_call(&rt, &mut writer, false, images::STRIP);
     fails_at_each_call(&rt, &mut writer, true, images::STRIP_LITTLE);
     Ok(())
@@ -94,8 +96,8 @@ fn three_strips(rt: HostRuntime) -> Result<(), Fail> {
     let tif = description(alloc, In::PRIMARY, b"tif")?;
     let strips: [&[u8]; 3] = [b"STR", b"", b"IP"];
     let mut writer = Writer::new(alloc);
-    writer.push_field(&tif)?;
-    writer.set_strips(&strips, In::THUMBNAIL)?;
+    push(&mut writer, &tif)?;
+    put_strips(&mut writer, &strips, In::THUMBNAIL)?;
     fails_at_each_call(&rt, &mut writer, false, images::THREE_STRIPS_BIG);
     fails_at_each_call(&rt, &mut writer, true, images::THREE_STRIPS_LITTLE);
     Ok(())

@@ -5,7 +5,9 @@ use exif::{Field, In, Tag, Value};
 use exif_samples::answers::is_shown;
 use exif_samples::files;
 use exif_samples::readings::read_strictly;
-use exif_samples::writings::{counted_write, description, field, image, text, writer_of};
+use exif_samples::writings::{
+    counted_write, description, field, image, push, put_jpeg, put_strips, text, writer_of,
+};
 use std::alloc::{AllocError, Global};
 use std::test::Fail;
 
@@ -29,7 +31,7 @@ fn no_directory(rt: HostRuntime) -> Result<(), Fail> {
     let own = text(alloc, Tag::StripOffsets, In::PRIMARY, b"of places")?;
     let mut writer = Writer::new(alloc);
     assert!(rt; is_refused(alloc, &mut writer, "At least one IFD must exist"));
-    writer.push_field(&own)?;
+    push(&mut writer, &own)?;
     assert!(rt; is_refused(alloc, &mut writer, "At least one IFD must exist"));
     Ok(())
 }
@@ -38,7 +40,7 @@ fn no_directory(rt: HostRuntime) -> Result<(), Fail> {
 fn an_empty_directory(rt: HostRuntime) -> Result<(), Fail> {
     let alloc = rt.alloc();
     let mut writer = Writer::new(alloc);
-    writer.set_jpeg(b"JPEG", In::THUMBNAIL)?;
+    put_jpeg(&mut writer, b"JPEG", In::THUMBNAIL)?;
     assert!(rt; is_refused(alloc, &mut writer, "IFD must not be empty"));
     Ok(())
 }
@@ -48,8 +50,8 @@ fn the_first_directory_with_a_cause(rt: HostRuntime) -> Result<(), Fail> {
     let alloc = rt.alloc();
     let first = unknown(In::PRIMARY);
     let mut writer = Writer::new(alloc);
-    writer.push_field(&first)?;
-    writer.set_jpeg(b"JPEG", In(2))?;
+    push(&mut writer, &first)?;
+    put_jpeg(&mut writer, b"JPEG", In(2))?;
     assert!(rt; is_refused(alloc, &mut writer, "Cannot write unknown field types"));
     Ok(())
 }
@@ -60,8 +62,8 @@ fn an_empty_directory_before_an_unknown_type(rt: HostRuntime) -> Result<(), Fail
     let described = description(alloc, In::PRIMARY, b"p")?;
     let third = unknown(In(2));
     let mut writer = Writer::new(alloc);
-    writer.push_field(&described)?;
-    writer.push_field(&third)?;
+    push(&mut writer, &described)?;
+    push(&mut writer, &third)?;
     assert!(rt; is_refused(alloc, &mut writer, "IFD must not be empty"));
     Ok(())
 }
@@ -79,7 +81,7 @@ fn unknown_types_that_were_read(rt: HostRuntime) -> Result<(), Fail> {
 fn crowded<'a>(alloc: Global, field: &'a Field, times: u32) -> Result<Writer<'a>, Fail> {
     let mut writer = Writer::new(alloc);
     for _pushed in 0..times {
-        writer.push_field(field)?;
+        push(&mut writer, field)?;
     }
     Ok(writer)
 }
@@ -137,9 +139,9 @@ fn images_past_four_gigabytes(rt: HostRuntime) -> Result<(), Fail> {
     let one_more = strips(alloc, &block, 1_015_770)?;
     let whole = strips(alloc, &block, STRIP)?;
     let mut writer = Writer::new(alloc);
-    writer.set_strips(one_more.as_slice(), In::PRIMARY)?;
+    put_strips(&mut writer, one_more.as_slice(), In::PRIMARY)?;
     assert!(rt; is_refused(alloc, &mut writer, "Offset too large"));
-    writer.set_strips(whole.as_slice(), In::PRIMARY)?;
+    put_strips(&mut writer, whole.as_slice(), In::PRIMARY)?;
     assert!(rt; is_refused(alloc, &mut writer, "Offset too large"));
     Ok(())
 }
@@ -150,7 +152,7 @@ fn the_longest_image(rt: HostRuntime) -> Result<(), Fail> {
     let block = block(alloc, STRIP)?;
     let strips = strips(alloc, &block, 1_015_769)?;
     let mut writer = Writer::new(alloc);
-    writer.set_strips(strips.as_slice(), In::PRIMARY)?;
+    put_strips(&mut writer, strips.as_slice(), In::PRIMARY)?;
     let (answer, sent) = counted_write(&mut writer);
     answer?;
     assert_eq!(rt; sent.bytes, 4_294_967_295);

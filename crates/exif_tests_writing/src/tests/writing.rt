@@ -4,7 +4,8 @@ use exif::experimental::Writer;
 use exif::{Context, Error, Field, In, Items, Rational, SRational, Tag, Value};
 use exif_samples::answers::are_bytes;
 use exif_samples::writings::{
-    description, descriptions, field, four_fields, image, is_image, push_all, version,
+    description, descriptions, field, four_fields, image, is_image, push, push_all, put_jpeg,
+    put_strips, put_tiles, version,
 };
 use exif_samples::{files, images};
 use std::alloc::{AllocError, Global};
@@ -15,7 +16,7 @@ fn one_description(rt: HostRuntime) -> Result<(), Fail> {
     let alloc = rt.alloc();
     let field = description(alloc, In::PRIMARY, b"Sample")?;
     let mut writer = Writer::new(alloc);
-    writer.push_field(&field)?;
+    push(&mut writer, &field)?;
     assert!(rt; is_image(alloc, &mut writer, files::DESCRIBED_BIG)?);
     let little = image(alloc, &mut writer, true)?;
     are_bytes(little.as_slice(), files::DESCRIBED_LITTLE)?;
@@ -29,7 +30,7 @@ fn four_directories(rt: HostRuntime) -> Result<(), Fail> {
     let fields = four_fields(alloc)?;
     let mut writer = Writer::new(alloc);
     push_all(&mut writer, fields.as_slice())?;
-    writer.set_jpeg(b"JPEG", In::THUMBNAIL)?;
+    put_jpeg(&mut writer, b"JPEG", In::THUMBNAIL)?;
     assert_eq!(rt; files::EVERY_DIRECTORY.len(), 158);
     assert!(rt; is_image(alloc, &mut writer, files::EVERY_DIRECTORY)?);
     Ok(())
@@ -40,9 +41,9 @@ fn strips_that_were_set_last(rt: HostRuntime) -> Result<(), Fail> {
     let alloc = rt.alloc();
     let tif = description(alloc, In::PRIMARY, b"tif")?;
     let mut writer = Writer::new(alloc);
-    writer.push_field(&tif)?;
-    writer.set_strips(&[b"of another length"], In::THUMBNAIL)?;
-    writer.set_strips(&[b"STRIP"], In::THUMBNAIL)?;
+    push(&mut writer, &tif)?;
+    put_strips(&mut writer, &[b"of another length"], In::THUMBNAIL)?;
+    put_strips(&mut writer, &[b"STRIP"], In::THUMBNAIL)?;
     assert!(rt; is_image(alloc, &mut writer, images::STRIP)?);
     Ok(())
 }
@@ -51,7 +52,7 @@ fn strips_that_were_set_last(rt: HostRuntime) -> Result<(), Fail> {
 fn no_strips(rt: HostRuntime) -> Result<(), Fail> {
     let alloc = rt.alloc();
     let mut writer = Writer::new(alloc);
-    writer.set_strips(&[], In::PRIMARY)?;
+    put_strips(&mut writer, &[], In::PRIMARY)?;
     assert!(rt; is_image(alloc, &mut writer, images::NO_STRIPS)?);
     Ok(())
 }
@@ -60,7 +61,7 @@ fn no_strips(rt: HostRuntime) -> Result<(), Fail> {
 fn a_tile(rt: HostRuntime) -> Result<(), Fail> {
     let alloc = rt.alloc();
     let mut writer = Writer::new(alloc);
-    writer.set_tiles(&[b"TILE"], In::PRIMARY)?;
+    put_tiles(&mut writer, &[b"TILE"], In::PRIMARY)?;
     assert!(rt; is_image(alloc, &mut writer, images::TILE)?);
     Ok(())
 }
@@ -70,8 +71,8 @@ fn a_thumbnail(rt: HostRuntime) -> Result<(), Fail> {
     let alloc = rt.alloc();
     let jpg = description(alloc, In::PRIMARY, b"jpg")?;
     let mut writer = Writer::new(alloc);
-    writer.push_field(&jpg)?;
-    writer.set_jpeg(b"JPEG", In::THUMBNAIL)?;
+    push(&mut writer, &jpg)?;
+    put_jpeg(&mut writer, b"JPEG", In::THUMBNAIL)?;
     assert!(rt; is_image(alloc, &mut writer, images::THUMBNAIL)?);
     Ok(())
 }
@@ -91,7 +92,7 @@ fn children(rt: HostRuntime) -> Result<(), Fail> {
     let alloc = rt.alloc();
     let version = version(alloc)?;
     let mut writer = Writer::new(alloc);
-    writer.push_field(&version)?;
+    push(&mut writer, &version)?;
     assert!(rt; is_image(alloc, &mut writer, images::VERSION)?);
     Ok(())
 }
@@ -102,7 +103,7 @@ fn a_number_of_another_directory(rt: HostRuntime) -> Result<(), Fail> {
     let five = Value::Short(Items::from_slice(alloc, &[5])?);
     let number = field(Tag(Context::Exif, 0x111), In::PRIMARY, five);
     let mut writer = Writer::new(alloc);
-    writer.push_field(&number)?;
+    push(&mut writer, &number)?;
     assert!(rt; is_image(alloc, &mut writer, images::STRIPS_NUMBER_IN_EXIF)?);
     Ok(())
 }
@@ -118,7 +119,7 @@ fn two_texts(alloc: Global) -> Result<Value, AllocError> {
 // The image of one field without its header, count and next place, big endian.
 fn entry_of(alloc: Global, field: &Field) -> Result<Vec<u8>, Error> {
     let mut writer = Writer::new(alloc);
-    writer.push_field(field)?;
+    push(&mut writer, field)?;
     let bytes = image(alloc, &mut writer, false)?;
     let mut entry = Vec::from_slice(alloc, bytes.get(10..22).unwrap_or(b""))?;
     entry.extend_from_slice(bytes.get(26..).unwrap_or(b""))?;

@@ -1,5 +1,5 @@
 use Rattle.std.proofs.Common.{rules}
 use Rattle.exif_base.proofs.read.read_exact_len.Goals as goal
 
-pub loop-missing-init : goal.loop-missing-init
-loop-missing-init g c = search rules
+pub returns-clause-taken : goal.returns-clause-taken
+returns-clause-taken g c = search rules
