@@ -1,8 +1,8 @@
 //! Metadata taken out.
 
 use super::pictures::{DESCRIBED, PLAIN, UPRIGHT};
-use super::{owned, refuses};
-use exif_change::{Removed, scrub};
+use super::{gives, refuses, scrubbed};
+use exif_change::Removed;
 use exif_samples::files::{DESCRIBED_BIG, EVERY_DIRECTORY, HEIF, HEIF_BRANDS, JPEG};
 use std::test::Fail;
 
@@ -10,10 +10,7 @@ use std::test::Fail;
 fn all_metadata_go(rt: HostRuntime) -> Result<(), Fail> {
     let alloc = rt.alloc();
     for old in [DESCRIBED, UPRIGHT, PLAIN] {
-        let Ok(new) = scrub(alloc, owned(alloc, old)?, Removed::Metadata) else {
-            return Err(Fail::new(format_args!("refused")));
-        };
-        assert!(rt; new.as_slice() == PLAIN);
+        assert!(rt; gives(&scrubbed(alloc, old, Removed::Metadata)?, PLAIN));
     }
     Ok(())
 }
@@ -22,10 +19,7 @@ fn all_metadata_go(rt: HostRuntime) -> Result<(), Fail> {
 fn the_orientation_may_stay(rt: HostRuntime) -> Result<(), Fail> {
     let alloc = rt.alloc();
     for (old, wanted) in [(DESCRIBED, UPRIGHT), (UPRIGHT, UPRIGHT), (PLAIN, PLAIN)] {
-        let Ok(new) = scrub(alloc, owned(alloc, old)?, Removed::AllButOrientation) else {
-            return Err(Fail::new(format_args!("refused")));
-        };
-        assert!(rt; new.as_slice() == wanted);
+        assert!(rt; gives(&scrubbed(alloc, old, Removed::AllButOrientation)?, wanted));
     }
     Ok(())
 }
@@ -34,10 +28,7 @@ fn the_orientation_may_stay(rt: HostRuntime) -> Result<(), Fail> {
 fn files_without_places_stay(rt: HostRuntime) -> Result<(), Fail> {
     let alloc = rt.alloc();
     for old in [DESCRIBED, PLAIN, DESCRIBED_BIG, HEIF] {
-        let Ok(new) = scrub(alloc, owned(alloc, old)?, Removed::Places) else {
-            return Err(Fail::new(format_args!("refused")));
-        };
-        assert!(rt; new.as_slice() == old);
+        assert!(rt; gives(&scrubbed(alloc, old, Removed::Places)?, old));
     }
     Ok(())
 }
@@ -45,7 +36,7 @@ fn files_without_places_stay(rt: HostRuntime) -> Result<(), Fail> {
 #[test]
 fn places_go_from_where_they_stand(rt: HostRuntime) -> Result<(), Fail> {
     let alloc = rt.alloc();
-    let Ok(new) = scrub(alloc, owned(alloc, EVERY_DIRECTORY)?, Removed::Places) else {
+    let Ok(new) = scrubbed(alloc, EVERY_DIRECTORY, Removed::Places)? else {
         return Err(Fail::new(format_args!("refused")));
     };
     let (new, old) = (new.as_slice(), EVERY_DIRECTORY);
@@ -59,7 +50,7 @@ fn places_go_from_where_they_stand(rt: HostRuntime) -> Result<(), Fail> {
 #[test]
 fn fields_of_heif_files_go(rt: HostRuntime) -> Result<(), Fail> {
     let alloc = rt.alloc();
-    let Ok(new) = scrub(alloc, owned(alloc, HEIF)?, Removed::Metadata) else {
+    let Ok(new) = scrubbed(alloc, HEIF, Removed::Metadata)? else {
         return Err(Fail::new(format_args!("refused")));
     };
     assert!(rt; new.len() == HEIF.len());
@@ -71,14 +62,14 @@ fn fields_of_heif_files_go(rt: HostRuntime) -> Result<(), Fail> {
 #[test]
 fn what_cannot_be_scrubbed_is_refused(rt: HostRuntime) -> Result<(), Fail> {
     let alloc = rt.alloc();
-    let answer = scrub(alloc, owned(alloc, DESCRIBED_BIG)?, Removed::Metadata);
+    let answer = scrubbed(alloc, DESCRIBED_BIG, Removed::Metadata)?;
     let text = "The picture stands in the same data (--places-only erases its places)";
     assert!(rt; refuses(alloc, &answer, text)?);
-    let answer = scrub(alloc, owned(alloc, b"text")?, Removed::Places);
+    let answer = scrubbed(alloc, b"text", Removed::Places)?;
     assert!(rt; refuses(alloc, &answer, "Unknown image format")?);
-    let answer = scrub(alloc, owned(alloc, JPEG)?, Removed::Metadata);
+    let answer = scrubbed(alloc, JPEG, Removed::Metadata)?;
     assert!(rt; refuses(alloc, &answer, "Broken JPEG file")?);
-    let answer = scrub(alloc, owned(alloc, HEIF_BRANDS)?, Removed::Metadata);
+    let answer = scrubbed(alloc, HEIF_BRANDS, Removed::Metadata)?;
     assert!(rt; answer.is_ok());
     Ok(())
 }

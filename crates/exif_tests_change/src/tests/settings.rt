@@ -1,8 +1,8 @@
 //! Values that are set.
 
 use super::pictures::{DESCRIBED, DESCRIBED_LONGER, PLAIN, RESOLVED};
-use super::{owned, refuses};
-use exif_change::{Assignment, Changed, Refusal, set};
+use super::{refuses, with_values};
+use exif_change::{Assignment, Changed, Refusal};
 use exif_samples::files::DESCRIBED_BIG;
 use std::alloc::Global;
 use std::test::Fail;
@@ -12,7 +12,7 @@ fn set_one(alloc: Global, file: &[u8], word: &str) -> Result<Result<Changed, Ref
     let Some(assignment) = Assignment::parse(word) else {
         return Err(Fail::new(format_args!("{word} is none")));
     };
-    Ok(set(alloc, owned(alloc, file)?, &[assignment]))
+    Ok(with_values(alloc, file, &[assignment])?)
 }
 
 #[test]
@@ -45,10 +45,10 @@ fn of_two_values_of_one_tag_the_last_is_set(rt: HostRuntime) -> Result<(), Fail>
     let [Some(first), Some(last)] = words.map(Assignment::parse) else {
         return Err(Fail::new(format_args!("no assignments")));
     };
-    let Ok(once) = set(alloc, owned(alloc, DESCRIBED)?, &[last]) else {
+    let Ok(once) = with_values(alloc, DESCRIBED, &[last])? else {
         return Err(Fail::new(format_args!("refused")));
     };
-    let Ok(both) = set(alloc, owned(alloc, DESCRIBED)?, &[first, last]) else {
+    let Ok(both) = with_values(alloc, DESCRIBED, &[first, last])? else {
         return Err(Fail::new(format_args!("refused")));
     };
     assert!(rt; both.file.as_slice() == once.file.as_slice());

@@ -1,7 +1,7 @@
 //! Dates that are moved.
 
-use super::{owned, refuses};
-use exif_change::{ClockShift, Dates, shift};
+use super::{gives, refuses, shifted};
+use exif_change::{ClockShift, Dates};
 use std::test::Fail;
 
 // A date of change and one of making, little endian.
@@ -21,56 +21,35 @@ static WRONG: &[u8] =
 #[test]
 fn dates_move_over_the_calendar(rt: HostRuntime) -> Result<(), Fail> {
     let alloc = rt.alloc();
-    let Some(by) = ClockShift::parse("+1d00:45:01") else {
-        return Err(Fail::new(format_args!("no shift")));
-    };
-    let Ok(moved) = shift(alloc, owned(alloc, DATED)?, by, Dates::All) else {
-        return Err(Fail::new(format_args!("refused")));
-    };
-    assert!(rt; moved.as_slice() == MOVED);
+    let moved = shifted(alloc, DATED, "+1d00:45:01", Dates::All)?;
+    assert!(rt; gives(&moved, MOVED));
     Ok(())
 }
 
 #[test]
 fn dates_move_back(rt: HostRuntime) -> Result<(), Fail> {
     let alloc = rt.alloc();
-    let Some(by) = ClockShift::parse("-24:45:01") else {
-        return Err(Fail::new(format_args!("no shift")));
-    };
-    let Ok(moved) = shift(alloc, owned(alloc, MOVED)?, by, Dates::All) else {
-        return Err(Fail::new(format_args!("refused")));
-    };
-    assert!(rt; moved.as_slice() == DATED);
+    let moved = shifted(alloc, MOVED, "-24:45:01", Dates::All)?;
+    assert!(rt; gives(&moved, DATED));
     Ok(())
 }
 
 #[test]
 fn blank_dates_stay(rt: HostRuntime) -> Result<(), Fail> {
     let alloc = rt.alloc();
-    let Some(by) = ClockShift::parse("+1:00") else {
-        return Err(Fail::new(format_args!("no shift")));
-    };
-    let Ok(moved) = shift(alloc, owned(alloc, BLANK)?, by, Dates::All) else {
-        return Err(Fail::new(format_args!("refused")));
-    };
-    assert!(rt; moved.as_slice() == BLANK);
+    let moved = shifted(alloc, BLANK, "+1:00", Dates::All)?;
+    assert!(rt; gives(&moved, BLANK));
     Ok(())
 }
 
 #[test]
 fn dates_that_cannot_move_are_refused(rt: HostRuntime) -> Result<(), Fail> {
     let alloc = rt.alloc();
-    let (Some(hour), Some(ages)) = (
-        ClockShift::parse("1:00"),
-        ClockShift::parse("+9999999d00:00"),
-    ) else {
-        return Err(Fail::new(format_args!("no shift")));
-    };
-    let wrong = shift(alloc, owned(alloc, WRONG)?, hour, Dates::All);
+    let wrong = shifted(alloc, WRONG, "1:00", Dates::All)?;
     assert!(rt; refuses(alloc, &wrong, "A date that no calendar has")?);
-    let late = shift(alloc, owned(alloc, DATED)?, ages, Dates::All);
+    let late = shifted(alloc, DATED, "+9999999d00:00", Dates::All)?;
     assert!(rt; refuses(alloc, &late, "The shifted date has no year of four digits")?);
-    let none = shift(alloc, owned(alloc, BLANK)?, hour, Dates::Exif);
+    let none = shifted(alloc, BLANK, "1:00", Dates::Exif)?;
     assert!(rt; refuses(alloc, &none, "No date to shift")?);
     Ok(())
 }
