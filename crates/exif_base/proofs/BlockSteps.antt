@@ -1,7 +1,7 @@
 -- The bytes at hand in a block.
-use Rattle.std.proofs.Common.{◌≡◌, ◌≢◌, ℕ, ◌+◌, ◌-◌, ◌<◌, ◌≤◌, min, List, [], ◌++◌, length, take, drop, slice_index, Option, None, Some, Result, Ok, Err, IfOk, ap, subst, sym, ◌∙◌, arith, append_assoc, length-append, length-drop}
+use Rattle.std.proofs.Common.{◌≡◌, ◌≢◌, ℕ, ◌+◌, ◌-◌, ◌<◌, ◌≤◌, min, List, [], ◌++◌, length, take, drop, slice_index, Option, None, Some, Result, Ok, Err, IfOk, ap, sym, ◌∙◌, arith, append_assoc, length-append, length-drop}
 use Rattle.std.proofs.Math.ListN.{drop_of_length-le}
-use Rattle.std.proofs.lemmas.List.{drop_at, take_all, take_at, take-append-drop, length-take-le, drop-drop, drop-take, get_or-take, get_or-drop}
+use Rattle.std.proofs.lemmas.List.{drop_at, take_at, take-append-drop, length-take-le, drop-drop, drop-take, get_or-take, get_or-drop}
 use Rattle.std.proofs.lemmas.Grind.{get_or_default_zero}
 use Rattle.std.specs.Io.KnownBytes.{Consumes, IsAtEnd, Keeps, prepend_known}
 use Rattle.exif_base.specs.Told.{PassesOthers}
