@@ -9,8 +9,8 @@ ghost use Rattle.exif_tiff.specs.Answers.{Whole, raw_answer};
 ghost use Rattle.exif_tiff.specs.Trace.{header};
 
 use crate::stop::Stop;
-use crate::tiff::{Parsed, parse};
-use exif_base::{ReadFault, Source, discard_exact};
+use crate::tiff::{Parsed, header, parse};
+use exif_base::{BigEndian, Endian, LittleEndian, Order, ReadFault, Source, discard_exact};
 use exif_tiff::laws::answers_show_what_was_read;
 use exif_types::Error;
 use std::alloc::Global;
@@ -30,12 +30,37 @@ pub fn parse_front(alloc: Global, front: &[u8], limit: Option<u64>) -> Result<Op
         (λ parsed. header front.now ≡ Ok (order_named parsed.little_endian))) }
     ensures memory { IfErr result (λ e. e ≡ OutOfMemory) }
 {
+    if !holds_first_directory(front) {
+        return Ok(None);
+    }
     answers_show_what_was_read();
     match parse(alloc, front, false, limit) {
         Ok(parsed) => Ok(Some(parsed)),
         Err(Stop::Fault(_)) => Ok(None),
         Err(Stop::OutOfMemory) => Err(Error::OutOfMemory),
     }
+}
+
+// Whether a front holds the first directory's entries. Where it doesn't, it can't say all, and
+// would be parsed in vain.
+fn holds_first_directory(front: &[u8]) -> bool {
+    match header(front) {
+        Ok(Order::Big) => holds_entries::<BigEndian>(front),
+        Ok(Order::Little) => holds_entries::<LittleEndian>(front),
+        Err(_fault) => false,
+    }
+}
+
+// Whether a front whose header is right holds the first directory's entries.
+fn holds_entries<E: Endian>(front: &[u8]) -> bool
+    requires { 8 ≤ length front.now }
+{
+    let place = E::loadu32(front, 4) as usize;
+    if place > front.len() - 2 {
+        return false;
+    }
+    let count = E::loadu16(front, place) as usize;
+    12 * count <= front.len() - 2 - place
 }
 
 /// Passes over what follows a front of so many bytes, and answers whether places of 32 bits reach
