@@ -1,9 +1,9 @@
 //! What the containers share above the reads of their bytes.
 
-ghost use Rattle.std.specs.Prelude.{◌≡◌, ◌≢◌, ◌<◌, ◌≤◌, length, IfOk, OnOk, IfErr, IfSome, Err};
+ghost use Rattle.std.specs.Prelude.{◌≡◌, ◌≢◌, ◌<◌, ◌≤◌, length, IfOk, OnOk, IfErr, IfSome, Err, true, false};
 ghost use Rattle.std.specs.Io.KnownBytes.{Consumes, IsAtEnd};
 ghost use Rattle.exif_base.specs.Reads.{Counts};
-ghost use Rattle.exif_base.specs.Told.{IsFetchedOnto, Skips, TakesAll};
+ghost use Rattle.exif_base.specs.Told.{HasFewer, IsFetchedOnto, Skips, TakesAll};
 ghost use Rattle.exif_types.specs.Refusals.{IsInterrupted, invalid_format, is_io};
 ghost use Rattle.exif_types.specs.declared.error.Error.TheVariants.{OutOfMemory};
 ghost use Rattle.exif_containers.specs.Answer.{IsErrorOf, IsShort};
@@ -43,6 +43,24 @@ pub fn skip<R: Source>(source: &mut R, len: u64, broken: &'static str) -> Result
     ensures counts { Counts R.Source source.old source.new (is_io result) }
 {
     discard_exact(source, len).map_err(|fault| error_of(fault, broken))
+}
+
+/// Passes over so many bytes, without memory, and answers whether they go on so far.
+///
+/// It answers `Io`, and no refusal. How far the source was read then is left open.
+pub fn pass_over<R: Source>(source: &mut R, len: u64) -> Result<bool, Error>
+    ensures passed { IfOk result
+        (λ whole. whole ≡ true → Skips (R.left source.old) (R.left source.new) len) }
+    ensures end { IfOk result (λ whole. whole ≡ false → HasFewer (R.left source.old) len) }
+    ensures interrupted { IfErr result IsInterrupted }
+    ensures counts { Counts R.Source source.old source.new (is_io result) }
+{
+    match discard_exact(source, len) {
+        Ok(()) => Ok(true),
+        Err(ReadFault::End) => Ok(false),
+        Err(ReadFault::Io(cause)) => Err(Error::Io(cause)),
+        Err(ReadFault::OutOfMemory) => Err(Error::OutOfMemory),
+    }
 }
 
 /// The next bytes as a list. Their end is that of `fill`.

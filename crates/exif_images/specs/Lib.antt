@@ -1,12 +1,14 @@
 pub mod Calls
 pub mod Counting
 pub mod Encoding
+pub mod EntryContents
 pub mod Flat
 pub mod Groups
 pub mod Image
 pub mod ImageExamples
 pub mod Layout
 pub mod Measuring
+pub mod Noting
 pub mod Places
 pub mod Pushing
 pub mod Ranged

@@ -3,6 +3,7 @@
 #![tactic(auto)]
 
 mod block_kind;
+pub mod content;
 mod ifd;
 pub mod item;
 pub mod laws;

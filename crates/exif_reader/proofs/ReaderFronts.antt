@@ -47,12 +47,6 @@ pub told_rest : (left : Option (List ℕ)) (old new : List ℕ) (P : List ℕ �
 told_rest None old new P h k = tt
 told_rest (Some xs) old new P h k = subst P h k
 
--- what follows of what is told
-pub told_so : (left : Option (List ℕ)) (P Q : List ℕ → Type 0)
-    → ((bytes : List ℕ) → P bytes → Q bytes) → IfSome left P → IfSome left Q
-told_so None P Q f h = tt
-told_so (Some bytes) P Q f h = f bytes h
-
 -- bytes whose front begins TIFF data begin them
 long_by : (front text : List ℕ) → length text ≡ 4 → take 4 front ≡ text → 4 ≤ length front
 long_by front text four e =

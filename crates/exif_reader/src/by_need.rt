@@ -10,7 +10,8 @@ ghost use Rattle.exif_tiff.specs.Trace.{header};
 
 use crate::stop::Stop;
 use crate::tiff::{Parsed, header, parse};
-use exif_base::{BigEndian, Endian, LittleEndian, Order, ReadFault, Source, discard_exact};
+use exif_base::{BigEndian, Endian, LittleEndian, Order, Source};
+use exif_containers::util::pass_over;
 use exif_tiff::laws::answers_show_what_was_read;
 use exif_types::Error;
 use std::alloc::Global;
@@ -74,10 +75,6 @@ pub fn pass_rest<R: Source>(source: &mut R, front: u64) -> Result<bool, Error>
     ensures interrupted { IfErr result IsInterrupted }
     ensures counts { Counts R.Source source.old source.new (is_io result) }
 {
-    match discard_exact(source, TOO_MANY - front) {
-        Ok(()) => Ok(false),
-        Err(ReadFault::End) => Ok(true),
-        Err(ReadFault::Io(cause)) => Err(Error::from(cause)),
-        Err(ReadFault::OutOfMemory) => Err(Error::OutOfMemory),
-    }
+    let goes_on = pass_over(source, TOO_MANY - front)?;
+    Ok(!goes_on)
 }

@@ -69,11 +69,6 @@ other_error answer (Ok bytes) (error.TooBig x) differs h = finds_error answer (O
 other_error answer (Ok bytes) (error.NotSupported x) differs h = finds_error answer (Ok bytes) (error.NotSupported x) h
 other_error answer (Ok bytes) (error.UnexpectedValue x) differs h = finds_error answer (Ok bytes) (error.UnexpectedValue x) h
 
--- what follows from what is told, where it is told
-pub found : (left : Option (List ℕ)) (P Q : List ℕ → Type 0) → ((bytes : List ℕ) → P bytes → Q bytes) → IfSome left P → IfSome left Q
-found None P Q f h = tt
-found (Some bytes) P Q f h = f bytes h
-
 -- ---- what is written for what was found
 
 flat_map-map : {X Y : Type 0} (f : X → Y) (text : Y → List ℕ) (xs : List X) → flat_map text (map f xs) ≡ flat_map (λ x. text (f x)) xs

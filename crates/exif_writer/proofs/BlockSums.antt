@@ -3,7 +3,8 @@ use Rattle.std.proofs.Common.{◌≡◌, ℕ, zero, suc, ◌+◌, ◌*◌, ◌<�
 use denote.Ref.{Bor}
 use Rattle.exif_images.specs.Places.{after_blocks, places_from}
 use Rattle.exif_images.specs.Views.{blocks_of}
-use Rattle.exif_writer.specs.Sending.{lens, sum_of}
+use Rattle.exif_writer.specs.Sending.{sum_of}
+use Rattle.exif_images.specs.EntryContents.{lens}
 use Rattle.exif_writer.proofs.SendRunning.{up_to, sum_append}
 
 -- a product is no less than its second factor

@@ -13,7 +13,7 @@ use Rattle.exif_images.specs.Views.{entries_in}
 use Rattle.exif_writer.proofs.SendRunning.{up_to}
 use Rattle.exif_images.proofs.Moved.{same_moved}
 use Rattle.exif_writer.proofs.BlockSums.{lens_length}
-use Rattle.exif_writer.specs.Sending.{lens}
+use Rattle.exif_images.specs.EntryContents.{lens}
 use Rattle.exif_images.specs.declared.block_kind.BlockKind.{BlockKind}
 use Rattle.exif_images.specs.declared.block_kind.BlockKind.TheVariants.{Strips, Tiles, Jpeg}
 use Rattle.exif_table.specs.declared.context.Context.{Context}

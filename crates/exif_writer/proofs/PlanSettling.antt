@@ -9,7 +9,8 @@ use Rattle.std.specs.declared.vec.Vec.{Vec}
 use mir.Val.{bool_byte}
 use Rattle.exif_images.specs.Slots as format
 use Rattle.exif_images.specs.Places.{even, after_value}
-use Rattle.exif_writer.specs.Sending.{content_size, symbol, after_slot, values_end, settle_slot, settle, IsSettled, AreSettled}
+use Rattle.exif_writer.specs.Sending.{symbol, after_slot, values_end, settle_slot, settle, IsSettled, AreSettled}
+use Rattle.exif_images.specs.EntryContents.{content_size}
 use Rattle.exif_writer.specs.declared.plan.Slot.{Slot}
 
 -- the next slot is still as it was

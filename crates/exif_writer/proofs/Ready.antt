@@ -23,12 +23,13 @@ use Rattle.exif_writer.proofs.SendLaid.{ArePlaces, are_places, size_is, IsSendab
 use Rattle.exif_images.proofs.Moved.{same_moved}
 use Rattle.exif_writer.specs.Drafts.{IsPlan, ArePlans}
 use Rattle.exif_writer.specs.Plans.{CanSettle, IsReadyDirectory, IsReadyPlan, sent_image}
-use Rattle.exif_writer.specs.Sending.{lens, sum_of, symbol, symbol_of, content_size, Settles, IsKnownContent, IsMeasurable, IsReady, values_end}
+use Rattle.exif_writer.specs.Sending.{sum_of, symbol, Settles, IsMeasurable, IsReady, values_end}
+use Rattle.exif_images.specs.EntryContents.{lens, symbol_of, content_size, IsKnownContent}
 use Rattle.exif_writer.specs.declared.plan.Places.{Places}
 use Rattle.exif_writer.specs.declared.plan.Plan.{Plan}
 use Rattle.exif_writer.specs.declared.plan.Slot.{Slot}
-use Rattle.exif_writer.specs.declared.content.Content.{Content}
-use Rattle.exif_writer.specs.declared.content.Content.TheVariants.{Known, OneShort, OneLong, PlacesOf, LengthsOf, PlaceOf}
+use Rattle.exif_images.specs.declared.content.Content.{Content}
+use Rattle.exif_images.specs.declared.content.Content.TheVariants.{Known, OneShort, OneLong, PlacesOf, LengthsOf, PlaceOf}
 
 -- an entry of blocks holds the lengths of the blocks that are set
 abbrev Holds : Group → format.Content → Type 0

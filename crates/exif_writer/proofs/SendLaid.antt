@@ -10,9 +10,10 @@ use Rattle.exif_images.proofs.Images.Places.{length-value_of, known_value, lengt
 use Rattle.exif_writer.specs.declared.plan.Places.{Places}
 use Rattle.exif_writer.specs.declared.plan.Slot.{Slot}
 use Rattle.exif_writer.specs.declared.plan.Plan.{Plan}
-use Rattle.exif_writer.specs.declared.content.Content.{Content}
-use Rattle.exif_writer.specs.declared.content.Content.TheVariants.{Known, OneShort, OneLong, PlacesOf, LengthsOf, PlaceOf}
-use Rattle.exif_writer.specs.Sending.{lens, block_place, context_place, settled, symbol_of, symbol, content_type, content_count, content_size, slot_text, after_slot, IsSettled, AreSettled, entries_text, slots_text, values_text, blocks_text}
+use Rattle.exif_images.specs.declared.content.Content.{Content}
+use Rattle.exif_images.specs.declared.content.Content.TheVariants.{Known, OneShort, OneLong, PlacesOf, LengthsOf, PlaceOf}
+use Rattle.exif_writer.specs.Sending.{block_place, context_place, settled, symbol, slot_text, after_slot, IsSettled, AreSettled, entries_text, slots_text, values_text, blocks_text}
+use Rattle.exif_images.specs.EntryContents.{lens, symbol_of, content_type, content_count, content_size}
 use Rattle.exif_images.specs.Views.{blocks_of}
 use Rattle.exif_writer.specs.Plans.{plan_text, plans_text, sent_image}
 use Rattle.exif_writer.specs.Drafts.{places_of, IsPlan, IsSettledPlan, ArePlans}

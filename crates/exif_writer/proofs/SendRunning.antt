@@ -6,7 +6,8 @@ use Rattle.std.specs.Result.{IsErr}
 use Rattle.std.specs.List.{flat_map}
 use denote.Ref.{Bor}
 use Rattle.exif_writer.specs.Running.{run, state}
-use Rattle.exif_writer.specs.Sending.{lens, sum_of}
+use Rattle.exif_writer.specs.Sending.{sum_of}
+use Rattle.exif_images.specs.EntryContents.{lens}
 use Rattle.exif_writer.proofs.SendChains.{HasSent, sends_whole, sends_then, sends_stop}
 use Rattle.exif_writer.proofs.SendMembers.{around}
 use Rattle.exif_base.specs.declared.endian.Order.{Order}

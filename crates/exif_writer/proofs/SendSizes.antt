@@ -8,9 +8,10 @@ pub use Rattle.exif_images.proofs.Moved.{encode_moved}
 use Rattle.exif_writer.proofs.SendMembers.{around}
 use Rattle.exif_writer.proofs.SendRunning.{state-append}
 use Rattle.std.specs.List.{AllByRecursion}
-use Rattle.exif_writer.specs.declared.content.Content.{Content}
-use Rattle.exif_writer.specs.declared.content.Content.TheVariants.{Known, OneShort, OneLong, PlacesOf, LengthsOf, PlaceOf}
-use Rattle.exif_writer.specs.Sending.{content_count, content_size, content_type, slot_text, IsKnownContent, slots_text, entries_text, after_slot, values_end, element, settled, value_text}
+use Rattle.exif_images.specs.declared.content.Content.{Content}
+use Rattle.exif_images.specs.declared.content.Content.TheVariants.{Known, OneShort, OneLong, PlacesOf, LengthsOf, PlaceOf}
+use Rattle.exif_writer.specs.Sending.{slot_text, slots_text, entries_text, after_slot, values_end, element, settled, value_text}
+use Rattle.exif_images.specs.EntryContents.{content_count, content_size, content_type, IsKnownContent}
 use Rattle.std.proofs.lemmas.Bool.{le-leb, lt-leb}
 use Rattle.exif_base.specs.declared.endian.Order.{Order}
 use Rattle.exif_images.specs.Encoding.{spelled, encode}

@@ -1,7 +1,6 @@
 pub mod Arranging
 pub mod Counted
 pub mod Drafts
-pub mod Noting
 pub mod Plans
 pub mod Running
 pub mod Sending

@@ -3,11 +3,12 @@ use Rattle.std.specs.Prelude.{ℕ, ◌≡◌, ◌+◌, ◌-◌, ◌*◌, ◌≤�
 use denote.Ref.{Bor}
 use Rattle.std.specs.List.{flat_map}
 use Rattle.exif_images.specs.Slots as format
+use Rattle.exif_images.specs.EntryContents.{lens, symbol_of, content_type, content_count, content_size, IsKnownContent}
 use Rattle.exif_writer.specs.Running.{state}
 use Rattle.exif_writer.specs.declared.plan.Places.{Places}
 use Rattle.exif_writer.specs.declared.plan.Slot.{Slot}
-use Rattle.exif_writer.specs.declared.content.Content.{Content}
-use Rattle.exif_writer.specs.declared.content.Content.TheVariants.{Known, OneShort, OneLong, PlacesOf, LengthsOf, PlaceOf}
+use Rattle.exif_images.specs.declared.content.Content.{Content}
+use Rattle.exif_images.specs.declared.content.Content.TheVariants.{Known, OneShort, OneLong, PlacesOf, LengthsOf, PlaceOf}
 use Rattle.exif_types.specs.declared.value.Value.{Value}
 use Rattle.exif_types.specs.declared.value.Value.TheVariants.{Short, Long}
 use Rattle.exif_table.specs.declared.context.Context.{Context}
@@ -22,10 +23,7 @@ use Rattle.exif_images.specs.Places.{places_from, even, after_value}
 use Rattle.exif_images.specs.Refused.{is_unknown}
 use Rattle.exif_images.specs.Views.{blocks_of}
 
--- how long borrowed blocks are, and all of them
-abbrev pub lens : List (Bor (List ℕ)) → List ℕ
-lens blocks = map length (blocks_of blocks)
-
+-- how long all of the borrowed blocks are
 abbrev pub sum_of : List (Bor (List ℕ)) → ℕ
 sum_of [] = 0
 sum_of (block ∷ blocks) = length block.now + sum_of blocks
@@ -60,45 +58,9 @@ Settles places (PlacesOf kind blocks) = block_place places kind + sum_of blocks.
 Settles places (LengthsOf kind blocks) = sum_of blocks.now ≤ 4294967295
 Settles places (PlaceOf context) = ⊤
 
--- where the value comes from, in the words of images
-abbrev pub symbol_of : Content → format.Content
-symbol_of (Known value) = format.Known (moved_to 0 value)
-symbol_of (OneShort x) = format.Known (Short (x ∷ []))
-symbol_of (OneLong x) = format.Known (Long (x ∷ []))
-symbol_of (PlacesOf kind blocks) = format.PlacesOf kind (lens blocks.now)
-symbol_of (LengthsOf kind blocks) = format.LengthsOf kind (lens blocks.now)
-symbol_of (PlaceOf context) = format.PlaceOf context
-
+-- an entry in the words of images
 abbrev pub symbol : Slot → format.Slot
 symbol slot = record { tag = slot.tag; content = symbol_of slot.content }
-
--- the value's type, how many members and how many bytes it has
-abbrev pub content_type : Content → ℕ
-content_type (Known value) = type_number value
-content_type (OneShort x) = 3
-content_type (OneLong x) = 4
-content_type (PlacesOf kind blocks) = 4
-content_type (LengthsOf kind blocks) = 4
-content_type (PlaceOf context) = 4
-
-abbrev pub content_count : Content → ℕ
-content_count (Known value) = count_of value
-content_count (OneShort x) = 1
-content_count (OneLong x) = 1
-content_count (PlacesOf kind blocks) = length blocks.now
-content_count (LengthsOf kind blocks) = length blocks.now
-content_count (PlaceOf context) = 1
-
-abbrev pub content_size : Content → ℕ
-content_size content = unit (content_type content) * content_count content
-
-abbrev pub IsKnownContent : Content → Type 0
-IsKnownContent (Known value) = is_unknown value ≡ false
-IsKnownContent (OneShort x) = ⊤
-IsKnownContent (OneLong x) = ⊤
-IsKnownContent (PlacesOf kind blocks) = ⊤
-IsKnownContent (LengthsOf kind blocks) = ⊤
-IsKnownContent (PlaceOf context) = ⊤
 
 -- the last four bytes of an entry: its value, or the place where it stands
 abbrev pub element : Order → Places → Slot → List ℕ

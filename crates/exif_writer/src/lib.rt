@@ -1,7 +1,6 @@
 //! Fields and blocks written as one TIFF image, as `exif_images` defines it.
 #![tactic(auto)]
 
-mod content;
 mod measure;
 mod plan;
 mod send;

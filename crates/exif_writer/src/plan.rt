@@ -2,7 +2,8 @@
 //! here.
 
 ghost use Rattle.std.specs.Prelude.{◌≡◌, ◌≤◌, map, OnOk, ◌++◌, IfOk, length, None};
-ghost use Rattle.exif_writer.specs.Sending.{symbol, symbol_of, settle, settle_slot, after_slot, values_end, IsMeasurable};
+ghost use Rattle.exif_writer.specs.Sending.{symbol, settle, settle_slot, after_slot, values_end, IsMeasurable};
+ghost use Rattle.exif_images.specs.EntryContents.{symbol_of};
 ghost use Rattle.exif_images.specs.Places.{after_blocks, draft_end};
 ghost use Rattle.exif_images.specs.Groups.{places_tag, lengths_tag};
 ghost use Rattle.exif_images.specs.Slots.{in_tag_order, draft_of, known, set_slots, pointer_slots};
@@ -11,9 +12,9 @@ ghost use Rattle.exif_writer.specs.Plans.{CanSettle};
 ghost use Rattle.exif_images.specs.Views.{blocks_of, set_in, entries_in};
 ghost use Rattle.exif_images.specs.Refused.{write_fault};
 
-use crate::content::Content;
 use crate::measure::{FIRST, context_len};
 use crate::tag_order::sort;
+use exif_images::content::Content;
 use exif_images::{BlockKind, Ifd};
 use exif_types::{Context, Field, Tag};
 use std::alloc::{AllocError, Global};

@@ -2,17 +2,18 @@
 
 ghost use Rattle.std.specs.Prelude.{◌≡◌, ◌+◌, ◌*◌, ◌++◌, ◌^◌, ◌<◌, ◌≤◌, length, map, false, IfSome};
 ghost use Rattle.std.specs.List.{flat_map, AllByRecursion};
-ghost use Rattle.exif_writer.specs.Sending.{block_place, context_place, lens, sum_of, settled, Settles, element, slot_text, IsReady, entries_text, slots_text, value_text, values_text, blocks_text};
+ghost use Rattle.exif_writer.specs.Sending.{block_place, context_place, sum_of, settled, Settles, element, slot_text, IsReady, entries_text, slots_text, value_text, values_text, blocks_text};
+ghost use Rattle.exif_images.specs.EntryContents.{lens};
 ghost use Rattle.exif_images.specs.Encoding.{spelled, encode};
 ghost use Rattle.exif_images.specs.Places.{places_from};
 ghost use Rattle.exif_images.specs.Image.{header_text, order_mark};
 ghost use Rattle.exif_base.specs.Sent.{Sends};
 ghost use Rattle.exif_writer.specs.Plans.{IsReadyPlan, directories_text, plan_values_text, plan_blocks_text, plan_text, plans_text, sent_image};
 
-use crate::content::Content;
 use crate::plan::{Places, Plan, Slot};
 use exif_base::{Order, Sink, send_all};
 use exif_images::BlockKind;
+use exif_images::content::Content;
 use exif_images::item::{
     send_entry, send_head, send_u16, send_u32, send_value, send_zeros, spelled_short, spelled_u32,
 };
@@ -70,22 +71,25 @@ fn send_lengths<W: Sink>(out: &mut W, order: Order, blocks: &[&[u8]]) -> io::Res
     Ok(())
 }
 
+// Sends the bytes of a value.
 #[tactic(auto, using(crate::proofs::SendSizes::encode_moved))]
-impl<'a> Content<'a> {
-    // Sends the bytes of the value.
-    fn send<W: Sink>(&self, out: &mut W, order: Order, places: &Places) -> io::Result<()>
-        requires { Settles places.now self.now }
-        ensures sends { Sends W.Sink out.old out.new result
-            (encode order (settled places.now self.now)) }
-    {
-        match self {
-            Content::Known(noted) => send_value(out, order, noted.value()),
-            Content::OneShort(x) => send_u16(out, order, *x),
-            Content::OneLong(x) => send_u32(out, order, *x),
-            Content::PlacesOf(kind, blocks) => send_places(out, order, places.block(*kind), blocks),
-            Content::LengthsOf(_, blocks) => send_lengths(out, order, blocks),
-            Content::PlaceOf(context) => send_u32(out, order, places.context(*context)),
-        }
+fn send_content<W: Sink>(
+    out: &mut W,
+    order: Order,
+    places: &Places,
+    content: &Content,
+) -> io::Result<()>
+    requires { Settles places.now content.now }
+    ensures sends { Sends W.Sink out.old out.new result
+        (encode order (settled places.now content.now)) }
+{
+    match content {
+        Content::Known(noted) => send_value(out, order, noted.value()),
+        Content::OneShort(x) => send_u16(out, order, *x),
+        Content::OneLong(x) => send_u32(out, order, *x),
+        Content::PlacesOf(kind, blocks) => send_places(out, order, places.block(*kind), blocks),
+        Content::LengthsOf(_, blocks) => send_lengths(out, order, blocks),
+        Content::PlaceOf(context) => send_u32(out, order, places.context(*context)),
     }
 }
 
@@ -97,7 +101,7 @@ impl<'a> Slot<'a> {
         ensures sends { Sends W.Sink out.old out.new result (element order places.now self.now) }
     {
         if self.size <= 4 {
-            self.content.send(out, order, places)?;
+            send_content(out, order, places, &self.content)?;
             send_zeros(out, (4 - self.size) as usize)
         } else {
             send_u32(out, order, self.place)
@@ -143,7 +147,7 @@ impl<'a> Slot<'a> {
             return Ok(());
         }
         send_zeros(out, usize::from(self.padded))?;
-        self.content.send(out, order, places)
+        send_content(out, order, places, &self.content)
     }
 }
 

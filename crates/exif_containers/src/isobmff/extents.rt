@@ -10,30 +10,14 @@ ghost use Rattle.exif_containers.specs.Answer.{IsNamed};
 ghost use Rattle.exif_containers.specs.HeifSteps.{PlaceIsReached, one_part};
 
 use super::front::read_whole;
-use crate::util::{read_rest, skip};
-use exif_base::{ReadFault, Source, discard_exact};
+use crate::util::{pass_over, read_rest, skip};
+use exif_base::Source;
 use exif_isobmff::{Location, MAX_EXIF_SIZE, extent_front, item_bytes};
 use exif_types::Error;
 use std::alloc::Global;
 
 // One byte more than an item may have.
 const TOO_MANY: u64 = MAX_EXIF_SIZE as u64 + 1;
-
-// Passes over so many bytes, without memory, and answers whether the file goes on so far.
-fn pass_over<R: Source>(source: &mut R, len: u64) -> Result<bool, Error>
-    ensures passed { IfOk result
-        (λ whole. whole ≡ true → Skips (R.left source.old) (R.left source.new) len) }
-    ensures end { IfOk result (λ whole. whole ≡ false → HasFewer (R.left source.old) len) }
-    ensures interrupted { IfErr result IsInterrupted }
-    ensures counts { Counts R.Source source.old source.new (is_io result) }
-{
-    match discard_exact(source, len) {
-        Ok(()) => Ok(true),
-        Err(ReadFault::End) => Ok(false),
-        Err(ReadFault::Io(cause)) => Err(Error::Io(cause)),
-        Err(ReadFault::OutOfMemory) => Err(Error::OutOfMemory),
-    }
-}
 
 // Where a place of the file stands in the bytes that are kept of it, or none where the file ends
 // in front of it. Bytes in front of a place that was not read yet are no longer kept.

@@ -12,5 +12,5 @@ returns-in_err-send_zeros g c = record {
 pub returns : goal.returns
 returns g c = record {
   sends = rw (value_outside c.args.order c.args.places.now c.args.self.now c.if-self-le4.false)
-      (sends_then (rw (c.from.ensures, one_if c.args.self.now.padded) at c.in_ok-send_zeros.ensures.sends) c.send.ensures.sends);
+      (sends_then (rw (c.from.ensures, one_if c.args.self.now.padded) at c.in_ok-send_zeros.ensures.sends) c.send_content.ensures.sends);
 }

@@ -5,10 +5,10 @@ ghost use Rattle.std.specs.Prelude.{◌≡◌, ◌≤◌, false};
 ghost use Rattle.exif_types.specs.ValueTypes.{type_number, count_of};
 ghost use Rattle.exif_images.specs.Encoding.{value_len, moved_to};
 ghost use Rattle.exif_images.specs.Refused.{is_unknown};
-ghost use Rattle.exif_writer.specs.Sending.{symbol_of, IsKnownContent, content_type, content_count, content_size};
+ghost use Rattle.exif_images.specs.EntryContents.{symbol_of, IsKnownContent, content_type, content_count, content_size};
 ghost use Rattle.exif_images.specs.Slots as format;
 
-use exif_images::BlockKind;
+use crate::BlockKind;
 use exif_types::{Context, FieldType, Value};
 use std::marker::Model;
 
@@ -22,7 +22,7 @@ pub struct Noted<'a> {
 }
 
 impl<'a> Model for Noted<'a> {
-    ghost use Rattle.exif_writer.specs.Noting.{Pushed, IsNoted};
+    ghost use Rattle.exif_images.specs.Noting.{Pushed, IsNoted};
 
     ghost Value = { Pushed };
 
