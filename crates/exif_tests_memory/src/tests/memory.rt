@@ -27,8 +27,8 @@ fn header_is_refused(
     let read = Reader::new().read_raw(alloc, data);
     drop(rest);
     drop(most);
-    assert_eq!(rt; reason(&parsed), Some(text));
-    assert_eq!(rt; reason(&read), Some(text));
+    assert!(rt; reason(&parsed) == Some(text));
+    assert!(rt; reason(&read) == Some(text));
     Ok(())
 }
 
@@ -255,7 +255,7 @@ fn lines_run_out_of_memory(rt: HostRuntime) -> Result<(), Fail> {
 #[test]
 fn short_lines_take_memory_but_once(rt: HostRuntime) -> Result<(), Fail> {
     let (answer, written) = reported_greedily(rt.alloc(), files::LONGER_LINE, 256)?;
-    assert_eq!(rt; answer?, 0);
+    assert!(rt; answer? == 0);
     assert!(rt;
         written
             .as_slice()
@@ -271,7 +271,7 @@ fn fails_with_its_memory(
     text: &str,
 ) -> Result<(), Fail> {
     let (answer, written) = reported_greedily(rt.alloc(), files::WRONG_NEXT, room)?;
-    assert_eq!(rt; kind_of(&answer), Some(ErrorKind::OutOfMemory));
+    assert!(rt; kind_of(&answer) == Some(ErrorKind::OutOfMemory));
     are_bytes(written.as_slice(), text.as_bytes())
 }
 
@@ -303,9 +303,9 @@ fn copy_runs_out_of_memory(rt: &(impl Abort + AllocGlobal), field: &Field) -> Re
     let alloc = rt.alloc();
     let number = field.tag.number();
     let wants = in_turn(alloc, || copying_value(alloc, &field.value))?;
-    assert_eq!(rt; wants > 0, number < 65012, "at {number}");
+    assert!(rt; (wants > 0) == (number < 65012), "at {number}");
     let wants = in_turn(alloc, || copying_field(alloc, field))?;
-    assert_eq!(rt; wants > 0, number < 65012, "at {number}");
+    assert!(rt; (wants > 0) == (number < 65012), "at {number}");
     Ok(())
 }
 
@@ -313,7 +313,7 @@ fn copy_runs_out_of_memory(rt: &(impl Abort + AllocGlobal), field: &Field) -> Re
 fn copies_run_out_of_memory(rt: HostRuntime) -> Result<(), Fail> {
     let alloc = rt.alloc();
     let exif = read_strictly(alloc, files::EVERY_TYPE_BIG)?;
-    assert_eq!(rt; exif.fields().len(), 14);
+    assert!(rt; exif.fields().len() == 14);
     for field in exif.fields() {
         copy_runs_out_of_memory(&rt, field)?;
     }

@@ -82,7 +82,7 @@ fn gives_the_description(
     left: u16,
 ) -> Result<(), Fail> {
     let exif = read_with(rt.alloc(), bytes, left)??;
-    assert_eq!(rt; exif.fields().len(), 1);
+    assert!(rt; exif.fields().len() == 1);
     assert!(rt; is_text(exif.fields().next(), Tag::ImageDescription, b"Sample"));
     Ok(())
 }
@@ -119,7 +119,7 @@ fn jpeg_streams_are_refused_without_memory(rt: HostRuntime) -> Result<(), Fail> 
         (b"\xff\xd8\x01\x02\x03\xff\0\xff\xd9", "JPEG"),
         (b"\xff\xd8\xff\xe1\0\x04ab\xff\xd9", "JPEG"),
     ] {
-        assert_eq!(rt; refusal(rt.alloc(), Container::Jpeg, bytes)?, Some(text));
+        assert!(rt; refusal(rt.alloc(), Container::Jpeg, bytes)? == Some(text));
     }
     Ok(())
 }
@@ -136,7 +136,7 @@ fn webp_files_are_refused_without_memory(rt: HostRuntime) -> Result<(), Fail> {
         ),
         (b"RIFF\x0e\0\0\0WEBPwhat\x02\0\0\0ab", "WebP"),
     ] {
-        assert_eq!(rt; refusal(rt.alloc(), Container::WebP, bytes)?, Some(text));
+        assert!(rt; refusal(rt.alloc(), Container::WebP, bytes)? == Some(text));
     }
     Ok(())
 }

@@ -81,7 +81,7 @@ fn reads_from_a_slice(rt: HostRuntime) -> Result<(), Fail> {
 fn reads_from_a_cursor(rt: HostRuntime) -> Result<(), Fail> {
     let mut cursor = Counted::new(Cursor::new(DIGITS));
     reads_all(&rt, &mut cursor)?;
-    assert_eq!(rt; cursor.into_inner().position(), 10);
+    assert!(rt; cursor.into_inner().position() == 10);
     Ok(())
 }
 
@@ -89,7 +89,7 @@ fn reads_from_a_cursor(rt: HostRuntime) -> Result<(), Fail> {
 fn reads_from_a_slow_reader(rt: HostRuntime) -> Result<(), Fail> {
     let mut slow = one_byte(DIGITS, 100, ErrorKind::Other);
     reads_all(&rt, &mut slow)?;
-    assert_eq!(rt; slow.into_inner().failures, 0);
+    assert!(rt; slow.into_inner().failures == 0);
     Ok(())
 }
 
@@ -97,11 +97,11 @@ fn reads_from_a_slow_reader(rt: HostRuntime) -> Result<(), Fail> {
 fn reads_numbers_and_fronts(rt: HostRuntime) -> Result<(), Fail> {
     let bytes: &[u8] = b"\x01\x23\x45\x67\x89\xab\xcd\xef\x2a";
     let mut source = one_byte(bytes, 100, ErrorKind::Other);
-    assert_eq!(rt; read64(&mut source)?, 0x0123_4567_89ab_cdef);
+    assert!(rt; read64(&mut source)? == 0x0123_4567_89ab_cdef);
     let mut room = [0u8; 3];
-    assert_eq!(rt; read_front(&mut source, &mut room)?, 1);
-    assert_eq!(rt; room[0], 0x2a);
-    assert_eq!(rt; read_front(&mut Counted::new(bytes), &mut room)?, 3);
+    assert!(rt; read_front(&mut source, &mut room)? == 1);
+    assert!(rt; room[0] == 0x2a);
+    assert!(rt; read_front(&mut Counted::new(bytes), &mut room)? == 3);
     assert!(rt; room == *b"\x01\x23\x45");
     assert!(rt; is_end(read16(&mut source)));
     Ok(())
@@ -157,7 +157,7 @@ fn sends_to_a_vector(rt: HostRuntime) -> Result<(), Fail> {
     let mut vector = Counted::new(Vec::new(rt.alloc()));
     send_all(&mut vector, b"abc")?;
     vector.flush()?;
-    assert_eq!(rt; vector.into_inner().as_slice(), b"abc".as_slice());
+    assert!(rt; vector.into_inner().as_slice() == b"abc".as_slice());
     Ok(())
 }
 
@@ -253,18 +253,18 @@ fn bytes_at_hand_are_looked_at(rt: HostRuntime) {
     let mut block = *b"012.";
     let mut blocks = Blocks::new(&mut block, 3, &mut source);
     assert!(rt; blocks.fill().is_ok());
-    assert_eq!(rt; blocks.at_hand(), b"012".as_slice());
+    assert!(rt; blocks.at_hand() == b"012".as_slice());
     blocks.pass(2);
-    assert_eq!(rt; blocks.at_hand(), b"2".as_slice());
+    assert!(rt; blocks.at_hand() == b"2".as_slice());
     blocks.pass(1);
     assert!(rt; blocks.at_hand().is_empty());
     // One more byte, the end, and a fault.
     assert!(rt; blocks.fill().is_ok());
-    assert_eq!(rt; blocks.at_hand(), b"3".as_slice());
+    assert!(rt; blocks.at_hand() == b"3".as_slice());
     blocks.pass(1);
     assert!(rt; blocks.fill().is_ok());
     assert!(rt; blocks.at_hand().is_empty());
-    assert_eq!(rt; error_of(blocks.fill()), Some(ErrorKind::Other));
+    assert!(rt; error_of(blocks.fill()) == Some(ErrorKind::Other));
 }
 
 /// The numbers of 16, 32 and 64 bits behind the first byte.
@@ -275,13 +275,9 @@ fn numbers_behind<E: Endian>(buf: &[u8; 9]) -> (u16, u32, u64) {
 #[test]
 fn loads_in_both_orders(rt: HostRuntime) {
     let buf = b"\xff\x80\x01\x02\x03\x04\x05\x06\x07";
-    assert_eq!(rt;
-        numbers_behind::<BigEndian>(buf),
-        (0x8001, 0x8001_0203, 0x8001_0203_0405_0607)
-    );
-    assert_eq!(rt;
-        numbers_behind::<LittleEndian>(buf),
-        (0x0180, 0x0302_0180, 0x0706_0504_0302_0180)
+    assert!(rt; numbers_behind::<BigEndian>(buf) == (0x8001, 0x8001_0203, 0x8001_0203_0405_0607));
+    assert!(rt;
+        numbers_behind::<LittleEndian>(buf) == (0x0180, 0x0302_0180, 0x0706_0504_0302_0180)
     );
     assert!(rt; Order::Big != Order::Little);
 }

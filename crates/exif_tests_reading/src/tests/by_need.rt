@@ -37,7 +37,7 @@ fn a_front_says_all(rt: HostRuntime) -> Result<(), Fail> {
         (300000, FRONT),
     ] {
         let bytes = padded(alloc, files::DESCRIBED_BIG, len)?;
-        assert_eq!(rt; held(alloc, bytes.as_slice())?, kept);
+        assert!(rt; held(alloc, bytes.as_slice())? == kept);
     }
     Ok(())
 }
@@ -45,7 +45,7 @@ fn a_front_says_all(rt: HostRuntime) -> Result<(), Fail> {
 #[test]
 fn a_value_behind_the_front_is_read(rt: HostRuntime) -> Result<(), Fail> {
     let bytes = padded(rt.alloc(), FAR_TEXT, 300000)?;
-    assert_eq!(rt; held(rt.alloc(), bytes.as_slice())?, 300000);
+    assert!(rt; held(rt.alloc(), bytes.as_slice())? == 300000);
     Ok(())
 }
 
@@ -58,12 +58,12 @@ fn leniently(alloc: Global, bytes: &[u8]) -> Result<(usize, usize, usize), Fail>
 #[test]
 fn a_fault_in_the_front_has_all_read(rt: HostRuntime) -> Result<(), Fail> {
     let bytes = padded(rt.alloc(), LOST_TEXT, 300000)?;
-    assert_eq!(rt; leniently(rt.alloc(), bytes.as_slice())?, (0, 1, 300000));
+    assert!(rt; leniently(rt.alloc(), bytes.as_slice())? == (0, 1, 300000));
     match needed_answer(rt.alloc(), &Reader::new(), bytes.as_slice()) {
         Ok(_exif) => Err(Fail::new("read")),
         Err(error) => {
             let text = text_of(rt.alloc(), &error)?;
-            assert_eq!(rt; text.as_str(), "Truncated field value");
+            assert!(rt; text.as_str() == "Truncated field value");
             Ok(())
         }
     }

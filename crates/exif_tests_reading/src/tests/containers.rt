@@ -23,7 +23,7 @@ const NO_EXIF: &str = "No Exif data found in HEIF";
 fn is_reported_slowly(rt: &(impl Abort + AllocGlobal), bytes: &[u8]) -> Result<(), Fail> {
     let slow = Slow::new(bytes, bytes.len() + 9, ErrorKind::Other);
     let (answer, written) = slow_report(rt.alloc(), slow, false);
-    assert_eq!(rt; answer?, 0);
+    assert!(rt; answer? == 0);
     are_bytes(written.as_slice(), DESCRIPTION.as_bytes())
 }
 

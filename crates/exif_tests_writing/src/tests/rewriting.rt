@@ -15,7 +15,7 @@ use std::test::Fail;
 #[test]
 fn four_directories(rt: HostRuntime) -> Result<(), Fail> {
     let exif = read_strictly(rt.alloc(), files::EVERY_DIRECTORY)?;
-    assert_eq!(rt; exif.fields().len(), 6);
+    assert!(rt; exif.fields().len() == 6);
     assert!(rt; is_text(exif.fields().next(), Tag::ImageDescription, b"Sample"));
     assert!(rt; is_version(exif.fields().nth(1), 0x3c));
     assert!(rt; is_text(exif.fields().nth(2), Tag::InteroperabilityIndex, b"ABC"));
@@ -45,7 +45,7 @@ fn both_orders(
     let alloc = rt.alloc();
     assert!(rt; is_image(alloc, writer, big)?);
     let little = image(alloc, writer, true)?;
-    assert_eq!(rt; little.len(), big.len());
+    assert!(rt; little.len() == big.len());
     say_the_same(rt, big, little.as_slice())
 }
 
@@ -81,7 +81,7 @@ fn no_strips_in_both_orders(rt: HostRuntime) -> Result<(), Fail> {
 #[test]
 fn a_number_of_another_directory(rt: HostRuntime) -> Result<(), Fail> {
     let exif = read_strictly(rt.alloc(), images::STRIPS_NUMBER_IN_EXIF)?;
-    assert_eq!(rt; exif.fields().len(), 1);
+    assert!(rt; exif.fields().len() == 1);
     assert!(rt;
         is_number(
             exif.fields().next(),
@@ -112,7 +112,7 @@ fn equal_fields_keep_their_order(rt: HostRuntime) -> Result<(), Fail> {
     let mut writer = writer_of(alloc, &shared)?;
     for little_endian in [false, true] {
         let bytes = image(alloc, &mut writer, little_endian)?;
-        assert_eq!(rt; bytes.len(), 80);
+        assert!(rt; bytes.len() == 80);
         assert!(rt; holds_equal_fields(alloc, bytes.as_slice())?);
     }
     Ok(())
@@ -130,11 +130,11 @@ fn nine_descriptions(alloc: Global) -> Result<Vec<u8>, Fail> {
 fn nine_directories(rt: HostRuntime) -> Result<(), Fail> {
     let alloc = rt.alloc();
     let bytes = nine_descriptions(alloc)?;
-    assert_eq!(rt; bytes.len(), 170);
+    assert!(rt; bytes.len() == 170);
     let strict = refusal(alloc, &Reader::new(), bytes.as_slice())?.ok_or("not refused")?;
     answers::is_text(strict.as_str(), "Limit the IFD count to 8")?;
     let (exif, faults) = read_leniently(alloc, bytes.as_slice())?;
-    assert_eq!(rt; exif.fields().len(), 8);
-    assert_eq!(rt; faults.len(), 1);
+    assert!(rt; exif.fields().len() == 8);
+    assert!(rt; faults.len() == 1);
     answers::is_text(faults[0].as_str(), "Limit the IFD count to 8")
 }

@@ -48,7 +48,7 @@ fn one_description(rt: HostRuntime) -> Result<(), Fail> {
 
 #[test]
 fn neither_place_nor_thumbnail_is_sent(rt: HostRuntime) -> Result<(), Fail> {
-    assert_eq!(rt; images::SCRUBBED_BIG.len(), 93);
+    assert!(rt; images::SCRUBBED_BIG.len() == 93);
     sends_in_both_orders(
         rt.alloc(),
         files::EVERY_DIRECTORY,
@@ -64,8 +64,8 @@ fn the_other_fields_are_read_back(rt: HostRuntime) -> Result<(), Fail> {
         (images::SCRUBBED_LITTLE, true),
     ] {
         let exif = read_strictly(rt.alloc(), bytes)?;
-        assert_eq!(rt; exif.little_endian(), little_endian);
-        assert_eq!(rt; exif.fields().len(), 3);
+        assert!(rt; exif.little_endian() == little_endian);
+        assert!(rt; exif.fields().len() == 3);
         assert!(rt; is_text(exif.fields().next(), Tag::ImageDescription, b"Sample"));
         assert!(rt; is_version(exif.fields().nth(1), 0x30));
         assert!(rt; is_text(exif.fields().nth(2), Tag::InteroperabilityIndex, b"ABC"));
@@ -110,7 +110,7 @@ fn eight_directories_of_a_circle(rt: HostRuntime) -> Result<(), Fail> {
     let big = eight_widths(alloc, b"MM\0*\0\0\0\x08", entry, false)?;
     let entry = b"\x01\0\0\x01\x03\0\x01\0\0\0\x14\0\0\0";
     let little = eight_widths(alloc, b"II*\0\x08\0\0\0", entry, true)?;
-    assert_eq!(rt; big.len(), 152);
+    assert!(rt; big.len() == 152);
     sends_in_both_orders(alloc, files::CIRCLE, big.as_slice(), little.as_slice())?;
     have_widths(&rt, big.as_slice())
 }
@@ -125,8 +125,8 @@ fn is_refused(
     let alloc = rt.alloc();
     let exif = read_strictly(alloc, bytes)?;
     let (answer, sent) = counted_scrub(alloc, &exif, little_endian);
-    assert_eq!(rt; sent.bytes, 0);
-    assert_eq!(rt; sent.calls, 0);
+    assert!(rt; sent.bytes == 0);
+    assert!(rt; sent.calls == 0);
     match answer {
         Ok(()) => Err(Fail::new("it was sent")),
         Err(error) => reads(alloc, &error, text),

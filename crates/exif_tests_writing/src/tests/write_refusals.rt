@@ -91,7 +91,7 @@ fn as_many_fields_as_a_count_can_say(rt: HostRuntime) -> Result<(), Fail> {
     let alloc = rt.alloc();
     let described = description(alloc, In::PRIMARY, b"p")?;
     let mut writer = crowded(alloc, &described, 65_535)?;
-    assert_eq!(rt; image(alloc, &mut writer, true)?.len(), 8 + 6 + 12 * 65_535);
+    assert!(rt; image(alloc, &mut writer, true)?.len() == 8 + 6 + 12 * 65_535);
     Ok(())
 }
 
@@ -155,6 +155,6 @@ fn the_longest_image(rt: HostRuntime) -> Result<(), Fail> {
     put_strips(&mut writer, strips.as_slice(), In::PRIMARY)?;
     let (answer, sent) = counted_write(&mut writer);
     answer?;
-    assert_eq!(rt; sent.bytes, 4_294_967_295);
+    assert!(rt; sent.bytes == 4_294_967_295);
     Ok(())
 }

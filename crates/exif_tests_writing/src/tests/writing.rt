@@ -31,7 +31,7 @@ fn four_directories(rt: HostRuntime) -> Result<(), Fail> {
     let mut writer = Writer::new(alloc);
     push_all(&mut writer, fields.as_slice())?;
     put_jpeg(&mut writer, b"JPEG", In::THUMBNAIL)?;
-    assert_eq!(rt; files::EVERY_DIRECTORY.len(), 158);
+    assert!(rt; files::EVERY_DIRECTORY.len() == 158);
     assert!(rt; is_image(alloc, &mut writer, files::EVERY_DIRECTORY)?);
     Ok(())
 }

@@ -66,8 +66,8 @@ fn jpeg_leaves_what_follows(rt: HostRuntime) -> Result<(), Fail> {
     let mut source = Counted::new(bytes);
     get_exif_attr_from_jpeg(rt.alloc(), &mut source)?;
     let rest = read_all(rt.alloc(), &mut source)?;
-    assert_eq!(rt; rest.as_slice(), b"\xff\xd9".as_slice());
-    assert_eq!(rt; source.fetch(&mut [0u8; 1])?, 0);
+    assert!(rt; rest.as_slice() == b"\xff\xd9".as_slice());
+    assert!(rt; source.fetch(&mut [0u8; 1])? == 0);
     Ok(())
 }
 

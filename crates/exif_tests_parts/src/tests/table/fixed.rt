@@ -103,7 +103,7 @@ fn orientations_name_two_sides(rt: HostRuntime) -> Result<(), AllocError> {
     let Some(texts) = fixed_texts(TextKind::Orientation) else {
         panic!(rt; "a kind without texts");
     };
-    assert_eq!(rt; texts.name, "orientation");
+    assert!(rt; texts.name == "orientation");
     assert!(rt; entries(alloc, texts)? == line);
     Ok(())
 }

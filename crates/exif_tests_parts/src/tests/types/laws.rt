@@ -14,12 +14,12 @@ use std::hash::{DefaultHasher, Hasher};
 fn contexts_tags_and_directories(rt: HostRuntime) {
     let (mut first, mut second) = (DefaultHasher::new(), DefaultHasher::new());
     let kinds = contexts_agree(Context::Exif, Context::Gps, &mut first, &mut second);
-    assert_eq!(rt; kinds, (false, Ordering::Less));
+    assert!(rt; kinds == (false, Ordering::Less));
     let tags = tags_agree(Tag::Make, Tag::Make, &mut first, &mut second);
-    assert_eq!(rt; tags, (true, Ordering::Equal));
+    assert!(rt; tags == (true, Ordering::Equal));
     let places = directories_agree(In::THUMBNAIL, In::PRIMARY, &mut first, &mut second);
-    assert_eq!(rt; places, (false, Ordering::Greater));
-    assert_ne!(rt; first.finish(), second.finish());
+    assert!(rt; places == (false, Ordering::Greater));
+    assert!(rt; first.finish() != second.finish());
 }
 
 #[test]

@@ -192,10 +192,10 @@ fn side(tag: Tag) -> &'static str {
 
 #[test]
 fn constants_stand_in_patterns(rt: HostRuntime) {
-    assert_eq!(rt; side(Tag(Context::Tiff, 0x100)), "width");
-    assert_eq!(rt; side(Tag(Context::Exif, 0x100)), "none");
-    assert_eq!(rt; side(Tag(Context::Exif, 0xa003)), "height");
-    assert_eq!(rt; side(Tag::GPSVersionID), "place");
+    assert!(rt; side(Tag(Context::Tiff, 0x100)) == "width");
+    assert!(rt; side(Tag(Context::Exif, 0x100)) == "none");
+    assert!(rt; side(Tag(Context::Exif, 0xa003)) == "height");
+    assert!(rt; side(Tag::GPSVersionID) == "place");
 }
 
 #[test]
