@@ -9,5 +9,5 @@ returns c = record {
   held = c.in_ok-old.ensures;
   block = c.match-old.block.items;
   made = elim c.match-old.branch [ in-Some+in_ok-block-in-Some w ↦ search rules | in-None+in_ok-block-in-None w ↦ search rules ];
-  put = search rules;
+  put = rw c.as_slice.ensures.value at c.in_ok-file.ensures;
 }
