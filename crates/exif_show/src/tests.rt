@@ -77,9 +77,9 @@ fn statuses(rt: HostRuntime) {
         (CUT_DIRECTORY, true, 3, cut, ""),
     ] {
         let (found, written, printed) = shown(&rt, bytes, lenient, (100, 100));
-        assert!(rt; found == status);
-        assert!(rt; written.as_slice() == out.as_bytes());
-        assert!(rt; printed.as_slice() == err.as_bytes());
+        assert_eq!(rt; found, status);
+        assert_eq!(rt; written.as_slice(), out.as_bytes());
+        assert_eq!(rt; printed.as_slice(), err.as_bytes());
     }
 }
 
@@ -88,13 +88,13 @@ fn modes(rt: HostRuntime) -> Result<(), Fail> {
     let alloc = rt.alloc();
     let file = || String::from_str(alloc, "a.tif");
     let flag = || String::from_str(alloc, "-c");
-    assert!(rt; mode(&[]) == None);
-    assert!(rt; mode(&[file()?]) == Some((false, 0)));
-    assert!(rt; mode(&[flag()?]) == None);
-    assert!(rt; mode(&[flag()?, file()?]) == Some((true, 1)));
-    assert!(rt; mode(&[flag()?, flag()?]) == Some((true, 1)));
-    assert!(rt; mode(&[file()?, flag()?]) == None);
-    assert!(rt; mode(&[flag()?, file()?, file()?]) == None);
+    assert_eq!(rt; mode(&[]), None);
+    assert_eq!(rt; mode(&[file()?]), Some((false, 0)));
+    assert_eq!(rt; mode(&[flag()?]), None);
+    assert_eq!(rt; mode(&[flag()?, file()?]), Some((true, 1)));
+    assert_eq!(rt; mode(&[flag()?, flag()?]), Some((true, 1)));
+    assert_eq!(rt; mode(&[file()?, flag()?]), None);
+    assert_eq!(rt; mode(&[flag()?, file()?, file()?]), None);
     Ok(())
 }
 
@@ -104,22 +104,25 @@ fn a_failing_reader_is_told(rt: HostRuntime) {
     let mut out = Counted::new(Vec::new(alloc));
     let mut err = Counted::new(Vec::new(alloc));
     let mut broken = Counted::new(Broken);
-    assert!(rt; show(alloc, &mut broken, &mut out, &mut err, false) == 1);
+    assert_eq!(rt; show(alloc, &mut broken, &mut out, &mut err, false), 1);
     assert!(rt; out.into_inner().is_empty());
     let told: &[u8] = b"exif_show: the reader failed\n";
-    assert!(rt; err.into_inner().as_slice() == told);
+    assert_eq!(rt; err.into_inner().as_slice(), told);
 }
 
 #[test]
 fn failing_writers_leave_fronts(rt: HostRuntime) {
     let (status, written, told) = shown(&rt, DESCRIBED, true, (3, 100));
-    assert!(rt; status == 1);
-    assert!(rt; written.as_slice() == b"Ima".as_slice());
-    assert!(rt; told.as_slice() == b"exif_show: the writer failed\n".as_slice());
+    assert_eq!(rt; status, 1);
+    assert_eq!(rt; written.as_slice(), b"Ima".as_slice());
+    assert_eq!(rt;
+        told.as_slice(),
+        b"exif_show: the writer failed\n".as_slice()
+    );
     for room in 0..5usize {
         let (status, written, told) = shown(&rt, CUT_DIRECTORY, false, (100, room));
-        assert!(rt; status == 1);
+        assert_eq!(rt; status, 1);
         assert!(rt; written.is_empty());
-        assert!(rt; Some(told.as_slice()) == b"exif_show: Trunc".get(..room));
+        assert_eq!(rt; Some(told.as_slice()), b"exif_show: Trunc".get(..room));
     }
 }
