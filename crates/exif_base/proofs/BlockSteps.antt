@@ -28,6 +28,7 @@ head_taken : (head : List ℕ) (left : Option (List ℕ)) (n : ℕ) → Consumes
 head_taken head None n = tt
 head_taken head (Some ys) n = ap (λ t. t ++ ys) (sym (take-append-drop n head)) ∙ append_assoc (take n head) (drop n head) ys
 
+-- what is at hand is a head before the rest, and its first bytes are taken
 pub at_hand_taken : (block : List ℕ) (left : Option (List ℕ)) (at end n : ℕ)
     → Consumes (prepend_known (drop at (take end block)) left) (prepend_known (drop (at + n) (take end block)) left) (take n (drop at (take end block)))
 at_hand_taken block left at end n =

@@ -3,6 +3,7 @@ use Rattle.std.proofs.Common.{◌≡◌, ℕ, List, ◌++◌, Option, None, Some
 use Rattle.exif_base.specs.Told.{IsFetchedOnto}
 use Rattle.exif_containers.specs.HeifSteps.{GoesOn}
 
+-- a list that was fetched onto, with what is left, is the old list with what was left before
 pub goes_on : (a b : Option (List ℕ)) (old new : List ℕ) (n : ℕ) → IsFetchedOnto a b old new n → GoesOn a b old new
 goes_on None b old new n h = tt
 goes_on (Some xs) None old new n h = absurd h.1

@@ -15,16 +15,19 @@ use Rattle.exif_containers.proofs.JpegUnits.{unit-alone, unit-segment, answer-fi
 
 -- ---- a unit is read back
 
+-- fill bytes before a code are passed over
 pub after_marks-fill : (n code : ℕ) (ys : List ℕ) → code ≢ 255 → after_marks (replicate n 255 ++ (code ∷ ys)) ≡ code ∷ ys
 after_marks-fill zero code ys h = ap (λ t. cond t (after_marks ys) (code ∷ ys)) (ne_eqb code 255 h)
 after_marks-fill (suc n) code ys h = after_marks-fill n code ys h
 
+-- a code and what its unit brings, printed, are read back as that unit
 pub from_code-brought : (code : ℕ) (b : Brought) (rest : List ℕ) → IsBrought code b
     → unit_from_code (code ∷ (print_brought b ++ rest)) ≡ Some (record { code = code; body = print_brought b; rest = rest })
 from_code-brought code nothing rest h = unit-alone code rest h
 from_code-brought code (sized high low content) rest h = unit-segment code high low content rest h.0 (omega (arith, h.1))
 from_code-brought code (exif high low payload) rest h = unit-segment code high low (exif_id ++ payload) rest (ap stands_alone h.0) (omega (arith, h.1))
 
+-- a printed unit is read back as it was, with what follows it
 pub first_unit-print : (u : UnitTree) (rest : List ℕ) → IsUnit u
     → first_unit (print_unit u ++ rest) ≡ Some (record { code = u.code; body = print_brought u.brought; rest = rest })
 first_unit-print u rest h =
@@ -195,6 +198,7 @@ tree-at_mark bytes rest v e h = at (after_marks rest) refl
     at [] is = let k : unit_from_code [] ≡ Some v = ap unit_from_code (sym is) ∙ here in absurd (cc)
     at (code ∷ behind) is = tree-at_code bytes rest behind code v e is (ap unit_from_code (sym is) ∙ here)
 
+-- the first unit that is read of bytes is a tree at their front
 pub tree-of_unit : (bytes : List ℕ) (v : JpegUnit) → first_unit bytes ≡ Some v → Tree bytes v
 tree-of_unit bytes v h = elim (from_mark-begins bytes) [
   | inl none ↦ absurd (none-no_unit bytes v none h)

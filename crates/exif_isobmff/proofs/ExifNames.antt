@@ -191,11 +191,13 @@ extent_bytes_only : (within : Within) (bytes : List ℕ) (base : ℕ) (e : Exten
 extent_bytes_only File bytes base e = file_extent_only bytes base e
 extent_bytes_only ItemDataBox bytes base e = idat_extent_only bytes base e
 
+-- extents that are each refused only by the list are gathered, or refused only by it
 pub gathered_only : (bytes_of : Extent → Result (List ℕ) Refusal) → ((e : Extent) → Only (bytes_of e)) → (front : List ℕ) (es : List Extent) → Only (gathered bytes_of front es)
 gathered_only bytes_of h front [] = tt
 gathered_only bytes_of h front (e ∷ es) =
     only_then (bytes_of e) _ (h e) (λ bytes. only_if (ltb 65535 (length (front ++ bytes))) _ _ (23, omega arith, refl) (gathered_only bytes_of h (front ++ bytes) es))
 
+-- an item's bytes, by whichever construction method, are refused only by the list
 pub item_bytes_only : (file : List ℕ) (idat : Option (List ℕ)) (p : Place) → Only (item_bytes file idat p)
 unfolding item_bytes
 item_bytes_only file idat p =
@@ -220,6 +222,7 @@ unwrap_only : (o : Option Refusal) → IfSome o (Contains heif_refusals) → Con
 unwrap_only None h = (16, omega arith, refl)
 unwrap_only (Some r) h = h
 
+-- the body of the meta box is found, or refused only by the list
 pub meta_body_only : (file : List ℕ) → Only (meta_body file)
 unfolding meta_body
 meta_body_only file =
@@ -238,6 +241,7 @@ unfolding meta_tables
 meta_tables_only body =
     only_then (version_at body) _ (version_only body) (λ v. only_if (eqb v.0 0) _ _ (tables_only (children v.1) (all_boxes_end box_at box_only v.1)) (6, omega arith, refl))
 
+-- what stands behind a block's header is found, or refused only by the list
 pub after_header_only : (block : List ℕ) → Only (after_header block)
 unfolding after_header
 after_header_only block =

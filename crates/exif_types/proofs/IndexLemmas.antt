@@ -157,6 +157,7 @@ abbrev pub Searched : FieldIndex → List Field → Tag → In → ℕ → Type 
 Searched index fields tag ifd_num end =
     Indexes index fields × (tag.1 < 2 ^ 16) × (end ≤ length index.entries.items) × EndsUpTo (greatest_of (key_of tag ifd_num)) index.entries.items end
 
+-- a search for a key that is the name's knows what one for the name does
 pub searched : (index : FieldIndex) (fields : List Field) (tag : Tag) (ifd_num : In) (key end : ℕ) → Indexes index fields → key ≡ key_of tag ifd_num
     → tag.1 < 2 ^ 16 → end ≤ length index.entries.items → EndsUpTo (greatest_of key) index.entries.items end → Searched index fields tag ifd_num end
 searched index fields tag ifd_num key end i e n w p = (i, n, w, rw e at p)
