@@ -13,6 +13,7 @@ use Rattle.exif_c.specs.Calls.{IsRead, answer_status, meant}
 use Rattle.exif_c.specs.Statuses.{number_of}
 use Rattle.exif_c.specs.declared.buffer.Answer.{Answer}
 
+-- what was read of a file, told as JSON and given in the buffer, is the answer of the call
 pub is_read : (lenient : Bool) (limit : ℕ) (file old new : List ℕ) (answer : Answer)
     (read : Result ExifContents Failure) (text : List ℕ)
     → ReadsContainer (raw_answer lenient (Some (meant limit))) (container_answer file) read

@@ -123,6 +123,7 @@ zeros_change (s ∷ ss) t =
     ap (λ x. meets (record { place = s.place; len = x }) t || changes (map zeros_over ss) t) n
     ∙ ap (λ b. meets s t || b) (zeros_change ss t)
 
+-- zeros over GPS directories and their values change bytes of these, and no others
 pub places_change : (number : Reading) (bytes : List ℕ) (ps : List Patch)
     → ps ≡ map zeros_over (gps_spans number bytes) → ChangePlaces number bytes ps
 places_change number bytes ps e t =
@@ -146,6 +147,7 @@ once_same e (l ∷ ls) = by_test (l.entry == e) (once_same e ls)
     by_test true h = ap (λ n. suc n) h
     by_test false h = h
 
+-- whether one field stands at an entry is told by the entries that a walk has found
 pub once_found : (bytes : List ℕ) (w : Walked) (e : ℕ) → Finds bytes w
     → (length (filter (λ (p : EntryPlace). p.entry == e) w.entries) == 1)
     ≡ (length (standing_at e (located bytes)) == 1)
@@ -215,13 +217,16 @@ alone_parts bytes order ps e w h f c =
 pub first_met : (a b r x : Bool) → a ≡ true → (not (a || b) && r) ≡ x → false ≡ x
 first_met a b r x p e = rw p at e
 
+-- where the first part is not met but the second is, the answer is no
 pub second_met : (a b r x : Bool) → a ≡ false → b ≡ true → (not (a || b) && r) ≡ x → false ≡ x
 second_met a b r x p q e = rw (p, q) at e
 
+-- where the first two parts are not met but the third is, the answer is no
 pub third_met : (a b m o x : Bool) → a ≡ false → b ≡ false → m ≡ true
     → (not (a || b) && (not m && o)) ≡ x → false ≡ x
 third_met a b m o x p q r e = rw (p, q, r) at e
 
+-- where none of the first three parts is met, the last part is the answer
 pub none_met : (a b m o x : Bool) → a ≡ false → b ≡ false → m ≡ false
     → (not (a || b) && (not m && o)) ≡ x → o ≡ x
 none_met a b m o x p q r e = rw (p, q, r) at e

@@ -231,16 +231,19 @@ nothing_shown : (lenient : Bool) → answer_of lenient (content_of []) ≡ Whole
 nothing_shown true = refl
 nothing_shown false = refl
 
+-- with a good header all fields are erased by a new first place and zeros behind the header
 pub clear_is : (bytes : List ℕ) (order : Order) → header bytes ≡ Ok order
     → clear_patches bytes ≡ Ok (clearing order (length bytes))
 unfolding clear_patches
 clear_is bytes order h = rw h refl
 
+-- a wrong header refuses the erasing of all fields, with its fault
 pub clear_refused : (bytes : List ℕ) (fault : Fault) → header bytes ≡ Err fault
     → clear_patches bytes ≡ Err (wrong_header fault)
 unfolding clear_patches
 clear_refused bytes fault h = rw h refl
 
+-- with a good header the byte order and the number 42 stay, and no field or fault is left
 pub clear_sound : (old : List ℕ) (order : Order) → header old ≡ Ok order
     → IsCleared old (patched (clearing order (length old)) old)
 clear_sound old order h =
@@ -274,6 +277,7 @@ was_cleared bytes ps e =
     let a = bound (of_data (header bytes)) (λ order. Ok (clearing order (length bytes))) ps e in
     (a.0, data_read (header bytes) a.0 a.1, ok_same (clearing a.0 (length bytes)) ps a.2)
 
+-- the patches that erase all fields lie in the data
 pub clear_fits : (bytes : List ℕ) (ps : List Patch) → clear_patches bytes ≡ Ok ps
     → All (FitsIn (length bytes)) ps
 clear_fits bytes ps e =

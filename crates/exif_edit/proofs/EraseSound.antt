@@ -30,6 +30,7 @@ use Rattle.exif_edit.proofs.ReadSound.{reads_are}
 
 -- ---- the spans lie in the data
 
+-- where the spans of two lists lie in data of a length, those of the joined list do
 pub within-append : (n : ℕ) (xs ys : List Span) → AllWithin n xs → AllWithin n ys
     → AllWithin n (xs ++ ys)
 within-append n [] ys h k = k
@@ -54,6 +55,7 @@ within_within total s = by_test (nat_le (s.place + s.len) total) refl
     by_test true e = grind (arith, nat_tests)
     by_test false e = omega arith
 
+-- the spans of the values of entries lie in the data
 pub values_within : (number : Reading) (bytes es : List ℕ)
     → AllWithin (length bytes) (map (value_span number bytes) es)
 values_within number bytes [] = tt
@@ -73,11 +75,13 @@ directories_within number bytes (q ∷ qs) =
     )
     (directories_within number bytes qs)
 
+-- the spans of GPS directories and of their values lie in the data
 pub spans_within : (number : Reading) (bytes : List ℕ)
     → AllWithin (length bytes) (gps_spans number bytes)
 unfolding gps_spans
 spans_within number bytes = directories_within number bytes (gps_places bytes)
 
+-- zeros over spans that lie in data of a length lie there, too
 pub zeros_fit : (n : ℕ) (ss : List Span) → AllWithin n ss → All (FitsIn n) (map zeros_over ss)
 zeros_fit n [] h = All-nil (FitsIn n)
 zeros_fit n (s ∷ ss) h =
@@ -85,6 +89,7 @@ zeros_fit n (s ∷ ss) h =
     let a = h.0 in
     All-cons (FitsIn n) (zeros_over s) (map zeros_over ss) (omega (arith, l)) (zeros_fit n ss h.1)
 
+-- patches that are zeros over GPS directories and their values lie in the data
 pub gps_fit : (bytes : List ℕ) (ps : List Patch) (little : Bool)
     → ps ≡ map zeros_over (gps_spans (number_of (order_named little)) bytes)
     → All (FitsIn (length bytes)) ps
@@ -129,6 +134,7 @@ pub record WasErased (bytes : List ℕ) (ps : List Patch) : Type 0 where
   pub fields : found.fields ≡ without_gps read.fields
   pub fewer : length found.faults ≤ length read.faults
 
+-- answered patches are zeros over the GPS data, and all fields but those of GPS are read then
 pub was_erased : (bytes : List ℕ) (ps : List Patch) → erase_patches bytes ≡ Ok ps → WasErased bytes ps
 unfolding erase_patches
 was_erased bytes ps e =
@@ -148,10 +154,12 @@ was_erased bytes ps e =
       fewer = c.3;
     }
 
+-- the patches that erase GPS data lie in the data
 pub erase_fits : (bytes : List ℕ) (ps : List Patch) → erase_patches bytes ≡ Ok ps
     → All (FitsIn (length bytes)) ps
 erase_fits bytes ps e = let w = was_erased bytes ps e in gps_fit bytes ps w.read.little w.zeros
 
+-- with answered patches GPS directories and their values are zeros, and all else is as it was
 pub erased_sound : (old : List ℕ) (ps : List Patch) → erase_patches old ≡ Ok ps
     → IsErased old (patched ps old)
 erased_sound old ps e =

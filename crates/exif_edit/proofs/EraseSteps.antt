@@ -48,6 +48,7 @@ directory_on spans qs i out new all h e f =
 
 -- ---- the whole
 
+-- where reading stops, the erasing of GPS data fails with the error that the stop becomes
 pub erase_fault : (s : Stop) (bytes : List ℕ) (e : Error) → ReadsTo (Err s) (reading bytes)
     → Becomes s e → Fails e (erase_patches bytes)
 unfolding erase_patches
@@ -61,6 +62,7 @@ erase_cleared : (bytes : List ℕ) (read : Read) → reading bytes ≡ Ok read
 unfolding erase_patches
 erase_cleared bytes read h = rw h refl
 
+-- the spans of the GPS directories that were found are all the spans of GPS data
 pub spans_are : (number : Reading) (bytes qs : List ℕ) → qs ≡ gps_places bytes
     → flat_map (directory_spans number bytes) qs ≡ gps_spans number bytes
 unfolding gps_spans

@@ -71,6 +71,7 @@ marked (a ∷ []) order h o n = absurd (omega arith)
 marked (a ∷ b ∷ []) order h o n = absurd (omega arith)
 marked (a ∷ b ∷ c ∷ []) order h o n = absurd (omega arith)
 
+-- data with a good header begin with a byte order and the number 42 in it
 pub header_marked : (bytes : List ℕ) (order : Order) → header bytes ≡ Ok order
     → IsMarked bytes
 header_marked bytes order e = by_large (nat_lt (2 ^ 32 - 1) (length bytes)) e
@@ -111,6 +112,7 @@ header_marked bytes order e = by_large (nat_lt (2 ^ 32 - 1) (length bytes)) e
     by_large true k = absurd (err_ok DataTooLarge k)
     by_large false k = by_short (nat_lt (length bytes) 8) refl k
 
+-- data that were read begin with a byte order and the number 42 in it
 pub reading_marked : (bytes : List ℕ) (read : Read) → reading bytes ≡ Ok read
     → IsMarked bytes
 reading_marked bytes read e = header_marked bytes _ (header_named bytes read e)

@@ -151,6 +151,7 @@ overwritten order first value e old ps rs f g =
     (misses_too order first value e s i a.0 b.0 a.1 b.1
     (subst (λ qs. All (Misses i) qs) f.is m)))))
 
+-- the old value, set again after another, gives the bytes from before if the field keeps its place
 pub set_back : (old : List ℕ) (tag : Tag) (k : In) (value first : Value)
     → SetsBack tag k value first old
 set_back old tag k value first new back h0 h1 keep h2 =

@@ -184,5 +184,6 @@ module _ (order : Order) (bytes : List ℕ) (head : header bytes ≡ Ok order)
       let right = clears_right in
       rw (read, named) (ap (λ t. if t then Ok zeros else Err shared) right)
 
+-- where no byte of GPS data is looked at as anything else, the GPS data are erased
 pub places_unshared : (bytes : List ℕ) → AreErasedUnshared bytes
 places_unshared bytes order head alone = erased order bytes head alone

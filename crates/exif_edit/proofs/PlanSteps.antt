@@ -38,6 +38,7 @@ read_planned bytes new plan b n e =
         (if c then Ok plan.patches.items else Err shared)
     by_test x c e = ap (λ y. if y then Ok plan.patches.items else Err shared) e
 
+-- a plan gives what its patches make if that is read as wanted, and else is refused as shared
 pub read_carried : (bytes new : List ℕ) (plan : Plan) (b : Bool)
     → new ≡ patched plan.patches.items bytes → b ≡ is_read new plan.wanted
     → (b ≡ true → carried_out bytes plan ≡ Ok new)

@@ -21,6 +21,7 @@ use Rattle.exif_edit.specs.Promises.{ReadAs}
 
 -- ---- the tests decide
 
+-- the test of two faults tells whether they are the same
 pub fault_Decides : (a b : Fault) → Decides (fault_eq a b) (a ≡ b)
 fault_Decides DataTooLarge DataTooLarge = (λ t. refl, λ e. refl)
 fault_Decides TruncatedHeader TruncatedHeader = (λ t. refl, λ e. refl)
@@ -36,6 +37,7 @@ fault_Decides TooManyDirectories TooManyDirectories = (λ t. refl, λ e. refl)
 fault_Decides TooManyEntries TooManyEntries = (λ t. refl, λ e. refl)
 fault_Decides _ _ = (λ t. absurd (false≢true t), λ e. cc)
 
+-- two readings that pass the test are the same
 pub read_same : (a b : Read) → read_eq a b ≡ true → a ≡ b
 read_same a b e =
     let p = split (beq a.little b.little)
@@ -75,6 +77,7 @@ answer_by : (x : Result Order Fault) (lenient : Bool) (order : Order) (bytes : L
     ≡ answer_of lenient (content_of (ordered_trace (number_of order) bytes))
 answer_by x lenient order bytes e = rw e refl
 
+-- with a good header the answer is that of what stands in the data in its byte order
 pub raw_right : (lenient : Bool) (bytes : List ℕ) (order : Order) → header bytes ≡ Ok order
     → raw_answer lenient None bytes
     ≡ answer_of lenient (content_of (ordered_trace (number_of order) bytes))
@@ -107,6 +110,7 @@ reads_by (Ok order) bytes read h e =
     ok_same : (a : Read) → ◌≡◌ {A = Result Read Fault} (Ok a) (Ok read) → a ≡ read
     ok_same a e = cc
 
+-- the fields and faults that were read are those of the data, and both modes answer by them
 pub reads_are : (bytes : List ℕ) (read : Read) → reading bytes ≡ Ok read
     → (ReadAs bytes read.fields read.faults) × (read.fields ≡ fields_of (trace bytes))
     × (read.faults ≡ faults_of (trace bytes))

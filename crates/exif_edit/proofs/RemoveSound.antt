@@ -40,6 +40,7 @@ use Rattle.exif_edit.proofs.Told.{located_tells, settled}
 
 -- ---- the patches lie in the data
 
+-- what puts a directory without its entries of a tag lies in the data
 pub directory_fits : (order : Order) (bytes : List ℕ) (n p : ℕ)
     → All (FitsIn (length bytes)) (directory_patches order bytes n p)
 directory_fits order bytes n p =
@@ -72,6 +73,7 @@ named_within number bytes n (p ∷ ps) =
     (values_within number bytes (entries_with number bytes n p))
     (named_within number bytes n ps)
 
+-- all that takes the entries of a tag out of directories lies in the data
 pub removals_fit : (order : Order) (bytes : List ℕ) (n : ℕ) (ps : List ℕ)
     → All (FitsIn (length bytes)) (removals order bytes n ps)
 removals_fit order bytes n ps =
@@ -91,6 +93,7 @@ any-append i (x ∷ xs) ys h =
     let q = any-append i xs ys p.1 in
     (rw p.0 q.0, q.1)
 
+-- what puts a directory without its entries of a tag touches no byte outside of it
 pub directory_misses : (order : Order) (bytes : List ℕ) (n p i : ℕ)
     → inside i (directory_span (number_of order) bytes p) ≡ false
     → All (Misses i) (directory_patches order bytes n p)
@@ -138,6 +141,7 @@ directories_miss order bytes n (p ∷ ps) i h =
     (flat_map (directory_patches order bytes n) ps) (directory_misses order bytes n p i q.0)
     (directories_miss order bytes n ps i q.1)
 
+-- two lists of patches, joined, are put as the first list and then the second
 pub patched-append : (ps qs : List Patch) (bytes : List ℕ)
     → patched (ps ++ qs) bytes ≡ patched qs (patched ps bytes)
 patched-append [] qs bytes = refl
@@ -164,6 +168,7 @@ value_zero order bytes n ps i h =
     ∙ ap (λ b. if b then 0 else get_or
     (patched (flat_map (directory_patches order bytes n) ps) bytes) i 0) h
 
+-- a byte outside of the directories and of the values of the tag is as it was
 pub stays_outside : (order : Order) (bytes : List ℕ) (n : ℕ) (ps : List ℕ) (i : ℕ)
     → list_any (inside i) (named_spans (number_of order) bytes n ps) ≡ false
     → get_or (patched (removals order bytes n ps) bytes) i 0 ≡ get_or bytes i 0
@@ -226,6 +231,7 @@ from_places bytes tag k read (q ∷ qs) ps e =
     let t = tested (still_reads (patched rs bytes) (read_without tag k read)) rs ps shared e in
     (sym t.1, subst (λ xs. still_reads (patched xs bytes) (read_without tag k read) ≡ true) t.1 t.0)
 
+-- answered patches take out the entries of a name, and the other fields are read then
 pub was_removed : (bytes : List ℕ) (tag : Tag) (k : In) (ps : List Patch)
     → named_removals bytes tag k ≡ Ok ps → WasRemoved bytes tag k ps
 unfolding named_removals
@@ -246,12 +252,14 @@ was_removed bytes tag k ps e =
       fewer = c.3;
     }
 
+-- patches that erase a field are those that take the entries of its name out
 pub named_of_field : (bytes : List ℕ) (tag : Tag) (k : In) (ps : List Patch)
     → field_patches bytes tag k ≡ Ok ps → named_removals bytes tag k ≡ Ok ps
 unfolding field_patches
 named_of_field bytes tag k ps e =
     (passed (names_places tag) place_named (λ u. named_removals bytes tag k) ps e).1
 
+-- the patches that take the entries of a name out lie in the data
 pub named_fits : (bytes : List ℕ) (tag : Tag) (k : In) (ps : List Patch)
     → named_removals bytes tag k ≡ Ok ps → All (FitsIn (length bytes)) ps
 named_fits bytes tag k ps e =
@@ -260,6 +268,7 @@ named_fits bytes tag k ps e =
     (removals_fit (order_named w.read.little) bytes tag.1
     (directories_with tag k w.read.fields (map entry_of (located bytes))))
 
+-- the patches that erase a field lie in the data
 pub field_fits : (bytes : List ℕ) (tag : Tag) (k : In) (ps : List Patch)
     → field_patches bytes tag k ≡ Ok ps → All (FitsIn (length bytes)) ps
 field_fits bytes tag k ps e = named_fits bytes tag k ps (named_of_field bytes tag k ps e)
@@ -273,6 +282,7 @@ fields_told new found gs r u =
     let v : untold (map field_of (located new)) ≡ untold gs = ap untold (sym f) ∙ u in
     f ∙ sym (settled (located new) gs (located_tells new) v)
 
+-- with answered patches the fields of a name are gone, and their values are zeros
 pub field_sound : (old : List ℕ) (tag : Tag) (k : In) (ps : List Patch)
     → field_patches old tag k ≡ Ok ps → IsFieldErased old tag k (patched ps old)
 field_sound old tag k ps e =

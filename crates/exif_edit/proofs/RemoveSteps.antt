@@ -59,6 +59,7 @@ passed_on F hom t at' n i out new all h e f =
     ∙ (ap (λ xs. out ++ xs)
     (sym (ap F (passed_first t at' rest) ∙ hom (filter t (at' ∷ [])) (filter t rest))) ∙ g))
 
+-- with one more entry counted if it passes, the count and what is left still make the same sum
 pub counted_on : (t : ℕ → Bool) (at' n i out new all : ℕ) → i < n
     → new ≡ out + length (filter t (at' ∷ []))
     → out + length (filter t (spaced at' 12 (n - i))) ≡ all
@@ -81,6 +82,7 @@ few_passed t (x ∷ xs) = by_test (t x) (few_passed t xs)
     by_test true h = omega arith
     by_test false h = omega arith
 
+-- a row of n places has n of them
 pub length-spaced : (p unit n : ℕ) → length (spaced p unit n) ≡ n
 length-spaced p unit zero = refl
 length-spaced p unit (suc n) = ap suc (length-spaced (p + unit) unit n)
@@ -108,6 +110,7 @@ text_fits order bytes t p n count next =
     let y = length-append (spelled order 2 count) (entries_text bytes es ++ next) in
     omega arith
 
+-- the count, the entries that are kept and the next place have room in the old directory
 pub whole_fits : (order : Order) (bytes : List ℕ) (number place count kept : ℕ)
     (text next whole : List ℕ)
     → text ≡ entries_text bytes
@@ -122,6 +125,7 @@ whole_fits order bytes number place count kept text next whole t w =
     w ∙ ap (λ xs. spelled order 2 kept ++ (xs ++ next)) t in
     rw z fits
 
+-- the parts, put together with zeros behind, are the directory without its entries of a tag
 pub directory_made : (order : Order) (bytes : List ℕ) (number place count kept : ℕ)
     (text next whole new : List ℕ)
     → count ≡ whole_entries (number_of order) bytes place
@@ -157,6 +161,7 @@ directory_length order bytes n p =
 
 -- ---- the directories of a name
 
+-- from the last field to the first, one more directory is noted if the field has the name
 pub noted_on : (tag : Tag) (k : In) (fs : List Field) (ps : List EntryPlace) (i : ℕ) (f : Field)
     (p : EntryPlace) (out new : List ℕ)
     → i < length fs → length fs ≡ length ps → f ≡ get_or fs i f → p ≡ get_or ps i p
@@ -175,6 +180,7 @@ noted_on tag k fs ps i f p out new h l g q o n =
 
 -- ---- directories and values, one after another
 
+-- with what one more place gives put behind the list, it and the rest still make the same whole
 pub places_on : {A B : Type 0} (f : A → List B) (qs : List A) (i : ℕ) (q : A) (out new all : List B)
     → i < length qs → q ≡ get_or qs i q
     → new ≡ out ++ f q
@@ -187,6 +193,7 @@ places_on f qs i q out new all h g e k =
     ap (λ xs. xs ++ flat_map f (drop (i + 1) qs)) e
     ∙ (append_assoc out (f q) (flat_map f (drop (i + 1) qs)) ∙ m)
 
+-- zeros over the spans of two joined lists are those of the first and then of the second
 pub zeros_append : (span : ℕ → Span) (xs ys : List ℕ)
     → map zeros_over (map span (xs ++ ys)) ≡ map zeros_over (map span xs)
     ++ map zeros_over (map span ys)
@@ -194,18 +201,21 @@ zeros_append span xs ys =
     ap (λ ss. map zeros_over ss) (map-append span xs ys)
     ∙ map-append zeros_over (map span xs) (map span ys)
 
+-- zeros over two joined lists of spans are those over the first and then over the second
 pub spans_append : (xs ys : List Span)
     → map zeros_over (xs ++ ys) ≡ map zeros_over xs ++ map zeros_over ys
 spans_append xs ys = map-append zeros_over xs ys
 
 -- ---- the whole
 
+-- where reading stops, the removal of a name fails with the error that the stop becomes
 pub remove_fault : (s : Stop) (bytes : List ℕ) (tag : Tag) (k : In) (e : Error)
     → ReadsTo (Err s) (reading bytes) → Becomes s e → Fails e (named_removals bytes tag k)
 unfolding named_removals
 remove_fault stop.OutOfMemory bytes tag k e h b = rw b refl
 remove_fault (stop.Fault fault) bytes tag k e h b = rw (b, h) refl
 
+-- of data that were read, a name is taken out of the directories that have fields of it
 pub named_from : (bytes : List ℕ) (tag : Tag) (k : In) (read : Read) → reading bytes ≡ Ok read
     → named_removals bytes tag k
     ≡ removals_from tag k read bytes
@@ -257,11 +267,13 @@ remove_wanted bytes tag k read es (p0 ∷ rest) ps fs order h w q o p f z =
     ∙ (ap (checked_removals (read_without tag k read) bytes) r
     ∙ sym (named_from bytes tag k read h ∙ ap (removals_from tag k read bytes) d))
 
+-- a field whose values say where other bytes stand is not erased
 pub field_named : (bytes : List ℕ) (tag : Tag) (k : In) → names_places tag ≡ true
     → field_patches bytes tag k ≡ Err place_named
 unfolding field_patches
 field_named bytes tag k h = rw h refl
 
+-- any other field is erased as its name is taken out of directories
 pub field_else : (bytes : List ℕ) (tag : Tag) (k : In) → names_places tag ≡ false
     → field_patches bytes tag k ≡ named_removals bytes tag k
 unfolding field_patches

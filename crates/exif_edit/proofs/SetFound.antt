@@ -188,6 +188,7 @@ shown_fields false fs gs [] ys e =
 shown_fields false fs gs (x ∷ xs) ys e =
     absurd (false≢true (sym (not_refused gs ys) ∙ sym (ap is_refused e)))
 
+-- once a value was set, a look-up of its name finds it
 pub set_found : (old new : List ℕ) (tag : Tag) (k : In) (value : Value) → IsSet old tag k value new
     → FindsValue tag k value new
 set_found old new tag k value s lenient fields faults e =
@@ -202,6 +203,7 @@ set_found old new tag k value s lenient fields faults e =
           ∙ replaced_found tag k (moved_to s.place value) fs any,
     )
 
+-- two tests of which neither holds are both false
 pub neither : (a b : Bool) → (a || b) ≡ false → (a ≡ false) × (b ≡ false)
 neither true b h = absurd (false≢true (sym h))
 neither false b h = (refl, h)
@@ -229,6 +231,7 @@ told_none tag k (l ∷ ls) (g ∷ gs) h =
     let t : is_named tag k (told_at l.entry g) ≡ false = p.0 in
     rw t (told_none tag k ls gs p.1)
 
+-- once the fields of a name were erased, a look-up of the name finds nothing
 pub none_found : (old new : List ℕ) (tag : Tag) (k : In) → IsFieldErased old tag k new
     → FindsNone tag k new
 none_found old new tag k s lenient fields faults e =

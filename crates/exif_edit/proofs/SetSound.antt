@@ -31,10 +31,12 @@ use Rattle.exif_edit.proofs.ReadSound.{reads_are, reads_so}
 
 -- ---- the texts of the patches are as long as their rooms
 
+-- a number that is spelled with n bytes has n of them
 pub length-spelled : (order : Order) (n x : ℕ) → length (spelled order n x) ≡ n
 length-spelled Big n x = length-bytes_high_first n x
 length-spelled Little n x = length-bytes_low_first 0 n x
 
+-- a text that is no longer than n has n bytes once it is padded to n
 pub length-padded : (n : ℕ) (text : List ℕ) → length text ≤ n → length (padded n text) ≡ n
 length-padded n text h =
     let l : length (replicate {A = ℕ} (n - length text) 0) ≡ n - length text =
@@ -79,6 +81,7 @@ length-entry order value place text = by_test (is_small text) refl
 
 -- ---- an edit that fits
 
+-- the entry at e and its room lie in the data, the value fits there, and these patches put it
 pub record Fits (order : Order) (value : Value) (e : ℕ) (bytes : List ℕ) (ps : List Patch) : Type 0
   where
     pub whole : e + 12 ≤ length bytes
@@ -109,6 +112,7 @@ fits_in order value e s n ps h =
           (ok_same (value_patches order value e s) ps c.1),
     )
 
+-- where the patches of a value are answered, it fits
 pub edit_fits_in : (order : Order) (value : Value) (e : ℕ) (bytes : List ℕ) (ps : List Patch)
     → value_answer order value e bytes ≡ Ok ps → Fits order value e bytes ps
 unfolding value_answer
@@ -146,6 +150,7 @@ value_lengths order value s h = (
       (encode order value),
 )
 
+-- the patches of a value that fits lie in the data
 pub value_fits : (order : Order) (value : Value) (e : ℕ) (bytes : List ℕ) (ps : List Patch)
     → Fits order value e bytes ps → All (FitsIn (length bytes)) ps
 value_fits order value e bytes ps f =
@@ -180,6 +185,7 @@ pub record WasFound (bytes : List ℕ) (tag : Tag) (k : In) (found : Read × ℕ
   pub last : last_located tag k (located bytes) ≡ Some at
   pub entry : at.entry ≡ found.1
 
+-- what was found is what was read, and the entry of the last located field of the name
 pub was_found : (bytes : List ℕ) (tag : Tag) (k : In) (found : Read × ℕ)
     → find_answer bytes tag k ≡ Ok found → WasFound bytes tag k found
 unfolding find_answer
@@ -236,6 +242,7 @@ checked_set bytes ps tag k value h =
       reads_new = rw w.entry r;
     }
 
+-- answered patches put a value that fits, and the data are read with it then
 pub was_set : (bytes : List ℕ) (ps : List Patch) (tag : Tag) (k : In) (value : Value)
     → set_patches bytes tag k value ≡ Ok ps → WasSet bytes tag k value ps
 unfolding set_patches
@@ -247,12 +254,14 @@ was_set bytes ps tag k value h =
     a.1 in
     checked_set bytes ps tag k value b.1
 
+-- the patches that set a value lie in the data
 pub set_fits : (bytes : List ℕ) (ps : List Patch) (tag : Tag) (k : In) (value : Value)
     → set_patches bytes tag k value ≡ Ok ps → All (FitsIn (length bytes)) ps
 set_fits bytes ps tag k value h =
     let w = was_set bytes ps tag k value h in
     value_fits (order_named w.read.little) value w.at.entry bytes ps w.fits
 
+-- with answered patches the last field of a name has the value, and all else is as it was
 pub set_sound : (old : List ℕ) (ps : List Patch) (tag : Tag) (k : In) (value : Value)
     → set_patches old tag k value ≡ Ok ps → IsSet old tag k value (patched ps old)
 set_sound old ps tag k value h =
@@ -284,6 +293,7 @@ pub answer_made : (f : Result (List Patch) Cause) (bytes : List ℕ) (ps : List 
     → (f >>= λ qs. Ok (patched qs bytes)) ≡ Ok (patched ps bytes)
 answer_made f bytes ps h = rw h refl
 
+-- where the patches are refused, the edited data are refused for the same cause
 pub answer_refused : (f : Result (List Patch) Cause) (bytes : List ℕ) (c : Cause) → f ≡ Err c
     → ◌≡◌ {A = Result (List ℕ) Cause} (f >>= λ qs. Ok (patched qs bytes)) (Err c)
 answer_refused f bytes c h = rw h refl

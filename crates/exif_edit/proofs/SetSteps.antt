@@ -20,6 +20,7 @@ use Rattle.exif_edit.specs.Setting.{answer_in, checked, checked_patches, expecte
 
 -- ---- one edit
 
+-- a value is refused as shared where its entry does not lie in the data
 pub edit_outside : (order : Order) (value : Value) (e : ℕ) (bytes : List ℕ) → length bytes < e + 12
     → value_answer order value e bytes ≡ Err shared
 unfolding value_answer
@@ -35,6 +36,7 @@ edit_inside order value e bytes s l w =
     let t : nat_lt (length bytes) (e + 12) ≡ false = grind (arith, nat_tests) in
     rw t (ap (λ x. answer_in order value e x (length bytes)) (sym w))
 
+-- a value is refused as shared where its old room does not lie in the data
 pub edit_far : (order : Order) (value : Value) (e : ℕ) (bytes : List ℕ) (s : Span)
     → e + 12 ≤ length bytes
     → s ≡ value_room (number_of order) bytes e → length bytes < s.place + s.len
@@ -43,6 +45,7 @@ edit_far order value e bytes s l w f =
     let t : nat_lt (length bytes) (s.place + s.len) ≡ true = grind (arith, nat_tests) in
     edit_inside order value e bytes s l w ∙ rw t refl
 
+-- a value of more than 2^32 - 1 items is too long
 pub edit_many : (order : Order) (value : Value) (e : ℕ) (bytes : List ℕ) (s : Span)
     → e + 12 ≤ length bytes
     → s ≡ value_room (number_of order) bytes e → s.place + s.len ≤ length bytes
@@ -52,6 +55,7 @@ edit_many order value e bytes s l w f m =
     let v : nat_lt (2 ^ 32 - 1) (count_of value) ≡ true = grind (arith, nat_tests) in
     edit_inside order value e bytes s l w ∙ rw (t, v) refl
 
+-- a value of more bytes than its old room, and more than four, is too long
 pub edit_long : (order : Order) (value : Value) (e : ℕ) (bytes : List ℕ) (s : Span)
     → e + 12 ≤ length bytes
     → s ≡ value_room (number_of order) bytes e → s.place + s.len ≤ length bytes
@@ -63,6 +67,7 @@ edit_long order value e bytes s l w f m g =
     let u : nat_lt (max 4 s.len) (length (encode order value)) ≡ true = grind (arith, nat_tests) in
     edit_inside order value e bytes s l w ∙ rw (t, v, u) refl
 
+-- a value that fits an entry and a room in the data is answered with its patches
 pub edit_fits : (order : Order) (value : Value) (e : ℕ) (bytes : List ℕ) (ps : List Patch)
     (s : Span)
     → e + 12 ≤ length bytes → s ≡ value_room (number_of order) bytes e
@@ -77,26 +82,31 @@ edit_fits order value e bytes ps s l w f m g d =
 
 -- ---- the whole
 
+-- a field whose values say where other bytes stand is not set
 pub set_named : (bytes : List ℕ) (tag : Tag) (k : In) (value : Value) → names_places tag ≡ true
     → set_patches bytes tag k value ≡ Err place_named
 unfolding set_patches
 set_named bytes tag k value h = rw h refl
 
+-- a value of an unknown type is not set
 pub set_unknown : (bytes : List ℕ) (tag : Tag) (k : In) (value : Value) → names_places tag ≡ false
     → is_unknown value ≡ true → set_patches bytes tag k value ≡ Err unknown_type
 unfolding set_patches
 set_unknown bytes tag k value h u = rw (h, u) refl
 
+-- any other value is set by the patches that pass the check
 pub set_known : (bytes : List ℕ) (tag : Tag) (k : In) (value : Value) → names_places tag ≡ false
     → is_unknown value ≡ false → checked_patches bytes tag k value ≡ set_patches bytes tag k value
 unfolding set_patches
 set_known bytes tag k value h u = rw (h, u) refl
 
+-- where the field is not found, its value is not set, for the same cause
 pub set_find : (bytes : List ℕ) (tag : Tag) (k : In) (value : Value) (c : Cause)
     → find_answer bytes tag k ≡ Err c → checked_patches bytes tag k value ≡ Err c
 unfolding checked_patches
 set_find bytes tag k value c h = rw h refl
 
+-- where the value is refused at the entry that was found, it is not set, for the same cause
 pub set_edit : (bytes : List ℕ) (tag : Tag) (k : In) (value : Value) (read : Read) (e : ℕ)
     (order : Order) (c : Cause)
     → find_answer bytes tag k ≡ Ok (read, e) → order ≡ order_named read.little

@@ -53,6 +53,7 @@ tells_inside number (Some field_type.SRational) type count bytes e = refl
 tells_inside number (Some field_type.Float) type count bytes e = refl
 tells_inside number (Some field_type.Double) type count bytes e = refl
 
+-- as many bytes are taken from a place as are asked for, if they lie in the data
 pub length-bytes_at : (n : ℕ) (bytes : List ℕ) (p : ℕ) → p + n ≤ length bytes
     → length (bytes_at n bytes p) ≡ n
 length-bytes_at n bytes p h = grind (arith, common_steps)
@@ -161,6 +162,7 @@ by_header : (x : Result Order Fault) (bytes : List ℕ)
 by_header (Ok order) bytes = ordered_tell (number_of order) bytes
 by_header (Err fault) bytes = tt
 
+-- each located field of the data is as its entry tells it
 pub located_tells : (bytes : List ℕ) → AllTell (located bytes)
 unfolding located trace
 located_tells bytes = by_header (header bytes) bytes
@@ -189,6 +191,7 @@ settle_one l g t u =
     ◌-with : Field → Value → Field
     ◌-with f v = record { tag = f.tag; ifd_num = f.ifd_num; value = v }
 
+-- fields like the located ones but for their entries are the same once these entries tell them
 pub settled : (ls : List Located) (gs : List Field) → AllTell ls
     → untold (map field_of ls) ≡ untold gs → told_by ls gs ≡ map field_of ls
 settled [] [] h u = refl

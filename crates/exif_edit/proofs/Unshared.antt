@@ -53,10 +53,12 @@ use Rattle.exif_edit.proofs.SetSound.{Fits, value_fits, value_misses}
 
 -- ---- tests that fail
 
+-- two tests of which neither holds are both false
 pub neither : (a b : Bool) → (a || b) ≡ false → (a ≡ false) × (b ≡ false)
 neither false b h = (refl, h)
 neither true b h = absurd (false≢true (sym h))
 
+-- a test whose opposite holds is false
 pub unturned : (a : Bool) → not a ≡ true → a ≡ false
 unturned false h = refl
 unturned true h = absurd (false≢true h)
@@ -106,6 +108,7 @@ none_standing e new (l ∷ ls) h = by_test (l.entry == e) refl (none_standing e 
         let rest = r h in
         rw (t, rest) refl
 
+-- where the last field of a name is located, some field stands in its entry
 pub last_stands : (tag : Tag) (k : In) (ls : List Located) (at : Located)
     → last_located tag k ls ≡ Some at → 0 < length (standing_at at.entry ls)
 last_stands tag k [] at h = absurd (none_some h)
@@ -216,11 +219,13 @@ read_in order bytes =
     let nodes = ordered_trace (number_of order) bytes in
     record { little = is_little order; fields = fields_of nodes; faults = faults_of nodes }
 
+-- with a good header the data are read as what stands in them in its byte order
 pub reading_in : (bytes : List ℕ) (order : Order) → header bytes ≡ Ok order
     → reading bytes ≡ Ok (read_in order bytes)
 unfolding reading
 reading_in bytes order h = ap (λ x. reading_by x bytes) h
 
+-- with a good header the located fields are those that stand in the data in its byte order
 pub located_in : (bytes : List ℕ) (order : Order) → header bytes ≡ Ok order
     → located bytes ≡ located_of (ordered_trace (number_of order) bytes)
 unfolding located trace
@@ -228,6 +233,7 @@ located_in bytes order h =
     ap (λ (x : Result Order Fault). located_of (elim x as (λ _. List Node)
     [ Ok o ↦ ordered_trace (number_of o) bytes | Err fault ↦ [] ])) h
 
+-- whether an order is little endian names that order again
 pub named_order : (order : Order) → order_named (is_little order) ≡ order
 named_order Big = refl
 named_order Little = refl
@@ -449,6 +455,7 @@ module _ (tag : Tag) (k : In) (value : Value) (bytes : List ℕ) (order : Order)
       by_tests false false false true p q r t = refl
       by_tests false false false false p q r t = checked_right r t
 
+-- where the entry stands alone, a value that reads back as it was is set if it fits
 pub set_unshared : (tag : Tag) (k : In) (value : Value) (bytes : List ℕ) → IsSetUnshared tag k value bytes
 unfolding set_patches
 set_unshared tag k value bytes order at head last alone childless ranged plain =

@@ -169,12 +169,14 @@ found_directories bytes order w h f =
     ∙ ap (λ (x : Result Order Fault). directories_of (elim x as (λ _. List Node)
     [ Ok o ↦ ordered_trace (number_of o) bytes | Err fault ↦ [] ])) h
 
+-- the directories that a walk has found are those that are looked at, in their order
 pub walked_places : (bytes : List ℕ) (order : Order) (w : Walked) → header bytes ≡ Ok order
     → Finds bytes w → places_of w.directories
     ≡ chain_directories 8 (number_of order) bytes (number_at (number_of order) 4 bytes 4)
 walked_places bytes order w h f =
     ap places_of (found_directories bytes order w h f) ∙ visited (number_of order) bytes
 
+-- the directories that a walk has found, but those of GPS data, are those that are kept
 pub walked_kept : (bytes : List ℕ) (order : Order) (w : Walked) → header bytes ≡ Ok order
     → Finds bytes w → places_of (kept_of w.directories)
     ≡ chain_kept 8 (number_of order) bytes (number_at (number_of order) 4 bytes 4)

@@ -35,6 +35,7 @@ passed {B = B} true c y out e = absurd (err_ok e)
     err_ok e = cc
 passed false c y out e = (refl, e)
 
+-- where reading does not refuse a step, there was no fault, and the value is the one that was read
 pub data_read : {A : Type 0} (x : Result A Fault) (a : A) → of_data x ≡ Ok a → x ≡ Ok a
 data_read {A = A} (Ok y) a e = ap (λ z. Ok z) (ok_same e)
   where
@@ -45,6 +46,7 @@ data_read {A = A} (Err fault) a e = absurd (err_ok e)
     err_ok : ◌≡◌ {A = Result A Cause} (Err (wrong_header fault)) (Ok a) → ⊥
     err_ok e = cc
 
+-- where a container does not refuse a step, the value is the one that it held
 pub data_held : {A : Type 0} (x : Result A Refusal) (a : A) → of_container x ≡ Ok a → x ≡ Ok a
 data_held {A = A} (Ok y) a e = ap (λ z. Ok z) (ok_same e)
   where
@@ -55,6 +57,7 @@ data_held {A = A} (Err r) a e = absurd (err_ok e)
     err_ok : ◌≡◌ {A = Result A Cause} (Err (no_data r)) (Ok a) → ⊥
     err_ok e = cc
 
+-- a step that needs a value and was not refused has that value
 pub option_told : {A : Type 0} (x : Option A) (c : Cause) (a : A) → or_cause x c ≡ Ok a → x ≡ Some a
 option_told {A = A} (Some y) c a e = ap (λ z. Some z) (ok_same e)
   where
@@ -78,5 +81,6 @@ tested {A = A} false new out c e = absurd (err_ok e)
     err_ok : ◌≡◌ {A = Result A Cause} (Err c) (Ok out) → ⊥
     err_ok e = cc
 
+-- answers that were not refused are the same only if their values are
 pub ok_same : {A : Type 0} (a b : A) → ◌≡◌ {A = Result A Cause} (Ok a) (Ok b) → a ≡ b
 ok_same a b e = cc

@@ -22,6 +22,7 @@ change_step f xs ys i x y h g k e =
     drop-set-lt (i + 1) xs i y (omega arith) in
     rw (e, t, r, d, v) (append_assoc (take i xs) (f x ∷ []) (map f (drop (i + 1) xs)))
 
+-- at the end no member is left to change, and the list is the whole result
 pub change_end : {A : Type 0} (f : A → A) (xs all : List A) (i : ℕ) → length xs ≤ i
     → take i xs ++ map f (drop i xs) ≡ all → xs ≡ all
 change_end f xs all i h e =

@@ -30,12 +30,14 @@ field_of l = l.field
 
 -- ---- the last field of a name
 
+-- whether some field has a name is the same with and without the places of the fields
 pub any_map : (tag : Tag) (k : In) (ls : List Located)
     → list_any (λ (m : Located). is_named tag k m.field) ls
     ≡ list_any (is_named tag k) (map field_of ls)
 any_map tag k [] = refl
 any_map tag k (l ∷ ls) = ap (λ b. is_named tag k l.field || b) (any_map tag k ls)
 
+-- one test or another holds where the second does
 pub or_true : (b : Bool) → (b || true) ≡ true
 or_true true = refl
 or_true false = refl
@@ -91,6 +93,7 @@ replaced_set tag k v (g ∷ gs) (suc i) f h e =
     let p = replaced_set tag k v gs i f (h.0, t) e in
     (rw p.0 (or_true (is_named tag k g)), rw p.0 (ap (λ fs. g ∷ fs) p.1))
 
+-- the index of the last field of a name is below the number of fields
 pub index_below : (tag : Tag) (k : In) (fs : List Field) (i : ℕ) → IsLastAt tag k fs i
     → i < length fs
 index_below tag k [] i h = absurd h.0
@@ -132,17 +135,20 @@ fields_by (Ok order) bytes read e =
     ok_same : (a : Read) → ◌≡◌ {A = Result Read Fault} (Ok a) (Ok read) → a ≡ read
     ok_same a e = cc
 
+-- the located fields without their places are those that were read
 pub fields_read : (bytes : List ℕ) (read : Read) → reading bytes ≡ Ok read
     → map field_of (located bytes) ≡ read.fields
 unfolding reading located trace
 fields_read bytes read e = fields_by (header bytes) bytes read e
 
+-- where reading stops, the search of a field fails with the error that the stop becomes
 pub find_fault : (s : Stop) (bytes : List ℕ) (tag : Tag) (k : In) (e : Error)
     → ReadsTo (Err s) (reading bytes) → Becomes s e → Fails e (find_answer bytes tag k)
 unfolding find_answer
 find_fault stop.OutOfMemory bytes tag k e h b = rw b refl
 find_fault (stop.Fault fault) bytes tag k e h b = rw (b, h) refl
 
+-- where no field that was read has the name, the search finds no such field
 pub find_missing : (bytes : List ℕ) (tag : Tag) (k : In) (read : Read) → reading bytes ≡ Ok read
     → All (λ f. is_named tag k f ≡ false) read.fields → find_answer bytes tag k ≡ Err no_field
 unfolding find_answer
@@ -151,6 +157,7 @@ find_missing bytes tag k read e h =
     (subst (λ fs. All (Unnamed tag k) fs) (sym (fields_read bytes read e)) h) in
     rw (e, n) refl
 
+-- the last field of a name is found with the entry at its index among the places
 pub find_found : (bytes : List ℕ) (tag : Tag) (k : In) (read : Read) (i : ℕ) (place : EntryPlace)
     (entries : List EntryPlace) → reading bytes ≡ Ok read → IsLastAt tag k read.fields i
     → entries ≡ map entry_of (located bytes) → slice_get entries i ≡ Some place
@@ -167,6 +174,7 @@ find_found bytes tag k read i place entries e h w g =
     some_same : (x : EntryPlace) → ◌≡◌ {A = Option EntryPlace} (Some x) (Some place) → x ≡ place
     some_same x e = cc
 
+-- the index of the last field of a name is below the number of places, too
 pub entry_below : (bytes : List ℕ) (tag : Tag) (k : In) (read : Read) (i : ℕ)
     (entries : List EntryPlace) → reading bytes ≡ Ok read → IsLastAt tag k read.fields i
     → entries ≡ map entry_of (located bytes) → i < length entries
@@ -202,6 +210,7 @@ header_by (Ok order) bytes read e =
     named Big = refl
     named Little = refl
 
+-- data that were read have a good header with the byte order that was read
 pub header_named : (bytes : List ℕ) (read : Read) → reading bytes ≡ Ok read
     → header bytes ≡ Ok (order_named read.little)
 unfolding reading

@@ -11,6 +11,7 @@ use Rattle.exif_edit_base.specs.Patches.{FitsIn, inside, patched, put_at, zeros_
 use Rattle.exif_edit_base.specs.declared.patch.Patch.{Patch}
 use Rattle.exif_edit_base.specs.declared.patch.Span.{Span}
 
+-- where two tests hold together, each of them holds
 pub split : (a b : Bool) → (a && b) ≡ true → (a ≡ true) × (b ≡ true)
 split true b e = (refl, e)
 split false b e = absurd (false≢true e)
@@ -22,10 +23,12 @@ pub put_before : (place : ℕ) (text bytes : List ℕ) (i : ℕ) → place + len
     → i < place → get_or (put_at place text bytes) i 0 ≡ get_or bytes i 0
 put_before place text bytes i h l = grind (arith, common_steps)
 
+-- a byte behind a text that was put is as it was
 pub put_behind : (place : ℕ) (text bytes : List ℕ) (i : ℕ) → place + length text ≤ length bytes
     → place + length text ≤ i → get_or (put_at place text bytes) i 0 ≡ get_or bytes i 0
 put_behind place text bytes i h l = grind (arith, common_steps)
 
+-- a byte that zeros were put over is zero
 pub put_zero : (place len : ℕ) (bytes : List ℕ) (i : ℕ) → place + len ≤ length bytes → place ≤ i
     → i < place + len → get_or (put_at place (replicate len 0) bytes) i 0 ≡ 0
 put_zero place len bytes i h l m = grind (arith, common_steps)
@@ -36,6 +39,7 @@ pub put_on : (place : ℕ) (text bytes : List ℕ) (i : ℕ) → place + length 
     → i < place + length text → get_or (put_at place text bytes) i 0 ≡ get_or text (i - place) 0
 put_on place text bytes i h l m = grind (arith, common_steps)
 
+-- a text that is put within bytes leaves them as long as they were
 pub length-put_at : (place : ℕ) (text bytes : List ℕ) → place + length text ≤ length bytes
     → length (put_at place text bytes) ≡ length bytes
 length-put_at place text bytes h = grind (arith, common_steps)
@@ -55,6 +59,7 @@ fit_behind p ps bytes h =
     (sym (length-put_at p.place p.text bytes (All-head (FitsIn (length bytes)) p ps h)))
     (All-tail (FitsIn (length bytes)) p ps h)
 
+-- patches that lie in bytes leave them as long as they were
 pub length-patched : (ps : List Patch) (bytes : List ℕ) → All (FitsIn (length bytes)) ps
     → length (patched ps bytes) ≡ length bytes
 length-patched [] bytes h = refl
@@ -105,6 +110,7 @@ inside_place i s e =
     let b = p.1 in
     (grind (arith, nat_tests), grind (arith, nat_tests))
 
+-- a place that is not one of a span is before it or behind it
 pub outside_place : (i : ℕ) (s : Span) → inside i s ≡ false → (i < s.place) ⊎ (s.place + s.len ≤ i)
 outside_place i s e = by_tests (nat_le s.place i) (nat_lt i (s.place + s.len)) refl refl e
   where
@@ -136,6 +142,7 @@ abbrev pub AllWithin : ℕ → List Span → Type 0
 AllWithin total [] = Unit {0}
 AllWithin total (s ∷ ss) = (s.place + s.len ≤ total) × AllWithin total ss
 
+-- with zeros over spans in the data, each byte of a span is zero and every other is as it was
 pub zeroed_at : (ss : List Span) (bytes : List ℕ) (i : ℕ) → AllWithin (length bytes) ss
     → get_or (patched (map zeros_over ss) bytes) i 0
     ≡ (if list_any (inside i) ss then 0 else get_or bytes i 0)

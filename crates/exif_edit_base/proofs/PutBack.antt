@@ -11,6 +11,7 @@ use Rattle.exif_edit_base.proofs.PatchSteps.{fit_behind, fit_in, length-put_at}
 
 -- ---- one patch
 
+-- as many bytes are taken from a place as are asked for, if they lie in the data
 pub length-bytes_at : (n place : ℕ) (bytes : List ℕ) → place + n ≤ length bytes
     → length (bytes_at n bytes place) ≡ n
 length-bytes_at n place bytes h = grind (arith, common_steps)
@@ -64,6 +65,7 @@ taken_fits n p bytes e h =
 
 -- ---- all of them, there and back
 
+-- patches that lie in bytes lie there still once they are exchanged with what stood there
 pub swapped_fit : (ps : List Patch) (bytes : List ℕ) → All (FitsIn (length bytes)) ps
     → All (FitsIn (length bytes)) (swapped ps bytes)
 swapped_fit [] bytes h = All-nil (FitsIn (length bytes))
@@ -75,6 +77,7 @@ swapped_fit (p ∷ ps) bytes h =
     (fit_in (length new) (length bytes) (swapped ps new) (length-put_at p.place p.text bytes fits)
     (swapped_fit ps new (fit_behind p ps bytes h)))
 
+-- patches that were exchanged and are put back give the bytes from before
 pub bytes_put_back : (ps : List Patch) (bytes : List ℕ) → All (FitsIn (length bytes)) ps
     → put_back (swapped ps bytes) (patched ps bytes) ≡ bytes
 bytes_put_back [] bytes h = refl
@@ -83,6 +86,7 @@ bytes_put_back (p ∷ ps) bytes h =
     (bytes_put_back ps (put_at p.place p.text bytes) (fit_behind p ps bytes h))
     ∙ put_twice p.place p.text bytes (All-head (FitsIn (length bytes)) p ps h)
 
+-- patches that are exchanged, and exchanged back, are as they were
 pub patches_put_back : (ps : List Patch) (bytes : List ℕ) → All (FitsIn (length bytes)) ps
     → swapped_back (swapped ps bytes) (patched ps bytes) ≡ ps
 patches_put_back [] bytes h = refl
@@ -116,6 +120,7 @@ put_there : (xs : List Patch) (i : ℕ) (x : Patch) (bytes new : List ℕ) → x
     → new ≡ put_at x.place x.text bytes
 put_there xs i x bytes new g f = f ∙ ap (λ q. put_at q.place q.text bytes) (sym g)
 
+-- with one patch put, those that are left still make the same bytes
 pub patched_on : (xs ys : List Patch) (i : ℕ) (x y : Patch) (bytes new all : List ℕ)
     → i < length xs → x ≡ get_or xs i x → ys ≡ set xs i y
     → new ≡ put_at (get_or xs i x).place (get_or xs i x).text bytes
@@ -126,6 +131,7 @@ patched_on xs ys i x y bytes new all h g e f k =
     let n = put_there xs i x bytes new g f in
     rw (e, r, n) (sym (ap (λ ps. patched ps bytes) (left_step xs i x h g)) ∙ k)
 
+-- with one patch exchanged, those done and what the rest becomes are still the same list
 pub swapped_on : (xs ys : List Patch) (i : ℕ) (x y : Patch) (bytes new : List ℕ)
     (all : List Patch)
     → i < length xs → x ≡ get_or xs i x → ys ≡ set xs i y → y ≡ taken bytes (get_or xs i x)
@@ -163,6 +169,7 @@ swapped_last (p ∷ ps) x bytes =
     ap (λ xs. taken xs p ∷ swapped_back (ps ++ x ∷ []) bytes) (back_last ps x bytes)
     ∙ ap (λ qs. taken (put_back ps new) p ∷ qs) (swapped_last ps x bytes)
 
+-- with one patch put back, those in front of it still give the same bytes
 pub back_on : (xs ys : List Patch) (i : ℕ) (x y : Patch) (bytes new all : List ℕ) → i < length xs
     → x ≡ get_or xs i x → ys ≡ set xs i y
     → new ≡ put_at (get_or xs i x).place (get_or xs i x).text bytes
@@ -173,6 +180,7 @@ back_on xs ys i x y bytes new all h g e f k =
     (sym (back_last (take i xs) x bytes)
     ∙ (sym (ap (λ ps. put_back ps bytes) (front_on xs i x h g)) ∙ k))
 
+-- with one patch exchanged back, what those in front become and those done are the same list
 pub swapped_back_on : (xs ys : List Patch) (i : ℕ) (x y : Patch) (bytes new : List ℕ)
     (all : List Patch) → i < length xs
     → x ≡ get_or xs i x → ys ≡ set xs i y → y ≡ taken bytes (get_or xs i x)

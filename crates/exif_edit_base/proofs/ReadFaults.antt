@@ -21,6 +21,7 @@ fault_same TooManyDirectories TooManyDirectories = refl
 fault_same TooManyEntries TooManyEntries = refl
 fault_same _ _ = refl
 
+-- the derived test of faults and that of the specification answer the same of two lists
 pub faults_same : (xs ys : List Fault) → pointwise eq-value.it xs ys ≡ pointwise fault_eq xs ys
 faults_same [] [] = refl
 faults_same [] (y ∷ ys) = refl

@@ -23,6 +23,7 @@ unshown (Refused fault) = ([], [])
 unshown (Whole fields) = (fields, [])
 unshown (Partial fields faults) = (fields, faults)
 
+-- from an answer that shows fields and faults, these are taken out again as they were
 pub unshown_shown : (fields : List Field) (faults : List Fault)
     → ◌≡◌ {A = List Field × List Fault} (unshown (shown fields faults)) (fields, faults)
 unshown_shown fields [] = refl
@@ -33,6 +34,7 @@ is_refused (Refused fault) = true
 is_refused (Whole fields) = false
 is_refused (Partial fields faults) = false
 
+-- an answer that shows fields and faults is no refusal
 pub not_refused : (fields : List Field) (faults : List Fault)
     → is_refused (shown fields faults) ≡ false
 not_refused fields [] = refl
@@ -95,6 +97,7 @@ fault_by (Ok order) bytes fault e =
     let nodes = ordered_trace (number_of order) bytes in
     absurd (false≢true (sym (not_refused (fields_of nodes) (faults_of nodes)) ∙ ap is_refused e))
 
+-- a parser that says the lenient answer and the byte order says the reading of the data
 pub says_reads : (r : Result Parsed Stop) (bytes : List ℕ) → Says r (raw_answer true None bytes)
     → SaysOrder r bytes → ReadsTo r (reading bytes)
 unfolding raw_answer reading
@@ -112,6 +115,7 @@ passed true fault r order e = absurd (err_ok e)
     err_ok e = cc
 passed false fault r order e = (refl, e)
 
+-- data with a good header have 8 bytes at least, and fewer than 2^32
 pub header_room : (bytes : List ℕ) (order : Order) → header bytes ≡ Ok order
     → (8 ≤ length bytes) × (length bytes < 2 ^ 32)
 header_room bytes order e =

@@ -55,6 +55,7 @@ held_by (Err r) text e = absurd (false≢true e)
 
 -- ---- shifted patches
 
+-- patches that lie in data lie in the file once they are moved to the place of the data
 pub shifted_fit : (ps : List Patch) (place n m : ℕ) → place + n ≤ m → All (FitsIn n) ps
     → All (FitsIn m) (map (shifted place) ps)
 shifted_fit [] place n m h f = All-nil (FitsIn m)
@@ -63,6 +64,7 @@ shifted_fit (p ∷ ps) place n m h f =
     All-cons (FitsIn m) (shifted place p) (map (shifted place) ps) (omega arith)
     (shifted_fit ps place n m h (All-tail (FitsIn n) p ps f))
 
+-- patches that were moved to the place of the data touch no byte outside of the data
 pub shifted_miss : (ps : List Patch) (place n i : ℕ) → (i < place) ⊎ (place + n ≤ i)
     → All (FitsIn n) ps → All (Misses i) (map (shifted place) ps)
 shifted_miss [] place n i h f = All-nil (Misses i)
@@ -104,6 +106,7 @@ searched_serves file old ps place e =
       good = found_serves (serves file old ps) (standing_places file old) place f;
     }
 
+-- where the test of the place that lengths tell holds, the data have room there and it serves
 pub told_serves : (file old : List ℕ) (ps : List Patch) (place : ℕ)
     → serves_as_told file old ps ≡ true → told_place file ≡ place → Serves file old ps place
 told_serves file old ps place h e =
@@ -147,6 +150,7 @@ was_placed edit file old ps qs h g s =
           ∙ held_by (container_answer (patched (map (shifted r.0) ps) file)) (patched ps old) b.1;
     }
 
+-- answered patches of a file are those of its data, at a place that serves
 pub file_placed_by : (edit : Edit) (file : List ℕ) (qs : List Patch) → in_file edit file ≡ Ok qs
     → WasPlaced edit file qs
 unfolding in_file
@@ -168,10 +172,12 @@ placed_fit edit file qs stays w =
     (shifted_fit w.patches w.place (length w.old) (length file) (omega arith)
     (stays w.old w.patches w.edited))
 
+-- the patches of an edit that stays in its data lie in the file
 pub file_fits : (edit : Edit) (file : List ℕ) (qs : List Patch) → StaysIn edit
     → in_file edit file ≡ Ok qs → All (FitsIn (length file)) qs
 file_fits edit file qs stays e = placed_fit edit file qs stays (file_placed_by edit file qs e)
 
+-- an edit that stays in its data edits a file where they stand, and all else is as it was
 pub file_sound : (edit : Edit) (file : List ℕ) (qs : List Patch) → StaysIn edit
     → in_file edit file ≡ Ok qs → IsEditedIn edit file (patched qs file)
 file_sound edit file qs stays e =
@@ -191,6 +197,7 @@ file_sound edit file qs stays e =
           (shifted_miss w.patches w.place (length w.old) i h (stays w.old w.patches w.edited)));
     }
 
+-- where all fields of a file are erased, its data are cleared with the same patches
 pub clear_file_answered : (file : List ℕ) (qs : List Patch) → clear_file_patches file ≡ Ok qs
     → in_file clear_patches file ≡ Ok qs
 unfolding clear_file_patches

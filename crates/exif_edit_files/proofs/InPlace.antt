@@ -56,6 +56,7 @@ new_there file old new ps place s n =
     ∙ (ap (λ i. bytes_at i (put_at place (patched ps old) file) place) (sym l)
     ∙ text_there place (patched ps old) file h)
 
+-- patches that were put where data stand serve if the file holds what stands there then
 pub exchanged_serves : (file old new : List ℕ) (ps : List Patch) (place : ℕ) (b : Bool)
     → Stands file old ps place
     → new ≡ put_at place (patched ps (bytes_at (length old) file place)) file
@@ -79,6 +80,7 @@ exchanged_fit file old ps qs place s q =
     let e : qs ≡ swapped ps old = q ∙ ap (λ xs. swapped ps xs) s.stood in
     rw e (swapped_fit ps old s.fit)
 
+-- patches that are put and put back leave the file, and themselves, as they were
 pub undone : (file old new back : List ℕ) (ps qs rs : List Patch) (place : ℕ)
     → Stands file old ps place
     → new ≡ put_at place (patched ps (bytes_at (length old) file place)) file
@@ -108,6 +110,7 @@ undone file old new back ps qs rs place s n q b r =
 
 -- ---- one place after another
 
+-- a try that came out well has put the patches, at a place that serves
 pub tried_served : (b : Bool) (file f old new : List ℕ) (ps qs left : List Patch) (place : ℕ)
     → b ≡ true → f ≡ file → qs ≡ ps → Tries (Ok b) f old qs place new left
     → (serves file old ps place ≡ true) × (new ≡ patched (map (shifted place) ps) file)
@@ -116,6 +119,7 @@ tried_served true file f old new ps qs left place e g q t =
     (subst (λ rs. Tries (Ok true) f old rs place new left) q t)
 tried_served false file f old new ps qs left place e g q t = absurd (false≢true e)
 
+-- a try that fails leaves the file and the patches as they were, for its place does not serve
 pub tried_else : (b : Bool) (file f old new : List ℕ) (ps qs left : List Patch) (place : ℕ)
     → b ≡ false → f ≡ file → qs ≡ ps → Tries (Ok b) f old qs place new left
     → (serves file old ps place ≡ false) × (new ≡ file) × (left ≡ ps)
@@ -124,18 +128,21 @@ tried_else false file f old new ps qs left place e g q t =
     (subst (λ rs. Tries (Ok false) f old rs place new left) q t)
 tried_else true file f old new ps qs left place e g q t = absurd (false≢true (sym e))
 
+-- the file with the patches at the place that was found is the answer of the search
 pub searched_put : (file old new : List ℕ) (ps : List Patch) (place : ℕ)
     → search_answer file old ps ≡ Ok place → new ≡ patched (map (shifted place) ps) file
     → searched_file file old ps ≡ Ok new
 searched_put file old new ps place h n =
     ap (λ x. x >>= λ p. Ok (patched (map (shifted p) ps) file)) h ∙ ap (λ xs. Ok xs) (sym n)
 
+-- where the search is refused, the file is, for the same cause
 pub searched_none : (file old : List ℕ) (ps : List Patch) (c : Cause)
     → search_answer file old ps ≡ Err c → searched_file file old ps ≡ Err c
 searched_none file old ps c h = ap (λ x. x >>= λ p. Ok (patched (map (shifted p) ps) file)) h
 
 -- ---- the place that was answered
 
+-- the file with the patches at the place that was answered is the file with them placed
 pub placed_put : (file old new : List ℕ) (ps : List Patch) (place : ℕ)
     → place_answer file old ps ≡ Ok place → new ≡ patched (map (shifted place) ps) file
     → placed_file file old ps ≡ Ok new
@@ -158,6 +165,7 @@ placed_searched file old ps h =
 
 -- ---- the whole
 
+-- where the data are edited, what ends as their patches are placed ends as the edit of the file
 pub file_put : (edit : Edit) (file old new : List ℕ) (ps : List Patch)
     (x : Result (Unit {0}) Error) → of_container (container_answer file) ≡ Ok old
     → edit old ≡ Ok ps → Edits x file new (placed_file file old ps)
@@ -166,6 +174,7 @@ file_put edit file old new ps x h g e =
     subst (λ y. Edits x file new (y >>= λ qs. Ok (patched qs file)))
     (sym (file_placed edit file old ps (placed file old ps) h g refl)) e
 
+-- where the patches of a file are refused, the edited file is, for the same cause
 pub file_refused : (edit : Edit) (file : List ℕ) (c : Cause) → in_file edit file ≡ Err c
     → edited_file (in_file edit) file ≡ Err c
 file_refused edit file c h = ap (λ x. x >>= λ ps. Ok (patched ps file)) h

@@ -56,6 +56,7 @@ piece_answered file old rest ps p piece =
     let good = serves_told file old ps p.place told (omega arith) (stands_told file old rest ps p) in
     place_as_told file old ps p.place good (sym told)
 
+-- what edits a file that is read once edits it with the same patches where it is held
 pub edited_alike : (edit : Edit) (file : List ℕ) → IsEditedAlike edit file
 edited_alike edit file qs s stays e =
     let t = streamed_at edit file qs s stays e in
@@ -84,6 +85,7 @@ told_same file old rest ps s piece fit =
       below = subst (λ i. i + length old ≤ length file) (sym q.told) q.below;
     }
 
+-- where data stand in one piece, patches that lie in them are placed where lengths tell
 pub piece_told : (file old data' rest : List ℕ) (ps : List Patch) → length file < 2 ^ 64
     → container_answer file ≡ Ok old → piece_in file ≡ found data' rest
     → All (FitsIn (length old)) ps → PieceTold file old data' rest ps
@@ -124,6 +126,7 @@ some_none a e = cc
 abbrev place_by : List ℕ → Answer → Option ℕ
 place_by file x = elim x [ Ok piece ↦ Some (place_before file piece.0 piece.1) | Err r ↦ None ]
 
+-- where lengths tell a place, it is the answer for patches in the data, which have room there
 pub piece_stands : (file old : List ℕ) (ps : List Patch) (place : ℕ) → length file < 2 ^ 64
     → container_answer file ≡ Ok old → All (FitsIn (length old)) ps → Some place ≡ piece_place file
     → PieceStands file old ps place

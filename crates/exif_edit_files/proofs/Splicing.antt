@@ -12,6 +12,7 @@ use Rattle.exif_containers.proofs.LawsJpeg.{is_a_stream, stream_is_answered}
 use Rattle.exif_containers.proofs.LawsWebp.{file_is_answered, is_a_file}
 use Rattle.exif_edit_files.specs.Streams.{Splices}
 
+-- a refusal is never data that were found
 pub refused_found : {Y : Type 0} (r : Refusal) (p rest : List ℕ)
     → ◌≡◌ {A = Answer} (refused r) (found p rest) → Y
 refused_found r p rest e = absurd (err_ok e)
@@ -142,6 +143,7 @@ pub record JpegAround (file p rest : List ℕ) : Type 0 where
   pub others : (new : List ℕ) → length new ≡ length p
       → jpeg_answer (255 ∷ 216 ∷ (front ++ (new ++ rest))) ≡ found new rest
 
+-- a JPEG stream with data stands around them, and others as long are answered in their place
 pub jpeg_around : (file p rest : List ℕ) → jpeg_answer file ≡ found p rest → JpegAround file p rest
 jpeg_around file p rest e =
     let t = jpeg_tree file p rest e in
@@ -189,6 +191,7 @@ jpeg_around file p rest e =
         (if c == 217 then Some (Err no_exif_in_jpeg) else brought_says c (exif high low new)))
         (Some (Ok new))) (sym h) refl
 
+-- the data of a JPEG stream can be replaced where they stand, by others as long
 pub jpeg_splices : Splices jpeg_answer
 jpeg_splices file p rest e =
     let a = jpeg_around file p rest e in
@@ -256,6 +259,7 @@ pub record WebpAround (file p rest : List ℕ) : Type 0 where
   pub others : (new : List ℕ) → length new ≡ length p
       → webp_answer (webp.print_header size ++ (front ++ (new ++ rest))) ≡ found new rest
 
+-- a WebP file with data stands around them, and others as long are answered in their place
 pub webp_around : (file p rest : List ℕ) → webp_answer file ≡ found p rest → WebpAround file p rest
 webp_around file p rest e =
     let t = webp_tree file p rest e in
@@ -297,6 +301,7 @@ webp_around file p rest e =
         ∙ ap (λ xs. webp.print_header size ++ xs)
         (sym (append_assoc (flat_map webp.print_chunk cs) (c.name ++ c.size) (new ++ rest)))
 
+-- the data of a WebP file can be replaced where they stand, by others as long
 pub webp_splices : Splices webp_answer
 webp_splices file p rest e =
     let a = webp_around file p rest e in

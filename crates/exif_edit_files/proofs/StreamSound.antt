@@ -71,6 +71,7 @@ format_webp a b c d bytes =
     length-take 4084 bytes in omega arith in
     rw (no_heif a b c d (87 ∷ 69 ∷ 66 ∷ 80 ∷ take 4084 bytes) l) refl
 
+-- of fewer than 2^64 bytes the first 2^64 - 1 are all of them
 pub take_small : (bytes : List ℕ) → length bytes < 2 ^ 64 → take (2 ^ 64 - 1) bytes ≡ bytes
 take_small bytes h = take_all (2 ^ 64 - 1) bytes (omega arith)
 
@@ -133,6 +134,7 @@ webp_piece file p rest e =
           ∙ webp_container a.size (a.front ++ (new ++ rest)) new rest a.four (a.others new l);
     }
 
+-- a file in which a piece was found in some format stands around the piece
 pub piece_by : (x : Option Format) (file p rest : List ℕ) → piece_as x file ≡ found p rest
     → Around file p rest
 piece_by (Some Jpeg) file p rest e = jpeg_piece file p rest e
@@ -141,6 +143,7 @@ piece_by (Some Tiff) file p rest e = refused_found whole_file p rest e
 piece_by (Some Heif) file p rest e = refused_found whole_file p rest e
 piece_by None file p rest e = refused_found unknown_format p rest e
 
+-- a file in which a piece was found in its own format stands around the piece
 pub piece_around : (file p rest : List ℕ) → piece_in file ≡ found p rest → Around file p rest
 unfolding piece_in
 piece_around file p rest e = piece_by (format_in (take 4096 file)) file p rest e
@@ -165,6 +168,7 @@ put_front front p rest text place h =
     (ap (λ xs. take place p ++ xs) (sym (append_assoc text (drop n p) rest))
     ∙ sym (append_assoc (take place p) (text ++ drop n p) rest)))
 
+-- patches that were moved behind a front change what follows it as they change the data alone
 pub patched_front : (ps : List Patch) (front p rest : List ℕ) → All (FitsIn (length p)) ps
     → patched (map (shifted (length front)) ps) (front ++ (p ++ rest)) ≡ front
     ++ (patched ps p ++ rest)
@@ -176,6 +180,7 @@ patched_front (q ∷ qs) front p rest h =
 
 -- ---- what an answered edit promises
 
+-- answered patches of a file that is read once are those of its piece, moved to its place
 pub record WasStreamed (edit : Edit) (file : List ℕ) (qs : List Patch) : Type 0 where
   pub old : List ℕ
   pub rest : List ℕ
@@ -212,6 +217,7 @@ pub record PieceAt (file old rest : List ℕ) (ps : List Patch) : Type 0 where
   pub holds : container_answer (patched (map (shifted place) ps) file) ≡ Ok (patched ps old)
   pub stood : bytes_at (length old) file place ≡ old
 
+-- data in one piece stand where lengths tell, and patches that lie in them serve there
 pub piece_at : (file old rest : List ℕ) (ps : List Patch) → length file < 2 ^ 64
     → piece_in file ≡ found old rest → All (FitsIn (length old)) ps → PieceAt file old rest ps
 piece_at file old rest ps s piece fit =
@@ -242,6 +248,7 @@ pub record StreamedAt (edit : Edit) (file : List ℕ) (qs : List Patch) : Type 0
   pub at : PieceAt file was.old was.rest was.patches
   pub are : qs ≡ map (shifted at.place) was.patches
 
+-- answered patches of a file that is read once are those of its data, where these stand
 pub streamed_at : (edit : Edit) (file : List ℕ) (qs : List Patch) → length file < 2 ^ 64
     → StaysIn edit → in_stream edit file ≡ Ok qs → StreamedAt edit file qs
 streamed_at edit file qs s stays e =
@@ -255,6 +262,7 @@ streamed_at edit file qs s stays e =
       are = w.are ∙ ap (λ i. map (shifted i) w.patches) p.told;
     }
 
+-- in a file that is read once an edit edits the data where they stand, and nothing else
 pub stream_sound : (edit : Edit) (file : List ℕ) (qs : List Patch) → length file < 2 ^ 64
     → StaysIn edit → in_stream edit file ≡ Ok qs → IsEditedIn edit file (patched qs file)
 stream_sound edit file qs s stays e =

@@ -28,6 +28,7 @@ use Rattle.exif_edit_files.proofs.StreamSound.{piece_around, piece_by, stream_so
 
 -- ---- what is found in a file that is read once
 
+-- what was read of a JPEG stream of fewer than 2^64 bytes is the piece that it holds
 pub jpeg_told : {X : Type 0} (items : X → List ℕ) (result : Result X Failure)
     (format : Option Format) (a b : Option (List ℕ)) → format ≡ Some Jpeg
     → IfOk result
@@ -45,6 +46,7 @@ jpeg_told items (Ok v) format (Some xs) (Some ys) is h = λ s.
     let j : jpeg_answer xs ≡ found (items v) h.0 = ap jpeg_answer (sym (take_small xs s)) ∙ h.1 in
     rw (is, y) j
 
+-- an error on a JPEG stream of fewer than 2^64 bytes is one on the piece that it holds
 pub jpeg_refuses : {X : Type 0} (result : Result X Failure) (format : Option Format)
     (a : Option (List ℕ)) → format ≡ Some Jpeg
     → IfErr result (λ e. IfSome a (λ xs. Fails e (jpeg_answer (take (2 ^ 64 - 1) xs))))
@@ -128,6 +130,7 @@ counted zs (Some ws) behind h end most small = by (cases_lt behind (2 ^ 64 - 1))
         omega (arith, h.0)
     by (inr le) = omega (arith, h.0)
 
+-- data that were found, with so many bytes counted behind them, stand so in the file
 pub piece_stands : (n len behind : ℕ) (block data' : List ℕ) (format : Option Format)
     (a b left mid after : Option (List ℕ)) → HasHead n block format a b left
     → IfSome a (λ file. length file ≡ len)
@@ -162,6 +165,7 @@ piece_stands n len behind block data' format a b left mid after head told f skip
         stands_by xs zs data' behind len format c e l
         (counted zs after behind skip end most (omega arith))
 
+-- the length of a file less the data and what is behind them is the place of the data
 pub piece_found : (a : Option (List ℕ)) (data' : List ℕ) (behind len used place : ℕ)
     → IfSome a (λ file. Stands file data' behind len)
     → used ≡ min (behind + length data') (2 ^ 64 - 1) → used ≤ len → place ≡ len - used
@@ -175,6 +179,7 @@ piece_found (Some file) data' behind len used place h u l p s =
     let z = h.fits in
     (h.rest, h.piece, omega arith)
 
+-- a file is never shorter than its data and what is behind them
 pub piece_short : (X : List ℕ → Type 0) (a : Option (List ℕ)) (data' : List ℕ) (behind len used : ℕ)
     → IfSome a (λ file. Stands file data' behind len)
     → used ≡ min (behind + length data') (2 ^ 64 - 1) → len < used → IfSome a X
@@ -184,6 +189,7 @@ piece_short X (Some file) data' behind len used h u l =
     let z = h.fits in
     absurd (omega arith)
 
+-- an error on the head of a file and what is behind it is one on the piece of the file
 pub piece_refused : (e : Failure) (n len : ℕ) (block : List ℕ) (format : Option Format)
     (a b left : Option (List ℕ)) → HasHead n block format a b left
     → IfSome a (λ file. length file ≡ len)
@@ -243,6 +249,7 @@ stream_made : (edit : Edit) (file old rest : List ℕ) (x : Result (List Patch) 
 unfolding in_stream
 stream_made edit file old rest x h g = rw (h, g) refl
 
+-- the patches of the data, moved to the place of the data, are the answer of the edit
 pub stream_edited : (edit : Edit) (a : Option (List ℕ)) (old : List ℕ) (place : ℕ)
     (ps qs : List Patch)
     → IfSome a (λ file. (rest : List ℕ) × (piece_in file ≡ found old rest)
@@ -254,6 +261,7 @@ stream_edited edit (Some file) old place ps qs h g e =
     stream_made edit file old h.0 (Ok ps) h.1 g
     ∙ ap (λ x. Ok x) (ap (λ i. map (shifted i) ps) (sym h.2) ∙ sym e)
 
+-- an error of the edit of the data is one of the edit of the file
 pub stream_refused : (edit : Edit) (a : Option (List ℕ)) (old : List ℕ) (place : ℕ) (e : Error)
     → IfSome a (λ file. (rest : List ℕ) × (piece_in file ≡ found old rest)
     × (place ≡ place_before file old rest))
@@ -267,6 +275,7 @@ stream_refused edit (Some file) old place e h g = by_cause (cause_of e) refl g
     by_cause None is k = rw k tt
     by_cause (Some c) is k = stream_made edit file old h.0 (Err c) h.1 k
 
+-- where the bytes of a file that is read once are told, an answered edit edits its data alone
 pub stream_promised : (edit : Edit) (a : Option (List ℕ)) (len : ℕ) (qs : List Patch) → StaysIn edit
     → len < 2 ^ 64 → IfSome a (λ file. length file ≡ len)
     → IfSome a (λ file. in_stream edit file ≡ Ok qs)
@@ -275,6 +284,7 @@ stream_promised edit None len qs stays s l h = tt
 stream_promised edit (Some file) len qs stays s l h =
     stream_sound edit file qs (omega arith) stays h
 
+-- a block that was read up to its end, or to the end of the source, is the head of the source
 pub has_head : (n : ℕ) (block : List ℕ) (format : Option Format) (a b left : Option (List ℕ))
     → Consumes a b (take n block) → n ≤ length block → length block ≡ 4096
     → (n < length block → IsAtEnd b) → format ≡ format_in (take n block)
@@ -282,6 +292,7 @@ pub has_head : (n : ℕ) (block : List ℕ) (format : Option Format) (a b left :
 has_head n block format a b left t bound room end f h =
     record { taken = t; bound = bound; room = room; end = end; chosen = f; at_hand = h }
 
+-- patches that lie in data and were moved to their place lie in a file that has room for them
 pub all_placed : (ps qs : List Patch) (place : ℕ) (old : List ℕ) (len : ℕ)
     → place + length old ≤ len → All (FitsIn (length old)) ps → qs ≡ map (shifted place) ps
     → All (FitsIn len) qs

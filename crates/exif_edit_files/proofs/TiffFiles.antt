@@ -46,13 +46,16 @@ abbrev pub StaysTiff : Edit → Type 0
 StaysTiff edit =
     (old : List ℕ) (ps : List Patch) → edit old ≡ Ok ps → begins_tiff (patched ps old) ≡ true
 
+-- data in which a value was set begin as TIFF data do
 pub set_tiff : (tag : Tag) (k : In) (value : Value) → StaysTiff (λ old. set_patches old tag k value)
 set_tiff tag k value old ps e =
     reading_begins (patched ps old) _ (was_set old ps tag k value e).reads_new
 
+-- data of which the places were erased begin as TIFF data do
 pub erase_tiff : StaysTiff erase_patches
 erase_tiff old ps e = reading_begins (patched ps old) _ (was_erased old ps e).reads_new
 
+-- data of which a field was erased begin as TIFF data do
 pub field_tiff : (tag : Tag) (k : In) → StaysTiff (λ old. field_patches old tag k)
 field_tiff tag k old ps e =
     reading_begins (patched ps old) _
@@ -108,6 +111,7 @@ tiff_placed file ps h k =
     ap (λ x. x >>= λ place. Ok (map (shifted place) ps)) (place_as_told file file ps 0 s t)
     ∙ ap (λ qs. Ok qs) (shifted_none ps)
 
+-- an edit that leaves TIFF data such edits a file of them as it edits them alone
 pub tiff_in_file : (edit : Edit) (file : List ℕ) → StaysTiff edit → begins_tiff file ≡ true
     → edit file ≡ in_file edit file
 unfolding in_file

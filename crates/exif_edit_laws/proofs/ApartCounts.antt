@@ -21,15 +21,18 @@ pub holders : ℕ → List Stretch → ℕ
 holders i [] = 0
 holders i (s ∷ ss) = has i s + holders i ss
 
+-- of no stretches none has the byte
 pub holders_none : (i : ℕ) → holders i [] ≡ 0
 unfolding holders
 holders_none i = refl
 
+-- one more stretch counts if it has the byte
 pub holders_more : (i : ℕ) (s : Stretch) (ss : List Stretch)
     → holders i (s ∷ ss) ≡ has i s + holders i ss
 unfolding holders
 holders_more i s ss = refl
 
+-- as many of two joined lists have the byte as of both together
 pub holders-append : (i : ℕ) (ss ts : List Stretch)
     → holders i (ss ++ ts) ≡ holders i ss + holders i ts
 holders-append i [] ts = omega (arith, holders_none i)
@@ -146,6 +149,7 @@ none_else i s (t ∷ ts) low high h =
     let more = holders_more i t ts in
     omega arith
 
+-- of stretches of which no two overlap, one at most has a byte
 pub apart_holders : (i : ℕ) (ts : List Stretch) → are_apart ts ≡ true → holders i ts ≤ 1
 apart_holders i [] h = omega (arith, holders_none i)
 apart_holders i (t ∷ ts) h =
@@ -204,6 +208,7 @@ apart_of s t some other h =
         let one = has_inside i t (omega arith) (omega arith) in
         absurd (omega arith)
 
+-- a stretch whose bytes none of some others has is apart from each, where all have bytes
 pub all_apart : (s : Stretch) (ts : List Stretch) → 0 < s.len → HaveBytes ts → Lacks s ts
     → AllByRecursion (IsApart s) ts
 all_apart s [] some others h = tt

@@ -17,29 +17,35 @@ use Rattle.exif_edit_laws.proofs.ApartCounts.{HaveBytes, Lacks, all_apart, apart
 
 -- ---- a number for each time that an entry is among some
 
+-- the number n, added up for each time that e is among some entries
 pub times : ℕ → ℕ → List ℕ → ℕ
 times n e [] = 0
 times n e (d ∷ ds) = (if d == e then n else 0) + times n e ds
 
+-- among no entries nothing is added
 pub times_none : (n e : ℕ) → times n e [] ≡ 0
 unfolding times
 times_none n e = refl
 
+-- one more entry adds the number if it is the one, else nothing
 pub times_more : (n e d : ℕ) (ds : List ℕ)
     → times n e (d ∷ ds) ≡ (if d == e then n else 0) + times n e ds
 unfolding times
 times_more n e d ds = refl
 
+-- one more entry that is the one adds the number
 pub times_there : (n e d : ℕ) (ds : List ℕ) → (d == e) ≡ true
     → times n e (d ∷ ds) ≡ n + times n e ds
 times_there n e d ds h = times_more n e d ds ∙ ap (λ t. (if t then n else 0) + times n e ds) h
 
+-- one more entry that is another one adds nothing
 pub times_else : (n e d : ℕ) (ds : List ℕ) → (d == e) ≡ false
     → times n e (d ∷ ds) ≡ times n e ds
 times_else n e d ds h =
     let a = times_more n e d ds ∙ ap (λ t. (if t then n else 0) + times n e ds) h in
     omega arith
 
+-- the sum over two joined lists is that over the first and that over the second
 pub times-append : (n e : ℕ) (ds es : List ℕ) → times n e (ds ++ es) ≡ times n e ds + times n e es
 times-append n e [] es = omega (arith, times_none n e)
 times-append n e (d ∷ ds) es =

@@ -187,6 +187,7 @@ module _ (bytes : List ℕ) (order : Order) (head : header bytes ≡ Ok order)
   all_alone [] h k = tt
   all_alone (l ∷ ls) h k = (one_alone l h.0 k.0, all_alone ls h.1 k.1)
 
+-- where reading looks at no byte as two things, each field stands alone
 pub each_apart : (bytes : List ℕ) → EachStandsAlone bytes
 each_apart bytes order head apart =
     let here = located_in bytes order head in
@@ -197,6 +198,7 @@ each_apart bytes order head apart =
     all_of (Alone bytes order head apart) (located bytes)
     (all_alone bytes order head apart (located bytes) said held)
 
+-- where reading looks at no byte as two things, the last field of a name stands alone
 pub last_apart : (tag : Tag) (k : In) (bytes : List ℕ) → LastStandsAlone tag k bytes
 last_apart tag k bytes order at head last apart =
     let here = located_in bytes order head in
@@ -204,21 +206,25 @@ last_apart tag k bytes order at head last apart =
     let said = (last_said (number_of order) bytes tag k at found).0 in
     one_alone bytes order head apart at said (last_stands tag k (located bytes) at last)
 
+-- where reading looks at no byte as two things, GPS directories and values stand alone
 pub places_alone : (bytes : List ℕ) → PlacesStandAlone bytes
 places_alone bytes order head apart =
     places_apart bytes order head (looked_apart bytes order head apart)
 
 -- ---- so edits are not refused as shared
 
+-- where no byte is looked at as two things, a value that reads back as it was is set if it fits
 pub set_apart : (tag : Tag) (k : In) (value : Value) (bytes : List ℕ) → IsSetApart tag k value bytes
 set_apart tag k value bytes order at head last apart =
     set_unshared tag k value bytes order at head last
     (last_apart tag k bytes order at head last apart)
 
+-- where reading looks at no byte as two things, the GPS data are erased
 pub erased_apart : (bytes : List ℕ) → AreErasedApart bytes
 erased_apart bytes order head apart =
     places_unshared bytes order head (places_alone bytes order head apart)
 
+-- in an image that was written, a value that reads back as it was is set if it fits
 pub set_in_image : (tag : Tag) (k : In) (value : Value) (order : Order) (groups : List Group)
     → AreRanged groups → HavePlainTexts groups → write_fault groups ≡ None
     → IsSetInImage tag k value order groups
@@ -226,6 +232,7 @@ set_in_image tag k value order groups ranged plain written at last =
     set_apart tag k value (image order groups) order at (image_header order groups written) last
     (image_looks_apart order groups ranged plain written)
 
+-- in an image that was written, the GPS data are erased
 pub erased_in_image : (order : Order) (groups : List Group)
     → AreRanged groups → HavePlainTexts groups → write_fault groups ≡ None
     → AreErasedInImage order groups

@@ -207,6 +207,7 @@ module _ (number : Reading) (bytes : List ℕ) where
 
 -- ---- the whole
 
+-- where no two stretches that are looked at overlap, GPS directories and values stand alone
 pub places_apart : (bytes : List ℕ) (order : Order) → header bytes ≡ Ok order
     → are_apart (all_looked (number_of order) bytes) ≡ true
     → places_stand_alone (number_of order) bytes ≡ true

@@ -18,10 +18,12 @@ use Rattle.exif_edit.proofs.Unshared.{neither, unturned}
 abbrev pub has : List ℕ → ℕ → Bool
 has xs x = list_any (λ y. y == x) xs
 
+-- one test or another holds where the second does
 pub or_second : (a b : Bool) → b ≡ true → (a || b) ≡ true
 or_second true b h = refl
 or_second false b h = h
 
+-- the first number of a list is among its members
 pub has_first : (x : ℕ) (xs : List ℕ) → has (x ∷ xs) x ≡ true
 has_first x xs = let e : (x == x) ≡ true = eq-eqb x x refl in rw e refl
 
@@ -34,6 +36,7 @@ member_all P (y ∷ ys) x h m = by_test (y == x) refl (member_all P ys x h.1) m
     by_test true e r m = let s : y ≡ x = grind (arith, nat_tests) in subst P s h.0
     by_test false e r m = r m
 
+-- what holds of each member holds of all of them
 pub all_members : (P : ℕ → Type 0) (xs : List ℕ) → ((x : ℕ) → has xs x ≡ true → P x)
     → AllByRecursion P xs
 all_members P [] h = tt
@@ -58,6 +61,7 @@ filter_member t (x ∷ xs) e m = by_test (t x) refl (filter_member t xs e) m
     by_test true q r m = first (x == e) refl q r m
     by_test false q r m = let k = r m in (or_second (x == e) (has xs e) k.0, k.1)
 
+-- what holds of all that entries give holds of what those that pass a test give
 pub filter_all : {X : Type 0} (P : X → Type 0) (f : ℕ → List X) (t : ℕ → Bool) (es : List ℕ)
     → AllByRecursion P (flat_map f es) → AllByRecursion P (flat_map f (filter t es))
 filter_all P f t [] h = tt
@@ -70,6 +74,7 @@ filter_all P f t (e ∷ es) h =
         all_append P (f e) (flat_map f (filter t es)) (all_left P (f e) (flat_map f es) h) r
     by_test false r = r
 
+-- what holds of all members holds of those that pass a test
 pub filter_each : (P : ℕ → Type 0) (t : ℕ → Bool) (es : List ℕ) → AllByRecursion P es
     → AllByRecursion P (filter t es)
 filter_each P t [] h = tt
@@ -80,6 +85,7 @@ filter_each P t (e ∷ es) h = by_test (t e) (filter_each P t es h.1)
     by_test true r = (h.0, r)
     by_test false r = r
 
+-- all members pass a test that always holds
 pub all_pass : (es : List ℕ) → filter (λ e. true) es ≡ es
 all_pass [] = refl
 all_pass (e ∷ es) = ap (λ xs. e ∷ xs) (all_pass es)
@@ -131,6 +137,7 @@ apart_row s (t ∷ ts) h =
     let a = neither (overlap s t) (list_any (overlap s) ts) h in
     (apart_pair s t a.0, apart_row s ts a.1)
 
+-- stretches that pass the test are apart from one another
 pub apart_told : (ts : List Stretch) → are_apart ts ≡ true → AreApart ts
 apart_told [] h = tt
 apart_told (t ∷ ts) h =
@@ -159,10 +166,12 @@ front_apart : (ss ts : List Stretch) → AreApart (ss ++ ts) → AreApart ss
 front_apart [] ts h = tt
 front_apart (s ∷ ss) ts h = (all_left (IsApart s) ss ts h.0, front_apart ss ts h.1)
 
+-- where joined stretches are apart from one another, those behind are
 pub back_apart : (ss ts : List Stretch) → AreApart (ss ++ ts) → AreApart ts
 back_apart [] ts h = h
 back_apart (s ∷ ss) ts h = back_apart ss ts h.1
 
+-- where joined stretches are apart from one another, each in front is apart from each behind
 pub between : (ss ts : List Stretch) → AreApart (ss ++ ts) → EachApart ss ts
 between [] ts h = tt
 between (s ∷ ss) ts h = (all_right (IsApart s) ss ts h.0, between ss ts h.1)
@@ -173,6 +182,7 @@ heads [] t ts h = (tt, tt)
 heads (s ∷ ss) t ts h =
     let r = heads ss t ts h.1 in ((apart_turned s t h.0.0, r.0), (h.0.1, r.1))
 
+-- where each of some is apart from each of others, the others are so from them
 pub each_turned : (ss ts : List Stretch) → EachApart ss ts → EachApart ts ss
 each_turned ss [] h = tt
 each_turned ss (t ∷ ts) h = let r = heads ss t ts h in (r.0, each_turned ss ts r.1)

@@ -372,6 +372,7 @@ module _ (tag : Tag) (k : In) (order : Order) (a : List ℕ) (head : header a �
       ∙ ap (some_removals order a tag.1)
       (sym places_are ∙ ap (λ fs. directories_with tag k fs (map entry_of (located a))) (sym trace_is)))))
 
+-- where no byte is looked at as two things, the fields of a name that says no places are erased
 pub erased_apart : (tag : Tag) (k : In) (bytes : List ℕ) → FieldsAreErasedApart tag k bytes
 erased_apart tag k bytes order head are_bytes alone names =
     erased tag k order bytes head are_bytes alone names

@@ -232,6 +232,7 @@ abbrev pub AreDistinct : List ℕ → Type 0
 AreDistinct [] = Unit {0}
 AreDistinct (p ∷ ps) = (has ps p ≡ false) × AreDistinct ps
 
+-- directories whose stretches are apart from one another stand at different places
 pub looked_once : (number : Reading) (bytes : List ℕ) (ds : List ℕ)
     → AreApart (flat_map (looked_at number bytes) ds) → AreDistinct ds
 looked_once number bytes [] h = tt
@@ -256,6 +257,7 @@ looked_once number bytes (d ∷ ds) h = (
     by_test true e = absurd (none (12 * whole_entries number bytes d) (itself e))
     by_test false e = refl
 
+-- a directory that is among some has its place among theirs
 pub among_has : (t : Visited) (vs : List Visited) → Among t vs → has (places_in vs) t.place ≡ true
 among_has t [] h = absurd h
 among_has t (v ∷ vs) (inl e) =
@@ -263,6 +265,7 @@ among_has t (v ∷ vs) (inl e) =
 among_has t (v ∷ vs) (inr h) =
     or_second (v.place == t.place) (has (places_in vs) t.place) (among_has t vs h)
 
+-- two visited directories at one place are the same, where all places are different
 pub visited_once : (vs : List Visited) (t u : Visited) → AreDistinct (places_in vs) → Among t vs
     → Among u vs → t.place ≡ u.place → t ≡ u
 visited_once [] t u h x y e = absurd x

@@ -53,6 +53,7 @@ number_shifted order n a b p q h =
     number_same order n (drop p a) (drop q b) 0
     (λ i low high. get_or-drop p a i 0 ∙ (h i (omega arith) ∙ sym (get_or-drop q b i 0)))
 
+-- a number within the 12 bytes of an entry is the same where the entry was moved to
 pub number_moved : (order : Order) (n : ℕ) (a b : List ℕ) (e q j : ℕ) → j + n ≤ 12 → IsMoved a b e q
     → number_at (number_of order) n a (e + j) ≡ number_at (number_of order) n b (q + j)
 number_moved order n a b e q j h m =
@@ -209,6 +210,7 @@ outside_same a b true true place size e f h = same_of a b place size h.0
 outside_same a b true false place size e f h = absurd (false≢true f)
 outside_same a b false t place size e f h = absurd (false≢true e)
 
+-- a moved entry has the same value but for its place, if its bytes elsewhere have stayed
 pub value_moved : (order : Order) (a b : List ℕ) (e q : ℕ) → length a ≡ length b → IsMoved a b e q
     → AllByRecursion (Agree a b) (value_stretch (number_of order) a e)
     → AreTold (entry_value (number_of order) a e) (entry_value (number_of order) b q)
@@ -235,5 +237,6 @@ number_told (value.Undefined xs place) = refl
 number_told (value.Unknown type count place) = refl
 number_told _ = refl
 
+-- values that differ only in the place of their entries have the same first number
 pub number_in_told : (v w : Value) → told_in 0 v ≡ told_in 0 w → number_in v 0 ≡ number_in w 0
 number_in_told v w h = sym (number_told v) ∙ (ap (λ x. number_in x 0) h ∙ number_told w)

@@ -5,6 +5,7 @@ use Rattle.exif_reader.specs.Noted.{Noted, TellsPlaces}
 use Rattle.exif_entries.specs.Locations.{directory_places, gps_of, gps_places, located}
 use Rattle.exif_entries.specs.Walked.{Finds}
 
+-- the places told of a trace, and the GPS ones among them, are those that the data have
 pub found : (bytes : List ℕ) (p : Noted) (gps : List ℕ) → TellsPlaces (trace bytes) p
     → gps ≡ gps_of p.directories
     → Finds bytes (record { entries = p.entries; gps = gps; directories = p.directories })

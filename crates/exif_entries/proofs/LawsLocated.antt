@@ -15,6 +15,7 @@ fields_in (Visit ∷ nodes) = fields_in nodes
 fields_in (Found l ∷ nodes) = ap (λ fields. l.field ∷ fields) (fields_in nodes)
 fields_in (Met fault ∷ nodes) = fields_in nodes
 
+-- the end of a child adds no field
 pub end_has_none : (x : Result ℕ Fault) → fields_of (child_end x) ≡ []
 end_has_none (Err fault) = refl
 end_has_none (Ok next) = by_zero (next == 0)
@@ -23,11 +24,13 @@ end_has_none (Ok next) = by_zero (next == 0)
     by_zero true = refl
     by_zero false = refl
 
+-- however numbers are read, the located fields without places are those of the trace
 pub ordered_fields : (number : Reading) (bytes : List ℕ)
     → map (λ (l : Located). l.field) (located_of (ordered_trace number bytes))
     ≡ fields_of (ordered_trace number bytes)
 ordered_fields number bytes = fields_in (ordered_trace number bytes)
 
+-- so of all data, read in the byte order that their header names
 pub located_fields : (bytes : List ℕ) → LocatesWhatIsRead bytes
 unfolding located
 located_fields bytes = fields_in (trace bytes)

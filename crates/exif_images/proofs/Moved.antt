@@ -23,6 +23,7 @@ moved_by P stays bytes place (Float xs) = stays (Float xs)
 moved_by P stays bytes place (Double xs) = stays (Double xs)
 moved_by P stays bytes place (Unknown type count old) = stays (Unknown type count old)
 
+-- moving a value to another place does not change its bytes
 pub encode_moved : (order : Order) (value : Value) (place : ℕ) → encode order (moved_to place value) ≡ encode order value
 encode_moved order value place = moved_by (λ v m. encode order m ≡ encode order v) (λ v. refl) (λ xs old new. refl) place value
 
@@ -33,9 +34,11 @@ pub record Same (value moved : Value) : Type 0 where
   pub unknown : is_unknown moved ≡ is_unknown value
   pub len : value_len moved ≡ value_len value
 
+-- a moved value has the type, the count and the length that it had
 pub same_moved : (value : Value) (place : ℕ) → Same value (moved_to place value)
 same_moved value place =
     moved_by Same (λ v. record { type = refl; count = refl; unknown = refl; len = refl }) (λ xs old new. record { type = refl; count = refl; unknown = refl; len = refl }) place value
 
+-- of two moves of a value only the last one counts
 pub moved_twice : (p q : ℕ) (value : Value) → moved_to p (moved_to q value) ≡ moved_to p value
 moved_twice p q value = moved_by (λ v m. moved_to p m ≡ moved_to p v) (λ v. refl) (λ xs old new. refl) q value

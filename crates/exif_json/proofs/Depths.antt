@@ -107,9 +107,11 @@ summary_shallow fields =
     let all = both_shallow 1 _ _ standing (both_shallow 1 _ _ place (both_shallow 1 _ _ camera size)) in
     omega (arith, all.within)
 
+-- the JSON of an answer nests no deeper than JSON that is read may
 pub answer_shallow : (path : List ℕ) (format : Format) (exif : ExifContents) (faults : List Failure) → depth (answer_json path format exif faults) ≤ max_depth
 answer_shallow path format exif faults =
     omega (arith, text_shallow path, summary_shallow exif.fields, items_shallow (field_json exif.fields) 3 (field_shallow exif.fields) exif.fields, items_shallow fault_json 0 (λ x. omega arith) faults)
 
+-- the JSON of a refusal nests no deeper than JSON that is read may
 pub refusal_shallow : (path said : List ℕ) → depth (refusal_json path said) ≤ max_depth
 refusal_shallow path said = omega (arith, text_shallow path)

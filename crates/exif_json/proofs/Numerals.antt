@@ -65,6 +65,7 @@ plain_parts whole part w p =
       marked = λ e. absurd (true_is_no_false e);
     }
 
+-- degrees with seven digits behind the point, of fewer than 2^64 units, are a number of JSON
 pub degrees_number : (negative : Bool) (units : ℕ) → units < 2 ^ 64 → IsNumber (degrees_text negative units)
 unfolding parts_of
 degrees_number negative units h =

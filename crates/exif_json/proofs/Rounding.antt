@@ -6,6 +6,7 @@ use Rattle.std.proofs.Math.Nat.{add-mul-div_left, div-add-mod, div-lt_iff_lt-mul
 spread : (u q f : ℕ) → 2 * u * (q * 10000000 + f * 10000) ≡ 20000000 * (u * q) + 20000 * (u * f)
 spread u q f = grind arith
 
+-- ten million times a fraction, rounded to a whole number, is a sum of parts with small products
 pub units_by_parts : (o u : ℕ) → 0 < u
     → o / u * 10000000 + o % u * 1000 / u * 10000 + (o % u * 1000 % u * 20000 + u) / (2 * u) ≡ (2 * (o * 10 ^ 7) + u) / (2 * u)
 units_by_parts o u some =

@@ -68,27 +68,35 @@ srational_told r s h k e =
     let denom = signed_told r.denom s.denom h.1 k.1 cc in
     ap (λ n. record { num = n; denom = r.denom }) num ∙ ap (λ d. record { num = s.num; denom = d }) denom
 
+-- lists of bytes with the same JSON are the same
 pub bytes_told : Tells (IsBelow 64) Byte
 bytes_told = array_told (IsBelow 64) unsigned unsigned_told
 
+-- lists of short numbers with the same JSON are the same
 pub shorts_told : Tells (IsBelow 64) Short
 shorts_told = array_told (IsBelow 64) unsigned unsigned_told
 
+-- lists of long numbers with the same JSON are the same
 pub longs_told : Tells (IsBelow 64) Long
 longs_told = array_told (IsBelow 64) unsigned unsigned_told
 
+-- lists of signed bytes with the same JSON are the same
 pub signed_bytes_told : Tells IsSigned SByte
 signed_bytes_told = array_told IsSigned signed signed_told
 
+-- lists of signed short numbers with the same JSON are the same
 pub signed_shorts_told : Tells IsSigned SShort
 signed_shorts_told = array_told IsSigned signed signed_told
 
+-- lists of signed long numbers with the same JSON are the same
 pub signed_longs_told : Tells IsSigned SLong
 signed_longs_told = array_told IsSigned signed signed_told
 
+-- lists of fractions with the same JSON are the same
 pub rationals_told : Tells IsFraction Rational
 rationals_told = array_told IsFraction rational_json rational_told
 
+-- lists of signed fractions with the same JSON are the same
 pub srationals_told : Tells IsSignedFraction SRational
 srationals_told = array_told IsSignedFraction srational_json srational_told
 
@@ -110,9 +118,11 @@ bits_told k m n h l e =
     let texts : bits_text k m ≡ bits_text k n = cc in
     sym (bits_value k m (omega arith)) ∙ ap (λ text. digits_value 16 (drop 2 text)) texts ∙ bits_value k n (omega arith)
 
+-- lists of floating point numbers with the same JSON have the same bits
 pub floats_told : Tells (IsBelow 64) Float
 floats_told = array_told (IsBelow 64) (bits_json 8) (bits_told 8)
 
+-- lists of floating point numbers of double precision with the same JSON have the same bits
 pub doubles_told : Tells (IsBelow 64) Double
 doubles_told = array_told (IsBelow 64) (bits_json 16) (bits_told 16)
 
@@ -134,6 +144,7 @@ hex_told (x ∷ xs) (y ∷ ys) h k e =
     let b = hex_told xs ys (λ i d l. h (suc i) d (omega arith)) (λ i d l. k (suc i) d (omega arith)) cc in
     rw (a, b) refl
 
+-- bytes of any meaning with the same JSON are the same, wherever they stand
 pub undefined_told : (p q : ℕ) (xs ys : List ℕ) → All (IsBelow 8) xs → All (IsBelow 8) ys → value_json (Undefined xs p) ≡ value_json (Undefined ys q) → xs ≡ ys
 undefined_told p q xs ys h k e =
     let same : J.string (48 ∷ 120 ∷ flat_map hex_byte xs) ≡ J.string (48 ∷ 120 ∷ flat_map hex_byte ys) = e in
@@ -198,5 +209,6 @@ text_told : (xs ys : List ℕ) → All (IsBelow 8) xs → All (IsBelow 8) ys →
 text_told xs ys h k e =
     encoded_told (is_utf8 xs) (is_utf8 ys) xs ys h k (sym (text_chosen (is_utf8 xs) xs) ∙ e ∙ text_chosen (is_utf8 ys) ys)
 
+-- lists of texts with the same JSON are the same, byte by byte
 pub texts_told : Tells (All (IsBelow 8)) Ascii
 texts_told = array_told (All (IsBelow 8)) text_json text_told

@@ -49,6 +49,7 @@ pointer_fault child number bytes c place q fault r p mid new is e w f =
 pub end_next : (x : Result ℕ Fault) (n : ℕ) → x ≡ Ok n → n ≢ 0 → child_end x ≡ Met UnexpectedNext ∷ []
 end_next x n e h = rw e (grind (arith, nat_tests))
 
+-- a child whose directory ends in a fault is followed by that fault alone
 pub end_fault : (x : Result ℕ Fault) (fault : Fault) → x ≡ Err fault → child_end x ≡ Met fault ∷ []
 end_fault x fault e = rw e refl
 

@@ -56,5 +56,6 @@ and_then_last : (x : Progress × Option Fault) → and_then x (λ p. (p, None)) 
 and_then_last (p, None) = refl
 and_then_last (p, Some fault) = refl
 
+-- a trace of one node is run in one step
 pub run_one : (node : Node) (p : Progress) → run (node ∷ []) p ≡ on_node p node
 run_one node p = and_then_last (on_node p node)

@@ -68,6 +68,7 @@ by_mode : (b : Bool) (p q : Progress) (fault : Fault)
 by_mode true p q fault e = ap (λ (y : Progress × Option Fault). y.0.places) e
 by_mode false p q fault e = absurd (stopped p q fault e)
 
+-- so a parser that goes on after a fault has the places that it had before
 pub met_places : (p q : Progress) (fault : Fault) → on_met p fault ≡ (q, None)
     → p.places ≡ q.places
 met_places p q fault e = by_mode p.lenient p q fault e

@@ -54,6 +54,7 @@ long_by front text four e =
     let same = ap length e in
     grind arith
 
+-- a front that begins TIFF data begins them whatever bytes follow it
 pub begins_more : (front rest : List ℕ) → begins_tiff front ≡ true
     → begins_tiff (front ++ rest) ≡ true
 begins_more front rest h =

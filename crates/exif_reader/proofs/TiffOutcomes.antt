@@ -22,6 +22,7 @@ added_found lenient fields faults l nodes = rw append_assoc refl
 added_met : (lenient : Bool) (fields : List Field) (faults : List Fault) (fault : Fault) (nodes : List Node) → added lenient fields (faults ++ fault ∷ []) nodes ≡ added lenient fields faults (Met fault ∷ nodes)
 added_met lenient fields faults fault nodes = rw append_assoc refl
 
+-- lenient running answers what was read before, and then the trace up to its limit
 pub outcome_lenient : (nodes : List Node) (left : ℕ) (fields : List Field) (faults : List Fault) (places : Noted) → outcome (run nodes (at_work true left fields faults places)) ≡ added true fields faults (cut left nodes)
 outcome_lenient [] left fields faults places = rw (append-nil, append-nil) refl
 outcome_lenient (Opens directory ∷ nodes) left fields faults places = outcome_lenient nodes left fields faults (directory_noted places directory)
@@ -30,6 +31,7 @@ outcome_lenient (Visit ∷ nodes) (suc n) fields faults places = outcome_lenient
 outcome_lenient (Found l ∷ nodes) left fields faults places = outcome_lenient nodes left (fields ++ l.field ∷ []) faults (entry_noted places (entry_of l)) ∙ added_found true fields faults l (cut left nodes)
 outcome_lenient (Met fault ∷ nodes) left fields faults places = outcome_lenient nodes left fields (faults ++ fault ∷ []) places ∙ added_met true fields faults fault (cut left nodes)
 
+-- strict running without a fault so far answers the same, or the first fault up to the limit
 pub outcome_strict : (nodes : List Node) (left : ℕ) (fields : List Field) (places : Noted) → outcome (run nodes (at_work false left fields [] places)) ≡ added false fields [] (cut left nodes)
 outcome_strict [] left fields places = rw append-nil refl
 outcome_strict (Opens directory ∷ nodes) left fields places = outcome_strict nodes left fields (directory_noted places directory)
@@ -62,5 +64,6 @@ refused_cases false left fields faults places q fault other e = ap (λ f. Refuse
 pub met_noted : (p q : Progress) (fault : Fault) → on_met p fault ≡ (q, None) → outcome (p, Some fault) ≡ outcome (q, None)
 met_noted p q fault e = met_cases p.lenient p.left p.fields p.faults p.places q fault e
 
+-- a fault that stops the parser is answered as a refusal
 pub met_refused : (p q : Progress) (fault other : Fault) → on_met p fault ≡ (q, Some other) → outcome (p, Some fault) ≡ Refused other
 met_refused p q fault other e = refused_cases p.lenient p.left p.fields p.faults p.places q fault other e

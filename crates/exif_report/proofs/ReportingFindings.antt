@@ -50,6 +50,7 @@ by_refusal e (Some r) P Q is found h = inl (found r is h)
 same_refusal : (e : Failure) (q r : Refusal) → refusal_of e ≡ Some q → q ≡ r → refusal_of e ≡ Some r
 same_refusal e q r is same = is ∙ ap (λ x. Some x) same
 
+-- an error is a right finding where it interrupts, or is the refusal of container or data
 pub finds_error : (answer : List ℕ → Answer) (container : Result (List ℕ) Refusal) (e : Failure)
     → MatchOption (refusal_of e) (IsInterrupted e) (RefusedBy answer container) → Finds (given_by answer container) (Err e)
 finds_error answer (Ok bytes) e h = by_refusal e (refusal_of e) (IsRefusal (answer bytes)) (IsRefusedAs (Ok (answer bytes)) e) refl (λ r is p. (r, is, p)) h

@@ -76,12 +76,14 @@ settled_as (Some Heif) remove put bytes jf js wa ws c = refused_first heif_stays
 settled_as (Some Tiff) remove put bytes jf js wa ws c = refused_first tiff_stays c.whole
 settled_as None remove put bytes jf js wa ws c = refused_first unknown_format c.whole
 
+-- reading a file written again finds what was put, given the laws of JPEG streams and WebP files
 pub file_found : (remove : Remove) (put : Option (List ℕ)) (bytes : List ℕ)
     → jpeg_laws.IsAnswered remove put (take (2 ^ 64 - 1) bytes) → IsFiltered remove put (take (2 ^ 64 - 1) bytes) → FileIsAnswered remove put bytes
     → IsFound remove put bytes
 unfolding file_rewriting
 file_found remove put bytes = found_as (format_in (take 4096 bytes)) remove put bytes
 
+-- a file written again twice is as written once, given the laws of JPEG streams and WebP files
 pub file_settled : (remove : Remove) (put : Option (List ℕ)) (bytes : List ℕ)
     → IsFiltered remove put (take (2 ^ 64 - 1) bytes) → jpeg_laws.IsStable remove put (take (2 ^ 64 - 1) bytes) → FileIsAnswered remove put bytes → FileIsStable remove put bytes
     → IsSettled remove put bytes

@@ -17,10 +17,12 @@ use Rattle.exif_rewrite_webp.specs.WebpLaws.{FileAnswers}
 
 -- ---- JPEG streams
 
+-- bytes that begin ff d8 are known as a JPEG stream by their head
 pub jpeg_head : (out rest : List ℕ) → out ≡ 255 ∷ 216 ∷ rest → format_in (take 4096 out) ≡ Some Jpeg
 unfolding format_in
 jpeg_head out rest is = subst (λ t. format_in (take 4096 t) ≡ Some Jpeg) (sym is) refl
 
+-- fewer than 2^64 bytes that begin ff d8 answer the data that they answer as a JPEG stream
 pub jpeg_container : (out rest : List ℕ) → out ≡ 255 ∷ 216 ∷ rest → length out < 2 ^ 64 → container_answer out ≡ data_of (jpeg_answer out)
 unfolding container_answer answer_as
 jpeg_container out rest is small = ap (λ f. answer_as f out) (jpeg_head out rest is) ∙ ap (λ t. data_of (jpeg_answer t)) (take_all (2 ^ 64 - 1) out (omega arith))
@@ -56,6 +58,7 @@ and-left : (a b : Bool) → (a && b) ≡ true → a ≡ true
 and-left true b e = refl
 and-left false b e = absurd (cc)
 
+-- bytes that begin as a WebP file does are known as one by their head
 pub webp_head : (out : List ℕ) → begins_webp out ≡ true → format_in (take 4096 out) ≡ Some WebP
 webp_head out h =
     let riff : take 4 out ≡ codes "RIFF" = (bytes_eq-Decides (take 4 out) (codes "RIFF")).0 (and-left (bytes_eq (take 4 out) (codes "RIFF")) (bytes_eq (take 4 (drop 8 out)) (codes "WEBP")) h) in
@@ -71,6 +74,7 @@ webp_head out h =
     split-head : (head rest : List ℕ) → head ≡ codes "RIFF" ++ rest → length rest ≤ 4096 → begins_webp head ≡ true → format_in head ≡ Some WebP
     split-head head rest is short h = subst (λ t. format_in t ≡ Some WebP) (sym is) (riff-head rest short (subst (λ t. begins_webp t ≡ true) is h))
 
+-- bytes that begin as a WebP file does answer the data that they answer as one
 pub webp_container : (out : List ℕ) → begins_webp out ≡ true → container_answer out ≡ data_of (webp_answer out)
 unfolding container_answer answer_as
 webp_container out h = ap (λ f. answer_as f out) (webp_head out h)

@@ -66,6 +66,7 @@ interrupted_file r (Some xs) p f is = rw is (front_none p p (f xs).out (keeps_sa
 
 -- ---- JPEG streams
 
+-- where the head says JPEG and the new stream was sent whole, the new file was sent whole
 pub jpeg_sent : {T : Type 0} (result : Result T Failure) (format : Option Format) (remove : Remove) (put : Option (List ℕ)) (a p q : Option (List ℕ)) → format ≡ Some Jpeg
     → OnOk result (Finishes finished a p q (λ xs. jpeg_rewriting remove put (take (2 ^ 64 - 1) xs)))
     → OnOk result (Finishes finished a p q (rewriting_as format remove put))
@@ -77,6 +78,7 @@ jpeg_sent (Ok u) format remove put a p q is h = subst (λ t. Finishes finished a
     by None h = tt
     by (Some xs) h = (ap strict_end h.0, h.1)
 
+-- where the head says JPEG, an error that stops the strict stream stops the file
 pub jpeg_stopped : {T : Type 0} (result : Result T Failure) (format : Option Format) (remove : Remove) (put : Option (List ℕ)) (a p q : Option (List ℕ)) → format ≡ Some Jpeg
     → IfErr result (λ e. StopsBy (refusal_of e) a p q (λ xs. strictly (jpeg_rewriting remove put (take (2 ^ 64 - 1) xs))))
     → IfErr result (λ e. StopsBy (refusal_of e) a p q (rewriting_as format remove put))
@@ -90,6 +92,7 @@ jpeg_stopped (Err e) format remove put a p q is h = subst (λ t. StopsBy (refusa
 whole_at_once : (o : Result (List ℕ) Refusal) (p q : Option (List ℕ)) (text : List ℕ) → o ≡ Ok text → Appends p q text → ((at_once o).end ≡ finished) × Appends p q (at_once o).out
 whole_at_once o p q text is h = subst (λ t. ((at_once t).end ≡ finished) × Appends p q (at_once t).out) (sym is) (refl, h)
 
+-- where the head says WebP and the new WebP file was sent whole, the new file was sent whole
 pub webp_sent : {T : Type 0} (result : Result T Failure) (format : Option Format) (remove : Remove) (put : Option (List ℕ)) (a p q : Option (List ℕ)) → format ≡ Some WebP
     → OnOk result (IfSome a (λ xs. (text : List ℕ) × (webp_rewriting remove put xs ≡ Ok text) × Appends p q text))
     → OnOk result (Finishes finished a p q (rewriting_as format remove put))
@@ -109,6 +112,7 @@ stopped_at_once (Ok text) (Some r) p q h is = absurd (cc)
 stopped_at_once (Err s) None p q h is = (h, tt)
 stopped_at_once (Err s) (Some r) p q h is = (h, (let same : s ≡ r = cc in ap refused_by same))
 
+-- where the head says WebP, an error that stops the WebP file stops the file
 pub webp_stopped : {T : Type 0} (result : Result T Failure) (format : Option Format) (remove : Remove) (put : Option (List ℕ)) (a p q : Option (List ℕ)) → format ≡ Some WebP
     → IfErr result (λ e. IfSome a (λ xs. StopsFile e p q (webp_rewriting remove put xs)))
     → IfErr result (λ e. StopsBy (refusal_of e) a p q (rewriting_as format remove put))
@@ -122,20 +126,24 @@ webp_stopped (Err e) format remove put a p q is h = subst (λ t. StopsBy (refusa
 
 -- ---- files that are refused by their head
 
+-- a file that its head alone refuses is stopped by that refusal, with nothing sent
 pub refused_by_head : (r : Refusal) (format : Option Format) (remove : Remove) (put : Option (List ℕ)) (a p : Option (List ℕ))
     → ((xs : List ℕ) → rewriting_as format remove put xs ≡ at_once (Err r))
     → StopsBy (Some r) a p p (rewriting_as format remove put)
 refused_by_head r format remove put None p is = tt
 refused_by_head r format remove put (Some xs) p is = rw (is xs) (front_none p p [] (keeps_same p), refl)
 
+-- a HEIF file is refused before its first byte, since it is edited in place
 pub heif_refused : (format : Option Format) (remove : Remove) (put : Option (List ℕ)) (xs : List ℕ) → format ≡ Some Heif → rewriting_as format remove put xs ≡ at_once (Err heif_stays)
 unfolding rewriting_as
 heif_refused format remove put xs is = rw is
 
+-- a file of TIFF data is refused before its first byte, since it is edited in place
 pub tiff_refused : (format : Option Format) (remove : Remove) (put : Option (List ℕ)) (xs : List ℕ) → format ≡ Some Tiff → rewriting_as format remove put xs ≡ at_once (Err tiff_stays)
 unfolding rewriting_as
 tiff_refused format remove put xs is = rw is
 
+-- a file of no known container is refused before its first byte, for its unknown format
 pub unknown_refused : (format : Option Format) (remove : Remove) (put : Option (List ℕ)) (xs : List ℕ) → format ≡ None → rewriting_as format remove put xs ≡ at_once (Err unknown_format)
 unfolding rewriting_as
 unknown_refused format remove put xs is = rw is
@@ -155,10 +163,12 @@ more_named few all f (Err e) h = by (refusal_of e) h
 by_head : List Refusal
 by_head = unknown_format ∷ tiff_stays ∷ heif_stays ∷ []
 
+-- an error that is named for JPEG streams is named for files
 pub jpeg_named : {T : Type 0} (result : Result T Failure) → IfErr result (IsNamed rewriting_refusals) → IfErr result (IsNamed file_refusals)
 unfolding by_head
 jpeg_named = more_named rewriting_refusals file_refusals (λ r h. Contains-append_right by_head (rewriting_refusals ++ webp_rewriting_refusals) r (Contains-append_left rewriting_refusals webp_rewriting_refusals r h))
 
+-- an error that is named for WebP files is named for files
 pub webp_named : {T : Type 0} (result : Result T Failure) → IfErr result (IsNamed webp_rewriting_refusals) → IfErr result (IsNamed file_refusals)
 unfolding by_head
 webp_named = more_named webp_rewriting_refusals file_refusals (λ r h. Contains-append_right by_head (rewriting_refusals ++ webp_rewriting_refusals) r (Contains-append_right rewriting_refusals webp_rewriting_refusals r h))

@@ -200,6 +200,7 @@ given_found remove payload [] false f e = absurd (cc)
 given_found remove payload (i ∷ []) false f e = absurd (cc)
 given_found remove payload (i ∷ j ∷ bytes) false f e = stream_found remove (eqb i 255) (eqb j 216) payload bytes (f refl) e
 
+-- where the image ended, a stream written again answers what was put, or that there is nothing
 pub jpeg_answered : (remove : Remove) (put : Option (List ℕ)) (bytes : List ℕ) → IsAnswered remove put bytes
 jpeg_answered remove None [] e = absurd (cc)
 jpeg_answered remove None (i ∷ []) e = absurd (cc)

@@ -33,15 +33,18 @@ rewriting_unit remove new d u rest h =
 abbrev pub bare : UnitTree → UnitTree
 bare u = record { passed = []; fill = u.fill; code = u.code; brought = u.brought }
 
+-- a unit without what is passed over before it is a unit too
 pub bare_unit : (u : UnitTree) → IsUnit u → IsUnit (bare u)
 bare_unit u h = record { passed = All-nil (λ b. b ≢ 255); code = h.code; brought = h.brought }
 
 abbrev pub text_of : UnitTree → List ℕ
 text_of u = unit_text (u.fill + 1) u.code (print_brought u.brought)
 
+-- the text of a unit is what is printed of it without what is passed over before it
 pub text_bare : (u : UnitTree) → text_of u ≡ print_unit (bare u)
 text_bare u = ap (λ n. unit_text n u.code (print_brought u.brought)) (add-one u.fill)
 
+-- a truth value joined by or with false stays as it is
 pub or_false : (d : Bool) → (d || false) ≡ d
 or_false true = refl
 or_false false = refl
@@ -60,12 +63,15 @@ low payload = (8 + length payload) % 256
 abbrev pub segment_tree : List ℕ → UnitTree
 segment_tree payload = record { passed = []; fill = 0; code = 225; brought = exif (high payload) (low payload) payload }
 
+-- the two length bytes of a payload that fits spell its length and eight more
 pub size_is : (payload : List ℕ) → Fits payload → 256 * high payload + low payload ≡ 8 + length payload
 size_is payload h = omega arith
 
+-- the segment of a payload that fits is a unit
 pub segment_unit : (payload : List ℕ) → Fits payload → IsUnit (segment_tree payload)
 segment_unit payload h = record { passed = All-nil (λ b. b ≢ 255); code = omega arith; brought = (refl, size_is payload h) }
 
+-- a number of 2 or more is not found below 2
 pub large : (x : ℕ) → 2 ≤ x → ltb x 2 ≡ false
 large x h = grind (arith, nat_tests)
 
@@ -91,6 +97,7 @@ new_again remove d payload ys h =
 abbrev pub New : List ℕ → Type 0
 New new = (new ≡ []) ⊎ ((payload : List ℕ) × Fits payload × (new ≡ exif_segment payload))
 
+-- a new segment or nothing stays one of the two, whether it is kept or dropped
 pub new_stays : (b : Bool) (new : List ℕ) → New new → New (cond b new [])
 new_stays true new h = h
 new_stays false new h = inl refl
@@ -156,6 +163,7 @@ unit_step remove new d u ys h =
     ∙ ap (λ t. after t (unit_rewriting remove (still u.code new) d (u.fill + 1) u.code (print_brought u.brought) ys)) (placed_still (eqb u.code 224) new)
     ∙ ap (λ t. form (refusal_in u) (eqb u.code 217) (stays_in remove d u) (text_of u) (behind remove ys) (rewriting remove t (d || eqb u.code 218) ys)) (still_still (eqb u.code 224) new)
 
+-- of bytes that are no ff, what passes holds no ff either
 pub outside_others : (k : Bool) (g : List ℕ) → All (λ b. b ≢ 255) g → All (λ b. b ≢ 255) (outside k g)
 outside_others true g h = h
 outside_others false g h = All-nil (λ b. b ≢ 255)
@@ -188,6 +196,7 @@ tree_again remove new d u rest ok h ih e = rw whole (
     same = form_again remove (still u.code new) d (d || eqb u.code 218) (refusal_in u) (eqb u.code 217) (stays_in remove d u) (text_of u) rest (rewriting remove (still u.code new) (d || eqb u.code 218) rest)
         (scan_stays remove d u.code (drop 2 (print_brought u.brought))) (λ ys. unit_step remove new d u ys h) (ih (still u.code new) (d || eqb u.code 218) (new_stays (eqb u.code 224) new ok)) (ap (λ (t : Rewriting). t.end) (sym whole) ∙ e)
 
+-- bytes that hold no whole unit never end as a finished image
 pub never_cut : (remove : Remove) (new : List ℕ) (d : Bool) (xs : List ℕ) → first_unit xs ≡ None → (rewriting remove new d xs).end ≡ finished → ⊥
 never_cut remove new d xs is e =
     let k : cut_off new ≡ finished = ap (λ (t : Rewriting). t.end) (sym (none_ends remove new d xs is)) ∙ e in absurd (cc)
@@ -228,9 +237,11 @@ given_again : (remove : Remove) (payload bytes : List ℕ) (b : Bool) → (b ≡
 given_again remove payload bytes true f e = absurd (cc)
 given_again remove payload bytes false f e = stream_again remove (exif_segment payload) bytes (inr (payload, f refl, refl)) e
 
+-- a length that is not found above 65527 is at most that
 pub fits_where : (n : ℕ) → ltb 65527 n ≡ false → n ≤ 65527
 fits_where n h = grind (arith, nat_tests)
 
+-- where the image ended, a stream written again twice is as written again once
 pub jpeg_again : (remove : Remove) (put : Option (List ℕ)) (bytes : List ℕ) → IsStable remove put bytes
 jpeg_again remove None bytes e = stream_again remove [] bytes (inl refl) e
 jpeg_again remove (Some payload) bytes e = given_again remove payload bytes (ltb 65527 (length payload)) (fits_where (length payload)) e

@@ -53,6 +53,7 @@ within_enough (suc n) (suc m) remove new d xs h k =
     first_next remove new d xs (first_unit xs) (rewriting_within n remove) (rewriting_within m remove)
     (λ u e. let l = rest-first_unit xs u e in within_enough n m remove (still u.code new) (d || eqb u.code 218) u.rest (omega arith) (omega arith))
 
+-- what bytes become is told by their first unit, and by what the bytes behind it become
 pub rewriting_first : (remove : Remove) (new : List ℕ) (d : Bool) (xs : List ℕ) → rewriting remove new d xs ≡ rewritten_first remove new d xs (first_unit xs) (rewriting remove)
 rewriting_first remove new d xs =
     within_enough (length xs) (suc (length xs)) remove new d xs (omega arith) (omega arith)
@@ -67,6 +68,7 @@ unit_as remove new d u front mark = after front (after (placed u.code new) (rewr
 after_twice : (s t : List ℕ) (r : Rewriting) → after (s ++ t) r ≡ after s (after t r)
 after_twice s t r = ap (λ o. record { out = o; end = r.end }) (append_assoc s t r.out)
 
+-- bytes that are no ff pass or are left out, and those behind become what they would alone
 pub carry : (remove : Remove) (new : List ℕ) (d : Bool) (g ys : List ℕ) → All (λ b. b ≢ 255) g
     → rewriting remove new d (g ++ ys) ≡ after (outside (passes remove d) g) (rewriting remove new d ys)
 carry remove new d g ys h =
@@ -90,6 +92,7 @@ carry remove new d g ys h =
 
 -- ---- no unit
 
+-- bytes with no whole unit end cut off, and only those before the first ff may pass
 pub none_ends : (remove : Remove) (new : List ℕ) (d : Bool) (xs : List ℕ) → first_unit xs ≡ None → rewriting remove new d xs ≡ ends (cut_off new) (outside (passes remove d) (before_mark xs))
 none_ends remove new d xs e = rewriting_first remove new d xs ∙ ap (λ o. rewritten_first remove new d xs o (rewriting remove)) e
 
@@ -111,6 +114,7 @@ head_follows a b p q remove new d k is =
     (λ x y s h. ap (rewriting remove new d) h.1 ∙ carry remove new d h.0 (255 ∷ y) h.2
     ∙ ap (λ t. after t (Behind remove new d y)) (ap (λ t. outside t h.0) (sym is) ∙ sym h.3))
 
+-- where the source has no ff, and what passes of it was sent, it ends cut off
 pub head_finishes : (a p q : Option (List ℕ)) (remove : Remove) (new : List ℕ) (d k : Bool) → k ≡ passes remove d
     → IfSome a (λ xs. (from_mark xs ≡ []) × Appends p q (outside k (before_mark xs))) → Finishes (cut_off new) a p q (rewriting remove new d)
 head_finishes None p q remove new d k is h = tt
@@ -118,6 +122,7 @@ head_finishes (Some x) p q remove new d k is h =
     let e = none_ends remove new d x (ap (λ t. unit_from_code (after_marks t)) h.0) in
     (ap (λ (t : Rewriting). t.end) e, rw (ap (λ (t : Rewriting). t.out) e ∙ ap (λ t. outside t (before_mark x)) (sym is)) h.1)
 
+-- where a device fails before the first ff, what was sent is a front of all
 pub head_stopped : (e : Fault) (a p q : Option (List ℕ)) (remove : Remove) (new : List ℕ) (d k : Bool) → k ≡ passes remove d → fault_refusal e ≡ None
     → IfSome a (λ xs. SendsFront p q (outside k (before_mark xs))) → Stopped e a p q (rewriting remove new d)
 head_stopped e None p q remove new d k is none h = tt
@@ -137,11 +142,13 @@ cut_behind (Some y) q remove new d h =
     nothing None = tt
     nothing (Some z) = sym (append-nil z)
 
+-- where no whole unit stands behind an ff, all was sent before it, and the bytes end cut off
 pub cut_finishes : (a b p q : Option (List ℕ)) (remove : Remove) (new : List ℕ) (d k : Bool) → k ≡ passes remove d → Passes a b p q (ToMark k)
     → IfSome b (λ xs. unit_from_code (after_marks xs) ≡ None) → Finishes (cut_off new) a p q (rewriting remove new d)
 cut_finishes a b p q remove new d k is h e =
     finishes_then (cut_off new) a b p q q (rewriting remove new d) (Behind remove new d) (head_follows a b p q remove new d k is h) (cut_behind b q remove new d e)
 
+-- where a device fails right behind an ff, what was sent is a front of all
 pub read_stopped : (e : Fault) (a b p q : Option (List ℕ)) (remove : Remove) (new : List ℕ) (d k : Bool) → k ≡ passes remove d → fault_refusal e ≡ None → Passes a b p q (ToMark k)
     → Stopped e a p q (rewriting remove new d)
 read_stopped e a b p q remove new d k is none h =
@@ -149,10 +156,12 @@ read_stopped e a b p q remove new d k is none h =
 
 -- ---- a unit
 
+-- n ffs in front of a code that is none are n marks
 pub marks_fill : (n code : ℕ) (ys : List ℕ) → code ≢ 255 → marks (replicate n 255 ++ (code ∷ ys)) ≡ n
 marks_fill zero code ys h = ap (λ t. cond t (suc (marks ys)) 0) (ne_eqb code 255 h)
 marks_fill (suc n) code ys h = ap suc (marks_fill n code ys h)
 
+-- bytes that begin with a unit become the new segment, if it goes there, and what the unit becomes
 pub at_unit : (remove : Remove) (new : List ℕ) (d : Bool) (fill code : ℕ) (body ys : List ℕ) → code ≢ 255 → Brings code body
     → rewriting remove new d (255 ∷ (replicate fill 255 ++ (code ∷ (body ++ ys)))) ≡ after (placed code new) (unit_rewriting remove new d (fill + 1) code body ys)
 at_unit remove new d fill code body ys ne brings =
@@ -178,6 +187,7 @@ unit_passed : (a b c p q : Option (List ℕ)) (remove : Remove) (new : List ℕ)
 unit_passed a b c p q remove new d k fill code body is h ne brings t =
     follows_then a b c p q q (rewriting remove new d) (Behind remove new d) (Placing remove new d fill code body) (head_follows a b p q remove new d k is h) (unit_taken b c q remove new d fill code body ne brings t)
 
+-- where a device fails within the new segment before a unit, what was sent is a front of all
 pub place_stopped : (e : Fault) (a b c p q r : Option (List ℕ)) (remove : Remove) (new : List ℕ) (d k : Bool) (fill code : ℕ) (body : List ℕ) → fault_refusal e ≡ None → k ≡ passes remove d → Passes a b p q (ToMark k) → code ≢ 255 → Brings code body
     → Consumes b c (replicate fill 255 ++ (code ∷ body)) → SendsFront q r (placed code new) → Stopped e a p r (rewriting remove new d)
 place_stopped e a b c p q r remove new d k fill code body none is h ne brings t s =
@@ -190,16 +200,19 @@ unit_placed a b c p q r remove new d k fill code body is h ne brings t s =
     follows_then a c c p q r (rewriting remove new d) (Placing remove new d fill code body) (unit_rewriting remove new d (fill + 1) code body) (unit_passed a b c p q remove new d k fill code body is h ne brings t)
     (follows_sent c q r (placed code new) (Placing remove new d fill code body) (unit_rewriting remove new d (fill + 1) code body) (λ x. refl) s)
 
+-- what stops the rewriting of a unit stops that of all bytes from in front of it on
 pub unit_stopped : (e : Fault) (a b c p q r s : Option (List ℕ)) (remove : Remove) (new : List ℕ) (d k : Bool) (fill code : ℕ) (body : List ℕ) → k ≡ passes remove d → Passes a b p q (ToMark k) → code ≢ 255 → Brings code body
     → Consumes b c (replicate fill 255 ++ (code ∷ body)) → Appends q r (placed code new) → Stopped e c r s (unit_rewriting remove new d (fill + 1) code body) → Stopped e a p s (rewriting remove new d)
 unit_stopped e a b c p q r s remove new d k fill code body is h ne brings t u =
     stopped_then (fault_refusal e) a c p r s (rewriting remove new d) (unit_rewriting remove new d (fill + 1) code body) (unit_placed a b c p q r remove new d k fill code body is h ne brings t u)
 
+-- where all that a unit and what follows become was sent, so was all from in front of it on
 pub unit_finishes : (a b c p q r s : Option (List ℕ)) (remove : Remove) (new : List ℕ) (d k : Bool) (fill code : ℕ) (body : List ℕ) → k ≡ passes remove d → Passes a b p q (ToMark k) → code ≢ 255 → Brings code body
     → Consumes b c (replicate fill 255 ++ (code ∷ body)) → Appends q r (placed code new) → Finishes finished c r s (unit_rewriting remove new d (fill + 1) code body) → Finishes finished a p s (rewriting remove new d)
 unit_finishes a b c p q r s remove new d k fill code body is h ne brings t u =
     finishes_then finished a c p r s (rewriting remove new d) (unit_rewriting remove new d (fill + 1) code body) (unit_placed a b c p q r remove new d k fill code body is h ne brings t u)
 
+-- where bytes go on behind a unit, they went from in front of it to the next stage
 pub unit_goes_on : (a b c f p q r s : Option (List ℕ)) (remove : Remove) (new left : List ℕ) (d k d' : Bool) (fill code : ℕ) (body : List ℕ) → left ≡ still code new → d' ≡ (d || eqb code 218) → k ≡ passes remove d → Passes a b p q (ToMark k)
     → code ≢ 255 → Brings code body → Consumes b c (replicate fill 255 ++ (code ∷ body)) → Appends q r (placed code new)
     → Passes c f r s (Follows (unit_rewriting remove new d (fill + 1) code body) (rewriting remove (still code new) (d || eqb code 218)))
@@ -218,6 +231,7 @@ abbrev unit_sent : Remove → List ℕ → Bool → ℕ → ℕ → List ℕ →
 unit_sent remove new d n code body rest =
     cond (eqb code 217) (ends finished (unit_text n code body ++ behind remove rest)) (after (kept remove d n code body) (rewriting remove (still code new) (d || eqb code 218) rest))
 
+-- a fault that says a unit's refusal stops its rewriting with nothing sent
 pub check_stopped : (e : Fault) (a p : Option (List ℕ)) (remove : Remove) (new : List ℕ) (d : Bool) (n code : ℕ) (body : List ℕ) → fault_refusal e ≡ unit_refusal code body
     → Stopped e a p p (unit_rewriting remove new d n code body)
 check_stopped e None p remove new d n code body is = tt
@@ -230,11 +244,13 @@ unit_is_sent remove new d n code body rest none ne =
     ap (λ o. unless_refused o (unit_sent remove new d n code body rest)) none
     ∙ ap (λ t. cond t (ends finished (unit_text n code body ++ behind remove rest)) (after (kept remove d n code body) (rewriting remove (still code new) (d || eqb code 218) rest))) (ne_eqb code 217 ne)
 
+-- where a device fails within what is kept of a unit, what was sent is a front of all
 pub kept_stopped : (e : Fault) (a p q : Option (List ℕ)) (remove : Remove) (new : List ℕ) (d : Bool) (n code : ℕ) (body : List ℕ) → fault_refusal e ≡ None → unit_refusal code body ≡ None → code ≢ 217
     → SendsFront p q (kept remove d n code body) → Stopped e a p q (unit_rewriting remove new d n code body)
 kept_stopped e a p q remove new d n code body is none ne =
     stopped_front (fault_refusal e) a p q (kept remove d n code body) (unit_rewriting remove new d n code body) (rewriting remove (still code new) (d || eqb code 218)) is (λ x. unit_is_sent remove new d n code body x none ne)
 
+-- once what is kept of a unit was sent, the bytes behind it follow in the next stage
 pub kept_follows : (a p q : Option (List ℕ)) (remove : Remove) (new : List ℕ) (d : Bool) (n code : ℕ) (body : List ℕ) → unit_refusal code body ≡ None → code ≢ 217
     → Appends p q (kept remove d n code body) → Passes a a p q (Follows (unit_rewriting remove new d n code body) (rewriting remove (still code new) (d || eqb code 218)))
 kept_follows a p q remove new d n code body none ne =
@@ -242,11 +258,13 @@ kept_follows a p q remove new d n code body none ne =
 
 -- ---- the end of the image
 
+-- where a device fails within the unit that ends the image, what was sent is a front of all
 pub end_stopped : (e : Fault) (a p q : Option (List ℕ)) (remove : Remove) (new : List ℕ) (d : Bool) (n code : ℕ) (body : List ℕ) → code ≡ 217 → fault_refusal e ≡ None
     → SendsFront p q (unit_text n code body) → Stopped e a p q (unit_rewriting remove new d n code body)
 end_stopped e a p q remove new d n code body is none h =
     rw is (stopped_front (fault_refusal e) a p q (unit_text n 217 body) (unit_rewriting remove new d n 217 body) (λ x. ends finished (behind remove x)) none (λ x. refl) (rw is at h))
 
+-- where a device fails within what stays behind the image, what was sent is a front of all
 pub tail_stopped : (e : Fault) (a p q r : Option (List ℕ)) (remove : Remove) (new : List ℕ) (d : Bool) (n code : ℕ) (body : List ℕ) → code ≡ 217 → fault_refusal e ≡ None → ((xs : List ℕ) → behind remove xs ≡ xs)
     → Appends p q (unit_text n code body) → IfSome a (SendsFront q r) → Stopped e a p r (unit_rewriting remove new d n code body)
 tail_stopped e None p q r remove new d n code body is none all h k = tt
@@ -256,12 +274,14 @@ tail_stopped e (Some x) p q r remove new d n code body is none all h k =
       none_refused (fault_refusal e) (λ t. finished ≡ refused_by t) none,
     )
 
+-- where bytes behind the image stay, its end and all of them are all that is sent
 pub tail_finishes : (a p q r : Option (List ℕ)) (remove : Remove) (new : List ℕ) (d : Bool) (n code : ℕ) (body : List ℕ) → code ≡ 217 → ((xs : List ℕ) → behind remove xs ≡ xs)
     → Appends p q (unit_text n code body) → IfSome a (Appends q r) → Finishes finished a p r (unit_rewriting remove new d n code body)
 tail_finishes None p q r remove new d n code body is all h k = tt
 tail_finishes (Some x) p q r remove new d n code body is all h k =
     rw is (refl, rw (all x) (appends_more p q r (unit_text n 217 body) x (rw is at h) k))
 
+-- where nothing behind the image stays, its end alone is all that is sent
 pub bare_finishes : (a p q : Option (List ℕ)) (remove : Remove) (new : List ℕ) (d : Bool) (n code : ℕ) (body : List ℕ) → code ≡ 217 → ((xs : List ℕ) → behind remove xs ≡ [])
     → Appends p q (unit_text n code body) → Finishes finished a p q (unit_rewriting remove new d n code body)
 bare_finishes None p q remove new d n code body is none h = tt
@@ -270,6 +290,7 @@ bare_finishes (Some x) p q remove new d n code body is none h =
 
 -- ---- the body of a unit
 
+-- a part that was put into the room stands between its place and its end
 pub part_read : (at end : ℕ) (room part : List ℕ) → at ≤ end → end ≤ length room → length part ≡ end - at → drop at (take end (put_mid at (end - at) room part)) ≡ part
 part_read at end room part h k e =
     let first : length (take at room) ≡ at = length-take-le at room (omega arith) in
@@ -285,6 +306,7 @@ two_same (a ∷ b ∷ xs) (c ∷ f ∷ ys) h e =
     let m : b ≡ f = cc in
     ap (λ t. 256 * t + b) l ∙ ap (λ t. 256 * c + t) m
 
+-- a code that stands alone brings an empty body
 pub alone_brings : (code : ℕ) → stands_alone code ≡ true → Brings code []
 alone_brings code e rest = unit-alone code rest e
 
@@ -318,6 +340,7 @@ with_body_short code len ys h = grind (arith, nat_tests)
 fewer_none : (code : ℕ) (xs : List ℕ) → stands_alone code ≡ false → length xs < max 2 (two_bytes xs) → unit_from_code (code ∷ xs) ≡ None
 fewer_none code xs e h = ap (unit_with_body code xs) (ap (λ t. cond t 0 (max 2 (two_bytes xs))) e) ∙ with_body_short code (max 2 (two_bytes xs)) xs h
 
+-- where bytes end before the two of a length, there is no whole unit
 pub size_missing : (s : Stop) (a : Option (List ℕ)) (code : ℕ) → stands_alone code ≡ false → OnEnd {T = Unit {0}} (Err s) (HasFewer a 2) → OnEnd {T = ℕ} (Err s) (IfSome a (λ xs. unit_from_code (code ∷ xs) ≡ None))
 size_missing s a code e = on_end (Unit {0}) ℕ s (HasFewer a 2) _ (go a)
   where
@@ -325,6 +348,7 @@ size_missing s a code e = on_end (Unit {0}) ℕ s (HasFewer a 2) _ (go a)
     go None h = tt
     go (Some x) h = fewer_none code x e (omega arith)
 
+-- where bytes end before the length that a unit's first two spell, it is not whole
 pub content_missing : (s : Stop) (a b : Option (List ℕ)) (code len : ℕ) (room : List ℕ) → stands_alone code ≡ false → 2 ≤ length room → len ≡ max 2 (two_bytes room) → Consumes a b (take 2 room)
     → OnEnd {T = Unit {0}} (Err s) (HasFewer b (len - 2)) → OnEnd {T = ℕ} (Err s) (IfSome a (λ xs. unit_from_code (code ∷ xs) ≡ None))
 content_missing s a b code len room e two is h = on_end (Unit {0}) ℕ s (HasFewer b (len - 2)) _ (go a b h)
@@ -347,6 +371,7 @@ consumes_more (Some x) None c xs ys h k = absurd h
 consumes_more (Some x) (Some y) None xs ys h k = absurd k
 consumes_more (Some x) (Some y) (Some z) xs ys h k = h ∙ ap (λ t. xs ++ t) k ∙ sym (append_assoc xs ys z)
 
+-- where the two bytes of a length were taken and then the content, the whole body was
 pub body_taken : (a b c : Option (List ℕ)) (len : ℕ) (room room' : List ℕ) → 2 ≤ len → take 2 room' ≡ take 2 room → Consumes a b (take 2 room) → Consumes b c (drop 2 (take len room')) → Consumes a c (take len room')
 body_taken a b c len room room' two front h k =
     let begins : take 2 (take len room') ≡ take 2 room = take_two room' len two ∙ front in
@@ -361,6 +386,7 @@ body_taken a b c len room room' two front h k =
 
 -- ---- ffs, a code and a body
 
+-- where bytes end before a code, there is no whole unit
 pub unit_code_missing : (s : Stop) (a : Option (List ℕ)) → OnEnd {T = ℕ × ℕ} (Err s) (IfSome a (λ xs. after_marks xs ≡ [])) → OnEnd {T = ℕ} (Err s) (IfSome a (λ xs. unit_from_code (after_marks xs) ≡ None))
 unit_code_missing s a = on_end (ℕ × ℕ) ℕ s (IfSome a (λ xs. after_marks xs ≡ [])) _ (go a)
   where
@@ -368,6 +394,7 @@ unit_code_missing s a = on_end (ℕ × ℕ) ℕ s (IfSome a (λ xs. after_marks 
     go None h = tt
     go (Some x) h = ap unit_from_code h
 
+-- where no whole body stands behind a code, no whole unit stands from its ffs on
 pub unit_body_missing : (X : Type 0) (s : Stop) (a b : Option (List ℕ)) (fill code : ℕ) → code ≢ 255 → Consumes a b (replicate fill 255 ++ (code ∷ []))
     → OnEnd {T = ℕ} (Err s) (IfSome b (λ xs. unit_from_code (code ∷ xs) ≡ None)) → OnEnd {T = X} (Err s) (IfSome a (λ xs. unit_from_code (after_marks xs) ≡ None))
 unit_body_missing X s a b fill code ne h = on_end ℕ X s (IfSome b (λ xs. unit_from_code (code ∷ xs) ≡ None)) _ (go a b h)
@@ -378,6 +405,7 @@ unit_body_missing X s a b fill code ne h = on_end ℕ X s (IfSome b (λ xs. unit
     go (Some x) (Some y) h k =
         ap (λ t. unit_from_code (after_marks t)) (h ∙ append_assoc (replicate fill 255) (code ∷ []) y) ∙ ap unit_from_code (after_marks-fill fill code y ne) ∙ k
 
+-- where ffs and a code were taken and then the body, the whole unit was
 pub unit_whole : (a b c : Option (List ℕ)) (fill code : ℕ) (body : List ℕ) → Consumes a b (replicate fill 255 ++ (code ∷ [])) → Consumes b c body → Consumes a c (replicate fill 255 ++ (code ∷ body))
 unit_whole a b c fill code body h k =
     rw (sym (append_assoc (replicate fill 255) (code ∷ []) body)) (consumes_more a b c (replicate fill 255 ++ (code ∷ [])) body h k)
@@ -405,6 +433,7 @@ stream_fewer remove new [] h = refl
 stream_fewer remove new (a ∷ []) h = refl
 stream_fewer remove new (a ∷ b ∷ xs) h = absurd (omega arith)
 
+-- where fewer than two bytes came, or the reader failed, the stream stops with nothing sent
 pub stream_short : (s : Stop) (a p : Option (List ℕ)) (remove : Remove) (new : List ℕ) → OnEnd {T = Unit {0}} (Err s) (HasFewer a 2) → Stopped (fault_of s) a p p (stream_rewriting remove new)
 stream_short stop.End a p remove new h = stopped_refused (Some broken_jpeg) broken_jpeg a p (stream_rewriting remove new) refl (go a h)
   where
@@ -413,6 +442,7 @@ stream_short stop.End a p remove new h = stopped_refused (Some broken_jpeg) brok
     go (Some x) h = ap (λ (t : Rewriting). t.end) (stream_fewer remove new x h)
 stream_short (stop.Failed cause) a p remove new h = stopped_idle None a p (stream_rewriting remove new) refl
 
+-- a stream that does not begin ff d8 is refused with nothing sent
 pub stream_foreign : (a b p : Option (List ℕ)) (remove : Remove) (new signature : List ℕ) → length signature ≡ 2 → true ≡ not (pointwise eqb signature (255 ∷ 216 ∷ []))
     → Consumes a b signature → Stopped fault.Foreign a p p (stream_rewriting remove new)
 stream_foreign a b p remove new signature two is h = stopped_refused (Some not_jpeg) not_jpeg a p (stream_rewriting remove new) refl (go a b h)
@@ -430,12 +460,14 @@ begun : (a b p : Option (List ℕ)) (remove : Remove) (new signature : List ℕ)
 begun a b p remove new signature two is h =
     follows_taken a b p signature (stream_rewriting remove new) (Begun remove new) (λ y. stream_two remove new signature y two ∙ choose_yes _ _ _ is) h
 
+-- where a device fails within the ff d8 that is sent first, what was sent is a front of all
 pub stream_cut : (e : Fault) (a b p q : Option (List ℕ)) (remove : Remove) (new signature : List ℕ) → fault_refusal e ≡ None → length signature ≡ 2 → false ≡ not (pointwise eqb signature (255 ∷ 216 ∷ []))
     → Consumes a b signature → SendsFront p q (255 ∷ 216 ∷ []) → Stopped e a p q (stream_rewriting remove new)
 stream_cut e a b p q remove new signature none two is h k =
     stopped_then (fault_refusal e) a b p p q (stream_rewriting remove new) (Begun remove new) (begun a b p remove new signature two is h)
     (stopped_front (fault_refusal e) b p q (255 ∷ 216 ∷ []) (Begun remove new) (rewriting remove new false) none (λ x. refl) k)
 
+-- once ff d8 was taken and sent, the stream goes on with its units
 pub stream_begun : (a b p q : Option (List ℕ)) (remove : Remove) (new signature : List ℕ) → length signature ≡ 2 → false ≡ not (pointwise eqb signature (255 ∷ 216 ∷ []))
     → Consumes a b signature → Appends p q (255 ∷ 216 ∷ []) → Passes a b p q (Follows (stream_rewriting remove new) (rewriting remove new false))
 stream_begun a b p q remove new signature two is h k =

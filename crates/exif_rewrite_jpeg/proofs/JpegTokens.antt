@@ -264,6 +264,7 @@ given_filtered : (remove : Remove) (payload bytes : List ℕ) (b : Bool) → (b 
 given_filtered remove payload bytes true f e = absurd (cc)
 given_filtered remove payload bytes false f e = stream_filtered remove (exif_segment payload) (new_tokens (Some payload)) bytes (new_exif payload (f refl)) e
 
+-- where the image ended, a stream written again has the tokens that stay, and the new unit
 pub jpeg_filtered : (remove : Remove) (put : Option (List ℕ)) (bytes : List ℕ) → IsFiltered remove put bytes
 jpeg_filtered remove None bytes e = stream_filtered remove [] [] bytes no_new e
 jpeg_filtered remove (Some payload) bytes e = given_filtered remove payload bytes (ltb 65527 (length payload)) (fits_where (length payload)) e
@@ -317,6 +318,7 @@ all_bare new left d (unit n code body ∷ ts) put l =
     (bare_kept new d (unit_stays Metadata d code body) n code body _ refl
     (all_bare new (cond (eqb code 224) left []) (d || eqb code 218) ts put (left_still (eqb code 224) new left l)))
 
+-- without its metadata, a stream whose image ended has only scans, units that stay and the new one
 pub jpeg_bare : (put : Option (List ℕ)) (bytes : List ℕ) → HasOnlyBare put bytes
 jpeg_bare put bytes e =
     let k = jpeg_filtered Metadata put bytes e in (

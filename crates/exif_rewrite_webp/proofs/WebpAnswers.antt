@@ -164,6 +164,7 @@ front_names remove put made bytes body h =
 front_others : (remove : Remove) (put : Bool) (made : Option (List ℕ)) (body : Body) → AllByRecursion NoExif (chunk_named (codes "VP8X") made ++ map (settled remove put) (staying remove body.chunks))
 front_others remove put made body = all_join NoExif (chunk_named (codes "VP8X") made) _ (canvas_other made) (others_stay remove put body.chunks)
 
+-- a WebP file written again answers the Exif data that were put, or that there are none
 pub file_answered : (remove : Remove) (put : Option (List ℕ)) (bytes : List ℕ) → FileIsAnswered remove put bytes
 file_answered remove put bytes out e = by put (is_written remove put bytes out e)
   where

@@ -20,6 +20,7 @@ use Rattle.exif_rewrite_webp.proofs.WebpSteps.{body_step}
 less_no : (n m : ℕ) → m ≤ n → ltb n m ≡ false
 less_no n m h = grind (arith, nat_tests)
 
+-- a number below 2^32, spelled in four bytes, is read back from them, whatever follows
 pub spelled : (n : ℕ) (rest : List ℕ) → n < 4294967296 → little_number 4 (to_le_bytes w32 n ++ rest) ≡ n
 spelled n rest h = omega arith
 
@@ -60,6 +61,7 @@ behind_back name payload rest room h =
         ap (drop (length payload + length (pad_of (length payload)))) (sym (append_assoc payload (pad_of (length payload)) rest))
         ∙ drop_at (payload ++ pad_of (length payload)) rest (length payload + length (pad_of (length payload))) (length-append payload (pad_of (length payload)))
 
+-- a chunk with a name of four bytes takes eight bytes more than its payload and its pad
 pub text_len : (c : Chunk) → length c.name ≡ 4 → length (chunk_text c) ≡ 8 + (length c.payload + length (pad_of (length c.payload)))
 text_len c e =
     let a = length-append c.name (to_le_bytes w32 (length c.payload) ++ (c.payload ++ pad_of (length c.payload))) in
@@ -109,6 +111,7 @@ chunk_back c rest room four fits small = by c.name four refl
 abbrev pub HasName : Chunk → Type 0
 HasName c = length c.name ≡ 4
 
+-- chunks are read back from their bytes, where names have four bytes and all take under 2^32
 pub body_back : (cs : List Chunk) (rest : List ℕ) (room : ℕ) → AllByRecursion HasName cs → room ≡ length (chunks_text cs) → room < 4294967296
     → body_of room (chunks_text cs ++ rest) ≡ Ok (record { chunks = cs; rest = rest })
 body_back [] rest room named e small = ap (λ n. body_of n rest) e
@@ -126,6 +129,7 @@ body_back (c ∷ cs) rest room named e small =
     next : Result Front Refusal → Result Body Refusal
     next front = front >>= λ front. body_of front.room front.rest >>= λ body. Ok (in_front (front.chunk ∷ []) body)
 
+-- a file's chunks and its tail are read back, where names have four bytes and four hold the size
 pub file_back : (cs : List Chunk) (rest : List ℕ) (size : ℕ) → AllByRecursion HasName cs → size ≡ 4 + length (chunks_text cs) → size < 4294967296
     → file_body (file_text size cs ++ rest) ≡ Ok (record { chunks = cs; rest = rest })
 file_back cs rest size named e small =
@@ -203,6 +207,7 @@ pub record Written (remove : Remove) (put : Option (List ℕ)) (bytes out : List
   pub small : 4 + length (chunks_text (new_chunks remove put (staying remove body.chunks) made)) < 4294967296
   pub out_is : out ≡ file_text (4 + length (chunks_text (new_chunks remove put (staying remove body.chunks) made))) (new_chunks remove put (staying remove body.chunks) made) ++ behind remove body.rest
 
+-- a file that is not refused was read as some chunks, and written as the file of its new ones
 pub is_written : (remove : Remove) (put : Option (List ℕ)) (bytes out : List ℕ) → webp_rewriting remove put bytes ≡ Ok out → Written remove put bytes out
 is_written remove put bytes out e = of_body (file_body bytes) refl e
   where
@@ -239,6 +244,7 @@ is_written remove put bytes out e = of_body (file_body bytes) refl e
 
 -- ---- the names of the new chunks
 
+-- what holds of each chunk of two lists holds of each chunk of the joined list
 pub all_join : (P : Chunk → Type 0) (xs ys : List Chunk) → AllByRecursion P xs → AllByRecursion P ys → AllByRecursion P (xs ++ ys)
 all_join P [] ys h k = k
 all_join P (x ∷ xs) ys h k = (h.0, all_join P xs ys h.1 k)
@@ -247,6 +253,7 @@ name_kept : (remove : Remove) (put t : Bool) (c : Chunk) → HasName c → HasNa
 name_kept remove put true c h = h
 name_kept remove put false c h = h
 
+-- chunks that stay, with their flags right, keep names of four bytes
 pub names_stay : (remove : Remove) (put : Bool) (cs : List Chunk) → AllByRecursion HasName cs → AllByRecursion HasName (map (settled remove put) (staying remove cs))
 names_stay remove put [] h = tt
 names_stay remove put (c ∷ cs) h = by (chunk_stays remove c) (names_stay remove put cs h.1)
@@ -255,10 +262,12 @@ names_stay remove put (c ∷ cs) h = by (chunk_stays remove c) (names_stay remov
     by true ih = (name_kept remove put (is (codes "VP8X") c) c h.0, ih)
     by false ih = ih
 
+-- a chunk made under a name of four bytes has such a name, where there is a payload for it
 pub named_chunk : (name : List ℕ) (payload : Option (List ℕ)) → length name ≡ 4 → AllByRecursion HasName (chunk_named name payload)
 named_chunk name None h = tt
 named_chunk name (Some payload) h = (h, tt)
 
+-- each chunk that is read of a file has a name of four bytes
 pub body_has_names : (bytes : List ℕ) (body : Body) → file_body bytes ≡ Ok body → AllByRecursion HasName body.chunks
 body_has_names bytes body = by (header_room bytes)
   where
@@ -277,6 +286,7 @@ pub written_back : (remove : Remove) (put : Option (List ℕ)) (bytes out : List
 written_back remove put bytes out w =
     ap file_body w.out_is ∙ file_back (new_chunks remove put (staying remove w.body.chunks) w.made) (behind remove w.body.rest) _ (new_names remove put w.made bytes w.body w.read) refl w.small
 
+-- a WebP file written again has a canvas if one was made, the chunks that stay, and new data
 pub file_filtered : (remove : Remove) (put : Option (List ℕ)) (bytes : List ℕ) → FileIsFiltered remove put bytes
 file_filtered remove put bytes out e =
     let w = is_written remove put bytes out e in
@@ -309,6 +319,7 @@ put_bare : (put : Option (List ℕ)) → AllByRecursion (IsBareChunk put) (chunk
 put_bare None = tt
 put_bare (Some p) = (inr refl, tt)
 
+-- where all metadata go, a file written again has chunks of the image and the new data alone
 pub file_bare : (put : Option (List ℕ)) (bytes : List ℕ) → FileIsBare put bytes
 file_bare put bytes out e =
     let w = is_written Metadata put bytes out e in

@@ -39,19 +39,23 @@ total_join xs ys =
 total_one : (x : LentChunk) → total (x ∷ []) ≡ length (chunk_text (chunk_view x))
 total_one x = ap (λ (l : List ℕ). length l) (append-nil (chunk_text (chunk_view x)))
 
+-- one more chunk adds the length of its bytes to that of the chunks before it
 pub total_more : (xs : List LentChunk) (i : ℕ) (x d : LentChunk) → i < length xs → x ≡ get_or xs i d → total (take (i + 1) xs) ≡ total (take i xs) + length (chunk_text (chunk_view x))
 total_more xs i x d h e =
     ap total (take_more xs i d h) ∙ total_join (take i xs) (get_or xs i d ∷ []) ∙ ap (λ n. total (take i xs) + n) (total_one (get_or xs i d) ∙ ap (λ c. length (chunk_text (chunk_view c))) (sym e))
 
+-- the first chunks take no more bytes than all
 pub total_part : (xs : List LentChunk) (i : ℕ) → total (take i xs) ≤ total xs
 total_part xs i =
     let e : total xs ≡ total (take i xs) + total (drop i xs) = ap total (sym (take-append-drop i xs)) ∙ total_join (take i xs) (drop i xs) in omega arith
 
+-- chunks of 4294967292 bytes or more are refused as too large
 pub too_long : (n : ℕ) → 4294967292 ≤ n → sized n ≡ Err too_large
 too_long n h = grind (arith, nat_tests)
 
 -- ---- a chunk that is sent
 
+-- a chunk with its payload in two parts: its name, its size, the two parts, and the pad
 pub parts_text : (name first rest : List ℕ) (len : ℕ) → len ≡ length first + length rest
     → chunk_text (record { name = name; payload = first ++ rest }) ≡ (name ++ to_le_bytes w32 len) ++ (first ++ (rest ++ pad_of len))
 parts_text name first rest len e =
@@ -67,6 +71,7 @@ one_more : (p : Chunk → Bool) (x : Chunk) (xs ys : List Chunk) (t : Bool) → 
 one_more p x xs ys true e = ap (λ l. x ∷ l) e
 one_more p x xs ys false e = e
 
+-- of two joined lists, the chunks that pass a test are those of the first, and then of the second
 pub filter_join : (p : Chunk → Bool) (xs ys : List Chunk) → filter p (xs ++ ys) ≡ filter p xs ++ filter p ys
 filter_join p [] ys = refl
 filter_join p (x ∷ xs) ys = one_more p x xs ys (p x) (filter_join p xs ys)
@@ -121,6 +126,7 @@ body_enough (suc n) (suc m) (suc room) bytes h k =
     (λ front e. let l = first_room (suc room) bytes front e in body_enough n m front.room front.rest (omega arith) (omega arith))
     ∙ sym (within_step m (suc room) bytes (omega arith))
 
+-- where there is room, a body is its first chunk and the body behind it, or what refuses them
 pub body_step : (room : ℕ) (bytes : List ℕ) → 0 < room → body_of room bytes ≡ Next room body_of (first_chunk room bytes)
 body_step zero bytes h = absurd (omega arith)
 body_step (suc room) bytes h =
@@ -131,6 +137,7 @@ body_step (suc room) bytes h =
 abbrev Joined : List Chunk → Result Body Refusal → Result Body Refusal
 Joined cs body = body >>= λ body. Ok (in_front cs body)
 
+-- what stays of a body is its first chunk, if that stays, and what stays of the body behind it
 pub kept_step : (remove : Remove) (room : ℕ) (bytes : List ℕ) (front : Front) → 0 < room → first_chunk room bytes ≡ Ok front
     → kept_body remove room bytes ≡ Joined (staying remove (front.chunk ∷ [])) (kept_body remove front.room front.rest)
 kept_step remove room bytes front h e =
@@ -140,6 +147,7 @@ kept_step remove room bytes front h e =
     by (Err r) = refl
     by (Ok body) = ap (λ cs. Ok (record { chunks = cs; rest = body.rest })) (filter_join (chunk_stays remove) (front.chunk ∷ []) body.chunks)
 
+-- after one more chunk, what stays so far and then of the body left is what stays of all
 pub kept_more : (remove : Remove) (room left : ℕ) (bytes rest : List ℕ) (cs cs' : List Chunk) (front : Front) → 0 < left → first_chunk left rest ≡ Ok front → cs' ≡ cs ++ staying remove (front.chunk ∷ [])
     → kept_body remove room bytes ≡ Joined cs (kept_body remove left rest) → kept_body remove room bytes ≡ Joined cs' (kept_body remove front.room front.rest)
 kept_more remove room left bytes rest cs cs' front h e is inv =
@@ -162,6 +170,7 @@ refuses_fails e x y f = by (refusal_of e)
 kept_refused : (remove : Remove) (left : ℕ) (rest : List ℕ) (r : Refusal) → 0 < left → first_chunk left rest ≡ Err r → kept_body remove left rest ≡ Err r
 kept_refused remove left rest r h e = ap (λ b. b >>= λ body. Ok (staying_in remove body)) (body_step left rest h ∙ ap (Next left body_of) e)
 
+-- where the next chunk is refused, so is the whole body, by the same refusal
 pub front_fails : (e : Failure) (remove : Remove) (room left : ℕ) (bytes rest : List ℕ) (cs : List Chunk) → 0 < left → kept_body remove room bytes ≡ Joined cs (kept_body remove left rest)
     → Refuses e (first_chunk left rest) → Fails e (kept_body remove room bytes)
 front_fails e remove room left bytes rest cs h inv =
@@ -169,6 +178,7 @@ front_fails e remove room left bytes rest cs h inv =
 
 -- ---- a plan
 
+-- to write a file again: read its header, keep what stays of the body, and make that the new file
 pub webp_by_kept : (remove : Remove) (put : Option (List ℕ)) (bytes : List ℕ)
     → webp_rewriting remove put bytes ≡ (header_room bytes >>= λ room. kept_body remove room (drop 12 bytes) >>= λ kept. kept_file remove put kept)
 webp_by_kept remove put bytes = by (header_room bytes)
@@ -187,6 +197,7 @@ planned : (remove : Remove) (put : Option (List ℕ)) (bytes : List ℕ) (room :
 planned remove put bytes room kept h k =
     webp_by_kept remove put bytes ∙ ap (λ o. o >>= λ room. kept_body remove room (drop 12 bytes) >>= λ kept. kept_file remove put kept) h ∙ ap (λ o. o >>= λ kept. kept_file remove put kept) k
 
+-- where the canvas is refused for the chunks that stay, so is the whole file
 pub canvas_fails : (e : Failure) (remove : Remove) (put : Option (List ℕ)) (bytes : List ℕ) (room : ℕ) (kept : Body) → header_room bytes ≡ Ok room → kept_body remove room (drop 12 bytes) ≡ Ok kept
     → Refuses e (canvas_where put kept.chunks) → Fails e (webp_rewriting remove put bytes)
 canvas_fails e remove put bytes room kept h k =
@@ -228,6 +239,7 @@ new_text remove put cs made =
     flat_map-append chunk_text (chunk_named (codes "VP8X") made) (map (settled remove (is_put put)) cs ++ chunk_named (codes "EXIF") put)
     ∙ ap (λ t. named_text (codes "VP8X") made ++ t) (flat_map-append chunk_text (map (settled remove (is_put put)) cs) (chunk_named (codes "EXIF") put))
 
+-- new chunks are as long as the canvas, the new data and the chunks that stay together
 pub new_len : (remove : Remove) (put : Option (List ℕ)) (cs : List Chunk) (made : Option (List ℕ))
     → length (chunks_text (new_chunks remove put cs made)) ≡ length (named_text (codes "VP8X") made) + length (named_text (codes "EXIF") put) + length (chunks_text cs)
 new_len remove put cs made =
@@ -236,6 +248,7 @@ new_len remove put cs made =
     let k = all_len remove (is_put put) cs in
     ap (λ (t : List ℕ). length t) (new_text remove put cs made) ∙ omega (arith, a, b, k)
 
+-- where the size of the new chunks is refused, so is the whole file
 pub size_fails : (e : Failure) (remove : Remove) (put made : Option (List ℕ)) (bytes : List ℕ) (room : ℕ) (kept : Body) (n : ℕ) → header_room bytes ≡ Ok room → kept_body remove room (drop 12 bytes) ≡ Ok kept
     → canvas_where put kept.chunks ≡ Ok made → n ≡ length (chunks_text (new_chunks remove put kept.chunks made)) → Refuses e (sized n) → Fails e (webp_rewriting remove put bytes)
 size_fails e remove put made bytes room kept n h k m is =
@@ -247,6 +260,7 @@ settled_all : (remove : Remove) (put : Bool) (cs : List LentChunk) → chunks_te
 settled_all remove put [] = refl
 settled_all remove put (c ∷ cs) = ap (λ t. settled_text remove put c ++ t) (settled_all remove put cs)
 
+-- where nothing is refused, a file becomes header, canvas, chunks, new data and what follows
 pub plan_gives : (remove : Remove) (put made : Option (List ℕ)) (bytes : List ℕ) (room size : ℕ) (chunks : List LentChunk) (rest tail : List ℕ) (n : ℕ) → header_room bytes ≡ Ok room
     → kept_body remove room (drop 12 bytes) ≡ Ok (record { chunks = map chunk_view chunks; rest = rest })
     → canvas_where put (map chunk_view chunks) ≡ Ok made → n ≡ length (chunks_text (new_chunks remove put (map chunk_view chunks) made)) → sized n ≡ Ok size → tail ≡ behind remove rest
@@ -265,6 +279,7 @@ plan_gives remove put made bytes room size chunks rest tail n h k m is s t =
     cs : List Chunk
     cs = map chunk_view chunks
 
+-- a VP8X chunk with a payload of 10 bytes takes 18 bytes
 pub canvas_text_len : (p : List ℕ) → length p ≡ 10 → length (named_text (codes "VP8X") (Some p)) ≡ 18
 canvas_text_len p e =
     let k : length ((p ++ pad_of (length p)) ++ []) ≡ 10 = ap (λ (t : List ℕ). length t) (append-nil (p ++ pad_of (length p)) ∙ ap (λ n. p ++ pad_of n) e ∙ append-nil p) ∙ e in
@@ -275,6 +290,7 @@ canvas_text_len p e =
 nothing_sent : (o : Result (List ℕ) Refusal) (p : Option (List ℕ)) → SendsFront p p (sent_of o)
 nothing_sent o p = front_none p p (sent_of o) (keeps_same p)
 
+-- a file's own refusal, or an interruption, stops it where nothing was sent
 pub fails_stops : (e : Failure) (p : Option (List ℕ)) (o : Result (List ℕ) Refusal) → Fails e o → StopsFile e p p o
 fails_stops e p o h = (nothing_sent o p, by (refusal_of e) h)
   where
@@ -293,19 +309,23 @@ interrupted_none (error.NotSupported text) h = absurd h
 interrupted_none (error.UnexpectedValue text) h = absurd h
 interrupted_none (error.PartialResult partial) h = absurd h
 
+-- an interruption before anything was sent stops the source's file, whatever it becomes
 pub interrupted_stops : (e : Failure) (a p : Option (List ℕ)) (f : List ℕ → Result (List ℕ) Refusal) → IsInterrupted e → IfSome a (λ xs. StopsFile e p p (f xs))
 interrupted_stops e None p f h = tt
 interrupted_stops e (Some x) p f h = rw (interrupted_none e h) (nothing_sent (f x) p, tt)
 
+-- where the bytes read are all of the source, their error stops its file with nothing sent
 pub plan_stops : (e : Failure) (a p : Option (List ℕ)) (bytes : List ℕ) (f : List ℕ → Result (List ℕ) Refusal) → IfSome a (λ xs. bytes ≡ xs) → Fails e (f bytes) → IfSome a (λ xs. StopsFile e p p (f xs))
 plan_stops e None p bytes f is h = tt
 plan_stops e (Some x) p bytes f is h = rw (sym is) (fails_stops e p (f bytes) h)
 
+-- an error that is no refusal, once a front of the new file was sent, stops the file
 pub send_stops : (e : Failure) (a p q : Option (List ℕ)) (bytes text : List ℕ) (f : List ℕ → Result (List ℕ) Refusal) → IfSome a (λ xs. bytes ≡ xs) → f bytes ≡ Ok text → refusal_of e ≡ None → SendsFront p q text
     → IfSome a (λ xs. StopsFile e p q (f xs))
 send_stops e None p q bytes text f is h none s = tt
 send_stops e (Some x) p q bytes text f is h none s = rw (sym is) (rw (none, h) (s, tt))
 
+-- where the sink took and kept all that the source's bytes become, the new file was sent whole
 pub file_sent : (a p q r : Option (List ℕ)) (bytes text : List ℕ) (f : List ℕ → Result (List ℕ) Refusal) → IfSome a (λ xs. bytes ≡ xs) → f bytes ≡ Ok text → Appends p q text → Keeps q r
     → IfSome a (λ xs. (text : List ℕ) × (f xs ≡ Ok text) × Appends p r text)
 file_sent None p q r bytes text f is h s k = tt
@@ -369,6 +389,7 @@ all_named remove put bytes =
     (λ made. named_then (file_of (new_chunks remove put (staying remove body.chunks) made)) _
     (named_then (sized (length (chunks_text (new_chunks remove put (staying remove body.chunks) made)))) _ (cond_named _ _ _ (refused_named too_large (5, omega arith, refl)) (ok_named _)) (λ size. ok_named _)) (λ text. ok_named _)))
 
+-- an error of a file that is written again is one of the named refusals, or an interruption
 pub fails_named : (e : Failure) (remove : Remove) (put : Option (List ℕ)) (bytes : List ℕ) → Fails e (webp_rewriting remove put bytes) → IsNamed webp_rewriting_refusals e
 fails_named e remove put bytes = by (refusal_of e)
   where

@@ -21,12 +21,14 @@ use Rattle.exif_types.specs.declared.value.Value.TheVariants as value
 abbrev pub Same : List ℕ → List ℕ → ℕ → ℕ → Type 0
 Same a b p n = (i : ℕ) → p ≤ i → i < p + n → slice_index a i ≡ slice_index b i
 
+-- lists that agree on a stretch agree on each stretch that lies within it
 pub part_same : (a b : List ℕ) (p n q m : ℕ) → p ≤ q → q + m ≤ p + n → Same a b p n → Same a b q m
 part_same a b p n q m low high h i from to = h i (omega arith) (omega arith)
 
 taken : (n : ℕ) (xs : List ℕ) (p i : ℕ) → i < n → slice_index (bytes_at n xs p) i ≡ slice_index xs (p + i)
 taken n xs p i lt = get_or-take n (drop p xs) i 0 lt ∙ get_or-drop p xs i 0
 
+-- where the bytes of a stretch are equal, each place of it holds the same byte in both
 pub same_of : (a b : List ℕ) (p n : ℕ) → bytes_at n a p ≡ bytes_at n b p → Same a b p n
 same_of a b p n e i from to =
     let on : p + (i - p) ≡ i = omega arith in
@@ -44,6 +46,7 @@ front_same (suc n) (x ∷ a) (y ∷ b) e h =
     let rest = front_same n a b (omega (arith, e)) (λ i lt. h (suc i) (omega arith)) in
     rw (one, rest) refl
 
+-- in data of one length, a stretch that agrees place by place has equal bytes
 pub bytes_same : (a b : List ℕ) (p n : ℕ) → length a ≡ length b → Same a b p n
     → bytes_at n a p ≡ bytes_at n b p
 bytes_same a b p n e h =
@@ -68,6 +71,7 @@ behind_same : (a b : List ℕ) (p n : ℕ) → Same a b p n → Same (drop p a) 
 behind_same a b p n h i from to =
     get_or-drop p a i 0 ∙ (h (p + i) (omega arith) (omega arith) ∙ sym (get_or-drop p b i 0))
 
+-- where n bytes agree, the number of n bytes there is the same, in either byte order
 pub number_same : (order : Order) (n : ℕ) (a b : List ℕ) (p : ℕ) → Same a b p n
     → number_at (number_of order) n a p ≡ number_at (number_of order) n b p
 number_same Big n a b p h = big_same 0 n (drop p a) (drop p b) (behind_same a b p n h)
@@ -144,12 +148,14 @@ known_alike : (order : Order) (o : Option FieldType) (type count : ℕ) (a b : L
 known_alike order None type count a b p e = refl
 known_alike order (Some t) type count a b p e = type_alike order t count a b p e
 
+-- equal bytes of a value, of any type, are decoded to the same value
 pub decode_alike : (order : Order) (type count : ℕ) (a b : List ℕ) (p : ℕ)
     → bytes_at (known_length (type_of type) * count) a p
     ≡ bytes_at (known_length (type_of type) * count) b p
     → decode (number_of order) type count a p ≡ decode (number_of order) type count b p
 decode_alike order type count a b p e = known_alike order (type_of type) type count a b p e
 
+-- so in data of one length, where the bytes of the value agree place by place
 pub decode_same : (order : Order) (type count : ℕ) (a b : List ℕ) (p : ℕ) → length a ≡ length b
     → Same a b p (known_length (type_of type) * count)
     → decode (number_of order) type count a p ≡ decode (number_of order) type count b p

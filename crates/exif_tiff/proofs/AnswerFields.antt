@@ -67,5 +67,6 @@ shown_whole : (fields : List Field) (faults : List Fault) → IsNotPartial (show
 shown_whole fields [] h = refl
 shown_whole fields (fault ∷ faults) h = absurd h
 
+-- strict reading that shows fields shows them as all there are, with no fault
 pub strict_whole : (limit : Option ℕ) (bytes : List ℕ) (fields : List Field) (faults : List Fault) → raw_answer false limit bytes ≡ shown fields faults → raw_answer false limit bytes ≡ Whole fields
 strict_whole limit bytes fields faults e = e ∙ shown_whole fields faults (subst IsNotPartial e (strict_raw limit bytes))

@@ -19,10 +19,12 @@ AreApart (s ∷ ts) = AllByRecursion (IsApart s) ts × AreApart ts
 abbrev pub EachApart : List Stretch → List Stretch → Type 0
 EachApart ss ts = AllByRecursion (λ s. AllByRecursion (IsApart s) ts) ss
 
+-- if one stretch is apart from another, the other is apart from the one
 pub apart_turned : (s t : Stretch) → IsApart s t → IsApart t s
 apart_turned s t (inl h) = inr h
 apart_turned s t (inr h) = inl h
 
+-- two lists that are apart, and each apart from the other, are apart when joined
 pub apart_append : (ss ts : List Stretch) → AreApart ss → AreApart ts → EachApart ss ts → AreApart (ss ++ ts)
 apart_append [] ts h k e = k
 apart_append (s ∷ ss) ts h k e =
@@ -38,6 +40,7 @@ each_apart P Q h (s ∷ ss) ts p q = (one ts q, each_apart P Q h ss ts p.1 q)
     one [] q = tt
     one (t ∷ ts) q = (h s t p.0 q.0, one ts q.1)
 
+-- where one property gives another, stretches that all have the one all have the other
 pub all_weaker : (P Q : Stretch → Type 0) → ((s : Stretch) → P s → Q s) → (ss : List Stretch)
     → AllByRecursion P ss → AllByRecursion Q ss
 all_weaker P Q h [] p = tt
@@ -59,6 +62,7 @@ none_overlap : (s : Stretch) (ts : List Stretch) → AllByRecursion (IsApart s) 
 none_overlap s [] h = refl
 none_overlap s (t ∷ ts) h = rw (no_overlap s t h.0, none_overlap s ts h.1) refl
 
+-- the test whether stretches are apart says yes where they are
 pub apart_computes : (ts : List Stretch) → AreApart ts → are_apart ts ≡ true
 apart_computes [] h = refl
 apart_computes (t ∷ ts) h = rw (none_overlap t ts h.0, apart_computes ts h.1) refl

@@ -15,6 +15,7 @@ by_header : (x : Result Order Fault) (limit : Option ℕ) (bytes : List ℕ) →
 by_header (Err fault) limit bytes = refl
 by_header (Ok order) limit bytes = let c = content_of (limited limit (ordered_trace (number_of order) bytes)) in answers c.fields c.faults
 
+-- strict reading answers as lenient reading, or with the first fault where that is partial
 pub strict_is_first_fault : (limit : Option ℕ) (bytes : List ℕ) → StrictIsFirstFault limit bytes
 unfolding raw_answer
 strict_is_first_fault limit bytes = by_header (header bytes) limit bytes

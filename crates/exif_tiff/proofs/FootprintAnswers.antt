@@ -86,6 +86,7 @@ module _ (a b : List ℕ) (as_long : length a ≡ length b) where
   footprint_same (Ok order) s h =
       ap (λ rest. record { place = 0; len = 8 } ∷ rest) (shared_in_order order a b as_long s h)
 
+-- data of one length that agree on the footprint of the one have the same footprint
 pub footprint_shared : (a b : List ℕ) → FootprintIsShared a b
 footprint_shared a b as_long agree =
     let all = each_of (Agree a b) (footprint a) agree in
@@ -93,6 +94,7 @@ footprint_shared a b as_long agree =
     footprint_same a b as_long (header a) s all.1
     ∙ ap (footprint_by a b as_long b) (header_same a b as_long s)
 
+-- such data have the same trace: bytes outside of the footprint do not matter
 pub trace_settled : (a b : List ℕ) → FootprintSettlesTrace a b
 unfolding trace
 trace_settled a b as_long agree =
@@ -102,6 +104,7 @@ trace_settled a b as_long agree =
     ∙ ap (λ x. elim x as (λ _. List Node)
     [ Ok order ↦ ordered_trace (number_of order) b | Err fault ↦ [] ]) (header_same a b as_long s)
 
+-- and reading answers the same of both, strict or lenient, under any limit
 pub answer_settled : (lenient : Bool) (limit : Option ℕ) (a b : List ℕ)
     → FootprintSettlesAnswer lenient limit a b
 unfolding raw_answer

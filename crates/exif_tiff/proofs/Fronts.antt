@@ -369,12 +369,14 @@ module _ (front rest : List ℕ) (small : length (front ++ rest) < 2 ^ 32) where
       let head = header_in order e in
       rw (head, ← trace) (answered lenient content fields whole)
 
+-- the fields of a front read without a fault are those of all data, below 2^32 bytes
 pub front_says_all : (lenient : Bool) (limit : Option ℕ) (front rest : List ℕ)
     → FrontSaysAll lenient limit front rest
 unfolding raw_answer
 front_says_all lenient limit front rest fields h small =
     says front rest small lenient limit fields (header front) refl h
 
+-- a good header of a front is that of all data that begin with it, below 2^32 bytes
 pub front_has_header : (front rest : List ℕ) → FrontHasHeader front rest
 front_has_header front rest order h small = header_in front rest small order h
 
@@ -389,6 +391,7 @@ refused_by : (lenient : Bool) (limit : Option ℕ) (bytes : List ℕ) (s : Bool)
     ]) ≡ Refused DataTooLarge
 refused_by lenient limit bytes s x e = rw e refl
 
+-- data of 2^32 bytes or more are refused as too large, in both modes, under any limit
 pub too_large_refused : (lenient : Bool) (limit : Option ℕ) (bytes : List ℕ)
     → TooLargeIsRefused lenient limit bytes
 unfolding raw_answer

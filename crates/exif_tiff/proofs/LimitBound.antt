@@ -130,12 +130,15 @@ trace_paid : (bytes : List ℕ) → PaidFrom 0 0 (trace bytes)
 unfolding trace
 trace_paid bytes = (by_header (header bytes) bytes).paid
 
+-- fields and faults are at most one more than the visits, under any limit or none
 pub reports_bounded_under : (limit : Option ℕ) (bytes : List ℕ) → ReportsAreBoundedUnder limit bytes
 reports_bounded_under None bytes = (trace_reports bytes).bound
 reports_bounded_under (Some n) bytes = omega (arith, cut_reports n 0 0 (trace bytes) (trace_paid bytes) (omega (arith, (trace_reports bytes).bound)))
 
+-- a limit of n leaves at most n + 1 fields and faults together
 pub limit_bounds : (n : ℕ) (bytes : List ℕ) → LimitBoundsReports n bytes
 limit_bounds n bytes = omega (arith, reports_bounded_under (Some n) bytes, visits_limited n (trace bytes))
 
+-- and, of data that are bytes, at most one more than the visits that their length allows
 pub limit_and_length_bound : (n : ℕ) (bytes : List ℕ) → LimitAndLengthBoundReports n bytes
 limit_and_length_bound n bytes h = omega (arith, reports_bounded_under (Some n) bytes, visits_limited n (trace bytes), visits_bounded bytes h)

@@ -15,6 +15,7 @@ use Rattle.exif_tiff.proofs.ReportBound.{fields-append, faults-append}
 use Rattle.exif_tiff.proofs.Members.{all_left}
 use Rattle.exif_tiff.proofs.SoftFaults.{each_soft, faults_soft, answer_behind, answer_refused, trace_refused, headers, header_faults_hard}
 
+-- a limit of n lets the first n entries be visited, or all where there are fewer
 pub visits_limited : (n : ℕ) (nodes : List Node) → VisitsAreLimited n nodes
 visits_limited n [] = omega arith
 visits_limited n (Opens directory ∷ nodes) = visits_limited n nodes
@@ -23,6 +24,7 @@ visits_limited (suc n) (Visit ∷ nodes) = let e = visits_limited n nodes in ome
 visits_limited n (Found l ∷ nodes) = visits_limited n nodes
 visits_limited n (Met fault ∷ nodes) = visits_limited n nodes
 
+-- a trace with no more visits than the limit is left as it is
 pub kept_within : (n : ℕ) (nodes : List Node) → IsKeptWithin n nodes
 kept_within n [] h = refl
 kept_within n (Opens directory ∷ nodes) h = ap (λ r. Opens directory ∷ r) (kept_within n nodes h)
@@ -31,6 +33,7 @@ kept_within (suc n) (Visit ∷ nodes) h = ap (λ r. Visit ∷ r) (kept_within n 
 kept_within n (Found l ∷ nodes) h = ap (λ r. Found l ∷ r) (kept_within n nodes h)
 kept_within n (Met fault ∷ nodes) h = ap (λ r. Met fault ∷ r) (kept_within n nodes h)
 
+-- a trace with more visits is cut before the one over the limit, and ends with its fault
 pub cut_past : (n : ℕ) (nodes : List Node) → IsCutPast n nodes
 cut_past n [] h = absurd (omega arith)
 cut_past n (Opens directory ∷ nodes) h =
@@ -54,6 +57,7 @@ cut_faults n nodes c = ap faults_of c.ended ∙ faults-append c.front (Met TooMa
 cut_fields : (n : ℕ) (nodes : List Node) (c : IsCut n nodes) → fields_of (cut n nodes) ≡ fields_of c.front ++ []
 cut_fields n nodes c = ap fields_of c.ended ∙ fields-append c.front (Met TooManyEntries ∷ [])
 
+-- the fault of a limit is met exactly where the data have more entries to visit
 pub limit_met : (n : ℕ) (bytes : List ℕ) → LimitIsMet n bytes
 limit_met n bytes = (
   λ met. ⊎_elim
@@ -67,6 +71,7 @@ limit_met n bytes = (
       subst (λ (faults : List Fault). Contains faults TooManyEntries) (sym (cut_faults n (trace bytes) c)) (Contains-push (faults_of c.front) TooManyEntries)),
 )
 
+-- where the data have no more entries to visit than the limit, it changes no answer
 pub answers_within : (n : ℕ) (bytes : List ℕ) → AnswersWithin n bytes
 answers_within n bytes lenient h =
     ⊎_elim
@@ -95,6 +100,7 @@ cut_answer n bytes lenient c =
     ∙ (λ i. answer_of lenient (record { fields = (cut_fields n (trace bytes) c ∙ append-nil (fields_of c.front)) i; faults = cut_faults n (trace bytes) c i })))
     (headers bytes)
 
+-- past the limit lenient reading gives what stood before the cut, then the limit's fault
 pub lenient_answers_cut : (n : ℕ) (bytes : List ℕ) → LenientAnswersCut n bytes
 lenient_answers_cut n bytes c = cut_answer n bytes true c ∙ lenient_partial (fields_of c.front) (faults_of c.front)
 
@@ -120,6 +126,7 @@ front_soft n bytes c =
     all_left (λ fault. is_soft fault ≡ true) (faults_of c.front) (faults_of (Visit ∷ c.rest))
     (subst (AllByRecursion (λ fault. is_soft fault ≡ true)) (ap faults_of c.whole ∙ faults-append c.front (Visit ∷ c.rest)) (each_soft bytes))
 
+-- strict reading refuses for the limit exactly where it cuts and no fault stands before that
 pub strict_refuses_cut : (n : ℕ) (bytes : List ℕ) → StrictRefusesCut n bytes
 strict_refuses_cut n bytes = (
   λ e. ⊎_elim

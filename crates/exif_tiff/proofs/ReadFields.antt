@@ -158,6 +158,7 @@ cut_read n (Found l ∷ nodes) h =
     All-cons IsRead l.field (fields_of (cut n nodes)) (All-head IsRead l.field (fields_of nodes) h) (cut_read n nodes (All-tail IsRead l.field (fields_of nodes) h))
 cut_read n (Met fault ∷ nodes) h = cut_read n nodes h
 
+-- where each field is one that reading gives, each that a limit leaves is so too
 pub limited_read : (limit : Option ℕ) (nodes : List Node) → All IsRead (fields_of nodes) → All IsRead (fields_of (limited limit nodes))
 limited_read None nodes h = h
 limited_read (Some n) nodes h = cut_read n nodes h

@@ -15,6 +15,7 @@ use Rattle.exif_table.specs.declared.context.Context.TheVariants.{Tiff}
 use Rattle.exif_tiff.specs.Trace.{Node, Visit, Found, Met, Directory, visits_of, fields_of, faults_of, trace, ordered_trace, header, chain_nodes, chain_after, directory_nodes, directory_end, entry_nodes, entry_places, entry_value, valued_nodes, tagged_nodes, pointer_nodes, child_end, child_of, Opens}
 use Rattle.exif_tiff.specs.Visits.{ReportsAreBounded}
 
+-- the fields of two pieces of a trace are those of the first, then those of the second
 pub fields-append : (xs ys : List Node) → fields_of (xs ++ ys) ≡ fields_of xs ++ fields_of ys
 fields-append [] ys = refl
 fields-append (Opens directory ∷ xs) ys = fields-append xs ys
@@ -22,6 +23,7 @@ fields-append (Visit ∷ xs) ys = fields-append xs ys
 fields-append (Found l ∷ xs) ys = ap (λ fs. l.field ∷ fs) (fields-append xs ys)
 fields-append (Met fault ∷ xs) ys = fields-append xs ys
 
+-- so are the faults
 pub faults-append : (xs ys : List Node) → faults_of (xs ++ ys) ≡ faults_of xs ++ faults_of ys
 faults-append [] ys = refl
 faults-append (Opens directory ∷ xs) ys = faults-append xs ys
@@ -75,6 +77,7 @@ module _ (child : Directory) (number : Reading) (bytes : List ℕ) (h : (c : Con
       let v = valued_reports c k p (number_at number 2 bytes e) e (entry_value number bytes e) in
       record { bound = omega (arith, v.bound) }
 
+-- a directory with its children has no more fields and faults than visits
 pub directory_reports : (d : ℕ) (number : Reading) (bytes : List ℕ) (k : ℕ) (c : Context) (p : ℕ) → Reports 0 (directory_nodes d number bytes k c p)
 directory_reports zero number bytes k c p = record { bound = omega arith }
 directory_reports (suc d) number bytes k c p =
@@ -103,9 +106,11 @@ unfolding ordered_trace
 by_header (Err fault) bytes = record { bound = omega arith }
 by_header (Ok order) bytes = chain_reports 8 (number_of order) bytes 0 (number_at (number_of order) 4 bytes 4)
 
+-- the whole trace has at most one more of fields and faults than of visits
 pub trace_reports : (bytes : List ℕ) → Reports 1 (trace bytes)
 unfolding trace
 trace_reports bytes = by_header (header bytes) bytes
 
+-- so what data report is bounded by the entries that are visited, and one
 pub reports_bounded : (bytes : List ℕ) → ReportsAreBounded bytes
 reports_bounded bytes = (trace_reports bytes).bound

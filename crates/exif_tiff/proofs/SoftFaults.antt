@@ -116,9 +116,11 @@ soft_faults (Visit ∷ nodes) h = soft_faults nodes h.1
 soft_faults (Found l ∷ nodes) h = soft_faults nodes h.1
 soft_faults (Met fault ∷ nodes) h = (h.0, soft_faults nodes h.1)
 
+-- each fault of a trace is soft, one after the other
 pub each_soft : (bytes : List ℕ) → AllByRecursion (λ fault. is_soft fault ≡ true) (faults_of (trace bytes))
 each_soft bytes = soft_faults (trace bytes) (trace_soft bytes)
 
+-- so all faults that data hold behind their header are soft
 pub faults_soft : (bytes : List ℕ) → FaultsAreSoft bytes
 faults_soft bytes = all_of (λ fault. is_soft fault ≡ true) (faults_of (trace bytes)) (each_soft bytes)
 
@@ -153,6 +155,7 @@ each_soft_under : (limit : Option ℕ) (bytes : List ℕ) → AllByRecursion (λ
 each_soft_under None bytes = all_under None (faults_of (trace bytes)) (each_soft bytes)
 each_soft_under (Some n) bytes = cut_soft n n (trace bytes) (trace_soft bytes)
 
+-- under a limit they are so too, where the fault of the limit counts as soft
 pub faults_soft_under : (limit : Option ℕ) (bytes : List ℕ) → FaultsAreSoftUnder limit bytes
 faults_soft_under limit bytes = all_of (λ fault. is_soft_under limit fault ≡ true) (faults_of (limited limit (trace bytes))) (each_soft_under limit bytes)
 
@@ -165,11 +168,13 @@ answer_behind lenient limit bytes order h =
     ∙ ap (λ nodes. answer_of lenient (content_of (limited limit nodes)))
     (λ i. elim (sym h i) as (λ _. List Node) [ Ok read ↦ ordered_trace (number_of read) bytes | Err fault ↦ [] ])
 
+-- data with a bad header are refused with its fault, in both modes, under any limit
 pub answer_refused : (lenient : Bool) (limit : Option ℕ) (bytes : List ℕ) (fault : Fault) → header bytes ≡ Err fault → raw_answer lenient limit bytes ≡ Refused fault
 unfolding raw_answer
 answer_refused lenient limit bytes fault h =
     λ i. elim (h i) as (λ _. Answer) [ Err fault ↦ Refused fault | Ok read ↦ answer_of lenient (content_of (limited limit (ordered_trace (number_of read) bytes))) ]
 
+-- behind a bad header the trace is empty
 pub trace_refused : (bytes : List ℕ) (fault : Fault) → header bytes ≡ Err fault → trace bytes ≡ []
 unfolding trace
 trace_refused bytes fault h = λ i. elim (h i) as (λ _. List Node) [ Ok read ↦ ordered_trace (number_of read) bytes | Err fault ↦ [] ]
@@ -189,6 +194,7 @@ partial_soft limit fields old faults (fault ∷ these) h e =
     let same : (fault ∷ these) ≡ faults = cc in
     subst (AllByRecursion (λ fault. is_soft_under limit fault ≡ true)) same h
 
+-- the faults of a partial answer are soft, or that of the limit where one is set
 pub passes_soft : (limit : Option ℕ) (bytes : List ℕ) → PassesSoftFaults limit bytes
 passes_soft limit bytes fields faults e = go (headers bytes)
   where
@@ -208,6 +214,7 @@ refused_soft false limit old fault (first ∷ these) h e =
     let same : first ≡ fault = cc in
     (refl, subst (λ (f : Fault). is_soft_under limit f ≡ true) same h.0)
 
+-- a refusal gives the header's fault, or in strict mode a soft one or that of the limit
 pub refuses : (lenient : Bool) (limit : Option ℕ) (bytes : List ℕ) → RefusesHardOrSoft lenient limit bytes
 refuses lenient limit bytes fault e = go (headers bytes)
   where
@@ -243,6 +250,7 @@ header_hard bytes =
     hard_else (nat_lt (2 ^ 32 - 1) (length bytes)) DataTooLarge _ refl
     (hard_else (nat_lt (length bytes) 8) TruncatedHeader _ refl (hard_order (order_of bytes) bytes))
 
+-- what is wrong with a header is always a hard fault
 pub header_faults_hard : (bytes : List ℕ) → HeaderFaultsAreHard bytes
 header_faults_hard bytes fault e = subst IsHardHeader e (header_hard bytes)
 
@@ -267,6 +275,7 @@ large : (b : Bool) (rest : Result Order Fault) → IsNotTooLarge rest → (if b 
 large true rest h e = refl
 large false rest h e = absurd (h e)
 
+-- a header is too large exactly where the data have 2^32 bytes or more
 pub too_large_exact : (bytes : List ℕ) → TooLargeIsExact bytes
 too_large_exact bytes = (
   λ e. ltb-true (2 ^ 32 - 1) (length bytes)

@@ -123,6 +123,7 @@ by_header (Ok order) bytes h =
     let c = chain_visits 8 (number_of order) bytes 0 (short_reading order bytes h) (number_at (number_of order) 4 bytes 4) in
     rw (level_three (entries_at_most bytes)) at c
 
+-- the length of data that are bytes bounds how many entries are visited
 pub visits_bounded : (bytes : List ℕ) → VisitsAreBounded bytes
 unfolding trace
 visits_bounded bytes h = by_header (header bytes) bytes h

@@ -102,6 +102,7 @@ chain (suc left) number bytes k p =
     (after (chain_nodes left number bytes (k + 1)) (chain_directories left number bytes)
     (directory_end number bytes p) (chain left number bytes (k + 1))))
 
+-- the directories that a trace opens are those that reading looks at, in the same order
 pub visited : (number : Reading) (bytes : List ℕ) → VisitsWhatIsLookedAt number bytes
 unfolding ordered_trace
 visited number bytes = chain 8 number bytes 0 (number_at number 4 bytes 4)

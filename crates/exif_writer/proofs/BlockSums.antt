@@ -17,16 +17,19 @@ pub end_is_sum : (place : ℕ) (texts : List (Bor (List ℕ))) → after_blocks 
 end_is_sum place [] = omega arith
 end_is_sum place (text ∷ texts) = let e = end_is_sum (place + length text.now) texts in omega arith
 
+-- one more block adds its length to the sum of those before it
 pub sum_more : (texts : List (Bor (List ℕ))) (i : ℕ) (x d : Bor (List ℕ)) → i < length texts → x ≡ get_or texts i d
     → sum_of (take (i + 1) texts) ≡ sum_of (take i texts) + length x.now
 sum_more texts i x d h e =
     let k : sum_of (take (i + 1) texts) ≡ sum_of (take i texts) + (length x.now + 0) = ap sum_of (up_to texts i x d h e) ∙ sum_append (take i texts) (x ∷ []) in
     omega arith
 
+-- there are as many places of blocks as there are blocks
 pub places_length : (place : ℕ) (texts : List (Bor (List ℕ))) → length (places_from place (lens texts)) ≡ length texts
 places_length place [] = refl
 places_length place (t ∷ texts) = ap suc (places_length (place + length t.now) texts)
 
+-- there are as many lengths of blocks as there are blocks
 pub lens_length : (texts : List (Bor (List ℕ))) → length (lens texts) ≡ length texts
 lens_length [] = refl
 lens_length (t ∷ texts) = ap suc (lens_length texts)

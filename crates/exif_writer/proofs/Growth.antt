@@ -54,6 +54,7 @@ empty_ranged Exif = tt
 empty_ranged Gps = tt
 empty_ranged Interop = tt
 
+-- where there are no groups, each entry is one that a writer may hold
 pub none_ranged : AreRanged []
 none_ranged = tt
 
@@ -65,18 +66,21 @@ changed_ranged zero f (group ∷ groups) keep h = (keep group h.0, h.1)
 changed_ranged (suc n) f [] keep h = (empty_ranged, changed_ranged n f [] keep h)
 changed_ranged (suc n) f (group ∷ groups) keep h = (h.0, changed_ranged n f groups keep h.1)
 
+-- strips that are set leave a group's entries such that a writer may hold them
 pub strips_ranged : (strips : List (List ℕ)) (group : Group) → GroupIsRanged group → GroupIsRanged (with_strips strips group)
 strips_ranged strips group h Tiff = h Tiff
 strips_ranged strips group h Exif = h Exif
 strips_ranged strips group h Gps = h Gps
 strips_ranged strips group h Interop = h Interop
 
+-- tiles that are set leave a group's entries such that a writer may hold them
 pub tiles_ranged : (tiles : List (List ℕ)) (group : Group) → GroupIsRanged group → GroupIsRanged (with_tiles tiles group)
 tiles_ranged tiles group h Tiff = h Tiff
 tiles_ranged tiles group h Exif = h Exif
 tiles_ranged tiles group h Gps = h Gps
 tiles_ranged tiles group h Interop = h Interop
 
+-- a JPEG that is set leaves a group's entries such that a writer may hold them
 pub jpeg_ranged : (jpeg : List ℕ) (group : Group) → GroupIsRanged group → GroupIsRanged (with_jpeg jpeg group)
 jpeg_ranged jpeg group h Tiff = h Tiff
 jpeg_ranged jpeg group h Exif = h Exif
@@ -86,6 +90,7 @@ jpeg_ranged jpeg group h Interop = h Interop
 one_more : (context : Context) (entries : List Entry) (entry : Entry) → IsEntry context entry → AllByRecursion (IsEntry context) entries → AllByRecursion (IsEntry context) (entries ++ entry ∷ [])
 one_more context entries entry e h = all_append (IsEntry context) entries (entry ∷ []) h (e, tt)
 
+-- one more entry that a writer may hold leaves a group's entries such that it may hold them
 pub entry_ranged : (here : Context) (entry : Entry) → IsEntry here entry → (group : Group) → GroupIsRanged group → GroupIsRanged (with_entry here entry group)
 entry_ranged Tiff entry e group h Tiff = one_more Tiff group.tiff entry e (h Tiff)
 entry_ranged Tiff entry e group h Exif = h Exif
@@ -109,6 +114,7 @@ pub on_ok : {T E : Type 0} (r : Result T E) (failed : Bool) (P : Type 0) → fai
 on_ok (Ok x) failed P a b h = h
 on_ok (Err e) failed P a b h = absurd cc
 
+-- what holds of an Err holds where a test found an Err
 pub on_err : {T E : Type 0} (r : Result T E) (failed : Bool) (P : Type 0) → failed ≡ is_err r → failed ≡ true → OnErr r P → P
 on_err (Ok x) failed P a b h = absurd cc
 on_err (Err e) failed P a b h = h
@@ -125,5 +131,6 @@ cut_back n before old items x y e r k h =
     (λ i. take before (set items n ((k ∙ r) i))) ∙ ap (take before) (set-get_or items n x) ∙ ap (take before) e
     ∙ take_at old (replicate (suc n - length old) empty_group) before (sym h)
 
+-- groups equal to ones whose entries a writer may hold have such entries too
 pub ranged_as : (new old : List Group) → new ≡ old → AreRanged old → AreRanged new
 ranged_as new old e h = subst AreRanged (sym e) h

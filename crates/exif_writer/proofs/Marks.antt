@@ -6,6 +6,7 @@ use Rattle.exif_containers.specs.Container.{begins_tiff}
 use Rattle.exif_images.specs.Groups.{Group}
 use Rattle.exif_images.specs.Image.{image}
 
+-- an image begins as TIFF data do, in either byte order and whatever its groups are
 pub begins_image : (order : Order) (groups : List Group) → begins_tiff (image order groups) ≡ true
 unfolding image
 begins_image Big groups = refl

@@ -10,6 +10,7 @@ use Rattle.exif_images.specs.Slots.{Slot, content_len, in_tag_order}
 use Rattle.exif_images.specs.Places.{after_values}
 use Rattle.exif_images.specs.Measuring.{span, last_out, end_from}
 
+-- a count stays right over one more entry whose value takes at most four bytes
 pub tells_small : (tail : Tail) (size : ℕ) (slots : List Slot) (slot : Slot) → size ≤ 4 → content_len slot.content ≡ size → Tells tail slots → Tells tail (slots ++ slot ∷ [])
 tells_small tail size slots slot h e t =
     let small : nat_le (content_len slot.content) 4 ≡ true = le-leb (content_len slot.content) 4 (omega arith) in
@@ -39,18 +40,21 @@ tells_big tail new tag size slots slot h k e t bytes last =
       last = last ∙ pair ∙ newer_is slot (last_out slots) ∙ ap (option_map measure) (sym (exact.last_pushed slots slot ∙ rw big refl));
     }
 
+-- the first value of over four bytes adds its bytes, made even, and is the last in tag order
 pub tells_first : (tail new : Tail) (tag size : ℕ) (slots : List Slot) (slot : Slot) → 4 < size → slot.tag ≡ tag → content_len slot.content ≡ size → Tells tail slots
     → new.bytes ≡ tail.bytes + (size + size % 2) → tail.last ≡ None → new.last ≡ Some (tag, size) → Tells new (slots ++ slot ∷ [])
 unfolding newer_pair
 tells_first tail new tag size slots slot h k e t bytes none last =
     tells_big tail new tag size slots slot h k e t bytes (last ∙ sym (ap (newer_pair tag size) none))
 
+-- a value of over four bytes, its tag no lower than the last one's, adds its bytes and is last
 pub tells_newer : (tail new : Tail) (tag size : ℕ) (pair : ℕ × ℕ) (slots : List Slot) (slot : Slot) → 4 < size → slot.tag ≡ tag → content_len slot.content ≡ size → Tells tail slots
     → new.bytes ≡ tail.bytes + (size + size % 2) → tail.last ≡ Some pair → pair.0 ≤ tag → new.last ≡ Some (tag, size) → Tells new (slots ++ slot ∷ [])
 unfolding newer_pair
 tells_newer tail new tag size pair slots slot h k e t bytes some low last =
     tells_big tail new tag size slots slot h k e t bytes (last ∙ sym (ap (newer_pair tag size) some ∙ rw (le-ltb tag pair.0 low) refl))
 
+-- a value of over four bytes, its tag lower than the last one's, only adds its bytes
 pub tells_older : (tail new : Tail) (tag size : ℕ) (pair : ℕ × ℕ) (slots : List Slot) (slot : Slot) → 4 < size → slot.tag ≡ tag → content_len slot.content ≡ size → Tells tail slots
     → new.bytes ≡ tail.bytes + (size + size % 2) → tail.last ≡ Some pair → tag < pair.0 → new.last ≡ tail.last → Tells new (slots ++ slot ∷ [])
 unfolding newer_pair
@@ -65,6 +69,7 @@ told_none tail place slots t none = go (last_out slots) refl (sym t.last ∙ non
     go None k n = sym (exact.end_is place slots ∙ ap (end_from place (span slots)) k)
     go (Some s) k n = let j : Some (measure s) ≡ None = rw k at n in absurd cc
 
+-- values outside their entries end behind all counted bytes, without the pad of the last one
 pub told_some : (tail : Tail) (place : ℕ) (pair : ℕ × ℕ) (slots : List Slot) → Tells tail slots → tail.last ≡ Some pair
     → place + place % 2 + tail.bytes - pair.1 % 2 ≡ after_values place (in_tag_order slots)
 told_some tail place pair slots t some = go (last_out slots) refl (sym t.last ∙ some)

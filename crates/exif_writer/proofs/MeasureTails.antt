@@ -32,10 +32,12 @@ pub none_map : {T P Q : Type 0} (o : Option T) → (P → Q) → IfNone o P → 
 none_map None f p = f p
 none_map (Some x) f p = tt
 
+-- where an answer has a value, what follows from what holds of it holds too
 pub some_map : {T : Type 0} {P Q : T → Type 0} (o : Option T) → ((x : T) → P x → Q x) → IfSome o P → IfSome o Q
 some_map None f p = tt
 some_map (Some x) f p = f x p
 
+-- a number that 32 bits do not hold is 2^32 or more
 pub at_least : (n : ℕ) → ¬ (n < 2 ^ 32) → 2 ^ 32 ≤ n
 at_least n h = omega arith
 
@@ -53,6 +55,7 @@ over_one tail size slots slot h t e over =
     let b = t.bytes in
     omega arith
 
+-- where the last value alone takes 2^32 bytes or more, so do all together
 pub over_alone : (size : ℕ) (slots : List Slot) (slot : Slot) → 2 ^ 32 ≤ size → content_len slot.content ≡ size → 2 ^ 32 ≤ span (slots ++ slot ∷ [])
 over_alone size slots slot h e =
     let big : nat_le (content_len slot.content) 4 ≡ false = lt-leb (content_len slot.content) 4 (omega arith) in
@@ -63,6 +66,7 @@ over_alone size slots slot h e =
 pub pushed_two : (slots : List Slot) (a b : Slot) → (slots ++ a ∷ []) ++ b ∷ [] ≡ slots ++ a ∷ b ∷ []
 pushed_two slots a b = append_assoc slots (a ∷ []) (b ∷ [])
 
+-- values take no fewer bytes with one more entry behind the last
 pub span_first : (slots : List Slot) (a b : Slot) → span (slots ++ a ∷ []) ≤ span (slots ++ a ∷ b ∷ [])
 span_first slots a b =
     let e = ap span (pushed_two slots a b) in
@@ -76,9 +80,11 @@ place_slot kind texts = record { tag = places_tag kind; content = PlacesOf kind 
 abbrev pub length_slot : BlockKind → List (Bor (List ℕ)) → Slot
 length_slot kind texts = record { tag = lengths_tag kind; content = LengthsOf kind (lens texts) }
 
+-- four bytes for each length of a block are as many as four bytes for each block
 pub slot_len : (texts : List (Bor (List ℕ))) (size : ℕ) → size ≡ 4 * length texts → 4 * length (lens texts) ≡ size
 slot_len texts size e = let k = lens_length texts in omega arith
 
+-- where the places of blocks take 2^32 bytes or more, so do values with the blocks' two entries
 pub over_many : (kind : BlockKind) (texts : List (Bor (List ℕ))) (slots : List Slot) → 2 ^ 32 ≤ 4 * length texts
     → 2 ^ 32 ≤ span (slots ++ place_slot kind texts ∷ length_slot kind texts ∷ [])
 over_many kind texts slots h =
@@ -94,6 +100,7 @@ of_both : (xs ys : List (Bor Field)) → of_fields (xs ++ ys) ≡ of_fields xs +
 of_both [] ys = refl
 of_both (x ∷ xs) ys = ap (λ r. known (entry_of x.now) ∷ r) (of_both xs ys)
 
+-- one more pushed field adds its slot behind the slots of those before it
 pub of_more : (fields : List (Bor Field)) (i : ℕ) (x d : Bor Field) → i < length fields → x ≡ get_or fields i d
     → of_fields (take (i + 1) fields) ≡ of_fields (take i fields) ++ known (entry_of x.now) ∷ []
 of_more fields i x d h e = ap of_fields (up_to fields i x d h e) ∙ of_both (take i fields) (x ∷ [])

@@ -38,12 +38,14 @@ none_of : (cause : Option WriteFault) → is_some cause ≡ false → cause ≡ 
 none_of None s = refl
 none_of (Some c) s = absurd cc
 
+-- the cause of a group behind groups without a cause is the first cause of all
 pub first_found : (groups : List Group) (i : ℕ) (x d : Group) (cause : Option WriteFault) → i < length groups → x ≡ get_or groups i d
     → first_group_fault (take i groups) ≡ None → cause ≡ group_fault x → is_some cause ≡ true → cause ≡ first_group_fault groups
 first_found groups i x d cause h e none k s =
     sym (ap first_group_fault (around groups i x d h e) ∙ first_append (take i groups) (x ∷ drop (i + 1) groups) none
     ∙ first_of x (drop (i + 1) groups) cause (sym k) s)
 
+-- groups without a cause, and one more such group behind them, have no cause
 pub first_more : (groups : List Group) (i : ℕ) (x d : Group) (cause : Option WriteFault) → i < length groups → x ≡ get_or groups i d
     → first_group_fault (take i groups) ≡ None → cause ≡ group_fault x → is_some cause ≡ false → first_group_fault (take (i + 1) groups) ≡ None
 first_more groups i x d cause h e none k s =
@@ -65,12 +67,14 @@ drafts_append : (xs ys : List Group) → map draft_of (xs ++ ys) ≡ map draft_o
 drafts_append [] ys = refl
 drafts_append (x ∷ xs) ys = ap (λ r. draft_of x ∷ r) (drafts_append xs ys)
 
+-- drafts with one more end where that one ends, begun at the end of those before it
 pub ends_more : (start : ℕ) (groups : List Group) (i : ℕ) (x d : Group) → i < length groups → x ≡ get_or groups i d
     → drafts_end start (map draft_of (take (i + 1) groups)) ≡ draft_end (draft_of x) (drafts_end start (map draft_of (take i groups)))
 ends_more start groups i x d h e =
     ap (λ r. drafts_end start (map draft_of r)) (up_to groups i x d h e) ∙ ap (drafts_end start) (drafts_append (take i groups) (x ∷ []))
     ∙ ends_append start (map draft_of (take i groups)) (draft_of x ∷ [])
 
+-- no draft of a chain ends behind the end of all its drafts
 pub ends_within : (start : ℕ) (groups : List Group) (i : ℕ) (x d : Group) → i < length groups → x ≡ get_or groups i d
     → draft_end (draft_of x) (drafts_end start (map draft_of (take i groups))) ≤ drafts_end start (map draft_of groups)
 ends_within start groups i x d h e =
@@ -82,6 +86,7 @@ ends_within start groups i x d h e =
     let low = drafts_low end rest in
     rw same low
 
+-- however many drafts are taken of a chain that begins at 8, they end no lower than 8
 pub ends_low : (groups : List Group) (i : ℕ) → 8 ≤ drafts_end 8 (map draft_of (take i groups))
 ends_low groups i = drafts_low 8 (map draft_of (take i groups))
 
@@ -91,6 +96,7 @@ unfolding write_fault
 refused_empty [] h = refl
 refused_empty (x ∷ groups) h = absurd (omega (arith, eqb-true (length (x ∷ groups)) 0 h))
 
+-- groups whose number is not 0 are at least one
 pub some_groups : (groups : List Group) → (length groups == 0) ≡ false → 0 < length groups
 some_groups [] h = absurd cc
 some_groups (x ∷ groups) h = omega arith
@@ -106,14 +112,17 @@ some_same : (groups : List Group) (cause : Option WriteFault) → is_some cause 
 some_same groups None s = absurd cc
 some_same groups (Some c) s = refl
 
+-- where a group has a cause, the first such cause is that for which nothing is written
 pub refused_first : (groups : List Group) (cause : Option WriteFault) → 0 < length groups → cause ≡ first_group_fault groups → is_some cause ≡ true → cause ≡ write_fault groups
 refused_first groups cause h e s = some_same groups cause s ∙ sym (by_first groups cause h (sym e))
 
+-- groups without a cause whose end 32 bits do not hold are refused for too large an offset
 pub refused_end : (groups : List Group) (cause : Option WriteFault) → 0 < length groups → cause ≡ first_group_fault groups → is_some cause ≡ false
     → ¬ (drafts_end 8 (map draft_of groups) < 2 ^ 32) → Some OffsetTooLarge ≡ write_fault groups
 refused_end groups cause h e s far =
     sym (by_first groups None h (sym e ∙ none_of cause s) ∙ rw (lt-ltb 4294967295 (drafts_end 8 (map draft_of groups)) (omega arith)) refl)
 
+-- one group or more without a cause, whose end 32 bits hold, are not refused
 pub refused_never : (groups : List Group) (cause : Option WriteFault) → 0 < length groups → cause ≡ first_group_fault groups → is_some cause ≡ false
     → drafts_end 8 (map draft_of groups) < 2 ^ 32 → None ≡ write_fault groups
 refused_never groups cause h e s near =
@@ -165,6 +174,7 @@ plans_done groups i start plans h so =
     let D : List Plan → Type 0 = ArePlans 8 (map draft_of groups) in
     subst D (append-nil plans) (so [] (subst A (sym none) tt))
 
+-- before the first plan is made, the plans still to come are those of all groups
 pub plans_none : (groups : List Group) (more : List Plan) → ArePlans 8 (map draft_of groups) more → ArePlans 8 (map draft_of groups) ([] ++ more)
 plans_none groups more h = h
 
@@ -173,11 +183,13 @@ none_first : (cause : Option WriteFault) (rest : Option WriteFault) → (let r :
 none_first None rest h = refl
 none_first (Some c) rest h = absurd cc
 
+-- of groups that are written, none has a cause
 pub written_clean : (groups : List Group) → write_fault groups ≡ None → first_group_fault groups ≡ None
 unfolding write_fault
 written_clean [] h = absurd cc
 written_clean (x ∷ groups) h = none_first (first_group_fault (x ∷ groups)) _ h
 
+-- where groups are written, 32 bits hold the end of each of them
 pub written_within : (groups : List Group) (i start : ℕ) (x d : Group) → write_fault groups ≡ None → i < length groups → x ≡ get_or groups i d
     → start ≡ drafts_end 8 (map draft_of (take i groups)) → draft_end (draft_of x) start < 2 ^ 32
 written_within groups i start x d h k e s =

@@ -86,6 +86,7 @@ pub record IsBetween (start end place : ℕ) : Type 0 where
   pub low : start ≤ place
   pub high : place ≤ end
 
+-- a draft's first directory, its values and its blocks of each kind begin within the draft
 pub record PlacesWithin (draft : Draft) (start : ℕ) : Type 0 where
   pub in_tiff : IsBetween start (draft_end draft start) (tiff_place draft start)
   pub in_tiff_values : IsBetween start (draft_end draft start) (tiff_values draft start)
@@ -93,6 +94,7 @@ pub record PlacesWithin (draft : Draft) (start : ℕ) : Type 0 where
   pub in_tiles : IsBetween start (draft_end draft start) (tiles_place draft start)
   pub in_jpeg : IsBetween start (draft_end draft start) (jpeg_place draft start)
 
+-- in each draft, wherever it starts, these places lie between its start and its end
 pub places_within : (draft : Draft) (start : ℕ) → PlacesWithin draft start
 places_within draft start =
     let g = places_grow draft start in
@@ -128,6 +130,7 @@ pub record ValuesWithin (draft : Draft) (start : ℕ) : Type 0 where
   pub in_gps : IsBetween start (strips_place draft start) (gps_values draft start)
   pub in_interop : IsBetween start (strips_place draft start) (interop_values draft start)
 
+-- in each draft, the values of each directory begin between its start and its strips
 pub all_values_within : (draft : Draft) (start : ℕ) → ValuesWithin draft start
 all_values_within draft start =
     let w = places_within draft start in

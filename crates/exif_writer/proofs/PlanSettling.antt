@@ -37,6 +37,7 @@ slot_same : (start : ℕ) (slot : Slot) → symbol (settle_slot start slot) ≡ 
 slot_same start slot =
     elim (nat_le (content_size slot.content) 4) as (λ b. symbol (if b then record slot { size = content_size slot.content } else record slot { size = content_size slot.content; place = even start; padded = start % 2 == 1 }) ≡ symbol slot) [ true ↦ refl | false ↦ refl ]
 
+-- settling slots leaves all that images see of them: tags and contents
 pub settle_same : (start : ℕ) (slots : List Slot) → map symbol (settle start slots) ≡ map symbol slots
 settle_same start [] = refl
 settle_same start (slot ∷ slots) = λ i. slot_same start slot i ∷ settle_same (after_slot start slot) slots i
@@ -51,6 +52,7 @@ settled_by : (start : ℕ) (slot : Slot) (b : Bool) → nat_le (content_size slo
 settled_by start slot true e = record { size = refl; place = λ h. absurd (true≢false (sym e ∙ h)); padded = λ h. absurd (true≢false (sym e ∙ h)) }
 settled_by start slot false e = record { size = refl; place = λ h. refl; padded = λ h. refl }
 
+-- settled slots have their sizes, and their values outside stand one behind the other
 pub settle_are : (start : ℕ) (slots : List Slot) → AreSettled start (settle start slots)
 settle_are start [] = tt
 settle_are start (slot ∷ slots) =
@@ -90,6 +92,7 @@ settling start symbols old lent new same lend e =
     let P : List Slot → Type 0 = AreSettled start in
     record { same = ap (map symbol) whole ∙ settle_same start old.items ∙ same; are = subst P (sym whole) (settle_are start old.items) }
 
+-- a vector whose slots are settled from a place on is a settled directory that says the same
 pub settling_at : {Z : Type 0} {start place : ℕ} {symbols : List format.Slot} → start ≡ place → (old : Vec Slot Z) {lent : List Slot} (new : List Slot) → map symbol old.items ≡ symbols → lent ≡ old.items
     → new ≡ settle start lent → IsSettling place symbols (with_items old new).items
 settling_at {start = start} {symbols = symbols} at old {lent = lent} new same lend e =

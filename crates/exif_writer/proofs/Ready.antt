@@ -67,6 +67,7 @@ ends_same values (slot ∷ slots) =
     ends_same (after_value values (content_size slot.content)) slots
     ∙ (λ i. after_values (after_value values ((sym (size_is slot.content)) i)) (map symbol slots))
 
+-- the values of lent slots end where images say that the values of these slots end
 pub ends_at : (place : ℕ) {end : ℕ} {lent items : List Slot} {symbols : List format.Slot} → lent ≡ items → map symbol items ≡ symbols → end ≡ values_end place lent
     → end ≡ after_values place symbols
 ends_at place {lent = lent} l s e = e ∙ ends_same place lent ∙ ap (after_values place) (ap (map symbol) l ∙ s)

@@ -71,6 +71,7 @@ measures places (PlacesOf blocks texts) = record { type = refl; count = places_l
 measures places (LengthsOf kind texts) = record { type = refl; count = lens_length texts.now }
 measures places (PlaceOf context) = record { type = refl; count = refl }
 
+-- a value is as long in the program as it is in the words of images
 pub size_is : (content : Content) → content_len (symbol_of content) ≡ content_size content
 size_is (Known value) = (same_moved value 0).len
 size_is (OneShort x) = refl
@@ -150,6 +151,7 @@ value_laid order draft start places h at values slot slots k s more false e =
     ∙ ap (λ r. replicate (if slot.padded then 1 else 0) 0 ++ (encode order (settled places slot.content) ++ r)) (rw e at more)
     ∙ sym (append_assoc (replicate (if slot.padded then 1 else 0) 0) (encode order (settled places slot.content)) (values_text order places slots)))
 
+-- values of known types in settled slots, laid at their places, are what is sent of them
 pub values_are : (order : Order) (draft : Draft) (start : ℕ) (places : Places) → ArePlaces draft start places → (at values : ℕ) (slots : List Slot) → AllKnown (map symbol slots) → AreSettled values slots
     → laid values (value_parts order (written draft start at values (map symbol slots))) ≡ values_text order places slots
 values_are order draft start places h at values [] k s = refl
@@ -171,6 +173,7 @@ directory_is order draft start places h from place at values next (slot ∷ slot
     ap (λ r. replicate (place - from) 0 ++ r) (append-nil _)
     ∙ (λ i. replicate (place - from) 0 ++ (spelled order 2 (count i) ++ ((sym (entries_are order draft start places h at values (slot ∷ slots) s)) i ++ spelled order 4 next)))
 
+-- a directory that names no next one, laid from its place on, is what is sent of it, even empty
 pub child_is : (order : Order) (draft : Draft) (start : ℕ) (places : Places) → ArePlaces draft start places → (place at values : ℕ) (slots : List Slot) → AreSettled values slots
     → laid place (directory_part order place 0 (written draft start at values (map symbol slots))) ≡ slots_text order places 0 slots
 child_is order draft start places h place at values [] s = refl
@@ -179,6 +182,7 @@ child_is order draft start places h place at values (slot ∷ slots) s =
     directory_is order draft start places h place place at values 0 (slot ∷ slots) s (omega arith)
     ∙ (λ i. replicate (none i) 0 ++ slots_text order places 0 (slot ∷ slots))
 
+-- the places that a plan is made of are those of its draft
 pub are_places : (draft : Draft) (start next : ℕ) → ArePlaces draft start (places_of draft start next)
 are_places draft start next = record {
   block = λ blocks. elim blocks as (λ b. block_place (places_of draft start next) b ≡ blocks_place draft start b) [ Strips ↦ refl | Tiles ↦ refl | Jpeg ↦ refl ];
@@ -279,6 +283,7 @@ pub record IsSendable (draft : Draft) : Type 0 where
   pub some : 0 < length (draft.slots Tiff)
   pub known : (context : Context) → AllKnown (draft.slots context)
 
+-- the parts of drafts that can be sent, laid from a place on, are what is sent of their plans
 pub parts_are : (order : Order) (start : ℕ) (drafts : List Draft) (plans : List Plan) → AllByRecursion IsSendable drafts → ArePlans start drafts plans
     → laid start (parts_from order start drafts) ≡ plans_text order plans
 parts_are order start [] [] s h = refl

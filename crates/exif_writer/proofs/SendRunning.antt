@@ -16,12 +16,14 @@ use Rattle.exif_images.specs.Places.{places_from}
 use Rattle.exif_base.specs.Sent.{Sends}
 use Rattle.exif_base.specs.declared.device.Sink as sink
 
+-- the texts of two lists joined: those of the first, and those of the second from its state on
 pub run-append : {S X : Type 0} (step : S → X → S) (text : S → X → List ℕ) (s : S) (xs ys : List X)
     → run step text s (xs ++ ys) ≡ run step text s xs ++ run step text (state step s xs) ys
 run-append step text s [] ys = refl
 run-append step text s (x ∷ xs) ys =
     ap (λ r. text s x ++ r) (run-append step text (step s x) xs ys) ∙ sym (append_assoc (text s x) (run step text (step s x) xs) (run step text (state step (step s x) xs) ys))
 
+-- the state behind two lists is that behind the second, begun from that behind the first
 pub state-append : {S X : Type 0} (step : S → X → S) (s : S) (xs ys : List X) → state step s (xs ++ ys) ≡ state step (state step s xs) ys
 state-append step s [] ys = refl
 state-append step s (x ∷ xs) ys = state-append step (step s x) xs ys
@@ -30,6 +32,7 @@ state-append step s (x ∷ xs) ys = state-append step (step s x) xs ys
 pub up_to : {X : Type 0} (xs : List X) (i : ℕ) (x d : X) → i < length xs → x ≡ get_or xs i d → take (i + 1) xs ≡ take i xs ++ x ∷ []
 up_to xs i x d h e = take_more xs i d h ∙ ap (λ y. take i xs ++ y ∷ []) (sym e)
 
+-- a step over the next member leads from the state in front of it to that behind it
 pub state_more : {S X : Type 0} (step : S → X → S) (s t : S) (xs : List X) (i : ℕ) (x d : X) → i < length xs → x ≡ get_or xs i d
     → t ≡ state step s (take i xs) → step t x ≡ state step s (take (i + 1) xs)
 state_more step s t xs i x d h e k =
@@ -43,6 +46,7 @@ run_more step text s t xs i x d h e k =
     ∙ ap (λ r. run step text s (take i xs) ++ r) (sym (append-nil (text (state step s (take i xs)) x)))
     ∙ sym (ap (run step text s) (up_to xs i x d h e) ∙ run-append step text s (take i xs) (x ∷ []))
 
+-- where the first members' texts were sent and then the next one's, those of one more were
 pub runs_member : {S X Z T E : Type 0} {W : sink.Ghosts Z} {a b c : Z} {y : T} (step : S → X → S) (text : S → X → List ℕ) (s t : S) (xs : List X) (i : ℕ) (x d : X)
     → i < length xs → x ≡ get_or xs i d → t ≡ state step s (take i xs)
     → HasSent W a b (run step text s (take i xs)) → (let r : Result T E = Ok y in Sends W b c r (text t x)) → HasSent W a c (run step text s (take (i + 1) xs))
@@ -76,11 +80,13 @@ pub run_places : (order : Order) (first : ℕ) (texts : List (Bor (List ℕ)))
 run_places order first [] = refl
 run_places order first (t ∷ texts) = ap (λ r. spelled order 4 first ++ r) (run_places order (first + length t.now) texts)
 
+-- spelling the length of each text gives the same bytes as spelling the list of lengths
 pub lengths_text : (order : Order) (texts : List (Bor (List ℕ)))
     → flat_map (λ (b : Bor (List ℕ)). spelled order 4 (length b.now)) texts ≡ flat_map (spelled order 4) (lens texts)
 lengths_text order [] = refl
 lengths_text order (t ∷ texts) = ap (λ r. spelled order 4 (length t.now) ++ r) (lengths_text order texts)
 
+-- the texts of two lists take as many bytes together as those of each list added up
 pub sum_append : (xs ys : List (Bor (List ℕ))) → sum_of (xs ++ ys) ≡ sum_of xs + sum_of ys
 sum_append [] ys = omega arith
 sum_append (x ∷ xs) ys = let e = sum_append xs ys in omega arith
@@ -92,6 +98,7 @@ sum_within xs i x d h e =
     ap sum_of (around xs i x d h e) ∙ sum_append (take i xs) (x ∷ drop (i + 1) xs) in
     omega arith
 
+-- a place that moves on by each text's length ends all their lengths behind where it began
 pub state_sum : (s : ℕ) (xs : List (Bor (List ℕ))) → state (λ (p : ℕ) (x : Bor (List ℕ)). p + length x.now) s xs ≡ s + sum_of xs
 state_sum s [] = omega arith
 state_sum s (x ∷ xs) = let e = state_sum (s + length x.now) xs in omega arith
@@ -100,6 +107,7 @@ state_sum s (x ∷ xs) = let e = state_sum (s + length x.now) xs in omega arith
 abbrev pub no_text : Bor (List ℕ)
 no_text = record { ref_ptr = (0, 0); now = [] }
 
+-- where a result is an Ok, what follows from what holds there holds too
 pub map_ok : {T E : Type 0} (r : Result T E) (P Q : Type 0) → (P → Q) → OnOk r P → OnOk r Q
 map_ok (Ok x) P Q f h = f h
 map_ok (Err e) P Q f h = tt

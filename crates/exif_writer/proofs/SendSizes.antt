@@ -39,6 +39,7 @@ known_unit (Float xs) type h = let e : field_type.Float ≡ type = cc in ap unit
 known_unit (Double xs) type h = let e : field_type.Double ≡ type = cc in ap unit_length e
 known_unit (Unknown type count old) other h = absurd cc
 
+-- a value of a known type has no more members than bytes
 pub count_within : (content : Content) → IsKnownContent content → content_count content ≤ content_size content
 count_within (Known value) h = value_within value h
 count_within (OneShort x) h = omega arith
@@ -63,6 +64,7 @@ all_at P (y ∷ xs) (suc i) x d a h e = all_at P xs i x d a.1 (omega arith) e
 pub slot_low : (place : ℕ) (slot : Slot) → place ≤ after_slot place slot
 slot_low place slot = elim (nat_le (content_size slot.content) 4) as (λ b. place ≤ (if b then place else even place + content_size slot.content)) [ true ↦ omega arith | false ↦ omega arith ]
 
+-- the values of slots end no lower than they begin
 pub slots_low : (place : ℕ) (slots : List Slot) → place ≤ values_end place slots
 slots_low place [] = omega arith
 slots_low place (slot ∷ slots) = let a = slot_low place slot in let b = slots_low (after_slot place slot) slots in omega arith

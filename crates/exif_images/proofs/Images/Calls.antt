@@ -147,12 +147,14 @@ made_at calls m =
       jpeg = set_after (λ g. g.jpeg) (jpeg_in m) m (jpeg_after m) calls [] i;
     }
 
+-- calls make a group for each number up to the greatest, with what was pushed and last set
 pub is_made_of : (calls : List Call) → IsMadeOf calls
 is_made_of calls =
     let n : length (made calls) ≡ directories calls = (let e = length-after calls [] in omega arith) in
     tabulated (group_made calls) 0 (made calls) (λ m k. let e : m ≡ 0 + m = omega arith in made_at calls m ∙ ap (group_made calls) e)
     ∙ ap (λ k. map (group_made calls) (range_with_len 0 k)) n
 
+-- pushing fields one after the other makes the same groups as calls that push them
 pub pushes_are_calls : (fields : List Field) (groups : List Group) → PushesAreCalls fields groups
 pushes_are_calls [] groups = refl
 pushes_are_calls (field ∷ fields) groups = pushes_are_calls fields (pushed field groups)

@@ -53,6 +53,7 @@ entries_at : (groups : List Group) (m : ℕ) → m < length groups → AreRanged
 entries_at groups m h ranged =
     all_at (λ group. (context : Context) → AllByRecursion (IsEntry context) (pushed_in group context)) groups m h ranged
 
+-- each block of an image that is written stands where the two fields of its kind say
 pub blocks_stand : (order : Order) (groups : List Group) → AreRanged groups → write_fault groups ≡ None → BlocksStand order groups
 blocks_stand order groups ranged written ifd kind texts h is =
     let stands = parts_stand order groups (not_refused groups written).each in

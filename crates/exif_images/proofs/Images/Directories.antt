@@ -23,12 +23,14 @@ use Rattle.exif_images.proofs.Images.Standing.{stands_left, stands_right, number
 use Rattle.exif_images.proofs.Images.Places.{AllWrittenKnown, length-entry_texts, length-value_of, length-entry_text}
 use Rattle.exif_images.proofs.Images.Entries.{entry_is, fits_known}
 
+-- pieces that give fields without a fault give them one after the other when joined
 pub gives_append : (xs ys : List Node) (us vs : List Field) → Gives xs us → Gives ys vs → Gives (xs ++ ys) (us ++ vs)
 gives_append xs ys us vs g h = record {
   seen = fields-append xs ys ∙ rw (g.seen, h.seen) refl;
   clean = faults-append xs ys ∙ rw (g.clean, h.clean) refl;
 }
 
+-- no nodes give no fields and no fault
 pub gives_nothing : Gives [] []
 gives_nothing = record { seen = refl; clean = refl }
 
@@ -107,6 +109,7 @@ pub record IsWhole (order : Order) (bytes : List ℕ) (place next : ℕ) (entrie
   pub end : directory_end (number_of order) bytes place ≡ Ok next
   pub texts : Stands bytes (place + 2) (flat_map (entry_text order) entries)
 
+-- a directory whose text stands, of at most 65535 entries of known types, is read whole
 pub directory_read : (order : Order) (bytes : List ℕ) (place next : ℕ) (entries : List Written) → length entries ≤ 65535 → next < 256 ^ 4
     → AllWrittenKnown entries → Stands bytes place (directory_text order next entries) → IsWhole order bytes place next entries
 directory_read order bytes place next entries few low known s =

@@ -21,6 +21,7 @@ use Rattle.exif_images.proofs.Images.Words.{Fits}
 use Rattle.exif_images.proofs.Images.Standing.{stands_left, stands_right, number_read, length_spelled}
 use Rattle.exif_images.proofs.Images.Values.{decode_read, length-encode}
 
+-- a value that fits is of a known type
 pub fits_known : (value : Value) → Fits value → is_unknown value ≡ false
 fits_known (Unknown type count place) h = absurd h
 fits_known (Byte xs) h = refl
@@ -41,6 +42,7 @@ pub record IsCounted (value : Value) : Type 0 where
   pub type : type_number value ≤ 12
   pub count : count_of value ≤ value_len value
 
+-- a value that fits has a type of at most 12, and no more items than bytes
 pub counted : (value : Value) → Fits value → IsCounted value
 counted (Unknown type count place) h = absurd h
 counted (Byte xs) h = record { type = omega arith; count = omega arith }

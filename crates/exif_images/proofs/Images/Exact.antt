@@ -20,6 +20,7 @@ span_inserted slot (next ∷ slots) =
           ap (λ n. y + n) e ∙ s
     ]
 
+-- sorting by tag doesn't change how many bytes the values outside of entries take
 pub span_sorted : (slots : List Slot) → span (in_tag_order slots) ≡ span slots
 span_sorted [] = refl
 span_sorted (slot ∷ slots) = span_inserted slot (in_tag_order slots) ∙ ap (λ n. (if fits slot then 0 else even (content_len slot.content)) + n) (span_sorted slots)
@@ -51,6 +52,7 @@ last_inserted slot (next ∷ slots) = go (nat_le slot.tag next.tag) refl (last_i
     go false e ih =
         rw e (ap (λ l. if fits next then l else later next l) ih ∙ both (fits next) (fits slot) (leb-false slot.tag next.tag e) (last_out slots))
 
+-- nor which slot is the last in tag order of those with values outside
 pub last_sorted : (slots : List Slot) → last_out (in_tag_order slots) ≡ last_out slots
 last_sorted [] = refl
 last_sorted (slot ∷ slots) = last_inserted slot (in_tag_order slots) ∙ ap (λ l. if fits slot then l else later slot l) (last_sorted slots)
@@ -73,6 +75,7 @@ last_high n (slot ∷ slots) last a e = go (fits slot) (last_out slots) refl ref
         pick true e = let s : slot ≡ last = cc in let t = ap (λ (z : Slot). z.tag) s in let low = a.0 in omega arith
         pick false e = let s : t ≡ last = cc in let u = ap (λ (z : Slot). z.tag) s in let low = ih t k in omega arith
 
+-- where no slot has its value outside, such values take no bytes
 pub span_none : (slots : List Slot) → last_out slots ≡ None → span slots ≡ 0
 span_none [] e = refl
 span_none (slot ∷ slots) e = go (fits slot) (last_out slots) refl refl (span_none slots) e
@@ -139,6 +142,7 @@ last_pushed (x ∷ slots) slot = ap (λ l. if fits x then l else later x l) (las
     both false true l = refl
     both false false l = newer_later x slot l
 
+-- one more slot adds its value's even length, or nothing where that fits into its entry
 pub span_pushed : (slots : List Slot) (slot : Slot) → span (slots ++ slot ∷ []) ≡ span slots + (if fits slot then 0 else even (content_len slot.content))
 span_pushed [] slot = omega arith
 span_pushed (x ∷ slots) slot =

@@ -29,6 +29,7 @@ each_text (text ∷ texts) h =
     let plain : List ℕ → Type 0 = All (λ b. b ≢ 0) in
     (each_of (λ b. b ≢ 0) text (All-head plain text texts h), each_text texts (All-tail plain text texts h))
 
+-- a value fits if its numbers are in range, its texts plain and its type known
 pub fits_of : (value : Value) → IsRanged value → HasPlainTexts value → is_unknown value ≡ false → Fits value
 fits_of (Byte xs) r z u = tt
 fits_of (Ascii xs) r z u = each_text xs z
@@ -81,6 +82,7 @@ blocks_fit draft kind (Some texts) p l a b e = (
   (record { tag = l; content = (ap (map length) (sym e), b) }, tt),
 )
 
+-- each slot of an accepted group fits, where its values are in range and its texts plain
 pub slots_fit : (group : Group)
     → ((context : Context) → AllByRecursion (IsEntry context) (pushed_in group context))
     → ((context : Context) → AllByRecursion (λ entry. HasPlainTexts entry.value) (pushed_in group context)) → IsAccepted group

@@ -77,6 +77,7 @@ module _ (draft : Draft) (start ifd : ℕ) where
   sum_is depth context here h =
       entries_add context here (directory_fields draft start ifd depth) (directory_place draft start here + 2) (values_place draft start here) (draft.slots here) h
 
+-- where each member gives nothing, the whole list gives nothing
 pub flat_nothing : {X Y : Type 0} (f : X → List Y) (l : List X) → AllByRecursion (λ x. f x ≡ []) l → flat_map f l ≡ []
 flat_nothing f [] h = refl
 flat_nothing f (x ∷ l) h = λ i. h.0 i ++ flat_nothing f l h.1 i
@@ -94,6 +95,7 @@ pub flat_sorted : {Y : Type 0} (f : Slot → List Y) (xs ys : List Slot) → All
 flat_sorted f [] ys h = refl
 flat_sorted f (x ∷ xs) ys h = flat_inserted f x (in_tag_order (xs ++ ys)) h.0 ∙ flat_sorted f xs ys h.1
 
+-- where each slot gives itself if it passes a test, else nothing, all give those that pass
 pub flat_filter : (f : Slot → List Slot) (test : Slot → Bool) (l : List Slot) → AllByRecursion (λ x. f x ≡ cond (test x) (x ∷ []) []) l → flat_map f l ≡ filter test l
 flat_filter f test [] h = refl
 flat_filter f test (x ∷ l) h = ap (λ r. r ++ flat_map f l) h.0 ∙ ap (λ r. cond (test x) (x ∷ []) [] ++ r) (flat_filter f test l h.1) ∙ chosen (test x)

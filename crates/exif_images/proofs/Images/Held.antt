@@ -59,6 +59,7 @@ flat_add fields m context =
     ∙ sym (ap (λ g. in_tag_order (map known (pushed_in g context))) (past_end made m past) ∙ ap (λ es. in_tag_order (map known es)) (empty_in context)))
     (cases_lt m (length made))
 
+-- in each directory the image of pushed fields has those pushed there, in tag order
 pub holds_in_tag_order : (fields : List Field) → HoldsInTagOrder fields
 holds_in_tag_order fields m context =
     adds_slots m context (flat (pushed_all fields []))

@@ -28,6 +28,7 @@ laid_blocks place (text ∷ texts) =
     (λ i. replicate (none i) 0 ++ (text ++ laid (place + length text) (block_parts (place + length text) texts)))
     ∙ ap (λ r. text ++ r) (laid_blocks (place + length text) texts)
 
+-- the header of an image takes 8 bytes, in either byte order
 pub length_header : (order : Order) → length (header_text order) ≡ 8
 length_header Big = refl
 length_header Little = refl

@@ -22,6 +22,7 @@ use Rattle.exif_images.proofs.Images.ReadBack.{Leaves, image_answer, image_leave
 use Rattle.exif_images.proofs.Images.Rewritten.{rewrites_same}
 use Rattle.exif_images.proofs.Images.Contents.{blocks_stand, same_images, reads_front}
 
+-- the parts of an image that is written stand side by side, at most one zero byte between two
 pub laid_out : (order : Order) (groups : List Group) → write_fault groups ≡ None → LaidOut order groups
 laid_out order groups h =
     let each = (not_refused groups h).each in
@@ -31,6 +32,7 @@ laid_out order groups h =
       pads = λ place within outside. pads_zero order groups each place (each_of (IsOutside place) (parts order (map draft_of groups)) outside);
     }
 
+-- an image that is written ends where its last draft does, below 2^32 bytes
 pub length_is_end : (order : Order) (groups : List Group) → write_fault groups ≡ None → LengthIsEnd order groups
 length_is_end order groups h =
     let accepted = not_refused groups h in
@@ -38,6 +40,7 @@ length_is_end order groups h =
     let end = length-image order groups accepted.each in
     record { end = end; small = omega arith }
 
+-- two fields name the places and the lengths of a directory's blocks, which stand there
 pub blocks_named : (order : Order) (groups : List Group) → AreRanged groups → write_fault groups ≡ None → BlocksStand order groups
 blocks_named order groups ranged h = blocks_stand order groups ranged h
 
@@ -45,10 +48,12 @@ whole : (lenient : Bool) (fields : List Field) → answer_of lenient (record { f
 whole true fields = refl
 whole false fields = refl
 
+-- readable groups are read back from their image whole, as their flat fields, in both modes
 pub reads_back : (order : Order) (groups : List Group) → AreReadable groups → ReadsBack order groups
 reads_back order groups h lenient =
     image_answer order groups (flat groups) [] h.written (read_back order groups h.ranged h.plain h.few h.written) lenient ∙ whole lenient (flat groups)
 
+-- of more than eight groups lenient reading gives the first eight, and strict reading none
 pub reads_first_eight : (order : Order) (groups : List Group) → AreRanged groups → HavePlainTexts groups → write_fault groups ≡ None → ReadsFirstEight order groups
 reads_first_eight order groups ranged plain h many =
     let leaves = reads_front order groups ranged plain h in
@@ -59,23 +64,28 @@ reads_first_eight order groups ranged plain h many =
       image_answer order groups fields (TooManyDirectories ∷ []) h one false,
     )
 
+-- pushing the fields of an image and setting the same blocks gives the same image
 pub rewrites : (order : Order) (groups : List Group) → AreRanged groups → write_fault groups ≡ None → RewritesSame order groups
 rewrites order groups ranged h = rewrites_same order groups ranged h
 
+-- what is read in one byte order, with the same blocks, gives the image in each order
 pub rewrites_in_each_order : (order : Order) (groups : List Group) → AreReadable groups → RewritesInEachOrder order groups
 rewrites_in_each_order order groups h lenient fields other read =
     let same : Whole fields ≡ Whole (flat groups) = sym read ∙ reads_back order groups h lenient in
     let exact : fields ≡ flat groups = cc in
     ap (λ fs. image other (all_blocks_set 0 groups (pushed_all fs []))) exact ∙ rewrites other groups h.ranged h.written
 
+-- readable groups have equal images in a byte order exactly if their fields and blocks are equal
 pub equal_by_contents : (order : Order) (groups : List Group) → AreReadable groups → EqualByContents order groups
 equal_by_contents order groups h others k = same_images order groups others h k
 
+-- groups that are written have images of one length in the two byte orders
 pub lengths_agree : (groups : List Group) → write_fault groups ≡ None → LengthsAgree groups
 lengths_agree groups h =
     let each = (not_refused groups h).each in
     length-image Big groups each ∙ sym (length-image Little groups each)
 
+-- and the two images are read alike, where values are in range and texts plain
 pub orders_agree : (groups : List Group) → AreRanged groups → HavePlainTexts groups → write_fault groups ≡ None → OrdersAgree groups
 orders_agree groups ranged plain h lenient =
     image_answer Big groups _ _ h (image_leaves Big groups ranged plain h) lenient ∙ sym (image_answer Little groups _ _ h (image_leaves Little groups ranged plain h) lenient)

@@ -328,6 +328,7 @@ places_under groups m kind h entries =
     let named = flat_named groups (places_tag kind) 0 m 8 h (named_slots group (places_tag kind) (own_places kind) entries) in
     (rw zero_add at named) ∙ ap (map (top_field (draft_of group) (start_at m 8 groups) m)) (own_slots group (places_tag kind) (own_places kind) entries ∙ three_places kind group.strips group.tiles (single group.jpeg) ∙ ap (places_slots kind) (in_cases group kind))
 
+-- under the tag of their lengths a group has one field of its blocks, or none if none are set
 pub lengths_under : (groups : List Group) (m : ℕ) (kind : BlockKind) → m < length groups → AllByRecursion (IsEntry Tiff) (group_at groups m).tiff
     → fields_under (lengths_tag kind) m (flat groups)
     ≡ map (top_field (draft_of (group_at groups m)) (start_at m 8 groups) m) (lengths_slots kind (blocks_in (group_at groups m) kind))

@@ -139,6 +139,7 @@ once_interop : (group : Group) → NamesOnce (interop_slots group)
 unfolding interop_slots
 once_interop group = once_sorted _ (once_alone group.interop)
 
+-- in no directory of a group do two entries name the same child
 pub names_once : (group : Group) (context : Context) → NamesOnce (slots_of group context)
 names_once group Tiff = once_tiff group
 names_once group Exif = once_exif group

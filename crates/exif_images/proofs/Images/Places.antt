@@ -23,18 +23,21 @@ length-places_from : (place : ℕ) (lengths : List ℕ) → length (places_from 
 length-places_from place [] = refl
 length-places_from place (len ∷ lengths) = ap suc (length-places_from (place + len) lengths)
 
+-- once its places are settled, a value takes as many bytes as was counted before
 pub length-value_of : (draft : Draft) (start : ℕ) (content : Content) → value_len (value_of draft start content) ≡ content_len content
 length-value_of draft start (Known value) = refl
 length-value_of draft start (PlacesOf blocks lengths) = ap (λ n. 4 * n) (length-places_from (blocks_place draft start blocks) lengths)
 length-value_of draft start (LengthsOf blocks lengths) = refl
 length-value_of draft start (PlaceOf context) = refl
 
+-- a value of a known type is still of one once its places are settled
 pub known_value : (draft : Draft) (start : ℕ) (content : Content) → IsKnown content → is_unknown (value_of draft start content) ≡ false
 known_value draft start (Known value) h = h
 known_value draft start (PlacesOf blocks lengths) h = refl
 known_value draft start (LengthsOf blocks lengths) h = refl
 known_value draft start (PlaceOf context) h = refl
 
+-- a directory has one written entry for each slot
 pub length-written : (draft : Draft) (start at values : ℕ) (slots : List Slot) → length (written draft start at values slots) ≡ length slots
 length-written draft start at values [] = refl
 length-written draft start at values (slot ∷ slots) = ap suc (length-written draft start (at + 12) (after_value values (content_len slot.content)) slots)
@@ -54,6 +57,7 @@ length-element order entry h true e =
     omega arith
 length-element order entry h false e = length_spelled order 4 entry.place
 
+-- an entry of a known type takes 12 bytes
 pub length-entry_text : (order : Order) (entry : Written) → is_unknown entry.value ≡ false → length (entry_text order entry) ≡ 12
 unfolding element_of
 length-entry_text order entry h =
@@ -71,11 +75,13 @@ length-entry_text order entry h =
 abbrev pub AllWrittenKnown : List Written → Type 0
 AllWrittenKnown entries = AllByRecursion (λ entry. is_unknown entry.value ≡ false) entries
 
+-- slots of known types are written as entries of known types
 pub known_written : (draft : Draft) (start at values : ℕ) (slots : List Slot) → AllKnown slots → AllWrittenKnown (written draft start at values slots)
 known_written draft start at values [] h = tt
 known_written draft start at values (slot ∷ slots) h =
     (known_value draft start slot.content h.0, known_written draft start (at + 12) (after_value values (content_len slot.content)) slots h.1)
 
+-- the entries of a directory, all of known types, take 12 bytes each
 pub length-entry_texts : (order : Order) (entries : List Written) → AllWrittenKnown entries → length (flat_map (entry_text order) entries) ≡ 12 * length entries
 length-entry_texts order [] h = omega arith
 length-entry_texts order (entry ∷ entries) h =
@@ -110,6 +116,7 @@ directory_spans order draft start next from place at values (slot ∷ slots) h o
 pub even_low : (n : ℕ) → n ≤ even n
 even_low n = omega arith
 
+-- the next even place is at most one byte on
 pub even_high : (n : ℕ) → even n ≤ n + 1
 even_high n = omega arith
 
@@ -127,12 +134,14 @@ value_span order draft start at values slot slots h more false e =
     length-encode order (value_of draft start slot.content) (known_value draft start slot.content h) ∙ length-value_of draft start slot.content in
     rw (same, e) (even_low values, even_high values, rw len (more (even values + content_len slot.content)))
 
+-- the values of a directory stand side by side from their first place to their end
 pub values_span : (order : Order) (draft : Draft) (start at values : ℕ) (slots : List Slot) → AllKnown slots
     → Spans values (value_parts order (written draft start at values slots)) (after_values values slots)
 values_span order draft start at values [] h = refl
 values_span order draft start at values (slot ∷ slots) h =
     value_span order draft start at values slot slots h.0 (λ v. values_span order draft start (at + 12) v slots h.1) (nat_le (content_len slot.content) 4) refl
 
+-- blocks stand side by side from their first place to their end
 pub blocks_span : (place : ℕ) (texts : List (List ℕ)) → Spans place (block_parts place texts) (after_blocks place texts)
 blocks_span place [] = refl
 blocks_span place (text ∷ texts) = (omega arith, omega arith, blocks_span (place + length text) texts)

@@ -81,6 +81,7 @@ entries_to : (Q : Context → Entry → Type 0) (groups : List Group) → Entrie
 entries_to Q groups h =
     all_by_number (λ group. (context : Context) → AllByRecursion (Q context) (pushed_in group context)) groups (λ m k context. h m context)
 
+-- where one property gives another, a list whose members have the one have the other too
 pub weaker : {X : Type 0} (P Q : X → Type 0) → ((x : X) → P x → Q x) → (xs : List X) → AllByRecursion P xs → AllByRecursion Q xs
 weaker P Q f [] h = tt
 weaker P Q f (x ∷ xs) h = (f x h.0, weaker P Q f xs h.1)
@@ -93,6 +94,7 @@ always_pushed fields =
     (always (λ field. is_ignored field.tag.0 field.tag.1 ≡ false → is_ignored field.tag.0 field.tag.1 ≡ false) (λ field e. e) fields)
     (empty_have Q)
 
+-- pushing fields with plain texts keeps the texts of all groups plain
 pub pushes_plain : (fields : List Field) (groups : List Group) → PushesPlainTexts fields groups
 pushes_plain fields groups plain h =
     let Q : Context → Entry → Type 0 = λ context entry. HasPlainTexts entry.value in
@@ -101,6 +103,7 @@ pushes_plain fields groups plain h =
     (weaker (λ field. HasPlainTexts field.value) (λ field. is_ignored field.tag.0 field.tag.1 ≡ false → HasPlainTexts field.value) (λ field p e. p) fields (each_of (λ field. HasPlainTexts field.value) fields plain))
     (entries_from Q groups h))
 
+-- pushing fields of numbers that fit keeps all entries such as a writer may hold
 pub pushes_ranged : (fields : List Field) (groups : List Group) → PushesRanged fields groups
 pushes_ranged fields groups ranged h =
     entries_to IsEntry (pushed_all fields groups)
@@ -109,6 +112,7 @@ pushes_ranged fields groups ranged h =
     (λ field p e. record { tag = p.tag; value = p.value; pushed = e }) fields (each_of IsFieldRanged fields ranged))
     (entries_from IsEntry groups h))
 
+-- pushing fields of the first n directories leaves at most n groups, if there were no more
 pub pushes_few : (n : ℕ) (fields : List Field) (groups : List Group) → PushesFew n fields groups
 pushes_few n fields groups low h = length-pushed_all fields groups n (each_of (λ field. field.ifd_num.0 < n) fields low) h
 
@@ -128,6 +132,7 @@ none_at [] m h Jpeg = refl
 none_at (group ∷ groups) zero h kind = h.0 kind
 none_at (group ∷ groups) (suc m) h kind = none_at groups m h.1 kind
 
+-- pushing fields sets no blocks where there were none
 pub pushes_no_blocks : (fields : List Field) (groups : List Group) → PushesNoBlocks fields groups
 pushes_no_blocks fields groups h =
     all_of NoBlocks (pushed_all fields groups)
@@ -149,6 +154,7 @@ set_nothing : (from : List Group) (n : ℕ) (groups : List Group) → AllByRecur
 set_nothing [] n groups h = refl
 set_nothing (group ∷ from) n groups h = ap (all_blocks_set (suc n) from) (set_none group n groups h.0) ∙ set_nothing from (suc n) groups h.1
 
+-- setting the blocks of groups that have none changes nothing
 pub sets_nothing : (from groups : List Group) → SetsNothing from groups
 sets_nothing from groups h = set_nothing from 0 groups (each_of NoBlocks from h)
 
@@ -170,6 +176,7 @@ has_pushed_and_blocks groups =
 abbrev IsOf : List Field → ℕ → Context → Entry → Type 0
 IsOf fields m context entry = (place : ℕ) → IsMoved fields (field_of context entry.tag m (moved_to place entry.value))
 
+-- the image of pushed fields has no others, but undefined values may have other places
 pub has_pushed_alone : (fields : List Field) → HasPushedAlone fields
 has_pushed_alone fields =
     let made : List Group = pushed_all fields [] in

@@ -16,12 +16,14 @@ use Rattle.exif_images.specs.Rewriting.{pushed_all, set_if, blocks_set, all_bloc
 abbrev pub group_at : List Group → ℕ → Group
 group_at groups ifd = get_or groups ifd empty_group
 
+-- after a change the group with its number is the changed one
 pub changed_same : (n : ℕ) (f : Group → Group) (groups : List Group) → group_at (changed n f groups) n ≡ f (group_at groups n)
 changed_same zero f [] = refl
 changed_same zero f (group ∷ groups) = refl
 changed_same (suc n) f [] = changed_same n f []
 changed_same (suc n) f (group ∷ groups) = changed_same n f groups
 
+-- and the groups with other numbers are as before
 pub changed_other : (n m : ℕ) (f : Group → Group) (groups : List Group) → n ≢ m → group_at (changed n f groups) m ≡ group_at groups m
 changed_other zero zero f groups h = absurd (h refl)
 changed_other zero (suc m) f [] h = refl
@@ -31,6 +33,7 @@ changed_other (suc n) zero f (group ∷ groups) h = refl
 changed_other (suc n) (suc m) f [] h = changed_other n m f [] (λ e. h (ap suc e))
 changed_other (suc n) (suc m) f (group ∷ groups) h = changed_other n m f groups (λ e. h (ap suc e))
 
+-- a change adds groups only as far as its number needs them
 pub length-changed : (n : ℕ) (f : Group → Group) (groups : List Group) → length (changed n f groups) ≡ max (length groups) (suc n)
 length-changed zero f [] = omega arith
 length-changed zero f (group ∷ groups) = omega arith
@@ -72,6 +75,7 @@ entries_added ifd context field =
     if is_ignored field.tag.0 field.tag.1 then []
     else (if field.ifd_num.0 == ifd then (if context_eq field.tag.0 context then entry_of field ∷ [] else []) else [])
 
+-- a push adds its entry behind those of its directory, and none elsewhere or if ignored
 pub pushed_entries : (field : Field) (groups : List Group) (ifd : ℕ) (context : Context)
     → pushed_in (group_at (pushed field groups) ifd) context ≡ pushed_in (group_at groups ifd) context ++ entries_added ifd context field
 pushed_entries field groups ifd context = go (is_ignored field.tag.0 field.tag.1) (field.ifd_num.0 == ifd) refl refl
@@ -100,6 +104,7 @@ added ifd context field =
 abbrev pub slots_in : List Group → ℕ → Context → List Slot
 slots_in groups ifd context = map known (pushed_in (group_at groups ifd) context)
 
+-- the slots that a push adds are those of the entries that it adds
 pub known_added : (ifd : ℕ) (context : Context) (field : Field) → map known (entries_added ifd context field) ≡ added ifd context field
 known_added ifd context field = cases (is_ignored field.tag.0 field.tag.1) (field.ifd_num.0 == ifd) (context_eq field.tag.0 context)
   where
@@ -116,6 +121,7 @@ pushed_adds field groups ifd context =
     ∙ map-append known (pushed_in (group_at groups ifd) context) (entries_added ifd context field)
     ∙ ap (λ r. slots_in groups ifd context ++ r) (known_added ifd context field)
 
+-- pushes one after the other add their slots to a directory in push order
 pub pushed_all_adds : (fields : List Field) (groups : List Group) (ifd : ℕ) (context : Context)
     → slots_in (pushed_all fields groups) ifd context ≡ slots_in groups ifd context ++ flat_map (added ifd context) fields
 pushed_all_adds [] groups ifd context = sym (append-nil (slots_in groups ifd context))
@@ -134,6 +140,7 @@ with_entry_blocks Exif entry group = refl
 with_entry_blocks Gps entry group = refl
 with_entry_blocks Interop entry group = refl
 
+-- a push leaves the blocks of every group as they were
 pub pushed_blocks : (field : Field) (groups : List Group) (ifd : ℕ) → blocks_at (group_at (pushed field groups) ifd) ≡ blocks_at (group_at groups ifd)
 pushed_blocks field groups ifd =
     elim (is_ignored field.tag.0 field.tag.1) as (λ b. blocks_at (group_at (if b then groups else changed field.ifd_num.0 (with_entry field.tag.0 (entry_of field)) groups) ifd) ≡ blocks_at (group_at groups ifd)) [
@@ -141,6 +148,7 @@ pushed_blocks field groups ifd =
       | false ↦ changed_keeps blocks_at field.ifd_num.0 ifd (with_entry field.tag.0 (entry_of field)) groups (with_entry_blocks field.tag.0 (entry_of field))
     ]
 
+-- so do pushes one after the other
 pub pushed_all_blocks : (fields : List Field) (groups : List Group) (ifd : ℕ) → blocks_at (group_at (pushed_all fields groups) ifd) ≡ blocks_at (group_at groups ifd)
 pushed_all_blocks [] groups ifd = refl
 pushed_all_blocks (field ∷ fields) groups ifd = pushed_all_blocks fields (pushed field groups) ifd ∙ pushed_blocks field groups ifd
@@ -187,6 +195,7 @@ all_set_below [] n m groups h = refl
 all_set_below (from ∷ froms) n m groups h =
     all_set_below froms (suc n) m (blocks_set from n groups) (omega arith) ∙ blocks_set_other from n m groups (λ e. omega arith)
 
+-- a group gets the blocks of the one that they are set from, and keeps its own where that has none
 pub all_set_at : (froms : List Group) (n m : ℕ) (groups : List Group) → m < length froms
     → group_at (all_blocks_set n froms groups) (n + m) ≡ with_blocks (group_at froms m) (group_at groups (n + m))
 all_set_at [] n m groups h = absurd (omega arith)

@@ -37,6 +37,7 @@ spans_le start end (p ∷ ps) s =
     let more = spans_le (p.place + length p.text) end ps s.2 in
     omega arith
 
+-- the draft of an accepted group ends no lower than it starts
 pub draft_end_le : (order : Order) (group : Group) (start : ℕ) → IsAccepted group → start ≤ draft_end (draft_of group) start
 draft_end_le order group start h = spans_le start (draft_end (draft_of group) start) _ (draft_spans order (draft_of group) start 0 h.some (known_slots group h))
 
@@ -118,6 +119,7 @@ unfolding image
 image_mark Big groups = refl
 image_mark Little groups = refl
 
+-- the header of an image names 8 as the place of the first directory
 pub image_first : (order : Order) (groups : List Group) → number_at (number_of order) 4 (image order groups) 4 ≡ 8
 unfolding image
 image_first Big groups = refl
@@ -128,6 +130,7 @@ unfolding image
 header_len Big groups = omega arith
 header_len Little groups = omega arith
 
+-- an image that is written has a good header, which names its byte order
 pub image_header : (order : Order) (groups : List Group) → write_fault groups ≡ None → header (image order groups) ≡ Ok order
 image_header order groups h =
     let accepted = not_refused groups h in
@@ -166,11 +169,13 @@ image_answer order groups fields faults h leaves lenient =
     (λ i. elim (image_header order groups h i) as (λ _. Answer) [ Err fault ↦ Refused fault | Ok read ↦ answer_of lenient (content_of (limited None (ordered_trace (number_of read) bytes))) ])
     ∙ (λ i. answer_of lenient (record { fields = leaves.seen i; faults = leaves.failed i }))
 
+-- a chain of no more groups than are followed has no fault
 pub faults_under : (count : ℕ) (groups : List Group) → length groups ≤ count → faults_over count groups ≡ []
 faults_under count [] h = refl
 faults_under zero (group ∷ groups) h = absurd (omega arith)
 faults_under (suc count) (group ∷ groups) h = faults_under count groups (omega arith)
 
+-- a chain of more groups than are followed has one fault, that there are too many
 pub faults_more : (count : ℕ) (groups : List Group) → count < length groups → faults_over count groups ≡ TooManyDirectories ∷ []
 faults_more count [] h = absurd (omega arith)
 faults_more zero (group ∷ groups) h = refl

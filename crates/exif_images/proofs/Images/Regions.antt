@@ -28,6 +28,7 @@ up_next : (values len next end : ℕ) (fits : Bool) → Next values len next fit
 up_next values len next end true n h = let same = n.inside refl in omega arith
 up_next values len next end false n h = let same = n.outside refl in omega arith
 
+-- values end no lower than where they begin
 pub after_values_up : (values : ℕ) (slots : List Slot) → values ≤ after_values values slots
 after_values_up values [] = omega arith
 after_values_up values (slot ∷ slots) =
@@ -44,6 +45,7 @@ lie_next values len next end false rest n up h =
     let same = n.outside refl in
     ((omega arith, omega arith), all_weaker (Lies next end) (Lies values end) (λ s l. (omega (arith, l.0), l.1)) rest h)
 
+-- each value outside of its entry lies between where the values begin and where they end
 pub values_lie : (values : ℕ) (slots : List Slot) → AllByRecursion (Lies values (after_values values slots)) (value_stretches values slots)
 values_lie values [] = tt
 values_lie values (slot ∷ slots) =
@@ -59,6 +61,7 @@ apart_next values len next end false rest n apart h =
     let same = n.outside refl in
     (all_weaker (Lies next end) (IsApart (record { place = even values; len = len })) (λ s l. inl (omega (arith, l.0))) rest h, apart)
 
+-- values that stand outside of their entries are apart from each other
 pub values_apart : (values : ℕ) (slots : List Slot) → AreApart (value_stretches values slots)
 values_apart values [] = tt
 values_apart values (slot ∷ slots) =

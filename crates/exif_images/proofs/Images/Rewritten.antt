@@ -89,6 +89,7 @@ flat_adds (group ∷ groups) n (suc m) start context h =
     ∙ (λ i. add_nothing (suc n + m) n context (directory_fields (draft_of group) start n 3 Tiff) (λ k. omega arith) (fields_numbered (draft_of group) start n 3 Tiff) i
     ++ flat_adds groups (suc n) m (draft_end (draft_of group) start) context (omega arith) i))
 
+-- choosing from two joined lists gives what is chosen from the first, then from the second
 pub filter-append : {X : Type 0} (test : X → Bool) (xs ys : List X) → filter test (xs ++ ys) ≡ filter test xs ++ filter test ys
 filter-append test [] ys = refl
 filter-append test (x ∷ xs) ys =
@@ -242,6 +243,7 @@ length-pushed field groups n h k =
       | false ↦ (let e = length-changed field.ifd_num.0 (with_entry field.tag.0 (entry_of field)) groups in omega arith)
     ]
 
+-- fields with directory numbers below n make no more than n groups, if there were no more
 pub length-pushed_all : (fields : List Field) (groups : List Group) (n : ℕ) → AllByRecursion (λ field. field.ifd_num.0 < n) fields → length groups ≤ n → length (pushed_all fields groups) ≤ n
 length-pushed_all [] groups n h k = k
 length-pushed_all (field ∷ fields) groups n h k = length-pushed_all fields (pushed field groups) n h.1 (length-pushed field groups n h.0 k)
@@ -266,6 +268,7 @@ all_numbered_below : (n ifd : ℕ) (fields : List Field) → ifd < n → AllNumb
 all_numbered_below n ifd [] h a = tt
 all_numbered_below n ifd (field ∷ fields) h a = (let e = a.0 in omega arith, all_numbered_below n ifd fields h a.1)
 
+-- no flat field has a directory number past that of the last group
 pub flat_below : (groups : List Group) (ifd start n : ℕ) → ifd + length groups ≤ n → AllByRecursion (λ field. field.ifd_num.0 < n) (flat_from ifd start (map draft_of groups))
 flat_below [] ifd start n h = tt
 flat_below (group ∷ groups) ifd start n h =
@@ -273,6 +276,7 @@ flat_below (group ∷ groups) ifd start n h =
     (all_numbered_below n ifd (directory_fields (draft_of group) start ifd 3 Tiff) (omega arith) (fields_numbered (draft_of group) start ifd 3 Tiff))
     (flat_below groups (suc ifd) (draft_end (draft_of group) start) n (omega arith))
 
+-- a number past the last group names the empty group
 pub past_end : (groups : List Group) (m : ℕ) → length groups ≤ m → group_at groups m ≡ empty_group
 past_end [] m h = refl
 past_end (group ∷ groups) zero h = absurd (omega arith)
@@ -282,6 +286,7 @@ empty_has_none : length (tiff_slots empty_group) ≡ 0
 unfolding tiff_slots exif_slots gps_slots interop_slots
 empty_has_none = refl
 
+-- what holds of all groups holds of the group with each number below their count
 pub all_at : (P : Group → Type 0) (groups : List Group) (m : ℕ) → m < length groups → AllByRecursion P groups → P (group_at groups m)
 all_at P [] m h a = absurd (omega arith)
 all_at P (group ∷ groups) zero h a = a.0

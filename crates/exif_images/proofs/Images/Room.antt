@@ -36,10 +36,12 @@ count_within (Unknown type count place) h = absurd cc
 value_low : (place len : ℕ) → place ≤ after_value place len
 value_low place len = elim (nat_le len 4) as (λ b. place ≤ (if b then place else even place + len)) [ true ↦ omega arith | false ↦ omega arith ]
 
+-- the values of a directory end no lower than their first place
 pub values_low : (place : ℕ) (slots : List Slot) → place ≤ after_values place slots
 values_low place [] = omega arith
 values_low place (slot ∷ slots) = le_trans (value_low place (content_len slot.content)) (values_low (after_value place (content_len slot.content)) slots)
 
+-- blocks end no lower than their first place
 pub blocks_low : (place : ℕ) (texts : List (List ℕ)) → place ≤ after_blocks place texts
 blocks_low place [] = omega arith
 blocks_low place (text ∷ texts) = let more = blocks_low (place + length text) texts in omega arith
@@ -52,6 +54,7 @@ value_room place len end h few = go (nat_le len 4) refl h
     go true e k = let low = leb-true len 4 e in omega arith
     go false e k = omega arith
 
+-- where values end no higher than at some place, at least 4, none is longer than it
 pub values_room : (place end : ℕ) (slots : List Slot) → after_values place slots ≤ end → 4 ≤ end → AllByRecursion (λ slot. content_len slot.content ≤ end) slots
 values_room place end [] h few = tt
 values_room place end (slot ∷ slots) h few = (
@@ -64,6 +67,7 @@ abbrev pub blocks_len : List (List ℕ) → ℕ
 blocks_len [] = 0
 blocks_len (text ∷ texts) = length text + blocks_len texts
 
+-- blocks end as many bytes behind their first place as they take in all
 pub blocks_end : (place : ℕ) (texts : List (List ℕ)) → after_blocks place texts ≡ place + blocks_len texts
 blocks_end place [] = omega arith
 blocks_end place (text ∷ texts) = let more = blocks_end (place + length text) texts in omega arith
@@ -83,6 +87,7 @@ pub record PlacesGrow (draft : Draft) (start : ℕ) : Type 0 where
   pub jpeg_up : tiles_place draft start ≤ jpeg_place draft start
   pub end_up : jpeg_place draft start ≤ draft_end draft start
 
+-- in every draft each place is no lower than the one before
 pub places_grow : (draft : Draft) (start : ℕ) → PlacesGrow draft start
 unfolding tiff_place exif_place gps_place interop_place tiff_values exif_values gps_values interop_values strips_place tiles_place jpeg_place draft_end
 places_grow draft start = record {
@@ -128,6 +133,7 @@ module _ (draft : Draft) (start : ℕ) where
   pub end_low : start ≤ draft_end draft start
   end_low = let t = (places_grow draft start).tiff_up in let d = directory_within Tiff in le_trans t d
 
+-- drafts end no lower than where the first one starts
 pub drafts_low : (start : ℕ) (drafts : List Draft) → start ≤ drafts_end start drafts
 drafts_low start [] = omega arith
 drafts_low start (draft ∷ drafts) = le_trans (end_low draft start) (drafts_low (draft_end draft start) drafts)

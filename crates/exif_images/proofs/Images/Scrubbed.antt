@@ -49,6 +49,7 @@ each_kept fields =
     weaker (IsMoved (kept fields)) (λ field. is_kept field ≡ true) (moved_kept fields) (flat (scrubbed fields))
     (each_of (IsMoved (kept fields)) (flat (scrubbed fields)) (has_pushed_alone (kept fields)))
 
+-- scrubbing what was read leaves at most eight plain groups, without GPS and unknown types
 pub scrubs_to_kept : (fields : List Field) → ScrubsToKept fields
 scrubs_to_kept fields read =
     let stay = each_kept fields in
@@ -66,6 +67,7 @@ scrubs_to_kept fields read =
       all_kept = all_pass is_kept (flat (scrubbed fields)) stay;
     }
 
+-- where rewriting gives the same image, scrubbing what was scrubbed gives it too
 pub scrubs_once : (order : Order) (fields : List Field) → ScrubsOnce order fields
 scrubs_once order fields same =
     let groups : List Group = scrubbed fields in
@@ -74,6 +76,7 @@ scrubs_once order fields same =
     ∙ ap (image order) (sym (sets_nothing groups (pushed_all (flat groups) []) bare))
     ∙ same
 
+-- scrubbed groups that are written are read back, and scrubbed again they give the same image
 pub scrubs : (order : Order) (fields : List Field) → Scrubs order fields
 scrubs order fields read ranged written =
     let left = scrubs_to_kept fields read in

@@ -16,6 +16,7 @@ use Rattle.exif_images.proofs.Images.Sorting.{length-sorted}
 use Rattle.exif_images.proofs.Moved.{moved_twice}
 use Rattle.exif_images.proofs.Images.Flat.{IsSettled, is_pushed, share, sum_of, sum_is, flat_nothing, flat_sorted, flat_filter}
 
+-- what holds of everything holds of all members of a list
 pub always : {X : Type 0} (P : X → Type 0) → ((x : X) → P x) → (l : List X) → AllByRecursion P l
 always P h [] = tt
 always P h (x ∷ l) = (h x, always P h l)
@@ -26,6 +27,7 @@ places_ignored Strips = refl
 places_ignored Tiles = refl
 places_ignored Jpeg = refl
 
+-- so is the tag of the lengths of blocks, of each kind
 pub lengths_ignored : (kind : BlockKind) → is_ignored Tiff (lengths_tag kind) ≡ true
 lengths_ignored Strips = refl
 lengths_ignored Tiles = refl
@@ -35,6 +37,7 @@ settled_blocks : (kind : BlockKind) (texts : Option (List (List ℕ))) → AllBy
 settled_blocks kind None = tt
 settled_blocks kind (Some texts) = (places_ignored kind, (lengths_ignored kind, tt))
 
+-- each slot of a group has no old place, or has a tag of the writer's own
 pub settled : (group : Group) (context : Context) → AllByRecursion (IsSettled context) (slots_of group context)
 settled group =
     all_slots IsSettled group

@@ -14,6 +14,7 @@ use Rattle.exif_images.specs.Image.{Part, laid}
 use Rattle.exif_images.specs.Layout.{Stands, Spans, IsOutside}
 use Rattle.exif_images.proofs.Images.Words.{AllStand}
 
+-- a text stands at a place if a front of that length comes before it
 pub stands_of : (bytes front text back : List ℕ) (place : ℕ) → bytes ≡ front ++ (text ++ back) → length front ≡ place → Stands bytes place text
 stands_of bytes front text back place e h =
     let len : length bytes ≡ length front + (length text + length back) =
@@ -23,30 +24,36 @@ stands_of bytes front text back place e h =
       there = ap (λ x. take (length text) (drop place x)) e ∙ ap (take (length text)) (drop_at front (text ++ back) place h) ∙ take_at text back (length text) refl;
     }
 
+-- bytes in which a text stands are what is before it, the text, and what is behind it
 pub stands_split : (bytes text : List ℕ) (place : ℕ) → Stands bytes place text → bytes ≡ take place bytes ++ (text ++ drop (length text) (drop place bytes))
 stands_split bytes text place s =
     sym (take-append-drop place bytes)
     ∙ ap (λ x. take place bytes ++ x) (sym (take-append-drop (length text) (drop place bytes)) ∙ ap (λ x. x ++ drop (length text) (drop place bytes)) s.there)
 
+-- what is before a text that stands is as long as its place
 pub stands_front : (bytes text : List ℕ) (place : ℕ) → Stands bytes place text → length (take place bytes) ≡ place
 stands_front bytes text place s = let h = s.within in length-take-le place bytes (omega arith)
 
+-- where two joined texts stand, the first stands at their place
 pub stands_left : (bytes x y : List ℕ) (place : ℕ) → Stands bytes place (x ++ y) → Stands bytes place x
 stands_left bytes x y place s =
     stands_of bytes (take place bytes) x (y ++ drop (length (x ++ y)) (drop place bytes)) place
     (stands_split bytes (x ++ y) place s ∙ ap (λ z. take place bytes ++ z) (append_assoc x y _))
     (stands_front bytes (x ++ y) place s)
 
+-- and the second stands where the first ends
 pub stands_right : (bytes x y : List ℕ) (place next : ℕ) → Stands bytes place (x ++ y) → next ≡ place + length x → Stands bytes next y
 stands_right bytes x y place next s h =
     stands_of bytes (take place bytes ++ x) y (drop (length (x ++ y)) (drop place bytes)) next
     (stands_split bytes (x ++ y) place s ∙ ap (λ z. take place bytes ++ z) (append_assoc x y _) ∙ sym (append_assoc (take place bytes) x _))
     (length-append (take place bytes) x ∙ ap (λ n. n + length x) (stands_front bytes (x ++ y) place s) ∙ sym h)
 
+-- a number spelled in n bytes takes n bytes, in either byte order
 pub length_spelled : (order : Order) (n x : ℕ) → length (spelled order n x) ≡ n
 length_spelled Big n x = length-bytes_high_first n x
 length_spelled Little n x = length-bytes_low_first 0 n x
 
+-- a number below 256^n, spelled in n bytes, is read from them as it was
 pub number_spelled : (order : Order) (n x : ℕ) (rest : List ℕ) → x < 256 ^ n → number_of order n (spelled order n x ++ rest) ≡ x
 number_spelled Big n x rest h = big_number-reads_back n x rest h
 number_spelled Little n x rest h = little_number-reads_back n x rest h
@@ -58,6 +65,7 @@ number_read order n x place bytes h s =
     ap (number_of order n) (sym (take-append-drop (length text) (drop place bytes)) ∙ ap (λ z. z ++ drop (length text) (drop place bytes)) s.there)
     ∙ number_spelled order n x _ h
 
+-- parts side by side up to a place, and others from there on, are side by side when joined
 pub spans_append : (start middle end : ℕ) (ps qs : List Part) → Spans start ps middle → Spans middle qs end → Spans start (ps ++ qs) end
 spans_append start middle end [] qs s t = let P : ℕ → Type 0 = λ n. Spans n qs end in rw s t
 spans_append start middle end (p ∷ ps) qs s t = (s.0, s.1, spans_append (p.place + length p.text) middle end ps qs s.2 t)

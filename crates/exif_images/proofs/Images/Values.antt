@@ -66,6 +66,7 @@ length_pair : (order : Order) (x y : ℕ) → length (spelled order 4 x ++ spell
 length_pair order x y =
     length-append (spelled order 4 x) (spelled order 4 y) ∙ rw (length_spelled order 4 x, length_spelled order 4 y) refl
 
+-- a value of a known type is spelled in as many bytes as its length says
 pub length-encode : (order : Order) (value : Value) → is_unknown value ≡ false → length (encode order value) ≡ value_len value
 length-encode order (Byte xs) h = omega arith
 length-encode order (Ascii xs) h = omega arith

@@ -25,6 +25,7 @@ use Rattle.exif_images.proofs.Images.Standing.{spans_append, laid_stand, laid_ze
 use Rattle.exif_images.proofs.Images.Places.{draft_spans}
 use Rattle.exif_images.proofs.Images.Slots.{all_slots}
 
+-- two tests joined by or say no only where each of them says no
 pub or_false : (a b : Bool) → (a || b) ≡ false → (a ≡ false) × (b ≡ false)
 or_false true b h = absurd cc
 or_false false b h = (refl, h)
@@ -39,6 +40,7 @@ otherwise : (b : Bool) (cause : WriteFault) (rest : Option WriteFault) → (if b
 otherwise true cause rest h = absurd cc
 otherwise false cause rest h = (refl, h)
 
+-- a group without a fault has entries, not too many, and all of known types
 pub accepted : (group : Group) → group_fault group ≡ None → IsAccepted group
 unfolding group_fault
 accepted group h =
@@ -64,11 +66,13 @@ accepted group h =
       ];
     }
 
+-- where groups have no first fault, the first group has none, and those behind it have none
 pub first_none : (group : Group) (groups : List Group) (cause : Option WriteFault) → group_fault group ≡ cause
     → (let r : Option WriteFault = elim cause [ Some c ↦ Some c | None ↦ first_group_fault groups ] in r) ≡ None → (cause ≡ None) × (first_group_fault groups ≡ None)
 first_none group groups None e h = (refl, h)
 first_none group groups (Some cause) e h = absurd cc
 
+-- where no group has a fault, each is accepted
 pub all_accepted : (groups : List Group) → first_group_fault groups ≡ None → AllByRecursion IsAccepted groups
 all_accepted [] h = tt
 all_accepted (group ∷ groups) h =
@@ -87,6 +91,7 @@ small_enough : (cause : Option WriteFault) (end : ℕ)
 small_enough None end h = (refl, ltb-false 4294967295 end (otherwise (nat_lt 4294967295 end) OffsetTooLarge None h).0)
 small_enough (Some cause) end h = absurd cc
 
+-- groups that are written are accepted, at least one, and end below 2^32
 pub not_refused : (groups : List Group) → write_fault groups ≡ None → AllAccepted groups
 unfolding write_fault
 not_refused [] h = absurd cc
@@ -105,12 +110,14 @@ known_entries : (entries : List Entry) → AllByRecursion (λ entry. is_unknown 
 known_entries [] h = tt
 known_entries (entry ∷ entries) h = (known_moved 0 entry.value h.0, known_entries entries h.1)
 
+-- in each directory of an accepted group all slots are of known types
 pub known_slots : (group : Group) → IsAccepted group → (context : Context) → AllKnown (slots_of group context)
 known_slots group h =
     all_slots (λ context slot. IsKnown slot.content) group (λ context. known_entries (pushed_in group context) (h.known context))
     (λ kind. known_blocks kind (blocks_in group kind))
     (λ some. tt) (λ some. tt) (λ some. tt)
 
+-- the parts of accepted groups stand side by side from their start to the end of the last
 pub parts_from_span : (order : Order) (start : ℕ) (groups : List Group) → AllByRecursion IsAccepted groups
     → Spans start (parts_from order start (map draft_of groups)) (drafts_end start (map draft_of groups))
 parts_from_span order start [] h = refl
@@ -125,6 +132,7 @@ pub parts_span : (order : Order) (groups : List Group) → AllByRecursion IsAcce
 parts_span Big groups h = (omega arith, omega arith, parts_from_span Big 8 groups h)
 parts_span Little groups h = (omega arith, omega arith, parts_from_span Little 8 groups h)
 
+-- the image of accepted groups is as long as the place where the last draft ends
 pub length-image : (order : Order) (groups : List Group) → AllByRecursion IsAccepted groups → length (image order groups) ≡ drafts_end 8 (map draft_of groups)
 unfolding image
 length-image order groups h = let e = length-laid 0 (drafts_end 8 (map draft_of groups)) (parts order (map draft_of groups)) (parts_span order groups h) in omega arith

@@ -61,6 +61,7 @@ ContentFits draft context tag (PlacesOf kind lengths) = (lengths ≡ map length 
 ContentFits draft context tag (LengthsOf kind lengths) = (lengths ≡ map length (draft.blocks kind)) × (child_of context tag ≡ None)
 ContentFits draft context tag (PlaceOf child) = (child_of context tag ≡ Some child) × (0 < length (draft.slots child))
 
+-- a slot with a tag of two bytes, and a content that is what the reader takes it for
 pub record SlotFits (draft : Draft) (context : Context) (slot : Slot) : Type 0 where
   pub tag : slot.tag < 256 ^ 2
   pub content : ContentFits draft context slot.tag slot.content
