@@ -2,7 +2,7 @@
 use Rattle.std.proofs.Common.{◌≡◌, ◌≢◌, ◌⊎◌, inl, inr, subst, ℕ, zero, suc, ◌+◌, ◌-◌, ◌%◌, ◌<◌, ◌≤◌, Bool, true, false, cond, eqb, ltb, ◌&&◌, List, [], ◌∷◌, ◌++◌, length, take, drop, codes, Ok, Err, ap, sym, ◌∙◌, refl, arith, append_assoc, append-nil, length-append, length-drop}
 use Rattle.std.specs.List.{flat_map}
 use Rattle.std.specs.Str.{bytes_eq}
-use Rattle.std.proofs.lemmas.Bool.{ne_eqb, eqb-true, eqb-false, lt-ltb, le-ltb, ltb-true, ltb-false}
+use Rattle.std.proofs.lemmas.Bool.{ne_eqb, eqb-true, eqb-false, lt-ltb, le-ltb, ltb-true, ltb-false, and_parts}
 use Rattle.std.proofs.lemmas.List.{take_at, drop_at, take-append-drop, length-take-le, drop-drop}
 use Rattle.std.proofs.lemmas.Slice.Eq.{bytes_eq-Decides}
 use Rattle.byteorder.specs.Endian.{little_number}
@@ -164,9 +164,9 @@ answer-file size rest e =
 -- bytes that begin with a header
 header-split : (bytes : List ℕ) → begins_webp bytes ≡ true → bytes ≡ print_header (take 4 (drop 4 bytes)) ++ drop 12 bytes
 header-split bytes h =
-    let t : begins_webp bytes ≡ true = h in
-    let riff : take 4 bytes ≡ codes "RIFF" = (bytes_eq-Decides (take 4 bytes) (codes "RIFF")).0 (and-left (bytes_eq (take 4 bytes) (codes "RIFF")) (bytes_eq (take 4 (drop 8 bytes)) (codes "WEBP")) h) in
-    let webp : take 4 (drop 8 bytes) ≡ codes "WEBP" = (bytes_eq-Decides (take 4 (drop 8 bytes)) (codes "WEBP")).0 (and-right (bytes_eq (take 4 bytes) (codes "RIFF")) (bytes_eq (take 4 (drop 8 bytes)) (codes "WEBP")) h) in
+    let both = and_parts (bytes_eq (take 4 bytes) (codes "RIFF")) (bytes_eq (take 4 (drop 8 bytes)) (codes "WEBP")) h in
+    let riff : take 4 bytes ≡ codes "RIFF" = (bytes_eq-Decides (take 4 bytes) (codes "RIFF")).0 both.0 in
+    let webp : take 4 (drop 8 bytes) ≡ codes "WEBP" = (bytes_eq-Decides (take 4 (drop 8 bytes)) (codes "WEBP")).0 both.1 in
     let size : List ℕ = take 4 (drop 4 bytes) in
     sym (take-append-drop 4 bytes)
     ∙ ap (λ t. t ++ drop 4 bytes) riff
@@ -175,14 +175,6 @@ header-split bytes h =
     ∙ ap (λ t. codes "RIFF" ++ (size ++ (t ++ drop 4 (drop 8 bytes)))) webp
     ∙ ap (λ t. codes "RIFF" ++ (size ++ (codes "WEBP" ++ t))) (drop-drop 4 8 bytes)
     ∙ sym (append_assoc (codes "RIFF") (size ++ codes "WEBP") (drop 12 bytes) ∙ ap (λ t. codes "RIFF" ++ t) (append_assoc size (codes "WEBP") (drop 12 bytes)))
-  where
-    and-left : (a b : Bool) → (a && b) ≡ true → a ≡ true
-    and-left true b e = refl
-    and-left false b e = absurd (cc)
-
-    and-right : (a b : Bool) → (a && b) ≡ true → b ≡ true
-    and-right true b e = e
-    and-right false b e = absurd (cc)
 
 size-len : (bytes : List ℕ) → 12 ≤ length bytes → length (take 4 (drop 4 bytes)) ≡ 4
 size-len bytes h = length-take-le 4 (drop 4 bytes) (omega (arith, length-drop 4 bytes))

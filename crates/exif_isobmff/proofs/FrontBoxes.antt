@@ -1,6 +1,6 @@
 -- Whole boxes in front of more bytes.
-use Rattle.std.proofs.Common.{◌≡◌, ℕ, ◌-◌, ◌<◌, ◌≤◌, Bool, true, false, cond, ◌&&◌, not, eqb, leb, ltb, List, ◌++◌, length, take, drop, Result, Ok, Err, refl, sym, ap, ◌∙◌, arith, length-append, length-drop}
-use Rattle.std.proofs.lemmas.Bool.{leb-true, ltb-false}
+use Rattle.std.proofs.Common.{◌≡◌, ℕ, ◌-◌, ◌<◌, ◌≤◌, Bool, true, false, cond, not, eqb, leb, ltb, List, ◌++◌, length, take, drop, Result, Ok, Err, refl, sym, ap, ◌∙◌, arith, length-append, length-drop}
+use Rattle.std.proofs.lemmas.Bool.{leb-true, ltb-false, and_parts, not-true}
 use Rattle.std.proofs.lemmas.Bool.Decides.{nat_tests}
 use Rattle.std.proofs.lemmas.List.{take-append-le, drop-append-le, length-take-le}
 use Rattle.byteorder.specs.Endian.{big_number}
@@ -75,26 +75,17 @@ size_same text more h z k =
         let sixteen : header_len text ≡ 16 = ap (λ b. cond b 16 8) o in
         ap (big_number 8) (drop-append-le 8 text more (omega arith)) ∙ number_same 8 (drop 8 text) more (omega (arith, length-drop 8 text))
 
-itself : (a b : Bool) → (a && b) ≡ true → (a ≡ true) × (b ≡ true)
-itself true true e = (refl, refl)
-itself true false e = absurd cc
-itself false b e = absurd cc
-
-not_so : (b : Bool) → not b ≡ true → b ≡ false
-not_so true e = absurd cc
-not_so false e = refl
-
 -- a whole box that says its size is read whatever follows
 pub still_read : (text more body after : List ℕ) (kind : Kind) → sizes_itself text ≡ true → box_at text ≡ Ok (whole_part kind body, after)
     → file_box_at (text ++ more) ≡ Ok (whole_part kind body, after ++ more)
 still_read text more body after kind s e =
     let r = is_read text (whole_part kind body, after) e in
-    let t = itself (leb 4 (length text)) (not (eqb (big_number 4 text) 0)) s in
+    let t = and_parts (leb 4 (length text)) (not (eqb (big_number 4 text) 0)) s in
     let four : 4 ≤ length text = leb-true _ _ t.0 in
     let head = r.head in
     let fits = r.size in
     let within = r.body in
-    let size : box_size (text ++ more) ≡ box_size text = size_same text more four (not_so _ t.1) r.head in
+    let size : box_size (text ++ more) ≡ box_size text = size_same text more four (not-true _ t.1) r.head in
     let long : header_len (text ++ more) ≡ header_len text = head_same text more four in
     let eight : 8 ≤ header_len text = at_least (eqb (big_number 4 text) 1) in
     let n : ℕ = box_size text - header_len text in
@@ -123,7 +114,7 @@ still_read text more body after kind s e =
 
 some_more : (text more : List ℕ) → sizes_itself text ≡ true → 0 < length (text ++ more)
 some_more text more s =
-    let t = itself (leb 4 (length text)) (not (eqb (big_number 4 text) 0)) s in
+    let t = and_parts (leb 4 (length text)) (not (eqb (big_number 4 text) 0)) s in
     let four : 4 ≤ length text = leb-true _ _ t.0 in
     let total = length-append text more in
     omega arith

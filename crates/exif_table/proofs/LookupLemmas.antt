@@ -66,6 +66,7 @@ module _ {X : Type 0} (key : X → ℕ) where
         find_somewhere n xs i (get_or xs i d) within (λ e. get_or_default xs i e d within) same
         (λ k e lt is. omega (arith, is, same, ap key (get_or_default xs k e d (omega arith)), rises_pairs zero xs rising k i d lt within))
 
+    -- where a binary search found nothing, no member has the key
     pub searched_err : (i : ℕ) → IsBinarySearchResult (λ x. nat_cmp (key x) n) xs (Err i) → find (λ x. key x == n) xs ≡ None
     searched_err i parted =
         let point = parted comparisons_rise in

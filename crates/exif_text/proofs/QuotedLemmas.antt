@@ -1,6 +1,6 @@
 -- Different bytes have different quoted texts.
-use Rattle.std.proofs.Common.{◌≡◌, ◌≢◌, ◌⊎◌, ℕ, ◌/◌, ◌%◌, ◌<◌, ◌≤◌, List, [], ◌∷◌, ◌++◌, true, false, refl, sym, ap, ◌∙◌, ⊎_elim, inl, inr, arith, true≢false, Bool, ◌&&◌, append_assoc, get_or, suc}
-use Rattle.std.proofs.lemmas.Bool.{cases_lt, cases_eq}
+use Rattle.std.proofs.Common.{◌≡◌, ◌≢◌, ◌⊎◌, ℕ, ◌/◌, ◌%◌, ◌<◌, ◌≤◌, List, [], ◌∷◌, ◌++◌, true, false, refl, sym, ap, ◌∙◌, ⊎_elim, inl, inr, arith, append_assoc, get_or, suc}
+use Rattle.std.proofs.lemmas.Bool.{cases_lt, cases_eq, and_parts}
 use Rattle.std.proofs.lemmas.Bool.Decides.{nat_tests}
 use Rattle.std.specs.List.{flat_map, list_all}
 use Rattle.std.specs.Fmt.{digit_glyph}
@@ -100,13 +100,9 @@ plain_itself b is = grind (arith, nat_tests)
 plain_then : (b : ℕ) (bytes : List ℕ) → (list_all is_plain bytes ≡ true → bytes ≡ flat_map escaped bytes) → is_plain b ≡ true → list_all is_plain bytes ≡ true → b ∷ bytes ≡ flat_map escaped (b ∷ bytes)
 plain_then b bytes more is all = rw (plain_itself b is) (ap (λ l. b ∷ l) (more all))
 
-both : (a b : Bool) → (a && b) ≡ true → (a ≡ true) × (b ≡ true)
-both true b h = (refl, h)
-both false b h = absurd (true≢false (sym h))
-
 -- where all do, they are their own text
 pub plain_escaped : (bytes : List ℕ) → list_all is_plain bytes ≡ true → bytes ≡ flat_map escaped bytes
 plain_escaped [] all = refl
 plain_escaped (b ∷ bytes) all =
-    let each = both (is_plain b) (list_all is_plain bytes) all in
+    let each = and_parts (is_plain b) (list_all is_plain bytes) all in
     plain_then b bytes (plain_escaped bytes) each.0 each.1

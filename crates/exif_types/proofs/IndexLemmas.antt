@@ -3,6 +3,7 @@ use Rattle.std.proofs.Common.{◌≡◌, ℕ, ◌+◌, ◌*◌, ◌-◌, ◌^◌
 use Rattle.std.specs.Prelude.{All, find, reverse, slice_get, MatchOption}
 use Rattle.std.specs.List.{Contains, HoldsAt}
 use Rattle.std.specs.Option.{option_copied}
+use Rattle.std.proofs.lemmas.Bool.{false_from_ne_true}
 use Rattle.std.proofs.lemmas.Bool.Decides.{nat_tests}
 use Rattle.std.proofs.lemmas.List.{reverse-append, get_or_default}
 use Rattle.std.proofs.lemmas.List.Sorted.{Contains-permutation, All-permutation}
@@ -75,14 +76,10 @@ last_cons p x xs = ap (find p) (reverse-append (x ∷ []) xs) ∙ find_one_more 
 abbrev NoneFrom : {X : Type 0} → (X → Bool) → ℕ → List X → Type 0
 NoneFrom {X} p i xs = (j : ℕ) (x : X) → i ≤ j → slice_get xs j ≡ Some x → p x ≡ true → ⊥
 
-fails : (b : Bool) → (b ≡ true → ⊥) → b ≡ false
-fails true h = absurd (h refl)
-fails false h = refl
-
 none_passes : {X : Type 0} (p : X → Bool) (xs : List X) → NoneFrom p 0 xs → find p (reverse xs) ≡ None
 none_passes p [] h = refl
 none_passes p (x ∷ xs) h =
-    let e : p x ≡ false = fails (p x) (h 0 x (omega arith) refl) in
+    let e : p x ≡ false = false_from_ne_true (p x) (h 0 x (omega arith) refl) in
     let t : find p (reverse xs) ≡ None = none_passes p xs (λ j y _ g n. h (suc j) y (omega arith) g n) in
     last_cons p x xs ∙ rw (t, e) refl
 
