@@ -134,6 +134,7 @@ module _ (order : Order) (value : Value) (e : ℕ) (bytes : List ℕ) (ps : List
       stands_left out text (replicate (room.len - length text) 0) room.place
       (rw (out_is, ← spelt) here)
 
+  -- an entry has the readable value that was put into it, with the place where its bytes now stand
   pub new_value : IsReadable value → length out < 256 ^ 4 → count_of value < 256 ^ 4
       → entry_value (number_of order) out e
       ≡ Some (moved_to (set_place room.place e text) value)

@@ -383,6 +383,7 @@ module _ (order : Order) (a b : List ℕ) (as_long : length a ≡ length b) wher
       ++ chain_after (chain_nodes left number b (k + 1)) (directory_end number b p))
       (linked_kept left k p (nodes_kept left (k + 1))) h z
 
+  -- where both agree but for GPS directories, now empty, other fields stay, with no more faults
   pub ordered_kept : AllByRecursion (Agree a b) (all_kept number a)
       → AllByRecursion Emptied (gps_in (ordered_trace number a))
       → Kept (ordered_trace number a) (ordered_trace number b)

@@ -82,6 +82,7 @@ module _ (order : Order) (a b : List ℕ) (as_long : length a ≡ length b) (e :
   abbrev EntryAlike : ℕ → Type 0
   EntryAlike d = AllByRecursion (Agree a b) (other_entry number a e d)
 
+  -- both agree on the directory at p and the values of its entries, but for the entry at e
   abbrev pub Alike : ℕ → Type 0
   Alike p = AllByRecursion (Agree a b) (beside number a e p)
 
@@ -232,6 +233,7 @@ module _ (order : Order) (a b : List ℕ) (as_long : length a ≡ length b) (e :
       ++ chain_after (chain_nodes left number b (k + 1)) (directory_end number b p))
       (linked_told left k p (chain_told left (k + 1))) h
 
+  -- where both agree but for the entry at e, all that is read stays, but with its new value
   pub ordered_told : AllByRecursion (Agree a b) (all_beside number a e)
       → Told (ordered_trace number a) (ordered_trace number b)
   unfolding ordered_trace

@@ -38,6 +38,7 @@ has_tag number bytes n e = number_at number 2 bytes e == n
 abbrev pub entries_with : Reading → List ℕ → ℕ → ℕ → List ℕ
 entries_with number bytes n p = filter (has_tag number bytes n) (entry_places number bytes p)
 
+-- the entries of the directory at p that have another tag
 abbrev pub entries_without : Reading → List ℕ → ℕ → ℕ → List ℕ
 entries_without number bytes n p =
     filter (λ e. not (has_tag number bytes n e)) (entry_places number bytes p)
@@ -119,6 +120,7 @@ told_in e (Undefined xs place) = Undefined xs (if nat_le (length xs) 4 then e + 
 told_in e (Unknown type count place) = Unknown type count (e + 8)
 told_in e value = value
 
+-- a field with its value as the entry at e tells it
 abbrev pub told_at : ℕ → Field → Field
 told_at e f = with_value (told_in e f.value) f
 

@@ -25,6 +25,7 @@ use Rattle.exif_edit_base.specs.Readings.{Read, is_little, reading, ReadsTo}
 use Rattle.exif_edit_base.specs.declared.error.Error.{Error}
 use Rattle.exif_entries.proofs.LawsLocated.{ordered_fields}
 
+-- the field of a located one, without its places
 abbrev pub field_of : Located → Field
 field_of l = l.field
 

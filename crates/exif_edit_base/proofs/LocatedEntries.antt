@@ -22,6 +22,7 @@ module _ (number : Reading) (bytes : List ℕ) where
     pub value : entry_value number bytes e ≡ Some f.value
     pub tag : number_at number 2 bytes e ≡ f.tag.1
 
+  -- each field that these nodes find is what its entry says
   abbrev pub AreSaid : List Node → Type 0
   AreSaid [] = Unit {0}
   AreSaid (Opens d ∷ nodes) = AreSaid nodes
@@ -54,6 +55,7 @@ module _ (number : Reading) (bytes : List ℕ) where
   spaced_whole q zero h = tt
   spaced_whole q (suc w) h = (omega arith, spaced_whole (q + 12) w (omega arith))
 
+  -- each whole entry of the directory at p has all of its 12 bytes in the data
   pub places_whole : (p : ℕ) → AllByRecursion (λ e. e + 12 ≤ length bytes) (entry_places number bytes p)
   places_whole p = by_count (whole_entries number bytes p) (omega arith)
     where
@@ -114,6 +116,7 @@ module _ (number : Reading) (bytes : List ℕ) where
           (directory (depth_of Tiff) k Tiff p)
           (after (chain_nodes left number bytes (k + 1)) (directory_end number bytes p) h)
 
+  -- each field that is found in the data is what its entry says
   pub ordered_said : AreSaid (ordered_trace number bytes)
   unfolding ordered_trace
   ordered_said = chain 8 0 (number_at number 4 bytes 4)
@@ -150,6 +153,7 @@ module _ (number : Reading) (bytes : List ℕ) where
           (h.0, n)
       by_tests false false n r e = absurd (none_some e)
 
+  -- the last field of a name is what its entry says, and has the name
   pub last_said : (tag : Tag) (k : In) (at : Located)
       → last_located tag k (located_of (ordered_trace number bytes)) ≡ Some at
       → IsSaid at.field at.entry × (is_named tag k at.field ≡ true)

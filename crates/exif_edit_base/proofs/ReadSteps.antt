@@ -18,6 +18,7 @@ use Rattle.exif_reader.specs.declared.stop.Stop.{Stop}
 use Rattle.exif_reader.specs.declared.stop.Stop.TheVariants as stop
 use Rattle.exif_edit_base.specs.Readings.{Read, is_little, reading, ReadsTo}
 
+-- the fields and the faults that an answer shows; a refusal shows none
 abbrev pub unshown : Answer → List Field × List Fault
 unshown (Refused fault) = ([], [])
 unshown (Whole fields) = (fields, [])
@@ -29,6 +30,7 @@ pub unshown_shown : (fields : List Field) (faults : List Fault)
 unshown_shown fields [] = refl
 unshown_shown fields (fault ∷ faults) = refl
 
+-- whether an answer is a refusal
 abbrev pub is_refused : Answer → Bool
 is_refused (Refused fault) = true
 is_refused (Whole fields) = false
@@ -54,6 +56,7 @@ answer_by x bytes =
           (content_of (limited None (ordered_trace (number_of order) bytes)))
     ]
 
+-- what is read of the data, where their header gives this order or fault
 abbrev pub reading_by : Result Order Fault → List ℕ → Result Read Fault
 reading_by x bytes = elim x [
   | Err fault ↦ Err fault

@@ -219,6 +219,7 @@ piece_refused e n len block format a b left head told f small =
 
 -- ---- errors, and the whole
 
+-- an error tells the answer's cause, or memory or the source failed
 abbrev pub TellsErr : {Y : Type 0} → Error → Result Y Cause → Type 0
 TellsErr e answer = MatchOption (cause_of e) (IsStopped e) (λ c. answer ≡ Err c)
 

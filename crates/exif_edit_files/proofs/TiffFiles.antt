@@ -42,6 +42,7 @@ reading_begins bytes read e = marks_begin bytes (reading_marked bytes read e)
 
 -- ---- edits that leave data which begin so
 
+-- what an edit makes of data begins as TIFF data do
 abbrev pub StaysTiff : Edit → Type 0
 StaysTiff edit =
     (old : List ℕ) (ps : List Patch) → edit old ≡ Ok ps → begins_tiff (patched ps old) ≡ true

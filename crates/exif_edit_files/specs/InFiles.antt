@@ -77,6 +77,7 @@ abbrev pub searched_file : List ℕ → List ℕ → List Patch → Result (List
 searched_file file old patches =
     search_answer file old patches >>= λ place. Ok (patched (map (shifted place) patches) file)
 
+-- the same, where the place that lengths tell is tried first
 abbrev pub placed_file : List ℕ → List ℕ → List Patch → Result (List ℕ) Cause
 placed_file file old patches = placed file old patches >>= λ qs. Ok (patched qs file)
 

@@ -37,6 +37,7 @@ abbrev pub is_device_error : Error → Bool
 is_device_error (error.Container e) = is_io_error e
 is_device_error _ = false
 
+-- whether a result is the source's error
 abbrev pub is_device : {T : Type 0} → Result T Error → Bool
 is_device (Ok x) = false
 is_device (Err e) = is_device_error e

@@ -45,6 +45,7 @@ holders-append i (s ∷ ss) ts =
 -- ---- one stretch
 
 module _ (i : ℕ) (s : Stretch) where
+  -- a stretch counts one at most for a byte
   pub has_most : has i s ≤ 1
   unfolding has
   has_most = by_test (nat_le s.place i && nat_lt i (s.place + s.len))
@@ -53,6 +54,7 @@ module _ (i : ℕ) (s : Stretch) where
       by_test true = omega arith
       by_test false = omega arith
 
+  -- it counts one for a byte from its place on and before its end
   pub has_inside : s.place ≤ i → i < s.place + s.len → has i s ≡ 1
   unfolding has
   has_inside low high =
@@ -60,10 +62,12 @@ module _ (i : ℕ) (s : Stretch) where
       let b : nat_lt i (s.place + s.len) ≡ true = grind (arith, nat_tests) in
       rw (a, b) refl
 
+  -- it counts none for a byte before it
   pub has_before : i < s.place → has i s ≡ 0
   unfolding has
   has_before low = let a : nat_le s.place i ≡ false = grind (arith, nat_tests) in rw a refl
 
+  -- it counts none for a byte behind it
   pub has_behind : s.place + s.len ≤ i → has i s ≡ 0
   unfolding has
   has_behind high =
@@ -79,6 +83,7 @@ module _ (i : ℕ) (s : Stretch) where
     before : i < s.place → Where
     behind : s.place + s.len ≤ i → Where
 
+  -- each byte stands inside the stretch, before it or behind it
   pub stands : Where
   stands = by_tests (nat_le s.place i) (nat_lt i (s.place + s.len)) refl refl
     where

@@ -110,12 +110,14 @@ module _ (number : Reading) (bytes : List ℕ) where
       by_tests true false p = tt
       by_tests true true p = (grind (arith, nat_tests), tt)
 
+  -- all stretches that some places give have bytes, where those of each place do
   pub all_have : (f : ℕ → List Stretch) (ds : List ℕ) → ((d : ℕ) → HaveBytes (f d))
       → HaveBytes (flat_map f ds)
   all_have f [] h = tt
   all_have f (d ∷ ds) h =
       all_append (λ (t : Stretch). 0 < t.len) (f d) (flat_map f ds) (h d) (all_have f ds h)
 
+  -- the directory at p and its values that are looked at have bytes
   pub looked_has : (p : ℕ) → HaveBytes (looked_at number bytes p)
   looked_has p =
       (omega arith, all_have (value_stretch number bytes) (entry_places number bytes p) value_has)
@@ -251,6 +253,7 @@ module _ (number : Reading) (bytes : List ℕ) where
       flat_map (entry_places number bytes)
       (chain_directories 8 number bytes (number_at number 4 bytes 4))
 
+  -- all that reading looks at: the header, and the directories with their values
   abbrev pub all_looked : List Stretch
   all_looked = record { place = 0; len = 8 } ∷ ordered_footprint number bytes
 
@@ -301,6 +304,7 @@ module _ (number : Reading) (bytes : List ℕ) where
           let c = has_inside i itself (omega arith) (omega arith) in
           omega arith
 
+      -- what a new value changes of an entry is apart from all that is looked at but for the entry
       pub entry_apart :
           AllByRecursion (IsApart (record { place = e + 2; len = 10 })) (all_beside number bytes e)
       entry_apart =
@@ -326,9 +330,11 @@ module _ (number : Reading) (bytes : List ℕ) where
             let c = room_has i low high in
             omega arith
 
+        -- its value, outside of it, is apart from all that is looked at but for the entry
         pub room_apart : AllByRecursion (IsApart room) (all_beside number bytes e)
         room_apart = all_apart room (all_beside number bytes e) some (all_beside_has e) room_lacks
 
+        -- its value, outside of it, is apart from the entry itself
         pub room_beside : IsApart room itself
         room_beside =
             apart_of room itself some (omega arith)

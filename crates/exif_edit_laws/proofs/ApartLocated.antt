@@ -19,6 +19,7 @@ module _ (e : ℕ) where
   standing : List Node → ℕ
   standing nodes = length (standing_at e (located_of nodes))
 
+  -- one more field adds one where it stands in the entry at e, else nothing
   pub one_more : (l : Located) (ls : List Located) → length (standing_at e (l ∷ ls))
       ≡ (if l.entry == e then 1 else 0) + length (standing_at e ls)
   one_more l ls = by_test (l.entry == e)
@@ -189,6 +190,7 @@ module _ (e : ℕ) where
         let d = entered-append here behind in
         either (p == 0) (nodes ++ rest) (here ++ behind) (omega arith)
 
+    -- the entry at e has no more fields than the times that it is among all entries
     pub located_times : length (standing_at e (located_of (ordered_trace number bytes)))
         ≤ times 1 e (all_entries number bytes)
     unfolding standing entered ordered_trace

@@ -176,6 +176,7 @@ module _ (number : Reading) (bytes : List ℕ) where
         (right_free (directory_stretch number bytes q ∷ []) values h) in
         rw (a, b) refl
 
+    -- a stretch of no byte that is looked at of directories meets neither them nor their values
     pub all_missed : (qs : List ℕ) → Free (looked qs)
         → list_any (λ s. meets s t) (flat_map (directory_spans number bytes) qs) ≡ false
     all_missed [] h = refl

@@ -48,6 +48,7 @@ not_inside place len more i t h in' apart =
     by_tests true true p q low high (inr a) = absurd (grind (arith, nat_tests))
 
 module _ (number : Reading) (a : List ℕ) where
+  -- a byte of a stretch that is apart from a directory is not in the directory's span
   pub outside_directory : (q i : ℕ) (t : Stretch) → IsIn i t → IsApart t (directory_stretch number a q)
       → inside i (directory_span number a q) ≡ false
   outside_directory q i t in' apart = by_test (nat_le q (length a))
@@ -115,6 +116,7 @@ module _ (number : Reading) (a : List ℕ) where
       (all_right (IsApart t) (value_stretch number a e) (flat_map (value_stretch number a) es) h) in
       rw (one, rest) refl
 
+  -- a byte of a stretch that is apart from the values of a tag is in no span of those
   pub named_missed : (n i : ℕ) (t : Stretch) → IsIn i t → (qs : List ℕ)
       → AllByRecursion (IsApart t) (flat_map (λ q. flat_map (value_stretch number a) (entries_with number a n q)) qs)
       → list_any (inside i) (named_values number a n qs) ≡ false
@@ -161,9 +163,11 @@ module _ (order : Order) (a : List ℕ) (n : ℕ) (ps : List ℕ) where
   abbrev number : Reading
   number = number_of order
 
+  -- the data with the entries of the tag taken out of these directories
   abbrev pub made : List ℕ
   made = patched (removals order a n ps) a
 
+  -- the data stay as long as they were
   pub as_long : length a ≡ length made
   as_long = sym (length-patched (removals order a n ps) a (removals_fit order a n ps))
 
@@ -192,6 +196,7 @@ module _ (order : Order) (a : List ℕ) (n : ℕ) (ps : List ℕ) where
               (entry_places number a q) k.1,
         )) ts h
 
+    -- what is looked at of one directory is apart from what is changed of another one
     pub other : (p q : ℕ) → has ds p ≡ true → has ds q ≡ true → p ≢ q
         → EachApart (looked_at number a p) (changed number a n q)
     other p q m l ne =
@@ -249,6 +254,7 @@ module _ (order : Order) (a : List ℕ) (n : ℕ) (ps : List ℕ) where
         beside [] x y = tt
         beside (s ∷ ss) x y = ((x.0.0, y.0), beside ss x.1 y.1)
 
+    -- the value of an entry that is not taken out stays as it was
     pub value_stays : (e p : ℕ) → has ds p ≡ true → has (entry_places number a p) e ≡ true
         → (has ps p && has_tag number a n e) ≡ false
         → AllByRecursion (Agree a made) (value_stretch number a e)

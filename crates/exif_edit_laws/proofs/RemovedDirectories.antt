@@ -153,6 +153,7 @@ module _ (order : Order) (a : List ℕ) (tag : Tag) (k : In) (ps ds : List ℕ)
       unturned true h = absurd (false≢true h)
       unturned false h = refl
 
+  -- a directory from which nothing is taken keeps all its entries, and ends as before or better
   pub lacks_none : (p : ℕ) → has ds p ≡ true → has ps p ≡ false → AreLacking p
   lacks_none p m out =
       let alike = directory_stays order a tag.1 ps ds apart known p m out in
@@ -242,6 +243,7 @@ module _ (order : Order) (a : List ℕ) (tag : Tag) (k : In) (ps ds : List ℕ)
         let y = length-append (spelled order 2 (length es)) (entries_text a es ++ next) in
         omega (arith, s, t, x, y)
 
+    -- in the new data stand the count of the entries left, these, the next place and zeros
     pub record Standing : Type 0 where
       pub count : number_at number 2 b p ≡ length es
       pub entries : Stands b (p + 2) (entries_text a es)
@@ -328,6 +330,7 @@ module _ (order : Order) (a : List ℕ) (tag : Tag) (k : In) (ps ds : List ℕ)
         (subst (λ x. Stands b x (spelled order 4 0)) at' here) in
         lacking s (inr (fault, e, ended s ∙ ap (λ x. Ok x) read))
 
+    -- a directory with an entry that is taken out lacks those of the tag, and no others
     pub lacks_some : AreLacking p
     lacks_some = by_end (directory_end number a p) refl
       where

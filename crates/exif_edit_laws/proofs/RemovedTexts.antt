@@ -139,6 +139,7 @@ module _ (order : Order) (a : List ℕ) (n : ℕ) (ps ds : List ℕ)
       ∙ (all_put i low ps known a refl
       ∙ ap (λ x. if x then get_or text i 0 else get_or a (p + i) 0) mine))
 
+  -- a changed directory stands where it stood, without its entries of the tag, if that fits
   pub text_stands : has ps p ≡ true → Stands (made order a n ps) p text
   text_stands mine =
       let b = made order a n ps in

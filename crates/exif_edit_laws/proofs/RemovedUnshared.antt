@@ -363,6 +363,7 @@ module _ (tag : Tag) (k : In) (order : Order) (a : List ℕ) (head : header a �
       ∙ ap (λ ls. directories_with tag k (map (λ (l : Located). l.field) (located_of nodes)) (map entry_of ls))
       (located_in a order head)
 
+  -- erasing the fields of a name takes the entries of its tag out of their directories, if any
   pub erased : field_patches a tag k ≡ some_removals order a tag.1 (named_directories a tag k)
   erased =
       field_else a tag k names

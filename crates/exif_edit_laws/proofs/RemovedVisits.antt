@@ -58,6 +58,7 @@ opened-append (Visit ∷ xs) ys = opened-append xs ys
 opened-append (Found l ∷ xs) ys = opened-append xs ys
 opened-append (Met fault ∷ xs) ys = opened-append xs ys
 
+-- the places of visited directories
 abbrev pub places_in : List Visited → List ℕ
 places_in vs = map (λ (v : Visited). v.place) vs
 
@@ -222,12 +223,14 @@ module _ (number : Reading) (bytes : List ℕ) where
           (directory_walks (depth_of Tiff) k Tiff p)
           (after_walks (chain_nodes more number bytes (k + 1)) (directory_end number bytes p) h)
 
+  -- each node of the data comes from a directory that is opened there, a field from its entry
   pub ordered_walks : Walks [] (ordered_trace number bytes)
   unfolding ordered_trace
   ordered_walks = chain_walks 8 0 (number_at number 4 bytes 4)
 
 -- ---- each directory is visited once
 
+-- the numbers are all different
 abbrev pub AreDistinct : List ℕ → Type 0
 AreDistinct [] = Unit {0}
 AreDistinct (p ∷ ps) = (has ps p ≡ false) × AreDistinct ps

@@ -322,6 +322,7 @@ module _ (order : Order) (a b : List ℕ) (as_long : length a ≡ length b) (tag
       ++ chain_after (chain_nodes more number b (j + 1)) (directory_end number b p))
       (linked_shrinks more j p (chain_shrinks more (j + 1))) h
 
+  -- with the same first place and fine old nodes, only the name's fields go, and no faults come
   pub ordered_shrinks : number_at number 4 a 4 ≡ number_at number 4 b 4
       → AllByRecursion Fine (ordered_trace number a)
       → Shrinks tag k (ordered_trace number a) (ordered_trace number b)

@@ -38,17 +38,20 @@ module _ (group : Group) where
       ∙ (λ i. if (sym (count_is group Tiff)) i == 0 then Some EmptyDirectory
       else (if over_is group i then Some TooManyFields else (if list_any (λ context. any_unknown (pushed_in group context)) contexts then Some UnknownType else None)))
 
+  -- a group whose directory of the chain has no entry is refused as an empty directory
   pub fault_empty : (n : ℕ) → n ≡ tiff_count group → n ≡ 0 → Some EmptyDirectory ≡ group_fault group
   fault_empty n e z = fault_is true is_over has_unknown (ap (λ m. m == 0) (sym e ∙ z)) refl refl
 
   some_count : (n : ℕ) → 0 < n → n == 0 ≡ false
   some_count n h = ne_eqb n 0 (λ none. absurd (omega arith))
 
+  -- a group that has some there, but over 65535 in a directory, is refused for too many fields
   pub fault_over : (n : ℕ) → n ≡ tiff_count group → 0 < n → list_any (λ context. nat_lt 65535 (entry_count group context)) contexts ≡ true
       → Some TooManyFields ≡ group_fault group
   unfolding is_over
   fault_over n e h over = fault_is false true has_unknown (ap (λ m. m == 0) (sym e) ∙ some_count n h) over refl
 
+  -- a group with none of these faults is refused only for a pushed value of an unknown type
   pub fault_of_types : (n : ℕ) (c : Bool) → n ≡ tiff_count group → 0 < n → list_any (λ context. nat_lt 65535 (entry_count group context)) contexts ≡ false
       → list_any (λ context. any_unknown (pushed_in group context)) contexts ≡ c → (if c then Some UnknownType else None) ≡ group_fault group
   unfolding is_over has_unknown

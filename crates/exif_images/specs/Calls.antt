@@ -59,12 +59,14 @@ strips_in ifd (SetStrips strips number) = if number == ifd then Some strips else
 strips_in ifd (SetTiles tiles number) = None
 strips_in ifd (SetJpeg jpeg number) = None
 
+-- the tiles that a call sets in the directory with a number, if it sets some there
 abbrev pub tiles_in : ℕ → Call → Option (List (List ℕ))
 tiles_in ifd (Push field) = None
 tiles_in ifd (SetStrips strips number) = None
 tiles_in ifd (SetTiles tiles number) = if number == ifd then Some tiles else None
 tiles_in ifd (SetJpeg jpeg number) = None
 
+-- the JPEG that a call sets in the directory with a number, if it sets one there
 abbrev pub jpeg_in : ℕ → Call → Option (List ℕ)
 jpeg_in ifd (Push field) = None
 jpeg_in ifd (SetStrips strips number) = None

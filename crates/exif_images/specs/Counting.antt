@@ -14,20 +14,25 @@ abbrev pub pointer_count : ℕ → ℕ
 pointer_count zero = 0
 pointer_count (suc n) = 1
 
+-- how many entries the Interop directory has: the pushed ones
 abbrev pub interop_count : Group → ℕ
 interop_count group = length group.interop
 
+-- how many entries the Gps directory has: the pushed ones
 abbrev pub gps_count : Group → ℕ
 gps_count group = length group.gps
 
+-- how many entries the Exif directory has: the pushed ones, and any pointer to Interop
 abbrev pub exif_count : Group → ℕ
 exif_count group = length group.exif + pointer_count (interop_count group)
 
+-- how many entries the chain's directory has: pushed ones, the blocks', and any pointers
 abbrev pub tiff_count : Group → ℕ
 tiff_count group =
     length group.tiff + set_count group.strips + set_count group.tiles + set_count group.jpeg
     + pointer_count (exif_count group) + pointer_count (gps_count group)
 
+-- how many entries the directory of a context has
 abbrev pub entry_count : Group → Context → ℕ
 entry_count group Tiff = tiff_count group
 entry_count group Exif = exif_count group

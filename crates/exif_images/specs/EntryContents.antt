@@ -34,6 +34,7 @@ content_type (PlacesOf kind blocks) = 4
 content_type (LengthsOf kind blocks) = 4
 content_type (PlaceOf context) = 4
 
+-- how many members the value has, which is the count of its entry
 abbrev pub content_count : Content → ℕ
 content_count (Known value) = count_of value
 content_count (OneShort x) = 1
@@ -42,6 +43,7 @@ content_count (PlacesOf kind blocks) = length blocks.now
 content_count (LengthsOf kind blocks) = length blocks.now
 content_count (PlaceOf context) = 1
 
+-- how many bytes the value has: those of one member, times how many there are
 abbrev pub content_size : Content → ℕ
 content_size content = unit (content_type content) * content_count content
 

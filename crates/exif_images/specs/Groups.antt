@@ -24,6 +24,7 @@ pub record Group : Type 0 where
   pub tiles : Option (List (List ℕ))
   pub jpeg : Option (List ℕ)
 
+-- a group without entries and without blocks
 abbrev pub empty_group : Group
 empty_group =
     record {
@@ -60,6 +61,7 @@ places_tag Strips = 0x111
 places_tag Tiles = 0x144
 places_tag Jpeg = 0x201
 
+-- the tag of the field that gives the lengths of the blocks of a kind
 abbrev pub lengths_tag : BlockKind → ℕ
 lengths_tag Strips = 0x117
 lengths_tag Tiles = 0x145
@@ -76,21 +78,26 @@ own_tags Interop = []
 abbrev pub is_ignored : Context → ℕ → Bool
 is_ignored context tag = list_any (λ own. tag == own) (own_tags context)
 
+-- the entry that a field is pushed as: the number of its tag, and its value
 abbrev pub entry_of : Field → Entry
 entry_of field = record { tag = field.tag.1; value = field.value }
 
+-- the group with one more entry, behind those that are pushed in the context
 abbrev pub with_entry : Context → Entry → Group → Group
 with_entry Tiff entry group = record group { tiff = group.tiff ++ entry ∷ [] }
 with_entry Exif entry group = record group { exif = group.exif ++ entry ∷ [] }
 with_entry Gps entry group = record group { gps = group.gps ++ entry ∷ [] }
 with_entry Interop entry group = record group { interop = group.interop ++ entry ∷ [] }
 
+-- the group with these strips set, in place of what was set before
 abbrev pub with_strips : List (List ℕ) → Group → Group
 with_strips strips group = record group { strips = Some strips }
 
+-- the group with these tiles set, in place of what was set before
 abbrev pub with_tiles : List (List ℕ) → Group → Group
 with_tiles tiles group = record group { tiles = Some tiles }
 
+-- the group with this JPEG set, in place of what was set before
 abbrev pub with_jpeg : List ℕ → Group → Group
 with_jpeg jpeg group = record group { jpeg = Some jpeg }
 
@@ -107,11 +114,14 @@ pushed field groups =
     if is_ignored field.tag.0 field.tag.1 then groups
     else changed field.ifd_num.0 (with_entry field.tag.0 (entry_of field)) groups
 
+-- the groups after strips are set in the directory with a number
 abbrev pub strips_set : List (List ℕ) → ℕ → List Group → List Group
 strips_set strips ifd groups = changed ifd (with_strips strips) groups
 
+-- the groups after tiles are set in the directory with a number
 abbrev pub tiles_set : List (List ℕ) → ℕ → List Group → List Group
 tiles_set tiles ifd groups = changed ifd (with_tiles tiles) groups
 
+-- the groups after a JPEG is set in the directory with a number
 abbrev pub jpeg_set : List ℕ → ℕ → List Group → List Group
 jpeg_set jpeg ifd groups = changed ifd (with_jpeg jpeg) groups

@@ -46,6 +46,7 @@ value_parts order (entry ∷ entries) =
     if nat_le (value_len entry.value) 4 then value_parts order entries
     else record { place = entry.place; text = encode order entry.value } ∷ value_parts order entries
 
+-- each block as a part, one right behind the other from a place on
 abbrev pub block_parts : ℕ → List (List ℕ) → List Part
 block_parts place [] = []
 block_parts place (text ∷ texts) =
@@ -67,12 +68,14 @@ draft_parts order draft start next =
     ++ (block_parts (tiles_place draft start) (draft.blocks Tiles)
     ++ block_parts (jpeg_place draft start) (draft.blocks Jpeg))))))))))
 
+-- the parts of drafts, one draft behind the other, where the first one begins at `start`
 abbrev pub parts_from : Order → ℕ → List Draft → List Part
 parts_from order start [] = []
 parts_from order start (draft ∷ drafts) =
     draft_parts order draft start (next_place (draft_end draft start) drafts)
     ++ parts_from order (draft_end draft start) drafts
 
+-- the two bytes that name the byte order: MM for big-endian, II for little-endian
 abbrev pub order_mark : Order → List ℕ
 order_mark Big = 0x4d ∷ 0x4d ∷ []
 order_mark Little = 0x49 ∷ 0x49 ∷ []
@@ -81,6 +84,7 @@ order_mark Little = 0x49 ∷ 0x49 ∷ []
 abbrev pub header_text : Order → List ℕ
 header_text order = order_mark order ++ (spelled order 2 42 ++ spelled order 4 8)
 
+-- all parts of an image: the header, and behind it those of the drafts
 abbrev pub parts : Order → List Draft → List Part
 parts order drafts = record { place = 0; text = header_text order } ∷ parts_from order 8 drafts
 

@@ -282,6 +282,7 @@ abbrev pub a_picture : List Field
 a_picture = field_of Exif 0x9000 0 (Undefined (codes "0231") 99) ∷ field_of Gps 0 0 (Byte (2 ∷ 3 ∷ 0 ∷ 0 ∷ []))
     ∷ field_of Tiff 0x100 0 (Unknown 65535 1 18) ∷ description 0 (codes "Sample") ∷ []
 
+-- once scrubbed, the picture is not refused: its value of an unknown type is gone
 pub a_picture_written : write_fault (scrubbed a_picture) ≡ None
 unfolding write_fault group_fault tiff_slots exif_slots gps_slots interop_slots tiff_place exif_place gps_place interop_place tiff_values exif_values gps_values interop_values strips_place tiles_place jpeg_place draft_end
 a_picture_written = refl

@@ -73,18 +73,21 @@ module _ (draft : Draft) (start : ℕ) where
   unfoldable pub draft_end : ℕ
   draft_end = after_blocks jpeg_place (draft.blocks Jpeg)
 
+  -- where the directory of a context begins
   abbrev pub directory_place : Context → ℕ
   directory_place Tiff = tiff_place
   directory_place Exif = exif_place
   directory_place Gps = gps_place
   directory_place Interop = interop_place
 
+  -- the first free place for the values of a directory that don't fit into its entries
   abbrev pub values_place : Context → ℕ
   values_place Tiff = tiff_values
   values_place Exif = exif_values
   values_place Gps = gps_values
   values_place Interop = interop_values
 
+  -- where the blocks of a kind begin
   abbrev pub blocks_place : BlockKind → ℕ
   blocks_place Strips = strips_place
   blocks_place Tiles = tiles_place
@@ -133,6 +136,7 @@ written draft start at values (slot ∷ slots) =
     }
     ∷ written draft start (at + 12) (after_value values (content_len slot.content)) slots
 
+-- the entries of the directory of a context as they are written, with their values and places
 abbrev pub entries_of : Draft → ℕ → Context → List Written
 entries_of draft start context =
     written draft start (directory_place draft start context + 2)

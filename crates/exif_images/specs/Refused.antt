@@ -11,13 +11,16 @@ use Rattle.exif_images.specs.Groups.{Group, Entry, pushed_in}
 use Rattle.exif_images.specs.Slots.{draft_of, slots_of, tiff_slots}
 use Rattle.exif_images.specs.Places.{drafts_end}
 
+-- all contexts, one for each directory of a group
 abbrev pub contexts : List Context
 contexts = Tiff ∷ Exif ∷ Gps ∷ Interop ∷ []
 
+-- whether a value is of an unknown type
 abbrev pub is_unknown : Value → Bool
 is_unknown (Unknown type count place) = true
 is_unknown value = false
 
+-- whether some entry has a value of an unknown type
 abbrev pub any_unknown : List Entry → Bool
 any_unknown entries = list_any (λ entry. is_unknown entry.value) entries
 

@@ -53,6 +53,7 @@ pub record BlocksOf : Type 0 where
   pub tiles : Option (List (List ℕ))
   pub jpeg : Option (List ℕ)
 
+-- the blocks of each directory of the chain, in the order of their numbers
 abbrev pub all_blocks : List Group → List BlocksOf
 all_blocks groups =
     map (λ group. record { strips = group.strips; tiles = group.tiles; jpeg = group.jpeg }) groups

@@ -43,6 +43,7 @@ pub record LeavesKept (fields : List Field) : Type 0 where
   pub without_unknown : All (λ field. is_unknown field.value ≡ false) (flat (scrubbed fields))
   pub all_kept : kept (flat (scrubbed fields)) ≡ flat (scrubbed fields)
 
+-- where the fields are such as reading gives, only what scrubbing keeps is left of them
 abbrev pub ScrubsToKept : List Field → Type 0
 ScrubsToKept fields = All IsRead fields → LeavesKept fields
 

@@ -44,6 +44,7 @@ set_slots kind (Some texts) =
     record { tag = places_tag kind; content = PlacesOf kind (map length texts) }
     ∷ record { tag = lengths_tag kind; content = LengthsOf kind (map length texts) } ∷ []
 
+-- the two entries of a group's blocks of a kind, none where they are not set
 abbrev pub block_slots : Group → BlockKind → List Slot
 block_slots group kind = set_slots kind (blocks_in group kind)
 
@@ -60,12 +61,14 @@ interop_slots group = in_tag_order (map known group.interop)
 unfoldable pub gps_slots : Group → List Slot
 gps_slots group = in_tag_order (map known group.gps)
 
+-- the entries of the Exif directory as they come: pushed ones, and any pointer to Interop
 abbrev pub exif_unsorted : Group → List Slot
 exif_unsorted group = map known group.exif ++ pointer_slots 0xa005 Interop (interop_slots group)
 
 unfoldable pub exif_slots : Group → List Slot
 exif_slots group = in_tag_order (exif_unsorted group)
 
+-- the entries of the chain's directory as they come: pushed ones, the blocks', any pointers
 abbrev pub tiff_unsorted : Group → List Slot
 tiff_unsorted group =
     map known group.tiff
@@ -78,12 +81,14 @@ tiff_unsorted group =
 unfoldable pub tiff_slots : Group → List Slot
 tiff_slots group = in_tag_order (tiff_unsorted group)
 
+-- the entries of the directory of a context as they come
 abbrev pub unsorted : Group → Context → List Slot
 unsorted group Tiff = tiff_unsorted group
 unsorted group Exif = exif_unsorted group
 unsorted group Gps = map known group.gps
 unsorted group Interop = map known group.interop
 
+-- the entries of the directory of a context as they are written, in tag order
 abbrev pub slots_of : Group → Context → List Slot
 slots_of group Tiff = tiff_slots group
 slots_of group Exif = exif_slots group
@@ -100,6 +105,7 @@ pub record Draft : Type 0 where
   pub slots : Context → List Slot
   pub blocks : BlockKind → List (List ℕ)
 
+-- the draft of a group: its entries in tag order, and its blocks, none of a kind that is not set
 abbrev pub draft_of : Group → Draft
 draft_of group =
     record { slots = slots_of group; blocks = λ kind. block_list (blocks_in group kind) }

@@ -9,6 +9,7 @@ use denote.Ref.{Bor}
 use Rattle.exif_types.specs.declared.field.Field.{Field}
 use Rattle.exif_images.specs.Groups.{Group, Entry, empty_group, entry_of}
 
+-- the entries that borrowed fields are pushed as
 abbrev pub entries_in : List (Bor Field) → List Entry
 entries_in fields = map (λ field. entry_of field.now) fields
 
@@ -16,9 +17,11 @@ entries_in fields = map (λ field. entry_of field.now) fields
 abbrev pub blocks_of : List (Bor (List ℕ)) → List (List ℕ)
 blocks_of blocks = map (λ block. block.now) blocks
 
+-- what borrowed strips or tiles hold, where they are set
 abbrev pub set_in : Option (Bor (List (Bor (List ℕ)))) → Option (List (List ℕ))
 set_in set = option_map (λ blocks. blocks_of blocks.now) set
 
+-- what a borrowed JPEG holds, where it is set
 abbrev pub block_in : Option (Bor (List ℕ)) → Option (List ℕ)
 block_in block = option_map (λ bytes. bytes.now) block
 

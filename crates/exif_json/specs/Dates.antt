@@ -23,6 +23,7 @@ minutes_text negative minutes =
     (if negative then codes "-" else codes "+")
     ++ (zero_filled 2 (decimal (minutes / 60)) ++ (codes ":" ++ zero_filled 2 (decimal (minutes % 60))))
 
+-- an offset from UTC as `+09:00`, and nothing where none is known
 abbrev pub offset_text : Option ℤ → List ℕ
 offset_text None = []
 offset_text (Some minutes) = minutes_text (is_negative minutes) (unsigned_abs minutes)
@@ -49,10 +50,12 @@ abbrev pub with_fraction : Option (List ℕ) → DateTime → DateTime
 with_fraction None d = d
 with_fraction (Some text) d = with_subsec d (read_subsec text)
 
+-- a date with the offset that a text tells, or as it was where none can be read
 abbrev pub with_zone : Option (List ℕ) → DateTime → DateTime
 with_zone None d = d
 with_zone (Some text) d = with_offset d (read_offset text)
 
+-- a date, if its parts are in range
 abbrev pub ranged : DateTime → Option DateTime
 ranged d = if is_in_range d then Some d else None
 

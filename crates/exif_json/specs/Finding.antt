@@ -28,6 +28,7 @@ abbrev pub first_text : Value → Option (List ℕ)
 first_text (Ascii (text ∷ texts)) = Some text
 first_text _ = None
 
+-- the first text of a tag of the first image, if it has one
 abbrev pub text_found : List Field → Context → ℕ → Option (List ℕ)
 text_found fields context number = option_and_then first_text (found fields context number)
 

@@ -57,6 +57,7 @@ pub record Axis : Type 0 where
 abbrev pub latitude : Axis
 latitude = record { value = 2; reference = 1; positive = 78; negative = 83; most = 90 }
 
+-- GPSLongitude and its reference, E or W, up to 180 degrees
 abbrev pub longitude : Axis
 longitude = record { value = 4; reference = 3; positive = 69; negative = 87; most = 180 }
 
@@ -65,6 +66,7 @@ pub record Degrees : Type 0 where
   pub negative : Bool
   pub units : ℕ
 
+-- the coordinate that a value and a reference give, if they are as the axis has them
 abbrev pub degrees_in : Axis → Value → Value → Option Degrees
 degrees_in axis value reference =
     option_and_then (λ angle. option_map (λ negative. record { negative = negative; units = units_of angle })

@@ -4,9 +4,11 @@ use Rattle.exif_json.specs.declared.summary.angles.Angle.{Angle}
 use Rattle.exif_json.specs.declared.summary.angles.Axis.{Axis}
 use Rattle.exif_json.specs.declared.summary.angles.Degrees.{Degrees}
 
+-- the code's angle, a fraction of degrees, as the definitions have it
 abbrev pub angle_view : Angle → P.Angle
 angle_view a = record { over = a.over; under = a.under }
 
+-- the code's axis, with its tags, letters and range, as the definitions have it
 abbrev pub axis_view : Axis → P.Axis
 axis_view a = record {
   value = a.value;
@@ -16,5 +18,6 @@ axis_view a = record {
   most = a.most;
 }
 
+-- the code's coordinate, its half and its units, as the definitions have it
 abbrev pub degrees_view : Degrees → P.Degrees
 degrees_view d = record { negative = d.negative; units = d.units }

@@ -21,9 +21,11 @@ abbrev pub maybe : {A : Type 0} → List ℕ → (A → Json) → Option A → L
 maybe name json None = []
 maybe name json (Some x) = (name, json x) ∷ []
 
+-- a coordinate as a number of degrees with seven digits behind the point
 abbrev pub degrees_json : Degrees → Json
 degrees_json d = J.number (degrees_text d.negative d.units)
 
+-- a date as a string of ISO 8601
 abbrev pub date_json : DateTime → Json
 date_json d = J.string (iso_text d)
 
@@ -53,6 +55,7 @@ size_members fields =
     ++ maybe (codes "height") unsigned
     (either_number (number_of fields Exif 40963) (number_of fields Tiff 257))
 
+-- how a picture stands, when, where and by which camera it was taken, and its size, in one object
 abbrev pub summary_json : List Field → Json
 summary_json fields = object (standing_members fields
     ++ (place_members fields ++ (camera_members fields ++ size_members fields)))

@@ -16,11 +16,14 @@ Tells {A = A} P kind =
 abbrev pub IsBelow : ℕ → ℕ → Type 0
 IsBelow bits n = n < 2 ^ bits
 
+-- a number with a sign, whose absolute value 63 bits hold
 abbrev pub IsSigned : ℤ → Type 0
 IsSigned z = mag z < 2 ^ 63
 
+-- a fraction whose two numbers 64 bits hold
 abbrev pub IsFraction : R.Rational → Type 0
 IsFraction r = (r.num < 2 ^ 64) × (r.denom < 2 ^ 64)
 
+-- a fraction of two numbers with signs, whose absolute values 63 bits hold
 abbrev pub IsSignedFraction : S.SRational → Type 0
 IsSignedFraction r = IsSigned r.num × IsSigned r.denom

@@ -17,9 +17,11 @@ abbrev pub members_of : List (List ℕ × Json) → Members
 members_of [] = J.no_members
 members_of (m ∷ ms) = J.member m.0 m.1 (members_of ms)
 
+-- the array of a list of values
 abbrev pub array : List Json → Json
 array trees = J.array (items_of trees)
 
+-- the object of a list of members, each a name and a value
 abbrev pub object : List (List ℕ × Json) → Json
 object members = J.object (members_of members)
 
@@ -27,6 +29,7 @@ object members = J.object (members_of members)
 abbrev pub unsigned : ℕ → Json
 unsigned n = J.number (decimal n)
 
+-- a number that may be negative, in decimal digits
 abbrev pub signed : ℤ → Json
 signed n = J.number (signed_decimal n)
 

@@ -15,6 +15,7 @@ use Rattle.exif_json.specs.Texts.{text_json}
 abbrev pub rational_json : R.Rational → Json
 rational_json r = array (unsigned r.num ∷ unsigned r.denom ∷ [])
 
+-- a signed fraction is the pair of its numerator and its denominator, each with its sign
 abbrev pub srational_json : S.SRational → Json
 srational_json r = array (signed r.num ∷ signed r.denom ∷ [])
 

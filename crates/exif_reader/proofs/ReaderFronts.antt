@@ -141,6 +141,7 @@ module _ (lenient : Bool) (limit : Option ℕ) (front : List ℕ)
     (heads : (front rest : List ℕ) → FrontHasHeader front rest)
     (too_large : (lenient : Bool) (limit : Option ℕ) (bytes : List ℕ)
     → TooLargeIsRefused lenient limit bytes) where
+  -- where strict reading gives the fields of a front, all the data are read so, below 2^32 bytes
   pub reads_front : (exif : ExifContents) (rest : List ℕ) → exif.buf ≡ front
       → raw_answer false limit front ≡ Whole exif.fields
       → header front ≡ Ok (order_named exif.little_endian)
@@ -183,6 +184,7 @@ module _ (lenient : Bool) (limit : Option ℕ) (front : List ℕ)
 
   -- ---- too many bytes
 
+  -- where a front and the rest are 2^32 bytes or more, all the data are refused as too large
   pub reads_too_large : (text : Bor (List ℕ)) (rest : List ℕ) → text.now ≡ text_of DataTooLarge
       → 2 ^ 32 ≤ length front + length rest
       → ReadsHeld HoldsFront IsInterrupted (raw_answer lenient limit (front ++ rest)) (front ++ rest)
@@ -195,6 +197,7 @@ module _ (lenient : Bool) (limit : Option ℕ) (front : List ℕ)
   so_many zero = ([], refl)
   so_many (suc n) = let bytes = so_many n in (0 ∷ bytes.0, ap suc bytes.1)
 
+  -- the error that data are too large is one that some data answer: 2^32 bytes do
   pub own_too_large : (text : Bor (List ℕ)) → text.now ≡ text_of DataTooLarge
       → AnswersOwnData (raw_answer lenient limit) (Err (error.TooBig text))
   own_too_large text is =

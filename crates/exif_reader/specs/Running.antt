@@ -22,14 +22,17 @@ pub record Progress : Type 0 where
 abbrev pub on_opens : Progress → DirectoryPlace → Progress × Option Fault
 on_opens p directory = (record p { places = directory_noted p.places directory }, None)
 
+-- a visit takes one of the entries that are left, and stops the parser where none is
 abbrev pub on_visit : Progress → Progress × Option Fault
 on_visit p = elim p.left [ zero ↦ (p, Some TooManyEntries) | suc n ↦ (record p { left = n }, None) ]
 
+-- a found field comes behind those read before, and its place is noted if places are asked for
 abbrev pub on_found : Progress → Located → Progress × Option Fault
 on_found p l =
     let places = entry_noted p.places (entry_of l) in
     (record p { fields = p.fields ++ l.field ∷ []; places = places }, None)
 
+-- a met fault is noted by a lenient parser, and stops a strict one
 abbrev pub on_met : Progress → Fault → Progress × Option Fault
 on_met p fault =
     elim p.lenient [
@@ -37,6 +40,7 @@ on_met p fault =
       | false ↦ (p, Some fault)
     ]
 
+-- a node of any kind, and the fault at which the parser stops there
 abbrev pub on_node : Progress → Node → Progress × Option Fault
 on_node p (Opens directory) = on_opens p directory
 on_node p Visit = on_visit p

@@ -7,6 +7,7 @@ use Rattle.exif_tiff.specs.Faults.{refusal}
 use Rattle.exif_reader.specs.declared.stop.Stop.{Stop}
 use Rattle.exif_reader.specs.declared.stop.Stop.TheVariants as stop
 
+-- the error that a stop becomes: out of memory, or one that is the refusal of its fault
 abbrev pub Becomes : Stop → Failure → Type 0
 Becomes stop.OutOfMemory e = e ≡ error.OutOfMemory
 Becomes (stop.Fault fault) e = refusal_of e ≡ Some (refusal fault)

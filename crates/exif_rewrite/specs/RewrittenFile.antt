@@ -15,6 +15,7 @@ use Rattle.exif_rewrite_webp.specs.RewrittenWebp.{webp_rewriting, webp_rewriting
 abbrev pub tiff_stays : Refusal
 tiff_stays = not_supported (codes "TIFF data are edited in place")
 
+-- the refusal of HEIF files, which are not written again but edited in place
 abbrev pub heif_stays : Refusal
 heif_stays = not_supported (codes "HEIF files are edited in place")
 

@@ -37,6 +37,7 @@ bare u = record { passed = []; fill = u.fill; code = u.code; brought = u.brought
 pub bare_unit : (u : UnitTree) → IsUnit u → IsUnit (bare u)
 bare_unit u h = record { passed = All-nil (λ b. b ≢ 255); code = h.code; brought = h.brought }
 
+-- the bytes of a unit: its ffs, its code and what this brings
 abbrev pub text_of : UnitTree → List ℕ
 text_of u = unit_text (u.fill + 1) u.code (print_brought u.brought)
 
@@ -51,15 +52,19 @@ or_false false = refl
 
 -- ---- the new segment is a unit that is left out
 
+-- a payload of at most 65527 bytes, which fits into a segment behind length and identifier
 abbrev pub Fits : List ℕ → Type 0
 Fits payload = length payload ≤ 65527
 
+-- the high byte of the length of a payload's segment, which counts 8 bytes besides the payload
 abbrev pub high : List ℕ → ℕ
 high payload = ((8 + length payload) / 256) % 256
 
+-- the low byte of the length of a payload's segment
 abbrev pub low : List ℕ → ℕ
 low payload = (8 + length payload) % 256
 
+-- the segment of new Exif data, as a unit
 abbrev pub segment_tree : List ℕ → UnitTree
 segment_tree payload = record { passed = []; fill = 0; code = 225; brought = exif (high payload) (low payload) payload }
 
@@ -147,9 +152,11 @@ still_still : (b : Bool) (new : List ℕ) → cond b (cond b new []) [] ≡ cond
 still_still true new = refl
 still_still false new = refl
 
+-- the refusal that a unit is, if it is one
 abbrev pub refusal_in : UnitTree → Option Refusal
 refusal_in u = unit_refusal u.code (print_brought u.brought)
 
+-- whether a unit stays, by its code and its content behind the length
 abbrev pub stays_in : Remove → Bool → UnitTree → Bool
 stays_in remove d u = stays remove d u.code (drop 2 (print_brought u.brought))
 

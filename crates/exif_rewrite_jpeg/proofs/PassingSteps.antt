@@ -287,6 +287,7 @@ no_mark fill =
 
 -- ---- the rest
 
+-- what was sent is all that was taken: the bytes are this, and behind it those left
 abbrev pub All_of : List ℕ → List ℕ → List ℕ → Type 0
 All_of xs ys s = xs ≡ s ++ ys
 

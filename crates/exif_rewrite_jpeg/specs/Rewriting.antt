@@ -22,7 +22,7 @@ after sent r = record { out = sent ++ r.out; end = r.end }
 abbrev pub ends : End → List ℕ → Rewriting
 ends end bytes = record { out = bytes; end = end }
 
--- nothing, or what a refusal leaves
+-- the rewriting itself, or where it is refused, no bytes and the refusal
 abbrev pub unless_refused : Option Refusal → Rewriting → Rewriting
 unless_refused None r = r
 unless_refused (Some refusal) r = ends (refused_by refusal) []

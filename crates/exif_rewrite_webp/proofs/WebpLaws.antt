@@ -108,6 +108,7 @@ chunk_back c rest room four fits small = by c.name four refl
 
 -- ---- chunks are read back
 
+-- the name of a chunk has four bytes
 abbrev pub HasName : Chunk → Type 0
 HasName c = length c.name ≡ 4
 

@@ -28,6 +28,7 @@ no_chunk = record { name = []; payload = record { ref_ptr = (0, 0); now = [] } }
 
 -- ---- lengths
 
+-- how many bytes chunks take, each with its name, its size and its pad byte
 abbrev pub total : List LentChunk → ℕ
 total cs = length (chunks_text (map chunk_view cs))
 

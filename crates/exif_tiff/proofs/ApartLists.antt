@@ -11,6 +11,7 @@ use Rattle.exif_tiff.proofs.Members.{all_left, all_right, all_append}
 abbrev pub IsApart : Stretch → Stretch → Type 0
 IsApart s t = (s.place + s.len ≤ t.place) ⊎ (t.place + t.len ≤ s.place)
 
+-- each two stretches of a list are apart
 abbrev pub AreApart : List Stretch → Type 0
 AreApart [] = Unit {0}
 AreApart (s ∷ ts) = AllByRecursion (IsApart s) ts × AreApart ts

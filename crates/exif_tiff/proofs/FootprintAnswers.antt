@@ -40,6 +40,7 @@ module _ (a b : List ℕ) where
       by_order (order_of a) s ∙ ap (ordered b) order
 
 module _ (a b : List ℕ) (as_long : length a ≡ length b) where
+  -- data of one length whose first 8 bytes are the same have the same header
   pub header_same : Same a b 0 8 → header a ≡ header b
   header_same s =
       rw (← as_long)

@@ -129,6 +129,7 @@ module _ (order : Order) (a b : List ℕ) (as_long : length a ≡ length b) wher
       ++ following (chain_directories left (number_of order) b) (directory_end (number_of order) b p))
       (linked_same left p (chain_same left)) h
 
+  -- data of one length and order that agree on the header and the one's footprint both have it
   pub shared_in_order : Same a b 0 8
       → AllByRecursion (Agree a b) (ordered_footprint (number_of order) a)
       → ordered_footprint (number_of order) a ≡ ordered_footprint (number_of order) b

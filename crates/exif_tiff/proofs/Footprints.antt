@@ -44,6 +44,7 @@ ends s t u next =
     (if t then Err TruncatedDirectory else (if u then Err TruncatedNextOffset else Ok next))
 
 module _ (order : Order) (a b : List ℕ) (as_long : length a ≡ length b) where
+  -- how numbers are read in this order
   abbrev pub number : Reading
   number = number_of order
 
@@ -62,6 +63,7 @@ module _ (order : Order) (a b : List ℕ) (as_long : length a ≡ length b) wher
   whole_by : (p : ℕ) → Same a b p 2 → whole_entries number a p ≡ whole_entries number b p
   whole_by p h = let count = number_same order 2 a b p h in rw (as_long, count) refl
 
+  -- where both have the same count there, the entries stand at the same places
   pub places_by : (p : ℕ) → Same a b p 2 → entry_places number a p ≡ entry_places number b p
   places_by p h = ap (spaced (p + 2) 12) (whole_by p h)
 
@@ -70,9 +72,11 @@ module _ (order : Order) (a b : List ℕ) (as_long : length a ≡ length b) wher
       part_same a b p (2 + 12 * whole_entries number a p + 4) p 2 (omega arith) (omega arith)
       (stands p h)
 
+  -- where both agree on a directory, as many of its entries are whole in both
   pub whole_same : (p : ℕ) → Alike p → whole_entries number a p ≡ whole_entries number b p
   whole_same p h = whole_by p (counts p h)
 
+  -- where both agree on a directory, its entries stand at the same places
   pub places_same : (p : ℕ) → Alike p → entry_places number a p ≡ entry_places number b p
   places_same p h = places_by p (counts p h)
 
@@ -97,6 +101,7 @@ module _ (order : Order) (a b : List ℕ) (as_long : length a ≡ length b) wher
       (nat_lt (length a) (p + 2 + 12 * m + 4)) (number_at number 4 a (p + 2 + 12 * m))
       (number_at number 4 b (p + 2 + 12 * m)) next)
 
+  -- where both agree on a directory, it ends with the same next place, or with the same fault
   pub end_same : (p : ℕ) → Alike p → directory_end number a p ≡ directory_end number b p
   end_same p h =
       end_by p (counts p h)
@@ -111,6 +116,7 @@ module _ (order : Order) (a b : List ℕ) (as_long : length a ≡ length b) wher
     spaced_same (q + 12) w (part_same a b q (12 * suc w) (q + 12) (12 * w) (omega arith) (omega arith) h),
   )
 
+  -- where both agree on a directory, the 12 bytes of each whole entry are the same
   pub entries_same : (p : ℕ) → Alike p → AllByRecursion (λ e. Same a b e 12) (entry_places number a p)
   entries_same p h =
       let w = whole_entries number a p in
@@ -138,6 +144,7 @@ module _ (order : Order) (a b : List ℕ) (as_long : length a ≡ length b) wher
       false_true : ◌≡◌ {A = Bool} false true → ⊥
       false_true e = cc
 
+  -- where both agree on an entry and on its value outside of it, the entry holds the same value
   pub value_same : (e : ℕ) → Same a b e 12 → ValueAlike e
       → entry_value number a e ≡ entry_value number b e
   value_same e h v =
@@ -269,6 +276,7 @@ module _ (order : Order) (a b : List ℕ) (as_long : length a ≡ length b) wher
       ++ chain_after (chain_nodes left number b (k + 1)) (directory_end number b p))
       (linked_same left k p (chain_same left (k + 1))) h
 
+  -- data of one length and order that agree on the header and the one's footprint have one trace
   pub ordered_same : Same a b 0 8 → AllByRecursion (Agree a b) (ordered_footprint number a)
       → ordered_trace number a ≡ ordered_trace number b
   unfolding ordered_trace

@@ -335,6 +335,7 @@ module _ (front rest : List ℕ) (small : length (front ++ rest) < 2 ^ 32) where
       let long : nat_lt (length front) 8 ≡ false = tests.0 in
       grind (arith, nat_tests)
 
+  -- all bytes have the header of their front, where it is right and they are fewer than 2^32
   pub header_in : (order : Order) → header front ≡ Ok order → header all_bytes ≡ Ok order
   header_in order e =
       let long = long_enough order e in

@@ -72,6 +72,7 @@ module _ (child : Directory) (number : Reading) (bytes : List ℕ) (h : (c : Con
   valued_reports c k p n e None = record { bound = omega arith }
   valued_reports c k p n e (Some v) = tagged_reports c k p n e v (child_of c n)
 
+  -- where no child has more fields and faults than visits, an entry has no more either
   pub entry_reports : (c : Context) (k p e : ℕ) → Reports 0 (entry_nodes child number bytes c k p e)
   entry_reports c k p e =
       let v = valued_reports c k p (number_at number 2 bytes e) e (entry_value number bytes e) in

@@ -4,6 +4,7 @@ use Rattle.exif_types.specs.Refusals.{Refusal, invalid_format, too_big}
 use Rattle.exif_tiff.specs.declared.fault.Fault.{Fault}
 use Rattle.exif_tiff.specs.declared.fault.Fault.TheVariants.{DataTooLarge, TruncatedHeader, InvalidByteOrder, InvalidFortyTwo, TruncatedCount, TruncatedDirectory, TruncatedNextOffset, TruncatedValue, InvalidPointer, UnexpectedNext, TooManyDirectories, TooManyEntries}
 
+-- the message of a fault
 abbrev pub text_of : Fault → List ℕ
 text_of DataTooLarge = codes "TIFF data too large"
 text_of TruncatedHeader = codes "Truncated TIFF header"

@@ -152,6 +152,7 @@ order_of bytes =
     if (slice_index bytes 0 == 0x4d) && (slice_index bytes 1 == 0x4d) then Some Big else
     (if (slice_index bytes 0 == 0x49) && (slice_index bytes 1 == 0x49) then Some Little else None)
 
+-- the order of a right header, or the first fault of the data's length, the order and the 42
 abbrev pub header : List ℕ → Result Order Fault
 header bytes =
     if nat_lt (2 ^ 32 - 1) (length bytes) then Err DataTooLarge else
@@ -171,6 +172,7 @@ unfoldable pub trace : List ℕ → List Node
 trace bytes =
     elim (header bytes) [ Ok order ↦ ordered_trace (number_of order) bytes | Err fault ↦ [] ]
 
+-- the fields of a trace, from first to last
 abbrev pub fields_of : List Node → List Field
 fields_of [] = []
 fields_of (Opens directory ∷ nodes) = fields_of nodes
@@ -178,6 +180,7 @@ fields_of (Visit ∷ nodes) = fields_of nodes
 fields_of (Found l ∷ nodes) = l.field ∷ fields_of nodes
 fields_of (Met fault ∷ nodes) = fields_of nodes
 
+-- the faults of a trace, from first to last
 abbrev pub faults_of : List Node → List Fault
 faults_of [] = []
 faults_of (Opens directory ∷ nodes) = faults_of nodes
@@ -185,6 +188,7 @@ faults_of (Visit ∷ nodes) = faults_of nodes
 faults_of (Found l ∷ nodes) = faults_of nodes
 faults_of (Met fault ∷ nodes) = fault ∷ faults_of nodes
 
+-- how many entries a trace visits
 abbrev pub visits_of : List Node → ℕ
 visits_of [] = 0
 visits_of (Opens directory ∷ nodes) = visits_of nodes
@@ -213,6 +217,7 @@ pub record Content : Type 0 where
   pub fields : List Field
   pub faults : List Fault
 
+-- what was read by a trace: its fields and its faults
 abbrev pub content_of : List Node → Content
 content_of nodes = record { fields = fields_of nodes; faults = faults_of nodes }
 

@@ -10,6 +10,7 @@ entries_at_most bytes = min 65535 (length bytes / 12)
 abbrev pub visits_at_most : List ℕ → ℕ
 visits_at_most bytes = let n = entries_at_most bytes in 8 * (n + n * n + n * n * n)
 
+-- each number of a list is one of a byte
 abbrev pub AreBytes : List ℕ → Type 0
 AreBytes bytes = (i : ℕ) → slice_index bytes i < 256
 

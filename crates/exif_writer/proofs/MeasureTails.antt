@@ -77,6 +77,7 @@ span_first slots a b =
 abbrev pub place_slot : BlockKind → List (Bor (List ℕ)) → Slot
 place_slot kind texts = record { tag = places_tag kind; content = PlacesOf kind (lens texts) }
 
+-- the slot with the lengths of the blocks, the second of the two
 abbrev pub length_slot : BlockKind → List (Bor (List ℕ)) → Slot
 length_slot kind texts = record { tag = lengths_tag kind; content = LengthsOf kind (lens texts) }
 
@@ -163,10 +164,12 @@ fronts k s t j e g =
 
 -- the directory of the chain: pushed fields, strips and tiles tell all
 module _ (group : Group) where
+  -- pushed fields, these with strips, and both with tiles take no more bytes than all entries
   pub tiff_fronts : Fronts (map known group.tiff) (block_slots group Strips) (block_slots group Tiles) (tiff_unsorted group)
   tiff_fronts = fronts (map known group.tiff) (block_slots group Strips) (block_slots group Tiles) (block_slots group Jpeg)
       (pointer_slots 0x8769 Exif (exif_slots group)) (pointer_slots 0x8825 Gps (gps_slots group))
 
+  -- what a count tells of pushed fields, strips and tiles, it tells of all entries
   pub tiff_told : (tail : Tail) → Tells tail (map known group.tiff ++ block_slots group Strips ++ block_slots group Tiles) → Tells tail (tiff_unsorted group)
   tiff_told tail t =
       tells_pointer tail _ 0x8825 Gps (gps_slots group) (tells_pointer tail _ 0x8769 Exif (exif_slots group)

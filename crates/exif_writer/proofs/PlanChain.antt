@@ -152,6 +152,7 @@ next_within groups i h =
 -- one plan more
 module _ (groups : List Group) (i : ℕ) (x d : Group) (start : ℕ) (plans : List Plan) (h : i < length groups) (e : x ≡ get_or groups i d)
     (so : (more : List Plan) → ArePlans start (map draft_of (drop i groups)) more → ArePlans 8 (map draft_of groups) (plans ++ more)) where
+  -- with the plan of one more group put behind, only the plans of the groups after it are missing
   pub plans_more : (plan : Plan) (next end : ℕ) (new : List Plan) → IsSettledPlan (draft_of x) start next plan → end ≡ draft_end (draft_of x) start
       → next ≡ next_place (draft_end (draft_of x) start) (map draft_of (drop (i + 1) groups)) → new ≡ plans ++ plan ∷ []
       → (more : List Plan) → ArePlans end (map draft_of (drop (i + 1) groups)) more → ArePlans 8 (map draft_of groups) (new ++ more)

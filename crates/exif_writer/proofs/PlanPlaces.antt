@@ -8,6 +8,7 @@ use Rattle.exif_images.proofs.Images.Room.{places_grow}
 
 -- Each place, from the one before it.
 module _ (draft : Draft) (start : ℕ) where
+  -- the directory of the chain stands at the first even place from the start on
   pub tiff_is : start + start % 2 ≡ tiff_place draft start
   unfolding tiff_place
   tiff_is = refl
@@ -23,15 +24,18 @@ module _ (draft : Draft) (start : ℕ) where
   unfolding tiff_place exif_place
   exif_place_at a = λ i. start + start % 2 + a i
 
+  -- the GPS directory stands right behind those of the chain and of Exif
   pub gps_place_at : {a b : ℕ} → a ≡ directory_len (draft.slots Tiff) → b ≡ directory_len (draft.slots Exif) → start + start % 2 + a + b ≡ gps_place draft start
   unfolding tiff_place exif_place gps_place
   gps_place_at a b = λ i. start + start % 2 + a i + b i
 
+  -- the Interoperability directory stands right behind those of the chain, of Exif and of GPS
   pub interop_place_at : {a b c : ℕ} → a ≡ directory_len (draft.slots Tiff) → b ≡ directory_len (draft.slots Exif) → c ≡ directory_len (draft.slots Gps)
       → start + start % 2 + a + b + c ≡ interop_place draft start
   unfolding tiff_place exif_place gps_place interop_place
   interop_place_at a b c = λ i. start + start % 2 + a i + b i + c i
 
+  -- the values of the directory of the chain begin right behind all four directories
   pub tiff_values_at : {a b c d : ℕ} → a ≡ directory_len (draft.slots Tiff) → b ≡ directory_len (draft.slots Exif) → c ≡ directory_len (draft.slots Gps)
       → d ≡ directory_len (draft.slots Interop) → start + start % 2 + a + b + c + d ≡ tiff_values draft start
   unfolding tiff_place exif_place gps_place interop_place tiff_values
@@ -42,14 +46,17 @@ module _ (draft : Draft) (start : ℕ) where
   unfolding exif_values
   exif_at t e = e ∙ ap (λ p. after_values p (draft.slots Tiff)) t
 
+  -- where the values of the Exif directory end, those of the GPS directory begin
   pub gps_at : {exif gps : ℕ} → exif ≡ exif_values draft start → gps ≡ after_values exif (draft.slots Exif) → gps ≡ gps_values draft start
   unfolding gps_values
   gps_at t e = e ∙ ap (λ p. after_values p (draft.slots Exif)) t
 
+  -- where the values of the GPS directory end, those of the Interoperability directory begin
   pub interop_at : {gps interop : ℕ} → gps ≡ gps_values draft start → interop ≡ after_values gps (draft.slots Gps) → interop ≡ interop_values draft start
   unfolding interop_values
   interop_at t e = e ∙ ap (λ p. after_values p (draft.slots Gps)) t
 
+  -- where the values of the Interoperability directory end, the strips begin
   pub strips_at : {interop strips : ℕ} → interop ≡ interop_values draft start → strips ≡ after_values interop (draft.slots Interop) → strips ≡ strips_place draft start
   unfolding strips_place
   strips_at t e = e ∙ ap (λ p. after_values p (draft.slots Interop)) t
@@ -59,10 +66,12 @@ module _ (draft : Draft) (start : ℕ) where
   unfolding tiles_place
   tiles_at t b e = e ∙ (λ i. after_blocks (t i) (b i))
 
+  -- where the tiles end, the JPEG begins
   pub jpeg_at : {tiles jpeg : ℕ} {blocks : List (List ℕ)} → tiles ≡ tiles_place draft start → blocks ≡ draft.blocks Tiles → jpeg ≡ after_blocks tiles blocks → jpeg ≡ jpeg_place draft start
   unfolding jpeg_place
   jpeg_at t b e = e ∙ (λ i. after_blocks (t i) (b i))
 
+  -- where the JPEG ends, the draft ends
   pub end_at : {jpeg end : ℕ} {blocks : List (List ℕ)} → jpeg ≡ jpeg_place draft start → blocks ≡ draft.blocks Jpeg → end ≡ after_blocks jpeg blocks → end ≡ draft_end draft start
   unfolding draft_end
   end_at t b e = e ∙ (λ i. after_blocks (t i) (b i))

@@ -94,6 +94,7 @@ module _ (group : Group) (start : ℕ) (h : IsAccepted group) (room : draft_end 
     measurable_slots slots b.1 c.1,
   )
 
+  -- the values of each of its directories can be settled from their place in the draft on
   pub can_settle : (context : Context) (slots : List Slot) (values : ℕ) → map symbol slots ≡ slots_of group context → values ≡ values_place (draft_of group) start context
       → CanSettle values slots
   can_settle context slots values e v =
@@ -146,6 +147,7 @@ module _ (group : Group) (start next : ℕ) (plan : Plan) (is : IsPlan (draft_of
         room = can.room;
       }
 
+  -- each directory of the plan can be sent
   pub ready_plan : IsReadyPlan plan
   ready_plan = record {
     tiff = ready_directory Tiff plan.tiff.items plan.places.tiff_values is.tiff (ap (λ p. p.tiff_values) is.places);

@@ -19,12 +19,14 @@ pub record IsReadyDirectory (places : Places) (values : ℕ) (slots : List Slot)
   pub ready : AllByRecursion (IsReady places) slots
   pub room : values_end values slots ≤ 4294967295
 
+-- a plan that can be sent: each of its directories can
 pub record IsReadyPlan (plan : Plan) : Type 0 where
   pub tiff : IsReadyDirectory plan.places plan.places.tiff_values plan.tiff.items
   pub exif : IsReadyDirectory plan.places plan.places.exif_values plan.exif.items
   pub gps : IsReadyDirectory plan.places plan.places.gps_values plan.gps.items
   pub interop : IsReadyDirectory plan.places plan.places.interop_values plan.interop.items
 
+-- the bytes of a plan's directories, behind a zero where the plan begins at an odd place
 abbrev pub directories_text : Order → Plan → List ℕ
 directories_text order plan =
     replicate (plan.places.start % 2) 0
@@ -33,6 +35,7 @@ directories_text order plan =
     ++ (slots_text order plan.places 0 plan.gps.items
     ++ slots_text order plan.places 0 plan.interop.items)))
 
+-- the bytes of a plan's values that are not in their entries, in the order of the directories
 abbrev pub plan_values_text : Order → Plan → List ℕ
 plan_values_text order plan =
     values_text order plan.places plan.tiff.items
@@ -40,16 +43,20 @@ plan_values_text order plan =
     ++ (values_text order plan.places plan.gps.items
     ++ values_text order plan.places plan.interop.items))
 
+-- the bytes of a plan's blocks: strips, tiles and the JPEG
 abbrev pub plan_blocks_text : Plan → List ℕ
 plan_blocks_text plan =
     blocks_text plan.strips.now ++ (blocks_text plan.tiles.now ++ blocks_text plan.jpeg.now)
 
+-- the bytes of a plan: its directories, then their values, then its blocks
 abbrev pub plan_text : Order → Plan → List ℕ
 plan_text order plan =
     directories_text order plan ++ (plan_values_text order plan ++ plan_blocks_text plan)
 
+-- the bytes of plans, one behind the other
 abbrev pub plans_text : Order → List Plan → List ℕ
 plans_text order plans = flat_map (plan_text order) plans
 
+-- all that is sent: the TIFF header, and behind it the plans
 abbrev pub sent_image : Order → List Plan → List ℕ
 sent_image order plans = header_text order ++ plans_text order plans

@@ -28,11 +28,13 @@ abbrev pub sum_of : List (Bor (List ℕ)) → ℕ
 sum_of [] = 0
 sum_of (block ∷ blocks) = length block.now + sum_of blocks
 
+-- where the blocks of a kind begin
 abbrev pub block_place : Places → BlockKind → ℕ
 block_place places Strips = places.strips
 block_place places Tiles = places.tiles
 block_place places Jpeg = places.jpeg
 
+-- where the directory of a context begins
 abbrev pub context_place : Places → Context → ℕ
 context_place places Tiff = places.tiff
 context_place places Exif = places.exif
@@ -87,6 +89,7 @@ pub record IsReady (places : Places) (slot : Slot) : Type 0 where
 abbrev pub after_slot : ℕ → Slot → ℕ
 after_slot start slot = after_value start (content_size slot.content)
 
+-- where the values of slots end, the first of which may stand from a place on
 abbrev pub values_end : ℕ → List Slot → ℕ
 values_end start slots = state after_slot start slots
 
@@ -117,6 +120,7 @@ pub record IsSettled (start : ℕ) (slot : Slot) : Type 0 where
   pub place : nat_le (content_size slot.content) 4 ≡ false → slot.place ≡ even start
   pub padded : nat_le (content_size slot.content) 4 ≡ false → slot.padded ≡ (start % 2 == 1)
 
+-- each of some slots is settled from where the values of those before it end
 abbrev pub AreSettled : ℕ → List Slot → Type 0
 AreSettled start [] = ⊤
 AreSettled start (slot ∷ slots) = IsSettled start slot × AreSettled (after_slot start slot) slots
@@ -139,8 +143,10 @@ value_text order places slot =
     then []
     else replicate (if slot.padded then 1 else 0) 0 ++ encode order (settled places slot.content)
 
+-- the values of a directory that are not in its entries
 abbrev pub values_text : Order → Places → List Slot → List ℕ
 values_text order places slots = flat_map (value_text order places) slots
 
+-- the bytes of blocks, one behind the other
 abbrev pub blocks_text : List (Bor (List ℕ)) → List ℕ
 blocks_text blocks = flat_map (λ block. block.now) blocks

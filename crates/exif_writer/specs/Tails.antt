@@ -9,6 +9,7 @@ use Rattle.exif_images.specs.Measuring.{span, last_out}
 abbrev pub measure : Slot → ℕ × ℕ
 measure slot = (slot.tag, content_len slot.content)
 
+-- a count holds the bytes of values outside of entries, and the measure of the last in tag order
 pub record Tells (tail : Tail) (slots : List Slot) : Type 0 where
   pub bytes : tail.bytes ≡ span slots
   pub last : tail.last ≡ option_map measure (last_out slots)

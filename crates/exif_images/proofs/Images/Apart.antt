@@ -60,9 +60,11 @@ module _ (order : Order) (bytes : List ℕ) (small : length bytes < 256 ^ 4) (dr
     (few : (context : Context) → length (draft.slots context) ≤ 65535)
     (fit : (context : Context) → AllByRecursion (SlotFits draft context) (draft.slots context))
     (once : (context : Context) → NamesOnce (draft.slots context)) where
+  -- where the directory of a context stands in the draft
   abbrev pub place : Context → ℕ
   place = directory_place draft start
 
+  -- the places of a directory and of those below it, as reading finds them down to a depth
   abbrev pub below : ℕ → Below
   below depth = directories depth (number_of order) bytes
 
@@ -74,12 +76,14 @@ module _ (order : Order) (bytes : List ℕ) (small : length bytes < 256 ^ 4) (dr
   abbrev pub children : ℕ → List Slot → List Stretch
   children depth slots = looked (flat_map (λ (slot : Slot). below_content (below depth) place slot.content) slots)
 
+  -- stretches that are apart from each other, all in a directory, its values or what is below it
   pub record Good (c : Context) (ts : List Stretch) : Type 0 where
     pub apart : AreApart ts
     pub inside : AllByRecursion (In draft start c) ts
 
   -- ---- one directory with its values
 
+  -- the stretches of one directory: itself, and its values that stand outside of entries
   abbrev pub own : (c : Context) → List Stretch
   own c = record { place = place c; len = directory_len (draft.slots c) } ∷ value_stretches (values_place draft start c) (draft.slots c)
 
@@ -227,6 +231,7 @@ module _ (order : Order) (bytes : List ℕ) (small : length bytes < 256 ^ 4) (dr
               (all_weaker (From (Child c)) (In draft start c) (λ t b. in_parent draft start b.passes.0 t b.within) (children depth (draft.slots c)) from);
         }
 
+  -- what is looked at of a directory with entries, and below it, is apart and lies in its regions
   pub tree : (depth : ℕ) (c : Context) → 0 < length (draft.slots c) → Good c (looked (below depth c (place c)))
   tree zero c some =
       let is = found zero c some in

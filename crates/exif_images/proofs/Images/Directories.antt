@@ -62,11 +62,13 @@ module _ (order : Order) (bytes : List ℕ) (small : length bytes < 256 ^ 4) (dr
   value_outside entry entries h true e f = absurd cc
   value_outside entry entries h false e f = (rw e at h).0
 
+  -- the values behind the first one stand too, whether or not that fits into its entry
   pub values_rest : (entry : Written) (entries : List Written) → AllStand bytes (value_parts order (entry ∷ entries))
       → (fits : Bool) → nat_le (value_len entry.value) 4 ≡ fits → AllStand bytes (value_parts order entries)
   values_rest entry entries h true e = rw e at h
   values_rest entry entries h false e = (rw e at h).1
 
+  -- entries that fit and stand with their values are read as their fields, if the children are
   pub entries_give : (inner : Directory) (fields : Context → List Field) → ChildrenGive inner fields
       → (context : Context) (ifd directory at values : ℕ) (slots : List Slot) → AllByRecursion (SlotFits draft context) slots
       → AllByRecursion (λ slot. Fits (value_of draft start slot.content)) slots

@@ -105,6 +105,7 @@ module _ (order : Order) (bytes : List ℕ) (small : length bytes < 256 ^ 4) whe
     pub count : number_at (number_of order) 4 bytes (e + 4) ≡ count_of entry.value
     pub element : Stands bytes (e + 8) (if nat_le (value_len entry.value) 4 then encode order entry.value ++ replicate (4 - value_len entry.value) 0 else spelled order 4 entry.place)
 
+  -- where an entry that fits stands with its value, its tag, type and count are read as written
   pub entry_spelled : (entry : Written) (e : ℕ) → entry.tag < 256 ^ 2 → Fits entry.value → Stands bytes e (entry_text order entry)
       → (nat_le (value_len entry.value) 4 ≡ false → Stands bytes entry.place (encode order entry.value)) → IsSpelled entry e
   entry_spelled entry e tag h s outside =

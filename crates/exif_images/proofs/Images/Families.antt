@@ -108,6 +108,7 @@ module _ (order : Order) (bytes : List ℕ) (small : length bytes < 256 ^ 4) (dr
       rw h.0 (lengths_low bytes (blocks_place draft start blocks) (draft.blocks blocks) small (stands.blocks blocks))
   value_fits context tag (PlaceOf child) h = let within = (stands.directory child h.1).within in (omega arith, tt)
 
+  -- slots that fit have values that fit, once the places of the draft are settled
   pub values_fit : (context : Context) (slots : List Slot) → AllByRecursion (SlotFits draft context) slots → AllByRecursion (λ slot. Fits (value_of draft start slot.content)) slots
   values_fit context [] h = tt
   values_fit context (slot ∷ slots) h = (value_fits context slot.tag slot.content h.0.content, values_fit context slots h.1)
@@ -123,6 +124,7 @@ module _ (order : Order) (bytes : List ℕ) (small : length bytes < 256 ^ 4) (dr
   next_low Gps = omega arith
   next_low Interop = omega arith
 
+  -- each directory of the draft that has entries is read whole
   pub each_read : (context : Context) → 0 < length (draft.slots context)
       → IsWhole order bytes (directory_place draft start context) (next_of next context) (entries_of draft start context)
   each_read context some =
@@ -148,6 +150,7 @@ module _ (order : Order) (bytes : List ℕ) (small : length bytes < 256 ^ 4) (dr
       rw count (entries_give order bytes small draft start inner fields children context ifd (directory_place draft start context) (directory_place draft start context + 2) (values_place draft start context)
       (draft.slots context) (fit context) (values_fit context (draft.slots context) (fit context)) read.texts (stands.values context))
 
+  -- a directory with entries, and its children down to a depth, give their fields and no fault
   pub nodes_give : (depth ifd : ℕ) (context : Context) → 0 < length (draft.slots context)
       → Gives (directory_nodes depth (number_of order) bytes ifd context (directory_place draft start context)) (directory_fields draft start ifd depth context)
   nodes_give zero ifd context some = record { seen = refl; clean = refl }

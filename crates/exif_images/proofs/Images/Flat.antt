@@ -72,6 +72,7 @@ module _ (draft : Draft) (start ifd : ℕ) where
   abbrev pub sum_of : ℕ → Context → Context → List Slot
   sum_of depth context here = flat_map (added ifd context) (directory_fields draft start ifd depth here)
 
+  -- what a directory of settled slots adds is what its slots add, a pointer what its child adds
   pub sum_is : (depth : ℕ) (context here : Context) → AllByRecursion (IsSettled here) (draft.slots here)
       → sum_of (suc depth) context here ≡ flat_map (share context here (sum_of depth context)) (draft.slots here)
   sum_is depth context here h =

@@ -82,6 +82,7 @@ module _ (order : Order) (bytes : List ℕ) (small : length bytes < 256 ^ 4) whe
     content_below context tag place (LengthsOf kind lengths) h = rw h.1 refl
     content_below context tag place (PlaceOf child) h = rw h.0 refl
 
+    -- of entries that stand, reading looks at values outside of them and at the directories below
     pub entries_look : (context : Context) (at values : ℕ) (slots : List Slot) → AllByRecursion (SlotFits draft context) slots
         → AllByRecursion (λ slot. Fits (value_of draft start slot.content)) slots
         → Stands bytes at (flat_map (entry_text order) (written draft start at values slots))

@@ -249,6 +249,7 @@ abbrev pub places_slots : BlockKind → Option (List (List ℕ)) → List Slot
 places_slots kind None = []
 places_slots kind (Some texts) = record { tag = places_tag kind; content = PlacesOf kind (map length texts) } ∷ []
 
+-- the slot that gives the lengths of the blocks of a kind, where they are set
 abbrev pub lengths_slots : BlockKind → Option (List (List ℕ)) → List Slot
 lengths_slots kind None = []
 lengths_slots kind (Some texts) = record { tag = lengths_tag kind; content = LengthsOf kind (map length texts) } ∷ []

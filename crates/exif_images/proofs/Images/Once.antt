@@ -23,6 +23,7 @@ abbrev pub Differ : Slot → Slot → Type 0
 Differ s t =
     (child : Context) → child_named s.content ≡ Some child → child_named t.content ≡ Some child → ⊥
 
+-- no child directory is named by two of the entries
 abbrev pub NamesOnce : List Slot → Type 0
 NamesOnce [] = Unit {0}
 NamesOnce (s ∷ ts) = AllByRecursion (Differ s) ts × NamesOnce ts

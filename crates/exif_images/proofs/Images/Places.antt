@@ -72,6 +72,7 @@ length-entry_text order entry h =
     let g1 = length_spelled order 2 entry.tag in
     omega arith
 
+-- no written entry has a value of an unknown type
 abbrev pub AllWrittenKnown : List Written → Type 0
 AllWrittenKnown entries = AllByRecursion (λ entry. is_unknown entry.value ≡ false) entries
 

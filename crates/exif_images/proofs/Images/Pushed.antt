@@ -57,6 +57,7 @@ module _ (Q : ℕ → Context → Entry → Type 0) where
           rw (e, f) (if_same m field.tag.0 context (entry_of field) (subst (λ (n : ℕ). Q n field.tag.0 (entry_of field)) k (q e)))
       go false false e f = rw (e, f) tt
 
+  -- what holds of all entries, and of all fields not ignored, holds after the fields are pushed
   pub pushed_all_have : (fields : List Field) (groups : List Group)
       → AllByRecursion (λ field. is_ignored field.tag.0 field.tag.1 ≡ false → Q field.ifd_num.0 field.tag.0 (entry_of field)) fields
       → EntriesHave Q groups → EntriesHave Q (pushed_all fields groups)

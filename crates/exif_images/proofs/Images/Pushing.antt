@@ -158,6 +158,7 @@ abbrev pub or_else : {X : Type 0} → Option X → Option X → Option X
 or_else None old = old
 or_else (Some x) old = Some x
 
+-- a group with the blocks of another one, or its own of each kind that the other has not set
 abbrev pub with_blocks : Group → Group → Group
 with_blocks from group = record group { strips = or_else from.strips group.strips; tiles = or_else from.tiles group.tiles; jpeg = or_else from.jpeg group.jpeg }
 

@@ -70,6 +70,7 @@ even_le : (n : ℕ) → n ≤ even n
 even_le n = omega arith
 
 module _ (order : Order) (bytes : List ℕ) (small : length bytes < 256 ^ 4) where
+  -- where the parts of accepted groups stand, 32 bits hold the place of the first directory
   pub next_low : (start : ℕ) (groups : List Group) → AllByRecursion IsAccepted groups → AllStand bytes (parts_from order start (map draft_of groups)) → next_place start (map draft_of groups) < 256 ^ 4
   unfolding tiff_place
   next_low start [] h stands = omega arith
@@ -78,6 +79,7 @@ module _ (order : Order) (bytes : List ℕ) (small : length bytes < 256 ^ 4) whe
       let within = (first.directory Tiff h.0.some).within in
       omega arith
 
+  -- where accepted groups of values that fit stand, those followed are read, and more are a fault
   pub chain_leaves : (groups : List Group) (count ifd start : ℕ) → 0 < start → AllByRecursion IsAccepted groups → AreRanged groups → HavePlainTexts groups
       → AllStand bytes (parts_from order start (map draft_of groups))
       → Leaves (chain_nodes count (number_of order) bytes ifd (next_place start (map draft_of groups))) (flat_from ifd start (map draft_of (take count groups))) (faults_over count groups)

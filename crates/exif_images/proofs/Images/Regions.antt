@@ -224,6 +224,7 @@ module _ (draft : Draft) (start : ℕ) where
   of_lies c t (inl h) = (omega (arith, h.0, behind_first c), omega (arith, h.1, in_front c, up c, before_blocks c))
   of_lies c t (inr h) = (omega (arith, h.0, behind_first c, down c, in_front c), omega (arith, h.1, before_blocks c))
 
+  -- each directory and each value lies between the first directory and the blocks
   pub in_lies : (t : Stretch) → In Tiff t → Lies (directory_place draft start Tiff) (strips_place draft start) t
   unfolding In
   in_lies t (inl h) = of_lies Tiff t h
@@ -261,6 +262,7 @@ module _ (draft : Draft) (start : ℕ) where
   in_parent GpsBelow t h = inr (inr (inr h))
   in_parent InteropBelow t h = inr h
 
+  -- what lies in a directory or its values counts as lying in it or below it
   pub in_own : (c : Context) (t : Stretch) → Of c t → In c t
   unfolding In
   in_own Tiff t h = inl h

@@ -57,6 +57,7 @@ module _ (draft : Draft) (start ifd : ℕ) where
       (content_numbered fields h here slot.tag (if nat_le (content_len slot.content) 4 then at + 8 else even values) slot.content)
       (entries_numbered fields h here (at + 12) (after_value values (content_len slot.content)) slots)
 
+  -- all fields of a directory, and of its children, have the number that it has in the chain
   pub fields_numbered : (depth : ℕ) (here : Context) → AllNumbered ifd (directory_fields draft start ifd depth here)
   fields_numbered zero here = tt
   fields_numbered (suc depth) here =

@@ -106,6 +106,7 @@ places_grow draft start = record {
 }
 
 module _ (draft : Draft) (start : ℕ) where
+  -- each directory of a draft begins no higher than where the draft ends
   pub directory_within : (context : Context) → directory_place draft start context ≤ draft_end draft start
   directory_within context = let g = places_grow draft start in by_context g context
     where
@@ -130,6 +131,7 @@ module _ (draft : Draft) (start : ℕ) where
   blocks_within Tiles = let e = blocks_end (tiles_place draft start) (draft.blocks Tiles) in let g = places_grow draft start in let l = g.end_up in omega arith
   blocks_within Jpeg = let e = blocks_end (jpeg_place draft start) (draft.blocks Jpeg) in omega arith
 
+  -- a draft ends no lower than where it starts
   pub end_low : start ≤ draft_end draft start
   end_low = let t = (places_grow draft start).tiff_up in let d = directory_within Tiff in le_trans t d
 

@@ -139,6 +139,7 @@ module _ (order : Order) (bytes : List ℕ) where
       let b = signed_read w32 4 refl x.denom (p + 4) h.1 (second_stands n d p (length_spelled order 4 (cast_unsigned w32 x.num)) s) in
       λ i. record { num = a i; denom = b i }
 
+  -- a value that fits is read from where its bytes stand, an undefined one with that place
   pub decode_read : (value : Value) (p : ℕ) → Fits value → Stands bytes p (encode order value) → decode (number_of order) (type_number value) (count_of value) bytes p ≡ moved_to p value
   decode_read (Byte xs) p h s = ap Byte s.there
   decode_read (Ascii xs) p h s = ap Ascii (ap texts s.there ∙ texts_ended xs h)

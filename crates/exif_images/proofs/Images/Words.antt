@@ -17,6 +17,7 @@ use Rattle.exif_images.specs.Image.{Part, directory_text, value_parts, block_par
 use Rattle.exif_images.specs.Refused.{is_unknown}
 use Rattle.exif_images.specs.Layout.{Stands}
 
+-- each part has its text at its place in the bytes
 abbrev pub AllStand : List ℕ → List Part → Type 0
 AllStand bytes parts = AllByRecursion (λ part. Stands bytes part.place part.text) parts
 
@@ -45,6 +46,7 @@ abbrev pub IsKnown : Content → Type 0
 IsKnown (Known value) = is_unknown value ≡ false
 IsKnown content = ⊤
 
+-- no slot has a value of an unknown type
 abbrev pub AllKnown : List Slot → Type 0
 AllKnown slots = AllByRecursion (λ slot. IsKnown slot.content) slots
 
