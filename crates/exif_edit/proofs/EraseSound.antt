@@ -4,7 +4,7 @@ use Rattle.std.specs.Prelude.{◌&&◌, nat_le}
 use Rattle.std.specs.Bool.{beq}
 use Rattle.std.specs.Cmp.Lexicographic.{pointwise}
 use Rattle.std.specs.List.{flat_map}
-use Rattle.std.proofs.lemmas.Bool.{false≢true}
+use Rattle.std.proofs.lemmas.Bool.{false≢true, and_parts}
 use Rattle.std.proofs.lemmas.Bool.Decides.{nat_tests}
 use Rattle.std.proofs.lemmas.Slice.Eq.{slice_eq-Decides}
 use Rattle.std.proofs.lemmas.List.{length-replicate}
@@ -22,7 +22,7 @@ use Rattle.exif_edit_base.specs.declared.patch.Patch.{Patch}
 use Rattle.exif_edit_base.specs.declared.patch.Span.{Span}
 use Rattle.exif_edit_base.proofs.CauseSteps.{bound, data_read, tested}
 use Rattle.exif_edit_base.proofs.FindSteps.{header_named}
-use Rattle.exif_edit_base.proofs.PatchSteps.{AllWithin, length-patched, split, zeroed_at}
+use Rattle.exif_edit_base.proofs.PatchSteps.{AllWithin, length-patched, zeroed_at}
 use Rattle.exif_edit.specs.Erasing.{cleared, clears, clipped, directory_spans, erase_patches, gps_spans, kept, nowhere, value_span, within, without_gps}
 use Rattle.exif_edit.specs.Promises.{IsErased, ReadAs}
 use Rattle.exif_edit.specs.Setting.{value_room}
@@ -110,10 +110,10 @@ cleared_by : (x : (Result Read Fault)) (read : Read)
     → (found : Read) × (x ≡ Ok found) × (found.fields ≡ read.fields)
     × (length found.faults ≤ length read.faults)
 cleared_by (Ok found) read e =
-    let p = split (beq found.little read.little)
+    let p = and_parts (beq found.little read.little)
     (pointwise field_eq found.fields read.fields
     && nat_le (length found.faults) (length read.faults)) e in
-    let q = split (pointwise field_eq found.fields read.fields)
+    let q = and_parts (pointwise field_eq found.fields read.fields)
     (nat_le (length found.faults) (length read.faults)) p.1 in
     let t = q.1 in (
       found,

@@ -1,6 +1,7 @@
 -- Data with a good header begin as TIFF data do.
 use Rattle.std.proofs.Common.{◌≡◌, ◌≤◌, ◌-◌, ◌==◌, ◌⊎◌, inl, inr, ℕ, Bool, true, false, List, [], ◌∷◌, length, take, Option, Some, None, Result, Ok, Err, refl, sym, subst, arith}
 use Rattle.std.specs.Prelude.{◌&&◌, ◌^◌, codes, if◌then◌else◌, nat_lt}
+use Rattle.std.proofs.lemmas.Bool.{and_parts}
 use Rattle.std.proofs.lemmas.Bool.Decides.{nat_tests}
 use Rattle.exif_base.specs.Bytes.{number_at}
 use Rattle.exif_base.specs.Orders.{number_of}
@@ -11,7 +12,6 @@ use Rattle.exif_tiff.specs.declared.fault.Fault.{Fault}
 use Rattle.exif_tiff.specs.declared.fault.Fault.TheVariants.{DataTooLarge, TruncatedHeader, InvalidByteOrder, InvalidFortyTwo}
 use Rattle.exif_edit_base.specs.Readings.{Read, reading}
 use Rattle.exif_edit_base.proofs.FindSteps.{header_named}
-use Rattle.exif_edit_base.proofs.PatchSteps.{split}
 
 -- the order and the number 42 in it
 abbrev pub IsMarked : List ℕ → Type 0
@@ -30,7 +30,7 @@ text_of_order a b c d rest x o n = by_big ((a == 77) && (b == 77)) refl o
         → (if t then Some Little else None) ≡ Some x → IsMarked bytes
     by_little true e k =
         let s : Little ≡ x = cc in
-        let p = split (a == 73) (b == 73) e in
+        let p = and_parts (a == 73) (b == 73) e in
         let p0 = p.0 in
         let p1 = p.1 in
         let q : a ≡ 73 = grind (arith, nat_tests) in
@@ -51,7 +51,7 @@ text_of_order a b c d rest x o n = by_big ((a == 77) && (b == 77)) refl o
         → IsMarked bytes
     by_big true e k =
         let s : Big ≡ x = cc in
-        let p = split (a == 77) (b == 77) e in
+        let p = and_parts (a == 77) (b == 77) e in
         let p0 = p.0 in
         let p1 = p.1 in
         let q : a ≡ 77 = grind (arith, nat_tests) in

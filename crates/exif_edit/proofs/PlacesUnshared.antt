@@ -1,10 +1,11 @@
 -- Where the places stand alone, they are erased: the edit is not refused as shared.
 use Rattle.std.proofs.Common.{◌≡◌, ◌≤◌, ◌<◌, ◌+◌, ◌-◌, ◌*◌, min, ℕ, Bool, true, false, if◌then◌else◌, List, [], ◌∷◌, length, map, Result, Ok, Err, refl, sym, ap, subst, ◌∙◌, arith}
-use Rattle.std.specs.Prelude.{◌&&◌, ◌||◌, nat_le, nat_lt, slice_index}
+use Rattle.std.specs.Prelude.{◌&&◌, nat_le, nat_lt, slice_index}
 use Rattle.std.specs.Bool.{beq}
 use Rattle.std.specs.Cmp.{booleans_Decides}
 use Rattle.std.specs.Cmp.Lexicographic.{pointwise}
 use Rattle.std.specs.List.{list_any, AllByRecursion}
+use Rattle.std.proofs.lemmas.Bool.{not-true, or_parts, or_right}
 use Rattle.std.proofs.lemmas.Bool.Decides.{nat_tests}
 use Rattle.std.proofs.lemmas.List.{get_or_past}
 use Rattle.std.proofs.lemmas.Slice.Eq.{slice_eq-Decides}
@@ -30,29 +31,24 @@ use Rattle.exif_edit.specs.PlacesAlone.{AreErasedUnshared, all_kept, places_stan
 use Rattle.exif_edit.specs.Sharing.{meets}
 use Rattle.exif_edit.proofs.EraseSound.{spans_within, zeros_fit}
 use Rattle.exif_edit.proofs.PlacesKept.{Emptied, ordered_kept}
-use Rattle.exif_edit.proofs.Unshared.{missed, named_order, neither, read_in, reading_in, unturned}
+use Rattle.exif_edit.proofs.Unshared.{missed, named_order, read_in, reading_in}
 
 -- a stretch that no span meets has no byte of them
 missed_all : (ss : List Span) (t : Stretch) (i : ℕ) → list_any (λ s. meets s t) ss ≡ false
     → t.place ≤ i → i < t.place + t.len → list_any (inside i) ss ≡ false
 missed_all [] t i h low high = refl
 missed_all (s ∷ ss) t i h low high =
-    let a = neither (meets s t) (list_any (λ x. meets x t) ss) h in
+    let a = or_parts (meets s t) (list_any (λ x. meets x t) ss) h in
     let one = missed s t i a.0 low high in
     let rest = missed_all ss t i a.1 low high in
     rw (one, rest) refl
-
--- what holds of all bytes of spans holds of those of each
-or_second : (a b : Bool) → b ≡ true → (a || b) ≡ true
-or_second true b h = refl
-or_second false b h = h
 
 of_each : (P : ℕ → Type 0) (ss : List Span) → ((i : ℕ) → list_any (inside i) ss ≡ true → P i)
     → AllByRecursion (λ s. (i : ℕ) → inside i s ≡ true → P i) ss
 of_each P [] h = tt
 of_each P (s ∷ ss) h = (
   λ i x. h i (rw x refl),
-  of_each P ss (λ i x. h i (or_second (inside i s) (list_any (inside i) ss) x)),
+  of_each P ss (λ i x. h i (or_right (inside i s) (list_any (inside i) ss) x)),
 )
 
 each_gives : {X : Type 0} (P Q : X → Type 0) (xs : List X) → ((x : X) → P x → Q x)
@@ -112,12 +108,12 @@ module _ (order : Order) (bytes : List ℕ) (head : header bytes ≡ Ok order)
   all_same : (ts : List Stretch) → list_any met ts ≡ false → AllByRecursion (Agree bytes out) ts
   all_same [] h = tt
   all_same (t ∷ ts) h =
-      let a = neither (met t) (list_any met ts) h in
+      let a = or_parts (met t) (list_any met ts) h in
       (stretch_same t a.0, all_same ts a.1)
 
   agree : AllByRecursion (Agree bytes out) (all_kept number bytes)
   agree =
-      all_same (all_kept number bytes) (unturned (list_any met (all_kept number bytes)) alone)
+      all_same (all_kept number bytes) (not-true (list_any met (all_kept number bytes)) alone)
 
   -- the bytes of a span are zeros
   abbrev Zeroed : Span → Type 0

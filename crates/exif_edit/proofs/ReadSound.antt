@@ -4,7 +4,7 @@ use Rattle.std.specs.Prelude.{◌&&◌}
 use Rattle.std.specs.Bool.{Decides, beq}
 use Rattle.std.specs.Cmp.{booleans_Decides}
 use Rattle.std.specs.Cmp.Lexicographic.{pointwise}
-use Rattle.std.proofs.lemmas.Bool.{false≢true}
+use Rattle.std.proofs.lemmas.Bool.{false≢true, and_parts}
 use Rattle.std.proofs.lemmas.Slice.Eq.{slice_eq-Decides}
 use Rattle.exif_base.specs.Orders.{number_of}
 use Rattle.exif_base.specs.declared.endian.Order.{Order}
@@ -15,7 +15,6 @@ use Rattle.exif_tiff.specs.Trace.{Node, content_of, header, trace, ordered_trace
 use Rattle.exif_tiff.specs.declared.fault.Fault.{Fault}
 use Rattle.exif_tiff.specs.declared.fault.Fault.TheVariants.{DataTooLarge, TruncatedHeader, InvalidByteOrder, InvalidFortyTwo, TruncatedCount, TruncatedDirectory, TruncatedNextOffset, TruncatedValue, InvalidPointer, UnexpectedNext, TooManyDirectories, TooManyEntries}
 use Rattle.exif_edit_base.specs.Readings.{Read, fault_eq, is_little, read_eq, reading, reads_as}
-use Rattle.exif_edit_base.proofs.PatchSteps.{split}
 use Rattle.exif_edit_base.proofs.ReadSteps.{reading_by}
 use Rattle.exif_edit.specs.Promises.{ReadAs}
 
@@ -40,9 +39,9 @@ fault_Decides _ _ = (λ t. absurd (false≢true t), λ e. cc)
 -- two readings that pass the test are the same
 pub read_same : (a b : Read) → read_eq a b ≡ true → a ≡ b
 read_same a b e =
-    let p = split (beq a.little b.little)
+    let p = and_parts (beq a.little b.little)
     (pointwise field_eq a.fields b.fields && pointwise fault_eq a.faults b.faults) e in
-    let q = split (pointwise field_eq a.fields b.fields) (pointwise fault_eq a.faults b.faults)
+    let q = and_parts (pointwise field_eq a.fields b.fields) (pointwise fault_eq a.faults b.faults)
     p.1 in
     same a.little b.little a.fields b.fields a.faults b.faults
     ((booleans_Decides a.little b.little).0 p.0)

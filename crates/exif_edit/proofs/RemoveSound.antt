@@ -4,7 +4,7 @@ use Rattle.std.specs.Prelude.{◌&&◌, nat_le}
 use Rattle.std.specs.Bool.{beq}
 use Rattle.std.specs.Cmp.Lexicographic.{pointwise}
 use Rattle.std.specs.List.{flat_map, list_any}
-use Rattle.std.proofs.lemmas.Bool.{false≢true}
+use Rattle.std.proofs.lemmas.Bool.{false≢true, and_parts, or_parts}
 use Rattle.std.proofs.lemmas.Bool.Decides.{nat_tests}
 use Rattle.std.proofs.lemmas.Slice.Eq.{slice_eq-Decides}
 use Rattle.std.proofs.lemmas.List.Elements.{All-nil, All-cons, All-append}
@@ -26,7 +26,7 @@ use Rattle.exif_edit_base.specs.declared.patch.Span.{Span}
 use Rattle.exif_edit_base.proofs.CauseSteps.{bound, data_read, passed, tested}
 use Rattle.exif_edit_base.proofs.FindSteps.{field_of, header_named}
 use Rattle.exif_entries.specs.Walked.{entry_of}
-use Rattle.exif_edit_base.proofs.PatchSteps.{AllWithin, Misses, length-patched, outside_place, patched_outside, split, zeroed_at}
+use Rattle.exif_edit_base.proofs.PatchSteps.{AllWithin, Misses, length-patched, outside_place, patched_outside, zeroed_at}
 use Rattle.exif_edit.specs.Erasing.{directory_span}
 use Rattle.exif_edit.specs.Promises.{IsFieldErased, ReadAs, named_directories, told_by}
 use Rattle.exif_edit.specs.Removing.{directories_with, directory_patches, directory_without, entries_with, field_patches, named_removals, named_spans, named_values, read_without, removals, removals_from, still_reads, taken_spans, untold, without_named}
@@ -35,7 +35,6 @@ use Rattle.exif_entries.proofs.LawsLocated.{located_fields}
 use Rattle.exif_edit.proofs.EraseSound.{values_within, within-append, zeros_fit}
 use Rattle.exif_edit.proofs.ReadSound.{reads_are}
 use Rattle.exif_edit.proofs.RemoveSteps.{directory_length}
-use Rattle.exif_edit.proofs.SetFound.{neither}
 use Rattle.exif_edit.proofs.Told.{located_tells, settled}
 
 -- ---- the patches lie in the data
@@ -89,7 +88,7 @@ any-append : (i : ℕ) (xs ys : List Span) → list_any (inside i) (xs ++ ys) �
     → (list_any (inside i) xs ≡ false) × (list_any (inside i) ys ≡ false)
 any-append i [] ys h = (refl, h)
 any-append i (x ∷ xs) ys h =
-    let p = neither (inside i x) (list_any (inside i) (xs ++ ys)) h in
+    let p = or_parts (inside i x) (list_any (inside i) (xs ++ ys)) h in
     let q = any-append i xs ys p.1 in
     (rw p.0 q.0, q.1)
 
@@ -135,7 +134,7 @@ directories_miss : (order : Order) (bytes : List ℕ) (n : ℕ) (ps : List ℕ) 
     → All (Misses i) (flat_map (directory_patches order bytes n) ps)
 directories_miss order bytes n [] i h = All-nil (Misses i)
 directories_miss order bytes n (p ∷ ps) i h =
-    let q = neither (inside i (directory_span (number_of order) bytes p))
+    let q = or_parts (inside i (directory_span (number_of order) bytes p))
     (list_any (inside i) (map (directory_span (number_of order) bytes) ps)) h in
     All-append (Misses i) (directory_patches order bytes n p)
     (flat_map (directory_patches order bytes n) ps) (directory_misses order bytes n p i q.0)
@@ -193,10 +192,10 @@ read_by : (x : (Result Read Fault)) (read : Read)
     → (found : Read) × (x ≡ Ok found) × (untold found.fields ≡ untold read.fields)
     × (length found.faults ≤ length read.faults)
 read_by (Ok found) read e =
-    let p = split (beq found.little read.little)
+    let p = and_parts (beq found.little read.little)
     (pointwise field_eq (untold found.fields) (untold read.fields)
     && nat_le (length found.faults) (length read.faults)) e in
-    let q = split (pointwise field_eq (untold found.fields) (untold read.fields))
+    let q = and_parts (pointwise field_eq (untold found.fields) (untold read.fields))
     (nat_le (length found.faults) (length read.faults)) p.1 in
     let t = q.1 in (
       found,

@@ -2,7 +2,7 @@
 use Rattle.std.proofs.Common.{◌≡◌, ℕ, Bool, true, false, if◌then◌else◌, List, [], ◌∷◌, ◌++◌, map, reverse, Option, Some, None, refl, sym, ap, subst, ◌∙◌}
 use Rattle.std.specs.Prelude.{◌||◌, ◌==◌, find, not}
 use Rattle.std.specs.List.{list_any}
-use Rattle.std.proofs.lemmas.Bool.{false≢true}
+use Rattle.std.proofs.lemmas.Bool.{false≢true, and_parts, or_parts}
 use Rattle.std.proofs.lemmas.List.{reverse-append}
 use Rattle.exif_types.specs.FieldEq.{tag_Decides, ifd_Decides}
 use Rattle.exif_types.specs.Lookup.{is_named, last_named, tag_eq}
@@ -17,7 +17,6 @@ use Rattle.exif_images.specs.Encoding.{moved_to}
 use Rattle.exif_edit_base.specs.Finding.{last_located, replaced, with_value}
 use Rattle.exif_entries.specs.Locations.{Located, located}
 use Rattle.exif_edit_base.proofs.FindSteps.{any_map, field_of}
-use Rattle.exif_edit_base.proofs.PatchSteps.{split}
 use Rattle.exif_edit_base.proofs.ReadSteps.{is_refused, not_refused, unshown, unshown_shown}
 use Rattle.exif_entries.proofs.LawsLocated.{located_fields}
 use Rattle.exif_edit.specs.Promises.{FindsNone, FindsValue, IsFieldErased, IsSet, told_by}
@@ -137,7 +136,7 @@ replaced_last tag k v (f ∷ fs) h =
 named_same : (tag : Tag) (k : In) (v : Value) (f : Field) → is_named tag k f ≡ true
     → ◌≡◌ {A = Field} (with_value v f) (record { tag = tag; ifd_num = k; value = v })
 named_same tag k v f h =
-    let p = split (tag_eq f.tag tag) (f.ifd_num.0 == k.0) h in
+    let p = and_parts (tag_eq f.tag tag) (f.ifd_num.0 == k.0) h in
     same f.tag f.ifd_num ((tag_Decides f.tag tag).0 p.0) ((ifd_Decides f.ifd_num k).0 p.1)
   where
     same : (t : Tag) (i : In) → t ≡ tag → i ≡ k
@@ -203,11 +202,6 @@ set_found old new tag k value s lenient fields faults e =
           ∙ replaced_found tag k (moved_to s.place value) fs any,
     )
 
--- two tests of which neither holds are both false
-pub neither : (a b : Bool) → (a || b) ≡ false → (a ≡ false) × (b ≡ false)
-neither true b h = absurd (false≢true (sym h))
-neither false b h = (refl, h)
-
 -- ---- none of a name is left
 
 none_left : (tag : Tag) (k : In) (fs : List Field)
@@ -227,7 +221,7 @@ told_none : (tag : Tag) (k : In) (ls : List Located) (gs : List Field)
 told_none tag k [] gs h = refl
 told_none tag k (l ∷ ls) [] h = refl
 told_none tag k (l ∷ ls) (g ∷ gs) h =
-    let p = neither (is_named tag k g) (list_any (is_named tag k) gs) h in
+    let p = or_parts (is_named tag k g) (list_any (is_named tag k) gs) h in
     let t : is_named tag k (told_at l.entry g) ≡ false = p.0 in
     rw t (told_none tag k ls gs p.1)
 

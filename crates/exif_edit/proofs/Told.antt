@@ -2,7 +2,6 @@
 use Rattle.std.proofs.Common.{◌≡◌, ◌≤◌, ◌<◌, ◌+◌, ◌*◌, ℕ, Bool, true, false, if◌then◌else◌, List, [], ◌∷◌, length, map, Option, Some, None, Result, Ok, Err, refl, sym, ap, ◌∙◌, arith}
 use Rattle.std.specs.Prelude.{nat_le}
 use Rattle.std.proofs.lemmas.Bool.Decides.{nat_tests}
-use Rattle.std.proofs.lemmas.Grind.{common_steps}
 use Rattle.exif_base.specs.Bytes.{Reading, bytes_at, number_at}
 use Rattle.exif_base.specs.Orders.{number_of}
 use Rattle.exif_base.specs.declared.endian.Order.{Order}
@@ -20,6 +19,7 @@ use Rattle.exif_edit_base.proofs.FindSteps.{field_of}
 use Rattle.exif_edit_base.proofs.LocatedEntries.{AreSaid, ordered_said}
 use Rattle.exif_edit.specs.Promises.{told_by}
 use Rattle.exif_edit.specs.Removing.{told_at, told_in, untold}
+use Rattle.exif_edit_base.proofs.PutBack.{length-bytes_at}
 
 -- ---- a value of an entry
 
@@ -53,11 +53,6 @@ tells_inside number (Some field_type.SRational) type count bytes e = refl
 tells_inside number (Some field_type.Float) type count bytes e = refl
 tells_inside number (Some field_type.Double) type count bytes e = refl
 
--- as many bytes are taken from a place as are asked for, if they lie in the data
-pub length-bytes_at : (n : ℕ) (bytes : List ℕ) (p : ℕ) → p + n ≤ length bytes
-    → length (bytes_at n bytes p) ≡ n
-length-bytes_at n bytes p h = grind (arith, common_steps)
-
 far_place : (count : ℕ) (bytes : List ℕ) (e place : ℕ) → 4 < 1 * count
     → place + 1 * count ≤ length bytes
     → ◌≡◌ {A = Value}
@@ -65,7 +60,7 @@ far_place : (count : ℕ) (bytes : List ℕ) (e place : ℕ) → 4 < 1 * count
     (if nat_le (length (bytes_at count bytes place)) 4 then e + 8 else place))
     (value.Undefined (bytes_at count bytes place) place)
 far_place count bytes e place h k =
-    let l = length-bytes_at count bytes place (omega arith) in
+    let l = length-bytes_at count place bytes (omega arith) in
     let t : nat_le (length (bytes_at count bytes place)) 4 ≡ false = grind (arith, nat_tests) in
     rw t refl
 

@@ -5,7 +5,7 @@ use Rattle.std.specs.Bool.{beq}
 use Rattle.std.specs.Cmp.{booleans_Decides}
 use Rattle.std.specs.Cmp.Lexicographic.{pointwise}
 use Rattle.std.specs.List.{list_any, AllByRecursion}
-use Rattle.std.proofs.lemmas.Bool.{false≢true}
+use Rattle.std.proofs.lemmas.Bool.{false≢true, and_parts, not-true, or_parts}
 use Rattle.std.proofs.lemmas.Bool.Decides.{nat_tests}
 use Rattle.std.proofs.lemmas.Slice.Eq.{slice_eq-Decides}
 use Rattle.exif_base.specs.Bytes.{number_at}
@@ -42,7 +42,7 @@ use Rattle.exif_edit_base.specs.declared.patch.Patch.{Patch}
 use Rattle.exif_edit_base.specs.declared.patch.Span.{Span}
 use Rattle.exif_edit_base.proofs.FindSteps.{any_map, field_of}
 use Rattle.exif_edit_base.proofs.LocatedEntries.{IsSaid, last_said}
-use Rattle.exif_edit_base.proofs.PatchSteps.{length-patched, patched_outside, split}
+use Rattle.exif_edit_base.proofs.PatchSteps.{length-patched, patched_outside}
 use Rattle.exif_edit_base.proofs.ReadSteps.{header_room, reading_by}
 use Rattle.exif_edit.specs.Setting.{checked, checked_patches, expected, names_places, set_patches, set_place, value_answer, value_patches, value_room}
 use Rattle.exif_edit.specs.Sharing.{IsSetUnshared, all_beside, changed_entry, meets, names_child, standing_at, stands_alone}
@@ -52,16 +52,6 @@ use Rattle.exif_edit.proofs.Renewed.{ordered_told, renewed}
 use Rattle.exif_edit.proofs.SetSound.{Fits, value_fits, value_misses}
 
 -- ---- tests that fail
-
--- two tests of which neither holds are both false
-pub neither : (a b : Bool) → (a || b) ≡ false → (a ≡ false) × (b ≡ false)
-neither false b h = (refl, h)
-neither true b h = absurd (false≢true (sym h))
-
--- a test whose opposite holds is false
-pub unturned : (a : Bool) → not a ≡ true → a ≡ false
-unturned false h = refl
-unturned true h = absurd (false≢true h)
 
 -- bytes of a stretch that is not met are not those of the span
 pub missed : (s : Span) (t : Stretch) (i : ℕ) → meets s t ≡ false → t.place ≤ i → i < t.place + t.len
@@ -81,8 +71,8 @@ missed s t i m low high = by_tests (nat_le s.place i) (nat_lt i (s.place + s.len
 -- a number that names no child names none in any directory
 no_child : (n : ℕ) → names_child n ≡ false → (c : Context) → child_of c n ≡ None
 no_child n h c =
-    let a = neither (n == 0x8769) ((n == 0x8825) || (n == 0xa005)) h in
-    let b = neither (n == 0x8825) (n == 0xa005) a.1 in
+    let a = or_parts (n == 0x8769) ((n == 0x8825) || (n == 0xa005)) h in
+    let b = or_parts (n == 0x8825) (n == 0xa005) a.1 in
     by_context c a.0 b.0 b.1
   where
     by_context : (c : Context) → (n == 0x8769) ≡ false → (n == 0x8825) ≡ false
@@ -292,12 +282,12 @@ module _ (order : Order) (bytes : List ℕ) (tag : Tag) (k : In) (value : Value)
   alone_by : (list_any touched (all_beside (number_of order) bytes e) ≡ false)
       × ((meets room itself ≡ false) × (length (standing_at e (located bytes)) ≡ 1))
   alone_by =
-      let a = split (not (list_any touched (all_beside (number_of order) bytes e)))
+      let a = and_parts (not (list_any touched (all_beside (number_of order) bytes e)))
       (not (meets room itself) && (length (standing_at e (located bytes)) == 1)) alone in
-      let b = split (not (meets room itself)) (length (standing_at e (located bytes)) == 1) a.1 in
+      let b = and_parts (not (meets room itself)) (length (standing_at e (located bytes)) == 1) a.1 in
       let one = b.1 in (
-        unturned (list_any touched (all_beside (number_of order) bytes e)) a.0,
-        (unturned (meets room itself) b.0, grind (arith, nat_tests)),
+        not-true (list_any touched (all_beside (number_of order) bytes e)) a.0,
+        (not-true (meets room itself) b.0, grind (arith, nat_tests)),
       )
 
   module _ (ps : List Patch) (f : Fits order value e bytes ps) where
@@ -317,7 +307,7 @@ module _ (order : Order) (bytes : List ℕ) (tag : Tag) (k : In) (value : Value)
 
     stretch_same : (t : Stretch) → touched t ≡ false → Agree bytes out t
     stretch_same t m =
-        let a = neither (meets (changed_entry e) t) (meets room t) m in
+        let a = or_parts (meets (changed_entry e) t) (meets room t) m in
         bytes_same bytes out t.place t.len as_long
         (λ i low high. byte_same i (missed (changed_entry e) t i a.0 low high)
         (missed room t i a.1 low high))
@@ -325,7 +315,7 @@ module _ (order : Order) (bytes : List ℕ) (tag : Tag) (k : In) (value : Value)
     all_same : (ts : List Stretch) → list_any touched ts ≡ false → AllByRecursion (Agree bytes out) ts
     all_same [] h = tt
     all_same (t ∷ ts) h =
-        let a = neither (touched t) (list_any touched ts) h in
+        let a = or_parts (touched t) (list_any touched ts) h in
         (stretch_same t a.0, all_same ts a.1)
 
     agree : AllByRecursion (Agree bytes out) (all_beside (number_of order) bytes e)
@@ -363,7 +353,7 @@ module _ (order : Order) (bytes : List ℕ) (tag : Tag) (k : In) (value : Value)
         let s = said.0 in
         let small = (header_room bytes order head).1 in
         let tags = (tag_Decides at.field.tag tag).0
-        (split (tag_eq at.field.tag tag) (at.field.ifd_num.0 == k.0) said.1).0 in
+        (and_parts (tag_eq at.field.tag tag) (at.field.ifd_num.0 == k.0) said.1).0 in
         let n : number_at (number_of order) 2 bytes e ≡ tag.1 = s.tag ∙ ap (λ (t : Tag). t.1) tags in
         let is = new_value order value e bytes ps f apart (fits_of value ranged plain known)
         (omega (arith, as_long)) (omega arith) in

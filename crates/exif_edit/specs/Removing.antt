@@ -159,6 +159,7 @@ removals_from tag k read bytes (p ∷ ps) =
     checked_removals (read_without tag k read) bytes
     (removals (order_named read.little) bytes tag.1 (p ∷ ps))
 
+-- what takes the fields of a name out of all directories that have some, once the data are read
 unfoldable pub named_removals : List ℕ → Tag → In → Result (List Patch) Cause
 named_removals bytes tag k = do
   read ← of_data (reading bytes)

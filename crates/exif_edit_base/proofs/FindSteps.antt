@@ -24,6 +24,7 @@ use Rattle.exif_entries.specs.Locations.{Located, located}
 use Rattle.exif_edit_base.specs.Readings.{Read, is_little, reading, ReadsTo}
 use Rattle.exif_edit_base.specs.declared.error.Error.{Error}
 use Rattle.exif_entries.proofs.LawsLocated.{ordered_fields}
+use Rattle.exif_edit_base.proofs.ReadSteps.{reading_by}
 
 -- the field of a located one, without its places
 abbrev pub field_of : Located → Field
@@ -107,15 +108,7 @@ index_below tag k (f ∷ fs) (suc i) h =
 
 -- ---- with what was read
 
-abbrev content_by : Result Order Fault → List ℕ → Result Read Fault
-content_by x bytes = elim x [
-  | Err fault ↦ Err fault
-  | Ok order ↦
-      let nodes = ordered_trace (number_of order) bytes in
-      Ok (record { little = is_little order; fields = fields_of nodes; faults = faults_of nodes })
-]
-
-fields_by : (x : Result Order Fault) (bytes : List ℕ) (read : Read) → content_by x bytes ≡ Ok read
+fields_by : (x : Result Order Fault) (bytes : List ℕ) (read : Read) → reading_by x bytes ≡ Ok read
     → map field_of (located_of (elim x as (λ r. List Node)
     [ Ok order ↦ ordered_trace (number_of order) bytes | Err fault ↦ [] ]))
     ≡ read.fields
@@ -187,7 +180,7 @@ entry_below bytes tag k read i entries e h w =
     let f = ap (λ es. length es) w in
     omega arith
 
-header_by : (x : Result Order Fault) (bytes : List ℕ) (read : Read) → content_by x bytes ≡ Ok read
+header_by : (x : Result Order Fault) (bytes : List ℕ) (read : Read) → reading_by x bytes ≡ Ok read
     → x ≡ Ok (order_named read.little)
 header_by (Err fault) bytes read e = absurd (err_ok e)
   where

@@ -2,7 +2,7 @@
 use Rattle.std.proofs.Common.{◌≡◌, ◌-◌, ◌≤◌, ◌<◌, ◌+◌, ℕ, suc, Bool, true, false, if◌then◌else◌, List, [], ◌∷◌, length, get_or, drop, inl, inr, ◌⊎◌, map, replicate, All, refl, sym, ap, subst, ◌∙◌, arith, drop-cons}
 use Rattle.std.specs.Prelude.{◌&&◌, ◌||◌, nat_lt, nat_le}
 use Rattle.std.specs.List.{list_any}
-use Rattle.std.proofs.lemmas.Bool.{false≢true}
+use Rattle.std.proofs.lemmas.Bool.{false≢true, and_parts}
 use Rattle.std.proofs.lemmas.Bool.Decides.{nat_tests}
 use Rattle.std.proofs.lemmas.Grind.{common_steps}
 use Rattle.std.proofs.lemmas.List.{length-replicate}
@@ -10,11 +10,6 @@ use Rattle.std.proofs.lemmas.List.Elements.{All-head, All-tail}
 use Rattle.exif_edit_base.specs.Patches.{FitsIn, inside, patched, put_at, zeros_over}
 use Rattle.exif_edit_base.specs.declared.patch.Patch.{Patch}
 use Rattle.exif_edit_base.specs.declared.patch.Span.{Span}
-
--- where two tests hold together, each of them holds
-pub split : (a b : Bool) → (a && b) ≡ true → (a ≡ true) × (b ≡ true)
-split true b e = (refl, e)
-split false b e = absurd (false≢true e)
 
 -- ---- one patch
 
@@ -105,7 +100,7 @@ bools false false x = refl
 
 inside_place : (i : ℕ) (s : Span) → inside i s ≡ true → (s.place ≤ i) × (i < s.place + s.len)
 inside_place i s e =
-    let p = split (nat_le s.place i) (nat_lt i (s.place + s.len)) e in
+    let p = and_parts (nat_le s.place i) (nat_lt i (s.place + s.len)) e in
     let a = p.0 in
     let b = p.1 in
     (grind (arith, nat_tests), grind (arith, nat_tests))

@@ -5,7 +5,7 @@ use Rattle.std.proofs.lemmas.Bool.Decides.{nat_tests}
 use Rattle.std.specs.List.{find}
 use Rattle.std.specs.Str.{bytes_eq}
 use Rattle.std.proofs.lemmas.Slice.Eq.{bytes_eq-Decides}
-use Rattle.std.proofs.lemmas.Bool.{false≢true}
+use Rattle.std.proofs.lemmas.Bool.{false≢true, and_parts}
 use Rattle.std.proofs.lemmas.List.Elements.{All-nil, All-cons, All-head, All-tail}
 use Rattle.exif_base.specs.Bytes.{bytes_at}
 use Rattle.exif_types.specs.Refusals.{Refusal}
@@ -14,10 +14,11 @@ use Rattle.exif_edit_base.specs.Causes.{of_container, picture, scattered, ◌>>=
 use Rattle.exif_edit_base.specs.Patches.{FitsIn, patched}
 use Rattle.exif_edit_base.specs.declared.patch.Patch.{Patch}
 use Rattle.exif_edit_base.proofs.CauseSteps.{bound, data_held, ok_same, option_told, passed}
-use Rattle.exif_edit_base.proofs.PatchSteps.{Misses, length-patched, patched_outside, split}
+use Rattle.exif_edit_base.proofs.PatchSteps.{Misses, length-patched, patched_outside}
 use Rattle.exif_edit.specs.Clearing.{clear_patches}
 use Rattle.exif_edit_files.specs.InFiles.{Edit, IsEditedIn, clear_file_patches, holds, in_file, place_answer, place_for, placed, search_answer, serves, serves_as_told, shifted, standing_places, told_place}
 use Rattle.exif_edit_files.proofs.StandingPlaces.{standing_within}
+use Rattle.exif_edit_files.specs.Streams.{StaysInside}
 
 -- ---- the place that serves
 
@@ -111,7 +112,7 @@ pub told_serves : (file old : List ℕ) (ps : List Patch) (place : ℕ)
     → serves_as_told file old ps ≡ true → told_place file ≡ place → Serves file old ps place
 told_serves file old ps place h e =
     let n = length file + 1 - length old in
-    let b = split (nat_lt (told_place file) n) (serves file old ps (told_place file)) h in
+    let b = and_parts (nat_lt (told_place file) n) (serves file old ps (told_place file)) h in
     record {
       below = subst (λ p. p < n) e (grind (arith, nat_tests));
       good = subst (λ p. serves file old ps p ≡ true) e b.1;
@@ -135,7 +136,7 @@ was_placed edit file old ps qs h g s =
     let r = bound (place_answer file old ps) (λ place. Ok (map (shifted place) ps)) qs s in
     let are = ok_same (map (shifted r.0) ps) qs r.2 in
     let t = place_serves file old ps r.0 r.1 in
-    let b = split (bytes_eq (bytes_at (length old) file r.0) old)
+    let b = and_parts (bytes_eq (bytes_at (length old) file r.0) old)
     (holds (patched (map (shifted r.0) ps) file) (patched ps old)) t.good in
     record {
       old = old;
@@ -160,11 +161,7 @@ file_placed_by edit file qs e =
     let b = bound (edit a.0) (λ ps. placed file a.0 ps) qs a.2 in
     was_placed edit file a.0 b.0 qs (data_held (container_answer file) a.0 a.1) b.1 b.2
 
--- an edit whose patches lie in its data
-abbrev pub StaysIn : Edit → Type 0
-StaysIn edit = (old : List ℕ) (ps : List Patch) → edit old ≡ Ok ps → All (FitsIn (length old)) ps
-
-placed_fit : (edit : Edit) (file : List ℕ) (qs : List Patch) → StaysIn edit → WasPlaced edit file qs
+placed_fit : (edit : Edit) (file : List ℕ) (qs : List Patch) → StaysInside edit → WasPlaced edit file qs
     → All (FitsIn (length file)) qs
 placed_fit edit file qs stays w =
     let b = w.below in
@@ -173,12 +170,12 @@ placed_fit edit file qs stays w =
     (stays w.old w.patches w.edited))
 
 -- the patches of an edit that stays in its data lie in the file
-pub file_fits : (edit : Edit) (file : List ℕ) (qs : List Patch) → StaysIn edit
+pub file_fits : (edit : Edit) (file : List ℕ) (qs : List Patch) → StaysInside edit
     → in_file edit file ≡ Ok qs → All (FitsIn (length file)) qs
 file_fits edit file qs stays e = placed_fit edit file qs stays (file_placed_by edit file qs e)
 
 -- an edit that stays in its data edits a file where they stand, and all else is as it was
-pub file_sound : (edit : Edit) (file : List ℕ) (qs : List Patch) → StaysIn edit
+pub file_sound : (edit : Edit) (file : List ℕ) (qs : List Patch) → StaysInside edit
     → in_file edit file ≡ Ok qs → IsEditedIn edit file (patched qs file)
 file_sound edit file qs stays e =
     let w = file_placed_by edit file qs e in

@@ -1,7 +1,8 @@
 -- A JPEG stream and a WebP file are edited alike, held or read once.
-use Rattle.std.proofs.Common.{◌≡◌, ◌≤◌, ◌<◌, ◌+◌, ◌-◌, ◌^◌, ◌&&◌, ℕ, Bool, true, false, List, [], All, length, map, Option, Some, None, Result, Ok, Err, refl, sym, ap, subst, ◌∙◌, arith}
+use Rattle.std.proofs.Common.{◌≡◌, ◌≤◌, ◌<◌, ◌+◌, ◌-◌, ◌^◌, ℕ, Bool, true, false, List, [], All, length, map, Option, Some, None, Result, Ok, Err, refl, sym, ap, subst, ◌∙◌, arith}
 use Rattle.std.specs.Prelude.{nat_lt}
 use Rattle.std.specs.Str.{bytes_eq}
+use Rattle.std.proofs.lemmas.Bool.{and_from}
 use Rattle.std.proofs.lemmas.Bool.Decides.{nat_tests}
 use Rattle.std.proofs.lemmas.Slice.Eq.{bytes_eq-Decides}
 use Rattle.std.proofs.lemmas.List.Elements.{All-nil}
@@ -20,9 +21,6 @@ use Rattle.exif_edit_files.proofs.StandingPlaces.{stands_first}
 use Rattle.exif_edit_files.proofs.FileSound.{told_serves}
 use Rattle.exif_edit_files.proofs.StreamSound.{PieceAt, piece_at, streamed_at}
 
-both : (a b : Bool) → a ≡ true → b ≡ true → (a && b) ≡ true
-both a b p q = rw (p, q) refl
-
 held_by : (x : Result (List ℕ) Refusal) (text : List ℕ) → x ≡ Ok text
     → (elim x as (λ _. Bool) [ Ok found ↦ bytes_eq found text | Err r ↦ false ]) ≡ true
 held_by x text e =
@@ -32,7 +30,7 @@ held_by x text e =
 stands_told : (file old rest : List ℕ) (ps : List Patch) (p : PieceAt file old rest ps)
     → serves file old ps p.place ≡ true
 stands_told file old rest ps p =
-    both (bytes_eq (bytes_at (length old) file p.place) old)
+    and_from (bytes_eq (bytes_at (length old) file p.place) old)
     (holds (patched (map (shifted p.place) ps) file) (patched ps old))
     ((bytes_eq-Decides (bytes_at (length old) file p.place) old).1 p.stood)
     (held_by (container_answer (patched (map (shifted p.place) ps) file)) (patched ps old) p.holds)
@@ -41,7 +39,7 @@ serves_told : (file old : List ℕ) (ps : List Patch) (place : ℕ) → told_pla
     → place < length file + 1 - length old → serves file old ps place ≡ true
     → serves_as_told file old ps ≡ true
 serves_told file old ps place e l h =
-    both (nat_lt (told_place file) (length file + 1 - length old))
+    and_from (nat_lt (told_place file) (length file + 1 - length old))
     (serves file old ps (told_place file))
     (ap (λ p. nat_lt p (length file + 1 - length old)) e ∙ grind (arith, nat_tests))
     (ap (serves file old ps) e ∙ h)

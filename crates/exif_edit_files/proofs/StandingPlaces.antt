@@ -3,6 +3,7 @@ use Rattle.std.proofs.Common.{◌≡◌, ◌≤◌, ◌<◌, ◌+◌, ◌-◌, �
 use Rattle.std.specs.Prelude.{if◌then◌else◌, nat_le}
 use Rattle.std.specs.List.{find}
 use Rattle.std.specs.Str.{bytes_eq}
+use Rattle.std.proofs.lemmas.Bool.{and_parts}
 use Rattle.std.proofs.lemmas.Bool.Decides.{nat_tests}
 use Rattle.std.proofs.lemmas.List.{append_assoc}
 use Rattle.std.proofs.lemmas.List.Elements.{All-take, All-weaker}
@@ -12,7 +13,6 @@ use Rattle.exif_base.specs.Bytes.{bytes_at}
 use Rattle.exif_edit_base.specs.Causes.{or_cause, scattered}
 use Rattle.exif_edit_base.specs.Patches.{patched}
 use Rattle.exif_edit_base.specs.declared.patch.Patch.{Patch}
-use Rattle.exif_edit_base.proofs.PatchSteps.{split}
 use Rattle.exif_edit_files.specs.InFiles.{holds, place_for, search_answer, serves, shifted, standing_places}
 
 -- all of it stands there
@@ -44,7 +44,7 @@ stands_first file old ps b s =
     let n : length file + 1 - 0 ≡ suc (length file) = omega arith in
     let l : nat_le (0 + length old) (length file) ≡ true = grind (arith, nat_tests) in
     let e : bytes_eq (take (length old) (drop 0 file)) old ≡ true =
-    (split (bytes_eq (bytes_at (length old) file 0) old)
+    (and_parts (bytes_eq (bytes_at (length old) file 0) old)
     (holds (patched (map (shifted 0) ps) file) (patched ps old)) s).0 in
     let o : occurs_at file old 0 ≡ true = rw (l, e) refl in
     let m : matches file old 0

@@ -24,8 +24,8 @@ use Rattle.exif_edit_base.specs.declared.patch.Patch.{Patch}
 use Rattle.exif_edit_base.proofs.CauseSteps.{bound, data_held, ok_same}
 use Rattle.exif_edit_base.proofs.PatchSteps.{Misses, fit_behind, length-patched, patched_outside}
 use Rattle.exif_edit_files.specs.InFiles.{Edit, IsEditedIn, shifted}
-use Rattle.exif_edit_files.specs.Streams.{in_stream, piece_as, piece_in, place_before, whole_file}
-use Rattle.exif_edit_files.proofs.FileSound.{StaysIn, shifted_fit, shifted_miss}
+use Rattle.exif_edit_files.specs.Streams.{in_stream, piece_as, piece_in, place_before, whole_file, StaysInside}
+use Rattle.exif_edit_files.proofs.FileSound.{shifted_fit, shifted_miss}
 use Rattle.exif_edit_files.proofs.Splicing.{jpeg_around, refused_found, webp_around}
 
 -- ---- the container of a file whose data are replaced
@@ -250,7 +250,7 @@ pub record StreamedAt (edit : Edit) (file : List ℕ) (qs : List Patch) : Type 0
 
 -- answered patches of a file that is read once are those of its data, where these stand
 pub streamed_at : (edit : Edit) (file : List ℕ) (qs : List Patch) → length file < 2 ^ 64
-    → StaysIn edit → in_stream edit file ≡ Ok qs → StreamedAt edit file qs
+    → StaysInside edit → in_stream edit file ≡ Ok qs → StreamedAt edit file qs
 streamed_at edit file qs s stays e =
     let w = was_streamed edit file qs e in
     let fit = stays w.old w.patches w.edited in
@@ -264,7 +264,7 @@ streamed_at edit file qs s stays e =
 
 -- in a file that is read once an edit edits the data where they stand, and nothing else
 pub stream_sound : (edit : Edit) (file : List ℕ) (qs : List Patch) → length file < 2 ^ 64
-    → StaysIn edit → in_stream edit file ≡ Ok qs → IsEditedIn edit file (patched qs file)
+    → StaysInside edit → in_stream edit file ≡ Ok qs → IsEditedIn edit file (patched qs file)
 stream_sound edit file qs s stays e =
     let t = streamed_at edit file qs s stays e in
     let fits : All (FitsIn (length file)) qs =

@@ -22,8 +22,8 @@ use Rattle.exif_edit_base.specs.declared.error.Error.TheVariants as error
 use Rattle.exif_edit_base.specs.declared.patch.Patch.{Patch}
 use Rattle.exif_edit_base.proofs.CauseSteps.{bound}
 use Rattle.exif_edit_files.specs.InFiles.{Edit, IsEditedIn, shifted}
-use Rattle.exif_edit_files.specs.Streams.{IsStopped, in_stream, piece_as, piece_in, place_before}
-use Rattle.exif_edit_files.proofs.FileSound.{StaysIn, shifted_fit}
+use Rattle.exif_edit_files.specs.Streams.{IsStopped, in_stream, piece_as, piece_in, place_before, StaysInside}
+use Rattle.exif_edit_files.proofs.FileSound.{shifted_fit}
 use Rattle.exif_edit_files.proofs.StreamSound.{piece_around, piece_by, stream_sound, take_small}
 
 -- ---- what is found in a file that is read once
@@ -277,7 +277,7 @@ stream_refused edit (Some file) old place e h g = by_cause (cause_of e) refl g
     by_cause (Some c) is k = stream_made edit file old h.0 (Err c) h.1 k
 
 -- where the bytes of a file that is read once are told, an answered edit edits its data alone
-pub stream_promised : (edit : Edit) (a : Option (List ℕ)) (len : ℕ) (qs : List Patch) → StaysIn edit
+pub stream_promised : (edit : Edit) (a : Option (List ℕ)) (len : ℕ) (qs : List Patch) → StaysInside edit
     → len < 2 ^ 64 → IfSome a (λ file. length file ≡ len)
     → IfSome a (λ file. in_stream edit file ≡ Ok qs)
     → IfSome a (λ file. IsEditedIn edit file (patched qs file))

@@ -27,8 +27,9 @@ use Rattle.exif_edit.proofs.RemoveSound.{named_of_field, was_removed}
 use Rattle.exif_edit.proofs.SetSound.{was_set}
 use Rattle.exif_edit_files.specs.InFiles.{Edit, IsEditedIn, edited_file, holds, in_file, placed, serves, serves_as_told, shifted, told_place}
 use Rattle.exif_edit_files.specs.Pieces.{piece_in, whole_file}
-use Rattle.exif_edit_files.proofs.FileSound.{StaysIn, file_sound}
+use Rattle.exif_edit_files.proofs.FileSound.{file_sound}
 use Rattle.exif_edit_files.proofs.FileSteps.{place_as_told, told_refused}
+use Rattle.exif_edit_files.specs.Streams.{StaysInside}
 
 -- ---- data with a good header begin as TIFF data do
 
@@ -135,7 +136,7 @@ tiff_edited edit file new x stays h e =
     (tiff_in_file edit file stays h) e
 
 -- what was edited as it is answered was edited where its data stand
-pub edited_sound : (edit : Edit) (file new : List ℕ) (x : Result (Unit {0}) Error) → StaysIn edit
+pub edited_sound : (edit : Edit) (file new : List ℕ) (x : Result (Unit {0}) Error) → StaysInside edit
     → Edits x file new (edited_file (in_file edit) file) → OnOk x (IsEditedIn edit file new)
 edited_sound edit file new (Err e) stays h = tt
 edited_sound edit file new (Ok u) stays h =

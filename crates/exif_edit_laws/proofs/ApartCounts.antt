@@ -2,15 +2,13 @@
 use Rattle.std.proofs.Common.{◌≡◌, ◌≤◌, ◌<◌, ◌+◌, max, ℕ, Bool, true, false, if◌then◌else◌, List, [], ◌∷◌, ◌++◌, inl, inr, refl, sym, ◌∙◌, arith}
 use Rattle.std.specs.Prelude.{◌&&◌, nat_le, nat_lt, not}
 use Rattle.std.specs.List.{AllByRecursion, list_any}
-use Rattle.std.proofs.lemmas.Bool.{false≢true}
+use Rattle.std.proofs.lemmas.Bool.{false≢true, and_parts, not-true, or_parts}
 use Rattle.std.proofs.lemmas.Bool.Decides.{nat_tests}
 use Rattle.exif_tiff.specs.Apart.{are_apart, overlap}
 use Rattle.exif_tiff.specs.Footprint.{Stretch}
 use Rattle.exif_tiff.proofs.ApartLists.{IsApart}
 use Rattle.exif_edit_base.specs.declared.patch.Span.{Span}
-use Rattle.exif_edit_base.proofs.PatchSteps.{split}
 use Rattle.exif_edit.specs.Sharing.{meets}
-use Rattle.exif_edit.proofs.Unshared.{neither, unturned}
 
 -- one where a stretch has the byte at i, else none
 pub has : ℕ → Stretch → ℕ
@@ -148,7 +146,7 @@ none_else : (i : ℕ) (s : Stretch) (ts : List Stretch) → s.place ≤ i → i 
     → list_any (overlap s) ts ≡ false → holders i ts ≡ 0
 none_else i s [] low high h = holders_none i
 none_else i s (t ∷ ts) low high h =
-    let a = neither (overlap s t) (list_any (overlap s) ts) h in
+    let a = or_parts (overlap s t) (list_any (overlap s) ts) h in
     let here = alone i s t low high a.0 in
     let rest = none_else i s ts low high a.1 in
     let more = holders_more i t ts in
@@ -158,10 +156,10 @@ none_else i s (t ∷ ts) low high h =
 pub apart_holders : (i : ℕ) (ts : List Stretch) → are_apart ts ≡ true → holders i ts ≤ 1
 apart_holders i [] h = omega (arith, holders_none i)
 apart_holders i (t ∷ ts) h =
-    let a = split (not (list_any (overlap t) ts)) (are_apart ts) h in
+    let a = and_parts (not (list_any (overlap t) ts)) (are_apart ts) h in
     let rest = apart_holders i ts a.1 in
     let more = holders_more i t ts in
-    by_place (stands i t) more rest (unturned (list_any (overlap t) ts) a.0)
+    by_place (stands i t) more rest (not-true (list_any (overlap t) ts) a.0)
   where
     by_place : Where i t → holders i (t ∷ ts) ≡ has i t + holders i ts → holders i ts ≤ 1
         → list_any (overlap t) ts ≡ false → holders i (t ∷ ts) ≤ 1

@@ -2,7 +2,7 @@
 use Rattle.std.proofs.Common.{◌≡◌, ◌≤◌, ◌<◌, ◌+◌, ◌-◌, ◌*◌, ◌/◌, ◌^◌, ℕ, zero, suc, Bool, true, false, if◌then◌else◌, List, [], ◌∷◌, ◌++◌, length, drop, replicate, inl, inr, None, Result, Ok, Err, refl, sym, ap, subst, ◌∙◌, arith}
 use Rattle.std.specs.Prelude.{◌&&◌, nat_lt, not}
 use Rattle.std.specs.List.{flat_map, filter, AllByRecursion}
-use Rattle.std.proofs.lemmas.Bool.{false≢true}
+use Rattle.std.proofs.lemmas.Bool.{not-true}
 use Rattle.std.proofs.lemmas.Bool.Decides.{nat_tests}
 use Rattle.std.proofs.lemmas.List.{get_or-drop, length-append, replicate-append-replicate}
 use Rattle.byteorder.specs.Numbers.{big_from-lt, little_from-lt}
@@ -27,7 +27,7 @@ use Rattle.exif_edit_base.proofs.LocatedEntries.{places_whole}
 use Rattle.exif_edit.specs.Removing.{entries_text, entries_without, has_tag, next_text}
 use Rattle.exif_edit.proofs.RemoveSteps.{length-spaced}
 use Rattle.exif_edit.proofs.SetSound.{length-padded, length-spelled}
-use Rattle.exif_edit.proofs.Told.{length-bytes_at}
+use Rattle.exif_edit_base.proofs.PutBack.{length-bytes_at}
 use Rattle.exif_edit_laws.proofs.RemovedBytes.{as_long, directory_stays, made, value_stays}
 use Rattle.exif_edit_laws.proofs.RemovedLists.{all_members, all_pass, fewer_left, filter_each, filter_member, has}
 use Rattle.exif_edit_laws.proofs.RemovedTexts.{text_stands}
@@ -147,11 +147,8 @@ module _ (order : Order) (a : List ℕ) (tag : Tag) (k : In) (ps ds : List ℕ)
       (λ e l. let f = filter_member (λ x. not (has ps p && has_tag number a tag.1 x))
       (entry_places number a p) e l in
       value_stays order a tag.1 ps ds apart known e p m f.0
-      (unturned (has ps p && has_tag number a tag.1 e) f.1))
+      (not-true (has ps p && has_tag number a tag.1 e) f.1))
     where
-      unturned : (t : Bool) → not t ≡ true → t ≡ false
-      unturned true h = absurd (false≢true h)
-      unturned false h = refl
 
   -- a directory from which nothing is taken keeps all its entries, and ends as before or better
   pub lacks_none : (p : ℕ) → has ds p ≡ true → has ps p ≡ false → AreLacking p
@@ -176,7 +173,7 @@ module _ (order : Order) (a : List ℕ) (tag : Tag) (k : In) (ps ds : List ℕ)
       → AllByRecursion (λ e. e + 12 ≤ length a) es → AllByRecursion ValueAlike es → AreFollowing es q
   follow_text [] q s w v = tt
   follow_text (e ∷ es) q s w v =
-      let l = length-bytes_at 12 a e w.0 in
+      let l = length-bytes_at 12 e a w.0 in
       let one = stands_left b (bytes_at 12 a e) (entries_text a es) q s in
       let rest = stands_right b (bytes_at 12 a e) (entries_text a es) q (q + 12) s (omega (arith, l)) in (
         (sym (ap (λ x. bytes_at x b q) (sym l) ∙ one.there), v.0),
@@ -187,7 +184,7 @@ module _ (order : Order) (a : List ℕ) (tag : Tag) (k : In) (ps ds : List ℕ)
       → length (entries_text a es) ≡ 12 * length es
   length-entries [] h = refl
   length-entries (e ∷ es) h =
-      let l = length-bytes_at 12 a e h.0 in
+      let l = length-bytes_at 12 e a h.0 in
       let more = length-append (bytes_at 12 a e) (entries_text a es) in
       let rest = length-entries es h.1 in
       omega (arith, l, more, rest)

@@ -2,26 +2,19 @@
 use Rattle.std.proofs.Common.{◌≡◌, ◌≢◌, ◌≤◌, ◌<◌, ◌+◌, ◌==◌, ℕ, suc, Bool, true, false, if◌then◌else◌, List, [], ◌∷◌, ◌++◌, inl, inr, length, refl, sym, ap, subst, ◌∙◌, arith, eq-eqb}
 use Rattle.std.specs.Prelude.{◌&&◌, ◌||◌, nat_lt, not}
 use Rattle.std.specs.List.{AllByRecursion, filter, flat_map, list_any}
-use Rattle.std.proofs.lemmas.Bool.{false≢true}
+use Rattle.std.proofs.lemmas.Bool.{false≢true, and_parts, not-true, or_parts, or_right}
 use Rattle.std.proofs.lemmas.Bool.Decides.{nat_tests}
 use Rattle.exif_tiff.specs.Apart.{are_apart, overlap}
 use Rattle.exif_tiff.specs.Footprint.{Stretch}
 use Rattle.exif_tiff.proofs.ApartLists.{AreApart, EachApart, IsApart, all_weaker, apart_turned}
 use Rattle.exif_tiff.proofs.Footprints.{all_flat}
 use Rattle.exif_tiff.proofs.Members.{all_append, all_left, all_right}
-use Rattle.exif_edit_base.proofs.PatchSteps.{split}
-use Rattle.exif_edit.proofs.Unshared.{neither, unturned}
 
 -- ---- members
 
 -- whether a number is among some
 abbrev pub has : List ℕ → ℕ → Bool
 has xs x = list_any (λ y. y == x) xs
-
--- one test or another holds where the second does
-pub or_second : (a b : Bool) → b ≡ true → (a || b) ≡ true
-or_second true b h = refl
-or_second false b h = h
 
 -- the first number of a list is among its members
 pub has_first : (x : ℕ) (xs : List ℕ) → has (x ∷ xs) x ≡ true
@@ -41,7 +34,7 @@ pub all_members : (P : ℕ → Type 0) (xs : List ℕ) → ((x : ℕ) → has xs
     → AllByRecursion P xs
 all_members P [] h = tt
 all_members P (y ∷ ys) h =
-    (h y (has_first y ys), all_members P ys (λ x m. h x (or_second (y == x) (has ys x) m)))
+    (h y (has_first y ys), all_members P ys (λ x m. h x (or_right (y == x) (has ys x) m)))
 
 -- members that pass a test
 pub filter_member : (t : ℕ → Bool) (es : List ℕ) (e : ℕ) → has (filter t es) e ≡ true
@@ -59,7 +52,7 @@ filter_member t (x ∷ xs) e m = by_test (t x) refl (filter_member t xs e) m
         → has (if b then x ∷ filter t xs else filter t xs) e ≡ true
         → (has (x ∷ xs) e ≡ true) × (t e ≡ true)
     by_test true q r m = first (x == e) refl q r m
-    by_test false q r m = let k = r m in (or_second (x == e) (has xs e) k.0, k.1)
+    by_test false q r m = let k = r m in (or_right (x == e) (has xs e) k.0, k.1)
 
 -- what holds of all that entries give holds of what those that pass a test give
 pub filter_all : {X : Type 0} (P : X → Type 0) (f : ℕ → List X) (t : ℕ → Bool) (es : List ℕ)
@@ -134,15 +127,15 @@ apart_row : (s : Stretch) (ts : List Stretch) → list_any (overlap s) ts ≡ fa
     → AllByRecursion (IsApart s) ts
 apart_row s [] h = tt
 apart_row s (t ∷ ts) h =
-    let a = neither (overlap s t) (list_any (overlap s) ts) h in
+    let a = or_parts (overlap s t) (list_any (overlap s) ts) h in
     (apart_pair s t a.0, apart_row s ts a.1)
 
 -- stretches that pass the test are apart from one another
 pub apart_told : (ts : List Stretch) → are_apart ts ≡ true → AreApart ts
 apart_told [] h = tt
 apart_told (t ∷ ts) h =
-    let a = split (not (list_any (overlap t) ts)) (are_apart ts) h in
-    (apart_row t ts (unturned (list_any (overlap t) ts) a.0), apart_told ts a.1)
+    let a = and_parts (not (list_any (overlap t) ts)) (are_apart ts) h in
+    (apart_row t ts (not-true (list_any (overlap t) ts) a.0), apart_told ts a.1)
 
 -- each of some is apart from all pieces that it is apart from one by one
 pub each_flat : (ss : List Stretch) (f : ℕ → List Stretch) (qs : List ℕ)

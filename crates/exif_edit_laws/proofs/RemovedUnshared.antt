@@ -6,7 +6,7 @@ use Rattle.std.specs.Bool.{beq}
 use Rattle.std.specs.Cmp.{booleans_Decides}
 use Rattle.std.specs.Cmp.Lexicographic.{pointwise}
 use Rattle.std.specs.List.{flat_map, AllByRecursion}
-use Rattle.std.proofs.lemmas.Bool.{false≢true}
+use Rattle.std.proofs.lemmas.Bool.{false≢true, and_parts, or_right}
 use Rattle.std.proofs.lemmas.Bool.Decides.{nat_tests}
 use Rattle.std.proofs.lemmas.Slice.Eq.{slice_eq-Decides}
 use Rattle.exif_base.specs.Bytes.{Reading, number_at}
@@ -33,7 +33,6 @@ use Rattle.exif_entries.proofs.LawsLocated.{ordered_fields}
 use Rattle.exif_edit_base.specs.Causes.{shared}
 use Rattle.exif_edit_base.specs.Patches.{patched}
 use Rattle.exif_edit_base.specs.Readings.{Read, reading}
-use Rattle.exif_edit_base.proofs.PatchSteps.{split}
 use Rattle.exif_edit.specs.Promises.{named_directories}
 use Rattle.exif_edit.specs.Removing.{checked_removals, directories_with, field_patches, has_tag, noted, read_without, removals, removals_from, still_reads, untold}
 use Rattle.exif_edit.specs.Setting.{names_places}
@@ -42,7 +41,7 @@ use Rattle.exif_edit.proofs.Unshared.{located_in, named_order, read_in, reading_
 use Rattle.exif_edit_laws.specs.FieldsApart.{FieldsAreErasedApart, some_removals}
 use Rattle.exif_edit_laws.proofs.RemovedBytes.{as_long, changed, made, narrowed, stays}
 use Rattle.exif_edit_laws.proofs.RemovedDirectories.{lacks_none, lacks_some}
-use Rattle.exif_edit_laws.proofs.RemovedLists.{all_members, apart_told, each_flat, has, has_first, member_all, or_second}
+use Rattle.exif_edit_laws.proofs.RemovedLists.{all_members, apart_told, each_flat, has, has_first, member_all}
 use Rattle.exif_edit_laws.proofs.RemovedVisits.{Among, AreDistinct, Comes, Visited, among_has, looked_once, ordered_walks, places_in, visited_of, visited_once}
 use Rattle.exif_edit_laws.proofs.ShrunkNodes.{Fine, Lacks, Shrinks, ordered_shrinks}
 
@@ -98,7 +97,7 @@ module _ (tag : Tag) (k : In) where
     where
       behind : (ps : List ℕ) → has (ps ++ p ∷ []) p ≡ true
       behind [] = has_first p []
-      behind (q ∷ qs) = or_second (q == p) (has (qs ++ p ∷ []) p) (behind qs)
+      behind (q ∷ qs) = or_right (q == p) (has (qs ++ p ∷ []) p) (behind qs)
 
       by_test : (t : Bool) → has ps p ≡ t → has (if t then ps else ps ++ p ∷ []) p ≡ true
       by_test true e = e
@@ -214,7 +213,7 @@ module _ (tag : Tag) (k : In) (order : Order) (a : List ℕ) (head : header a �
   of_name : (l : Located) → Comes number a vs (Found l) → is_named tag k l.field ≡ true
       → IsOfName l.directory
   of_name l h e =
-      let s = split (tag_eq l.field.tag tag) (l.field.ifd_num.0 == k.0) e in
+      let s = and_parts (tag_eq l.field.tag tag) (l.field.ifd_num.0 == k.0) e in
       let t = (tag_Decides l.field.tag tag).0 s.0 in
       let i = (ifd_Decides l.field.ifd_num k).0 s.1 in
       let n : number_at number 2 a l.entry ≡ tag.1 = h.2 ∙ ap (λ (x : Tag). x.1) t in

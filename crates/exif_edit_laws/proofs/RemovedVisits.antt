@@ -2,7 +2,7 @@
 -- looks at no byte as two things it is visited once.
 use Rattle.std.proofs.Common.{◌≡◌, ◌≤◌, ◌+◌, ◌*◌, ◌==◌, ℕ, zero, suc, Bool, true, false, if◌then◌else◌, List, [], ◌∷◌, ◌++◌, ◌⊎◌, inl, inr, map, Option, Some, None, Result, Ok, Err, refl, sym, ap, ◌∙◌, arith}
 use Rattle.std.specs.List.{flat_map, AllByRecursion}
-use Rattle.std.proofs.lemmas.Bool.{false≢true}
+use Rattle.std.proofs.lemmas.Bool.{false≢true, or_right}
 use Rattle.std.proofs.lemmas.List.{map-append}
 use Rattle.exif_base.specs.Bytes.{Reading, number_at}
 use Rattle.exif_types.specs.Numbers.{number_in}
@@ -16,7 +16,7 @@ use Rattle.exif_tiff.specs.Footprint.{looked_at}
 use Rattle.exif_tiff.specs.Trace.{Directory, Found, Located, Met, Node, Opens, Visit, chain_after, chain_nodes, child_end, child_of, depth_of, directories_of, directory_end, directory_nodes, entry_nodes, entry_places, entry_value, ordered_trace, pointer_nodes, tagged_nodes, valued_nodes, whole_entries}
 use Rattle.exif_tiff.proofs.ApartLists.{AreApart}
 use Rattle.exif_tiff.proofs.Members.{all_append}
-use Rattle.exif_edit_laws.proofs.RemovedLists.{all_members, back_apart, beside_piece, between, has, has_first, or_second}
+use Rattle.exif_edit_laws.proofs.RemovedLists.{all_members, back_apart, beside_piece, between, has, has_first}
 
 -- a directory as it is visited
 pub record Visited : Type 0 where
@@ -266,7 +266,7 @@ among_has t [] h = absurd h
 among_has t (v ∷ vs) (inl e) =
     ap (λ (x : Visited). has (v.place ∷ places_in vs) x.place) e ∙ has_first v.place (places_in vs)
 among_has t (v ∷ vs) (inr h) =
-    or_second (v.place == t.place) (has (places_in vs) t.place) (among_has t vs h)
+    or_right (v.place == t.place) (has (places_in vs) t.place) (among_has t vs h)
 
 -- two visited directories at one place are the same, where all places are different
 pub visited_once : (vs : List Visited) (t u : Visited) → AreDistinct (places_in vs) → Among t vs

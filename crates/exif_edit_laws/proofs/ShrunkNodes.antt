@@ -3,7 +3,7 @@
 use Rattle.std.proofs.Common.{◌≡◌, ◌≤◌, ◌+◌, ◌==◌, ℕ, zero, suc, Bool, true, false, if◌then◌else◌, List, [], ◌∷◌, ◌++◌, ◌⊎◌, inl, inr, length, Option, Some, None, Result, Ok, Err, refl, sym, ap, ◌∙◌, arith}
 use Rattle.std.specs.Prelude.{◌&&◌, not}
 use Rattle.std.specs.List.{flat_map, filter, AllByRecursion}
-use Rattle.std.proofs.lemmas.Bool.{false≢true}
+use Rattle.std.proofs.lemmas.Bool.{false≢true, and_parts}
 use Rattle.std.proofs.lemmas.Bool.Decides.{nat_tests}
 use Rattle.std.proofs.lemmas.List.{length-append, map-append}
 use Rattle.std.proofs.lemmas.List.Elements.{filter-append}
@@ -24,7 +24,6 @@ use Rattle.exif_tiff.specs.Footprint.{Agree, value_stretch}
 use Rattle.exif_tiff.specs.Trace.{Node, Opens, Visit, Found, Met, Directory, field_of, chain_after, chain_nodes, child_end, child_of, depth_of, directory_end, directory_nodes, entry_nodes, entry_places, entry_value, fields_of, faults_of, ordered_trace, pointer_nodes, tagged_nodes, valued_nodes}
 use Rattle.exif_tiff.proofs.Members.{all_left, all_right}
 use Rattle.exif_tiff.proofs.ReportBound.{faults-append, fields-append}
-use Rattle.exif_edit_base.proofs.PatchSteps.{split}
 use Rattle.exif_edit.specs.Removing.{has_tag, told_at, told_in, untold, without_named}
 use Rattle.exif_edit_laws.proofs.RemovedLists.{has}
 use Rattle.exif_edit_laws.proofs.ShrunkValues.{AreTold, IsMoved, number_in_told, number_moved, value_moved}
@@ -190,7 +189,7 @@ module _ (order : Order) (a b : List ℕ) (as_long : length a ≡ length b) (tag
         → Shrinks tag k (entry_nodes f number a c j p e) []
     entry_taken c j p e at' goes h =
         let n = number_at number 2 a e in
-        let s = split (has ps p) (n == tag.1) goes in
+        let s = and_parts (has ps p) (n == tag.1) goes in
         let mine = at' s.0 in
         let test = s.1 in
         let same : n ≡ tag.1 = grind (arith, nat_tests) in

@@ -52,7 +52,7 @@ entries_into ifd context fields = map entry_of (filter (goes_into ifd context) f
 abbrev pub entries_in : List Call → ℕ → Context → List Entry
 entries_in calls ifd context = entries_into ifd context (filter_map field_pushed calls)
 
--- the strips, the tiles and the JPEG that a call sets in a directory
+-- the strips that a call sets in the directory with a number, if it sets some there
 abbrev pub strips_in : ℕ → Call → Option (List (List ℕ))
 strips_in ifd (Push field) = None
 strips_in ifd (SetStrips strips number) = if number == ifd then Some strips else None

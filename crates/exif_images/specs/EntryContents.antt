@@ -25,7 +25,7 @@ symbol_of (PlacesOf kind blocks) = format.PlacesOf kind (lens blocks.now)
 symbol_of (LengthsOf kind blocks) = format.LengthsOf kind (lens blocks.now)
 symbol_of (PlaceOf context) = format.PlaceOf context
 
--- the value's type, how many members and how many bytes it has
+-- the number of the value's type
 abbrev pub content_type : Content → ℕ
 content_type (Known value) = type_number value
 content_type (OneShort x) = 3

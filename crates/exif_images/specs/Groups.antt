@@ -55,7 +55,7 @@ blocks_in group Strips = group.strips
 blocks_in group Tiles = group.tiles
 blocks_in group Jpeg = single group.jpeg
 
--- the tags under which the places and the lengths of blocks stand
+-- the tag of the field that gives the places of the blocks of a kind
 abbrev pub places_tag : BlockKind → ℕ
 places_tag Strips = 0x111
 places_tag Tiles = 0x144
@@ -108,7 +108,7 @@ changed zero change (group ∷ groups) = change group ∷ groups
 changed (suc ifd) change [] = empty_group ∷ changed ifd change []
 changed (suc ifd) change (group ∷ groups) = group ∷ changed ifd change groups
 
--- what each call makes of the groups
+-- the groups after a field is pushed into the directory with its number
 abbrev pub pushed : Field → List Group → List Group
 pushed field groups =
     if is_ignored field.tag.0 field.tag.1 then groups

@@ -37,39 +37,51 @@ after_blocks place (text ∷ texts) = after_blocks (place + length text) texts
 -- The places of a draft whose first free place is `start`: each is the end of what stands before
 -- it.
 module _ (draft : Draft) (start : ℕ) where
+  -- where the TIFF directory begins: at the next even place
   unfoldable pub tiff_place : ℕ
   tiff_place = even start
 
+  -- where the Exif directory begins, behind the TIFF directory
   unfoldable pub exif_place : ℕ
   exif_place = tiff_place + directory_len (draft.slots Tiff)
 
+  -- where the GPS directory begins, behind the Exif directory
   unfoldable pub gps_place : ℕ
   gps_place = exif_place + directory_len (draft.slots Exif)
 
+  -- where the Interop directory begins, behind the GPS directory
   unfoldable pub interop_place : ℕ
   interop_place = gps_place + directory_len (draft.slots Gps)
 
+  -- where the values of the TIFF directory may begin, behind all directories
   unfoldable pub tiff_values : ℕ
   tiff_values = interop_place + directory_len (draft.slots Interop)
 
+  -- where those of the Exif directory may begin, behind those of TIFF
   unfoldable pub exif_values : ℕ
   exif_values = after_values tiff_values (draft.slots Tiff)
 
+  -- where those of the GPS directory may begin, behind those of Exif
   unfoldable pub gps_values : ℕ
   gps_values = after_values exif_values (draft.slots Exif)
 
+  -- where those of the Interop directory may begin, behind those of GPS
   unfoldable pub interop_values : ℕ
   interop_values = after_values gps_values (draft.slots Gps)
 
+  -- where the strips begin, behind all values
   unfoldable pub strips_place : ℕ
   strips_place = after_values interop_values (draft.slots Interop)
 
+  -- where the tiles begin, behind the strips
   unfoldable pub tiles_place : ℕ
   tiles_place = after_blocks strips_place (draft.blocks Strips)
 
+  -- where the JPEG begins, behind the tiles
   unfoldable pub jpeg_place : ℕ
   jpeg_place = after_blocks tiles_place (draft.blocks Tiles)
 
+  -- where the draft ends, behind the JPEG
   unfoldable pub draft_end : ℕ
   draft_end = after_blocks jpeg_place (draft.blocks Jpeg)
 

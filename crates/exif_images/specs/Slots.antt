@@ -53,11 +53,11 @@ abbrev pub pointer_slots : ℕ → Context → List Slot → List Slot
 pointer_slots tag child [] = []
 pointer_slots tag child (slot ∷ slots) = record { tag = tag; content = PlaceOf child } ∷ []
 
--- the entries of each directory: pushed ones, the blocks' and pointers; those that come together,
--- and those as they are written
+-- the entries of the Interop directory as they are written: pushed ones alone
 unfoldable pub interop_slots : Group → List Slot
 interop_slots group = in_tag_order (map known group.interop)
 
+-- the entries of the GPS directory as they are written: pushed ones alone
 unfoldable pub gps_slots : Group → List Slot
 gps_slots group = in_tag_order (map known group.gps)
 
@@ -65,6 +65,7 @@ gps_slots group = in_tag_order (map known group.gps)
 abbrev pub exif_unsorted : Group → List Slot
 exif_unsorted group = map known group.exif ++ pointer_slots 0xa005 Interop (interop_slots group)
 
+-- the entries of the Exif directory as they are written: those that come, in tag order
 unfoldable pub exif_slots : Group → List Slot
 exif_slots group = in_tag_order (exif_unsorted group)
 
@@ -78,6 +79,7 @@ tiff_unsorted group =
     ++ pointer_slots 0x8769 Exif (exif_slots group)
     ++ pointer_slots 0x8825 Gps (gps_slots group)
 
+-- the entries of the TIFF directory as they are written: those that come, in tag order
 unfoldable pub tiff_slots : Group → List Slot
 tiff_slots group = in_tag_order (tiff_unsorted group)
 

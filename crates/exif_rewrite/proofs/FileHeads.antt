@@ -1,6 +1,6 @@
 -- By which head a file that was written again is known.
 use Rattle.std.proofs.Common.{◌≡◌, ◌∙◌, ℕ, ◌<◌, ◌≤◌, ◌-◌, ◌^◌, ◌&&◌, Bool, true, false, cond, ltb, List, ◌∷◌, ◌++◌, length, min, take, drop, codes, Option, None, Some, Err, refl, sym, subst, ap, arith, length-drop}
-use Rattle.std.proofs.lemmas.Bool.{lt-ltb}
+use Rattle.std.proofs.lemmas.Bool.{lt-ltb, and_parts}
 use Rattle.std.proofs.lemmas.List.{drop-take, length-take, take-append-drop, take-take, take_all}
 use Rattle.std.proofs.lemmas.Slice.Eq.{bytes_eq-Decides}
 use Rattle.std.specs.List.{find}
@@ -54,14 +54,10 @@ unfolding format_in
 riff-head rest short h =
     ap (λ b. cond b (Some Heif) (cond (begins_webp (82 ∷ 73 ∷ 70 ∷ 70 ∷ rest)) (Some WebP) None)) (no-heif rest short) ∙ ap (λ b. cond b (Some WebP) None) h
 
-and-left : (a b : Bool) → (a && b) ≡ true → a ≡ true
-and-left true b e = refl
-and-left false b e = absurd (cc)
-
 -- bytes that begin as a WebP file does are known as one by their head
 pub webp_head : (out : List ℕ) → begins_webp out ≡ true → format_in (take 4096 out) ≡ Some WebP
 webp_head out h =
-    let riff : take 4 out ≡ codes "RIFF" = (bytes_eq-Decides (take 4 out) (codes "RIFF")).0 (and-left (bytes_eq (take 4 out) (codes "RIFF")) (bytes_eq (take 4 (drop 8 out)) (codes "WEBP")) h) in
+    let riff : take 4 out ≡ codes "RIFF" = (bytes_eq-Decides (take 4 out) (codes "RIFF")).0 ((and_parts (bytes_eq (take 4 out) (codes "RIFF")) (bytes_eq (take 4 (drop 8 out)) (codes "WEBP")) h).0) in
     let begins : begins_webp (take 4096 out) ≡ true =
     ap (λ t. bytes_eq t (codes "RIFF") && bytes_eq (take 4 (drop 8 (take 4096 out))) (codes "WEBP")) (take-take 4 4096 out (omega arith))
     ∙ ap (λ t. bytes_eq (take 4 out) (codes "RIFF") && bytes_eq t (codes "WEBP")) (ap (take 4) (drop-take 8 4088 out) ∙ take-take 4 4088 (drop 8 out) (omega arith)) ∙ h in

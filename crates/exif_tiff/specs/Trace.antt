@@ -146,7 +146,7 @@ chain_nodes (suc left) number bytes k p =
           ++ chain_after (chain_nodes left number bytes (k + 1)) (directory_end number bytes p)
     ]
 
--- the order that the data begin with, or what is wrong with their header
+-- the order that the data begin with, if they begin with one
 abbrev pub order_of : List ℕ → Option Order
 order_of bytes =
     if (slice_index bytes 0 == 0x4d) && (slice_index bytes 1 == 0x4d) then Some Big else

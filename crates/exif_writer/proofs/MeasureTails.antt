@@ -73,7 +73,7 @@ span_first slots a b =
     let k = span-append (slots ++ a ∷ []) (b ∷ []) in
     omega arith
 
--- the two slots of blocks
+-- the slot with the places of the blocks, the first of the two
 abbrev pub place_slot : BlockKind → List (Bor (List ℕ)) → Slot
 place_slot kind texts = record { tag = places_tag kind; content = PlacesOf kind (lens texts) }
 

@@ -85,7 +85,7 @@ pub record IsReady (places : Places) (slot : Slot) : Type 0 where
   pub known : IsKnownContent slot.content
   pub room : content_size slot.content ≤ 4294967295
 
--- where the next value may stand, and where the values of slots end
+-- where the next value may stand behind that of a slot
 abbrev pub after_slot : ℕ → Slot → ℕ
 after_slot start slot = after_value start (content_size slot.content)
 

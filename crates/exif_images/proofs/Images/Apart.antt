@@ -19,7 +19,7 @@ use Rattle.exif_images.specs.Groups.{Group}
 use Rattle.exif_images.specs.declared.block_kind.BlockKind.TheVariants.{Strips, Tiles, Jpeg}
 use Rattle.exif_images.specs.Image.{draft_parts, image, parts_from}
 use Rattle.exif_images.specs.Layout.{Stands}
-use Rattle.exif_images.specs.Places.{after_values, directory_len, directory_place, draft_end, even, next_place, strips_place, tiff_place, values_place, tiles_place, jpeg_place, after_blocks}
+use Rattle.exif_images.specs.Places.{after_values, directory_len, directory_place, draft_end, even, next_place, strips_place, tiff_place, values_place, tiles_place, jpeg_place}
 use Rattle.exif_images.specs.Ranged.{AreRanged, HavePlainTexts}
 use Rattle.exif_images.specs.Refused.{write_fault}
 use Rattle.exif_images.specs.Slots.{Content, Draft, Known, LengthsOf, PlaceOf, PlacesOf, Slot, draft_of}
@@ -32,6 +32,7 @@ use Rattle.exif_images.proofs.Images.ReadBack.{draft_end_le, image_header, image
 use Rattle.exif_images.proofs.Images.Regions.{ExifBelow, GpsBelow, In, InteropBelow, IsChild, Lies, Of, below_apart, children_apart, directory_to, in_front, in_lies, in_own, in_parent, values_apart, values_lie, values_to}
 use Rattle.exif_images.proofs.Images.Whole.{length-image, not_refused, parts_stand}
 use Rattle.exif_images.proofs.Images.Words.{AllStand, ContentFits, DraftStands, IsAccepted, SlotFits}
+use Rattle.exif_images.proofs.Images.Room.{blocks_low}
 
 -- a directory that a pointer of another one names stands below it
 pub child_is : (parent child : Context) (tag : ℕ) → child_of parent tag ≡ Some child → IsChild parent child
@@ -245,18 +246,14 @@ module _ (order : Order) (bytes : List ℕ) (small : length bytes < 256 ^ 4) (dr
 
 -- ---- the chain
 
-blocks_up : (from : ℕ) (texts : List (List ℕ)) → from ≤ after_blocks from texts
-blocks_up from [] = omega arith
-blocks_up from (text ∷ texts) = let more = blocks_up (from + length text) texts in omega arith
-
 -- what is looked at of a draft stands between where it starts and where it ends
 in_draft : (draft : Draft) (start : ℕ) (t : Stretch) → In draft start Tiff t → Lies start (draft_end draft start) t
 unfolding tiff_place tiles_place jpeg_place draft_end
 in_draft draft start t h =
     let lies = in_lies draft start t h in
-    let strips = blocks_up (strips_place draft start) (draft.blocks Strips) in
-    let tiles = blocks_up (tiles_place draft start) (draft.blocks Tiles) in
-    let jpeg = blocks_up (jpeg_place draft start) (draft.blocks Jpeg) in
+    let strips = blocks_low (strips_place draft start) (draft.blocks Strips) in
+    let tiles = blocks_low (tiles_place draft start) (draft.blocks Tiles) in
+    let jpeg = blocks_low (jpeg_place draft start) (draft.blocks Jpeg) in
     (omega (arith, lies.0), omega (arith, lies.1, strips, tiles, jpeg))
 
 -- stretches that are apart, none of which stands in front of a place

@@ -5,6 +5,7 @@ use Rattle.exif_images.proofs.Moved.{moved_by}
 use Rattle.std.proofs.Common.{◌≡◌, ℕ, ◌<◌, ◌^◌, List, [], ◌∷◌, length, refl, sym, ap, arith, false, map, Option, Some, None}
 use Rattle.std.specs.Prelude.{◌==◌, ◌≢◌}
 use Rattle.std.specs.List.{All, AllByRecursion}
+use Rattle.std.proofs.lemmas.Bool.{or_parts}
 use Rattle.std.proofs.lemmas.List.Elements.{All-head, All-tail}
 use Rattle.exif_types.specs.declared.value.Value.{Value}
 use Rattle.exif_types.specs.declared.value.Value.TheVariants.{Byte, Ascii, Short, Long, Rational, SByte, Undefined, SShort, SLong, SRational, Float, Double, Unknown}
@@ -21,7 +22,6 @@ use Rattle.exif_images.proofs.Images.Words.{Fits, IsAccepted, IsPlain, SlotFits}
 use Rattle.exif_images.specs.Ranged.{IsRanged, IsEntry}
 use Rattle.exif_tiff.proofs.Members.{each_of}
 use Rattle.exif_images.proofs.Images.Slots.{all_slots}
-use Rattle.exif_images.proofs.Images.Whole.{or_false}
 
 each_text : (texts : List (List ℕ)) → All (All (λ b. b ≢ 0)) texts → AllByRecursion IsPlain texts
 each_text [] h = tt
@@ -51,16 +51,16 @@ fits_moved place value = moved_by (λ v m. Fits v → Fits m) (λ v h. h) (λ xs
 -- a tag that isn't the writer's own is no pointer
 no_pointer : (context : Context) (tag : ℕ) → is_ignored context tag ≡ false → child_of context tag ≡ None
 no_pointer Tiff tag h =
-    let a = or_false (tag == 0x111) _ h in
-    let b = or_false (tag == 0x117) _ a.1 in
-    let c = or_false (tag == 0x144) _ b.1 in
-    let d = or_false (tag == 0x145) _ c.1 in
-    let e = or_false (tag == 0x201) _ d.1 in
-    let f = or_false (tag == 0x202) _ e.1 in
-    let g = or_false (tag == 0x8769) _ f.1 in
-    let i = or_false (tag == 0x8825) false g.1 in
+    let a = or_parts (tag == 0x111) _ h in
+    let b = or_parts (tag == 0x117) _ a.1 in
+    let c = or_parts (tag == 0x144) _ b.1 in
+    let d = or_parts (tag == 0x145) _ c.1 in
+    let e = or_parts (tag == 0x201) _ d.1 in
+    let f = or_parts (tag == 0x202) _ e.1 in
+    let g = or_parts (tag == 0x8769) _ f.1 in
+    let i = or_parts (tag == 0x8825) false g.1 in
     rw (g.0, i.0) refl
-no_pointer Exif tag h = let a = or_false (tag == 0xa005) false h in rw a.0 refl
+no_pointer Exif tag h = let a = or_parts (tag == 0xa005) false h in rw a.0 refl
 no_pointer Gps tag h = refl
 no_pointer Interop tag h = refl
 

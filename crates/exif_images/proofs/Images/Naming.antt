@@ -2,7 +2,7 @@
 use Rattle.std.proofs.Common.{◌≡◌, ℕ, zero, suc, ◌+◌, ◌<◌, ◌≢◌, List, [], ◌∷◌, ◌++◌, length, map, refl, sym, ap, ◌∙◌, arith, Bool, true, false, cond, Option, Some, None}
 use Rattle.std.specs.Prelude.{if◌then◌else◌, ◌==◌, ◌&&◌, nat_le}
 use Rattle.std.specs.List.{AllByRecursion, flat_map, filter}
-use Rattle.std.proofs.lemmas.Bool.{eq-eqb, ne_eqb}
+use Rattle.std.proofs.lemmas.Bool.{eq-eqb, ne_eqb, or_parts}
 use Rattle.std.proofs.lemmas.List.{append-nil}
 use Rattle.exif_images.specs.Encoding.{moved_to}
 use Rattle.exif_table.specs.declared.context.Context.{Context}
@@ -19,7 +19,6 @@ use Rattle.exif_images.specs.Layout.{is_tiff, fields_under}
 use Rattle.exif_tiff.proofs.Members.{all_append}
 use Rattle.exif_images.proofs.Images.Sorting.{filter-sorted}
 use Rattle.exif_images.proofs.Images.Slots.{all_slots, all_tiff}
-use Rattle.exif_images.proofs.Images.Whole.{or_false}
 use Rattle.exif_images.proofs.Images.Pushing.{group_at}
 use Rattle.exif_images.proofs.Images.Shares.{always}
 use Rattle.exif_images.proofs.Images.Rewritten.{filter-append, AllNumbered, fields_numbered}
@@ -181,12 +180,12 @@ record IsOwn (t : ℕ) : Type 0 where
 ignored_none : (tag : ℕ) → is_ignored Tiff tag ≡ false
     → ((tag == 0x111) ≡ false) × ((tag == 0x117) ≡ false) × ((tag == 0x144) ≡ false) × ((tag == 0x145) ≡ false) × ((tag == 0x201) ≡ false) × ((tag == 0x202) ≡ false)
 ignored_none tag h =
-    let a = or_false (tag == 0x111) _ h in
-    let b = or_false (tag == 0x117) _ a.1 in
-    let c = or_false (tag == 0x144) _ b.1 in
-    let d = or_false (tag == 0x145) _ c.1 in
-    let e = or_false (tag == 0x201) _ d.1 in
-    let f = or_false (tag == 0x202) _ e.1 in
+    let a = or_parts (tag == 0x111) _ h in
+    let b = or_parts (tag == 0x117) _ a.1 in
+    let c = or_parts (tag == 0x144) _ b.1 in
+    let d = or_parts (tag == 0x145) _ c.1 in
+    let e = or_parts (tag == 0x201) _ d.1 in
+    let f = or_parts (tag == 0x202) _ e.1 in
     (a.0, b.0, c.0, d.0, e.0, f.0)
 
 own_places : (kind : BlockKind) → IsOwn (places_tag kind)
@@ -244,7 +243,7 @@ own_slots group t own h =
     ∙ (λ i. pushed_not t own group.tiff h i ++ filter test a ++ filter test b ++ filter test j)
     )
 
--- the slots under the two tags of blocks
+-- the slot that gives the places of the blocks of a kind, where they are set
 abbrev pub places_slots : BlockKind → Option (List (List ℕ)) → List Slot
 places_slots kind None = []
 places_slots kind (Some texts) = record { tag = places_tag kind; content = PlacesOf kind (map length texts) } ∷ []

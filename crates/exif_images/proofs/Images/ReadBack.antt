@@ -25,7 +25,7 @@ use Rattle.exif_images.specs.Layout.{Stands, Spans}
 use Rattle.exif_tiff.proofs.ReportBound.{fields-append, faults-append}
 use Rattle.exif_images.proofs.Images.Words.{AllStand, DraftStands, IsAccepted}
 use Rattle.exif_tiff.proofs.Members.{all_left, all_right}
-use Rattle.exif_images.proofs.Images.Places.{draft_spans}
+use Rattle.exif_images.proofs.Images.Places.{draft_spans, even_low}
 use Rattle.exif_images.proofs.Images.Whole.{known_slots, not_refused, length-image, parts_stand}
 use Rattle.exif_images.proofs.Images.Families.{draft_stands, each_read, nodes_give}
 use Rattle.exif_images.proofs.Images.Fitting.{slots_fit}
@@ -66,9 +66,6 @@ pub record Leaves (nodes : List Node) (fields : List Field) (faults : List Fault
   pub seen : fields_of nodes ≡ fields
   pub failed : faults_of nodes ≡ faults
 
-even_le : (n : ℕ) → n ≤ even n
-even_le n = omega arith
-
 module _ (order : Order) (bytes : List ℕ) (small : length bytes < 256 ^ 4) where
   -- where the parts of accepted groups stand, 32 bits hold the place of the first directory
   pub next_low : (start : ℕ) (groups : List Group) → AllByRecursion IsAccepted groups → AllStand bytes (parts_from order start (map draft_of groups)) → next_place start (map draft_of groups) < 256 ^ 4
@@ -87,7 +84,7 @@ module _ (order : Order) (bytes : List ℕ) (small : length bytes < 256 ^ 4) whe
   chain_leaves [] zero ifd start some h ranged clean stands = record { seen = refl; failed = refl }
   chain_leaves [] (suc count) ifd start some h ranged clean stands = record { seen = refl; failed = refl }
   chain_leaves (group ∷ groups) zero ifd start some h ranged clean stands =
-      let low = even_le start in
+      let low = even_low start in
       rw (chain_over (number_of order) bytes ifd (even start) (omega arith)) (record { seen = refl; failed = refl })
   chain_leaves (group ∷ groups) (suc count) ifd start some h ranged clean stands =
       let next : ℕ = next_place (draft_end (draft_of group) start) (map draft_of groups) in
@@ -98,7 +95,7 @@ module _ (order : Order) (bytes : List ℕ) (small : length bytes < 256 ^ 4) whe
       let low : next < 256 ^ 4 = next_low (draft_end (draft_of group) start) groups h.1 there in
       let read = each_read order bytes small (draft_of group) start next low group_stand h.0.few fit Tiff h.0.some in
       let one = nodes_give order bytes small (draft_of group) start next low group_stand h.0.few fit 3 ifd Tiff h.0.some in
-      let up = even_le start in
+      let up = even_low start in
       let on = draft_end_le order group start h.0 in
       let more = chain_leaves groups count (suc ifd) (draft_end (draft_of group) start) (omega arith) h.1 ranged.1 clean.1 there in
       rw (chain_step (number_of order) bytes count ifd (even start) next (omega arith) read.end) (record {

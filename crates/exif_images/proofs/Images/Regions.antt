@@ -9,6 +9,7 @@ use Rattle.exif_tiff.proofs.ApartLists.{AreApart, IsApart, all_weaker, apart_tur
 use Rattle.exif_images.specs.Places.{after_value, after_values, directory_len, directory_place, even, exif_place, gps_place, interop_place, strips_place, values_place, tiff_values, exif_values, gps_values, interop_values}
 use Rattle.exif_images.specs.Slots.{Draft, Slot, content_len}
 use Rattle.exif_images.proofs.Images.Looked.{outside_of, value_stretches}
+use Rattle.exif_images.proofs.Images.Room.{values_low}
 
 -- a stretch between two places
 abbrev pub Lies : ℕ → ℕ → Stretch → Type 0
@@ -23,18 +24,6 @@ record Next (values len next : ℕ) (fits : Bool) : Type 0 where
 
 next_is : (values len : ℕ) → Next values len (after_value values len) (nat_le len 4)
 next_is values len = record { inside = λ e. rw e refl; outside = λ e. rw e refl }
-
-up_next : (values len next end : ℕ) (fits : Bool) → Next values len next fits → next ≤ end → values ≤ end
-up_next values len next end true n h = let same = n.inside refl in omega arith
-up_next values len next end false n h = let same = n.outside refl in omega arith
-
--- values end no lower than where they begin
-pub after_values_up : (values : ℕ) (slots : List Slot) → values ≤ after_values values slots
-after_values_up values [] = omega arith
-after_values_up values (slot ∷ slots) =
-    let len : ℕ = content_len slot.content in
-    up_next values len (after_value values len) (after_values (after_value values len) slots) (nat_le len 4) (next_is values len)
-    (after_values_up (after_value values len) slots)
 
 lie_next : (values len next end : ℕ) (fits : Bool) (rest : List Stretch) → Next values len next fits → next ≤ end
     → AllByRecursion (Lies next end) rest → AllByRecursion (Lies values end) (outside_of fits (even values) len ++ rest)
@@ -51,7 +40,7 @@ values_lie values [] = tt
 values_lie values (slot ∷ slots) =
     let len : ℕ = content_len slot.content in
     let next : ℕ = after_value values len in
-    lie_next values len next (after_values next slots) (nat_le len 4) (value_stretches next slots) (next_is values len) (after_values_up next slots)
+    lie_next values len next (after_values next slots) (nat_le len 4) (value_stretches next slots) (next_is values len) (values_low next slots)
     (values_lie next slots)
 
 apart_next : (values len next end : ℕ) (fits : Bool) (rest : List Stretch) → Next values len next fits → AreApart rest
@@ -79,9 +68,11 @@ pub data IsChild : Context → Context → Type 0 where
 -- ---- the regions of a draft
 
 module _ (draft : Draft) (start : ℕ) where
+  -- where the directory of a context ends
   unfoldable pub directory_to : Context → ℕ
   directory_to c = directory_place draft start c + directory_len (draft.slots c)
 
+  -- where the values of a context's directory end
   unfoldable pub values_to : Context → ℕ
   values_to c = after_values (values_place draft start c) (draft.slots c)
 
@@ -130,10 +121,10 @@ module _ (draft : Draft) (start : ℕ) where
     exif_down = omega arith;
     gps_down = omega arith;
     interop_down = omega arith;
-    tiff_up = after_values_up _ (draft.slots Tiff);
-    exif_up = after_values_up _ (draft.slots Exif);
-    gps_up = after_values_up _ (draft.slots Gps);
-    interop_up = after_values_up _ (draft.slots Interop);
+    tiff_up = values_low _ (draft.slots Tiff);
+    exif_up = values_low _ (draft.slots Exif);
+    gps_up = values_low _ (draft.slots Gps);
+    interop_up = values_low _ (draft.slots Interop);
   }
 
   -- regions of two contexts, of which the first of each stand in front of the second
@@ -217,7 +208,7 @@ module _ (draft : Draft) (start : ℕ) where
 
   up : (c : Context) → values_place draft start c ≤ values_to c
   unfolding values_to
-  up c = after_values_up (values_place draft start c) (draft.slots c)
+  up c = values_low (values_place draft start c) (draft.slots c)
 
   of_lies : (c : Context) (t : Stretch) → Of c t → Lies (directory_place draft start Tiff) (strips_place draft start) t
   unfolding Of

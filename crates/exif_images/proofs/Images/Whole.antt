@@ -2,8 +2,8 @@
 use Rattle.std.proofs.Common.{◌∙◌}
 use Rattle.exif_images.proofs.Moved.{same_moved}
 use Rattle.std.proofs.Common.{◌≡◌, ℕ, ◌+◌, ◌<◌, ◌≤◌, List, [], ◌∷◌, length, refl, subst, arith, Bool, true, false, map, Option, Some, None}
-use Rattle.std.specs.Prelude.{if◌then◌else◌, ◌==◌, nat_lt, ◌||◌, slice_index}
-use Rattle.std.proofs.lemmas.Bool.{eqb-false, ltb-false}
+use Rattle.std.specs.Prelude.{if◌then◌else◌, ◌==◌, nat_lt, slice_index}
+use Rattle.std.proofs.lemmas.Bool.{eqb-false, ltb-false, or_parts}
 use Rattle.std.specs.List.{AllByRecursion, list_any}
 use Rattle.exif_base.specs.declared.endian.Order.{Order}
 use Rattle.exif_base.specs.declared.endian.Order.TheVariants.{Big, Little}
@@ -25,15 +25,10 @@ use Rattle.exif_images.proofs.Images.Standing.{spans_append, laid_stand, laid_ze
 use Rattle.exif_images.proofs.Images.Places.{draft_spans}
 use Rattle.exif_images.proofs.Images.Slots.{all_slots}
 
--- two tests joined by or say no only where each of them says no
-pub or_false : (a b : Bool) → (a || b) ≡ false → (a ≡ false) × (b ≡ false)
-or_false true b h = absurd cc
-or_false false b h = (refl, h)
-
 none_passes : {X : Type 0} (test : X → Bool) (xs : List X) → list_any test xs ≡ false → AllByRecursion (λ x. test x ≡ false) xs
 none_passes test [] h = tt
 none_passes test (x ∷ xs) h =
-    let both = or_false (test x) (list_any test xs) h in
+    let both = or_parts (test x) (list_any test xs) h in
     (both.0, none_passes test xs both.1)
 
 otherwise : (b : Bool) (cause : WriteFault) (rest : Option WriteFault) → (if b then Some cause else rest) ≡ None → (b ≡ false) × (rest ≡ None)

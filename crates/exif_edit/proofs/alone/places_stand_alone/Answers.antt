@@ -1,6 +1,6 @@
 use Rattle.std.proofs.Common.{sym, ◌∙◌}
+use Rattle.std.proofs.lemmas.Bool.{not-true}
 use Rattle.exif_edit.proofs.AloneSound.{places_parts}
-use Rattle.exif_edit.proofs.Unshared.{unturned}
 use Rattle.exif_edit.proofs.alone.places_stand_alone.Goals as goal
 
 pub returns : goal.returns
@@ -9,4 +9,4 @@ returns c h =
     places_parts c.args.bytes.now c.args.order c.args.patches.now c.args.walk.now
     c.requires.header c.requires.found c.requires.erased
     (sym c.changes.ensures ∙ c.if-changes.false)
-    (sym any ∙ unturned c.changes_kept.result h)
+    (sym any ∙ not-true c.changes_kept.result h)
