@@ -1,5 +1,5 @@
 -- What was read and told is the answer.
-use Rattle.std.proofs.Common.{ℕ, Bool, List, [], Option, Some, Result, inl}
+use Rattle.std.proofs.Common.{ℕ, Bool, List, [], Some, Result, inl}
 use Rattle.std.specs.Prelude.{unwrap_or}
 use Rattle.exif_types.specs.Contents.{ExifContents}
 use Rattle.exif_types.specs.Failures.{Failure}

@@ -1,5 +1,5 @@
 -- What the calls of the library for C do.
-use Rattle.std.specs.Prelude.{◌≡◌, ◌≢◌, ◌⊎◌, ◌==◌, ℕ, Bool, List, [], Option, Some, None, Result, Ok, Err, if◌then◌else◌, unwrap_or}
+use Rattle.std.specs.Prelude.{◌≡◌, ◌≢◌, ◌⊎◌, ◌==◌, ℕ, Bool, List, [], Some, Result, Ok, Err, if◌then◌else◌, unwrap_or}
 use Rattle.exif_types.specs.Contents.{ExifContents}
 use Rattle.exif_types.specs.Failures.{Failure}
 use Rattle.exif_types.specs.declared.tag.Tag.{Tag}

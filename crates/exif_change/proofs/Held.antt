@@ -1,9 +1,9 @@
 -- What a file holds, as strict reading tells it.
-use Rattle.std.proofs.Common.{◌≡◌, ℕ, false, List, [], Result, Ok, Err, Option, Some, None, MatchOption, inl, inr, refl, sym, subst, ap, ◌∙◌}
+use Rattle.std.proofs.Common.{◌≡◌, ℕ, false, List, [], Result, Ok, Err, Option, Some, None, inl, inr, refl, sym, subst, ap, ◌∙◌}
 use Rattle.std.specs.Borrow.{Bor}
 use Rattle.exif_types.specs.Contents.{ExifContents}
 use Rattle.exif_types.specs.Failures.{Failure}
-use Rattle.exif_types.specs.Refusals.{IsInterrupted, Refusal, not_found, refusal_of, ◌>>=◌}
+use Rattle.exif_types.specs.Refusals.{Refusal, not_found, ◌>>=◌}
 use Rattle.exif_types.specs.declared.error.Error.TheVariants as error
 use Rattle.exif_tiff.specs.Answers.{raw_answer}
 use Rattle.exif_tiff.specs.Faults.{refusal}

@@ -1,5 +1,5 @@
 -- Newly written Exif data, and the file that they are put into.
-use Rattle.std.proofs.Common.{◌≡◌, length, arith, ◌∙◌, ℕ, Bool, true, false, List, [], ◌∷◌, ◌++◌, map, Option, Some, None, Result, Ok, Err, OnOk, IfOk, refl, sym, subst, ap}
+use Rattle.std.proofs.Common.{◌≡◌, length, arith, ◌∙◌, ℕ, Bool, List, [], ◌∷◌, ◌++◌, map, Some, Result, Ok, Err, OnOk, IfOk, refl, sym, subst, ap}
 use Rattle.std.specs.List.{All}
 use Rattle.exif_base.specs.declared.endian.Order.{Order}
 use Rattle.exif_types.specs.declared.field.Field.{Field}

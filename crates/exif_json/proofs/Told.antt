@@ -9,7 +9,7 @@ use Rattle.std.specs.List.{All, flat_map}
 use Rattle.std.specs.Str.{is_utf8}
 use Rattle.std.specs.Str.Parse.{digits_value}
 use Rattle.json.specs.Json as J
-use Rattle.json.specs.Json.{Json, Items}
+use Rattle.json.specs.Json.{Json}
 use Rattle.exif_text.specs.Plain.{bits_text, zero_filled}
 use Rattle.exif_text.specs.Quoted.{hex_byte}
 use Rattle.exif_text.specs.declared.rational.Rational as R

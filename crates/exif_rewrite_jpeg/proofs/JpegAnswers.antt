@@ -13,11 +13,11 @@ use Rattle.exif_containers.proofs.LawsJpeg.{first_unit-print, tree-of_unit}
 use Rattle.exif_rewrite_base.specs.declared.remove.Remove.{Remove}
 use Rattle.exif_rewrite_base.specs.declared.remove.Remove.TheVariants.{Exif, Metadata}
 use Rattle.exif_rewrite_jpeg.specs.Rewriting.{Rewriting, finished, refused_by, after, ends}
-use Rattle.exif_rewrite_base.specs.Removing.{too_large, behind}
-use Rattle.exif_rewrite_jpeg.specs.RewrittenJpeg.{outside, passes, stays, exif_segment, placed, still, rewriting, stream_rewriting}
+use Rattle.exif_rewrite_base.specs.Removing.{behind}
+use Rattle.exif_rewrite_jpeg.specs.RewrittenJpeg.{outside, passes, stays, exif_segment, placed, still, rewriting}
 use Rattle.exif_rewrite_jpeg.specs.JpegLaws.{IsAnswered}
 use Rattle.exif_rewrite_jpeg.specs.JpegSteps.{unit_rewriting}
-use Rattle.exif_rewrite_jpeg.proofs.JpegLaws.{rewriting_unit, bare, bare_unit, text_of, text_bare, Fits, high, low, size_is, segment_tree, segment_unit, form, large, never_cut, outside_others, refusal_in, stays_in, fits_where}
+use Rattle.exif_rewrite_jpeg.proofs.JpegLaws.{rewriting_unit, bare, bare_unit, text_of, text_bare, Fits, high, low, size_is, segment_tree, segment_unit, form, large, never_cut, outside_others, refusal_in, stays_in, fits_where, given}
 
 abbrev answer_with : ℕ → List ℕ → List ℕ → Answer
 answer_with code body ys = unwrap_or (unit_answer (record { code = code; body = body; rest = ys })) (answer_from ys)
@@ -189,9 +189,6 @@ stream_found : (remove : Remove) (s t : Bool) (payload bytes : List ℕ) → Fit
 stream_found remove true true payload bytes fits e = found_within (suc (length bytes)) remove payload (exif_segment payload) false bytes fits refl (omega arith) e
 stream_found remove true false payload bytes fits e = absurd (cc)
 stream_found remove false t payload bytes fits e = absurd (cc)
-
-abbrev given : Remove → List ℕ → Bool → List ℕ → Rewriting
-given remove payload b bytes = cond b (ends (refused_by too_large) []) (stream_rewriting remove (exif_segment payload) bytes)
 
 given_found : (remove : Remove) (payload bytes : List ℕ) (b : Bool) → (b ≡ false → Fits payload) → (given remove payload b bytes).end ≡ finished
     → (rest : List ℕ) × (jpeg_answer (given remove payload b bytes).out ≡ found payload rest)

@@ -18,6 +18,7 @@ use Rattle.exif_rewrite_jpeg.specs.JpegLaws.{IsStable}
 use Rattle.exif_rewrite_jpeg.specs.JpegSteps.{unit_rewriting}
 use Rattle.exif_rewrite_jpeg.proofs.PassingSteps.{outside_none}
 use Rattle.exif_rewrite_jpeg.proofs.JpegSteps.{carry, at_unit, none_ends}
+use Rattle.exif_rewrite_base.proofs.RemovingLemmas.{behind_again}
 
 -- a unit at the front
 pub rewriting_unit : (remove : Remove) (new : List ℕ) (d : Bool) (u : UnitTree) (rest : List ℕ) → IsUnit u
@@ -130,17 +131,13 @@ scan_stays remove d code content e = by (eqb code 218) refl
     by true is =
         let k : true ≡ false = sym (stay remove) ∙ ap (λ c. stays remove d c content) (sym (eqb-true code 218 is)) ∙ e in absurd (cc)
 
-tail_again : (remove : Remove) (rest : List ℕ) → behind remove (behind remove rest) ≡ behind remove rest
-tail_again Exif rest = refl
-tail_again Metadata rest = refl
-
 form_again : (remove : Remove) (new : List ℕ) (d d' : Bool) (o : Option Refusal) (t k : Bool) (m rest : List ℕ) (r : Rewriting)
     → (k ≡ false → d' ≡ d)
     → ((ys : List ℕ) → rewriting remove new d (m ++ ys) ≡ form o t k m (behind remove ys) (rewriting remove new d' ys))
     → (r.end ≡ finished → rewriting remove new d' r.out ≡ r)
     → (form o t k m (behind remove rest) r).end ≡ finished → rewriting remove new d (form o t k m (behind remove rest) r).out ≡ form o t k m (behind remove rest) r
 form_again remove new d d' (Some x) t k m rest r same step ih e = absurd (cc)
-form_again remove new d d' None true k m rest r same step ih e = step (behind remove rest) ∙ ap (λ l. ends finished (m ++ l)) (tail_again remove rest)
+form_again remove new d d' None true k m rest r same step ih e = step (behind remove rest) ∙ ap (λ l. ends finished (m ++ l)) (behind_again remove rest)
 form_again remove new d d' None false true m rest r same step ih e = step r.out ∙ ap (after m) (ih e)
 form_again remove new d d' None false false m rest r same step ih e = ap (λ b. rewriting remove new b r.out) (sym (same refl)) ∙ ih e
 
@@ -236,7 +233,8 @@ stream_again remove new [] ok e = absurd (cc)
 stream_again remove new (a ∷ []) ok e = absurd (cc)
 stream_again remove new (a ∷ b ∷ bytes) ok e = begun_again remove new (eqb a 255) (eqb b 216) bytes ok e
 
-abbrev given : Remove → List ℕ → Bool → List ℕ → Rewriting
+-- a stream written again with new data, or its refusal where they are too large
+abbrev pub given : Remove → List ℕ → Bool → List ℕ → Rewriting
 given remove payload b bytes = cond b (ends (refused_by too_large) []) (stream_rewriting remove (exif_segment payload) bytes)
 
 given_again : (remove : Remove) (payload bytes : List ℕ) (b : Bool) → (b ≡ false → Fits payload) → (given remove payload b bytes).end ≡ finished

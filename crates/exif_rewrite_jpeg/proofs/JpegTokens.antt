@@ -11,13 +11,13 @@ use Rattle.exif_containers.proofs.LawsJpeg.{first_unit-print, tree-of_unit}
 use Rattle.exif_rewrite_base.specs.declared.remove.Remove.{Remove}
 use Rattle.exif_rewrite_base.specs.declared.remove.Remove.TheVariants.{Metadata}
 use Rattle.exif_rewrite_jpeg.specs.Rewriting.{Rewriting, finished, refused_by, after, ends}
-use Rattle.exif_rewrite_base.specs.Removing.{too_large, behind}
+use Rattle.exif_rewrite_base.specs.Removing.{behind}
 use Rattle.exif_rewrite_jpeg.specs.RewrittenJpeg.{before_mark, marks, outside, passes, exif_segment, placed, still, rewriting, stream_rewriting, jpeg_rewriting}
 use Rattle.exif_rewrite_jpeg.specs.JpegSteps.{unit_rewriting}
 use Rattle.exif_rewrite_jpeg.specs.JpegTokens.{Token, byte, unit, token_text, tokens_first, tokens_within, tokens, trailer_first, trailer_within, trailer, image, new_tokens, unit_stays, rewritten_tokens, IsFilter, IsFiltered, AreBare, HasOnlyBare}
 use Rattle.exif_rewrite_jpeg.proofs.PassingSteps.{before_mark_others}
 use Rattle.exif_rewrite_jpeg.proofs.JpegSteps.{marks_fill}
-use Rattle.exif_rewrite_jpeg.proofs.JpegLaws.{rewriting_unit, bare, bare_unit, text_of, text_bare, Fits, segment_tree, segment_unit, form, refusal_in, stays_in, never_cut, outside_others, scan_stays, or_false, fits_where}
+use Rattle.exif_rewrite_jpeg.proofs.JpegLaws.{rewriting_unit, bare, bare_unit, text_of, text_bare, Fits, segment_tree, segment_unit, form, refusal_in, stays_in, never_cut, outside_others, scan_stays, or_false, fits_where, given}
 
 -- ---- the first token
 
@@ -255,9 +255,6 @@ stream_filtered : (remove : Remove) (new : List ℕ) (ts : List Token) (bytes : 
 stream_filtered remove new ts [] ok e = absurd (cc)
 stream_filtered remove new ts (a ∷ []) ok e = absurd (cc)
 stream_filtered remove new ts (a ∷ b ∷ bytes) ok e = begun_filtered remove new ts (eqb a 255) (eqb b 216) a b bytes ok e
-
-abbrev given : Remove → List ℕ → Bool → List ℕ → Rewriting
-given remove payload b bytes = cond b (ends (refused_by too_large) []) (stream_rewriting remove (exif_segment payload) bytes)
 
 given_filtered : (remove : Remove) (payload bytes : List ℕ) (b : Bool) → (b ≡ false → Fits payload) → (given remove payload b bytes).end ≡ finished
     → IsFilter remove (new_tokens (Some payload)) bytes (given remove payload b bytes).out

@@ -1,5 +1,5 @@
 -- The steps over the chunks of a WebP file.
-use Rattle.std.proofs.Common.{◌≡◌, ◌≢◌, ℕ, zero, suc, ◌+◌, ◌-◌, ◌<◌, ◌≤◌, Bool, true, false, cond, eqb, ltb, List, [], ◌∷◌, ◌++◌, length, map, take, drop, get_or, Option, None, Some, IfSome, MatchOption, IfOk, Result, Ok, Err, ap, sym, ◌∙◌, refl, arith, append_assoc, append-nil, length-append, codes}
+use Rattle.std.proofs.Common.{◌≡◌, ◌≢◌, ℕ, zero, suc, ◌+◌, ◌-◌, ◌<◌, ◌≤◌, Bool, true, false, cond, eqb, ltb, List, [], ◌∷◌, ◌++◌, length, map, take, drop, get_or, Option, None, Some, IfSome, MatchOption, Result, Ok, Err, ap, sym, ◌∙◌, refl, arith, append_assoc, append-nil, length-append, codes}
 use Rattle.std.specs.List.{flat_map, filter, Contains}
 use Rattle.std.specs.Int.{to_le_bytes, w32}
 use Rattle.std.specs.Io.KnownBytes.{Appends, Keeps}

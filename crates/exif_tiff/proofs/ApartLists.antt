@@ -1,11 +1,11 @@
 -- Stretches that stand apart: lists of them, joined, and what lies between two places.
-use Rattle.std.proofs.Common.{◌≡◌, ◌≤◌, ◌+◌, ◌⊎◌, inl, inr, ⊎_elim, ℕ, Bool, true, false, List, [], ◌∷◌, ◌++◌, refl, arith}
-use Rattle.std.specs.Prelude.{◌&&◌, nat_lt, not}
+use Rattle.std.proofs.Common.{◌≡◌, ◌≤◌, ◌+◌, ◌⊎◌, inl, inr, Bool, true, false, List, [], ◌∷◌, ◌++◌, refl, arith}
+use Rattle.std.specs.Prelude.{◌&&◌, nat_lt}
 use Rattle.std.specs.List.{AllByRecursion, list_any}
 use Rattle.std.proofs.lemmas.Bool.Decides.{nat_tests}
 use Rattle.exif_tiff.specs.Apart.{are_apart, overlap}
 use Rattle.exif_tiff.specs.Footprint.{Stretch}
-use Rattle.exif_tiff.proofs.Members.{all_left, all_right, all_append}
+use Rattle.exif_tiff.proofs.Members.{all_append}
 
 -- one ends before the other begins
 abbrev pub IsApart : Stretch → Stretch → Type 0

@@ -1,5 +1,5 @@
 -- A front of data that meets no fault holds what all of them hold.
-use Rattle.std.proofs.Common.{◌≡◌, ◌≤◌, ◌<◌, ◌+◌, ◌-◌, ◌*◌, ◌/◌, ◌^◌, ◌==◌, ℕ, zero, suc, Bool, true, false, if◌then◌else◌, List, [], ◌∷◌, ◌++◌, length, take, drop, Option, Some, None, Result, Ok, Err, refl, sym, ap, subst, ◌∙◌, arith}
+use Rattle.std.proofs.Common.{◌≡◌, ◌≤◌, ◌<◌, ◌+◌, ◌-◌, ◌*◌, ◌/◌, ◌^◌, ◌==◌, ℕ, zero, suc, Bool, true, false, if◌then◌else◌, List, [], ◌∷◌, ◌++◌, length, take, drop, Option, Some, None, Result, Ok, Err, refl, sym, ap, ◌∙◌, arith}
 use Rattle.std.proofs.lemmas.Bool.Decides.{nat_tests}
 use Rattle.std.proofs.lemmas.List.{take-append-le, drop-append-le, length-append, length-drop}
 use Rattle.std.specs.Prelude.{nat_le, nat_lt}
@@ -16,7 +16,7 @@ use Rattle.exif_table.specs.declared.context.Context.{Context}
 use Rattle.exif_table.specs.declared.context.Context.TheVariants.{Tiff}
 use Rattle.exif_tiff.specs.declared.fault.Fault.{Fault}
 use Rattle.exif_tiff.specs.declared.fault.Fault.TheVariants.{DataTooLarge, TruncatedHeader, TooManyEntries, TruncatedValue}
-use Rattle.exif_tiff.specs.Answers.{Answer, Refused, Whole, answer_of, raw_answer, shown}
+use Rattle.exif_tiff.specs.Answers.{Answer, Refused, Whole, answer_of, raw_answer}
 use Rattle.exif_tiff.specs.Fronts.{FrontHasHeader, FrontSaysAll, TooLargeIsRefused}
 use Rattle.exif_tiff.specs.Trace.{Content, Node, Opens, Visit, Found, Met, Directory, chain_after, chain_nodes, child_end, child_of, content_of, cut, depth_of, directory_end, directory_nodes, entry_nodes, entry_places, entry_value, faults_of, header, limited, order_of, ordered_trace, pointer_nodes, tagged_nodes, valued_nodes, whole_entries, opened}
 use Rattle.exif_tiff.proofs.Agreement.{Same, decode_alike, number_same, same_of}

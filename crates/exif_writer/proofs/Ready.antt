@@ -1,7 +1,8 @@
 -- The plans of groups that are written can be sent, and their image is what is sent.
-use Rattle.std.proofs.Common.{◌≡◌, ℕ, suc, ◌+◌, ◌≤◌, List, [], ◌∷◌, length, map, refl, sym, ap, subst, ◌∙◌, arith, Option, Some, None}
+use Rattle.std.proofs.Common.{◌≡◌, ℕ, ◌+◌, ◌≤◌, List, [], ◌∷◌, length, map, refl, sym, ap, subst, ◌∙◌, arith, Option, Some, None}
 use Rattle.std.specs.Bool.{⊤}
 use Rattle.std.specs.List.{AllByRecursion}
+use Rattle.std.proofs.lemmas.List.{length-map}
 use Rattle.std.proofs.Math.Nat.{le_trans}
 use denote.Ref.{Bor}
 use Rattle.exif_base.specs.declared.endian.Order.{Order}
@@ -13,7 +14,7 @@ use Rattle.exif_images.specs.Image.{image}
 use Rattle.exif_images.specs.Places.{after_value, after_values, draft_end, drafts_end, next_place, values_place}
 use Rattle.exif_images.specs.Refused.{write_fault}
 use Rattle.exif_images.specs.Slots as format
-use Rattle.exif_images.specs.Slots.{Draft, draft_of, slots_of, block_list, block_slots, set_slots, known, content_len}
+use Rattle.exif_images.specs.Slots.{draft_of, slots_of, block_list, set_slots, known, content_len}
 use Rattle.exif_images.proofs.Images.Room.{blocks_len, blocks_within, values_within, values_room, drafts_low}
 use Rattle.exif_images.proofs.Images.Shares.{always}
 use Rattle.exif_images.proofs.Images.Slots.{all_slots}
@@ -71,10 +72,6 @@ ends_same values (slot ∷ slots) =
 pub ends_at : (place : ℕ) {end : ℕ} {lent items : List Slot} {symbols : List format.Slot} → lent ≡ items → map symbol items ≡ symbols → end ≡ values_end place lent
     → end ≡ after_values place symbols
 ends_at place {lent = lent} l s e = e ∙ ends_same place lent ∙ ap (after_values place) (ap (map symbol) l ∙ s)
-
-symbols_length : (slots : List Slot) → length (map symbol slots) ≡ length slots
-symbols_length [] = refl
-symbols_length (slot ∷ slots) = ap (λ n. suc n) (symbols_length slots)
 
 known_content : (content : Content) → IsKnown (symbol_of content) → IsKnownContent content
 known_content (Known value) k = sym (same_moved value 0).unknown ∙ k
@@ -140,7 +137,7 @@ module _ (group : Group) (start next : ℕ) (plan : Plan) (is : IsPlan (draft_of
       let can = can_settle group start h room context slots values e v in
       let A : List format.Slot → Type 0 = AllByRecursion (λ slot. Holds group slot.content) in
       let few = h.few context in
-      let count : length slots ≡ length (slots_of group context) = sym (symbols_length slots) ∙ ap length e in
+      let count : length slots ≡ length (slots_of group context) = sym (length-map slots symbol) ∙ ap length e in
       record {
         few = omega arith;
         ready = ready_slots slots (subst A (sym e) (held group context)) can.measurable;

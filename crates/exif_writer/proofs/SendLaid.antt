@@ -1,7 +1,7 @@
 -- What is sent of a plan is what its parts lay down.
-use Rattle.std.proofs.Common.{◌≡◌, ℕ, suc, ◌+◌, ◌-◌, ◌*◌, ◌%◌, ◌<◌, List, [], ◌∷◌, ◌++◌, length, map, replicate, refl, sym, ap, subst, ◌∙◌, arith, append_assoc, Bool, true, false, inl, inr}
+use Rattle.std.proofs.Common.{◌≡◌, ℕ, ◌+◌, ◌-◌, ◌*◌, ◌%◌, ◌<◌, List, [], ◌∷◌, ◌++◌, length, map, replicate, refl, sym, ap, subst, ◌∙◌, arith, append_assoc, Bool, true, false, inl, inr}
 use Rattle.std.specs.Prelude.{if◌then◌else◌, nat_le}
-use Rattle.std.proofs.lemmas.List.{append-nil}
+use Rattle.std.proofs.lemmas.List.{append-nil, length-map}
 use denote.Ref.{Bor}
 use Rattle.std.specs.List.{AllByRecursion, flat_map}
 use Rattle.exif_images.specs.Slots as format
@@ -159,17 +159,13 @@ values_are order draft start places h at values (slot ∷ slots) k s =
     value_laid order draft start places h at values slot slots k.0 s.0 (values_are order draft start places h (at + 12) (after_slot values slot) slots k.1 s.1)
     (nat_le (content_size slot.content) 4) refl
 
-symbols_length : (slots : List Slot) → length (map symbol slots) ≡ length slots
-symbols_length [] = refl
-symbols_length (slot ∷ slots) = ap suc (symbols_length slots)
-
 -- a directory, behind zeros where it needs them
 pub directory_is : (order : Order) (draft : Draft) (start : ℕ) (places : Places) → ArePlaces draft start places → (from place at values next : ℕ) (slots : List Slot) → AreSettled values slots
     → 0 < length slots → laid from (directory_part order place next (written draft start at values (map symbol slots))) ≡ replicate (place - from) 0 ++ slots_text order places next slots
 directory_is order draft start places h from place at values next [] s some = absurd (omega arith)
 directory_is order draft start places h from place at values next (slot ∷ slots) s some =
     let count : length (written draft start at values (map symbol (slot ∷ slots))) ≡ length (slot ∷ slots) =
-    length-written draft start at values (map symbol (slot ∷ slots)) ∙ symbols_length (slot ∷ slots) in
+    length-written draft start at values (map symbol (slot ∷ slots)) ∙ length-map (slot ∷ slots) symbol in
     ap (λ r. replicate (place - from) 0 ++ r) (append-nil _)
     ∙ (λ i. replicate (place - from) 0 ++ (spelled order 2 (count i) ++ ((sym (entries_are order draft start places h at values (slot ∷ slots) s)) i ++ spelled order 4 next)))
 
@@ -226,7 +222,7 @@ module _ (order : Order) (draft : Draft) (start next : ℕ) (plan : Plan) (whole
       let at : ℕ = tiff_place draft start + 2 in
       let from : ℕ = tiff_values draft start in
       let P : ℕ → Type 0 = λ n. AreSettled n plan.tiff.items in
-      let more : 0 < length plan.tiff.items = (let a = ap length is.tiff in let b = symbols_length plan.tiff.items in omega arith) in
+      let more : 0 < length plan.tiff.items = (let a = ap length is.tiff in let b = length-map plan.tiff.items symbol in omega arith) in
       let gap : even start - start ≡ start % 2 = omega arith in
       (λ i. laid start (directory_part order (tiff_place draft start) next (written draft start at from ((sym is.tiff) i))))
       ∙ directory_is order draft start plan.places are start (tiff_place draft start) at from next plan.tiff.items (subst P (λ i. ((is.places) i).tiff_values) whole.tiff) more

@@ -1,5 +1,5 @@
 -- What a plan's entries say once the places are settled.
-use Rattle.std.specs.Prelude.{ℕ, ◌≡◌, ◌+◌, ◌-◌, ◌*◌, ◌≤◌, ◌++◌, nat_le, ◌%◌, ◌==◌, false, if◌then◌else◌, List, [], ◌∷◌, length, map, replicate, ⊤}
+use Rattle.std.specs.Prelude.{ℕ, ◌≡◌, ◌+◌, ◌-◌, ◌≤◌, ◌++◌, nat_le, ◌%◌, ◌==◌, false, if◌then◌else◌, List, [], ◌∷◌, length, replicate, ⊤}
 use denote.Ref.{Bor}
 use Rattle.std.specs.List.{flat_map}
 use Rattle.exif_images.specs.Slots as format
@@ -16,12 +16,8 @@ use Rattle.exif_table.specs.declared.context.Context.TheVariants.{Tiff, Exif, Gp
 use Rattle.exif_images.specs.declared.block_kind.BlockKind.{BlockKind}
 use Rattle.exif_images.specs.declared.block_kind.BlockKind.TheVariants.{Strips, Tiles, Jpeg}
 use Rattle.exif_images.specs.Encoding.{spelled, encode, moved_to}
-use Rattle.exif_types.specs.ValueTypes.{type_number, count_of}
-use Rattle.exif_types.specs.FieldTypes.{unit}
 use Rattle.exif_base.specs.declared.endian.Order.{Order}
 use Rattle.exif_images.specs.Places.{places_from, even, after_value}
-use Rattle.exif_images.specs.Refused.{is_unknown}
-use Rattle.exif_images.specs.Views.{blocks_of}
 
 -- how long all of the borrowed blocks are
 abbrev pub sum_of : List (Bor (List ℕ)) → ℕ
