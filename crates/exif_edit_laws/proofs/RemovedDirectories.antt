@@ -148,7 +148,6 @@ module _ (order : Order) (a : List ℕ) (tag : Tag) (k : In) (ps ds : List ℕ)
       (entry_places number a p) e l in
       value_stays order a tag.1 ps ds apart known e p m f.0
       (not-true (has ps p && has_tag number a tag.1 e) f.1))
-    where
 
   -- a directory from which nothing is taken keeps all its entries, and ends as before or better
   pub lacks_none : (p : ℕ) → has ds p ≡ true → has ps p ≡ false → AreLacking p
