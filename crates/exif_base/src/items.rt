@@ -111,7 +111,8 @@ impl<T: Drop> IntoIterator for Items<T> {
     ghost use Rattle.std.specs.declared.alloc.Global.{Global as Heap};
 
     ghost into_iter_gives = { λ a it. (into_iter_items it ≡ a)
-        × EveryRun (into_iter_steps {X = T} {Z = Heap}) (λ p. ItemsAre p (into_iter_items p.from)) };
+        × EveryRun (into_iter_steps {X = T} {Z = Heap})
+            (λ p. ItemsAre p (into_iter_items p.from)) };
 
     fn into_iter(self) -> vec::IntoIter<T> {
         self.items.into_iter()
