@@ -7,11 +7,11 @@ use Rattle.std.proofs.lemmas.List.{length-replicate}
 use Rattle.exif_base.specs.Bytes.{Reading, number_at}
 use Rattle.exif_base.specs.Orders.{number_of, order_named}
 use Rattle.exif_base.specs.declared.endian.Order.{Order}
-use Rattle.exif_types.specs.FieldTypes.{type_of, known_length}
+use Rattle.exif_text.specs.FieldTypes.{type_of, known_length}
 use Rattle.exif_types.specs.Sound.{HasPlainTexts}
 use Rattle.exif_types.specs.ValueTypes.{count_of}
 use Rattle.exif_types.specs.declared.tag.Tag.{Tag}
-use Rattle.exif_types.specs.declared.ifd.In.{In}
+use Rattle.exif_text.specs.declared.ifd.In.{In}
 use Rattle.exif_types.specs.declared.value.Value.{Value}
 use Rattle.exif_tiff.specs.Footprint.{Stretch, looked_at}
 use Rattle.exif_tiff.specs.Trace.{header}

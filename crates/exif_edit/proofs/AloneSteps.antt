@@ -6,7 +6,7 @@ use Rattle.std.proofs.lemmas.Bool.Decides.{nat_tests}
 use Rattle.std.proofs.lemmas.List.Elements.{All-head, All-tail, All-nil, All-cons}
 use Rattle.std.proofs.lemmas.List.Folds.{list_any-append}
 use Rattle.exif_base.specs.Bytes.{Reading, number_at, spaced}
-use Rattle.exif_types.specs.FieldTypes.{type_of, known_length}
+use Rattle.exif_text.specs.FieldTypes.{type_of, known_length}
 use Rattle.exif_tiff.specs.Footprint.{Stretch, value_stretch}
 use Rattle.exif_reader.proofs.ParserRuns.{spaced_step}
 use Rattle.exif_edit_base.specs.Patches.{FitsIn}

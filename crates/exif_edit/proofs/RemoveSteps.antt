@@ -12,7 +12,7 @@ use Rattle.exif_base.specs.declared.endian.Order.{Order}
 use Rattle.exif_types.specs.Lookup.{is_named}
 use Rattle.exif_types.specs.declared.field.Field.{Field}
 use Rattle.exif_types.specs.declared.tag.Tag.{Tag}
-use Rattle.exif_types.specs.declared.ifd.In.{In}
+use Rattle.exif_text.specs.declared.ifd.In.{In}
 use Rattle.exif_tiff.specs.Trace.{directory_end, whole_entries}
 use Rattle.exif_tiff.specs.declared.fault.Fault.{Fault}
 use Rattle.exif_images.specs.Encoding.{spelled}

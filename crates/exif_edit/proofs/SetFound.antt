@@ -8,7 +8,7 @@ use Rattle.exif_types.specs.FieldEq.{tag_Decides, ifd_Decides}
 use Rattle.exif_types.specs.Lookup.{is_named, last_named, tag_eq}
 use Rattle.exif_types.specs.declared.field.Field.{Field}
 use Rattle.exif_types.specs.declared.tag.Tag.{Tag}
-use Rattle.exif_types.specs.declared.ifd.In.{In}
+use Rattle.exif_text.specs.declared.ifd.In.{In}
 use Rattle.exif_types.specs.declared.value.Value.{Value}
 use Rattle.exif_tiff.specs.Answers.{answer_of, shown}
 use Rattle.exif_tiff.specs.Trace.{fields_of, faults_of, trace}

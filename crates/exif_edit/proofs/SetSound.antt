@@ -10,7 +10,7 @@ use Rattle.exif_base.specs.declared.endian.Order.{Order}
 use Rattle.exif_base.specs.declared.endian.Order.TheVariants.{Big, Little}
 use Rattle.exif_types.specs.ValueTypes.{count_of, type_number}
 use Rattle.exif_types.specs.declared.tag.Tag.{Tag}
-use Rattle.exif_types.specs.declared.ifd.In.{In}
+use Rattle.exif_text.specs.declared.ifd.In.{In}
 use Rattle.exif_types.specs.declared.value.Value.{Value}
 use Rattle.exif_tiff.specs.Trace.{fields_of, trace}
 use Rattle.exif_images.specs.Encoding.{encode, moved_to, spelled}

@@ -6,10 +6,10 @@ use Rattle.exif_base.specs.Bytes.{Reading, bytes_at, number_at}
 use Rattle.exif_base.specs.Orders.{number_of}
 use Rattle.exif_base.specs.declared.endian.Order.{Order}
 use Rattle.exif_tiff.specs.Decode.{decode, decode_as}
-use Rattle.exif_types.specs.FieldTypes.{known_length, type_of}
+use Rattle.exif_text.specs.FieldTypes.{known_length, type_of}
 use Rattle.exif_types.specs.declared.field.Field.{Field}
-use Rattle.exif_types.specs.declared.field_type.FieldType.{FieldType}
-use Rattle.exif_types.specs.declared.field_type.FieldType.TheVariants as field_type
+use Rattle.exif_text.specs.declared.field_type.FieldType.{FieldType}
+use Rattle.exif_text.specs.declared.field_type.FieldType.TheVariants as field_type
 use Rattle.exif_types.specs.declared.value.Value.{Value}
 use Rattle.exif_types.specs.declared.value.Value.TheVariants as value
 use Rattle.exif_tiff.specs.Trace.{Found, Met, Node, Opens, Visit, header, entry_value, located_of, ordered_trace, trace}

@@ -9,7 +9,7 @@ use Rattle.exif_base.specs.declared.endian.Order.{Order}
 use Rattle.exif_types.specs.FieldEq.{field_eq}
 use Rattle.exif_types.specs.Lookup.{is_named}
 use Rattle.exif_types.specs.declared.tag.Tag.{Tag}
-use Rattle.exif_types.specs.declared.ifd.In.{In}
+use Rattle.exif_text.specs.declared.ifd.In.{In}
 use Rattle.exif_types.specs.declared.value.Value.{Value}
 use Rattle.exif_types.specs.declared.value.Value.TheVariants.{Undefined, Unknown}
 use Rattle.exif_types.specs.declared.field.Field.{Field}

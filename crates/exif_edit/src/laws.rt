@@ -1,7 +1,7 @@
 //! Laws of edits. They hold for all bytes, and speak of the definitions alone.
 
 ghost use Rattle.std.specs.Prelude.{ℕ, List};
-ghost use Rattle.exif_types.specs.declared.ifd.In.{In as Ifd};
+ghost use Rattle.exif_text.specs.declared.ifd.In.{In as Ifd};
 ghost use Rattle.exif_types.specs.declared.tag.Tag.{Tag as Name};
 ghost use Rattle.exif_types.specs.declared.value.Value.{Value as Content};
 ghost use Rattle.exif_edit.specs.PlacesAlone.{AreErasedUnshared};

@@ -11,7 +11,7 @@ use Rattle.exif_base.specs.declared.endian.Order.TheVariants.{Big, Little}
 use Rattle.exif_types.specs.Lookup.{is_named}
 use Rattle.exif_types.specs.declared.value.Value.{Value}
 use Rattle.exif_types.specs.declared.tag.Tag.{Tag}
-use Rattle.exif_types.specs.declared.ifd.In.{In}
+use Rattle.exif_text.specs.declared.ifd.In.{In}
 use Rattle.exif_types.specs.declared.field.Field.{Field}
 use Rattle.exif_tiff.specs.Trace.{Node, entry_of, header, ordered_trace, trace, fields_of, faults_of, located_of}
 use Rattle.exif_tiff.specs.declared.place.EntryPlace.{EntryPlace}

@@ -5,7 +5,7 @@ use Rattle.std.specs.Prelude.{◌&&◌, ◌||◌, nat_le, nat_lt}
 use Rattle.std.specs.List.{AllByRecursion, flat_map, list_any}
 use Rattle.std.proofs.lemmas.Bool.Decides.{nat_tests}
 use Rattle.exif_base.specs.Bytes.{Reading, number_at, spaced}
-use Rattle.exif_types.specs.FieldTypes.{type_of, known_length}
+use Rattle.exif_text.specs.FieldTypes.{type_of, known_length}
 use Rattle.exif_tiff.specs.Apart.{are_apart}
 use Rattle.exif_tiff.specs.Footprint.{Stretch, chain_directories, looked_at, ordered_footprint, value_stretch}
 use Rattle.exif_tiff.specs.Trace.{entry_places, whole_entries}

@@ -8,7 +8,7 @@ use Rattle.std.proofs.lemmas.Bool.Decides.{nat_tests}
 use Rattle.exif_base.specs.Bytes.{Reading, number_at}
 use Rattle.exif_base.specs.Orders.{number_of}
 use Rattle.exif_base.specs.declared.endian.Order.{Order}
-use Rattle.exif_types.specs.FieldTypes.{type_of, known_length}
+use Rattle.exif_text.specs.FieldTypes.{type_of, known_length}
 use Rattle.exif_tiff.specs.Footprint.{Agree, Stretch, directory_stretch, looked_at, value_stretch}
 use Rattle.exif_tiff.specs.Trace.{entry_places, whole_entries}
 use Rattle.exif_tiff.proofs.Agreement.{bytes_same}

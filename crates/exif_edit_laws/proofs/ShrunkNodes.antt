@@ -13,7 +13,7 @@ use Rattle.exif_base.specs.declared.endian.Order.{Order}
 use Rattle.exif_types.specs.Lookup.{is_named}
 use Rattle.exif_types.specs.Numbers.{number_in}
 use Rattle.exif_types.specs.declared.field.Field.{Field}
-use Rattle.exif_types.specs.declared.ifd.In.{In}
+use Rattle.exif_text.specs.declared.ifd.In.{In}
 use Rattle.exif_types.specs.declared.tag.Tag.{Tag}
 use Rattle.exif_types.specs.declared.value.Value.{Value}
 use Rattle.exif_table.specs.declared.context.Context.{Context}

@@ -16,11 +16,11 @@ use Rattle.exif_tiff.specs.Footprint.{Agree, value_stretch}
 use Rattle.exif_tiff.specs.Rationals.{rational_at, srational_at}
 use Rattle.exif_tiff.specs.Trace.{entry_value}
 use Rattle.exif_tiff.proofs.Agreement.{Same, decode_same, number_same, same_of}
-use Rattle.exif_types.specs.FieldTypes.{known_length, type_of, unit_length}
+use Rattle.exif_text.specs.FieldTypes.{known_length, type_of, unit_length}
 use Rattle.exif_types.specs.Numbers.{number_in}
 use Rattle.exif_types.specs.Texts.{texts}
-use Rattle.exif_types.specs.declared.field_type.FieldType.{FieldType}
-use Rattle.exif_types.specs.declared.field_type.FieldType.TheVariants as field_type
+use Rattle.exif_text.specs.declared.field_type.FieldType.{FieldType}
+use Rattle.exif_text.specs.declared.field_type.FieldType.TheVariants as field_type
 use Rattle.exif_types.specs.declared.value.Value.{Value}
 use Rattle.exif_types.specs.declared.value.Value.TheVariants as value
 use Rattle.exif_edit.specs.Removing.{told_in}

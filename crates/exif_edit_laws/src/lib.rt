@@ -5,7 +5,7 @@
 
 ghost use Rattle.std.specs.Prelude.{◌≡◌, ℕ, List, None};
 ghost use Rattle.exif_base.specs.declared.endian.Order.{Order as Endian};
-ghost use Rattle.exif_types.specs.declared.ifd.In.{In as Ifd};
+ghost use Rattle.exif_text.specs.declared.ifd.In.{In as Ifd};
 ghost use Rattle.exif_types.specs.declared.tag.Tag.{Tag as Name};
 ghost use Rattle.exif_types.specs.declared.value.Value.{Value as Content};
 ghost use Rattle.exif_images.specs.Groups.{Group};

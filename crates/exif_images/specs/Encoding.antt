@@ -5,7 +5,7 @@ use Rattle.std.specs.Int.{w8, w16, w32, cast_unsigned}
 use Rattle.byteorder.specs.Endian.{big_bytes, little_bytes}
 use Rattle.exif_base.specs.declared.endian.Order.{Order}
 use Rattle.exif_base.specs.declared.endian.Order.TheVariants.{Big, Little}
-use Rattle.exif_types.specs.FieldTypes.{unit}
+use Rattle.exif_text.specs.FieldTypes.{unit}
 use Rattle.exif_types.specs.Texts.{ended}
 use Rattle.exif_types.specs.ValueTypes.{type_number, count_of}
 use Rattle.exif_types.specs.declared.value.Value.{Value}

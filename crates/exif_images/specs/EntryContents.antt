@@ -8,7 +8,7 @@ use Rattle.exif_images.specs.declared.content.Content.TheVariants.{Known, OneSho
 use Rattle.exif_types.specs.declared.value.Value.TheVariants.{Short, Long}
 use Rattle.exif_images.specs.Encoding.{moved_to}
 use Rattle.exif_types.specs.ValueTypes.{type_number, count_of}
-use Rattle.exif_types.specs.FieldTypes.{unit}
+use Rattle.exif_text.specs.FieldTypes.{unit}
 use Rattle.exif_images.specs.Refused.{is_unknown}
 use Rattle.exif_images.specs.Views.{blocks_of}
 

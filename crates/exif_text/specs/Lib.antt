@@ -4,6 +4,8 @@ pub mod Dates
 pub mod Decimal
 pub mod Digits
 pub mod Faults
+pub mod FieldTypes
+pub mod IfdTexts
 pub mod Pad
 pub mod Plain
 pub mod Quoted

@@ -9,11 +9,11 @@ use Rattle.exif_base.specs.Orders.{number_of}
 use Rattle.exif_base.specs.declared.endian.Order.{Order}
 use Rattle.exif_base.specs.declared.endian.Order.TheVariants.{Big, Little}
 use Rattle.exif_tiff.specs.Decode.{decode, decode_as}
-use Rattle.exif_types.specs.FieldTypes.{known_length, type_of, unit_length}
+use Rattle.exif_text.specs.FieldTypes.{known_length, type_of, unit_length}
 use Rattle.exif_tiff.specs.Rationals.{rational_at, srational_at}
 use Rattle.exif_types.specs.Texts.{texts}
-use Rattle.exif_types.specs.declared.field_type.FieldType.{FieldType}
-use Rattle.exif_types.specs.declared.field_type.FieldType.TheVariants as field_type
+use Rattle.exif_text.specs.declared.field_type.FieldType.{FieldType}
+use Rattle.exif_text.specs.declared.field_type.FieldType.TheVariants as field_type
 use Rattle.exif_types.specs.declared.value.Value.{Value}
 use Rattle.exif_types.specs.declared.value.Value.TheVariants as value
 

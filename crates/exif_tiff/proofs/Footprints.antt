@@ -7,7 +7,7 @@ use Rattle.exif_base.specs.Bytes.{Reading, number_at, spaced}
 use Rattle.exif_base.specs.Orders.{number_of}
 use Rattle.exif_base.specs.declared.endian.Order.{Order}
 use Rattle.exif_tiff.specs.Decode.{decode}
-use Rattle.exif_types.specs.FieldTypes.{known_length, type_of}
+use Rattle.exif_text.specs.FieldTypes.{known_length, type_of}
 use Rattle.exif_types.specs.Numbers.{number_in}
 use Rattle.exif_types.specs.declared.value.Value.{Value}
 use Rattle.exif_table.specs.declared.context.Context.{Context}

@@ -5,15 +5,15 @@ use Rattle.std.proofs.lemmas.List.Elements.{All-nil, All-cons, All-head, All-tai
 use Rattle.std.specs.List.{flat_map, All, slice_split, onto_first}
 use Rattle.std.specs.Prelude.{if◌then◌else◌, ⊤, nat_le}
 use Rattle.exif_base.specs.Bytes.{Reading, number_at, bytes_at}
-use Rattle.exif_types.specs.FieldTypes.{type_of, known_length}
+use Rattle.exif_text.specs.FieldTypes.{type_of, known_length}
 use Rattle.exif_types.specs.Texts.{without_empty_last}
 use Rattle.exif_tiff.specs.Decode.{decode, decode_as}
 use Rattle.exif_types.specs.Numbers.{number_in}
 use Rattle.exif_types.specs.Sound.{HasPlainTexts, IsRead}
 use Rattle.exif_types.specs.declared.value.Value.{Value}
 use Rattle.exif_types.specs.declared.value.Value.TheVariants as value
-use Rattle.exif_types.specs.declared.field_type.FieldType.{FieldType}
-use Rattle.exif_types.specs.declared.field_type.FieldType.TheVariants as field_type
+use Rattle.exif_text.specs.declared.field_type.FieldType.{FieldType}
+use Rattle.exif_text.specs.declared.field_type.FieldType.TheVariants as field_type
 use Rattle.exif_tiff.specs.declared.fault.Fault.{Fault}
 use Rattle.exif_tiff.specs.declared.fault.Fault.TheVariants.{UnexpectedNext, TooManyDirectories}
 use Rattle.exif_table.specs.declared.context.Context.{Context}

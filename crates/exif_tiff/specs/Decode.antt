@@ -2,13 +2,13 @@
 use Rattle.std.specs.Prelude.{ℕ, List, slice_index, Some, None}
 use Rattle.std.specs.Int.{w8, w16, w32, cast_signed}
 use Rattle.exif_base.specs.Bytes.{Reading, number_at, bytes_at, items_at}
-use Rattle.exif_types.specs.FieldTypes.{type_of}
+use Rattle.exif_text.specs.FieldTypes.{type_of}
 use Rattle.exif_types.specs.Texts.{texts}
 use Rattle.exif_tiff.specs.Rationals.{rational_at, srational_at}
 use Rattle.exif_types.specs.declared.value.Value.{Value}
 use Rattle.exif_types.specs.declared.value.Value.TheVariants as value
-use Rattle.exif_types.specs.declared.field_type.FieldType.{FieldType}
-use Rattle.exif_types.specs.declared.field_type.FieldType.TheVariants as field_type
+use Rattle.exif_text.specs.declared.field_type.FieldType.{FieldType}
+use Rattle.exif_text.specs.declared.field_type.FieldType.TheVariants as field_type
 
 -- the value of a type, with count items from a place on
 abbrev pub decode_as : Reading → FieldType → ℕ → List ℕ → ℕ → Value

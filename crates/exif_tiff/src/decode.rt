@@ -5,7 +5,7 @@ ghost use Rattle.std.specs.List.{slice_split};
 ghost use Rattle.std.specs.Int.{w8, w16, w32, cast_signed};
 ghost use Rattle.exif_base.specs.Bytes.{Reading, number_at, items_at};
 ghost use Rattle.exif_tiff.specs.Rationals.{rational_at, srational_at};
-ghost use Rattle.exif_types.specs.FieldTypes.{unit_length};
+ghost use Rattle.exif_text.specs.FieldTypes.{unit_length};
 ghost use Rattle.exif_types.specs.Texts.{texts};
 ghost use Rattle.exif_tiff.specs.Decode.{decode_as};
 

@@ -5,8 +5,6 @@ pub mod Distilling
 pub mod ErrorFalls
 pub mod Failures
 pub mod FieldEq
-pub mod FieldTypes
-pub mod IfdTexts
 pub mod Located
 pub mod Lookup
 pub mod Numbers

@@ -1,16 +1,15 @@
-//! What holds of equality, order and hashing of tags and of directories, of look-ups, and of
-//! unsigned numbers by index.
+//! What holds of equality, order and hashing of tags, of look-ups, and of unsigned numbers by index.
 
 ghost use Rattle.std.specs.Prelude.{◌≡◌, ◌↔◌, IsTrue, IfSome, IfNone, slice_get};
 ghost use Rattle.std.specs.List.{fold};
 ghost use Rattle.std.specs.Option.{option_and_then, option_copied};
-ghost use Rattle.std.specs.Ordering.{nat_cmp};
 ghost use Rattle.std.specs.declared.cmp.Ordering.TheVariants.{Equal};
 ghost use Rattle.exif_types.specs.Lookup.{IsLastNamed, NoneNamed};
 ghost use Rattle.exif_types.specs.TagOrder.{tag_order};
 
 use crate::{Exif, Field, Fields, In, Tag, UIntIter, Value};
 pub use exif_table::laws::contexts_agree;
+pub use exif_text::laws::directories_agree;
 use std::cmp::Ordering;
 use std::hash::{Hash, Hasher};
 
@@ -23,22 +22,6 @@ pub fn tags_agree<H: Hasher>(a: Tag, b: Tag, first: &mut H, second: &mut H) -> (
     ensures ranked { result.1 ≡ tag_order a b }
     ensures first { first.new ≡ fold H.write first.old (⟦<Tag as Hash>⟧.hash_input a) }
     ensures second { second.new ≡ fold H.write second.old (⟦<Tag as Hash>⟧.hash_input b) }
-    ensures hash { a ≡ b → first.old ≡ second.old → first.new ≡ second.new }
-{
-    a.hash(first);
-    b.hash(second);
-    (a == b, a.cmp(&b))
-}
-
-/// Directories are equal where `==` says so and where their order says so, and equal ones hash
-/// alike. Their order is that of their numbers.
-pub fn directories_agree<H: Hasher>(a: In, b: In, first: &mut H, second: &mut H) -> (bool, Ordering)
-    ensures equality { IsTrue result.0 ↔ (a ≡ b) }
-    ensures order { (result.1 ≡ Equal) ↔ (a ≡ b) }
-    ensures compared { result.1 ≡ ⟦<In as Ord>⟧.cmp a b }
-    ensures ranked { result.1 ≡ nat_cmp a.0 b.0 }
-    ensures first { first.new ≡ fold H.write first.old (⟦<In as Hash>⟧.hash_input a) }
-    ensures second { second.new ≡ fold H.write second.old (⟦<In as Hash>⟧.hash_input b) }
     ensures hash { a ≡ b → first.old ≡ second.old → first.new ≡ second.new }
 {
     a.hash(first);

@@ -31,7 +31,7 @@ use Rattle.exif_images.specs.Encoding.{spelled, encode, value_len}
 use Rattle.exif_types.specs.ValueTypes.{type_number, count_of}
 use Rattle.exif_types.specs.declared.value.Value.{Value}
 use Rattle.exif_types.specs.declared.value.Value.TheVariants.{Long}
-use Rattle.exif_types.specs.FieldTypes.{unit}
+use Rattle.exif_text.specs.FieldTypes.{unit}
 use Rattle.exif_images.specs.Slots.{Draft, content_len, draft_of}
 use Rattle.exif_images.specs.Image.{laid, block_parts, value_parts, directory_part, entry_text, draft_parts, parts_from, header_text, image}
 use Rattle.exif_images.specs.Places.{written, even, after_value, value_of, blocks_place, directory_place, places_from, entries_of, tiff_place, exif_place, gps_place, interop_place, tiff_values, exif_values, gps_values, interop_values, strips_place, tiles_place, jpeg_place, draft_end, next_place}

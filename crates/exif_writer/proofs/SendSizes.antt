@@ -16,11 +16,11 @@ use Rattle.std.proofs.lemmas.Bool.{le-leb, lt-leb}
 use Rattle.exif_base.specs.declared.endian.Order.{Order}
 use Rattle.exif_images.specs.Encoding.{spelled, encode}
 use Rattle.exif_types.specs.ValueTypes.{type_number, field_type_of}
-use Rattle.exif_types.specs.declared.field_type.FieldType.{FieldType}
-use Rattle.exif_types.specs.declared.field_type.FieldType.TheVariants as field_type
+use Rattle.exif_text.specs.declared.field_type.FieldType.{FieldType}
+use Rattle.exif_text.specs.declared.field_type.FieldType.TheVariants as field_type
 use Rattle.exif_types.specs.declared.value.Value.{Value}
 use Rattle.exif_types.specs.declared.value.Value.TheVariants.{Byte, Ascii, Short, Long, Rational, SByte, Undefined, SShort, SLong, SRational, Float, Double, Unknown}
-use Rattle.exif_types.specs.FieldTypes.{unit, unit_length}
+use Rattle.exif_text.specs.FieldTypes.{unit, unit_length}
 use Rattle.exif_images.specs.Places.{even}
 
 -- a known type and its unit

@@ -6,7 +6,7 @@ use Rattle.std.proofs.lemmas.Bool.{le-leb, leb-true, leb-false, lt-ltb, le-ltb}
 use Rattle.exif_base.specs.declared.endian.Order.{Order}
 use Rattle.exif_base.specs.Bytes.{number_at, spaced}
 use Rattle.exif_base.specs.Orders.{number_of}
-use Rattle.exif_types.specs.FieldTypes.{type_of, known_length}
+use Rattle.exif_text.specs.FieldTypes.{type_of, known_length}
 use Rattle.exif_table.specs.declared.context.Context.{Context}
 use Rattle.exif_tiff.specs.Footprint.{Below, Stretch, entry_directories, pointed, value_stretch}
 use Rattle.exif_tiff.specs.Trace.{child_of}

@@ -1,6 +1,6 @@
 use Rattle.std.proofs.Common.{◌≡◌, ◌∙◌, ℕ, ◌*◌, ◌<◌, ◌^◌, Some, sym, subst}
 use Rattle.std.specs.Prelude.{SomeIff}
-use Rattle.exif_types.specs.FieldTypes.{unit}
+use Rattle.exif_text.specs.FieldTypes.{unit}
 use Rattle.exif_types.specs.ValueTypes.{count_of, field_type_of, type_number}
 use Rattle.exif_images.specs.Encoding.{value_len}
 use Rattle.exif_writer.proofs.SendSizes.{known_unit}

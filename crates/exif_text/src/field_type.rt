@@ -1,7 +1,7 @@
 //! The types that values have in TIFF data (TIFF 6.0, section 2, "Types").
 
 ghost use Rattle.std.specs.Prelude.{◌≡◌, ◌≤◌, Some};
-ghost use Rattle.exif_types.specs.FieldTypes.{type_of, number_of, unit_length};
+ghost use Rattle.exif_text.specs.FieldTypes.{type_of, number_of, unit_length};
 
 /// A type of values whose items have a fixed length.
 #[derive(Clone, Copy, Debug, PartialEq, Eq)]

@@ -1,7 +1,7 @@
 -- The types of values (TIFF 6.0, section 2, "Types").
 use Rattle.std.specs.Prelude.{ℕ, ◌==◌, if◌then◌else◌, Option, Some, None}
-use Rattle.exif_types.specs.declared.field_type.FieldType.{FieldType}
-use Rattle.exif_types.specs.declared.field_type.FieldType.TheVariants as field_type
+use Rattle.exif_text.specs.declared.field_type.FieldType.{FieldType}
+use Rattle.exif_text.specs.declared.field_type.FieldType.TheVariants as field_type
 
 -- the type that a number names
 abbrev pub type_of : ℕ → Option FieldType

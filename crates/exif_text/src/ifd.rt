@@ -5,8 +5,8 @@ ghost use Rattle.std.specs.Fmt.{decimal, spec_align, spec_width};
 ghost use Rattle.std.specs.declared.fmt.Alignment.TheVariants.{Left};
 ghost use Rattle.exif_text.specs.Pad.{pad};
 
+use crate::pad::write_padded;
 use arrayvec::ArrayString;
-use exif_text::pad::write_padded;
 use itoa::Buffer;
 use std::fmt;
 
@@ -41,7 +41,7 @@ impl In {
 }
 
 impl fmt::Display for In {
-    ghost use Rattle.exif_types.specs.IfdTexts.{ifd_text};
+    ghost use Rattle.exif_text.specs.IfdTexts.{ifd_text};
 
     ghost output = { λ ifd. Some (ifd_text ifd.0) };
 

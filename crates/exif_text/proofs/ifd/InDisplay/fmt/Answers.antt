@@ -1,5 +1,5 @@
 use Rattle.std.proofs.Common.{rules}
-use Rattle.exif_types.proofs.ifd.InDisplay.fmt.Goals as goal
+use Rattle.exif_text.proofs.ifd.InDisplay.fmt.Goals as goal
 
 pub returns-in-1-clause-writes : goal.returns-in-1-clause-writes
 returns-in-1-clause-writes g c = search rules
