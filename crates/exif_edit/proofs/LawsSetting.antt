@@ -8,8 +8,8 @@ use Rattle.std.proofs.lemmas.List.{ext_get_or}
 use Rattle.std.proofs.lemmas.List.Elements.{All-nil, All-cons, All-head, All-tail}
 use Rattle.exif_base.specs.Orders.{number_of, order_named}
 use Rattle.exif_base.specs.declared.endian.Order.{Order}
-use Rattle.exif_types.specs.declared.tag.Tag.{Tag}
 use Rattle.exif_text.specs.declared.ifd.In.{In}
+use Rattle.exif_types.specs.declared.tag.Tag.{Tag}
 use Rattle.exif_types.specs.declared.value.Value.{Value}
 use Rattle.exif_tiff.specs.Trace.{header}
 use Rattle.exif_tiff.specs.declared.fault.Fault.{Fault}

@@ -4,9 +4,9 @@ use Rattle.std.specs.Prelude.{nat_lt, ◌^◌, ◌-◌}
 use Rattle.std.proofs.lemmas.Bool.Decides.{nat_tests}
 use Rattle.exif_base.specs.Orders.{number_of, order_named}
 use Rattle.exif_base.specs.declared.endian.Order.{Order}
+use Rattle.exif_text.specs.declared.ifd.In.{In}
 use Rattle.exif_types.specs.ValueTypes.{count_of}
 use Rattle.exif_types.specs.declared.tag.Tag.{Tag}
-use Rattle.exif_text.specs.declared.ifd.In.{In}
 use Rattle.exif_types.specs.declared.value.Value.{Value}
 use Rattle.exif_types.specs.declared.field.Field.{Field}
 use Rattle.exif_images.specs.Encoding.{encode, moved_to}

@@ -4,10 +4,10 @@ use Rattle.std.specs.List.{filter, flat_map, list_any}
 use Rattle.exif_base.specs.Bytes.{Reading, number_at}
 use Rattle.exif_base.specs.Orders.{number_of}
 use Rattle.exif_base.specs.declared.endian.Order.{Order}
+use Rattle.exif_text.specs.declared.ifd.In.{In}
 use Rattle.exif_types.specs.Sound.{HasPlainTexts}
 use Rattle.exif_types.specs.ValueTypes.{count_of}
 use Rattle.exif_types.specs.declared.tag.Tag.{Tag}
-use Rattle.exif_text.specs.declared.ifd.In.{In}
 use Rattle.exif_types.specs.declared.value.Value.{Value}
 use Rattle.exif_tiff.specs.Footprint.{Stretch, chain_directories, value_stretch}
 use Rattle.exif_tiff.specs.Trace.{entry_places, header, whole_entries}

@@ -4,10 +4,10 @@ use Rattle.std.specs.List.{flat_map, list_any, AllByRecursion}
 use Rattle.exif_base.specs.Bytes.{Reading, number_at, spaced}
 use Rattle.exif_table.specs.declared.context.Context.{Context}
 use Rattle.exif_table.specs.declared.context.Context.TheVariants.{Tiff}
+use Rattle.exif_text.specs.declared.ifd.In.{In}
 use Rattle.exif_types.specs.Lookup.{is_named}
 use Rattle.exif_types.specs.Numbers.{number_in}
 use Rattle.exif_types.specs.declared.field.Field.{Field}
-use Rattle.exif_text.specs.declared.ifd.In.{In}
 use Rattle.exif_types.specs.declared.tag.Tag.{Tag}
 use Rattle.exif_types.specs.declared.value.Value.{Value}
 use Rattle.exif_tiff.specs.Trace.{Directory, Found, Located, Met, Node, Opens, Visit, chain_after, chain_nodes, child_end, child_of, depth_of, directory_end, directory_nodes, entry_nodes, entry_places, entry_value, located_of, ordered_trace, pointer_nodes, tagged_nodes, valued_nodes, whole_entries}

@@ -14,9 +14,9 @@ use Rattle.exif_base.specs.Orders.{number_of}
 use Rattle.exif_base.specs.declared.endian.Order.{Order}
 use Rattle.exif_table.specs.declared.context.Context.{Context}
 use Rattle.exif_table.specs.declared.context.Context.TheVariants.{Tiff, Exif, Gps, Interop}
+use Rattle.exif_text.specs.declared.ifd.In.{In}
 use Rattle.exif_types.specs.FieldEq.{context_Decides, field_Decides, field_eq, tag_Decides, ifd_Decides}
 use Rattle.exif_types.specs.Lookup.{context_eq, is_named, tag_eq}
-use Rattle.exif_text.specs.declared.ifd.In.{In}
 use Rattle.exif_types.specs.declared.tag.Tag.{Tag}
 use Rattle.exif_tiff.specs.declared.fault.Fault.{Fault}
 use Rattle.exif_tiff.specs.Apart.{looks_apart}

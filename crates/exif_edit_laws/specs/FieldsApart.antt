@@ -1,8 +1,8 @@
 -- Fields of a name, where reading looks at no byte of the data as two things.
 use Rattle.std.specs.Prelude.{◌≡◌, ℕ, true, false, List, [], ◌∷◌, Result, Ok, Err}
 use Rattle.exif_base.specs.declared.endian.Order.{Order}
-use Rattle.exif_types.specs.declared.tag.Tag.{Tag}
 use Rattle.exif_text.specs.declared.ifd.In.{In}
+use Rattle.exif_types.specs.declared.tag.Tag.{Tag}
 use Rattle.exif_tiff.specs.Apart.{looks_apart}
 use Rattle.exif_tiff.specs.Trace.{header}
 use Rattle.exif_tiff.specs.Visits.{AreBytes}

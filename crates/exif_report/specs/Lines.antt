@@ -1,7 +1,7 @@
 -- The lines of a report.
 use Rattle.std.specs.Prelude.{ℕ, List, ◌++◌, codes}
-use Rattle.exif_types.specs.TagTexts.{tag_text}
 use Rattle.exif_text.specs.IfdTexts.{ifd_text}
+use Rattle.exif_types.specs.TagTexts.{tag_text}
 use Rattle.exif_types.specs.Units.{unit_text}
 use Rattle.exif_types.specs.Failures.{Failure, told_text, bytes_of}
 use Rattle.exif_types.specs.declared.field.Field.{Field}

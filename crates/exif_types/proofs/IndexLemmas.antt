@@ -13,8 +13,8 @@ use Rattle.std.proofs.lemmas.Option.{slice_get_within, slice_get_past, slice_get
 use Rattle.exif_table.specs.declared.context.Context.{Context}
 use Rattle.exif_table.specs.declared.context.Context.TheVariants.{Tiff, Exif, Gps, Interop}
 use Rattle.exif_table.specs.Contexts.{context_rank}
-use Rattle.exif_types.specs.declared.tag.Tag.{Tag}
 use Rattle.exif_text.specs.declared.ifd.In.{In}
+use Rattle.exif_types.specs.declared.tag.Tag.{Tag}
 use Rattle.exif_types.specs.declared.field.Field.{Field}
 use Rattle.exif_types.specs.declared.index.FieldIndex.{FieldIndex}
 use Rattle.exif_types.specs.Lookup.{context_eq, is_named, last_named}

@@ -5,8 +5,8 @@ use Rattle.std.specs.Option.{option_copied}
 use Rattle.std.specs.Bool.{Decides}
 use Rattle.std.proofs.lemmas.Bool.{false≢true}
 use Rattle.std.proofs.lemmas.List.{reverse-append}
-use Rattle.exif_types.specs.declared.tag.Tag.{Tag}
 use Rattle.exif_text.specs.declared.ifd.In.{In}
+use Rattle.exif_types.specs.declared.tag.Tag.{Tag}
 use Rattle.exif_types.specs.declared.field.Field.{Field}
 use Rattle.exif_types.specs.Lookup.{HasName, IsLastNamed, NoneNamed, is_named, last_named, tag_eq}
 use Rattle.exif_types.specs.FieldEq.{ifd_Decides, tag_Decides}

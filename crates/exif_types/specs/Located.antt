@@ -2,8 +2,8 @@
 use Rattle.std.specs.Prelude.{ℕ, ◌+◌, ◌*◌, ◌-◌, ◌^◌, ◌<◌, ◌≤◌, List, [], ◌∷◌, length, All}
 use Rattle.std.specs.List.Sorted.{IsPermutation, IsNonDecreasing, IsPartitionPoint}
 use Rattle.exif_table.specs.Contexts.{context_rank}
-use Rattle.exif_types.specs.declared.tag.Tag.{Tag}
 use Rattle.exif_text.specs.declared.ifd.In.{In}
+use Rattle.exif_types.specs.declared.tag.Tag.{Tag}
 use Rattle.exif_types.specs.declared.field.Field.{Field}
 use Rattle.exif_types.specs.declared.index.FieldIndex.{FieldIndex}
 

@@ -1,9 +1,9 @@
 -- The type of a value and how many items it has (TIFF 6.0, section 2, "Types" and "Count").
 use Rattle.std.specs.Prelude.{ℕ, length, Option, Some, None}
 use Rattle.exif_text.specs.FieldTypes.{number_of}
-use Rattle.exif_types.specs.Texts.{ended_length}
 use Rattle.exif_text.specs.declared.field_type.FieldType.{FieldType}
 use Rattle.exif_text.specs.declared.field_type.FieldType.TheVariants as field_type
+use Rattle.exif_types.specs.Texts.{ended_length}
 use Rattle.exif_types.specs.declared.value.Value.{Value}
 use Rattle.exif_types.specs.declared.value.Value.TheVariants.{Byte, Ascii, Short, Long, Rational, SByte, Undefined, SShort, SLong, SRational, Float, Double, Unknown}
 

@@ -1,6 +1,7 @@
 //! Dates, their parts and their refusals.
 
-use exif_types::{DateTime, Error};
+use exif_datetime::DateTime;
+use exif_types::Error;
 use std::process::Abort;
 use std::test::Fail;
 
