@@ -1,4 +1,5 @@
-//! What holds of equality, order and hashing of tags, of look-ups, and of unsigned numbers by index.
+//! What holds of equality, order and hashing of tags, of look-ups, and of unsigned numbers by
+//! index.
 
 ghost use Rattle.std.specs.Prelude.{◌≡◌, ◌↔◌, IsTrue, IfSome, IfNone, slice_get};
 ghost use Rattle.std.specs.List.{fold};
