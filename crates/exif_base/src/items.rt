@@ -112,7 +112,7 @@ impl<T: Drop> IntoIterator for Items<T> {
 
     ghost into_iter_gives = { λ a it. (into_iter_items it ≡ a)
         × EveryRun (into_iter_steps {X = T} {Z = Heap})
-            (λ p. ItemsAre p (into_iter_items p.from)) };
+        (λ p. ItemsAre p (into_iter_items p.from)) };
 
     fn into_iter(self) -> vec::IntoIter<T> {
         self.items.into_iter()
