@@ -1,0 +1,160 @@
+"""What edits bend: the functions of a crate by the names that checks give them, found in the texts of its src/."""
+import os
+import re
+from dataclasses import dataclass
+
+FUNCTION = re.compile(r'( *)(?:pub(?:\([a-z]+\))? )?(?:const )?(?:extern "C" )?fn (\w+)')
+IMPL = re.compile(
+    r"impl(?:<.*?>)? (?:(?P<trait>[\w:]+)(?:<(?P<given>[\w:]+)(?:<\w+>)?>)? for )?"
+    r"(?P<borrowed>&(?:'\w+ )?)?(?P<type>[\w:]+)(?:<[\w', ]*>)?(?: \{|$)"
+)
+# The owner of a function whose name in a check is not clear from its text.
+UNCLEAR = "?"
+
+
+def read(path):
+    with open(path, encoding="utf-8") as it:
+        return it.read()
+
+
+@dataclass(frozen=True)
+class Body:
+    """A function's body by the name that checks give it: its module, its type and trait, its own name."""
+
+    module: str
+    owner: str
+    name: str
+
+    def path(self):
+        """Gives what a check is asked for: the whole module, where the owner is not clear."""
+        parts = [self.module] if self.owner == UNCLEAR else [self.module, self.owner, self.name]
+        return "::".join(it for it in parts if it)
+
+    def is_called(self, name):
+        front, _, last = name.rpartition("::")
+        if self.owner == UNCLEAR:
+            return last == self.name and front.startswith(f"{self.module}::")
+        return name == self.path()
+
+
+class Sources:
+    """The files of a crate's src/, which are in rt fmt's layout: a body ends with a brace as far in as its fn."""
+
+    def __init__(self, folder):
+        self.folder = folder
+        self.texts, self.types, self.calls, self.reached, self.told = {}, {}, {}, {}, set()
+        for at, _, files in os.walk(f"{self.folder}/src"):
+            for file in files:
+                path = os.path.relpath(f"{at}/{file}", self.folder)
+                self.texts[path] = read(f"{at}/{file}")
+        for path, text in self.texts.items():
+            for name in re.findall(r"(?m)^(?:pub(?:\(\w+\))? )?(?:struct|enum) (\w+)", text):
+                self.types[name] = module_of(path)
+            parts = re.split(r"\bfn (\w+)", text)
+            for name, body in zip(parts[1::2], parts[2::2]):
+                self.calls.setdefault(name, set()).update(re.findall(r"\b(\w+)\(", body))
+
+    def bodies(self):
+        """Gives the functions that have a body, as far as their names are clear from the texts."""
+        found = set()
+        for path, text in self.texts.items():
+            rows = text.split("\n")
+            for number, row in enumerate(rows):
+                head = FUNCTION.match(row)
+                is_whole = head and has_body(rows[number:])
+                body = self.body_of(path, rows[:number], len(head[1]), head[2]) if is_whole else None
+                found |= {body} if body and body.owner != UNCLEAR else set()
+        return found
+
+    def body_at(self, path, old, new):
+        """Gives the one body that the change of a text falls into, and where it stands."""
+        text = self.texts.get(path, "")
+        at, front = text.find(old), len(os.path.commonprefix([old, new]))
+        back = len(os.path.commonprefix([old[front:][::-1], new[front:][::-1]]))
+        first, last = at + front, at + len(old) - back
+        rows, start = [], 0
+        for row in text.split("\n"):
+            rows.append((start, row))
+            start += len(row) + 1
+        found = []
+        for number, (_, row) in enumerate(rows):
+            head = FUNCTION.match(row)
+            if at >= 0 and head and holds(rows[number:], len(head[1]), first, last):
+                end = holds(rows[number:], len(head[1]), first, last)
+                above = [it for _, it in rows[:number]]
+                body = self.body_of(path, above, len(head[1]), head[2])
+                found.append((body, Span(path, number + 1, number + end)))
+        return found[0] if len(found) == 1 else (None, None)
+
+    def body_of(self, path, above, depth, name):
+        """Gives the body of a function that stands so far in, below these rows."""
+        if depth == 0:
+            return Body(module_of(path), "", name)
+        head = next((row for row in reversed(above) if row and not row.startswith((" ", "}"))), "")
+        trait, impl = re.match(r"(?:pub )?trait (\w+)", head), IMPL.match(head)
+        if trait:
+            return Body(module_of(path), trait[1], name)
+        if depth != 4 or not head.startswith("impl"):
+            return None
+        if not impl:
+            return Body(module_of(path), UNCLEAR, name)
+        owner = impl["type"].split("::")[-1]
+        if not impl["trait"]:
+            return Body(self.types.get(owner, module_of(path)), owner, name)
+        given = "".join(it[:1].upper() + it[1:] for it in (impl["given"] or "").split("::"))
+        borrowed = "Ref" if impl["borrowed"] else ""
+        return Body(module_of(path), borrowed + owner + impl["trait"].split("::")[-1] + given, name)
+
+    def reaches(self, one, other):
+        """Tells whether a body may call another one, by the names in bodies or since a check said so, and not the
+        other way round too. It settles an order, and no answer."""
+        if (one, other) in self.told or (other, one) in self.told:
+            return (one, other) in self.told
+        return other.name in self.below(one.name) and one.name not in self.below(other.name)
+
+    def below(self, name):
+        if name not in self.reached:
+            seen, left = set(), [name]
+            while left:
+                more = {it for it in self.calls.get(left.pop(), ()) if it in self.calls} - seen
+                seen |= more
+                left += more
+            self.reached[name] = seen
+        return self.reached[name]
+
+
+def has_body(rows):
+    """Tells whether the function whose fn is in the first row has a body."""
+    end = next((it for it in rows if it.endswith((";", "{")) or it is rows[0] and it.endswith("}")), ";")
+    return not end.endswith(";")
+
+
+def module_of(path):
+    parts = path.removeprefix("src/").removesuffix(".rt").split("/")
+    return "::".join(parts[:-1] if parts[-1] in ("lib", "main", "mod") else parts)
+
+
+def holds(rows, depth, first, last):
+    """Gives in how many rows a function whose fn is in the first one holds a change in its body, 0 where it doesn't."""
+    opened = None
+    for count, (start, row) in enumerate(rows, 1):
+        if not row.strip() or len(row) - len(row.lstrip(" ")) != depth:
+            continue
+        inner = row.lstrip(" ")
+        if opened is None and count > 1 and not inner.startswith(("{", ")", "where")):
+            return 0
+        is_end = inner.startswith("}") if opened is not None else row.endswith("}")
+        if opened is None and row.endswith(("{", "}")):
+            opened = start + row.find("{")
+        if is_end:
+            return count if opened < first and last <= start + len(row) else 0
+    return 0
+
+
+@dataclass(frozen=True)
+class Span:
+    """The rows of a function in a file. An edit changes no number of rows."""
+
+    path: str
+    first: int
+    last: int
