@@ -1,16 +1,16 @@
 -- How the answer of a WebP file follows from its header and its first chunk.
-use Rattle.std.proofs.Common.{◌≡◌, ℕ, zero, suc, ◌-◌, ◌<◌, ◌≤◌, Bool, true, false, cond, eqb, ltb, ◌&&◌, List, ◌++◌, length, take, drop, codes, Option, None, Some, Result, Ok, Err, IfSome, ap, sym, ◌∙◌, refl, arith, length-drop, length-append}
+use Rattle.std.proofs.Common.{◌≡◌, ℕ, zero, suc, ◌-◌, ◌<◌, ◌≤◌, Bool, true, false, cond, eqb, ltb, ◌&&◌, List, ◌++◌, length, take, drop, codes, Option, None, Some, Result, Ok, Err, IfSome, MatchOption, ap, sym, ◌∙◌, refl, subst, arith, length-drop, length-append}
 use Rattle.std.specs.Cmp.Lexicographic.{pointwise}
 use Rattle.std.proofs.lemmas.Bool.Decides.{nat_tests}
-use Rattle.std.proofs.lemmas.Bool.{ltb-false}
-use Rattle.std.proofs.lemmas.List.{take-append-le, drop-append-le, drop_at}
+use Rattle.std.proofs.lemmas.Bool.{ltb-false, lt-ltb, le-ltb}
+use Rattle.std.proofs.lemmas.List.{take-append-le, drop-append-le, take_at, drop_at}
 use Rattle.std.specs.Io.KnownBytes.{Consumes}
 use Rattle.byteorder.specs.Endian.{little_number}
 use Rattle.byteorder.specs.Numbers.{little_from-append}
-use Rattle.exif_base.specs.Told.{WhereTold}
+use Rattle.exif_base.specs.Told.{WhereTold, Skips}
 use Rattle.exif_types.specs.Failures.{Failure}
-use Rattle.exif_types.specs.Refusals.{Refusal, Fails}
-use Rattle.exif_containers.specs.Answer.{Answer, found, refused, IsCollected}
+use Rattle.exif_types.specs.Refusals.{Refusal, refusal_of, IsInterrupted, Fails}
+use Rattle.exif_containers.specs.Answer.{Answer, found, refused, IsCollected, IsShort}
 use Rattle.exif_isobmff.proofs.Refusing.{fails_along}
 use Rattle.exif_containers.specs.WebpSteps.{IsPayload}
 use Rattle.exif_containers.specs.Webp.{Chunk, exif, other, broken_webp, not_webp, invalid_file_size, overflowing, no_exif_in_webp, padded, exif_chunk, other_chunk, chunk_body, chunk_at, follow, answer_within, body_answer, begins_webp, sized_answer, webp_answer}
@@ -180,3 +180,88 @@ pub webp_used_up : (a b : Option (List ℕ)) (room : ℕ) → room ≡ 0 → Whe
 webp_used_up None b room z h = tt
 webp_used_up (Some xs) None room z h = absurd h
 webp_used_up (Some xs) (Some ys) room z h = h ∙ ap (λ t. body_answer t ys) z
+
+-- ---- what follows the header of a chunk
+
+-- a chunk that fits, by its name
+abbrev by_name : Bool → ℕ → ℕ → List ℕ → Result Chunk Refusal
+by_name t size room xs = cond t (exif_chunk size xs) (other_chunk (padded size room) room xs)
+
+fits : (t : Bool) (name : List ℕ) (size room : ℕ) (xs : List ℕ) → size ≤ room → t ≡ pointwise eqb name (codes "EXIF")
+    → chunk_body name size room xs ≡ by_name t size room xs
+fits t name size room xs h e =
+    ap (λ s. cond s (Err overflowing) (by_name (pointwise eqb name (codes "EXIF")) size room xs)) (le-ltb room size h)
+    ∙ ap (λ s. by_name s size room xs) (sym e)
+
+-- a chunk that does not fit is refused
+pub chunk_over : (a : Option (List ℕ)) (name : List ℕ) (size room : ℕ) → room < size
+    → IfSome a (λ xs. chunk_body name size room xs ≡ Err overflowing)
+chunk_over None name size room h = tt
+chunk_over (Some xs) name size room h =
+    ap (λ s. cond s (Err overflowing) (by_name (pointwise eqb name (codes "EXIF")) size room xs)) (lt-ltb room size h)
+
+exif_whole : (v ys : List ℕ) (size : ℕ) → length v ≡ size → exif_chunk size (v ++ ys) ≡ Ok (exif v ys)
+exif_whole v ys size l =
+    ap (λ t. cond t (Err broken_webp) (Ok (exif (take size (v ++ ys)) (drop size (v ++ ys)))))
+    (le-ltb (length (v ++ ys)) size (omega (arith, length-append v ys)))
+    ∙ ap (λ t. Ok (exif t (drop size (v ++ ys)))) (take_at v ys size l) ∙ ap (λ t. Ok (exif v t)) (drop_at v ys size l)
+
+-- a payload of Exif data that was collected
+pub chunk_exif : (a b : Option (List ℕ)) (name v : List ℕ) (size room : ℕ) → size ≤ room
+    → true ≡ pointwise eqb name (codes "EXIF") → length v ≡ size → Consumes a b v
+    → WhereTold a b (λ xs ys. chunk_body name size room xs ≡ Ok (exif v ys))
+chunk_exif None b name v size room h e l k = tt
+chunk_exif (Some xs) None name v size room h e l k = absurd k
+chunk_exif (Some xs) (Some ys) name v size room h e l k = fits true name size room xs h e ∙ ap (exif_chunk size) k
+    ∙ exif_whole v ys size l
+
+-- another payload that was skipped with its pad byte
+pub chunk_other : (a b : Option (List ℕ)) (name : List ℕ) (size room taken : ℕ) → size ≤ room
+    → false ≡ pointwise eqb name (codes "EXIF") → taken ≡ padded size room → Skips a b taken
+    → WhereTold a b (λ xs ys. chunk_body name size room xs ≡ Ok (other (room - taken) ys))
+chunk_other None b name size room taken h e p k = tt
+chunk_other (Some xs) None name size room taken h e p k = absurd k
+chunk_other (Some xs) (Some ys) name size room taken h e p k =
+    fits false name size room xs h e ∙ ap (λ n. other_chunk n room xs) (sym p)
+    ∙ ap (λ t. cond t (Err broken_webp) (Ok (other (room - taken) (drop taken xs)))) (le-ltb (length xs) taken k.0)
+    ∙ ap (λ t. Ok (other (room - taken) t)) (sym k.1)
+
+ends : (e : Failure) (a : Option (List ℕ)) (P : List ℕ → Type 0) (f : List ℕ → Result Chunk Refusal)
+    → ((xs : List ℕ) → P xs → f xs ≡ Err broken_webp)
+    → IsShort broken_webp e a P → IfSome a (λ xs. Fails e (f xs))
+ends e None P f s h = tt
+ends e (Some xs) P f s h = by (refusal_of e) h
+  where
+    by : (o : Option Refusal) → MatchOption o (IsInterrupted e) (λ r. (r ≡ broken_webp) × P xs)
+        → MatchOption o (IsInterrupted e) (λ r. f xs ≡ Err r)
+    by None h = h
+    by (Some r) h = s xs h.1 ∙ ap (λ t. Err t) (sym h.0)
+
+-- a payload of Exif data that is cut
+pub exif_short : (e : Failure) (a : Option (List ℕ)) (name : List ℕ) (size room : ℕ) → size ≤ room
+    → true ≡ pointwise eqb name (codes "EXIF")
+    → IsShort broken_webp e a (λ xs. length xs < size) → IfSome a (λ xs. Fails e (chunk_body name size room xs))
+exif_short e a name size room h n =
+    ends e a (λ xs. length xs < size) (chunk_body name size room)
+    (λ xs l. fits true name size room xs h n
+    ∙ ap (λ t. cond t (Err broken_webp) (Ok (exif (take size xs) (drop size xs)))) (lt-ltb (length xs) size l))
+
+-- another payload that is cut
+pub other_short : (e : Failure) (a : Option (List ℕ)) (name : List ℕ) (size room taken : ℕ) → size ≤ room
+    → false ≡ pointwise eqb name (codes "EXIF") → taken ≡ padded size room
+    → IsShort broken_webp e a (λ xs. length xs < taken) → IfSome a (λ xs. Fails e (chunk_body name size room xs))
+other_short e a name size room taken h n p =
+    ends e a (λ xs. length xs < taken) (chunk_body name size room)
+    (λ xs l. fits false name size room xs h n ∙ ap (λ n. other_chunk n room xs) (sym p)
+    ∙ ap (λ t. cond t (Err broken_webp) (Ok (other (room - taken) (drop taken xs)))) (lt-ltb (length xs) taken l))
+
+-- where a chunk is named as Exif data are, its payload is collected
+pub exif_collects : (a : Option (List ℕ)) (name : List ℕ) (size room : ℕ) → size ≤ room
+    → true ≡ pointwise eqb name (codes "EXIF") → IfSome a (λ xs. IsPayload (chunk_body name size room xs))
+exif_collects None name size room h e = tt
+exif_collects (Some xs) name size room h e = subst IsPayload (sym (fits true name size room xs h e))
+    (by (ltb (length xs) size))
+  where
+    by : (t : Bool) → IsPayload (cond t (Err broken_webp) (Ok (exif (take size xs) (drop size xs))))
+    by true = refl
+    by false = tt
