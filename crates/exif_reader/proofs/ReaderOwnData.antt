@@ -1,13 +1,14 @@
 -- What a reading says of data, it says of the data that it hands on.
-use Rattle.std.proofs.Common.{inl, inr, ℕ, List, Result, Ok, Err, sym, subst}
+use Rattle.std.proofs.Common.{◌≡◌, inl, inr, ℕ, List, Option, Some, None, IfSome, Result, Ok, Err, sym, subst}
 use Rattle.exif_types.specs.Contents.{ExifContents}
 use Rattle.exif_types.specs.Failures.{Failure}
+use Rattle.exif_types.specs.Refusals.{Refusal, IsInterrupted}
 use Rattle.exif_types.specs.declared.error.Error.TheVariants as error
 use Rattle.exif_tiff.specs.Answers.{Answer}
 use Rattle.exif_containers.specs.Answer.{IsNamed}
-use Rattle.exif_containers.specs.Container.{container_refusals}
-use Rattle.exif_reader.specs.Files.{AnswersOwnData}
-use Rattle.exif_reader.specs.Readings.{ReadsAs}
+use Rattle.exif_containers.specs.Container.{container_answer, container_refusals}
+use Rattle.exif_reader.specs.Files.{AnswersOwnData, ReadsContainer}
+use Rattle.exif_reader.specs.Readings.{HoldsData, ReadsAs, ReadsHeld}
 
 -- what data in memory are read as, the data that came back are
 pub answers_own_data : (answer : List ℕ → Answer) (bytes : List ℕ) (result : Result ExifContents Failure) → ReadsAs (answer bytes) bytes result → AnswersOwnData answer result
@@ -35,3 +36,26 @@ answers_container answer (error.BlankValue text) h = inl h
 answers_container answer (error.TooBig text) h = inl h
 answers_container answer (error.NotSupported text) h = inl h
 answers_container answer (error.UnexpectedValue text) h = inl h
+
+interrupted : (answer : Answer) (bytes : List ℕ) (result : Result ExifContents Failure) → ReadsAs answer bytes result
+    → ReadsHeld HoldsData IsInterrupted answer bytes result
+interrupted answer bytes (Ok exif) h = h
+interrupted answer bytes (Err (error.PartialResult partial)) h = h
+interrupted answer bytes (Err error.OutOfMemory) h = tt
+interrupted answer bytes (Err (error.Io cause)) h = tt
+interrupted answer bytes (Err (error.InvalidFormat text)) h = h
+interrupted answer bytes (Err (error.NotFound text)) h = h
+interrupted answer bytes (Err (error.BlankValue text)) h = h
+interrupted answer bytes (Err (error.TooBig text)) h = h
+interrupted answer bytes (Err (error.NotSupported text)) h = h
+interrupted answer bytes (Err (error.UnexpectedValue text)) h = h
+
+-- what the data of a container are read as, is read of the container
+pub container_reads : (answer : List ℕ → Answer) (left : Option (List ℕ)) (bytes : List ℕ)
+    (result : Result ExifContents Failure) → IfSome left (λ file. container_answer file ≡ Ok bytes)
+    → ReadsAs (answer bytes) bytes result
+    → IfSome left (λ file. ReadsContainer answer (container_answer file) result)
+container_reads answer None bytes result h k = tt
+container_reads answer (Some file) bytes result h k =
+    let P : Result (List ℕ) Refusal → Type 0 = λ container. ReadsContainer answer container result in
+    subst P (sym h) (interrupted (answer bytes) bytes result k)
