@@ -1,8 +1,9 @@
 -- One step after another on told bytes.
-use Rattle.std.proofs.Common.{◌≡◌, ℕ, ◌+◌, ◌-◌, ◌<◌, ◌≤◌, List, [], ◌++◌, length, take, drop, Option, None, Some, ap, sym, ◌∙◌, refl, arith, append_assoc, append-nil, length-append, length-drop}
+use Rattle.std.proofs.Common.{◌≡◌, ℕ, ◌+◌, ◌-◌, ◌<◌, ◌≤◌, List, [], ◌++◌, length, take, drop, Option, None, Some, ap, subst, sym, ◌∙◌, refl, arith, append_assoc, append-nil, length-append, length-drop}
 use Rattle.std.proofs.Math.Seq.{take-add, take-append-add}
-use Rattle.std.proofs.lemmas.List.{length-take-le, take-append-le, drop-drop, drop_at}
+use Rattle.std.proofs.lemmas.List.{length-take, length-take-le, take_at, take-take, take-append-le, drop-drop, drop_at}
 use borrow.Rule.Slice.PartMut.{put_mid, post_of}
+use Rattle.std.specs.Io.{StartsWith}
 use Rattle.std.specs.Io.KnownBytes.{Consumes, IsAtEnd}
 use Rattle.exif_base.specs.Told.{HasFewer, IsFetchedOnto, Skips}
 
@@ -27,6 +28,38 @@ fetched_more a b c old mid new m n k h e s = (
   omega (arith, length-append h.0 e.0, h.2, e.2),
   e.3 ∙ ap (λ t. t ++ e.0) h.3 ∙ append_assoc old h.0 e.0,
 )
+
+-- the same bytes, counted otherwise
+pub fetched_count : (a b : Option (List ℕ)) (old new : List ℕ) (m n : ℕ)
+    → IsFetchedOnto a b old new m → m ≡ n → IsFetchedOnto a b old new n
+fetched_count a b old new m n h e = (h.0, h.1, h.2 ∙ e, h.3)
+
+-- bytes were put at the end of a list, and then a read gave none
+pub fetched_none : (a b c : Option (List ℕ)) (old new buf : List ℕ) (m n : ℕ)
+    → IsFetchedOnto a b old new m → Consumes b c (take n buf)
+    → n ≡ 0 → IsFetchedOnto a c old new m
+fetched_none a b c old new buf m n h k z =
+    let P : List ℕ → Type 0 = λ bytes. Consumes a c bytes in
+    let same : h.0 ++ take n buf ≡ h.0 = ap (λ t. h.0 ++ take t buf) z ∙ append-nil h.0 in
+    (h.0, subst P same (consumes_append a b c h.0 (take n buf) h.1 k), h.2, h.3)
+
+-- bytes were put at the end of a list, and then more, which stand at the front of a buffer
+pub fetched_buffer : (a b c : Option (List ℕ)) (old mid new buf rest : List ℕ) (m n k : ℕ)
+    → IsFetchedOnto a b old mid m → Consumes b c (take n buf)
+    → n ≤ length buf → new ≡ mid ++ take n (buf ++ rest) → m + n ≡ k → IsFetchedOnto a c old new k
+fetched_buffer a b c old mid new buf rest m n k h read some put s =
+    fetched_more a b c old mid new m n k h
+    (take n buf, read, length-take-le n buf some, put ∙ ap (λ t. mid ++ t) (take-append-le n buf rest some)) s
+
+-- bytes at the end of a list leave its front
+pub appended_kept : (old new bytes : List ℕ) → new ≡ old ++ bytes → StartsWith new old
+appended_kept old new bytes e = ap (take (length old)) e ∙ take_at old bytes (length old) refl
+
+-- a front of a front is a front
+pub kept_more : (old mid new : List ℕ) → StartsWith mid old → StartsWith new mid → StartsWith new old
+kept_more old mid new h k =
+    let within : length old ≤ length mid = omega (arith, ap length h, length-take (length old) mid) in
+    sym (take-take (length old) (length mid) new within) ∙ ap (take (length old)) k ∙ h
 
 -- a skip, and then more bytes
 pub skips_more : (a b c : Option (List ℕ)) (m k : ℕ) (bs : List ℕ) → Skips a b m → Consumes b c bs → m + length bs ≡ k → Skips a c k
@@ -54,6 +87,18 @@ take_filled at k n old new h f =
     ap (λ m. take (m + n) (put_mid at k old new)) (sym (length-take-le at old h))
     ∙ take-append-add (take at old) (new ++ post_of at k old) n
     ∙ ap (λ t. take at old ++ t) (take-append-le n new (post_of at k old) f)
+
+-- bytes are at the front up to place `at`, and a read into the part from there on gave none
+pub front_filled : (a b c : Option (List ℕ)) (at k n : ℕ) (old new : List ℕ) → at ≤ length old
+    → Consumes a b (take at old) → Consumes b c (take n new)
+    → n ≡ 0 → Consumes a c (take at (put_mid at k old new))
+front_filled a b c at k n old new h read none z =
+    let P : List ℕ → Type 0 = λ bytes. Consumes a c bytes in
+    let front : take at (put_mid at k old new) ≡ take at old =
+    take_at (take at old) (new ++ post_of at k old) at (length-take-le at old h) in
+    let same : take at old ++ take n new ≡ take at (put_mid at k old new) =
+    ap (λ t. take at old ++ take t new) z ∙ append-nil (take at old) ∙ sym front in
+    subst P same (consumes_append a b c (take at old) (take n new) read none)
 
 -- after a copy of the bytes from place `at` up to `end`
 pub copied_more : (at end : ℕ) (bytes old before after : List ℕ) → at ≤ end → before ≡ old ++ take at bytes
