@@ -1,14 +1,13 @@
 -- The bytes at hand in a block.
 use Rattle.std.proofs.Common.{◌≡◌, ◌≢◌, ℕ, ◌+◌, ◌-◌, ◌<◌, ◌≤◌, min, List, [], ◌++◌, length, take, drop, slice_index, Option, None, Some, Result, Ok, Err, IfOk, ap, sym, ◌∙◌, arith, append_assoc, length-append, length-drop}
 use Rattle.std.proofs.Math.ListN.{drop_of_length-le}
-use Rattle.std.proofs.lemmas.List.{drop_at, take_at, take-append-drop, length-take-le, drop-drop, drop-take, get_or-take, get_or-drop, drop-append-le}
+use Rattle.std.proofs.lemmas.List.{drop_at, take_at, take-append-drop, length-take-le, drop-drop, drop-take, get_or-take, get_or-drop}
 use Rattle.std.proofs.lemmas.Grind.{get_or_default_zero}
 use Rattle.std.specs.Io.KnownBytes.{Consumes, IsAtEnd, Keeps, prepend_known}
 use Rattle.exif_base.specs.Told.{PassesOthers}
 use Rattle.exif_base.specs.Told.{IsFetchedOnto, Skips}
 
--- how many bytes are at hand
-pub length_at_hand : (at end : ℕ) (block : List ℕ) → end ≤ length block → length (drop at (take end block)) ≡ end - at
+length_at_hand : (at end : ℕ) (block : List ℕ) → end ≤ length block → length (drop at (take end block)) ≡ end - at
 length_at_hand at end block h = length-drop at (take end block) ∙ ap (λ t. t - at) (length-take-le end block h)
 
 part_at_hand : (at end : ℕ) (block : List ℕ) → at ≤ end → take (end - at) (drop at block) ≡ drop at (take end block)
@@ -122,32 +121,3 @@ fetched_behind block a b old new at end (Err e) l same h = tt
 pub passed_behind : (block : List ℕ) (a b : Option (List ℕ)) (at end stop n : ℕ) → end ≤ length block → at ≡ end
     → PassesOthers a b stop n → let head = drop at (take end block) in PassesOthers (prepend_known head a) (prepend_known head b) stop n
 passed_behind block a b at end stop n l same h = (h.0, consumed_behind _ a b h.0 (none_left block at end l same) h.1, h.2, h.3)
-
--- what was read behind such a block
-pub read_behind : (block new : List ℕ) (a b : Option (List ℕ)) (at end n : ℕ) → end ≤ length block → at ≡ end
-    → Consumes a b (take n new) × (n ≡ 0 → 0 < length new → IsAtEnd b) → let head = drop at (take end block) in
-    Consumes (prepend_known head a) (prepend_known head b) (take n new)
-    × (n ≡ 0 → 0 < length new → IsAtEnd (prepend_known head b))
-read_behind block new a b at end n l same h =
-    let none = none_left block at end l same in
-    (consumed_behind _ a b (take n new) none h.0, λ zero room. none_at_hand _ b none (h.1 zero room))
-
--- a block of which nothing is at hand was filled anew
-pub filled_anew : (block new : List ℕ) (a b : Option (List ℕ)) (at end n : ℕ) → end ≤ length block
-    → end ≤ at → Consumes a b (take n new)
-    → Keeps (prepend_known (drop at (take end block)) a) (prepend_known (take n new) b)
-filled_anew block new None b at end n l over h = tt
-filled_anew block new (Some x) None at end n l over h = absurd h
-filled_anew block new (Some x) (Some y) at end n l over h =
-    let none : drop at (take end block) ≡ [] =
-    drop_of_length-le (take end block) (omega (arith, length-take-le end block l)) in
-    sym (ap (λ t. t ++ x) none ∙ h)
-
--- as many bytes at hand were skipped, and the rest stayed
-pub head_skipped : (head new : List ℕ) (a b : Option (List ℕ)) (n : ℕ) → n ≤ length head → new ≡ drop n head → b ≡ a
-    → Skips (prepend_known head a) (prepend_known new b) n
-head_skipped head new a b n some e same = rw (same, e) (known a)
-  where
-    known : (a : Option (List ℕ)) → Skips (prepend_known head a) (prepend_known (drop n head) a) n
-    known None = tt
-    known (Some xs) = (omega (arith, length-append head xs), sym (drop-append-le n head xs some))

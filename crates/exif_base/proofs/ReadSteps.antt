@@ -88,18 +88,6 @@ take_filled at k n old new h f =
     ∙ take-append-add (take at old) (new ++ post_of at k old) n
     ∙ ap (λ t. take at old ++ t) (take-append-le n new (post_of at k old) f)
 
--- bytes are at the front up to place `at`, and a read into the part from there on gave none
-pub front_filled : (a b c : Option (List ℕ)) (at k n : ℕ) (old new : List ℕ) → at ≤ length old
-    → Consumes a b (take at old) → Consumes b c (take n new)
-    → n ≡ 0 → Consumes a c (take at (put_mid at k old new))
-front_filled a b c at k n old new h read none z =
-    let P : List ℕ → Type 0 = λ bytes. Consumes a c bytes in
-    let front : take at (put_mid at k old new) ≡ take at old =
-    take_at (take at old) (new ++ post_of at k old) at (length-take-le at old h) in
-    let same : take at old ++ take n new ≡ take at (put_mid at k old new) =
-    ap (λ t. take at old ++ take t new) z ∙ append-nil (take at old) ∙ sym front in
-    subst P same (consumes_append a b c (take at old) (take n new) read none)
-
 -- after a copy of the bytes from place `at` up to `end`
 pub copied_more : (at end : ℕ) (bytes old before after : List ℕ) → at ≤ end → before ≡ old ++ take at bytes
     → after ≡ before ++ take (end - at) (drop at bytes) → after ≡ old ++ take end bytes

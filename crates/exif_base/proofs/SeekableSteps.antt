@@ -1,13 +1,11 @@
 -- The bytes ahead of a cursor.
-use Rattle.std.proofs.Common.{◌≡◌, ◌≢◌, ℕ, ◌+◌, ◌-◌, ◌<◌, ◌≤◌, min, List, ◌++◌, length, take, drop, slice_index, Option, None, Some, IfSome, ap, subst, sym, ◌∙◌, arith, length-drop}
+use Rattle.std.proofs.Common.{◌≡◌, ◌≢◌, ℕ, ◌+◌, ◌-◌, ◌<◌, ◌≤◌, min, List, ◌++◌, length, take, drop, slice_index, Option, None, Some, IfSome, ap, sym, ◌∙◌, arith, length-drop}
 use Rattle.std.proofs.lemmas.List.{drop_min, drop-drop, length-take-le, take-append-drop, get_or-take, get_or-drop}
 use Rattle.std.proofs.lemmas.Grind.{get_or_default_zero}
 use Rattle.std.specs.List.{All}
 use Rattle.std.specs.Option.{option_map}
-use Rattle.std.specs.Io.KnownBytes.{Consumes, Keeps}
-use Rattle.std.specs.Io.Seek.{StaysAt}
-use Rattle.exif_base.specs.Seekable.{left_behind}
-use Rattle.exif_base.specs.Told.{IsFetchedOnto, PassesOthers, Skips}
+use Rattle.std.specs.Io.KnownBytes.{Consumes}
+use Rattle.exif_base.specs.Told.{IsFetchedOnto, PassesOthers}
 
 length_ahead : (all : List ℕ) (start n : ℕ) → n ≤ length all - start → length (take n (drop start all)) ≡ n
 length_ahead all start n some = length-take-le n (drop start all) (omega (arith, length-drop start all))
@@ -51,25 +49,3 @@ passed_ahead known after all place next start n stop is e some same moved others
   length_ahead all start n some,
   others_ahead all start n stop some others,
 )
-
--- the place was asked for, then the end, and then the place moved on by n bytes, at most to the end
-pub sought_over : (p q r s : Option ℕ) (a b c d : Option (List ℕ)) (place end n to : ℕ)
-    → IfSome p (λ at. place ≡ at) → StaysAt p q → Keeps a b
-    → IfSome q (λ at. IfSome b (λ xs. end ≡ length xs + 0) × (r ≡ Some end)) → Keeps b c
-    → IfSome r (λ at. (to ≡ place + n) × (s ≡ Some to)) → Keeps c d → n ≤ end - place
-    → Skips (left_behind p a) (left_behind s d) n
-sought_over None q r s a b c d place end n to is stays k seen l moved m some = tt
-sought_over (Some at) q r s None b c d place end n to is stays k seen l moved m some = tt
-sought_over (Some at) q r s (Some xs) None c d place end n to is stays k seen l moved m some = absurd k
-sought_over (Some at) q r s (Some xs) (Some ys) None d place end n to is stays k seen l moved m some = absurd l
-sought_over (Some at) q r s (Some xs) (Some ys) (Some zs) None place end n to is stays k seen l moved m some = absurd m
-sought_over (Some at) q r s (Some xs) (Some ys) (Some zs) (Some ws) place end n to is stays k seen l moved m some =
-    let P : Option ℕ → Type 0 = λ o. IfSome o (λ at. (end ≡ length ys + 0) × (r ≡ Some end)) in
-    let found : (end ≡ length ys + 0) × (r ≡ Some end) = subst P stays seen in
-    let Q : Option ℕ → Type 0 = λ o. IfSome o (λ at. (to ≡ place + n) × (s ≡ Some to)) in
-    let went : (to ≡ place + n) × (s ≡ Some to) = subst Q found.1 moved in
-    let R : Option ℕ → Type 0 = λ o. Skips (Some (drop at xs)) (left_behind o (Some ws)) n in
-    subst R (sym went.1) (
-      omega (arith, length-drop at xs, ap length k, found.0),
-      ap (drop to) (m ∙ l ∙ k) ∙ ap (λ t. drop t xs) (went.0 ∙ ap (λ t. t + n) is) ∙ sym (drop-drop n at xs),
-    )

@@ -140,6 +140,7 @@ impl<'a, R: Source> Source for Blocks<'a, R> {
         Ok(n)
     }
 
+    #[tactic(auto, using(crate::proofs::BlockSteps::at_hand_skipped))]
     fn skip(&mut self, len: u64) -> io::Result<u64> {
         let n = self.skip_at_hand(len);
         if n == len {

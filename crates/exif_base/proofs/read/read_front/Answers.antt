@@ -1,5 +1,6 @@
-use Rattle.std.proofs.Common.{length, rules, ◌-◌}
-use Rattle.exif_base.proofs.ReadSteps.{consumes_append, front_filled, take_filled}
+use Rattle.std.proofs.lemmas.Grind.{common_steps}
+use Rattle.std.proofs.Common.{arith, length, rules, ◌-◌}
+use Rattle.exif_base.proofs.ReadSteps.{consumes_append, take_filled}
 use Rattle.exif_base.proofs.read.read_front.Goals as goal
 
 pub loop-at-preserved : goal.loop-at-preserved
@@ -12,6 +13,4 @@ loop-at-preserved g c = record {
 }
 
 pub returns-then-n-eq0-clause-taken : goal.returns-then-n-eq0-clause-taken
-returns-then-n-eq0-clause-taken g c =
-    front_filled _ _ _ c.loop-at.at (length c.loop-at.buf - c.loop-at.at) c.in_ok-n.n c.loop-at.buf c.fetch.new.buf
-    c.loop-at.invariant.in_range c.loop-at.invariant.taken c.in_ok-n.ensures.bytes.0 c.if-n-eq0.true
+returns-then-n-eq0-clause-taken g c = grind (arith, common_steps)

@@ -1,6 +1,4 @@
-use Rattle.std.proofs.Common.{rules, arith, List, ℕ, length, subst, ◌-◌}
-use Rattle.std.proofs.lemmas.List.{take_all}
-use Rattle.std.specs.Io.KnownBytes.{Appends}
+use Rattle.std.proofs.Common.{rules, arith, length, ◌-◌}
 use Rattle.exif_base.proofs.Sent.{front_stuck, appends_next}
 use Rattle.exif_base.proofs.send.send_all.Goals as goal
 
@@ -21,15 +19,3 @@ loop-at-preserved g c = record {
   count = search rules;
   same = search rules;
 }
-
-pub returns : goal.returns
-returns g c =
-    let P : List ℕ → Type 0 =
-    λ text. Appends (g.W.Sink.taken c.args.sink.now) (g.W.Sink.taken c.loop-at.sink) text in record {
-      sends = record {
-        sent = subst P (take_all c.loop-at.at c.args.bytes.now c.loop-at-test.false) c.loop-at.invariant.sent;
-        front = tt;
-        count = c.loop-at.invariant.count;
-        same = c.loop-at.invariant.same;
-      };
-    }
