@@ -1,11 +1,11 @@
 -- The steps over the chunks of a WebP file.
-use Rattle.std.proofs.Common.{◌≡◌, ◌≢◌, ℕ, zero, suc, ◌+◌, ◌-◌, ◌<◌, ◌≤◌, Bool, true, false, cond, eqb, ltb, List, [], ◌∷◌, ◌++◌, length, map, take, drop, get_or, Option, None, Some, IfSome, MatchOption, Result, Ok, Err, ap, sym, ◌∙◌, refl, arith, append_assoc, append-nil, length-append, codes}
+use Rattle.std.proofs.Common.{◌≡◌, ◌≢◌, ℕ, zero, suc, ◌+◌, ◌-◌, ◌<◌, ◌≤◌, Bool, true, false, cond, ◌||◌, eqb, ltb, List, [], ◌∷◌, ◌++◌, length, map, take, drop, get_or, Option, None, Some, IfSome, MatchOption, Result, Ok, Err, IfOk, ap, sym, ◌∙◌, refl, arith, append_assoc, append-nil, length-append, codes}
 use Rattle.std.specs.List.{flat_map, filter, Contains}
 use Rattle.std.specs.Int.{to_le_bytes, w32}
 use Rattle.std.specs.Io.KnownBytes.{Appends, Keeps}
-use Rattle.std.proofs.lemmas.Bool.{ne_eqb}
+use Rattle.std.proofs.lemmas.Bool.{ne_eqb, le-ltb}
 use Rattle.std.proofs.lemmas.Bool.Decides.{nat_tests}
-use Rattle.std.proofs.lemmas.List.{take_more, take-append-drop, map-append}
+use Rattle.std.proofs.lemmas.List.{take_more, take_rest, take-append-drop, map-append}
 use Rattle.std.proofs.lemmas.List.Concat.{flat_map-append}
 use Rattle.byteorder.specs.Endian.{little_number}
 use Rattle.exif_base.specs.Sent.{SendsFront}
@@ -17,9 +17,10 @@ use Rattle.exif_containers.specs.Answer.{IsNamed}
 use Rattle.exif_containers.specs.Webp.{broken_webp, not_webp, invalid_file_size, overflowing, padded}
 use Rattle.exif_rewrite_base.specs.declared.remove.Remove.{Remove}
 use Rattle.exif_rewrite_webp.specs.declared.chunks.Chunk.{Chunk as LentChunk}
+use Rattle.exif_rewrite_webp.specs.declared.chunks.Front.{Front as LentFront}
 use Rattle.exif_rewrite_base.specs.Removing.{too_large, behind}
 use Rattle.exif_rewrite_webp.specs.RewrittenWebp.{is, chunk_stays, staying, flagged, settled, lossy, lossless, or_none, no_canvas, canvas_where, chunk_named, is_put, new_chunks, sized, file_of, webp_rewriting, webp_rewriting_refusals}
-use Rattle.exif_rewrite_webp.specs.WebpChunks.{Chunk, Front, Body, in_front, first_chunk, body_within, body_of, header_room, file_body, pad_of, chunk_text, chunks_text, file_text}
+use Rattle.exif_rewrite_webp.specs.WebpChunks.{Chunk, Front, Body, in_front, chunk_of, first_chunk, body_within, body_of, header_room, file_body, pad_of, chunk_text, chunks_text, file_text}
 use Rattle.exif_rewrite_webp.specs.WebpPlans.{chunk_view, kept_body, kept_file, staying_in, settled_text, header_text, named_text, StopsFile, sent_of}
 
 -- what a slice of chunks gives past its end
@@ -64,6 +65,26 @@ parts_text name first rest len e =
     ap (λ n. name ++ (to_le_bytes w32 n ++ ((first ++ rest) ++ pad_of n))) whole
     ∙ ap (λ t. name ++ (to_le_bytes w32 len ++ t)) (append_assoc first rest (pad_of len))
     ∙ sym (append_assoc name (to_le_bytes w32 len) (first ++ (rest ++ pad_of len)))
+
+-- a chunk of another name than VP8X is sent as it is
+pub sent_as_it_is : (remove : Remove) (put : Bool) (c : LentChunk) → is (codes "VP8X") (chunk_view c) ≡ false
+    → chunk_text (record { name = c.name; payload = c.payload.now ++ [] }) ≡ settled_text remove put c
+sent_as_it_is remove put c other =
+    ap (λ p. chunk_text (record { name = c.name; payload = p })) (append-nil c.payload.now)
+    ∙ ap (λ b. chunk_text (cond b (record { name = c.name; payload = flagged remove put c.payload.now }) (chunk_view c)))
+    (sym other)
+
+-- and so is any with no payload
+pub empty_as_it_is : (remove : Remove) (put : Bool) (c : LentChunk) → length c.payload.now ≡ 0
+    → chunk_text (record { name = c.name; payload = c.payload.now ++ [] }) ≡ settled_text remove put c
+empty_as_it_is remove put c none = by c.payload.now (is (codes "VP8X") (chunk_view c)) none
+  where
+    by : (p : List ℕ) (b : Bool) → length p ≡ 0 → chunk_text (record { name = c.name; payload = p ++ [] })
+        ≡ chunk_text (cond b (record { name = c.name; payload = flagged remove put p })
+        (record { name = c.name; payload = p }))
+    by [] true h = refl
+    by [] false h = refl
+    by (x ∷ p) b h = absurd (omega arith)
 
 -- ---- the chunks of a body
 
@@ -157,6 +178,38 @@ kept_more remove room left bytes rest cs cs' front h e is inv =
     by : (o : Result Body Refusal) → Joined cs (Joined (staying remove (front.chunk ∷ [])) o) ≡ Joined (cs ++ staying remove (front.chunk ∷ [])) o
     by (Err r) = refl
     by (Ok body) = ap (λ t. Ok (record { chunks = t; rest = body.rest })) (sym (append_assoc cs (staying remove (front.chunk ∷ [])) body.chunks))
+
+-- eight bytes of a body or more begin with four of a name and four of a size
+four : (bytes : List ℕ) → 8 ≤ length bytes
+    → take 4 bytes ≡ get_or bytes 0 0 ∷ get_or bytes 1 0 ∷ get_or bytes 2 0 ∷ get_or bytes 3 0 ∷ []
+four [] h = absurd (omega arith)
+four (a ∷ []) h = absurd (omega arith)
+four (a ∷ b ∷ []) h = absurd (omega arith)
+four (a ∷ b ∷ c ∷ []) h = absurd (omega arith)
+four (a ∷ b ∷ c ∷ d ∷ rest) h = refl
+
+-- where there is room and are bytes for a name and a size, the first chunk is the one that they tell
+pub first_whole : (room : ℕ) (bytes : List ℕ) → 8 ≤ room → 8 ≤ length bytes
+    → first_chunk room bytes
+    ≡ chunk_of (get_or bytes 0 0 ∷ get_or bytes 1 0 ∷ get_or bytes 2 0 ∷ get_or bytes 3 0 ∷ [])
+    (little_number 4 (drop 4 bytes)) (room - 8) (take (length bytes - 8) (drop 8 bytes))
+first_whole room bytes h k =
+    ap (λ b. cond b (Err overflowing) (cond (ltb (length bytes) 8) (Err broken_webp)
+    (chunk_of (take 4 bytes) size (room - 8) (drop 8 bytes)))) (le-ltb room 8 h)
+    ∙ ap (λ b. cond b (Err broken_webp) (chunk_of (take 4 bytes) size (room - 8) (drop 8 bytes)))
+    (le-ltb (length bytes) 8 k)
+    ∙ ap (λ name. chunk_of name size (room - 8) (drop 8 bytes)) (four bytes k)
+    ∙ ap (λ rest. chunk_of (get_or bytes 0 0 ∷ get_or bytes 1 0 ∷ get_or bytes 2 0 ∷ get_or bytes 3 0 ∷ []) size
+    (room - 8) rest) (sym (take_rest bytes 8))
+  where
+    size : ℕ
+    size = little_number 4 (drop 4 bytes)
+
+-- a chunk behind its name and its size leaves eight less of the room
+pub room_less : (front : Result LentFront Failure) (room : ℕ) → 8 ≤ room
+    → IfOk front (λ f. f.room ≤ room - 8) → IfOk front (λ f. f.room + 8 ≤ room)
+room_less (Ok f) room h k = omega arith
+room_less (Err e) room h k = tt
 
 -- ---- refusals
 
@@ -314,6 +367,15 @@ interrupted_none (error.PartialResult partial) h = absurd h
 pub interrupted_stops : (e : Failure) (a p : Option (List ℕ)) (f : List ℕ → Result (List ℕ) Refusal) → IsInterrupted e → IfSome a (λ xs. StopsFile e p p (f xs))
 interrupted_stops e None p f h = tt
 interrupted_stops e (Some x) p f h = rw (interrupted_none e h) (nothing_sent (f x) p, tt)
+
+-- an interruption is none of the refusals that a file may meet, and is named so
+pub interrupted_named : (e : Failure) → IsInterrupted e → IsNamed webp_rewriting_refusals e
+interrupted_named e h = rw (interrupted_none e h) h
+
+-- of two devices of which the second did not fail, some failed where the first did
+pub or_none_failed : (failed : Bool) → failed ≡ (failed || false)
+or_none_failed true = refl
+or_none_failed false = refl
 
 -- where the bytes read are all of the source, their error stops its file with nothing sent
 pub plan_stops : (e : Failure) (a p : Option (List ℕ)) (bytes : List ℕ) (f : List ℕ → Result (List ℕ) Refusal) → IfSome a (λ xs. bytes ≡ xs) → Fails e (f bytes) → IfSome a (λ xs. StopsFile e p p (f xs))
