@@ -10,4 +10,4 @@ returns g c plain ok =
     let second = c.in_ok-write_str-2.ensures.writes month.plain (refl {a = true}) in
     let day = c.write_two-2.ensures second.plain ok in
     has_written_append _ _ _ _ _ _ year (has_written_append _ _ _ _ _ _ first
-      (has_written_append _ _ _ _ _ _ month (has_written_append _ _ _ _ _ _ second day)))
+    (has_written_append _ _ _ _ _ _ month (has_written_append _ _ _ _ _ _ second day)))

@@ -10,4 +10,4 @@ returns g c plain ok =
     let second = c.in_ok-write_str-2.ensures.writes minute.plain (refl {a = true}) in
     let seconds = c.write_two-3.ensures second.plain ok in
     has_written_append _ _ _ _ _ _ hour (has_written_append _ _ _ _ _ _ first
-      (has_written_append _ _ _ _ _ _ minute (has_written_append _ _ _ _ _ _ second seconds)))
+    (has_written_append _ _ _ _ _ _ minute (has_written_append _ _ _ _ _ _ second seconds)))

@@ -23,5 +23,5 @@ pub returns : goal.returns
 returns c =
     let behind = rw c.as_slice-text-items.ensures at c.loop-text-test.false in
     let whole : c.loop-text.length ≡ ended_length c.args.texts.now
-        = c.loop-text.invariant.sum ∙ ap ended_length (take_all c.loop-text.text-index c.args.texts.now behind) in
+    = c.loop-text.invariant.sum ∙ ap ended_length (take_all c.loop-text.text-index c.args.texts.now behind) in
     (rw (← whole) c.loop-text.invariant.fits, whole)
