@@ -10,7 +10,7 @@ OF_GOAL = re.compile(r"note: (src/\S+?):(\d+):\d+: it is not proved that .*\(`([
 UNREAD = re.compile(r"is not in scope|has no field|is no name|operand is missing|expected the end|cannot continue")
 WAITS = re.compile(r"(?:it calls|it passes|depends on) .*(?:is|are) not proved")
 # A proof of a function that the crate has not, or that wants none.
-STRANGE = re.compile(r"(?:\./)?proofs/(\S+)/Proof\.antt: error: ")
+STRANGE = re.compile(r"(?:\./)?proofs/(\S+)/Proof\.antt: error(?:\[[\w-]+\])?: ")
 
 
 class Answer:
