@@ -1,4 +1,4 @@
-//! A folder for each part: `exif_base`, `exif_table`, `exif_text`, `exif_types`, `exif_containers`.
+//! The parts of `exif_base` and of `exif_containers`.
 
 mod base;
 mod containers;
@@ -6,6 +6,3 @@ mod devices;
 mod items;
 mod lists;
 mod skips;
-mod table;
-mod text;
-mod types;
