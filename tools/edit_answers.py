@@ -58,7 +58,7 @@ class Answer:
                 waits = waits or bool(behind)
                 goals = [*self.goals.get(name, ()), *self.open_in(edit.span), *(() if edit.body else self.lemmas)]
                 if goals and not behind:
-                    return f"{name} ({', '.join(dict.fromkeys(goals))})", False
+                    return f"{edit.called(name)} ({', '.join(dict.fromkeys(goals))})", False
         return None, waits
 
     def behind(self, told):

@@ -2,6 +2,7 @@
 import os
 import re
 from dataclasses import dataclass
+from string import ascii_lowercase
 
 FUNCTION = re.compile(r'( *)(?:pub(?:\([a-z]+\))? )?(?:const )?(?:extern "C" )?fn (\w+)')
 IMPL = re.compile(
@@ -24,6 +25,7 @@ class Body:
     module: str
     owner: str
     name: str
+    is_of_trait: bool = False
 
     def path(self):
         """Gives what a check is asked for: the whole module, where the owner is not clear."""
@@ -42,7 +44,7 @@ class Sources:
 
     def __init__(self, folder):
         self.folder = folder
-        self.texts, self.types, self.calls, self.reached, self.told = {}, {}, {}, {}, set()
+        self.texts, self.types = {}, {}
         for at, _, files in os.walk(f"{self.folder}/src"):
             for file in files:
                 path = os.path.relpath(f"{at}/{file}", self.folder)
@@ -50,20 +52,18 @@ class Sources:
         for path, text in self.texts.items():
             for name in re.findall(r"(?m)^(?:pub(?:\(\w+\))? )?(?:struct|enum) (\w+)", text):
                 self.types[name] = module_of(path)
-            parts = re.split(r"\bfn (\w+)", text)
-            for name, body in zip(parts[1::2], parts[2::2]):
-                self.calls.setdefault(name, set()).update(re.findall(r"\b(\w+)\(", body))
 
     def bodies(self):
-        """Gives the functions that have a body, as far as their names are clear from the texts."""
+        """Gives the functions that have a body and a proof of their own, as far as their names are clear from the
+        texts."""
         found = set()
         for path, text in self.texts.items():
             rows = text.split("\n")
             for number, row in enumerate(rows):
                 head = FUNCTION.match(row)
-                is_whole = head and has_body(rows[number:])
-                body = self.body_of(path, rows[:number], len(head[1]), head[2]) if is_whole else None
-                found |= {body} if body and body.owner != UNCLEAR else set()
+                is_one = head and has_body(rows[number:]) and not is_of_cycle(rows, number + 1)
+                body = self.body_of(path, rows[:number], len(head[1]), head[2]) if is_one else None
+                found |= {body} if body and not body.owner.startswith((UNCLEAR, *ascii_lowercase)) else set()
         return found
 
     def body_at(self, path, old, new):
@@ -93,7 +93,7 @@ class Sources:
         head = next((row for row in reversed(above) if row and not row.startswith((" ", "}"))), "")
         trait, impl = re.match(r"(?:pub )?trait (\w+)", head), IMPL.match(head)
         if trait:
-            return Body(module_of(path), trait[1], name)
+            return Body(module_of(path), trait[1], name, is_of_trait=True)
         if depth != 4 or not head.startswith("impl"):
             return None
         if not impl:
@@ -103,30 +103,33 @@ class Sources:
             return Body(self.types.get(owner, module_of(path)), owner, name)
         given = "".join(it[:1].upper() + it[1:] for it in (impl["given"] or "").split("::"))
         borrowed = "Ref" if impl["borrowed"] else ""
-        return Body(module_of(path), borrowed + owner + impl["trait"].split("::")[-1] + given, name)
-
-    def reaches(self, one, other):
-        """Tells whether a body may call another one, by the names in bodies or since a check said so, and not the
-        other way round too. It settles an order, and no answer."""
-        if (one, other) in self.told or (other, one) in self.told:
-            return (one, other) in self.told
-        return other.name in self.below(one.name) and one.name not in self.below(other.name)
-
-    def below(self, name):
-        if name not in self.reached:
-            seen, left = set(), [name]
-            while left:
-                more = {it for it in self.calls.get(left.pop(), ()) if it in self.calls} - seen
-                seen |= more
-                left += more
-            self.reached[name] = seen
-        return self.reached[name]
+        return Body(module_of(path), borrowed + owner + impl["trait"].split("::")[-1] + given, name, is_of_trait=True)
 
 
 def has_body(rows):
     """Tells whether the function whose fn is in the first row has a body."""
     end = next((it for it in rows if it.endswith((";", "{")) or it is rows[0] and it.endswith("}")), ";")
     return not end.endswith(";")
+
+
+def attributes_above(rows, first):
+    """Gives the rows of documentation and attributes that stand right above the row of that number."""
+    depth, begin = indent(rows[first - 1]), first - 1
+    while begin and is_attribute(rows[begin - 1], depth):
+        begin -= 1
+    return rows[begin : first - 1]
+
+
+def is_attribute(row, depth):
+    return bool(row) and indent(row) >= depth and not row.endswith((";", "}", "{"))
+
+
+def is_of_cycle(rows, first):
+    return any("#[cycle" in it for it in attributes_above(rows, first))
+
+
+def indent(row):
+    return len(row) - len(row.lstrip(" "))
 
 
 def module_of(path):
@@ -138,7 +141,7 @@ def holds(rows, depth, first, last):
     """Gives in how many rows a function whose fn is in the first one holds a change in its body, 0 where it doesn't."""
     opened = None
     for count, (start, row) in enumerate(rows, 1):
-        if not row.strip() or len(row) - len(row.lstrip(" ")) != depth:
+        if not row.strip() or indent(row) != depth:
             continue
         inner = row.lstrip(" ")
         if opened is None and count > 1 and not inner.startswith(("{", ")", "where")):
