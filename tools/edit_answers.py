@@ -62,9 +62,11 @@ class Answer:
         return None, waits
 
     def behind(self, told):
-        """Gives the functions that a function's line says it waits for, but those with holes."""
+        """Gives the functions that a function's line says it waits for, but those with holes, and those that only stand
+        on these."""
         waits = WAITS.search(told)
-        return set(re.findall(rf"`{self.crate}::([^`]+)`", waits[0])) - self.holes if waits else set()
+        names = set(re.findall(rf"`{self.crate}::([^`]+)`", waits[0])) - self.holes if waits else set()
+        return {it for it in names if not self.functions.get(it, "").startswith(("no holes", "depends on a hole"))}
 
     def open_in(self, span):
         """Gives the goals that were left open in the rows of a function."""
