@@ -121,7 +121,8 @@ def attributes_above(rows, first):
 
 
 def is_attribute(row, depth):
-    return bool(row) and indent(row) >= depth and not row.endswith((";", "}", "{"))
+    is_comment = row.lstrip(" ").startswith("//")
+    return bool(row) and indent(row) >= depth and (is_comment or not row.endswith((";", "}", "{")))
 
 
 def is_of_cycle(rows, first):
