@@ -7,48 +7,47 @@ mod shifts;
 mod thumbnails;
 
 use exif_change::{Assignment, Changed, ClockShift, Dates, Refusal, Removed, scrub, set, shift};
-use std::alloc::{AllocError, Global};
-use std::test::Fail;
+use std::fmt::Display;
+use std::process::Abort;
 
 // The bytes of a file, to be changed.
-fn owned(alloc: Global, file: &[u8]) -> Result<Vec<u8>, AllocError> {
-    Vec::from_slice(alloc, file)
+fn owned(rt: &(impl Abort + AllocGlobal), file: &[u8]) -> Vec<u8> {
+    Vec::from_slice(rt.alloc(), file).expect(rt, "memory")
 }
 
 /// A file scrubbed. It promises nothing, as the calls below: a test looks at what comes out, and
 /// the promises of the calls themselves would cost each test their proof.
 pub fn scrubbed(
-    alloc: Global,
+    rt: &(impl Abort + AllocGlobal),
     file: &[u8],
     removed: Removed,
-) -> Result<Result<Vec<u8>, Refusal>, AllocError> {
-    Ok(scrub(alloc, owned(alloc, file)?, removed))
+) -> Result<Vec<u8>, Refusal> {
+    scrub(rt.alloc(), owned(rt, file), removed)
 }
 
 /// A file with values set.
 pub fn with_values(
-    alloc: Global,
+    rt: &(impl Abort + AllocGlobal),
     file: &[u8],
     assignments: &[Assignment],
-) -> Result<Result<Changed, Refusal>, AllocError> {
-    Ok(set(alloc, owned(alloc, file)?, assignments))
+) -> Result<Changed, Refusal> {
+    set(rt.alloc(), owned(rt, file), assignments)
 }
 
 /// A file with its dates shifted by what a text says.
 pub fn shifted(
-    alloc: Global,
+    rt: &(impl Abort + AllocGlobal),
     file: &[u8],
     by: &str,
     dates: Dates,
-) -> Result<Result<Vec<u8>, Refusal>, Fail> {
-    let Some(by) = ClockShift::parse(by) else {
-        return Err(Fail::new(format_args!("{by} is no shift")));
-    };
-    Ok(shift(alloc, owned(alloc, file)?, by, dates))
+) -> Result<Vec<u8>, Refusal> {
+    let by = ClockShift::parse(by).expect(rt, "a shift");
+    shift(rt.alloc(), owned(rt, file), by, dates)
 }
 
-/// Whether an answer is the bytes of this file.
-pub fn gives(answer: &Result<Vec<u8>, Refusal>, wanted: &[u8]) -> bool {
+/// Whether an answer is the bytes of this file. This and the next take any error, so that the proof
+/// of a test does not open the kinds of errors where one goes.
+pub fn gives<E: Drop>(answer: Result<Vec<u8>, E>, wanted: &[u8]) -> bool {
     match answer {
         Ok(file) => file.as_slice() == wanted,
         Err(_refusal) => false,
@@ -56,16 +55,16 @@ pub fn gives(answer: &Result<Vec<u8>, Refusal>, wanted: &[u8]) -> bool {
 }
 
 /// Whether an answer is the refusal whose text this is.
-pub fn refuses<T: Drop>(
-    alloc: Global,
-    answer: &Result<T, Refusal>,
+pub fn refuses<T: Drop, E: Display + Drop>(
+    rt: &(impl Abort + AllocGlobal),
+    answer: Result<T, E>,
     text: &str,
-) -> Result<bool, AllocError> {
+) -> bool {
     match answer {
-        Ok(_changed) => Ok(false),
+        Ok(_changed) => false,
         Err(refusal) => {
-            let shown = format!(in alloc; "{refusal}")?;
-            Ok(shown.as_str() == text)
+            let shown = format!(in rt.alloc(); "{refusal}").expect(rt, "memory");
+            shown.as_str() == text
         }
     }
 }

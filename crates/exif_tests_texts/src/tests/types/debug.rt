@@ -2,10 +2,9 @@
 
 use exif_base::Items;
 use exif_types::{Field, In, Rational, SRational, Tag, Value};
-use std::alloc::{AllocError, Global};
+use std::alloc::AllocError;
 use std::fmt::Debug;
 use std::process::Abort;
-use std::test::Fail;
 
 /// What a value holds.
 #[derive(Clone, Copy)]
@@ -56,42 +55,45 @@ static BITS: [(Held, &str); 4] = [
 ];
 
 // The value that holds this.
-fn value_of(alloc: Global, held: Held) -> Result<Value, AllocError> {
-    Ok(match held {
-        Held::Byte(items) => Value::Byte(Items::from_slice(alloc, items)?),
-        Held::Short(items) => Value::Short(Items::from_slice(alloc, items)?),
-        Held::Long(items) => Value::Long(Items::from_slice(alloc, items)?),
-        Held::Rational(items) => Value::Rational(Items::from_slice(alloc, items)?),
-        Held::SByte(items) => Value::SByte(Items::from_slice(alloc, items)?),
-        Held::SShort(items) => Value::SShort(Items::from_slice(alloc, items)?),
-        Held::SLong(items) => Value::SLong(Items::from_slice(alloc, items)?),
-        Held::SRational(items) => Value::SRational(Items::from_slice(alloc, items)?),
-        Held::Float(items) => Value::Float(Items::from_slice(alloc, items)?),
-        Held::Double(items) => Value::Double(Items::from_slice(alloc, items)?),
-        Held::Undefined(bytes) => Value::Undefined(Items::from_slice(alloc, bytes)?, 0),
+fn value_of(rt: &(impl Abort + AllocGlobal), held: Held) -> Value {
+    match held {
+        Held::Byte(items) => Value::Byte(list(rt, items)),
+        Held::Short(items) => Value::Short(list(rt, items)),
+        Held::Long(items) => Value::Long(list(rt, items)),
+        Held::Rational(items) => Value::Rational(list(rt, items)),
+        Held::SByte(items) => Value::SByte(list(rt, items)),
+        Held::SShort(items) => Value::SShort(list(rt, items)),
+        Held::SLong(items) => Value::SLong(list(rt, items)),
+        Held::SRational(items) => Value::SRational(list(rt, items)),
+        Held::Float(items) => Value::Float(list(rt, items)),
+        Held::Double(items) => Value::Double(list(rt, items)),
+        Held::Undefined(bytes) => Value::Undefined(list(rt, bytes), 0),
         Held::Unknown(typ, count, place) => Value::Unknown(typ, count, place),
-    })
+    }
 }
 
-// Whether this is shown as a text.
-fn is_debug<T: Debug>(alloc: Global, value: &T, text: &str) -> Result<bool, AllocError> {
-    Ok(format!(in alloc; "{value:?}")?.as_str() == text)
+fn list<T: Copy>(rt: &(impl Abort + AllocGlobal), items: &[T]) -> Items<T> {
+    Items::from_slice(rt.alloc(), items).expect(rt, "memory")
+}
+
+// This is shown as a text.
+fn assert_debug<T: Debug + Drop>(rt: &(impl Abort + AllocGlobal), value: T, text: &str) {
+    let shown = format!(in rt.alloc(); "{value:?}").expect(rt, "memory");
+    assert!(rt; shown.as_str() == text, "{text}");
 }
 
 // Each value is shown as its text.
-fn assert_rows(rt: &(impl Abort + AllocGlobal), rows: &[(Held, &str)]) -> Result<(), AllocError> {
+fn assert_rows(rt: &(impl Abort + AllocGlobal), rows: &[(Held, &str)]) {
     for (held, text) in rows {
-        let value = value_of(rt.alloc(), *held)?;
-        assert!(rt; is_debug(rt.alloc(), &value, text)?, "{text}");
+        assert_debug(rt, value_of(rt, *held), text);
     }
-    Ok(())
 }
 
 #[test]
-fn values(rt: HostRuntime) -> Result<(), AllocError> {
-    assert_rows(&rt, &UNSIGNED)?;
-    assert_rows(&rt, &SIGNED)?;
-    assert_rows(&rt, &BITS)
+fn values(rt: HostRuntime) {
+    assert_rows(&rt, &UNSIGNED);
+    assert_rows(&rt, &SIGNED);
+    assert_rows(&rt, &BITS);
 }
 
 #[test]
@@ -100,7 +102,7 @@ fn texts(rt: HostRuntime) -> Result<(), AllocError> {
     texts.push(Items::from_slice(rt.alloc(), b"a\"\n")?)?;
     texts.push(Items::from_slice(rt.alloc(), b"")?)?;
     let value = Value::Ascii(Items::from_vec(texts));
-    assert!(rt; is_debug(rt.alloc(), &value, "Ascii([\"a\\\"\\x0a\", \"\"])")?);
+    assert_debug(&rt, value, "Ascii([\"a\\\"\\x0a\", \"\"])");
     Ok(())
 }
 
@@ -110,29 +112,30 @@ static VIEWS: [(Held, &str); 3] = [
     (Held::Long(&[]), "UIntValue(Long([]))"),
 ];
 
-// Whether the view of a value as unsigned numbers is shown as this text.
-fn is_view(alloc: Global, value: &Value, text: &str) -> Result<bool, Fail> {
-    let view = value.as_uint()?;
-    Ok(is_debug(alloc, &view, text)?)
+// The view of a value as unsigned numbers is shown as a text.
+fn assert_view(rt: &(impl Abort + AllocGlobal), value: &Value, text: &str) {
+    let Ok(view) = value.as_uint() else {
+        panic!(rt; "a value of no unsigned numbers");
+    };
+    assert_debug(rt, view, text);
 }
 
 #[test]
-fn views(rt: HostRuntime) -> Result<(), Fail> {
+fn views(rt: HostRuntime) {
     for (held, text) in &VIEWS {
-        let value = value_of(rt.alloc(), *held)?;
-        assert!(rt; is_view(rt.alloc(), &value, text)?, "{text}");
+        let value = value_of(&rt, *held);
+        assert_view(&rt, &value, text);
+        drop(value);
     }
-    Ok(())
 }
 
 #[test]
-fn fields(rt: HostRuntime) -> Result<(), AllocError> {
+fn fields(rt: HostRuntime) {
     let field = Field {
         tag: Tag::ExifVersion,
         ifd_num: In::PRIMARY,
-        value: Value::Byte(Items::from_slice(rt.alloc(), &[7])?),
+        value: Value::Byte(list(&rt, &[7])),
     };
     let text = "Field { tag: Tag(Exif, 36864), ifd_num: In(0), value: Byte([7]) }";
-    assert!(rt; is_debug(rt.alloc(), &field, text)?);
-    Ok(())
+    assert_debug(&rt, field, text);
 }

@@ -30,6 +30,8 @@ fn look_ups_and_numbers(rt: HostRuntime) -> Result<(), AllocError> {
     assert!(rt; fields.count() == 0 && found.is_none());
     let value = Value::Short(Items::from_slice(alloc, &[3, 5])?);
     let (items, number) = get_uint_gives_the_item(&value, 1);
-    assert!(rt; items.is_some() && number == Some(5));
+    let is_item = items.is_some() && number == Some(5);
+    drop(value);
+    assert!(rt; is_item);
     Ok(())
 }

@@ -4,7 +4,6 @@ use exif_base::Items;
 use exif_types::{Context, In, Rational, Tag, Value};
 use std::alloc::AllocError;
 use std::process::Abort;
-use std::test::Fail;
 
 /// The constants with these names, each beside its name.
 macro_rules! named {
@@ -250,52 +249,56 @@ fn descriptions(rt: HostRuntime) {
     }
 }
 
-fn assert_default(
-    rt: &(impl Abort + AllocGlobal),
-    tag: Tag,
-    value: Option<Value>,
-) -> Result<(), Fail> {
-    assert!(rt; tag.default_value(rt.alloc())? == value);
+// Lets both go by one call each.
+fn are_equal<T: PartialEq + Drop>(left: T, right: T) -> bool {
+    left == right
+}
+
+fn assert_default(rt: &(impl Abort + AllocGlobal), tag: Tag, value: Option<Value>) {
+    let found = tag.default_value(rt.alloc()).expect(rt, "memory");
+    assert!(rt; are_equal(found, value));
+}
+
+#[test]
+fn defaults(rt: HostRuntime) -> Result<(), AllocError> {
+    let bits = Value::Short(Items::from_slice(rt.alloc(), &[8, 8, 8])?);
+    assert_default(&rt, Tag::BitsPerSample, Some(bits));
+    let altitude = Value::Byte(Items::from_slice(rt.alloc(), &[0])?);
+    assert_default(&rt, Tag::GPSAltitudeRef, Some(altitude));
     Ok(())
 }
 
 #[test]
-fn defaults(rt: HostRuntime) -> Result<(), Fail> {
-    let bits = Value::Short(Items::from_slice(rt.alloc(), &[8, 8, 8])?);
-    assert_default(&rt, Tag::BitsPerSample, Some(bits))?;
-    let altitude = Value::Byte(Items::from_slice(rt.alloc(), &[0])?);
-    assert_default(&rt, Tag::GPSAltitudeRef, Some(altitude))
-}
-
-#[test]
-fn default_of_undefined_bytes(rt: HostRuntime) -> Result<(), Fail> {
+fn default_of_undefined_bytes(rt: HostRuntime) -> Result<(), AllocError> {
     let source = Value::Undefined(Items::from_slice(rt.alloc(), &[3])?, 0);
-    assert_default(&rt, Tag::FileSource, Some(source))
+    assert_default(&rt, Tag::FileSource, Some(source));
+    Ok(())
 }
 
 #[test]
-fn default_of_a_fraction(rt: HostRuntime) -> Result<(), Fail> {
+fn default_of_a_fraction(rt: HostRuntime) -> Result<(), AllocError> {
     let resolution = Items::from_slice(rt.alloc(), &[Rational::from((72, 1))])?;
-    assert_default(&rt, Tag::XResolution, Some(Value::Rational(resolution)))
+    assert_default(&rt, Tag::XResolution, Some(Value::Rational(resolution)));
+    Ok(())
 }
 
 #[test]
-fn default_of_a_text(rt: HostRuntime) -> Result<(), Fail> {
+fn default_of_a_text(rt: HostRuntime) -> Result<(), AllocError> {
     let mut letters = Vec::new(rt.alloc());
     letters.push(Items::from_slice(rt.alloc(), b"K")?)?;
     let speed = Value::Ascii(Items::from_vec(letters));
-    assert_default(&rt, Tag::GPSSpeedRef, Some(speed))
+    assert_default(&rt, Tag::GPSSpeedRef, Some(speed));
+    Ok(())
 }
 
 #[test]
-fn tags_without_a_default(rt: HostRuntime) -> Result<(), Fail> {
+fn tags_without_a_default(rt: HostRuntime) {
     for tag in [
         Tag::DateTime,
         Tag::GPSVersionID,
         Tag::Flash,
         Tag(Context::Tiff, 65000),
     ] {
-        assert_default(&rt, tag, None)?;
+        assert_default(&rt, tag, None);
     }
-    Ok(())
 }

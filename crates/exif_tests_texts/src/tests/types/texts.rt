@@ -8,7 +8,6 @@ use exif_types::{Context, Exif, Field, In, Rational, SRational, Tag, Value, exif
 use std::alloc::{AllocError, Global};
 use std::fmt::Display;
 use std::process::Abort;
-use std::test::Fail;
 
 fn field(tag: Tag, value: Value) -> Field
     ensures { result ≡ record { tag = tag; ifd_num = In.PRIMARY; value = value } }
@@ -44,6 +43,16 @@ fn undefined(alloc: Global, tag: Tag, bytes: &[u8]) -> Result<Field, AllocError>
     Ok(field(tag, Value::Undefined(bytes, 0)))
 }
 
+// A field of no name.
+fn bits(alloc: Global, number: u32) -> Result<Field, AllocError> {
+    let bits = Items::from_slice(alloc, &[number])?;
+    Ok(field(Tag(Context::Tiff, 65000), Value::Float(bits)))
+}
+
+fn bytes(alloc: Global, tag: Tag, bytes: &[u8]) -> Result<Field, AllocError> {
+    Ok(field(tag, Value::Byte(Items::from_slice(alloc, bytes)?)))
+}
+
 fn text(alloc: Global, tag: Tag, bytes: &[u8]) -> Result<Field, AllocError> {
     let mut texts = Vec::new(alloc);
     texts.push(Items::from_slice(alloc, bytes)?)?;
@@ -69,26 +78,20 @@ fn is_value_shown(alloc: Global, field: &Field, text: &str) -> Result<bool, Allo
 }
 
 // The text of the field without its unit.
-fn assert_value(
-    rt: &(impl Abort + AllocGlobal),
-    field: Result<Field, AllocError>,
-    text: &str,
-) -> Result<(), AllocError> {
-    let field = field?;
-    assert!(rt; is_value_shown(rt.alloc(), &field, text)?, "{text}");
-    Ok(())
+fn assert_value(rt: &(impl Abort + AllocGlobal), field: Result<Field, AllocError>, text: &str) {
+    let field = field.expect(rt, "memory");
+    let shown = is_value_shown(rt.alloc(), &field, text).expect(rt, "memory");
+    drop(field);
+    assert!(rt; shown, "{text}");
 }
 
 // The text of the field with its unit, where no other fields are known.
-fn assert_alone(
-    rt: &(impl Abort + AllocGlobal),
-    field: Result<Field, AllocError>,
-    text: &str,
-) -> Result<(), AllocError> {
-    let field = field?;
-    let shown = field.display_value().with_unit(());
-    assert!(rt; is_shown(rt.alloc(), &shown, text)?, "{text}");
-    Ok(())
+fn assert_alone(rt: &(impl Abort + AllocGlobal), field: Result<Field, AllocError>, text: &str) {
+    let field = field.expect(rt, "memory");
+    let value = field.display_value().with_unit(());
+    let shown = is_shown(rt.alloc(), &value, text).expect(rt, "memory");
+    drop(field);
+    assert!(rt; shown, "{text}");
 }
 
 // The text of the field with its unit, where one other field is known.
@@ -97,11 +100,14 @@ fn assert_beside(
     field: Result<Field, AllocError>,
     other: Result<Field, AllocError>,
     text: &str,
-) -> Result<(), AllocError> {
-    let (field, other) = (field?, other?);
-    let shown = field.display_value().with_unit(&other);
-    assert!(rt; is_shown(rt.alloc(), &shown, text)?, "{text}");
-    Ok(())
+) {
+    let field = field.expect(rt, "memory");
+    let other = other.expect(rt, "memory");
+    let value = field.display_value().with_unit(&other);
+    let shown = is_shown(rt.alloc(), &value, text).expect(rt, "memory");
+    drop(field);
+    drop(other);
+    assert!(rt; shown, "{text}");
 }
 
 #[test]
@@ -115,27 +121,27 @@ fn decimals_in_a_row(rt: HostRuntime) -> Result<(), AllocError> {
 }
 
 #[test]
-fn values_by_their_tags(rt: HostRuntime) -> Result<(), AllocError> {
+fn values_by_their_tags(rt: HostRuntime) {
     let alloc = rt.alloc();
-    assert_value(&rt, signed(alloc, Tag::BrightnessValue, 7, -1), "unknown")?;
-    assert_value(&rt, signed(alloc, Tag::BrightnessValue, 0, 0), "0/0")?;
+    assert_value(&rt, signed(alloc, Tag::BrightnessValue, 7, -1), "unknown");
+    assert_value(&rt, signed(alloc, Tag::BrightnessValue, 0, 0), "0/0");
     for (tag, bytes, shown) in [
         (Tag::ExifVersion, b"0231", "2.31"),
         (Tag::ExifVersion, b"0230", "2.3"),
         (Tag::InteroperabilityVersion, b"0100", "1.00"),
         (Tag::ComponentsConfiguration, b"\x01\x02\x03\0", "YCbCr_"),
     ] {
-        assert_value(&rt, undefined(alloc, tag, bytes), shown)?;
+        assert_value(&rt, undefined(alloc, tag, bytes), shown);
     }
     let lens = [(24, 1), (70, 1), (28, 10), (28, 10)];
     let lens = fractions(alloc, Tag::LensSpecification, &lens);
-    assert_value(&rt, lens, "24-70 mm, f/2.8-2.8")?;
+    assert_value(&rt, lens, "24-70 mm, f/2.8-2.8");
     let area = shorts(alloc, Tag::SubjectArea, &[1, 2, 3, 4]);
-    assert_value(&rt, area, "rectangle (x=1, y=2, w=3, h=4)")
+    assert_value(&rt, area, "rectangle (x=1, y=2, w=3, h=4)");
 }
 
 #[test]
-fn texts_by_their_tags(rt: HostRuntime) -> Result<(), AllocError> {
+fn texts_by_their_tags(rt: HostRuntime) {
     for (tag, bytes, shown) in [
         (Tag::GPSDateStamp, b"2016:05:04".as_slice(), "2016-05-04"),
         (Tag::DateTime, b"                   ".as_slice(), "unknown"),
@@ -145,13 +151,12 @@ fn texts_by_their_tags(rt: HostRuntime) -> Result<(), AllocError> {
             "\"a \\\"\\\\b\\\"\\x0a\"",
         ),
     ] {
-        assert_value(&rt, text(rt.alloc(), tag, bytes), shown)?;
+        assert_value(&rt, text(rt.alloc(), tag, bytes), shown);
     }
-    Ok(())
 }
 
 #[test]
-fn fractions_with_units(rt: HostRuntime) -> Result<(), AllocError> {
+fn fractions_with_units(rt: HostRuntime) {
     let alloc = rt.alloc();
     for (tag, pair, shown) in [
         (Tag::ExposureTime, (1, 3), "1/3 s"),
@@ -161,18 +166,18 @@ fn fractions_with_units(rt: HostRuntime) -> Result<(), AllocError> {
         (Tag::FNumber, (28, 10), "f/2.8"),
         (Tag::GPSSpeed, (5, 1), "5 km/h"),
     ] {
-        assert_alone(&rt, fractions(alloc, tag, &[pair]), shown)?;
+        assert_alone(&rt, fractions(alloc, tag, &[pair]), shown);
     }
     let bias = signed(alloc, Tag::ExposureBiasValue, -1, 3);
-    assert_alone(&rt, bias, "-0.333333333 EV")?;
+    assert_alone(&rt, bias, "-0.333333333 EV");
     let bias = signed(alloc, Tag::ExposureBiasValue, -1, 2000000000);
-    assert_alone(&rt, bias, "0 EV")?;
+    assert_alone(&rt, bias, "0 EV");
     let stamp = fractions(alloc, Tag::GPSTimeStamp, &[(9, 1), (5, 1), (61, 2)]);
-    assert_alone(&rt, stamp, "09:05:30.5")
+    assert_alone(&rt, stamp, "09:05:30.5");
 }
 
 #[test]
-fn numbers_with_units(rt: HostRuntime) -> Result<(), AllocError> {
+fn numbers_with_units(rt: HostRuntime) {
     let alloc = rt.alloc();
     for (tag, number, shown) in [
         (Tag::Orientation, 9, "[reserved orientation 9]"),
@@ -184,14 +189,9 @@ fn numbers_with_units(rt: HostRuntime) -> Result<(), AllocError> {
         (Tag::FocalLengthIn35mmFilm, 24, "24 mm"),
         (Tag::FocalLengthIn35mmFilm, 0, "unknown mm"),
     ] {
-        assert_alone(&rt, shorts(alloc, tag, &[number]), shown)?;
+        assert_alone(&rt, shorts(alloc, tag, &[number]), shown);
     }
-    let bits = Value::Float(Items::from_slice(alloc, &[0x40200000])?);
-    assert_alone(
-        &rt,
-        Ok(field(Tag(Context::Tiff, 65000), bits)),
-        "0x40200000",
-    )
+    assert_alone(&rt, bits(alloc, 0x40200000), "0x40200000");
 }
 
 // The unit of resolutions, as another directory has it.
@@ -202,29 +202,28 @@ fn thumbnail_unit(alloc: Global) -> Result<Field, AllocError> {
 }
 
 #[test]
-fn units_of_resolutions(rt: HostRuntime) -> Result<(), AllocError> {
+fn units_of_resolutions(rt: HostRuntime) {
     let alloc = rt.alloc();
     let resolution = fractions(alloc, Tag::XResolution, &[(72, 1)]);
     let unit = shorts(alloc, Tag::ResolutionUnit, &[3]);
-    assert_beside(&rt, resolution, unit, "72 pixels per cm")?;
+    assert_beside(&rt, resolution, unit, "72 pixels per cm");
     let resolution = fractions(alloc, Tag::XResolution, &[(72, 1)]);
-    assert_beside(&rt, resolution, thumbnail_unit(alloc), "72 pixels per inch")?;
+    assert_beside(&rt, resolution, thumbnail_unit(alloc), "72 pixels per inch");
     let resolution = fractions(alloc, Tag::XResolution, &[(72, 1)]);
     let unit = text(alloc, Tag::ResolutionUnit, b"cm");
     let shown = "72 pixels per [reserved resolution unit \"cm\"]";
-    assert_beside(&rt, resolution, unit, shown)
+    assert_beside(&rt, resolution, unit, shown);
 }
 
 #[test]
-fn units_of_places(rt: HostRuntime) -> Result<(), AllocError> {
+fn units_of_places(rt: HostRuntime) {
     let alloc = rt.alloc();
     let latitude = fractions(alloc, Tag::GPSLatitude, &[(10, 1), (0, 1), (1, 10)]);
     let shown = "10 deg 0 min 0.1 sec [GPSLatitudeRef missing]";
-    assert_alone(&rt, latitude, shown)?;
-    let below = Value::Byte(Items::from_slice(alloc, &[1])?);
-    let below = Ok(field(Tag::GPSAltitudeRef, below));
+    assert_alone(&rt, latitude, shown);
+    let below = bytes(alloc, Tag::GPSAltitudeRef, &[1]);
     let altitude = fractions(alloc, Tag::GPSAltitude, &[(1, 2)]);
-    assert_beside(&rt, altitude, below, "0.5 meters below sea level")
+    assert_beside(&rt, altitude, below, "0.5 meters below sea level");
 }
 
 // Two units of resolutions, that were read one behind the other.
@@ -236,18 +235,31 @@ fn two_units(alloc: Global) -> Result<Exif, AllocError> {
     Ok(exif)
 }
 
+// Whether a resolution of a directory is shown with the unit that was read there.
+fn is_beside(
+    alloc: Global,
+    exif: &Exif,
+    directory: In,
+    resolution: &mut Field,
+    text: &str,
+) -> Result<bool, AllocError> {
+    resolution.ifd_num = directory;
+    is_shown(alloc, &resolution.display_value().with_unit(exif), text)
+}
+
 #[test]
-fn units_of_the_fields_that_were_read(rt: HostRuntime) -> Result<(), Fail> {
+fn units_of_the_fields_that_were_read(rt: HostRuntime) {
     let alloc = rt.alloc();
-    let exif = two_units(alloc)?;
-    let mut resolution = fractions(alloc, Tag::YResolution, &[(300, 1)])?;
-    for (directory, shown) in [
-        (In::PRIMARY, "300 pixels per cm"),
-        (In::THUMBNAIL, "300 pixels per inch"),
-    ] {
-        resolution.ifd_num = directory;
-        let value = resolution.display_value().with_unit(&exif);
-        assert!(rt; is_shown(alloc, &value, shown)?, "{shown}");
-    }
-    Ok(())
+    let exif = two_units(alloc).expect(&rt, "memory");
+    let mut field = fractions(alloc, Tag::YResolution, &[(300, 1)]).expect(&rt, "memory");
+    let first = is_beside(alloc, &exif, In::PRIMARY, &mut field, "300 pixels per cm");
+    let second = is_beside(
+        alloc,
+        &exif,
+        In::THUMBNAIL,
+        &mut field,
+        "300 pixels per inch",
+    );
+    drop(field);
+    assert!(rt; first == Ok(true) && second == Ok(true));
 }

@@ -7,11 +7,13 @@ use std::test::Fail;
 
 // The value is of the type with the number, of so many items.
 fn assert_type(rt: &(impl Abort), value: Value, number: u16, unit: u32, count: u32) {
-    let known = value.field_type().expect(rt, "a known type");
+    let (known, found, items) = (value.field_type(), value.type_number(), value.count());
+    drop(value);
+    let known = known.expect(rt, "a known type");
     assert!(rt; known.number() == number);
     assert!(rt; known.unit_length() == unit);
-    assert!(rt; value.type_number() == number);
-    assert!(rt; value.count() == Some(count));
+    assert!(rt; found == number);
+    assert!(rt; items == Some(count));
 }
 
 #[test]
@@ -33,7 +35,7 @@ fn values_have_their_types_and_counts(rt: HostRuntime) -> Result<(), Fail> {
 #[test]
 fn a_type_that_is_not_known_has_a_count(rt: HostRuntime) {
     let unknown = Value::Unknown(13, 2, 40);
-    assert!(rt; unknown.field_type() == None);
-    assert!(rt; unknown.type_number() == 13);
-    assert!(rt; unknown.count() == Some(2));
+    let (known, number, count) = (unknown.field_type(), unknown.type_number(), unknown.count());
+    drop(unknown);
+    assert!(rt; known == None && number == 13 && count == Some(2));
 }
