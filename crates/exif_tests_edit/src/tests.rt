@@ -13,9 +13,9 @@ mod types;
 mod undone;
 mod values;
 
-use exif_edit::Error;
 use exif_types::{Context, Tag, Value};
 use std::alloc::{AllocError, Global};
+use std::fmt::Display;
 
 /// The tag of an image description.
 pub const DESCRIPTION: Tag = Tag(Context::Tiff, 0x10e);
@@ -56,13 +56,34 @@ pub fn put(bytes: &mut [u8], place: usize, text: &[u8]) {
     }
 }
 
+/// Whether an error is shown as this text. This and what is below take any error, so that the proof
+/// of a test does not open the kinds of errors where one goes.
+pub fn is_shown<E: Display + Drop>(
+    alloc: Global,
+    error: E,
+    text: &str,
+) -> Result<bool, AllocError> {
+    Ok(format!(in alloc; "{error}")?.as_str() == text)
+}
+
 /// Whether an answer is the refusal whose text this is.
-pub fn refuses(alloc: Global, answer: &Result<(), Error>, text: &str) -> Result<bool, AllocError> {
+pub fn refuses<T: Drop, E: Display + Drop>(
+    alloc: Global,
+    answer: Result<T, E>,
+    text: &str,
+) -> Result<bool, AllocError> {
     match answer {
-        Ok(()) => Ok(false),
-        Err(error) => {
-            let shown = format!(in alloc; "{error}")?;
-            Ok(shown.as_str() == text)
-        }
+        Ok(_edited) => Ok(false),
+        Err(error) => is_shown(alloc, error, text),
     }
+}
+
+/// Whether an answer is no refusal.
+pub fn is_done<E: Drop>(answer: Result<(), E>) -> bool {
+    answer.is_ok()
+}
+
+/// Whether an answer is that something is so.
+pub fn is_so<E: Drop>(answer: Result<bool, E>) -> bool {
+    matches!(answer, Ok(true))
 }

@@ -1,7 +1,7 @@
 //! Edits of copies, for all tests: none of these has a contract, so the proof of a test carries no clauses
 //! of what it calls.
 
-use super::{DESCRIPTION, is_zero, part, refuses, text};
+use super::{DESCRIPTION, is_done, is_zero, part, refuses, text};
 use exif_base::Items;
 use exif_edit::{Error, Patch, erase_all, erase_field, erase_places, set_value};
 use exif_edit_files::{
@@ -21,7 +21,7 @@ pub fn sets(
 ) -> Result<bool, AllocError> {
     let mut bytes = Vec::from_slice(alloc, old)?;
     let answer = set_value(alloc, bytes.as_mut_slice(), name.0, name.1, value);
-    Ok(answer.is_ok() && bytes.as_slice() == want)
+    Ok(is_done(answer) && bytes.as_slice() == want)
 }
 
 /// Whether setting a value is refused with this text, and the bytes stay.
@@ -34,13 +34,15 @@ pub fn value_stays(
 ) -> Result<bool, AllocError> {
     let mut bytes = Vec::from_slice(alloc, old)?;
     let answer = set_value(alloc, bytes.as_mut_slice(), name.0, name.1, value);
-    Ok(refuses(alloc, &answer, why)? && bytes.as_slice() == old)
+    Ok(refuses(alloc, answer, why)? && bytes.as_slice() == old)
 }
 
 /// Whether setting a text as the description makes these bytes of data.
 pub fn sets_text(alloc: Global, old: &[u8], new: &[u8], want: &[u8]) -> Result<bool, AllocError> {
     let value = text(alloc, new)?;
-    sets(alloc, old, (DESCRIPTION, In(0)), &value, want)
+    let answer = sets(alloc, old, (DESCRIPTION, In(0)), &value, want);
+    drop(value);
+    answer
 }
 
 /// Whether setting a text in the first directory is refused with this text, and the bytes stay.
@@ -52,7 +54,9 @@ pub fn text_stays(
     why: &str,
 ) -> Result<bool, AllocError> {
     let value = text(alloc, new)?;
-    value_stays(alloc, old, (tag, In(0)), &value, why)
+    let answer = value_stays(alloc, old, (tag, In(0)), &value, why);
+    drop(value);
+    answer
 }
 
 /// Whether setting numbers of two bytes in the first directory makes these bytes of data.
@@ -64,28 +68,30 @@ pub fn sets_numbers(
     want: &[u8],
 ) -> Result<bool, AllocError> {
     let value = Value::Short(Items::from_slice(alloc, numbers)?);
-    sets(alloc, old, (tag, In(0)), &value, want)
+    let answer = sets(alloc, old, (tag, In(0)), &value, want);
+    drop(value);
+    answer
 }
 
 /// Whether erasing the fields of a tag in the first directory makes these bytes of data.
 pub fn field_erased(alloc: Global, old: &[u8], tag: Tag, want: &[u8]) -> Result<bool, AllocError> {
     let mut bytes = Vec::from_slice(alloc, old)?;
     let answer = erase_field(alloc, bytes.as_mut_slice(), tag, In(0));
-    Ok(answer.is_ok() && bytes.as_slice() == want)
+    Ok(is_done(answer) && bytes.as_slice() == want)
 }
 
 /// Whether erasing the fields of a tag is refused with this text, and the bytes stay.
 pub fn field_stays(alloc: Global, old: &[u8], tag: Tag, why: &str) -> Result<bool, AllocError> {
     let mut bytes = Vec::from_slice(alloc, old)?;
     let answer = erase_field(alloc, bytes.as_mut_slice(), tag, In(0));
-    Ok(refuses(alloc, &answer, why)? && bytes.as_slice() == old)
+    Ok(refuses(alloc, answer, why)? && bytes.as_slice() == old)
 }
 
 /// Whether erasing all fields makes these bytes of data.
 pub fn all_erased(alloc: Global, old: &[u8], want: &[u8]) -> Result<bool, AllocError> {
     let mut bytes = Vec::from_slice(alloc, old)?;
     let answer = erase_all(bytes.as_mut_slice());
-    Ok(answer.is_ok() && bytes.as_slice() == want)
+    Ok(is_done(answer) && bytes.as_slice() == want)
 }
 
 /// What erasing the places makes of data.
@@ -102,17 +108,16 @@ pub fn places_zeroed(
     from: usize,
     to: usize,
 ) -> Result<bool, AllocError> {
-    match without_places(alloc, old) {
-        Ok(new) => Ok(is_zeroed(old, new.as_slice(), from, to)),
-        Err(_) => Ok(false),
-    }
+    let mut new = Vec::from_slice(alloc, old)?;
+    let answer = erase_places(alloc, new.as_mut_slice());
+    Ok(is_done(answer) && is_zeroed(old, new.as_slice(), from, to))
 }
 
 /// Whether erasing the places is refused with this text, and the bytes stay.
 pub fn places_stay(alloc: Global, old: &[u8], why: &str) -> Result<bool, AllocError> {
     let mut bytes = Vec::from_slice(alloc, old)?;
     let answer = erase_places(alloc, bytes.as_mut_slice());
-    Ok(refuses(alloc, &answer, why)? && bytes.as_slice() == old)
+    Ok(refuses(alloc, answer, why)? && bytes.as_slice() == old)
 }
 
 /// Whether bytes are as they were, but for zeros between two places.

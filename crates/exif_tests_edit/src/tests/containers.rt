@@ -6,7 +6,7 @@ use super::calls::{
     set_patches,
 };
 use super::undone::HEAD;
-use super::{is_zero, part, refuses, text};
+use super::{is_so, is_zero, part, refuses, text};
 use exif_base::{Counted, Seekable};
 use exif_edit::{Error, Patch};
 use exif_edit_files::erase_places_patches_of;
@@ -72,7 +72,7 @@ fn places_become_zeros_in_each_file(rt: HostRuntime) -> Result<(), Fail> {
     let alloc = rt.alloc();
     for row in &FILES {
         let old = joined(alloc, &[row.0, DATA, row.1])?;
-        assert!(rt; matches!(loses_places(alloc, old.as_slice(), row.0.len()), Ok(true)));
+        assert!(rt; is_so(loses_places(alloc, old.as_slice(), row.0.len())));
     }
     Ok(())
 }
@@ -84,7 +84,8 @@ fn loses_field(alloc: Global, old: &[u8], place: usize) -> Result<bool, Error> {
     let place = place % 1000;
     let erased = is_zeroed(old, new.as_slice(), place + 44, place + 62);
     let again = field_in_file(alloc, new.as_mut_slice(), In(1));
-    Ok(erased && refuses(alloc, &again, "No such field")?)
+    let gone = refuses(alloc, again, "No such field")?;
+    Ok(erased && gone)
 }
 
 #[test]
@@ -92,7 +93,7 @@ fn a_field_is_erased_in_each_file(rt: HostRuntime) -> Result<(), Fail> {
     let alloc = rt.alloc();
     for row in &FILES {
         let old = joined(alloc, &[row.0, DATA, row.1])?;
-        assert!(rt; matches!(loses_field(alloc, old.as_slice(), row.0.len()), Ok(true)));
+        assert!(rt; is_so(loses_field(alloc, old.as_slice(), row.0.len())));
     }
     Ok(())
 }
@@ -123,7 +124,7 @@ fn patches_count_from_the_first_byte(rt: HostRuntime) -> Result<(), Fail> {
     let alloc = rt.alloc();
     for row in &FILES {
         let file = joined(alloc, &[row.0, DATA, row.1])?;
-        assert!(rt; matches!(are_told(alloc, file.as_slice(), row.0.len()), Ok(true)));
+        assert!(rt; is_so(are_told(alloc, file.as_slice(), row.0.len())));
     }
     Ok(())
 }
@@ -147,14 +148,14 @@ fn places_of_streams_become_zeros(rt: HostRuntime) -> Result<(), Fail> {
     let alloc = rt.alloc();
     for row in FILES.iter().skip(1).take(2) {
         let file = joined(alloc, &[row.0, DATA, row.1])?;
-        assert!(rt; matches!(are_read(alloc, file.as_slice(), row.0.len()), Ok(true)));
-        assert!(rt; matches!(are_sought(alloc, file.as_slice(), row.0.len()), Ok(true)));
+        assert!(rt; is_so(are_read(alloc, file.as_slice(), row.0.len())));
+        assert!(rt; is_so(are_sought(alloc, file.as_slice(), row.0.len())));
     }
     Ok(())
 }
 
 // Whether an answer says that the data are scattered.
-fn are_scattered(alloc: Global, answer: &Result<(), Error>) -> Result<bool, AllocError> {
+fn are_scattered(alloc: Global, answer: Result<(), Error>) -> Result<bool, AllocError> {
     refuses(alloc, answer, "The Exif data do not stand in one piece")
 }
 
@@ -162,22 +163,23 @@ fn are_scattered(alloc: Global, answer: &Result<(), Error>) -> Result<bool, Allo
 fn places_stay(alloc: Global, old: &[u8]) -> Result<bool, AllocError> {
     let mut new = joined(alloc, &[old])?;
     let answer = places_in_file(alloc, new.as_mut_slice());
-    Ok(are_scattered(alloc, &answer)? && new.as_slice() == old)
+    Ok(are_scattered(alloc, answer)? && new.as_slice() == old)
 }
 
 // Whether its description is not erased.
 fn field_stays(alloc: Global, old: &[u8]) -> Result<bool, AllocError> {
     let mut new = joined(alloc, &[old])?;
     let answer = field_in_file(alloc, new.as_mut_slice(), In(1));
-    Ok(are_scattered(alloc, &answer)? && new.as_slice() == old)
+    Ok(are_scattered(alloc, answer)? && new.as_slice() == old)
 }
 
 // Whether its description is not set.
 fn text_stays(alloc: Global, old: &[u8]) -> Result<bool, AllocError> {
-    let value = text(alloc, b"q")?;
     let mut new = joined(alloc, &[old])?;
+    let value = text(alloc, b"q")?;
     let answer = set_in_file(alloc, new.as_mut_slice(), In(1), &value);
-    Ok(are_scattered(alloc, &answer)? && new.as_slice() == old)
+    drop(value);
+    Ok(are_scattered(alloc, answer)? && new.as_slice() == old)
 }
 
 #[test]
@@ -198,7 +200,7 @@ fn a_copy_in_front_of_the_data_stays(rt: HostRuntime) -> Result<(), Fail> {
     let alloc = rt.alloc();
     let old = joined(alloc, &[COMMENT, DATA, SEGMENT, DATA, b"\xff\xd9"])?;
     // the comment ends at 68, and the segment's head at 78
-    assert!(rt; matches!(loses_places(alloc, old.as_slice(), 78), Ok(true)));
+    assert!(rt; is_so(loses_places(alloc, old.as_slice(), 78)));
     Ok(())
 }
 
@@ -225,7 +227,7 @@ fn crowded(alloc: Global, copies: usize, place: &[u8], size: &[u8]) -> Result<Ve
 fn data_are_tried_at_eight_places(rt: HostRuntime) -> Result<(), Fail> {
     let alloc = rt.alloc();
     let eighth = crowded(alloc, 7, b"\x02\x1a", b"\x01\xba")?;
-    assert!(rt; matches!(loses_places(alloc, eighth.as_slice(), 542), Ok(true)));
+    assert!(rt; is_so(loses_places(alloc, eighth.as_slice(), 542)));
     let ninth = crowded(alloc, 8, b"\x02\x58", b"\x01\xf8")?;
     assert!(rt; places_stay(alloc, ninth.as_slice())?);
     Ok(())
@@ -234,8 +236,9 @@ fn data_are_tried_at_eight_places(rt: HostRuntime) -> Result<(), Fail> {
 // Whether all patches that set a description stand at a place.
 fn all_stand_at(alloc: Global, file: &[u8], place: u64) -> Result<bool, Error> {
     let value = text(alloc, b"p")?;
-    let patches = set_patches(alloc, file, In(1), &value)?;
-    Ok(patches.as_slice().iter().all(|patch| patch.place == place))
+    let patches = set_patches(alloc, file, In(1), &value);
+    drop(value);
+    Ok(patches?.as_slice().iter().all(|patch| patch.place == place))
 }
 
 #[test]
@@ -243,6 +246,6 @@ fn a_value_that_stays_is_told_where_it_stands(rt: HostRuntime) -> Result<(), Fai
     let alloc = rt.alloc();
     let file = joined(alloc, &[COMMENT, DATA, SEGMENT, DATA, b"\xff\xd9"])?;
     // the entry stands at 46 of the data, which begin at 78
-    assert!(rt; matches!(all_stand_at(alloc, file.as_slice(), 126), Ok(true)));
+    assert!(rt; is_so(all_stand_at(alloc, file.as_slice(), 126)));
     Ok(())
 }

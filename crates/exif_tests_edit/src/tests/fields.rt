@@ -1,7 +1,7 @@
 //! Fields of a name erased in data.
 
-use super::DESCRIPTION;
 use super::calls::{field_erased, field_stays};
+use super::{DESCRIPTION, is_so};
 use exif_edit::{Error, erase_field_patches};
 use exif_samples::files::{DESCRIBED_BIG, DESCRIBED_LITTLE};
 use exif_types::{Context, In, Tag};
@@ -89,7 +89,7 @@ fn are_told(alloc: Global, first: (u64, usize), second: (u64, usize)) -> Result<
 
 #[test]
 fn patches_are_a_directory_and_a_value(rt: HostRuntime) {
-    assert!(rt; matches!(are_told(rt.alloc(), (8, 42), (50, 7)), Ok(true)));
+    assert!(rt; is_so(are_told(rt.alloc(), (8, 42), (50, 7))));
 }
 
 const SHARES: &str = "The bytes are shared with something else";

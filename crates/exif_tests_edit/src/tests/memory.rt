@@ -142,6 +142,24 @@ fn erasing_all(alloc: Global, form: Form, file: &mut [u8; LENGTH]) -> Result<Vec
     Ok(Vec::new(alloc))
 }
 
+// Puts patches over the bytes that they count from.
+fn put_all(bytes: &mut [u8], patches: &[Patch]) {
+    for patch in patches {
+        put(bytes, patch.place as usize, patch.text.as_slice());
+    }
+}
+
+// What a refused edit comes to that is to leave the file as it was.
+fn refused(error: Error, file: &[u8]) -> Outcome {
+    let wants = matches!(&error, Error::OutOfMemory);
+    drop(error);
+    if wants && file == FILE {
+        Outcome::Wants
+    } else {
+        Outcome::Wrong
+    }
+}
+
 // What an edit of the file comes to that is to give these bytes. An error leaves it as it was.
 fn attempt(alloc: Global, form: Form, edit: Edit, want: &[u8]) -> Outcome {
     let mut file = [0u8; LENGTH];
@@ -159,21 +177,14 @@ fn attempt(alloc: Global, form: Form, edit: Edit, want: &[u8]) -> Outcome {
     };
     match answer {
         Ok(patches) => {
-            for patch in patches.as_slice() {
-                put(
-                    &mut file[begin..],
-                    patch.place as usize,
-                    patch.text.as_slice(),
-                );
-            }
+            put_all(&mut file[begin..], patches.as_slice());
             if &file[..] == want {
                 Outcome::Right
             } else {
                 Outcome::Wrong
             }
         }
-        Err(Error::OutOfMemory) if &file[..] == FILE => Outcome::Wants,
-        Err(_) => Outcome::Wrong,
+        Err(error) => refused(error, &file[..]),
     }
 }
 
@@ -189,8 +200,9 @@ fn wants(alloc: Global, edit: Edit, want: &[u8]) -> Result<[u16; 5], Fail> {
 #[test]
 fn a_value_runs_out_of_memory(rt: HostRuntime) -> Result<(), Fail> {
     let value = text(rt.alloc(), b"Blue")?;
-    let counts = wants(rt.alloc(), Edit::Value(&value), SET)?;
-    assert!(rt; counts.iter().all(|count| *count > 0));
+    let counts = wants(rt.alloc(), Edit::Value(&value), SET);
+    drop(value);
+    assert!(rt; counts?.iter().all(|count| *count > 0));
     Ok(())
 }
 

@@ -1,7 +1,7 @@
 //! Places erased in data.
 
 use super::calls::{places_zeroed, without_places};
-use super::{is_zero, part};
+use super::{is_so, is_zero, part};
 use exif_edit::{Error, erase_places_patches};
 use exif_samples::files::{DESCRIBED_BIG, JOURNEY, NOTHING, PLACE_BEFORE_DESCRIPTION};
 use std::alloc::{AllocError, Global};
@@ -33,7 +33,7 @@ fn nothing_changes(alloc: Global, old: &[u8]) -> Result<bool, Error> {
 #[test]
 fn without_a_place_nothing_changes(rt: HostRuntime) {
     for old in &PLAIN {
-        assert!(rt; matches!(nothing_changes(rt.alloc(), old), Ok(true)));
+        assert!(rt; is_so(nothing_changes(rt.alloc(), old)));
     }
 }
 
@@ -81,7 +81,7 @@ fn eight_of(alloc: Global, last: u8) -> Result<bool, Error> {
 
 #[test]
 fn eight_directories_lose_their_places(rt: HostRuntime) {
-    assert!(rt; matches!(eight_of(rt.alloc(), 7), Ok(true)));
+    assert!(rt; is_so(eight_of(rt.alloc(), 7)));
     // a ninth directory is not read, and keeps its place
-    assert!(rt; matches!(eight_of(rt.alloc(), 8), Ok(true)));
+    assert!(rt; is_so(eight_of(rt.alloc(), 8)));
 }

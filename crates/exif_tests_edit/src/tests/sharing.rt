@@ -24,7 +24,9 @@ fn stays(
     numbers: &[u16],
 ) -> Result<bool, AllocError> {
     let value = Value::Short(Items::from_slice(alloc, numbers)?);
-    value_stays(alloc, old, (tag, ifd_num), &value, SHARED)
+    let answer = value_stays(alloc, old, (tag, ifd_num), &value, SHARED);
+    drop(value);
+    answer
 }
 
 // Whether setting numbers as the width puts a text behind the tag of the first entry.

@@ -1,7 +1,7 @@
 //! Edits of files that are read once and not held.
 
 use super::calls::{field_patches, set_patches};
-use super::{DESCRIPTION, refuses, text};
+use super::{DESCRIPTION, is_so, refuses, text};
 use exif_base::{Counted, Seekable};
 use exif_edit::{Error, Patch};
 use exif_edit_files::{erase_field_patches_of, erase_places_patches_of, set_value_patches_of};
@@ -33,9 +33,10 @@ fn sets_as_the_whole(alloc: Global, file: &[u8]) -> Result<bool, Error> {
     let value = text(alloc, b"Blue")?;
     let mut read = Counted::new(file);
     let len = file.len() as u64;
-    let found = set_value_patches_of(alloc, &mut read, len, DESCRIPTION, In(0), &value)?;
-    let wanted = set_patches(alloc, file, In(0), &value)?;
-    Ok(are_same(found.as_slice(), wanted.as_slice()))
+    let found = set_value_patches_of(alloc, &mut read, len, DESCRIPTION, In(0), &value);
+    let wanted = set_patches(alloc, file, In(0), &value);
+    drop(value);
+    Ok(are_same(found?.as_slice(), wanted?.as_slice()))
 }
 
 // Whether the patches that erase a field are those of the whole file.
@@ -50,8 +51,8 @@ fn erases_as_the_whole(alloc: Global, file: &[u8]) -> Result<bool, Error> {
 #[test]
 fn patches_are_those_of_the_whole_file(rt: HostRuntime) {
     for file in &STREAMS {
-        assert!(rt; matches!(sets_as_the_whole(rt.alloc(), file), Ok(true)));
-        assert!(rt; matches!(erases_as_the_whole(rt.alloc(), file), Ok(true)));
+        assert!(rt; is_so(sets_as_the_whole(rt.alloc(), file)));
+        assert!(rt; is_so(erases_as_the_whole(rt.alloc(), file)));
     }
 }
 
@@ -64,7 +65,7 @@ fn places_of(alloc: Global, file: &[u8]) -> Result<usize, Error> {
 #[test]
 fn without_a_place_there_is_no_patch(rt: HostRuntime) {
     for file in &STREAMS {
-        assert!(rt; matches!(places_of(rt.alloc(), file), Ok(0)));
+        assert!(rt; places_of(rt.alloc(), file).ok() == Some(0));
     }
 }
 
@@ -72,8 +73,7 @@ fn without_a_place_there_is_no_patch(rt: HostRuntime) {
 fn other_files_are_refused(rt: HostRuntime) -> Result<(), Fail> {
     let alloc = rt.alloc();
     for row in &REFUSED {
-        let answer = places_of(alloc, row.0).map(|_count| ());
-        assert!(rt; refuses(alloc, &answer, row.1)?);
+        assert!(rt; refuses(alloc, places_of(alloc, row.0), row.1)?);
     }
     Ok(())
 }

@@ -1,41 +1,41 @@
 //! The texts of errors.
 
+use super::is_shown;
 use exif_edit::Error;
 use exif_tiff::Fault;
-use std::alloc::{AllocError, Global};
-use std::test::Fail;
+use std::process::Abort;
 
-// Whether an error is shown as this text.
-fn is_shown(alloc: Global, error: &Error, text: &str) -> Result<bool, AllocError> {
-    let shown = format!(in alloc; "{error}")?;
-    Ok(shown.as_str() == text)
+fn assert_shown(rt: &(impl Abort + AllocGlobal), error: Error, text: &str) {
+    assert!(rt; is_shown(rt.alloc(), error, text) == Ok(true), "{text}");
 }
 
 #[test]
-fn errors_are_shown(rt: HostRuntime) -> Result<(), Fail> {
-    let alloc = rt.alloc();
-    let rows = [
-        (Error::FieldNotFound, "No such field"),
-        (Error::UnknownType, "Cannot write unknown field types"),
-        (Error::ValueTooLong, "The value is too long for its room"),
-        (Error::NamesPlaces, "The field says where other bytes stand"),
-        (
-            Error::SharedBytes,
-            "The bytes are shared with something else",
-        ),
-        (
-            Error::ScatteredData,
-            "The Exif data do not stand in one piece",
-        ),
-        (Error::PictureData, "The picture stands in the same data"),
-        (
-            Error::Header(Fault::TruncatedHeader),
-            "Truncated TIFF header",
-        ),
-        (Error::OutOfMemory, "Out of memory"),
-    ];
-    for row in &rows {
-        assert!(rt; is_shown(alloc, &row.0, row.1)?);
-    }
-    Ok(())
+fn errors_are_shown(rt: HostRuntime) {
+    let shared = "The bytes are shared with something else";
+    assert_shown(&rt, Error::FieldNotFound, "No such field");
+    assert_shown(&rt, Error::UnknownType, "Cannot write unknown field types");
+    assert_shown(
+        &rt,
+        Error::ValueTooLong,
+        "The value is too long for its room",
+    );
+    assert_shown(
+        &rt,
+        Error::NamesPlaces,
+        "The field says where other bytes stand",
+    );
+    assert_shown(&rt, Error::SharedBytes, shared);
+    assert_shown(
+        &rt,
+        Error::ScatteredData,
+        "The Exif data do not stand in one piece",
+    );
+    assert_shown(
+        &rt,
+        Error::PictureData,
+        "The picture stands in the same data",
+    );
+    let header = Error::Header(Fault::TruncatedHeader);
+    assert_shown(&rt, header, "Truncated TIFF header");
+    assert_shown(&rt, Error::OutOfMemory, "Out of memory");
 }

@@ -171,10 +171,12 @@ fn makes(
     number: u16,
     texts: &[(u16, &[u8])],
 ) -> Result<bool, AllocError> {
-    let value = value_of(alloc, number)?;
     let tag = Tag(Context::Tiff, number);
     let want = with_texts(alloc, old, texts)?;
-    sets(alloc, old, (tag, In(0)), &value, want.as_slice())
+    let value = value_of(alloc, number)?;
+    let answer = sets(alloc, old, (tag, In(0)), &value, want.as_slice());
+    drop(value);
+    answer
 }
 
 #[test]
@@ -217,7 +219,9 @@ fn is_too_long(alloc: Global, number: u16) -> Result<bool, AllocError> {
     let value = long_value(alloc, number)?;
     let name = (Tag(Context::Tiff, number), In(0));
     let why = "The value is too long for its room";
-    value_stays(alloc, EVERY_TYPE_BIG, name, &value, why)
+    let answer = value_stays(alloc, EVERY_TYPE_BIG, name, &value, why);
+    drop(value);
+    answer
 }
 
 #[test]

@@ -35,11 +35,14 @@ fn heif() -> [u8; LENGTH] {
 fn erasing_in_heif(alloc: Global) -> Outcome {
     let old = heif();
     let mut file = heif();
-    match places_in_file(alloc, &mut file[..]) {
+    let answer = places_in_file(alloc, &mut file[..]);
+    let outcome = match &answer {
         Ok(()) if is_zeroed(&old[..], &file[..], DATA + 26, DATA + 44) => Outcome::Right,
         Err(Error::OutOfMemory) if file[..] == old[..] => Outcome::Wants,
         _ => Outcome::Wrong,
-    }
+    };
+    drop(answer);
+    outcome
 }
 
 #[test]
@@ -51,14 +54,13 @@ fn what_does_not_serve_in_a_file_is_undone(rt: HostRuntime) -> Result<(), Fail> 
 
 // What a refused edit comes to that is to leave data as they were.
 fn refused(answer: Result<(), Error>, old: &[u8], new: &[u8]) -> Outcome {
-    if new != old {
-        return Outcome::Wrong;
-    }
-    match answer {
+    let outcome = match &answer {
         Err(Error::SharedBytes) => Outcome::Right,
         Err(Error::OutOfMemory) => Outcome::Wants,
         _ => Outcome::Wrong,
-    }
+    };
+    drop(answer);
+    if new == old { outcome } else { Outcome::Wrong }
 }
 
 // What erasing places comes to whose values are something else too.
@@ -93,7 +95,8 @@ fn setting_shared(alloc: Global, value: &Value) -> Outcome {
 #[test]
 fn a_shared_value_is_put_back(rt: HostRuntime) -> Result<(), Fail> {
     let value = Value::Short(Items::from_slice(rt.alloc(), &[7])?);
-    let count = in_turn(rt.alloc(), || setting_shared(rt.alloc(), &value))?;
-    assert!(rt; count > 0);
+    let count = in_turn(rt.alloc(), || setting_shared(rt.alloc(), &value));
+    drop(value);
+    assert!(rt; count? > 0);
     Ok(())
 }
