@@ -247,21 +247,25 @@ fn a_reader_passes_none(rt: HostRuntime) {
     assert!(rt; Counted::new(DIGITS).pass_others(b'4', 9) == 0);
 }
 
+/// These bytes are at hand, and so many of them are passed.
+fn passes_at_hand<F: Feed>(rt: &impl Abort, feed: &mut F, bytes: &[u8], count: usize) {
+    assert!(rt; feed.at_hand() == bytes);
+    assert!(rt; count <= bytes.len());
+    feed.pass(count);
+}
+
 #[test]
 fn bytes_at_hand_are_looked_at(rt: HostRuntime) {
     let mut source = one_byte(b"3", 2, ErrorKind::Other);
     let mut block = *b"012.";
     let mut blocks = Blocks::new(&mut block, 3, &mut source);
     assert!(rt; blocks.fill().is_ok());
-    assert!(rt; blocks.at_hand() == b"012".as_slice());
-    blocks.pass(2);
-    assert!(rt; blocks.at_hand() == b"2".as_slice());
-    blocks.pass(1);
+    passes_at_hand(&rt, &mut blocks, b"012", 2);
+    passes_at_hand(&rt, &mut blocks, b"2", 1);
     assert!(rt; blocks.at_hand().is_empty());
     // One more byte, the end, and a fault.
     assert!(rt; blocks.fill().is_ok());
-    assert!(rt; blocks.at_hand() == b"3".as_slice());
-    blocks.pass(1);
+    passes_at_hand(&rt, &mut blocks, b"3", 1);
     assert!(rt; blocks.fill().is_ok());
     assert!(rt; blocks.at_hand().is_empty());
     assert!(rt; error_of(blocks.fill()) == Some(ErrorKind::Other));

@@ -78,22 +78,26 @@ fn refusal(error: &Error) -> Option<&'static str> {
     }
 }
 
-/// Whether a result is this answer.
-fn is_answer(got: &Result<Vec<u8>, Error>, want: Answer) -> bool {
-    match got {
+/// Whether a result is this answer. It is let go by one call.
+fn is_answer(got: Result<Vec<u8>, Error>, want: Answer) -> bool {
+    let is_wanted = match &got {
         Ok(payload) => want == Ok(payload.as_slice()),
         Err(error) => refusal(error).is_some_and(|text| want == Err(text)),
-    }
+    };
+    drop(got);
+    is_wanted
 }
 
-/// Whether a result is the reader's error of this kind.
-fn is_fault(got: &Result<Vec<u8>, Error>, kind: ErrorKind) -> bool {
-    matches!(got, Err(Error::Io(cause)) if cause.kind() == kind)
+/// Whether a result is the reader's error of this kind. It is let go by one call.
+fn is_fault(got: Result<Vec<u8>, Error>, kind: ErrorKind) -> bool {
+    let is_wanted = matches!(&got, Err(Error::Io(cause)) if cause.kind() == kind);
+    drop(got);
+    is_wanted
 }
 
 /// Whether bytes give this answer, whole and one byte a read.
 fn gives(alloc: Global, kind: Kind, bytes: &[u8], want: Answer) -> bool {
-    is_answer(&whole(alloc, kind, bytes), want) && is_answer(&unfailing(alloc, kind, bytes), want)
+    is_answer(whole(alloc, kind, bytes), want) && is_answer(unfailing(alloc, kind, bytes), want)
 }
 
 /// Each row gives its answer.
@@ -107,7 +111,7 @@ fn assert_rows(rt: &(impl Abort + AllocGlobal), kind: Kind, rows: &[Row]) {
 fn assert_fronts(rt: &(impl Abort + AllocGlobal), kind: Kind, bytes: &[u8], want: Answer) {
     for n in 0..bytes.len() {
         assert!(rt;
-            is_answer(&whole(rt.alloc(), kind, &bytes[..n]), want),
+            is_answer(whole(rt.alloc(), kind, &bytes[..n]), want),
             "front of {n}"
         );
     }
@@ -117,7 +121,7 @@ fn assert_fronts(rt: &(impl Abort + AllocGlobal), kind: Kind, bytes: &[u8], want
 fn assert_faults(rt: &(impl Abort + AllocGlobal), kind: Kind, bytes: &[u8], error: ErrorKind) {
     for calls in 0..bytes.len() {
         let answer = slow(rt.alloc(), kind, bytes, calls, error);
-        assert!(rt; is_fault(&answer, error), "call {calls}");
+        assert!(rt; is_fault(answer, error), "call {calls}");
     }
 }
 

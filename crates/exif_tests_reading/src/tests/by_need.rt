@@ -1,7 +1,8 @@
 //! Files of which no more is read than is needed.
 
+use super::support::is_refused;
 use exif::Reader;
-use exif_samples::answers::{distilled, text_of};
+use exif_samples::answers::distilled;
 use exif_samples::files;
 use exif_samples::readings::{needed_answer, padded, reader_of};
 use std::alloc::Global;
@@ -19,11 +20,13 @@ const LOST_TEXT: &[u8] = b"MM\0*\0\0\0\x08\0\x01\x01\x0e\0\x02\0\0\0\x08\x01\0\0
 // Of how many bytes the data are that a strict reader hands on, where it reads one field.
 fn held(alloc: Global, bytes: &[u8]) -> Result<usize, Fail> {
     let exif = needed_answer(alloc, &Reader::new(), bytes)?;
-    Ok(if exif.fields().len() == 1 {
+    let held = if exif.fields().len() == 1 {
         exif.buf().len()
     } else {
         0
-    })
+    };
+    drop(exif);
+    Ok(held)
 }
 
 #[test]
@@ -52,19 +55,15 @@ fn a_value_behind_the_front_is_read(rt: HostRuntime) -> Result<(), Fail> {
 // How many fields and faults a lenient reader answers, and of how many bytes.
 fn leniently(alloc: Global, bytes: &[u8]) -> Result<(usize, usize, usize), Fail> {
     let (exif, faults) = distilled(needed_answer(alloc, &reader_of(true), bytes))?;
-    Ok((exif.fields().len(), faults, exif.buf().len()))
+    let found = (exif.fields().len(), faults, exif.buf().len());
+    drop(exif);
+    Ok(found)
 }
 
 #[test]
 fn a_fault_in_the_front_has_all_read(rt: HostRuntime) -> Result<(), Fail> {
     let bytes = padded(rt.alloc(), LOST_TEXT, 300000)?;
     assert!(rt; leniently(rt.alloc(), bytes.as_slice())? == (0, 1, 300000));
-    match needed_answer(rt.alloc(), &Reader::new(), bytes.as_slice()) {
-        Ok(_exif) => Err(Fail::new("read")),
-        Err(error) => {
-            let text = text_of(rt.alloc(), &error)?;
-            assert!(rt; text.as_str() == "Truncated field value");
-            Ok(())
-        }
-    }
+    let answer = needed_answer(rt.alloc(), &Reader::new(), bytes.as_slice());
+    is_refused(rt.alloc(), answer, "Truncated field value")
 }

@@ -1,6 +1,7 @@
 //! Reports from readers that give one byte a call or fail, and to such writers.
 
-use exif_samples::answers::{are_bytes, fails_with};
+use super::support::{is_fault, is_report};
+use exif_samples::answers::are_bytes;
 use exif_samples::devices::{Drip, KINDS, Slow};
 use exif_samples::files;
 use exif_samples::readings::{dripping_report, slow_report};
@@ -14,7 +15,7 @@ const DESCRIPTION: &[u8] = b"ImageDescription primary \"Sample\"\n";
 fn writes_nothing(alloc: Global, good_calls: usize, kind: ErrorKind) -> Result<(), Fail> {
     let slow = Slow::new(files::DESCRIBED_BIG, good_calls, kind);
     let (answer, written) = slow_report(alloc, slow, true);
-    fails_with(&answer, kind, good_calls)?;
+    is_fault(answer, kind, good_calls)?;
     are_bytes(written.as_slice(), b"")
 }
 
@@ -28,9 +29,7 @@ fn readers(rt: HostRuntime) -> Result<(), Fail> {
         }
     }
     let slow = Slow::new(bytes, bytes.len() + 9, ErrorKind::Other);
-    let (answer, written) = slow_report(alloc, slow, false);
-    assert!(rt; answer? == 0);
-    are_bytes(written.as_slice(), DESCRIPTION)
+    is_report(&rt, slow_report(alloc, slow, false), 0, DESCRIPTION)
 }
 
 // The report to a writer of so many good calls is an error of a kind, and these bytes were taken.
@@ -43,26 +42,26 @@ fn leaves(
 ) -> Result<(), Fail> {
     let drip = Drip::new(alloc, good_calls, fault);
     let (answer, out) = dripping_report(alloc, files::DESCRIBED_BIG, drip);
-    fails_with(&answer, kind, good_calls)?;
+    is_fault(answer, kind, good_calls)?;
     are_bytes(out.taken.as_slice(), bytes)
+}
+
+// So it is with each number of good calls that is too small.
+fn leaves_fronts(alloc: Global, kind: ErrorKind) -> Result<(), Fail> {
+    // Each byte takes a call.
+    for good_calls in 0..DESCRIPTION.len() {
+        let front = &DESCRIPTION[..good_calls];
+        leaves(alloc, good_calls, Some(kind), kind, front)?;
+    }
+    // The last call is the flush.
+    leaves(alloc, DESCRIPTION.len(), Some(kind), kind, DESCRIPTION)
 }
 
 #[test]
 fn writers(rt: HostRuntime) -> Result<(), Fail> {
     let alloc = rt.alloc();
     for kind in KINDS {
-        // Each byte takes a call.
-        for good_calls in 0..DESCRIPTION.len() {
-            leaves(
-                alloc,
-                good_calls,
-                Some(kind),
-                kind,
-                &DESCRIPTION[..good_calls],
-            )?;
-        }
-        // The last call is the flush.
-        leaves(alloc, DESCRIPTION.len(), Some(kind), kind, DESCRIPTION)?;
+        leaves_fronts(alloc, kind)?;
     }
     leaves(alloc, 3, None, ErrorKind::WriteZero, &DESCRIPTION[..3])?;
     let drip = Drip::new(alloc, DESCRIPTION.len() + 1, Some(ErrorKind::Other));

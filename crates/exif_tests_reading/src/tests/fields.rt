@@ -1,11 +1,13 @@
 //! Fields, values and look-ups of the small files.
 
+use super::support::is_refused;
 use exif::{Context, Error, Exif, Field, In, Items, Rational, SRational, Tag, Value, parse_exif};
-use exif_samples::answers::{debugs, is_text};
+use exif_samples::answers::debugs;
 use exif_samples::files;
 use exif_samples::found::is_version;
-use exif_samples::readings::{read_strictly, reader_of, refusal};
+use exif_samples::readings::{raw_answer, read_strictly, reader_of};
 use std::alloc::Global;
+use std::fmt::Debug;
 use std::process::Abort;
 use std::test::Fail;
 
@@ -15,18 +17,21 @@ const NOT_UNSIGNED: &str = "UnexpectedValue(\"Not unsigned integer\")";
 
 const EXIF_VERSION: Tag = Tag(Context::Exif, 0x9000);
 
-// A field's copy is equal to it, and that of its value to the value of another.
-fn is_copied(rt: &(impl Abort + AllocGlobal), field: &Field, other: &Field) -> Result<(), Fail> {
-    let copy = field.clone(rt.alloc())?;
-    assert!(rt; copy == *field);
-    let value = copy.value.clone(rt.alloc())?;
-    assert!(rt; value == other.value);
-    Ok(())
+// Lets the copy go by one call.
+fn is_equal<T: PartialEq + Drop>(copy: T, original: &T) -> bool {
+    copy == *original
 }
 
-#[test]
-fn the_last_of_equal_fields_is_looked_up(rt: HostRuntime) -> Result<(), Fail> {
-    let exif = read_strictly(rt.alloc(), files::SHARED_CHILD)?;
+// A field's copy is equal to it, and that of its value to the value of another.
+fn is_copied(rt: &(impl Abort + AllocGlobal), field: &Field, other: &Field) {
+    let copy = field.clone(rt.alloc()).expect(rt, "memory");
+    let value = copy.value.clone(rt.alloc()).expect(rt, "memory");
+    assert!(rt; is_equal(copy, field));
+    assert!(rt; is_equal(value, &other.value));
+}
+
+// What the file with two widths and two pointers to one directory says.
+fn has_two_widths(rt: &(impl Abort + AllocGlobal), exif: &Exif) -> Result<(), Fail> {
     assert!(rt; exif.buf() == files::SHARED_CHILD);
     assert!(rt; !exif.little_endian());
     assert!(rt; exif.fields().len() == 4);
@@ -38,13 +43,16 @@ fn the_last_of_equal_fields_is_looked_up(rt: HostRuntime) -> Result<(), Fail> {
     assert!(rt; exif.get_field(no_width, In::PRIMARY).is_none());
     assert!(rt; is_version(exif.get_field(EXIF_VERSION, In::PRIMARY), 0x48));
     let second = exif.fields().nth(1).ok_or("one field")?;
-    is_copied(&rt, second, width)
+    is_copied(rt, second, width);
+    Ok(())
 }
 
-// A header is refused with this text.
-fn is_refused(alloc: Global, bytes: &[u8], lenient: bool, text: &str) -> Result<(), Fail> {
-    let found = refusal(alloc, &reader_of(lenient), bytes)?.ok_or("not refused")?;
-    is_text(found.as_str(), text)
+#[test]
+fn the_last_of_equal_fields_is_looked_up(rt: HostRuntime) -> Result<(), Fail> {
+    let exif = read_strictly(rt.alloc(), files::SHARED_CHILD)?;
+    let answer = has_two_widths(&rt, &exif);
+    drop(exif);
+    answer
 }
 
 // How many fields are parsed, and whether they are little endian.
@@ -64,8 +72,8 @@ fn header_faults(rt: HostRuntime) -> Result<(), Fail> {
         (b"MM\x2a\0\0\0\0\x08", "Invalid forty two"),
         (b"II\0\x2a\x08\0\0\0", "Invalid forty two"),
     ] {
-        is_refused(alloc, bytes, false, text)?;
-        is_refused(alloc, bytes, true, text)?;
+        is_refused(alloc, raw_answer(alloc, &reader_of(false), bytes), text)?;
+        is_refused(alloc, raw_answer(alloc, &reader_of(true), bytes), text)?;
         assert!(rt; parsed(alloc, bytes).is_err());
     }
     assert!(rt; parsed(alloc, files::NOTHING)? == (0, false));
@@ -110,43 +118,70 @@ fn has_no_numbers(rt: &(impl Abort + AllocGlobal), value: &Value) -> Result<(), 
     assert!(rt; value.iter_uint().is_none());
     match value.as_uint() {
         Ok(_view) => Err(Fail::new("it has numbers")),
-        Err(error) => debugs(rt.alloc(), &error, NOT_UNSIGNED),
+        Err(error) => is_debugged(rt.alloc(), error, NOT_UNSIGNED),
     }
 }
 
-#[test]
-fn unsigned_numbers(rt: HostRuntime) -> Result<(), Fail> {
-    let exif = read_strictly(rt.alloc(), files::EVERY_TYPE_LITTLE)?;
+// The fields of unsigned numbers have them.
+fn have_numbers(rt: &impl Abort, exif: &Exif) -> Result<(), Fail> {
     for (number, expected) in [
         (65000, [1, 2, 255].as_slice()),
         (65002, &[1, 2, 65535]),
         (65003, &[1, 4294967295]),
     ] {
-        has_numbers(&rt, &private_field(&exif, number)?.value, expected)?;
+        has_numbers(rt, &private_field(exif, number)?.value, expected)?;
     }
+    Ok(())
+}
+
+// The other fields have none.
+fn have_no_numbers(rt: &(impl Abort + AllocGlobal), exif: &Exif) -> Result<(), Fail> {
     for number in [
         65001, 65004, 65005, 65006, 65007, 65008, 65009, 65010, 65011, 65012,
     ] {
-        has_no_numbers(&rt, &private_field(&exif, number)?.value)?;
+        has_no_numbers(rt, &private_field(exif, number)?.value)?;
     }
     Ok(())
 }
 
 #[test]
+fn unsigned_numbers(rt: HostRuntime) -> Result<(), Fail> {
+    let exif = read_strictly(rt.alloc(), files::EVERY_TYPE_LITTLE)?;
+    have_numbers(&rt, &exif)?;
+    have_no_numbers(&rt, &exif)
+}
+
+// A value is shown for debugging as this text, and let go by one call.
+fn is_debugged<T: Debug + Drop>(alloc: Global, value: T, text: &str) -> Result<(), Fail> {
+    debugs(alloc, &value, text)
+}
+
+// Three bytes are shown so for debugging, and so is their view as unsigned numbers.
+fn are_debugged(alloc: Global, bytes: &Value) -> Result<(), Fail> {
+    debugs(alloc, bytes, "Byte([98, 0, 121])")?;
+    is_debugged(alloc, bytes.as_uint()?, "UIntValue(Byte([98, 0, 121]))")
+}
+
+#[test]
 fn debug_texts_of_numbers(rt: HostRuntime) -> Result<(), Fail> {
-    let alloc = rt.alloc();
-    let bytes = Value::Byte(Items::from_slice(alloc, &[98, 0, 121])?);
-    debugs(alloc, &bytes, "Byte([98, 0, 121])")?;
-    debugs(alloc, &bytes.as_uint()?, "UIntValue(Byte([98, 0, 121]))")
+    let bytes = Value::Byte(Items::from_slice(rt.alloc(), &[98, 0, 121])?);
+    let answer = are_debugged(rt.alloc(), &bytes);
+    drop(bytes);
+    answer
 }
 
 #[test]
 fn debug_texts_of_fractions(rt: HostRuntime) -> Result<(), Fail> {
     let alloc = rt.alloc();
-    let unsigned = Value::Rational(Items::from_slice(alloc, &[Rational::from((0, 0))])?);
-    debugs(alloc, &unsigned, "Rational([Rational(0/0)])")?;
-    let signed = Value::SRational(Items::from_slice(alloc, &[SRational::from((-2, -1))])?);
-    debugs(alloc, &signed, "SRational([SRational(-2/-1)])")
+    let unsigned = Items::from_slice(alloc, &[Rational::from((0, 0))])?;
+    is_debugged(
+        alloc,
+        Value::Rational(unsigned),
+        "Rational([Rational(0/0)])",
+    )?;
+    let signed = Items::from_slice(alloc, &[SRational::from((-2, -1))])?;
+    let text = "SRational([SRational(-2/-1)])";
+    is_debugged(alloc, Value::SRational(signed), text)
 }
 
 #[test]
@@ -156,21 +191,18 @@ fn debug_texts_of_texts(rt: HostRuntime) -> Result<(), Fail> {
     texts.push(Items::from_slice(alloc, b"a\"\x0a")?)?;
     texts.push(Items::from_slice(alloc, b"")?)?;
     let ascii = Value::Ascii(Items::from_vec(texts));
-    debugs(alloc, &ascii, "Ascii([\"a\\\"\\x0a\", \"\"])")
+    is_debugged(alloc, ascii, "Ascii([\"a\\\"\\x0a\", \"\"])")
 }
 
 #[test]
 fn debug_texts_of_bits(rt: HostRuntime) -> Result<(), Fail> {
     let alloc = rt.alloc();
     let undefined = Value::Undefined(Items::from_slice(alloc, b"\0\xff")?, 0);
-    debugs(alloc, &undefined, "Undefined(0x00ff, ofs=0x0)")?;
+    is_debugged(alloc, undefined, "Undefined(0x00ff, ofs=0x0)")?;
     let bits = Value::Float(Items::from_slice(alloc, &[0x4020_0000])?);
-    debugs(alloc, &bits, "Float([1075838976])")?;
-    debugs(
-        alloc,
-        &Value::Unknown(1, 2, 10),
-        "Unknown(typ=1, cnt=2, ofs=0xa)",
-    )
+    is_debugged(alloc, bits, "Float([1075838976])")?;
+    let unknown = Value::Unknown(1, 2, 10);
+    is_debugged(alloc, unknown, "Unknown(typ=1, cnt=2, ofs=0xa)")
 }
 
 #[test]

@@ -1,5 +1,6 @@
 //! Partial results, and what becomes of them.
 
+use super::support::is_refused;
 use exif::{Error, Exif};
 use exif_samples::answers::{debugs, reads};
 use exif_samples::files;
@@ -16,14 +17,34 @@ fn lenient(alloc: Global, bytes: &[u8]) -> Result<Exif, Error> {
     raw_answer(alloc, &reader_of(true), bytes)
 }
 
+// What an error is without its faults, and how many of them a closure was handed, if any were.
+fn distilled(error: Error) -> (Result<Exif, Error>, Option<usize>) {
+    let mut count = None;
+    let answer = error.distill_partial_result(|faults: Vec<Error>| count = Some(faults.len()));
+    (answer, count)
+}
+
 // What a closure was handed of an error: so many fields were read, and so many faults met.
 fn is_distilled(rt: &impl Abort, error: Error, fields: usize, faults: usize) {
-    let mut count = 0;
-    match error.distill_partial_result(|faults: Vec<Error>| count = faults.len()) {
-        Ok(exif) => assert!(rt; exif.fields().len() == fields),
-        Err(_other) => assert!(rt; false, "nothing was distilled"),
+    let (answer, count) = distilled(error);
+    let read = field_count(&answer);
+    drop(answer);
+    assert!(rt; read == Some(fields));
+    assert!(rt; count == Some(faults));
+}
+
+// How many fields were read.
+fn field_count(answer: &Result<Exif, Error>) -> Option<usize> {
+    match answer {
+        Ok(exif) => Some(exif.fields().len()),
+        Err(_other) => None,
     }
-    assert!(rt; count == faults);
+}
+
+// A partial result of one field and one fault is shown so, and so for debugging.
+fn is_told(alloc: Global, error: &Error) -> Result<(), Fail> {
+    reads(alloc, error, "Partial result with 1 fields and 1 errors")?;
+    debugs(alloc, error, PARTIAL)
 }
 
 #[test]
@@ -32,23 +53,18 @@ fn faults_are_handed_over(rt: HostRuntime) -> Result<(), Fail> {
     match lenient(alloc, files::CUT_DIRECTORY) {
         Ok(_exif) => Err(Fail::new("no fault was met")),
         Err(error) => {
-            reads(alloc, &error, "Partial result with 1 fields and 1 errors")?;
-            debugs(alloc, &error, PARTIAL)?;
+            let answer = is_told(alloc, &error);
             is_distilled(&rt, error, 1, 1);
-            Ok(())
+            answer
         }
     }
 }
 
 // A closure is handed nothing of an error, which comes back with this text.
 fn comes_back(rt: &(impl Abort + AllocGlobal), error: Error, text: &str) -> Result<(), Fail> {
-    let mut called = false;
-    let answer = error.distill_partial_result(|_faults| called = true);
-    assert!(rt; !called);
-    match answer {
-        Ok(_exif) => Err(Fail::new("something was read")),
-        Err(other) => reads(rt.alloc(), &other, text),
-    }
+    let (answer, count) = distilled(error);
+    assert!(rt; count.is_none());
+    is_refused(rt.alloc(), answer, text)
 }
 
 #[test]
@@ -61,7 +77,9 @@ fn another_error_comes_back(rt: HostRuntime) -> Result<(), Fail> {
 
 // An error is shown as this text.
 fn is_shown(alloc: Global, error: Error, text: &str) -> Result<(), Fail> {
-    reads(alloc, &error, text)
+    let answer = reads(alloc, &error, text);
+    drop(error);
+    answer
 }
 
 #[test]

@@ -1,7 +1,7 @@
 //! The reports of the small files, strict and lenient.
 
-use super::support::writes;
-use exif_samples::answers::{are_bytes, reads};
+use super::support::{is_refused, is_report, writes};
+use exif_samples::answers::are_bytes;
 use exif_samples::files;
 use exif_samples::readings::reported;
 use std::alloc::Global;
@@ -71,19 +71,15 @@ fn passes_over(
     faults: u64,
     text: &str,
 ) -> Result<(), Fail> {
-    let (answer, written) = reported(rt.alloc(), bytes, true, None);
-    assert!(rt; answer? == faults);
-    are_bytes(written.as_slice(), text.as_bytes())
+    let report = reported(rt.alloc(), bytes, true, None);
+    is_report(rt, report, faults, text.as_bytes())
 }
 
 // A strict report writes nothing and answers this fault.
 fn stops_at(alloc: Global, bytes: &[u8], first: &str) -> Result<(), Fail> {
     let (answer, written) = reported(alloc, bytes, false, None);
-    are_bytes(written.as_slice(), b"")?;
-    match answer {
-        Ok(_faults) => Err(Fail::new("a fault was passed over")),
-        Err(error) => reads(alloc, &error, first),
-    }
+    is_refused(alloc, answer, first)?;
+    are_bytes(written.as_slice(), b"")
 }
 
 #[test]

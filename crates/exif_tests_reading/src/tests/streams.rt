@@ -1,7 +1,8 @@
 //! The calls of each container, over readers that give one byte a call and fail at each call.
 
+use super::support::{is_fault, is_refused};
 use exif::Error;
-use exif_samples::answers::{are_bytes, fails_with, reads};
+use exif_samples::answers::are_bytes;
 use exif_samples::devices::{KINDS, Slow};
 use exif_samples::files;
 use exif_samples::streams::{Container, slow_attr};
@@ -13,11 +14,9 @@ type Answer<'a> = Result<&'a [u8], &'a str>;
 
 // Fails where a stream did not give this.
 fn is_answer(alloc: Global, given: Result<Vec<u8>, Error>, wanted: Answer) -> Result<(), Fail> {
-    match (given, wanted) {
-        (Ok(data), Ok(bytes)) => are_bytes(data.as_slice(), bytes),
-        (Err(error), Err(text)) => reads(alloc, &error, text),
-        (Ok(_data), Err(text)) => Err(Fail::new(text)),
-        (Err(error), Ok(_bytes)) => Err(Fail::from(error)),
+    match wanted {
+        Ok(bytes) => are_bytes(given?.as_slice(), bytes),
+        Err(text) => is_refused(alloc, given, text),
     }
 }
 
@@ -32,7 +31,7 @@ fn fails_at_each_call(
     for kind in KINDS {
         for good_calls in 0..calls {
             let given = slow_attr(alloc, container, Slow::new(bytes, good_calls, kind));
-            fails_with(&given, kind, good_calls)?;
+            is_fault(given, kind, good_calls)?;
         }
         let given = slow_attr(alloc, container, Slow::new(bytes, calls, kind));
         is_answer(alloc, given, wanted)?;
@@ -54,7 +53,7 @@ fn each_fails(
 
 // Each stream, how many calls its answer takes, and the answer. Where the bytes end, the last call
 // is the one that tells so.
-const JPEG: [(&[u8], usize, Answer<'static>); 11] = [
+static JPEG: [(&[u8], usize, Answer<'static>); 11] = [
     (
         b"\xff\xd8\x01\x02\x03\xff\0\xff\xd9",
         9,
@@ -95,7 +94,7 @@ fn jpeg(rt: HostRuntime) -> Result<(), Fail> {
 
 // The calls of the second stream are its header, a chunk's header and the bytes that are skipped;
 // those of the third also a pad byte and the header of a chunk of no bytes.
-const WEBP: [(&[u8], usize, Answer<'static>); 11] = [
+static WEBP: [(&[u8], usize, Answer<'static>); 11] = [
     (
         b"RIFF\x17\0\0\0WEBPwhat\0\0\0\0EXIF\x03\0\0\0abc",
         31,

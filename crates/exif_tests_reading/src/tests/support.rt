@@ -1,7 +1,10 @@
 //! What several tests of reading ask.
 
-use exif_samples::answers::are_bytes;
+use exif::Error;
+use exif_samples::answers::{are_bytes, fails_with, reads};
 use exif_samples::readings::reported;
+use std::alloc::Global;
+use std::io::ErrorKind;
 use std::process::Abort;
 use std::test::Fail;
 
@@ -12,7 +15,43 @@ pub fn writes(
     lenient: bool,
     text: &str,
 ) -> Result<(), Fail> {
-    let (answer, written) = reported(rt.alloc(), bytes, lenient, None);
-    assert!(rt; answer? == 0);
-    are_bytes(written.as_slice(), text.as_bytes())
+    let report = reported(rt.alloc(), bytes, lenient, None);
+    is_report(rt, report, 0, text.as_bytes())
+}
+
+/// A report passed over so many faults and wrote this text.
+pub fn is_report(
+    rt: &impl Abort,
+    report: (Result<u64, Error>, Vec<u8>),
+    faults: u64,
+    text: &[u8],
+) -> Result<(), Fail> {
+    let (answer, written) = report;
+    assert!(rt; answer? == faults);
+    are_bytes(written.as_slice(), text)
+}
+
+/// An answer is the error of a device of this kind. It is let go by one call.
+pub fn is_fault<T: Drop>(
+    answer: Result<T, Error>,
+    kind: ErrorKind,
+    good_calls: usize,
+) -> Result<(), Fail> {
+    let found = fails_with(&answer, kind, good_calls);
+    drop(answer);
+    found
+}
+
+/// An answer is an error that is shown as this text. It is let go by one call.
+pub fn is_refused<T: Drop>(
+    alloc: Global,
+    answer: Result<T, Error>,
+    text: &str,
+) -> Result<(), Fail> {
+    let found = match &answer {
+        Ok(_) => Err(Fail::new("nothing was refused")),
+        Err(error) => reads(alloc, error, text),
+    };
+    drop(answer);
+    found
 }

@@ -1,7 +1,7 @@
 //! Values with their units: of files that were read, and alone.
 
 use super::support::writes;
-use exif::{Field, In, Items, ProvideUnit, Rational, SRational, Tag, Value};
+use exif::{Exif, Field, In, Items, ProvideUnit, Rational, SRational, Tag, Value};
 use exif_samples::answers::{is_text, shown};
 use exif_samples::files;
 use exif_samples::readings::read_strictly;
@@ -44,10 +44,8 @@ fn shows<'a, T: ProvideUnit<'a>>(
     is_text(shown.as_str(), text)
 }
 
-#[test]
-fn units_are_looked_up_where_it_is_said(rt: HostRuntime) -> Result<(), Fail> {
-    let alloc = rt.alloc();
-    let exif = read_strictly(alloc, files::RESOLUTIONS)?;
+// The resolution of the file with two units is shown with the unit of each field, and of all.
+fn has_units(alloc: Global, exif: &Exif) -> Result<(), Fail> {
     let resolution = exif.fields().next().ok_or("no resolution")?;
     let inch = exif.fields().nth(1).ok_or("no unit")?;
     let centimetre = exif.fields().nth(2).ok_or("one unit")?;
@@ -55,45 +53,58 @@ fn units_are_looked_up_where_it_is_said(rt: HostRuntime) -> Result<(), Fail> {
     shows(alloc, resolution, inch, "72 pixels per inch")?;
     shows(alloc, resolution, centimetre, "72 pixels per cm")?;
     shows(alloc, resolution, resolution, "72 pixels per inch")?;
-    shows(alloc, resolution, &exif, "72 pixels per cm")
+    shows(alloc, resolution, exif, "72 pixels per cm")
+}
+
+#[test]
+fn units_are_looked_up_where_it_is_said(rt: HostRuntime) -> Result<(), Fail> {
+    let exif = read_strictly(rt.alloc(), files::RESOLUTIONS)?;
+    has_units(rt.alloc(), &exif)
 }
 
 // The text of a value, where no other field is known.
 fn alone(alloc: Global, tag: Tag, value: Value, text: &str) -> Result<(), Fail> {
-    shows(alloc, &field(tag, In::PRIMARY, value), (), text)
+    let field = field(tag, In::PRIMARY, value);
+    let answer = shows(alloc, &field, (), text);
+    drop(field);
+    answer
 }
+
+static FRACTIONS: [(Tag, (u32, u32), &str); 10] = [
+    (Tag::ApertureValue, (3, 1), "3 EV"),
+    (Tag::SubjectDistance, (5, 2), "2.5 m"),
+    (Tag::FocalLength, (50, 1), "50 mm"),
+    (Tag::Humidity, (1, 2), "0.5 %"),
+    (Tag::Pressure, (1013, 1), "1013 hPa"),
+    (Tag::Acceleration, (9, 1), "9 mGal"),
+    (Tag::FlashEnergy, (7, 2), "3.5 BCPS"),
+    (Tag::FocalPlaneYResolution, (100, 1), "100 pixels per inch"),
+    (Tag::GPSHPositioningError, (3, 2), "1.5 m"),
+    (Tag::GPSDestBearing, (1, 1), "1 degrees in true direction"),
+];
 
 #[test]
 fn units_of_fractions(rt: HostRuntime) -> Result<(), Fail> {
-    for (tag, pair, text) in [
-        (Tag::ApertureValue, (3, 1), "3 EV"),
-        (Tag::SubjectDistance, (5, 2), "2.5 m"),
-        (Tag::FocalLength, (50, 1), "50 mm"),
-        (Tag::Humidity, (1, 2), "0.5 %"),
-        (Tag::Pressure, (1013, 1), "1013 hPa"),
-        (Tag::Acceleration, (9, 1), "9 mGal"),
-        (Tag::FlashEnergy, (7, 2), "3.5 BCPS"),
-        (Tag::FocalPlaneYResolution, (100, 1), "100 pixels per inch"),
-        (Tag::GPSHPositioningError, (3, 2), "1.5 m"),
-        (Tag::GPSDestBearing, (1, 1), "1 degrees in true direction"),
-    ] {
-        let list = Items::from_slice(rt.alloc(), &[Rational::from(pair)])?;
-        alone(rt.alloc(), tag, Value::Rational(list), text)?;
+    for (tag, pair, text) in &FRACTIONS {
+        let list = Items::from_slice(rt.alloc(), &[Rational::from(*pair)])?;
+        alone(rt.alloc(), *tag, Value::Rational(list), text)?;
     }
     Ok(())
 }
 
+static SIGNED_FRACTIONS: [(Tag, (i32, i32), &str); 5] = [
+    (Tag::ShutterSpeedValue, (6, 1), "6 EV"),
+    (Tag::Temperature, (-5, 2), "-2.5 degC"),
+    (Tag::WaterDepth, (10, 1), "10 m"),
+    (Tag::CameraElevationAngle, (-1, 4), "-0.25 deg"),
+    (Tag::Temperature, (1, -1), "unknown degC"),
+];
+
 #[test]
 fn units_of_signed_fractions(rt: HostRuntime) -> Result<(), Fail> {
-    for (tag, pair, text) in [
-        (Tag::ShutterSpeedValue, (6, 1), "6 EV"),
-        (Tag::Temperature, (-5, 2), "-2.5 degC"),
-        (Tag::WaterDepth, (10, 1), "10 m"),
-        (Tag::CameraElevationAngle, (-1, 4), "-0.25 deg"),
-        (Tag::Temperature, (1, -1), "unknown degC"),
-    ] {
-        let list = Items::from_slice(rt.alloc(), &[SRational::from(pair)])?;
-        alone(rt.alloc(), tag, Value::SRational(list), text)?;
+    for (tag, pair, text) in &SIGNED_FRACTIONS {
+        let list = Items::from_slice(rt.alloc(), &[SRational::from(*pair)])?;
+        alone(rt.alloc(), *tag, Value::SRational(list), text)?;
     }
     Ok(())
 }

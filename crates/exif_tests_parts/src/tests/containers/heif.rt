@@ -353,7 +353,7 @@ fn places_count_from_where_the_reader_stood(rt: HostRuntime) -> Result<(), Fail>
         b"...\0\0\0\x14ftypmif1\0\0\0\0mif1\0\0\0Hmeta\0\0\0\0\0\0\0\x1ailoc\0\0\0\0@\0\0\x01\x1e\x1d\0\0\0\x01\0\0\0\x5c\0\0\0\x22iinf\0\0\0\0\0\x01\0\0\0\x14infe\x02\0\0\0\x1e\x1d\0\0Exif\0\0\0\x01xabcd";
     let mut source = Counted::new(bytes);
     discard_exact(&mut source, 3)?;
-    assert!(rt; is_answer(&attr(rt.alloc(), Kind::Heif, &mut source), Ok(b"abcd")));
+    assert!(rt; is_answer(attr(rt.alloc(), Kind::Heif, &mut source), Ok(b"abcd")));
     Ok(())
 }
 

@@ -98,7 +98,7 @@ fn a_reader_fails_at_each_call(rt: HostRuntime) {
 fn a_reader_fails_where_all_is_read(rt: HostRuntime) {
     for kind in [ErrorKind::Interrupted, ErrorKind::UnexpectedEof] {
         let rest = read_all(rt.alloc(), &mut one_byte(b"abc", 2, kind));
-        assert!(rt; is_fault(&rest, kind));
+        assert!(rt; is_fault(rest, kind));
     }
 }
 
