@@ -26,26 +26,17 @@ fn carried(alloc: Global, head: &[u8], image: &[u8]) -> Result<Vec<u8>, AllocErr
     Ok(file)
 }
 
-// Whether these are the four fields, and the place and the length of the thumbnail.
-fn is_what_was_written(exif: &Exif) -> bool {
-    let thumbnail = In::THUMBNAIL;
-    exif.fields().len() == 6
-        && is_text(exif.fields().next(), Tag::ImageDescription, b"Sample")
-        && is_version(exif.fields().nth(1), 0x3c)
-        && is_text(exif.fields().nth(2), Tag::InteroperabilityIndex, b"ABC")
-        && is_bytes(exif.fields().nth(3), Tag::GPSVersionID, b"\x02\x03\0\0")
-        && is_number(
-            exif.fields().nth(4),
-            Tag::JPEGInterchangeFormat,
-            thumbnail,
-            154,
-        )
-        && is_number(
-            exif.fields().nth(5),
-            Tag::JPEGInterchangeFormatLength,
-            thumbnail,
-            4,
-        )
+/// These are the four fields, and the place and the length of the thumbnail.
+pub fn are_what_was_written(rt: &(impl Abort), exif: &Exif) {
+    assert!(rt; exif.fields().len() == 6);
+    assert!(rt; is_text(exif.fields().next(), Tag::ImageDescription, b"Sample"));
+    assert!(rt; is_version(exif.fields().nth(1), 0x3c));
+    assert!(rt; is_text(exif.fields().nth(2), Tag::InteroperabilityIndex, b"ABC"));
+    assert!(rt; is_bytes(exif.fields().nth(3), Tag::GPSVersionID, b"\x02\x03\0\0"));
+    let place = Tag::JPEGInterchangeFormat;
+    assert!(rt; is_number(exif.fields().nth(4), place, In::THUMBNAIL, 154));
+    let length = Tag::JPEGInterchangeFormatLength;
+    assert!(rt; is_number(exif.fields().nth(5), length, In::THUMBNAIL, 4));
 }
 
 // A file behind a head is read as its image.
@@ -59,7 +50,7 @@ fn is_read_behind(
     let file = carried(alloc, head, image)?;
     let exif = answer_of(alloc, &Reader::new(), file.as_slice())?;
     assert!(rt; exif.little_endian() == little_endian);
-    assert!(rt; is_what_was_written(&exif));
+    are_what_was_written(rt, &exif);
     are_bytes(exif.buf(), image)
 }
 

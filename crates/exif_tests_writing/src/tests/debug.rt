@@ -3,7 +3,7 @@
 use exif::experimental::Writer;
 use exif::{In, Items, Tag, Value};
 use exif_samples::answers::debugs;
-use exif_samples::writings::{field, push, put_jpeg, put_strips, put_tiles};
+use exif_samples::writings::{field, push_all, put_jpeg, put_strips, put_tiles};
 use std::test::Fail;
 
 const NOTHING: &str = "Writer { alloc: Global, ifds: [] }";
@@ -23,9 +23,10 @@ fn a_writer_of_nothing(rt: HostRuntime) -> Result<(), Fail> {
 fn a_writer_of_fields(rt: HostRuntime) -> Result<(), Fail> {
     let alloc = rt.alloc();
     let width = Value::Short(Items::from_slice(alloc, &[20])?);
-    let width = field(Tag::ImageWidth, In::PRIMARY, width);
+    let mut fields = Vec::new(alloc);
+    fields.push(field(Tag::ImageWidth, In::PRIMARY, width))?;
     let mut writer = Writer::new(alloc);
-    push(&mut writer, &width)?;
+    push_all(&mut writer, fields.as_slice())?;
     debugs(alloc, &writer, FIELDS)
 }
 

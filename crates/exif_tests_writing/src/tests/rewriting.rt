@@ -1,8 +1,9 @@
 //! Images that are read back, and written again.
 
+use crate::tests::carried::are_what_was_written;
 use exif::experimental::Writer;
-use exif::{Context, In, Reader, Tag};
-use exif_samples::found::{is_bytes, is_no_number, is_number, is_text, is_version};
+use exif::{Context, Exif, In, Reader, Tag};
+use exif_samples::found::{is_no_number, is_number, is_version};
 use exif_samples::readings::{read_leniently, read_strictly, refusal};
 use exif_samples::writings::{
     descriptions, image, is_image, push_all, put_jpeg, put_strips, writer_of,
@@ -15,15 +16,7 @@ use std::test::Fail;
 #[test]
 fn four_directories(rt: HostRuntime) -> Result<(), Fail> {
     let exif = read_strictly(rt.alloc(), files::EVERY_DIRECTORY)?;
-    assert!(rt; exif.fields().len() == 6);
-    assert!(rt; is_text(exif.fields().next(), Tag::ImageDescription, b"Sample"));
-    assert!(rt; is_version(exif.fields().nth(1), 0x3c));
-    assert!(rt; is_text(exif.fields().nth(2), Tag::InteroperabilityIndex, b"ABC"));
-    assert!(rt; is_bytes(exif.fields().nth(3), Tag::GPSVersionID, b"\x02\x03\0\0"));
-    let place = Tag::JPEGInterchangeFormat;
-    assert!(rt; is_number(exif.fields().nth(4), place, In::THUMBNAIL, 154));
-    let length = Tag::JPEGInterchangeFormatLength;
-    assert!(rt; is_number(exif.fields().nth(5), length, In::THUMBNAIL, 4));
+    are_what_was_written(&rt, &exif);
     Ok(())
 }
 
@@ -93,16 +86,13 @@ fn a_number_of_another_directory(rt: HostRuntime) -> Result<(), Fail> {
     Ok(())
 }
 
-// Whether an image holds the equal fields in the order in which they were pushed.
-fn holds_equal_fields(alloc: Global, bytes: &[u8]) -> Result<bool, Fail> {
-    let exif = read_strictly(alloc, bytes)?;
-    Ok(
-        exif.fields().len() == 4
-            && is_number(exif.fields().next(), Tag::ImageWidth, In::PRIMARY, 20)
-            && is_number(exif.fields().nth(1), Tag::ImageWidth, In::PRIMARY, 21)
-            && is_version(exif.fields().nth(2), 0x3c)
-            && is_version(exif.fields().nth(3), 0x48),
-    )
+// These are the equal fields in the order in which they were pushed.
+fn are_equal_fields(rt: &(impl Abort), exif: &Exif) {
+    assert!(rt; exif.fields().len() == 4);
+    assert!(rt; is_number(exif.fields().next(), Tag::ImageWidth, In::PRIMARY, 20));
+    assert!(rt; is_number(exif.fields().nth(1), Tag::ImageWidth, In::PRIMARY, 21));
+    assert!(rt; is_version(exif.fields().nth(2), 0x3c));
+    assert!(rt; is_version(exif.fields().nth(3), 0x48));
 }
 
 #[test]
@@ -113,7 +103,8 @@ fn equal_fields_keep_their_order(rt: HostRuntime) -> Result<(), Fail> {
     for little_endian in [false, true] {
         let bytes = image(alloc, &mut writer, little_endian)?;
         assert!(rt; bytes.len() == 80);
-        assert!(rt; holds_equal_fields(alloc, bytes.as_slice())?);
+        let again = read_strictly(alloc, bytes.as_slice())?;
+        are_equal_fields(&rt, &again);
     }
     Ok(())
 }

@@ -4,8 +4,8 @@ use exif::experimental::Writer;
 use exif::{Context, Error, Field, In, Items, Rational, SRational, Tag, Value};
 use exif_samples::answers::are_bytes;
 use exif_samples::writings::{
-    description, descriptions, field, four_fields, image, is_image, push, push_all, put_jpeg,
-    put_strips, put_tiles, version,
+    descriptions, field, four_fields, image, is_image, push, push_all, put_jpeg, put_strips,
+    put_tiles, version,
 };
 use exif_samples::{files, images};
 use std::alloc::{AllocError, Global};
@@ -14,9 +14,9 @@ use std::test::Fail;
 #[test]
 fn one_description(rt: HostRuntime) -> Result<(), Fail> {
     let alloc = rt.alloc();
-    let field = description(alloc, In::PRIMARY, b"Sample")?;
+    let fields = descriptions(alloc, &[b"Sample"])?;
     let mut writer = Writer::new(alloc);
-    push(&mut writer, &field)?;
+    push_all(&mut writer, fields.as_slice())?;
     assert!(rt; is_image(alloc, &mut writer, files::DESCRIBED_BIG)?);
     let little = image(alloc, &mut writer, true)?;
     are_bytes(little.as_slice(), files::DESCRIBED_LITTLE)?;
@@ -39,9 +39,9 @@ fn four_directories(rt: HostRuntime) -> Result<(), Fail> {
 #[test]
 fn strips_that_were_set_last(rt: HostRuntime) -> Result<(), Fail> {
     let alloc = rt.alloc();
-    let tif = description(alloc, In::PRIMARY, b"tif")?;
+    let tif = descriptions(alloc, &[b"tif"])?;
     let mut writer = Writer::new(alloc);
-    push(&mut writer, &tif)?;
+    push_all(&mut writer, tif.as_slice())?;
     put_strips(&mut writer, &[b"of another length"], In::THUMBNAIL)?;
     put_strips(&mut writer, &[b"STRIP"], In::THUMBNAIL)?;
     assert!(rt; is_image(alloc, &mut writer, images::STRIP)?);
@@ -69,9 +69,9 @@ fn a_tile(rt: HostRuntime) -> Result<(), Fail> {
 #[test]
 fn a_thumbnail(rt: HostRuntime) -> Result<(), Fail> {
     let alloc = rt.alloc();
-    let jpg = description(alloc, In::PRIMARY, b"jpg")?;
+    let jpg = descriptions(alloc, &[b"jpg"])?;
     let mut writer = Writer::new(alloc);
-    push(&mut writer, &jpg)?;
+    push_all(&mut writer, jpg.as_slice())?;
     put_jpeg(&mut writer, b"JPEG", In::THUMBNAIL)?;
     assert!(rt; is_image(alloc, &mut writer, images::THUMBNAIL)?);
     Ok(())
@@ -90,9 +90,10 @@ fn directories_of_the_chain(rt: HostRuntime) -> Result<(), Fail> {
 #[test]
 fn children(rt: HostRuntime) -> Result<(), Fail> {
     let alloc = rt.alloc();
-    let version = version(alloc)?;
+    let mut fields = Vec::new(alloc);
+    fields.push(version(alloc)?)?;
     let mut writer = Writer::new(alloc);
-    push(&mut writer, &version)?;
+    push_all(&mut writer, fields.as_slice())?;
     assert!(rt; is_image(alloc, &mut writer, images::VERSION)?);
     Ok(())
 }
@@ -101,9 +102,10 @@ fn children(rt: HostRuntime) -> Result<(), Fail> {
 fn a_number_of_another_directory(rt: HostRuntime) -> Result<(), Fail> {
     let alloc = rt.alloc();
     let five = Value::Short(Items::from_slice(alloc, &[5])?);
-    let number = field(Tag(Context::Exif, 0x111), In::PRIMARY, five);
+    let mut fields = Vec::new(alloc);
+    fields.push(field(Tag(Context::Exif, 0x111), In::PRIMARY, five))?;
     let mut writer = Writer::new(alloc);
-    push(&mut writer, &number)?;
+    push_all(&mut writer, fields.as_slice())?;
     assert!(rt; is_image(alloc, &mut writer, images::STRIPS_NUMBER_IN_EXIF)?);
     Ok(())
 }
@@ -129,8 +131,9 @@ fn entry_of(alloc: Global, field: &Field) -> Result<Vec<u8>, Error> {
 // A value is written as this entry, and what stands behind it.
 fn is_entry(alloc: Global, value: Value, bytes: &[u8]) -> Result<(), Fail> {
     let field = field(Tag(Context::Tiff, 0xfde8), In::PRIMARY, value);
-    let entry = entry_of(alloc, &field)?;
-    are_bytes(entry.as_slice(), bytes)
+    let entry = entry_of(alloc, &field);
+    drop(field);
+    are_bytes(entry?.as_slice(), bytes)
 }
 
 // The value of a type of numbers or texts, by its number.
