@@ -1,17 +1,25 @@
 //! What is answered where memory is refused: all of it, or what is behind some request.
 //! `exif_samples::shortage` says which allocator these tests need.
 
-use exif::{Error, Field, In, Items, Rational, Reader, Tag, Value, parse_exif};
+use exif::{Error, Exif, Field, In, Items, Rational, Reader, Tag, Value, parse_exif};
 use exif_samples::answers::{are_bytes, counts, kind_of, reason};
 use exif_samples::files;
 use exif_samples::readings::{
     answer_of, raw_answer, read_strictly, reader_of, report_into, report_to, shared_children,
 };
 use exif_samples::shortage::{Greedy, Outcome, in_turn, take_most, take_rest};
+use exif_samples::writings::description;
 use std::alloc::Global;
 use std::io::ErrorKind;
 use std::process::Abort;
 use std::test::Fail;
+
+// The message of a refusal, if that is the answer, which is let go.
+fn reason_of<T: Drop>(answer: Result<T, Error>) -> Option<&'static str> {
+    let text = reason(&answer);
+    drop(answer);
+    text
+}
 
 // With all memory refused, the fault of these data's header comes.
 fn header_is_refused(
@@ -27,8 +35,8 @@ fn header_is_refused(
     let read = Reader::new().read_raw(alloc, data);
     drop(rest);
     drop(most);
-    assert!(rt; reason(&parsed) == Some(text));
-    assert!(rt; reason(&read) == Some(text));
+    assert!(rt; reason_of(parsed) == Some(text));
+    assert!(rt; reason_of(read) == Some(text));
     Ok(())
 }
 
@@ -39,9 +47,9 @@ fn headers_are_refused_without_memory(rt: HostRuntime) -> Result<(), Fail> {
     header_is_refused(&rt, b"II\0\x2a\x08\0\0\0", "Invalid forty two")
 }
 
-// What reading TIFF data comes to, where so many fields and faults are to be read.
-fn reading(alloc: Global, reader: &Reader, bytes: &[u8], wanted: (usize, usize)) -> Outcome {
-    match raw_answer(alloc, reader, bytes) {
+// What an answer comes to, where so many fields and faults are to be read.
+fn counted(answer: Result<Exif, Error>, wanted: (usize, usize)) -> Outcome {
+    match answer {
         Err(Error::OutOfMemory) => Outcome::Wants,
         answer => Outcome::answered(counts(answer) == Some(wanted)),
     }
@@ -57,25 +65,29 @@ fn no_shorter_list_ever_comes(rt: HostRuntime) -> Result<(), Fail> {
         (files::CIRCLE, true, (8, 1)),
     ] {
         let reader = reader_of(lenient);
-        assert!(rt; in_turn(alloc, || reading(alloc, &reader, bytes, wanted))? > 0);
+        let wants = in_turn(alloc, || counted(raw_answer(alloc, &reader, bytes), wanted))?;
+        assert!(rt; wants > 0);
     }
     Ok(())
 }
 
 // What reading a file of the image description comes to.
 fn described(alloc: Global, reader: &Reader, bytes: &[u8], sample: &Value) -> Outcome {
-    match answer_of(alloc, reader, bytes) {
+    let answer = answer_of(alloc, reader, bytes);
+    let outcome = match &answer {
         Ok(exif) => match exif.get_field(Tag::ImageDescription, In::PRIMARY) {
             Some(field) => { Outcome::answered(exif.fields().len() == 1 && field.value == *sample) }
             None => Outcome::Wrong,
         },
-        Err(error) => Outcome::refused(&error),
-    }
+        Err(error) => Outcome::refused(error),
+    };
+    drop(answer);
+    outcome
 }
 
 // A value of one text.
 fn one_text(alloc: Global, text: &[u8]) -> Result<Value, Fail> {
-    Ok(Value::ascii(alloc, &[text])?)
+    Ok(description(alloc, In::PRIMARY, text)?.value)
 }
 
 #[test]
@@ -90,22 +102,11 @@ fn containers_run_out_of_memory(rt: HostRuntime) -> Result<(), Fail> {
         files::DESCRIBED_BIG,
         files::DESCRIBED_LITTLE,
     ] {
-        assert!(rt; in_turn(alloc, || described(alloc, &reader, bytes, &sample))? > 0);
+        let wants = in_turn(alloc, || described(alloc, &reader, bytes, &sample));
+        assert!(rt; wants.expect(&rt, "enough memory") > 0);
     }
+    drop(sample);
     Ok(())
-}
-
-// What reading a container comes to, where so many fields and faults are to be read.
-fn reading_container(
-    alloc: Global,
-    reader: &Reader,
-    bytes: &[u8],
-    wanted: (usize, usize),
-) -> Outcome {
-    match answer_of(alloc, reader, bytes) {
-        Err(Error::OutOfMemory) => Outcome::Wants,
-        answer => Outcome::answered(counts(answer) == Some(wanted)),
-    }
 }
 
 // Sixty entries, each of which holds the same 600 bytes.
@@ -129,7 +130,7 @@ fn container_runs_out_of_memory(
 ) -> Result<(), Fail> {
     let alloc = rt.alloc();
     let reader = reader_of(true);
-    let wants = in_turn(alloc, || reading_container(alloc, &reader, bytes, wanted))?;
+    let wants = in_turn(alloc, || counted(answer_of(alloc, &reader, bytes), wanted))?;
     assert!(rt; wants > 0);
     Ok(())
 }
@@ -211,7 +212,9 @@ fn stands_out(
     text: &[u8],
 ) -> Result<(), Fail> {
     let (answer, written) = reported_greedily(rt.alloc(), bytes, room)?;
-    assert!(rt; matches!(answer, Err(Error::OutOfMemory)));
+    let is_short = matches!(answer, Err(Error::OutOfMemory));
+    drop(answer);
+    assert!(rt; is_short);
     are_bytes(written.as_slice(), text)
 }
 
@@ -281,18 +284,10 @@ fn a_writer_over_memory_fails_where_its_memory_does(rt: HostRuntime) -> Result<(
     fails_with_its_memory(&rt, FIELDS.len().saturating_sub(1), "")
 }
 
-// What the copying of a value comes to.
-fn copying_value(alloc: Global, value: &Value) -> Outcome {
-    match value.clone(alloc) {
-        Ok(copy) => Outcome::answered(copy == *value),
-        Err(error) => Outcome::refused(&error),
-    }
-}
-
-// What the copying of a field comes to.
-fn copying_field(alloc: Global, field: &Field) -> Outcome {
-    match field.clone(alloc) {
-        Ok(copy) => Outcome::answered(copy == *field),
+// What making something comes to that is to be this.
+fn making<T: PartialEq + Drop>(made: Result<T, Error>, wanted: &T) -> Outcome {
+    match made {
+        Ok(made) => Outcome::answered(made == *wanted),
         Err(error) => Outcome::refused(&error),
     }
 }
@@ -302,9 +297,9 @@ fn copying_field(alloc: Global, field: &Field) -> Outcome {
 fn copy_runs_out_of_memory(rt: &(impl Abort + AllocGlobal), field: &Field) -> Result<(), Fail> {
     let alloc = rt.alloc();
     let number = field.tag.number();
-    let wants = in_turn(alloc, || copying_value(alloc, &field.value))?;
+    let wants = in_turn(alloc, || making(field.value.clone(alloc), &field.value))?;
     assert!(rt; (wants > 0) == (number < 65012), "at {number}");
-    let wants = in_turn(alloc, || copying_field(alloc, field))?;
+    let wants = in_turn(alloc, || making(field.clone(alloc), field))?;
     assert!(rt; (wants > 0) == (number < 65012), "at {number}");
     Ok(())
 }
@@ -320,53 +315,47 @@ fn copies_run_out_of_memory(rt: HostRuntime) -> Result<(), Fail> {
     Ok(())
 }
 
-// What making the default of a tag comes to.
-fn defaulting(alloc: Global, tag: Tag, value: &Value) -> Outcome {
-    match tag.default_value(alloc) {
-        Ok(Some(found)) => Outcome::answered(found == *value),
-        Ok(None) => Outcome::Wrong,
-        Err(error) => Outcome::refused(&error),
-    }
-}
-
 // Each making of a tag's default runs out of memory, or gives this value.
 fn default_runs_out_of_memory(
     rt: &(impl Abort + AllocGlobal),
     tag: Tag,
-    value: &Value,
+    value: Value,
 ) -> Result<(), Fail> {
     let alloc = rt.alloc();
-    assert!(rt; in_turn(alloc, || defaulting(alloc, tag, value))? > 0);
+    let value = Some(value);
+    let wants = in_turn(alloc, || making(tag.default_value(alloc), &value));
+    drop(value);
+    assert!(rt; wants? > 0);
     Ok(())
 }
 
 #[test]
 fn the_default_of_numbers_runs_out_of_memory(rt: HostRuntime) -> Result<(), Fail> {
     let bits = Value::Short(Items::from_slice(rt.alloc(), &[8, 8, 8])?);
-    default_runs_out_of_memory(&rt, Tag::BitsPerSample, &bits)
+    default_runs_out_of_memory(&rt, Tag::BitsPerSample, bits)
 }
 
 #[test]
 fn the_default_of_a_fraction_runs_out_of_memory(rt: HostRuntime) -> Result<(), Fail> {
     let inch = Rational { num: 72, denom: 1 };
     let resolution = Value::Rational(Items::from_slice(rt.alloc(), &[inch])?);
-    default_runs_out_of_memory(&rt, Tag::XResolution, &resolution)
+    default_runs_out_of_memory(&rt, Tag::XResolution, resolution)
 }
 
 #[test]
 fn the_default_of_undefined_bytes_runs_out_of_memory(rt: HostRuntime) -> Result<(), Fail> {
     let source = Value::Undefined(Items::from_slice(rt.alloc(), &[3])?, 0);
-    default_runs_out_of_memory(&rt, Tag::FileSource, &source)
+    default_runs_out_of_memory(&rt, Tag::FileSource, source)
 }
 
 #[test]
 fn the_default_of_a_byte_runs_out_of_memory(rt: HostRuntime) -> Result<(), Fail> {
     let altitude = Value::Byte(Items::from_slice(rt.alloc(), &[0])?);
-    default_runs_out_of_memory(&rt, Tag::GPSAltitudeRef, &altitude)
+    default_runs_out_of_memory(&rt, Tag::GPSAltitudeRef, altitude)
 }
 
 #[test]
 fn the_default_of_a_text_runs_out_of_memory(rt: HostRuntime) -> Result<(), Fail> {
     let speed = one_text(rt.alloc(), b"K")?;
-    default_runs_out_of_memory(&rt, Tag::GPSSpeedRef, &speed)
+    default_runs_out_of_memory(&rt, Tag::GPSSpeedRef, speed)
 }

@@ -29,11 +29,13 @@ const UPRIGHT_DATA: &[u8] = b"MM\0*\0\0\0\x08\0\x01\x01\x12\0\x03\0\0\0\x01\0\x0
 // runs out, nothing was sent.
 fn sent(answer: Result<(), Error>, room: &[u8; 128], left: usize, bytes: &[u8]) -> Outcome {
     let length = 128usize.saturating_sub(left);
-    match answer {
+    let outcome = match &answer {
         Ok(()) => Outcome::answered(&room[..length] == bytes),
-        Err(Error::OutOfMemory) if length == 0 => Outcome::Wants,
+        Err(error) if length == 0 => Outcome::refused(error),
         Err(_error) => Outcome::Wrong,
-    }
+    };
+    drop(answer);
+    outcome
 }
 
 // A WebP file with new data.
@@ -68,11 +70,14 @@ fn rewriting(alloc: Global, file: &[u8], bytes: &[u8]) -> Outcome {
 
 // The orientation alone.
 fn keeping(alloc: Global, exif: &Exif) -> Outcome {
-    match scrubbed_exif(alloc, exif, &[Tag::Orientation]) {
+    let answer = scrubbed_exif(alloc, exif, &[Tag::Orientation]);
+    let outcome = match &answer {
         Ok(Some(made)) => Outcome::answered(made.as_slice() == UPRIGHT_DATA),
         Ok(None) => Outcome::Wrong,
-        Err(error) => Outcome::refused(&error),
-    }
+        Err(error) => Outcome::refused(error),
+    };
+    drop(answer);
+    outcome
 }
 
 #[test]

@@ -70,9 +70,12 @@ fn a_long_gap_in_front_of_an_item_is_skipped(rt: HostRuntime) -> Result<(), Fail
 
 // What a strict reader answers with so few bytes of memory left.
 fn read_with(alloc: Global, bytes: &[u8], left: u16) -> Result<Result<Exif, Error>, Fail> {
-    let _most = take_most(alloc)?;
-    let _rest = take_rest(alloc, left)?;
-    Ok(answer_of(alloc, &Reader::new(), bytes))
+    let most = take_most(alloc)?;
+    let rest = take_rest(alloc, left)?;
+    let answer = answer_of(alloc, &Reader::new(), bytes);
+    drop(rest);
+    drop(most);
+    Ok(answer)
 }
 
 // With so few bytes of memory left, a strict reader gives the description.
@@ -104,10 +107,14 @@ fn refusal(
     container: Container,
     bytes: &[u8],
 ) -> Result<Option<&'static str>, Fail> {
-    let _most = take_most(alloc)?;
-    let _rest = take_rest(alloc, 0)?;
+    let most = take_most(alloc)?;
+    let rest = take_rest(alloc, 0)?;
     let (given, _left) = attr(alloc, container, bytes);
-    Ok(reason(&given))
+    drop(rest);
+    drop(most);
+    let text = reason(&given);
+    drop(given);
+    Ok(text)
 }
 
 #[test]

@@ -7,8 +7,8 @@ use exif_samples::answers::{are_bytes, kind_of, reason};
 use exif_samples::readings::read_strictly;
 use exif_samples::shortage::{Outcome, in_turn, take_most, take_rest};
 use exif_samples::writings::{
-    description, field, four_fields, is_image, push, push_all, put_jpeg, put_strips, put_tiles,
-    scrub_into, write_into, written,
+    description, descriptions, field, four_fields, is_image, push, push_all, put_jpeg, put_strips,
+    put_tiles, scrub_into, write_into, written,
 };
 use exif_samples::{files, images};
 use std::alloc::{AllocError, Global};
@@ -16,16 +16,25 @@ use std::io::ErrorKind;
 use std::process::Abort;
 use std::test::Fail;
 
-// What a write comes to that is to send these bytes. Where memory runs out, nothing was sent.
+// What an answer comes to that is to send these bytes, of so much room that is left. Where memory
+// runs out, nothing was sent.
+fn sent(answer: Result<(), Error>, room: &[u8; 256], left: usize, bytes: &[u8]) -> Outcome {
+    let length = 256usize.saturating_sub(left);
+    let outcome = match &answer {
+        Ok(()) => Outcome::answered(&room[..length] == bytes),
+        Err(error) if length == 0 => Outcome::refused(error),
+        Err(_error) => Outcome::Wrong,
+    };
+    drop(answer);
+    outcome
+}
+
+// What a write comes to.
 fn writing(writer: &mut Writer, bytes: &[u8]) -> Outcome {
     let mut room = [0u8; 256];
     let (answer, rest) = write_into(writer, &mut room[..]);
-    let length = 256usize.saturating_sub(rest.len());
-    match answer {
-        Ok(()) => Outcome::answered(&room[..length] == bytes),
-        Err(Error::OutOfMemory) if length == 0 => Outcome::Wants,
-        Err(_error) => Outcome::Wrong,
-    }
+    let left = rest.len();
+    sent(answer, &room, left, bytes)
 }
 
 #[test]
@@ -40,16 +49,12 @@ fn writing_runs_out_of_memory(rt: HostRuntime) -> Result<(), Fail> {
     Ok(())
 }
 
-// What scrubbing comes to that is to send these bytes. Where memory runs out, nothing was sent.
+// What scrubbing comes to.
 fn scrubbing(alloc: Global, exif: &Exif, bytes: &[u8]) -> Outcome {
     let mut room = [0u8; 256];
     let (answer, rest) = scrub_into(alloc, exif, &mut room[..]);
-    let length = 256usize.saturating_sub(rest.len());
-    match answer {
-        Ok(()) => Outcome::answered(&room[..length] == bytes),
-        Err(Error::OutOfMemory) if length == 0 => Outcome::Wants,
-        Err(_error) => Outcome::Wrong,
-    }
+    let left = rest.len();
+    sent(answer, &room, left, bytes)
 }
 
 #[test]
@@ -109,20 +114,27 @@ fn refused_changes<'a>(
 }
 
 // The same of a new writer.
-fn refused_in(rt: &(impl Abort + AllocGlobal), way: u8) -> Result<u16, Fail> {
-    let field = description(rt.alloc(), In::PRIMARY, b"Sample")?;
-    let later = description(rt.alloc(), In(5), b"later")?;
+fn refused_in(rt: &(impl Abort + AllocGlobal), later: &Field, way: u8) -> Result<u16, Fail> {
+    let fields = descriptions(rt.alloc(), &[b"Sample"])?;
     let mut writer = Writer::new(rt.alloc());
-    push(&mut writer, &field)?;
-    refused_changes(rt, &mut writer, &later, way)
+    push_all(&mut writer, fields.as_slice())?;
+    refused_changes(rt, &mut writer, later, way)
+}
+
+// Each way is refused some memory, and leaves the writer.
+fn each_way_is_refused(rt: &(impl Abort + AllocGlobal), later: &Field) -> Result<(), Fail> {
+    for way in 0..4u8 {
+        assert!(rt; refused_in(rt, later, way)? > 0);
+    }
+    Ok(())
 }
 
 #[test]
 fn refused_changes_leave_the_writer(rt: HostRuntime) -> Result<(), Fail> {
-    for way in 0..4u8 {
-        assert!(rt; refused_in(&rt, way)? > 0);
-    }
-    Ok(())
+    let later = description(rt.alloc(), In(5), b"later")?;
+    let answer = each_way_is_refused(&rt, &later);
+    drop(later);
+    answer
 }
 
 // Whether with all memory refused a write is refused for a reason.
@@ -138,7 +150,9 @@ fn is_refused(
     let (answer, _room) = write_into(writer, &mut room[..]);
     drop(rest);
     drop(most);
-    Ok(reason(&answer) == Some(text))
+    let found = reason(&answer);
+    drop(answer);
+    Ok(found == Some(text))
 }
 
 #[test]
@@ -150,9 +164,11 @@ fn no_directory_is_refused_without_memory(rt: HostRuntime) -> Result<(), Fail> {
 
 #[test]
 fn unknown_values_are_refused_without_memory(rt: HostRuntime) -> Result<(), Fail> {
-    let unknown = field(Tag::ImageWidth, In::PRIMARY, Value::Unknown(65535, 1, 18));
+    let unknown = Value::Unknown(65535, 1, 18);
+    let mut fields = Vec::new(rt.alloc());
+    fields.push(field(Tag::ImageWidth, In::PRIMARY, unknown))?;
     let mut writer = Writer::new(rt.alloc());
-    push(&mut writer, &unknown)?;
+    push_all(&mut writer, fields.as_slice())?;
     assert!(rt; is_refused(&rt, &mut writer, "Cannot write unknown field types")?);
     Ok(())
 }
@@ -182,6 +198,8 @@ fn a_writer_over_memory_fails_where_its_memory_does(rt: HostRuntime) -> Result<(
     let (answer, sent) = written(alloc, &mut writer, false);
     drop(rest);
     drop(most);
-    assert!(rt; kind_of(&answer) == Some(ErrorKind::OutOfMemory));
+    let kind = kind_of(&answer);
+    drop(answer);
+    assert!(rt; kind == Some(ErrorKind::OutOfMemory));
     are_bytes(sent.as_slice(), LONG_STRIP)
 }
