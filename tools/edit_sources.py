@@ -67,7 +67,7 @@ class Sources:
         return found
 
     def body_at(self, path, old, new):
-        """Gives the one body that the change of a text falls into, and where it stands."""
+        """Gives the one function in whose first row or body the change of a text falls, and where it stands."""
         text = self.texts.get(path, "")
         at, front = text.find(old), len(os.path.commonprefix([old, new]))
         back = len(os.path.commonprefix([old[front:][::-1], new[front:][::-1]]))
@@ -139,8 +139,10 @@ def module_of(path):
 
 
 def holds(rows, depth, first, last):
-    """Gives in how many rows a function whose fn is in the first one holds a change in its body, 0 where it doesn't."""
+    """Gives in how many rows a function holds a change in its first row, where its fn is, or in its body, 0 where it
+    doesn't."""
     opened = None
+    is_in_head = rows[0][0] <= first and last <= rows[0][0] + len(rows[0][1])
     for count, (start, row) in enumerate(rows, 1):
         if not row.strip() or indent(row) != depth:
             continue
@@ -151,7 +153,7 @@ def holds(rows, depth, first, last):
         if opened is None and row.endswith(("{", "}")):
             opened = start + row.find("{")
         if is_end:
-            return count if opened < first and last <= start + len(row) else 0
+            return count if is_in_head or opened < first and last <= start + len(row) else 0
     return 0
 
 
