@@ -20,9 +20,10 @@ from make_sample import sample
 GUIDES = ["README.md", "docs/CALLING.md"]
 SOURCES = "crates/*/src/**/*.rt"
 EXAMPLES = "crates/exif_examples/src"
+PICTURE = "crates/exif_tests_change/src/tests/examples/picture.rt"
 VERSIONS = {
     "README.md": r"The version is ([\d.]+),",
-    "crates/exif_commands/src/arguments.rt": r'\.version\("([\d.]+)"\)',
+    "crates/mexaldor/src/arguments.rt": r'\.version\("([\d.]+)"\)',
     "docs/man/exif_show.1": r"version ([\d.]+)\.$",
     "docs/man/mexaldor.1": r'"mexaldor ([\d.]+)"',
     "bindings/c/Makefile": r"^version := ([\d.]+)$",
@@ -102,7 +103,7 @@ def check_sample():
     with open("docs/sample.jpg", "rb") as file:
         picture = file.read()
     check("the sample is what make_sample.py makes", picture == sample())
-    literal = re.search(r'= (b"(?:[^"\\]|\\.)*");', read(EXAMPLES + "/tests/picture.rt"), re.S).group(1)
+    literal = re.search(r'= (b"(?:[^"\\]|\\.)*");', read(PICTURE), re.S).group(1)
     told = ast.literal_eval("b" + '"' + re.sub(r"\\0", r"\\x00", re.sub(r"\\\n\s*", "", literal[2:])))
     check("the examples' tests read the sample", told == picture)
 

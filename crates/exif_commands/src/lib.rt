@@ -1,14 +1,10 @@
-//! What the program `mexaldor` does with its arguments.
+//! What the program `mexaldor` does with what its arguments ask for.
 #![tactic(auto)]
 
-mod arguments;
-mod asked;
 mod change;
 mod files;
 mod inputs;
 mod json;
-mod line;
-mod options;
 mod pending;
 mod progress;
 mod replace;
@@ -16,8 +12,5 @@ mod request;
 mod show;
 mod thumbnail;
 
-pub use arguments::command;
-pub use asked::request_of;
 pub use files::run;
-pub use line::words;
 pub use request::{Change, Keeping, Reading, Request, Target, Task};

@@ -6,7 +6,5 @@ pub mod changing;
 pub mod dates;
 pub mod places;
 pub mod reading;
-#[cfg(test)]
-mod tests;
 pub mod values;
 pub mod writing;

@@ -1,4 +1,5 @@
-//! The tests of what the program changes of files.
+//! The tests of changes: edits in data and in files of each container, what the program changes, and
+//! the examples that the guides quote.
 #![tactic(auto)]
 
 #[cfg(test)]

@@ -4,6 +4,7 @@ mod by_need;
 mod containers;
 mod devices;
 mod fields;
+mod json;
 mod limits;
 mod names;
 mod parsing;

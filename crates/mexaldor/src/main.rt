@@ -1,9 +1,17 @@
 //! Exif metadata of many files: shown, told as JSON, taken out, set and shifted.
 #![tactic(auto)]
 
+mod arguments;
+mod asked;
+mod line;
+mod options;
+
+use arguments::command;
+use asked::request_of;
 use clap::Error;
 use exif::Counted;
-use exif_commands::{Request, command, request_of, run, words};
+use exif_commands::{Request, run};
+use line::words;
 use std::io::{self, BufWriter, ErrorKind, IsTerminal};
 use std::process::ExitCode;
 

@@ -1,9 +1,9 @@
 //! What the arguments ask for.
 
-use crate::request::{Change, Keeping, Reading, Request, Target, Task};
 use clap::error::ErrorKind;
 use clap::{ArgMatches, Command, Error};
 use exif_change::{Assignment, ClockShift, Dates, ENTRY_LIMIT, Removed};
+use exif_commands::{Change, Keeping, Reading, Request, Target, Task};
 use std::alloc::{AllocError, Global};
 
 // What is missing, in words.

@@ -2,16 +2,16 @@
 
 mod picture;
 
-use crate::changing::{erase_place, set_orientation, without_metadata, without_place};
-use crate::dates::date_taken;
-use crate::places::place;
-use crate::reading::{
+use exif::{DateTime, Error, Exif};
+use exif_examples::changing::{erase_place, set_orientation, without_metadata, without_place};
+use exif_examples::dates::date_taken;
+use exif_examples::places::place;
+use exif_examples::reading::{
     field_lines, orientation, print_orientation, read_damaged, read_fields, read_from_stranger,
     read_picture, size, thumbnail,
 };
-use crate::values::{artist, resolution_unit, width};
-use crate::writing::{new_exif, written_again};
-use exif::{DateTime, Error, Exif};
+use exif_examples::values::{artist, resolution_unit, width};
+use exif_examples::writing::{new_exif, written_again};
 use exif_samples::answers::{are_bytes, is_text, shown};
 use exif_samples::files;
 use picture::PICTURE;
