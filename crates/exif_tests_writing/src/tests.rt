@@ -4,6 +4,7 @@ mod carried;
 mod debug;
 mod rewriting;
 mod scrubbing;
+mod support;
 mod write_devices;
 mod write_refusals;
 mod writing;

@@ -1,22 +1,25 @@
 //! Images that were written, and are read from files of each kind.
 
-use exif::experimental::Writer;
-use exif::{Exif, In, Reader, Tag};
+use super::support::with_thumbnail;
+use exif::{Error, Exif, Field, In, Reader, Tag};
 use exif_samples::answers::are_bytes;
 use exif_samples::found::{is_bytes, is_number, is_text, is_version};
 use exif_samples::readings::answer_of;
-use exif_samples::writings::{four_fields, image, push_all, put_jpeg};
+use exif_samples::writings::{four_fields, image};
 use std::alloc::{AllocError, Global};
 use std::process::Abort;
 use std::test::Fail;
 
+// The image of these fields and a thumbnail.
+fn thumbnailed(alloc: Global, fields: &[Field], little_endian: bool) -> Result<Vec<u8>, Error> {
+    let mut writer = with_thumbnail(alloc, fields)?;
+    image(alloc, &mut writer, little_endian)
+}
+
 // The image of four fields and a thumbnail.
 fn written(alloc: Global, little_endian: bool) -> Result<Vec<u8>, Fail> {
     let fields = four_fields(alloc)?;
-    let mut writer = Writer::new(alloc);
-    push_all(&mut writer, fields.as_slice())?;
-    put_jpeg(&mut writer, b"JPEG", In::THUMBNAIL)?;
-    Ok(image(alloc, &mut writer, little_endian)?)
+    Ok(thumbnailed(alloc, fields.as_slice(), little_endian)?)
 }
 
 // An image behind the head of a file.
@@ -54,15 +57,18 @@ fn is_read_behind(
     are_bytes(exif.buf(), image)
 }
 
-// What was written in a byte order is read behind each head: of TIFF data, of a JPEG stream with a
-// segment of 166 bytes, and of a WebP file with a chunk of 158.
+// The heads of TIFF data, of a JPEG stream with a segment of 166 bytes, and of a WebP file with a
+// chunk of 158.
+static HEADS: [&[u8]; 3] = [
+    b"",
+    b"\xff\xd8\xff\xe1\0\xa6Exif\0\0",
+    b"RIFF\xaa\0\0\0WEBPEXIF\x9e\0\0\0",
+];
+
+// What was written in a byte order is read behind each head.
 fn is_read(rt: &(impl Abort + AllocGlobal), little_endian: bool) -> Result<(), Fail> {
     let image = written(rt.alloc(), little_endian)?;
-    for head in [
-        b"".as_slice(),
-        b"\xff\xd8\xff\xe1\0\xa6Exif\0\0",
-        b"RIFF\xaa\0\0\0WEBPEXIF\x9e\0\0\0",
-    ] {
+    for head in HEADS {
         is_read_behind(rt, head, image.as_slice(), little_endian)?;
     }
     Ok(())

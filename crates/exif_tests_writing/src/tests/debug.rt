@@ -1,9 +1,10 @@
 //! The debug texts of writers.
 
+use super::support::{list_of, writer_with};
 use exif::experimental::Writer;
 use exif::{In, Items, Tag, Value};
 use exif_samples::answers::debugs;
-use exif_samples::writings::{field, push_all, put_jpeg, put_strips, put_tiles};
+use exif_samples::writings::{field, put_jpeg, put_strips, put_tiles};
 use std::test::Fail;
 
 const NOTHING: &str = "Writer { alloc: Global, ifds: [] }";
@@ -23,10 +24,8 @@ fn a_writer_of_nothing(rt: HostRuntime) -> Result<(), Fail> {
 fn a_writer_of_fields(rt: HostRuntime) -> Result<(), Fail> {
     let alloc = rt.alloc();
     let width = Value::Short(Items::from_slice(alloc, &[20])?);
-    let mut fields = Vec::new(alloc);
-    fields.push(field(Tag::ImageWidth, In::PRIMARY, width))?;
-    let mut writer = Writer::new(alloc);
-    push_all(&mut writer, fields.as_slice())?;
+    let fields = list_of(alloc, field(Tag::ImageWidth, In::PRIMARY, width))?;
+    let writer = writer_with(alloc, fields.as_slice())?;
     debugs(alloc, &writer, FIELDS)
 }
 

@@ -1,14 +1,14 @@
 //! Images that are read back, and written again.
 
-use crate::tests::carried::are_what_was_written;
+use super::carried::are_what_was_written;
+use super::support::{sends, writer_with};
 use exif::experimental::Writer;
-use exif::{Context, Exif, In, Reader, Tag};
+use exif::{Context, Error, Exif, In, Reader, Tag};
+use exif_samples::answers::is_text;
 use exif_samples::found::{is_no_number, is_number, is_version};
 use exif_samples::readings::{read_leniently, read_strictly, refusal};
-use exif_samples::writings::{
-    descriptions, image, is_image, push_all, put_jpeg, put_strips, writer_of,
-};
-use exif_samples::{answers, files, images};
+use exif_samples::writings::{descriptions, image, put_jpeg, put_strips, writer_of};
+use exif_samples::{files, images};
 use std::alloc::Global;
 use std::process::Abort;
 use std::test::Fail;
@@ -20,13 +20,16 @@ fn four_directories(rt: HostRuntime) -> Result<(), Fail> {
     Ok(())
 }
 
-// Two images, one in each order, say the same.
-fn say_the_same(rt: &(impl Abort + AllocGlobal), big: &[u8], little: &[u8]) -> Result<(), Fail> {
-    let first = read_strictly(rt.alloc(), big)?;
-    let second = read_strictly(rt.alloc(), little)?;
-    assert!(rt; second.little_endian() && !first.little_endian());
-    assert!(rt; first.fields().eq(second.fields()));
-    Ok(())
+// Whether two images, the first one big endian and the second one little endian, say the same.
+fn say_the_same(big: &Exif, little: &Exif) -> bool {
+    !big.little_endian() && little.little_endian() && big.fields().eq(little.fields())
+}
+
+// Whether what is read of two images, one in each order, is the same.
+fn are_read_alike(alloc: Global, big: &[u8], little: &[u8]) -> Result<bool, Error> {
+    let first = read_strictly(alloc, big)?;
+    let second = read_strictly(alloc, little)?;
+    Ok(say_the_same(&first, &second))
 }
 
 // A little-endian image has the length of the big-endian one, and says the same.
@@ -36,10 +39,11 @@ fn both_orders(
     writer: &mut Writer,
 ) -> Result<(), Fail> {
     let alloc = rt.alloc();
-    assert!(rt; is_image(alloc, writer, big)?);
+    sends(alloc, writer, false, big)?;
     let little = image(alloc, writer, true)?;
     assert!(rt; little.len() == big.len());
-    say_the_same(rt, big, little.as_slice())
+    assert!(rt; are_read_alike(alloc, big, little.as_slice())?);
+    Ok(())
 }
 
 #[test]
@@ -95,37 +99,55 @@ fn are_equal_fields(rt: &(impl Abort), exif: &Exif) {
     assert!(rt; is_version(exif.fields().nth(3), 0x48));
 }
 
+// A writer sends the equal fields in a byte order.
+fn sends_equal_fields(
+    rt: &(impl Abort + AllocGlobal),
+    writer: &mut Writer,
+    little_endian: bool,
+) -> Result<(), Fail> {
+    let bytes = image(rt.alloc(), writer, little_endian)?;
+    assert!(rt; bytes.len() == 80);
+    let again = read_strictly(rt.alloc(), bytes.as_slice())?;
+    are_equal_fields(rt, &again);
+    Ok(())
+}
+
 #[test]
 fn equal_fields_keep_their_order(rt: HostRuntime) -> Result<(), Fail> {
     let alloc = rt.alloc();
     let shared = read_strictly(alloc, files::SHARED_CHILD)?;
     let mut writer = writer_of(alloc, &shared)?;
-    for little_endian in [false, true] {
-        let bytes = image(alloc, &mut writer, little_endian)?;
-        assert!(rt; bytes.len() == 80);
-        let again = read_strictly(alloc, bytes.as_slice())?;
-        are_equal_fields(&rt, &again);
-    }
-    Ok(())
+    sends_equal_fields(&rt, &mut writer, false)?;
+    sends_equal_fields(&rt, &mut writer, true)
 }
 
 // The image of a description in each of nine directories.
 fn nine_descriptions(alloc: Global) -> Result<Vec<u8>, Fail> {
     let fields = descriptions(alloc, &[b"p".as_slice(); 9])?;
-    let mut writer = Writer::new(alloc);
-    push_all(&mut writer, fields.as_slice())?;
+    let mut writer = writer_with(alloc, fields.as_slice())?;
     Ok(image(alloc, &mut writer, false)?)
+}
+
+const LIMIT: &str = "Limit the IFD count to 8";
+
+// Strict reading is refused because of the limit.
+fn is_refused(alloc: Global, bytes: &[u8]) -> Result<(), Fail> {
+    let strict = refusal(alloc, &Reader::new(), bytes)?.ok_or("not refused")?;
+    is_text(strict.as_str(), LIMIT)
+}
+
+// Lenient reading reads eight fields, and the limit is its one fault.
+fn is_cut(rt: &(impl Abort + AllocGlobal), bytes: &[u8]) -> Result<(), Fail> {
+    let (exif, faults) = read_leniently(rt.alloc(), bytes)?;
+    assert!(rt; exif.fields().len() == 8);
+    assert!(rt; faults.len() == 1);
+    is_text(faults[0].as_str(), LIMIT)
 }
 
 #[test]
 fn nine_directories(rt: HostRuntime) -> Result<(), Fail> {
-    let alloc = rt.alloc();
-    let bytes = nine_descriptions(alloc)?;
+    let bytes = nine_descriptions(rt.alloc())?;
     assert!(rt; bytes.len() == 170);
-    let strict = refusal(alloc, &Reader::new(), bytes.as_slice())?.ok_or("not refused")?;
-    answers::is_text(strict.as_str(), "Limit the IFD count to 8")?;
-    let (exif, faults) = read_leniently(alloc, bytes.as_slice())?;
-    assert!(rt; exif.fields().len() == 8);
-    assert!(rt; faults.len() == 1);
-    answers::is_text(faults[0].as_str(), "Limit the IFD count to 8")
+    is_refused(rt.alloc(), bytes.as_slice())?;
+    is_cut(&rt, bytes.as_slice())
 }

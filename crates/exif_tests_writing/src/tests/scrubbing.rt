@@ -1,7 +1,8 @@
 //! What was read and is written again without the place where a picture was taken.
 
+use super::support::is_refusal;
 use exif::{Context, Exif, In, Tag};
-use exif_samples::answers::{are_bytes, ends_with, reads};
+use exif_samples::answers::{are_bytes, ends_with};
 use exif_samples::devices::Drip;
 use exif_samples::found::{is_number, is_text, is_version};
 use exif_samples::readings::{read_leniently, read_strictly};
@@ -12,13 +13,17 @@ use std::io::ErrorKind;
 use std::process::Abort;
 use std::test::Fail;
 
+// What was read is sent as these bytes.
+fn is_sent(alloc: Global, exif: &Exif, little_endian: bool, bytes: &[u8]) -> Result<(), Fail> {
+    let sent = scrubbed(alloc, exif, little_endian)?;
+    are_bytes(sent.as_slice(), bytes)
+}
+
 // What was read is sent as these bytes, and what is read of them as the same bytes again.
 fn sends(alloc: Global, exif: &Exif, little_endian: bool, bytes: &[u8]) -> Result<(), Fail> {
-    let sent = scrubbed(alloc, exif, little_endian)?;
-    are_bytes(sent.as_slice(), bytes)?;
+    is_sent(alloc, exif, little_endian, bytes)?;
     let again = read_strictly(alloc, bytes)?;
-    let sent = scrubbed(alloc, &again, little_endian)?;
-    are_bytes(sent.as_slice(), bytes)
+    is_sent(alloc, &again, little_endian, bytes)
 }
 
 // What was read of some bytes is sent as these in either byte order.
@@ -35,15 +40,10 @@ fn sends_in_both_orders(
 
 #[test]
 fn one_description(rt: HostRuntime) -> Result<(), Fail> {
-    for bytes in [files::DESCRIBED_BIG, files::DESCRIBED_LITTLE] {
-        sends_in_both_orders(
-            rt.alloc(),
-            bytes,
-            files::DESCRIBED_BIG,
-            files::DESCRIBED_LITTLE,
-        )?;
-    }
-    Ok(())
+    let big = files::DESCRIBED_BIG;
+    let little = files::DESCRIBED_LITTLE;
+    sends_in_both_orders(rt.alloc(), big, big, little)?;
+    sends_in_both_orders(rt.alloc(), little, big, little)
 }
 
 #[test]
@@ -65,17 +65,22 @@ fn are_the_other_fields(rt: &(impl Abort), exif: &Exif) {
     assert!(rt; is_text(exif.fields().nth(2), Tag::InteroperabilityIndex, b"ABC"));
 }
 
+// They are read of an image in a byte order.
+fn are_read_back(
+    rt: &(impl Abort + AllocGlobal),
+    bytes: &[u8],
+    little_endian: bool,
+) -> Result<(), Fail> {
+    let exif = read_strictly(rt.alloc(), bytes)?;
+    assert!(rt; exif.little_endian() == little_endian);
+    are_the_other_fields(rt, &exif);
+    Ok(())
+}
+
 #[test]
 fn the_other_fields_are_read_back(rt: HostRuntime) -> Result<(), Fail> {
-    for (bytes, little_endian) in [
-        (images::SCRUBBED_BIG, false),
-        (images::SCRUBBED_LITTLE, true),
-    ] {
-        let exif = read_strictly(rt.alloc(), bytes)?;
-        assert!(rt; exif.little_endian() == little_endian);
-        are_the_other_fields(&rt, &exif);
-    }
-    Ok(())
+    are_read_back(&rt, images::SCRUBBED_BIG, false)?;
+    are_read_back(&rt, images::SCRUBBED_LITTLE, true)
 }
 
 // A width of 20 in each of eight directories, in a byte order.
@@ -106,6 +111,13 @@ fn have_widths(rt: &(impl Abort), exif: &Exif) {
     }
 }
 
+// Eight widths are read strictly.
+fn are_read(rt: &(impl Abort + AllocGlobal), bytes: &[u8]) -> Result<(), Fail> {
+    let exif = read_strictly(rt.alloc(), bytes)?;
+    have_widths(rt, &exif);
+    Ok(())
+}
+
 #[test]
 fn eight_directories_of_a_circle(rt: HostRuntime) -> Result<(), Fail> {
     let alloc = rt.alloc();
@@ -115,9 +127,7 @@ fn eight_directories_of_a_circle(rt: HostRuntime) -> Result<(), Fail> {
     let little = eight_widths(alloc, b"II*\0\x08\0\0\0", entry, true)?;
     assert!(rt; big.len() == 152);
     sends_in_both_orders(alloc, files::CIRCLE, big.as_slice(), little.as_slice())?;
-    let exif = read_strictly(alloc, big.as_slice())?;
-    have_widths(&rt, &exif);
-    Ok(())
+    are_read(&rt, big.as_slice())
 }
 
 // It is refused to send what is read of these bytes; nothing goes out before that.
@@ -130,30 +140,30 @@ fn is_refused(
     let alloc = rt.alloc();
     let exif = read_strictly(alloc, bytes)?;
     let (answer, sent) = counted_scrub(alloc, &exif, little_endian);
-    assert!(rt; sent.bytes == 0);
-    assert!(rt; sent.calls == 0);
-    match answer {
-        Ok(()) => Err(Fail::new("it was sent")),
-        Err(error) => {
-            let reading = reads(alloc, &error, text);
-            drop(error);
-            reading
-        }
-    }
+    is_refusal(alloc, answer, text)?;
+    assert!(rt; sent.bytes == 0 && sent.calls == 0);
+    Ok(())
+}
+
+// It is refused in either byte order.
+fn is_refused_in_both_orders(
+    rt: &(impl Abort + AllocGlobal),
+    bytes: &[u8],
+    text: &str,
+) -> Result<(), Fail> {
+    is_refused(rt, bytes, false, text)?;
+    is_refused(rt, bytes, true, text)
 }
 
 #[test]
 fn nothing_is_sent_of_what_is_refused(rt: HostRuntime) -> Result<(), Fail> {
-    for (bytes, text) in [
-        (files::NOTHING, "At least one IFD must exist"),
-        (files::UNKNOWN_TYPE, "At least one IFD must exist"),
-        (files::PLACE_BEFORE_DESCRIPTION, "IFD must not be empty"),
-    ] {
-        for little_endian in [false, true] {
-            is_refused(&rt, bytes, little_endian, text)?;
-        }
-    }
-    Ok(())
+    is_refused_in_both_orders(&rt, files::NOTHING, "At least one IFD must exist")?;
+    is_refused_in_both_orders(&rt, files::UNKNOWN_TYPE, "At least one IFD must exist")?;
+    is_refused_in_both_orders(
+        &rt,
+        files::PLACE_BEFORE_DESCRIPTION,
+        "IFD must not be empty",
+    )
 }
 
 // Whether to a writer of so many good calls these bytes go out, and an error of a kind comes or
@@ -185,6 +195,17 @@ fn leaves_a_beginning(
         let wanted = (other, &bytes[..calls]);
         assert!(rt; leaves(alloc, exif, little_endian, (calls, other), wanted));
     }
+}
+
+// One call a byte and a flush are enough. Nothing more comes of a writer that takes nothing.
+fn leaves_the_whole(
+    rt: &(impl Abort + AllocGlobal),
+    exif: &Exif,
+    little_endian: bool,
+    bytes: &[u8],
+) {
+    let alloc = rt.alloc();
+    let other = Some(ErrorKind::Other);
     // The last call is the flush.
     let calls = bytes.len();
     assert!(rt; leaves(alloc, exif, little_endian, (calls, other), (other, bytes)));
@@ -206,6 +227,8 @@ fn leaves_a_beginning(
 fn a_beginning_stands_out_where_the_writer_fails(rt: HostRuntime) -> Result<(), Fail> {
     let exif = read_strictly(rt.alloc(), files::EVERY_DIRECTORY)?;
     leaves_a_beginning(&rt, &exif, false, images::SCRUBBED_BIG);
+    leaves_the_whole(&rt, &exif, false, images::SCRUBBED_BIG);
     leaves_a_beginning(&rt, &exif, true, images::SCRUBBED_LITTLE);
+    leaves_the_whole(&rt, &exif, true, images::SCRUBBED_LITTLE);
     Ok(())
 }

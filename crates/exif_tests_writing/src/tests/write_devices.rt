@@ -1,12 +1,11 @@
 //! Writing to writers that take one byte a call, take none or fail.
 
+use super::support::{with_thumbnail, writer_with};
 use exif::In;
 use exif::experimental::Writer;
 use exif_samples::answers::ends_with;
 use exif_samples::devices::Drip;
-use exif_samples::writings::{
-    descriptions, dripping_write, four_fields, push_all, put_jpeg, put_strips,
-};
+use exif_samples::writings::{descriptions, dripping_write, four_fields, put_strips};
 use exif_samples::{files, images};
 use std::alloc::Global;
 use std::io::ErrorKind;
@@ -29,24 +28,37 @@ fn leaves(
     is_wanted
 }
 
-// Whatever call fails, a beginning of the image stands out; one call a byte and a flush are enough.
-fn fails_at_each_call(
+// Whatever call fails in a way, the bytes before it stand out, and an error of a kind comes.
+fn leaves_a_beginning(
+    rt: &(impl Abort + AllocGlobal),
+    writer: &mut Writer,
+    little_endian: bool,
+    fails: (Option<ErrorKind>, ErrorKind),
+    bytes: &[u8],
+) {
+    let (fault, kind) = fails;
+    for good_calls in 0..bytes.len() {
+        let wanted = (Some(kind), &bytes[..good_calls]);
+        assert!(rt;
+            leaves(
+                rt.alloc(),
+                writer,
+                little_endian,
+                (good_calls, fault),
+                wanted
+            )
+        );
+    }
+}
+
+// One call a byte and a flush are enough.
+fn leaves_the_whole(
     rt: &(impl Abort + AllocGlobal),
     writer: &mut Writer,
     little_endian: bool,
     bytes: &[u8],
 ) {
     let alloc = rt.alloc();
-    for (fault, kind) in [
-        (Some(ErrorKind::Other), ErrorKind::Other),
-        (Some(ErrorKind::Interrupted), ErrorKind::Interrupted),
-        (None, ErrorKind::WriteZero),
-    ] {
-        for good_calls in 0..bytes.len() {
-            let wanted = (Some(kind), &bytes[..good_calls]);
-            assert!(rt; leaves(alloc, writer, little_endian, (good_calls, fault), wanted));
-        }
-    }
     // The last call is the flush.
     let other = Some(ErrorKind::Other);
     let calls = bytes.len();
@@ -62,45 +74,70 @@ fn fails_at_each_call(
     );
 }
 
-#[test]
-fn four_directories(rt: HostRuntime) -> Result<(), Fail> {
-    let alloc = rt.alloc();
-    let fields = four_fields(alloc)?;
-    let mut writer = Writer::new(alloc);
-    push_all(&mut writer, fields.as_slice())?;
-    put_jpeg(&mut writer, b"JPEG", In::THUMBNAIL)?;
+// Whatever call fails, a beginning of the image stands out; where none does, the whole.
+fn fails_at_each_call(
+    rt: &(impl Abort + AllocGlobal),
+    writer: &mut Writer,
+    little_endian: bool,
+    bytes: &[u8],
+) {
+    for fails in [
+        (Some(ErrorKind::Other), ErrorKind::Other),
+        (Some(ErrorKind::Interrupted), ErrorKind::Interrupted),
+        (None, ErrorKind::WriteZero),
+    ] {
+        leaves_a_beginning(rt, writer, little_endian, fails, bytes);
+    }
+    leaves_the_whole(rt, writer, little_endian, bytes);
+}
+
+// So it is with the first 50 bytes and with all, where one call is good for each of the 158 bytes,
+// and one for the flush.
+fn leaves_fifty_and_all(rt: &(impl Abort + AllocGlobal), writer: &mut Writer) {
     let other = Some(ErrorKind::Other);
     let fifty = (other, &files::EVERY_DIRECTORY[..50]);
-    assert!(rt; leaves(alloc, &mut writer, false, (50, other), fifty));
-    // One call for each of the 158 bytes, and one for the flush.
+    assert!(rt; leaves(rt.alloc(), writer, false, (50, other), fifty));
     let whole = (None, files::EVERY_DIRECTORY);
-    assert!(rt; leaves(alloc, &mut writer, false, (159, other), whole));
+    assert!(rt; leaves(rt.alloc(), writer, false, (159, other), whole));
+}
+
+#[test]
+fn four_directories(rt: HostRuntime) -> Result<(), Fail> {
+    let fields = four_fields(rt.alloc())?;
+    let mut writer = with_thumbnail(rt.alloc(), fields.as_slice())?;
+    leaves_fifty_and_all(&rt, &mut writer);
     fails_at_each_call(&rt, &mut writer, false, files::EVERY_DIRECTORY);
     fails_at_each_call(&rt, &mut writer, true, images::EVERY_DIRECTORY_LITTLE);
     Ok(())
 }
 
-#[test]
-fn one_strip(rt: HostRuntime) -> Result<(), Fail> {
-    let alloc = rt.alloc();
-    let tif = descriptions(alloc, &[b"tif"])?;
-    let mut writer = Writer::new(alloc);
-    push_all(&mut writer, tif.as_slice())?;
-    put_strips(&mut writer, &[b"STRIP"], In::THUMBNAIL)?;
-    fails_at_each_call(&rt, &mut writer, false, images::STRIP);
-    fails_at_each_call(&rt, &mut writer, true, images::STRIP_LITTLE);
+// So it is with a description and strips, in either byte order.
+fn strips_fail(
+    rt: &(impl Abort + AllocGlobal),
+    strips: &[&[u8]],
+    big: &[u8],
+    little: &[u8],
+) -> Result<(), Fail> {
+    let tif = descriptions(rt.alloc(), &[b"tif"])?;
+    let mut writer = writer_with(rt.alloc(), tif.as_slice())?;
+    put_strips(&mut writer, strips, In::THUMBNAIL)?;
+    fails_at_each_call(rt, &mut writer, false, big);
+    fails_at_each_call(rt, &mut writer, true, little);
     Ok(())
 }
 
 #[test]
+fn one_strip(rt: HostRuntime) -> Result<(), Fail> {
+    strips_fail(&rt, &[b"STRIP"], images::STRIP, images::STRIP_LITTLE)
+}
+
+#[test]
 fn three_strips(rt: HostRuntime) -> Result<(), Fail> {
-    let alloc = rt.alloc();
-    let tif = descriptions(alloc, &[b"tif"])?;
     let strips: [&[u8]; 3] = [b"STR", b"", b"IP"];
-    let mut writer = Writer::new(alloc);
-    push_all(&mut writer, tif.as_slice())?;
-    put_strips(&mut writer, &strips, In::THUMBNAIL)?;
-    fails_at_each_call(&rt, &mut writer, false, images::THREE_STRIPS_BIG);
-    fails_at_each_call(&rt, &mut writer, true, images::THREE_STRIPS_LITTLE);
-    Ok(())
+    strips_fail(
+        &rt,
+        &strips,
+        images::THREE_STRIPS_BIG,
+        images::THREE_STRIPS_LITTLE,
+    )
 }

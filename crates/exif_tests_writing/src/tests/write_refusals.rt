@@ -1,8 +1,8 @@
 //! For what nothing is written.
 
+use super::support::{is_refusal, list_of, with_thumbnail, writer_with};
 use exif::experimental::Writer;
 use exif::{Error, Field, In, Tag, Value};
-use exif_samples::answers::is_shown;
 use exif_samples::files;
 use exif_samples::readings::read_strictly;
 use exif_samples::writings::{
@@ -11,16 +11,14 @@ use exif_samples::writings::{
 use std::alloc::{AllocError, Global};
 use std::test::Fail;
 
-// Whether nothing is sent, for a reason.
-fn is_refused(alloc: Global, writer: &mut Writer, reason: &str) -> bool {
+// Nothing is sent, for a reason.
+fn is_refused(alloc: Global, writer: &mut Writer, reason: &str) -> Result<(), Fail> {
     let (answer, sent) = counted_write(writer);
-    match answer {
-        Ok(()) => false,
-        Err(error) => {
-            let is_shown = is_shown(alloc, &error, reason);
-            drop(error);
-            is_shown && sent.bytes == 0 && sent.calls == 0
-        }
+    is_refusal(alloc, answer, reason)?;
+    if sent.bytes == 0 && sent.calls == 0 {
+        Ok(())
+    } else {
+        Err(Fail::new("something was sent"))
     }
 }
 
@@ -32,34 +30,27 @@ fn unknown(ifd_num: In) -> Field {
 #[test]
 fn no_directory(rt: HostRuntime) -> Result<(), Fail> {
     let alloc = rt.alloc();
-    let mut own = Vec::new(alloc);
-    own.push(text(alloc, Tag::StripOffsets, In::PRIMARY, b"of places")?)?;
+    let places = text(alloc, Tag::StripOffsets, In::PRIMARY, b"of places")?;
+    let own = list_of(alloc, places)?;
     let mut writer = Writer::new(alloc);
-    assert!(rt; is_refused(alloc, &mut writer, "At least one IFD must exist"));
+    is_refused(alloc, &mut writer, "At least one IFD must exist")?;
     push_all(&mut writer, own.as_slice())?;
-    assert!(rt; is_refused(alloc, &mut writer, "At least one IFD must exist"));
-    Ok(())
+    is_refused(alloc, &mut writer, "At least one IFD must exist")
 }
 
 #[test]
 fn an_empty_directory(rt: HostRuntime) -> Result<(), Fail> {
-    let alloc = rt.alloc();
-    let mut writer = Writer::new(alloc);
-    put_jpeg(&mut writer, b"JPEG", In::THUMBNAIL)?;
-    assert!(rt; is_refused(alloc, &mut writer, "IFD must not be empty"));
-    Ok(())
+    let mut writer = with_thumbnail(rt.alloc(), &[])?;
+    is_refused(rt.alloc(), &mut writer, "IFD must not be empty")
 }
 
 #[test]
 fn the_first_directory_with_a_cause(rt: HostRuntime) -> Result<(), Fail> {
     let alloc = rt.alloc();
-    let mut first = Vec::new(alloc);
-    first.push(unknown(In::PRIMARY))?;
-    let mut writer = Writer::new(alloc);
-    push_all(&mut writer, first.as_slice())?;
+    let first = list_of(alloc, unknown(In::PRIMARY))?;
+    let mut writer = writer_with(alloc, first.as_slice())?;
     put_jpeg(&mut writer, b"JPEG", In(2))?;
-    assert!(rt; is_refused(alloc, &mut writer, "Cannot write unknown field types"));
-    Ok(())
+    is_refused(alloc, &mut writer, "Cannot write unknown field types")
 }
 
 #[test]
@@ -67,10 +58,8 @@ fn an_empty_directory_before_an_unknown_type(rt: HostRuntime) -> Result<(), Fail
     let alloc = rt.alloc();
     let mut fields = descriptions(alloc, &[b"p"])?;
     fields.push(unknown(In(2)))?;
-    let mut writer = Writer::new(alloc);
-    push_all(&mut writer, fields.as_slice())?;
-    assert!(rt; is_refused(alloc, &mut writer, "IFD must not be empty"));
-    Ok(())
+    let mut writer = writer_with(alloc, fields.as_slice())?;
+    is_refused(alloc, &mut writer, "IFD must not be empty")
 }
 
 #[test]
@@ -78,8 +67,7 @@ fn unknown_types_that_were_read(rt: HostRuntime) -> Result<(), Fail> {
     let alloc = rt.alloc();
     let exif = read_strictly(alloc, files::UNKNOWN_TYPE)?;
     let mut writer = writer_of(alloc, &exif)?;
-    assert!(rt; is_refused(alloc, &mut writer, "Cannot write unknown field types"));
-    Ok(())
+    is_refused(alloc, &mut writer, "Cannot write unknown field types")
 }
 
 // A writer into which fields were pushed so many times.
@@ -105,18 +93,15 @@ fn one_field_more(rt: HostRuntime) -> Result<(), Fail> {
     let alloc = rt.alloc();
     let described = descriptions(alloc, &[b"p"])?;
     let mut writer = crowded(alloc, described.as_slice(), 65_536)?;
-    assert!(rt; is_refused(alloc, &mut writer, "Too many fields in an IFD"));
-    Ok(())
+    is_refused(alloc, &mut writer, "Too many fields in an IFD")
 }
 
 #[test]
 fn too_many_fields_of_an_unknown_type(rt: HostRuntime) -> Result<(), Fail> {
     let alloc = rt.alloc();
-    let mut strange = Vec::new(alloc);
-    strange.push(unknown(In::PRIMARY))?;
+    let strange = list_of(alloc, unknown(In::PRIMARY))?;
     let mut writer = crowded(alloc, strange.as_slice(), 65_536)?;
-    assert!(rt; is_refused(alloc, &mut writer, "Too many fields in an IFD"));
-    Ok(())
+    is_refused(alloc, &mut writer, "Too many fields in an IFD")
 }
 
 const STRIP: usize = 1 << 20;
@@ -146,10 +131,9 @@ fn images_past_four_gigabytes(rt: HostRuntime) -> Result<(), Fail> {
     let whole = strips(alloc, &block, STRIP)?;
     let mut writer = Writer::new(alloc);
     put_strips(&mut writer, one_more.as_slice(), In::PRIMARY)?;
-    assert!(rt; is_refused(alloc, &mut writer, "Offset too large"));
+    is_refused(alloc, &mut writer, "Offset too large")?;
     put_strips(&mut writer, whole.as_slice(), In::PRIMARY)?;
-    assert!(rt; is_refused(alloc, &mut writer, "Offset too large"));
-    Ok(())
+    is_refused(alloc, &mut writer, "Offset too large")
 }
 
 #[test]

@@ -1,11 +1,11 @@
 //! Images, byte for byte.
 
+use super::support::{list_of, sends, with_thumbnail, writer_with};
 use exif::experimental::Writer;
 use exif::{Context, Error, Field, In, Items, Rational, SRational, Tag, Value};
 use exif_samples::answers::are_bytes;
 use exif_samples::writings::{
-    descriptions, field, four_fields, image, is_image, push, push_all, put_jpeg, put_strips,
-    put_tiles, version,
+    descriptions, field, four_fields, image, push, put_strips, put_tiles, version,
 };
 use exif_samples::{files, images};
 use std::alloc::{AllocError, Global};
@@ -15,37 +15,29 @@ use std::test::Fail;
 fn one_description(rt: HostRuntime) -> Result<(), Fail> {
     let alloc = rt.alloc();
     let fields = descriptions(alloc, &[b"Sample"])?;
-    let mut writer = Writer::new(alloc);
-    push_all(&mut writer, fields.as_slice())?;
-    assert!(rt; is_image(alloc, &mut writer, files::DESCRIBED_BIG)?);
-    let little = image(alloc, &mut writer, true)?;
-    are_bytes(little.as_slice(), files::DESCRIBED_LITTLE)?;
-    assert!(rt; is_image(alloc, &mut writer, files::DESCRIBED_BIG)?);
-    Ok(())
+    let mut writer = writer_with(alloc, fields.as_slice())?;
+    sends(alloc, &mut writer, false, files::DESCRIBED_BIG)?;
+    sends(alloc, &mut writer, true, files::DESCRIBED_LITTLE)?;
+    sends(alloc, &mut writer, false, files::DESCRIBED_BIG)
 }
 
 #[test]
 fn four_directories(rt: HostRuntime) -> Result<(), Fail> {
     let alloc = rt.alloc();
-    let fields = four_fields(alloc)?;
-    let mut writer = Writer::new(alloc);
-    push_all(&mut writer, fields.as_slice())?;
-    put_jpeg(&mut writer, b"JPEG", In::THUMBNAIL)?;
     assert!(rt; files::EVERY_DIRECTORY.len() == 158);
-    assert!(rt; is_image(alloc, &mut writer, files::EVERY_DIRECTORY)?);
-    Ok(())
+    let fields = four_fields(alloc)?;
+    let mut writer = with_thumbnail(alloc, fields.as_slice())?;
+    sends(alloc, &mut writer, false, files::EVERY_DIRECTORY)
 }
 
 #[test]
 fn strips_that_were_set_last(rt: HostRuntime) -> Result<(), Fail> {
     let alloc = rt.alloc();
     let tif = descriptions(alloc, &[b"tif"])?;
-    let mut writer = Writer::new(alloc);
-    push_all(&mut writer, tif.as_slice())?;
+    let mut writer = writer_with(alloc, tif.as_slice())?;
     put_strips(&mut writer, &[b"of another length"], In::THUMBNAIL)?;
     put_strips(&mut writer, &[b"STRIP"], In::THUMBNAIL)?;
-    assert!(rt; is_image(alloc, &mut writer, images::STRIP)?);
-    Ok(())
+    sends(alloc, &mut writer, false, images::STRIP)
 }
 
 #[test]
@@ -53,8 +45,7 @@ fn no_strips(rt: HostRuntime) -> Result<(), Fail> {
     let alloc = rt.alloc();
     let mut writer = Writer::new(alloc);
     put_strips(&mut writer, &[], In::PRIMARY)?;
-    assert!(rt; is_image(alloc, &mut writer, images::NO_STRIPS)?);
-    Ok(())
+    sends(alloc, &mut writer, false, images::NO_STRIPS)
 }
 
 #[test]
@@ -62,52 +53,40 @@ fn a_tile(rt: HostRuntime) -> Result<(), Fail> {
     let alloc = rt.alloc();
     let mut writer = Writer::new(alloc);
     put_tiles(&mut writer, &[b"TILE"], In::PRIMARY)?;
-    assert!(rt; is_image(alloc, &mut writer, images::TILE)?);
-    Ok(())
+    sends(alloc, &mut writer, false, images::TILE)
 }
 
 #[test]
 fn a_thumbnail(rt: HostRuntime) -> Result<(), Fail> {
     let alloc = rt.alloc();
     let jpg = descriptions(alloc, &[b"jpg"])?;
-    let mut writer = Writer::new(alloc);
-    push_all(&mut writer, jpg.as_slice())?;
-    put_jpeg(&mut writer, b"JPEG", In::THUMBNAIL)?;
-    assert!(rt; is_image(alloc, &mut writer, images::THUMBNAIL)?);
-    Ok(())
+    let mut writer = with_thumbnail(alloc, jpg.as_slice())?;
+    sends(alloc, &mut writer, false, images::THUMBNAIL)
 }
 
 #[test]
 fn directories_of_the_chain(rt: HostRuntime) -> Result<(), Fail> {
     let alloc = rt.alloc();
     let fields = descriptions(alloc, &[b"p", b"t", b"2"])?;
-    let mut writer = Writer::new(alloc);
-    push_all(&mut writer, fields.as_slice())?;
-    assert!(rt; is_image(alloc, &mut writer, images::THREE_DIRECTORIES)?);
-    Ok(())
+    let mut writer = writer_with(alloc, fields.as_slice())?;
+    sends(alloc, &mut writer, false, images::THREE_DIRECTORIES)
 }
 
 #[test]
 fn children(rt: HostRuntime) -> Result<(), Fail> {
     let alloc = rt.alloc();
-    let mut fields = Vec::new(alloc);
-    fields.push(version(alloc)?)?;
-    let mut writer = Writer::new(alloc);
-    push_all(&mut writer, fields.as_slice())?;
-    assert!(rt; is_image(alloc, &mut writer, images::VERSION)?);
-    Ok(())
+    let fields = list_of(alloc, version(alloc)?)?;
+    let mut writer = writer_with(alloc, fields.as_slice())?;
+    sends(alloc, &mut writer, false, images::VERSION)
 }
 
 #[test]
 fn a_number_of_another_directory(rt: HostRuntime) -> Result<(), Fail> {
     let alloc = rt.alloc();
     let five = Value::Short(Items::from_slice(alloc, &[5])?);
-    let mut fields = Vec::new(alloc);
-    fields.push(field(Tag(Context::Exif, 0x111), In::PRIMARY, five))?;
-    let mut writer = Writer::new(alloc);
-    push_all(&mut writer, fields.as_slice())?;
-    assert!(rt; is_image(alloc, &mut writer, images::STRIPS_NUMBER_IN_EXIF)?);
-    Ok(())
+    let fields = list_of(alloc, field(Tag(Context::Exif, 0x111), In::PRIMARY, five))?;
+    let mut writer = writer_with(alloc, fields.as_slice())?;
+    sends(alloc, &mut writer, false, images::STRIPS_NUMBER_IN_EXIF)
 }
 
 // Two texts of one letter.
@@ -156,21 +135,23 @@ fn fraction(alloc: Global, kind: u8) -> Result<Value, AllocError> {
     })
 }
 
+static ENTRIES: [(u8, &[u8]); 6] = [
+    (1, b"\xfd\xe8\0\x01\0\0\0\x02\x01\x02\0\0"),
+    (2, b"\xfd\xe8\0\x02\0\0\0\x04a\0b\0"),
+    (3, b"\xfd\xe8\0\x03\0\0\0\x02\x01\x02\x03\x04"),
+    (4, b"\xfd\xe8\0\x04\0\0\0\x01\x01\x02\x03\x04"),
+    (6, b"\xfd\xe8\0\x06\0\0\0\x02\xfe\x80\0\0"),
+    (
+        12,
+        b"\xfd\xe8\0\x0c\0\0\0\x01\0\0\0\x1a\x40\x04\0\0\0\0\0\0",
+    ),
+];
+
 #[test]
 fn values_of_all_widths(rt: HostRuntime) -> Result<(), Fail> {
     let alloc = rt.alloc();
-    for (kind, entry) in [
-        (1, b"\xfd\xe8\0\x01\0\0\0\x02\x01\x02\0\0".as_slice()),
-        (2, b"\xfd\xe8\0\x02\0\0\0\x04a\0b\0"),
-        (3, b"\xfd\xe8\0\x03\0\0\0\x02\x01\x02\x03\x04"),
-        (4, b"\xfd\xe8\0\x04\0\0\0\x01\x01\x02\x03\x04"),
-        (6, b"\xfd\xe8\0\x06\0\0\0\x02\xfe\x80\0\0"),
-        (
-            12,
-            b"\xfd\xe8\0\x0c\0\0\0\x01\0\0\0\x1a\x40\x04\0\0\0\0\0\0",
-        ),
-    ] {
-        is_entry(alloc, value(alloc, kind)?, entry)?;
+    for (kind, entry) in &ENTRIES {
+        is_entry(alloc, value(alloc, *kind)?, entry)?;
     }
     let half = b"\xfd\xe8\0\x05\0\0\0\x01\0\0\0\x1a\0\0\0\x01\0\0\0\x02";
     is_entry(alloc, fraction(alloc, 5)?, half)?;
