@@ -1,7 +1,7 @@
 //! Files of which no more is read than is needed.
 
 use super::support::is_refused;
-use exif::Reader;
+use exif::{Error, Exif, Reader};
 use exif_samples::answers::distilled;
 use exif_samples::files;
 use exif_samples::readings::{needed_answer, padded, reader_of};
@@ -17,16 +17,24 @@ const FAR_TEXT: &[u8] = b"MM\0*\0\0\0\x08\0\x01\x01\x0e\0\x02\0\0\0\x08\0\x04\0\
 /// One text at 0x01000000, where no file of this module reaches.
 const LOST_TEXT: &[u8] = b"MM\0*\0\0\0\x08\0\x01\x01\x0e\0\x02\0\0\0\x08\x01\0\0\0\0\0\0\0";
 
+// How many fields and faults were read, and of how many bytes. All is let go by one call.
+fn found(exif: Exif, faults: usize) -> (usize, usize, usize) {
+    (exif.fields().len(), faults, exif.buf().len())
+}
+
 // Of how many bytes the data are that a strict reader hands on, where it reads one field.
-fn held(alloc: Global, bytes: &[u8]) -> Result<usize, Fail> {
+fn held(alloc: Global, bytes: &[u8]) -> Result<usize, Error> {
     let exif = needed_answer(alloc, &Reader::new(), bytes)?;
-    let held = if exif.fields().len() == 1 {
-        exif.buf().len()
-    } else {
-        0
-    };
-    drop(exif);
-    Ok(held)
+    match found(exif, 0) {
+        (1, _no_faults, held) => Ok(held),
+        _ => Ok(0),
+    }
+}
+
+// So it is where zeros stand behind the bytes, so many bytes in all.
+fn held_of(alloc: Global, bytes: &[u8], len: usize) -> Result<usize, Fail> {
+    let bytes = padded(alloc, bytes, len)?;
+    Ok(held(alloc, bytes.as_slice())?)
 }
 
 #[test]
@@ -39,25 +47,21 @@ fn a_front_says_all(rt: HostRuntime) -> Result<(), Fail> {
         (FRONT + 1, FRONT),
         (300000, FRONT),
     ] {
-        let bytes = padded(alloc, files::DESCRIBED_BIG, len)?;
-        assert!(rt; held(alloc, bytes.as_slice())? == kept);
+        assert!(rt; held_of(alloc, files::DESCRIBED_BIG, len)? == kept);
     }
     Ok(())
 }
 
 #[test]
 fn a_value_behind_the_front_is_read(rt: HostRuntime) -> Result<(), Fail> {
-    let bytes = padded(rt.alloc(), FAR_TEXT, 300000)?;
-    assert!(rt; held(rt.alloc(), bytes.as_slice())? == 300000);
+    assert!(rt; held_of(rt.alloc(), FAR_TEXT, 300000)? == 300000);
     Ok(())
 }
 
 // How many fields and faults a lenient reader answers, and of how many bytes.
-fn leniently(alloc: Global, bytes: &[u8]) -> Result<(usize, usize, usize), Fail> {
+fn leniently(alloc: Global, bytes: &[u8]) -> Result<(usize, usize, usize), Error> {
     let (exif, faults) = distilled(needed_answer(alloc, &reader_of(true), bytes))?;
-    let found = (exif.fields().len(), faults, exif.buf().len());
-    drop(exif);
-    Ok(found)
+    Ok(found(exif, faults))
 }
 
 #[test]

@@ -4,7 +4,7 @@ use super::support::is_refused;
 use exif::{Context, Error, Exif, Field, In, Items, Rational, SRational, Tag, Value, parse_exif};
 use exif_samples::answers::debugs;
 use exif_samples::files;
-use exif_samples::found::is_version;
+use exif_samples::found::{is_number, is_version};
 use exif_samples::readings::{raw_answer, read_strictly, reader_of};
 use std::alloc::Global;
 use std::fmt::Debug;
@@ -30,18 +30,23 @@ fn is_copied(rt: &(impl Abort + AllocGlobal), field: &Field, other: &Field) {
     assert!(rt; is_equal(value, &other.value));
 }
 
+// The last of equal fields is looked up, and no field of another directory or context.
+fn looks_up_the_last(rt: &impl Abort, exif: &Exif) {
+    let width = exif.get_field(IMAGE_WIDTH, In::PRIMARY);
+    assert!(rt; is_number(width, IMAGE_WIDTH, In::PRIMARY, 21));
+    assert!(rt; exif.get_field(IMAGE_WIDTH, In::THUMBNAIL).is_none());
+    let no_width = Tag(Context::Exif, 0x100);
+    assert!(rt; exif.get_field(no_width, In::PRIMARY).is_none());
+    assert!(rt; is_version(exif.get_field(EXIF_VERSION, In::PRIMARY), 0x48));
+}
+
 // What the file with two widths and two pointers to one directory says.
 fn has_two_widths(rt: &(impl Abort + AllocGlobal), exif: &Exif) -> Result<(), Fail> {
     assert!(rt; exif.buf() == files::SHARED_CHILD);
     assert!(rt; !exif.little_endian());
     assert!(rt; exif.fields().len() == 4);
+    looks_up_the_last(rt, exif);
     let width = exif.get_field(IMAGE_WIDTH, In::PRIMARY).ok_or("no width")?;
-    assert!(rt; width.value.get_uint(0) == Some(21));
-    assert!(rt; width.value.get_uint(1) == None);
-    assert!(rt; exif.get_field(IMAGE_WIDTH, In::THUMBNAIL).is_none());
-    let no_width = Tag(Context::Exif, 0x100);
-    assert!(rt; exif.get_field(no_width, In::PRIMARY).is_none());
-    assert!(rt; is_version(exif.get_field(EXIF_VERSION, In::PRIMARY), 0x48));
     let second = exif.fields().nth(1).ok_or("one field")?;
     is_copied(rt, second, width);
     Ok(())
@@ -61,34 +66,54 @@ fn parsed(alloc: Global, bytes: &[u8]) -> Result<(usize, bool), Error> {
     Ok((fields.len(), little_endian))
 }
 
+// Whether parsing is refused.
+fn is_not_parsed(alloc: Global, bytes: &[u8]) -> bool {
+    let answer = parsed(alloc, bytes);
+    let is_not_parsed = answer.is_err();
+    drop(answer);
+    is_not_parsed
+}
+
+// The reading of data is refused with this text in either mode, and so is parsing.
+fn has_no_header(rt: &(impl Abort + AllocGlobal), bytes: &[u8], text: &str) -> Result<(), Fail> {
+    let alloc = rt.alloc();
+    is_refused(alloc, raw_answer(alloc, &reader_of(false), bytes), text)?;
+    is_refused(alloc, raw_answer(alloc, &reader_of(true), bytes), text)?;
+    assert!(rt; is_not_parsed(alloc, bytes));
+    Ok(())
+}
+
+static FAULTY_HEADERS: [(&[u8], &str); 5] = [
+    (b"MM", "Truncated TIFF header"),
+    (b"MI\0\x2a\0\0\0\x08", "Invalid TIFF byte order"),
+    (b"XX\0\0\0\0\0\x08", "Invalid TIFF byte order"),
+    (b"MM\x2a\0\0\0\0\x08", "Invalid forty two"),
+    (b"II\0\x2a\x08\0\0\0", "Invalid forty two"),
+];
+
 #[test]
 fn header_faults(rt: HostRuntime) -> Result<(), Fail> {
     let alloc = rt.alloc();
-    for (bytes, text) in [
-        (&files::NOTHING[..7], "Truncated TIFF header"),
-        (b"MM".as_slice(), "Truncated TIFF header"),
-        (b"MI\0\x2a\0\0\0\x08", "Invalid TIFF byte order"),
-        (b"XX\0\0\0\0\0\x08", "Invalid TIFF byte order"),
-        (b"MM\x2a\0\0\0\0\x08", "Invalid forty two"),
-        (b"II\0\x2a\x08\0\0\0", "Invalid forty two"),
-    ] {
-        is_refused(alloc, raw_answer(alloc, &reader_of(false), bytes), text)?;
-        is_refused(alloc, raw_answer(alloc, &reader_of(true), bytes), text)?;
-        assert!(rt; parsed(alloc, bytes).is_err());
+    has_no_header(&rt, &files::NOTHING[..7], "Truncated TIFF header")?;
+    for (bytes, text) in &FAULTY_HEADERS {
+        has_no_header(&rt, bytes, text)?;
     }
     assert!(rt; parsed(alloc, files::NOTHING)? == (0, false));
     assert!(rt; parsed(alloc, files::DESCRIBED_LITTLE)? == (1, true));
     Ok(())
 }
 
+// Each proper front of these bytes is refused.
+fn have_faulty_fronts(rt: &(impl Abort + AllocGlobal), bytes: &[u8]) {
+    for len in 0..bytes.len() {
+        assert!(rt; is_not_parsed(rt.alloc(), &bytes[..len]), "front of {len}");
+    }
+}
+
 #[test]
 fn proper_fronts_are_faulty(rt: HostRuntime) -> Result<(), Fail> {
-    let alloc = rt.alloc();
-    for bytes in [files::NOTHING, files::CIRCLE] {
-        for len in 0..bytes.len() {
-            assert!(rt; parsed(alloc, &bytes[..len]).is_err(), "front of {len}");
-        }
-    }
+    have_faulty_fronts(&rt, files::NOTHING);
+    have_faulty_fronts(&rt, files::CIRCLE);
     Ok(())
 }
 

@@ -48,17 +48,19 @@ fn is_line(
     writes(rt, data.as_slice(), false, line)
 }
 
+static TEXTS: [(u8, &[u8], &str); 6] = [
+    (0, b"\0\0\0\0", "Tag(Tiff, 65001) primary \n"),
+    (1, b"\0\0\0\0", "Tag(Tiff, 65001) primary \"\"\n"),
+    (2, b"\0\0\0\0", "Tag(Tiff, 65001) primary \"\", \"\"\n"),
+    (1, b"A\0\0\0", "Tag(Tiff, 65001) primary \"A\"\n"),
+    (3, b"A\0B\0", "Tag(Tiff, 65001) primary \"A\", \"B\"\n"),
+    (3, b"a\0\0\0", "Tag(Tiff, 65001) primary \"a\", \"\"\n"),
+];
+
 #[test]
 fn texts_end_at_zero_bytes(rt: HostRuntime) -> Result<(), Fail> {
-    for (count, bytes, line) in [
-        (0, b"\0\0\0\0", "Tag(Tiff, 65001) primary \n"),
-        (1, b"\0\0\0\0", "Tag(Tiff, 65001) primary \"\"\n"),
-        (2, b"\0\0\0\0", "Tag(Tiff, 65001) primary \"\", \"\"\n"),
-        (1, b"A\0\0\0", "Tag(Tiff, 65001) primary \"A\"\n"),
-        (3, b"A\0B\0", "Tag(Tiff, 65001) primary \"A\", \"B\"\n"),
-        (3, b"a\0\0\0", "Tag(Tiff, 65001) primary \"a\", \"\"\n"),
-    ] {
-        is_line(&rt, count, bytes, line)?;
+    for (count, bytes, line) in &TEXTS {
+        is_line(&rt, *count, bytes, line)?;
     }
     Ok(())
 }

@@ -1,6 +1,6 @@
 //! The reports of the small files, strict and lenient.
 
-use super::support::{is_refused, is_report, writes};
+use super::support::{is_refused, is_report, writes_in_each_mode};
 use exif_samples::answers::are_bytes;
 use exif_samples::files;
 use exif_samples::readings::reported;
@@ -35,31 +35,37 @@ Tag(Tiff, 65012) primary unknown value (type=13, count=2, offset=0xa2)
 Tag(Tiff, 65013) primary\x20
 ";
 
-#[test]
-fn whole_files(rt: HostRuntime) -> Result<(), Fail> {
-    let description = "ImageDescription primary \"Sample\"\n";
-    let shared = "ImageWidth primary 20 pixels
+const DESCRIPTION: &str = "ImageDescription primary \"Sample\"\n";
+
+const TWO_WIDTHS: &str = "ImageWidth primary 20 pixels
 ImageWidth primary 21 pixels
 ExifVersion primary 2.31
 ExifVersion primary 2.31
 ";
-    let elsewhere = "Tag(Exif, 34665) primary 7
+
+const NUMBERS_ELSEWHERE: &str = "Tag(Exif, 34665) primary 7
 Tag(Gps, 40965) primary 7
 Tag(Gps, 34853) primary 9
 ";
-    let unknown = "ImageWidth primary unknown value (type=65535, count=1, offset=0x12) pixels\n";
-    for (bytes, text) in [
-        (files::NOTHING, ""),
-        (files::DESCRIBED_BIG, description),
-        (files::DESCRIBED_LITTLE, description),
-        (files::UNKNOWN_TYPE, unknown),
-        (files::SHARED_CHILD, shared),
-        (files::POINTER_NUMBERS_ELSEWHERE, elsewhere),
-        (files::EVERY_TYPE_BIG, EVERY_TYPE),
-        (files::EVERY_TYPE_LITTLE, EVERY_TYPE),
-    ] {
-        writes(&rt, bytes, false, text)?;
-        writes(&rt, bytes, true, text)?;
+
+const UNKNOWN: &str =
+    "ImageWidth primary unknown value (type=65535, count=1, offset=0x12) pixels\n";
+
+static WHOLE_FILES: [(&[u8], &str); 8] = [
+    (files::NOTHING, ""),
+    (files::DESCRIBED_BIG, DESCRIPTION),
+    (files::DESCRIBED_LITTLE, DESCRIPTION),
+    (files::UNKNOWN_TYPE, UNKNOWN),
+    (files::SHARED_CHILD, TWO_WIDTHS),
+    (files::POINTER_NUMBERS_ELSEWHERE, NUMBERS_ELSEWHERE),
+    (files::EVERY_TYPE_BIG, EVERY_TYPE),
+    (files::EVERY_TYPE_LITTLE, EVERY_TYPE),
+];
+
+#[test]
+fn whole_files(rt: HostRuntime) -> Result<(), Fail> {
+    for (bytes, text) in &WHOLE_FILES {
+        writes_in_each_mode(&rt, bytes, text)?;
     }
     Ok(())
 }
@@ -82,24 +88,32 @@ fn stops_at(alloc: Global, bytes: &[u8], first: &str) -> Result<(), Fail> {
     are_bytes(written.as_slice(), b"")
 }
 
-#[test]
-fn faulty_files(rt: HostRuntime) -> Result<(), Fail> {
-    let wrong_next = "ExifVersion primary 0x00020302
+const WRONG_NEXT: &str = "ExifVersion primary 0x00020302
 Tag(Tiff, 65000) primary -19088744
 fault: Unexpected next IFD
 fault: Truncated IFD count
 ";
-    let cut = "ImageWidth primary 20 pixels\nfault: Truncated IFD\n";
-    let child = "ExifVersion primary 2.31\nfault: Unexpected next IFD\n";
-    let pointers = "ImageWidth primary 20 pixels\nfault: Invalid pointer\nfault: Invalid pointer\n";
-    for (bytes, first, faults, text) in [
-        (files::CIRCLE, "Limit the IFD count to 8", 1, EIGHT_WIDTHS),
-        (files::WRONG_NEXT, "Unexpected next IFD", 2, wrong_next),
-        (files::CUT_DIRECTORY, "Truncated IFD", 1, cut),
-        (files::CHILD_WITH_NEXT, "Unexpected next IFD", 1, child),
-        (files::WRONG_POINTERS, "Invalid pointer", 2, pointers),
-    ] {
-        passes_over(&rt, bytes, faults, text)?;
+
+const CUT: &str = "ImageWidth primary 20 pixels\nfault: Truncated IFD\n";
+
+const CHILD: &str = "ExifVersion primary 2.31\nfault: Unexpected next IFD\n";
+
+const POINTERS: &str =
+    "ImageWidth primary 20 pixels\nfault: Invalid pointer\nfault: Invalid pointer\n";
+
+// Files, the fault that stops a strict report, how many faults there are and the lenient report.
+static FAULTY_FILES: [(&[u8], &str, u64, &str); 5] = [
+    (files::CIRCLE, "Limit the IFD count to 8", 1, EIGHT_WIDTHS),
+    (files::WRONG_NEXT, "Unexpected next IFD", 2, WRONG_NEXT),
+    (files::CUT_DIRECTORY, "Truncated IFD", 1, CUT),
+    (files::CHILD_WITH_NEXT, "Unexpected next IFD", 1, CHILD),
+    (files::WRONG_POINTERS, "Invalid pointer", 2, POINTERS),
+];
+
+#[test]
+fn faulty_files(rt: HostRuntime) -> Result<(), Fail> {
+    for (bytes, first, faults, text) in &FAULTY_FILES {
+        passes_over(&rt, bytes, *faults, text)?;
         stops_at(rt.alloc(), bytes, first)?;
     }
     Ok(())

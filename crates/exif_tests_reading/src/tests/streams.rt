@@ -7,6 +7,7 @@ use exif_samples::devices::{KINDS, Slow};
 use exif_samples::files;
 use exif_samples::streams::{Container, slow_attr};
 use std::alloc::Global;
+use std::io::ErrorKind;
 use std::test::Fail;
 
 /// What a stream gives: its Exif data, or the text of its refusal.
@@ -20,6 +21,21 @@ fn is_answer(alloc: Global, given: Result<Vec<u8>, Error>, wanted: Answer) -> Re
     }
 }
 
+// Where any of so many calls fails with an error, that is the answer.
+fn fails_with(
+    alloc: Global,
+    container: Container,
+    bytes: &[u8],
+    calls: usize,
+    kind: ErrorKind,
+) -> Result<(), Fail> {
+    for good_calls in 0..calls {
+        let given = slow_attr(alloc, container, Slow::new(bytes, good_calls, kind));
+        is_fault(given, kind, good_calls)?;
+    }
+    Ok(())
+}
+
 // So many calls give the answer. Where any of them fails, its error is the answer.
 fn fails_at_each_call(
     alloc: Global,
@@ -29,10 +45,7 @@ fn fails_at_each_call(
     wanted: Answer,
 ) -> Result<(), Fail> {
     for kind in KINDS {
-        for good_calls in 0..calls {
-            let given = slow_attr(alloc, container, Slow::new(bytes, good_calls, kind));
-            is_fault(given, kind, good_calls)?;
-        }
+        fails_with(alloc, container, bytes, calls, kind)?;
         let given = slow_attr(alloc, container, Slow::new(bytes, calls, kind));
         is_answer(alloc, given, wanted)?;
     }
@@ -129,22 +142,27 @@ fn webp_files(rt: HostRuntime) -> Result<(), Fail> {
     each_fails(rt.alloc(), Container::WebP, &WEBP)
 }
 
+// A call takes a byte. Where the bytes end too early, a call tells so, and where boxes end, another.
+static HEIF: [(&[u8], usize, Answer<'static>); 4] = [
+    (
+        files::HEIF_SHORT_DATA,
+        files::HEIF_SHORT_DATA.len(),
+        Ok(b"abcd"),
+    ),
+    (
+        files::HEIF_EMPTY_ITEM,
+        files::HEIF_EMPTY_ITEM.len() + 1,
+        Err("ExifDataBlock too small"),
+    ),
+    (
+        files::HEIF_BOX_CUT,
+        files::HEIF_BOX_CUT.len() + 2,
+        Err("No Exif data found in HEIF"),
+    ),
+    (b"\0\0\0\x08XXX", 7 + 2, Err("Broken HEIF file")),
+];
+
 #[test]
 fn heif(rt: HostRuntime) -> Result<(), Fail> {
-    for (bytes, more, wanted) in [
-        (files::HEIF_SHORT_DATA, 0, Ok(b"abcd".as_slice())),
-        (files::HEIF_EMPTY_ITEM, 1, Err("ExifDataBlock too small")),
-        (files::HEIF_BOX_CUT, 2, Err("No Exif data found in HEIF")),
-        (b"\0\0\0\x08XXX", 2, Err("Broken HEIF file")),
-    ] {
-        // Where the bytes end too early, a call tells so, and where boxes end, another.
-        fails_at_each_call(
-            rt.alloc(),
-            Container::Heif,
-            bytes,
-            bytes.len() + more,
-            wanted,
-        )?;
-    }
-    Ok(())
+    each_fails(rt.alloc(), Container::Heif, &HEIF)
 }

@@ -19,6 +19,16 @@ pub fn writes(
     is_report(rt, report, 0, text.as_bytes())
 }
 
+/// A report without faults writes this text in either mode.
+pub fn writes_in_each_mode(
+    rt: &(impl Abort + AllocGlobal),
+    bytes: &[u8],
+    text: &str,
+) -> Result<(), Fail> {
+    writes(rt, bytes, false, text)?;
+    writes(rt, bytes, true, text)
+}
+
 /// A report passed over so many faults and wrote this text.
 pub fn is_report(
     rt: &impl Abort,
