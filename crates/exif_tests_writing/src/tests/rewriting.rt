@@ -64,12 +64,17 @@ fn a_strip_in_both_orders(rt: HostRuntime) -> Result<(), Fail> {
     both_orders(&rt, images::STRIP, &mut writer)
 }
 
+// The first two fields are the places and the lengths of no strips.
+fn has_no_strips(rt: &(impl Abort), exif: &Exif) {
+    assert!(rt; is_no_number(exif.fields().next(), Tag::StripOffsets));
+    assert!(rt; is_no_number(exif.fields().nth(1), Tag::StripByteCounts));
+}
+
 #[test]
 fn no_strips_in_both_orders(rt: HostRuntime) -> Result<(), Fail> {
     let alloc = rt.alloc();
     let exif = read_strictly(alloc, images::NO_STRIPS)?;
-    assert!(rt; is_no_number(exif.fields().next(), Tag::StripOffsets));
-    assert!(rt; is_no_number(exif.fields().nth(1), Tag::StripByteCounts));
+    has_no_strips(&rt, &exif);
     let mut writer = writer_of(alloc, &exif)?;
     put_strips(&mut writer, &[], In::PRIMARY)?;
     both_orders(&rt, images::NO_STRIPS, &mut writer)

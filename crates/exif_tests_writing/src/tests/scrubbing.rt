@@ -1,8 +1,8 @@
 //! What was read and is written again without the place where a picture was taken.
 
-use super::support::is_refusal;
+use super::support::{is_end, is_refusal};
 use exif::{Context, Exif, In, Tag};
-use exif_samples::answers::{are_bytes, ends_with};
+use exif_samples::answers::are_bytes;
 use exif_samples::devices::Drip;
 use exif_samples::found::{is_number, is_text, is_version};
 use exif_samples::readings::{read_leniently, read_strictly};
@@ -83,6 +83,15 @@ fn the_other_fields_are_read_back(rt: HostRuntime) -> Result<(), Fail> {
     are_read_back(&rt, images::SCRUBBED_LITTLE, true)
 }
 
+// The bytes of a place, in a byte order.
+fn place(next: u32, is_little: bool) -> [u8; 4] {
+    if is_little {
+        next.to_le_bytes()
+    } else {
+        next.to_be_bytes()
+    }
+}
+
 // A width of 20 in each of eight directories, in a byte order.
 fn eight_widths(
     alloc: Global,
@@ -93,20 +102,15 @@ fn eight_widths(
     let mut bytes = Vec::from_slice(alloc, header)?;
     for next in [0x1a, 0x2c, 0x3e, 0x50, 0x62, 0x74, 0x86, 0u32] {
         bytes.extend_from_slice(entry)?;
-        let place = if is_little {
-            next.to_le_bytes()
-        } else {
-            next.to_be_bytes()
-        };
-        bytes.extend_from_slice(&place)?;
+        bytes.extend_from_slice(&place(next, is_little))?;
     }
     Ok(bytes)
 }
 
 // Each of the eight directories has its width.
 fn have_widths(rt: &(impl Abort), exif: &Exif) {
-    for (place, number) in (0..8usize).zip(0..8u16) {
-        let found = exif.fields().nth(place);
+    for number in 0..8u16 {
+        let found = exif.fields().nth(usize::from(number));
         assert!(rt; is_number(found, Tag(Context::Tiff, 0x100), In(number), 20));
     }
 }
@@ -177,9 +181,7 @@ fn leaves(
 ) -> bool {
     let drip = Drip::new(alloc, drip.0, drip.1);
     let (answer, out) = dripping_scrub(alloc, exif, drip, little_endian);
-    let is_wanted = ends_with(&answer, wanted.0) && out.taken.as_slice() == wanted.1;
-    drop(answer);
-    is_wanted
+    is_end(answer, wanted.0) && out.taken.as_slice() == wanted.1
 }
 
 // Scrubbing to a writer that fails leaves a beginning of the image, whatever call fails.

@@ -2,9 +2,10 @@
 
 use exif::experimental::Writer;
 use exif::{Error, Field, In};
-use exif_samples::answers::{are_bytes, reads};
+use exif_samples::answers::{are_bytes, ends_with, reads};
 use exif_samples::writings::{image, push_all, put_jpeg};
 use std::alloc::{AllocError, Global};
+use std::io::ErrorKind;
 use std::test::Fail;
 
 /// A list of one field.
@@ -39,12 +40,25 @@ pub fn sends(
     are_bytes(sent.as_slice(), bytes)
 }
 
-/// An answer is an error that is shown as this text. It is let go by one call.
+/// An answer is an error that is shown as this text. The error is let go by one call.
 pub fn is_refusal(alloc: Global, answer: Result<(), Error>, text: &str) -> Result<(), Fail> {
-    let found = match &answer {
-        Ok(_) => Err(Fail::new("nothing was refused")),
-        Err(error) => reads(alloc, error, text),
-    };
-    drop(answer);
-    found
+    match answer {
+        Ok(()) => Err(Fail::new("nothing was refused")),
+        Err(error) => {
+            let found = reads(alloc, &error, text);
+            drop(error);
+            found
+        }
+    }
+}
+
+/// Whether an answer is a device's error of a kind, or none where none is named. The error is let
+/// go by one call.
+pub fn is_end(answer: Result<(), Error>, kind: Option<ErrorKind>) -> bool {
+    let is_wanted = ends_with(&answer, kind);
+    match answer {
+        Ok(()) => {}
+        Err(error) => drop(error),
+    }
+    is_wanted
 }

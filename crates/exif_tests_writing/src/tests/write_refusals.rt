@@ -116,9 +116,7 @@ fn block(alloc: Global, len: usize) -> Result<Vec<u8>, AllocError> {
 // 4096 strips that are one block, the last of them so long.
 fn strips<'a>(alloc: Global, block: &'a Vec<u8>, last: usize) -> Result<Vec<&'a [u8]>, AllocError> {
     let mut strips: Vec<&'a [u8]> = Vec::with_capacity(alloc, 4096)?;
-    for _strip in 1..4096u32 {
-        strips.push(block.as_slice())?;
-    }
+    strips.resize(4095, block.as_slice())?;
     strips.push(block.get(..last).unwrap_or(b""))?;
     Ok(strips)
 }
