@@ -39,72 +39,64 @@ fn error_of<T: Drop>(answer: io::Result<T>) -> Option<ErrorKind> {
 }
 
 /// Reads the first seven digits.
-fn reads_front<R: Source>(rt: &impl Abort, source: &mut R) -> Result<(), ReadFault> {
-    assert!(rt; read8(source)? == b'0');
-    assert!(rt; read16(source)? == 0x3132);
-    discard_exact(source, 2)?;
+fn reads_front<R: Source>(rt: &impl Abort, source: &mut R) {
+    let first = read8(source).expect(rt, "a digit");
+    let next = read16(source).expect(rt, "two digits");
+    assert!(rt; first == b'0' && next == 0x3132);
+    discard_exact(source, 2).expect(rt, "two digits");
     let mut pair = [0u8; 2];
-    read_exact(source, &mut pair)?;
+    read_exact(source, &mut pair).expect(rt, "two digits");
     assert!(rt; pair == *b"56");
-    Ok(())
 }
 
 /// Reads the other three, and no more.
-fn reads_rest<R: Source>(
-    rt: &impl Abort,
-    source: &mut R,
-    rest: &mut Vec<u8>,
-) -> Result<(), ReadFault> {
-    read_exact_len(source, rest, 1)?;
-    read_to_end(source, rest)?;
+fn reads_rest<R: Source>(rt: &impl Abort, source: &mut R, rest: &mut Vec<u8>) {
+    read_exact_len(source, rest, 1).expect(rt, "a digit");
+    read_to_end(source, rest).expect(rt, "digits");
     assert!(rt; rest.as_slice() == b"789".as_slice());
     assert!(rt; is_end(read_exact_len(source, rest, 1)));
     assert!(rt; is_end(discard_exact(source, u64::MAX)));
-    Ok(())
 }
 
 /// Reads all ten digits.
-fn reads_all<R: Source>(rt: &(impl Abort + AllocGlobal), source: &mut R) -> Result<(), ReadFault> {
-    reads_front(rt, source)?;
-    reads_rest(rt, source, &mut Vec::new(rt.alloc()))
+fn reads_all<R: Source>(rt: &(impl Abort + AllocGlobal), source: &mut R) {
+    reads_front(rt, source);
+    reads_rest(rt, source, &mut Vec::new(rt.alloc()));
 }
 
 #[test]
-fn reads_from_a_slice(rt: HostRuntime) -> Result<(), Fail> {
+fn reads_from_a_slice(rt: HostRuntime) {
     let mut slice = Counted::new(DIGITS);
-    reads_all(&rt, &mut slice)?;
+    reads_all(&rt, &mut slice);
     assert!(rt; slice.into_inner().is_empty());
-    Ok(())
 }
 
 #[test]
-fn reads_from_a_cursor(rt: HostRuntime) -> Result<(), Fail> {
+fn reads_from_a_cursor(rt: HostRuntime) {
     let mut cursor = Counted::new(Cursor::new(DIGITS));
-    reads_all(&rt, &mut cursor)?;
+    reads_all(&rt, &mut cursor);
     assert!(rt; cursor.into_inner().position() == 10);
-    Ok(())
 }
 
 #[test]
-fn reads_from_a_slow_reader(rt: HostRuntime) -> Result<(), Fail> {
+fn reads_from_a_slow_reader(rt: HostRuntime) {
     let mut slow = one_byte(DIGITS, 100, ErrorKind::Other);
-    reads_all(&rt, &mut slow)?;
+    reads_all(&rt, &mut slow);
     assert!(rt; slow.into_inner().failures == 0);
-    Ok(())
 }
 
 #[test]
-fn reads_numbers_and_fronts(rt: HostRuntime) -> Result<(), Fail> {
+fn reads_numbers_and_fronts(rt: HostRuntime) {
     let bytes: &[u8] = b"\x01\x23\x45\x67\x89\xab\xcd\xef\x2a";
     let mut source = one_byte(bytes, 100, ErrorKind::Other);
-    assert!(rt; read64(&mut source)? == 0x0123_4567_89ab_cdef);
+    let number = read64(&mut source).expect(&rt, "a number");
+    assert!(rt; number == 0x0123_4567_89ab_cdef);
     let mut room = [0u8; 3];
-    assert!(rt; read_front(&mut source, &mut room)? == 1);
-    assert!(rt; room[0] == 0x2a);
-    assert!(rt; read_front(&mut Counted::new(bytes), &mut room)? == 3);
-    assert!(rt; room == *b"\x01\x23\x45");
+    let count = read_front(&mut source, &mut room).expect(&rt, "a byte");
+    assert!(rt; count == 1 && room[0] == 0x2a);
+    let count = read_front(&mut Counted::new(bytes), &mut room).expect(&rt, "a front");
+    assert!(rt; count == 3 && room == *b"\x01\x23\x45");
     assert!(rt; is_end(read16(&mut source)));
-    Ok(())
 }
 
 /// A read of two bytes whose second call fails.
@@ -194,52 +186,50 @@ fn sends_to_a_writer_without_room(rt: HostRuntime) {
 }
 
 #[test]
-fn bytes_at_hand_come_first(rt: HostRuntime) -> Result<(), Fail> {
+fn bytes_at_hand_come_first(rt: HostRuntime) {
     let mut source = one_byte(b"3456789", 100, ErrorKind::Other);
     let mut block = *b"012.";
-    reads_all(&rt, &mut Blocks::new(&mut block, 3, &mut source))?;
-    Ok(())
+    reads_all(&rt, &mut Blocks::new(&mut block, 3, &mut source));
+}
+
+/// Passes at most so many digits up to four, and passes this many.
+fn passes<S: Source>(rt: &impl Abort, source: &mut S, most: u64, count: u64) {
+    assert!(rt; source.pass_others(b'4', most) == count);
 }
 
 /// Passes the first four digits.
 fn passes_four<S: Source>(rt: &impl Abort, source: &mut S) {
-    assert!(rt; source.pass_others(b'4', 3) == 3);
-    assert!(rt; source.pass_others(b'4', 9) == 1);
-    assert!(rt; source.pass_others(b'4', 9) == 0);
+    passes(rt, source, 3, 3);
+    passes(rt, source, 9, 1);
+    passes(rt, source, 9, 0);
 }
 
 /// Reads the digits behind the first four.
-fn reads_behind_four<R: Source>(
-    rt: &(impl Abort + AllocGlobal),
-    source: &mut R,
-) -> Result<(), ReadFault> {
+fn reads_behind_four<R: Source>(rt: &(impl Abort + AllocGlobal), source: &mut R) {
     let mut list = Vec::new(rt.alloc());
-    read_to_end(source, &mut list)?;
+    read_to_end(source, &mut list).expect(rt, "digits");
     assert!(rt; list.as_slice() == b"456789".as_slice());
-    Ok(())
 }
 
 #[test]
-fn bytes_at_hand_are_passed(rt: HostRuntime) -> Result<(), Fail> {
+fn bytes_at_hand_are_passed(rt: HostRuntime) {
     let mut source = Counted::new(b"89".as_slice());
     let mut block = *b"01234567";
     let mut blocks = Blocks::new(&mut block, 8, &mut source);
     passes_four(&rt, &mut blocks);
-    reads_behind_four(&rt, &mut blocks)?;
-    Ok(())
+    reads_behind_four(&rt, &mut blocks);
 }
 
 #[test]
-fn bytes_in_memory_are_passed(rt: HostRuntime) -> Result<(), Fail> {
+fn bytes_in_memory_are_passed(rt: HostRuntime) {
     let mut source = Seekable::new(Cursor::new(b"123456789".as_slice()));
     let mut block = *b"0";
     let mut blocks = Blocks::new(&mut block, 1, &mut source);
-    assert!(rt; blocks.pass_others(b'4', 9) == 1);
-    assert!(rt; blocks.pass_others(b'4', 2) == 2);
-    assert!(rt; blocks.pass_others(b'4', 9) == 1);
-    assert!(rt; blocks.pass_others(b'4', 9) == 0);
-    reads_behind_four(&rt, &mut blocks)?;
-    Ok(())
+    passes(&rt, &mut blocks, 9, 1);
+    passes(&rt, &mut blocks, 2, 2);
+    passes(&rt, &mut blocks, 9, 1);
+    passes(&rt, &mut blocks, 9, 0);
+    reads_behind_four(&rt, &mut blocks);
 }
 
 #[test]
@@ -247,10 +237,14 @@ fn a_reader_passes_none(rt: HostRuntime) {
     assert!(rt; Counted::new(DIGITS).pass_others(b'4', 9) == 0);
 }
 
+fn is_equal(bytes: &[u8], wanted: &[u8]) -> bool {
+    bytes == wanted
+}
+
 /// These bytes are at hand, and so many of them are passed.
 fn passes_at_hand<F: Feed>(rt: &impl Abort, feed: &mut F, bytes: &[u8], count: usize) {
-    assert!(rt; feed.at_hand() == bytes);
-    assert!(rt; count <= bytes.len());
+    assert!(rt; is_equal(feed.at_hand(), bytes));
+    assert!(rt; count <= feed.at_hand().len());
     feed.pass(count);
 }
 

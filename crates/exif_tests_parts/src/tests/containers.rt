@@ -78,25 +78,46 @@ fn refusal(error: &Error) -> Option<&'static str> {
     }
 }
 
-/// Whether a result is this answer. It is let go by one call.
-fn is_answer(got: Result<Vec<u8>, Error>, want: Answer) -> bool {
-    let is_wanted = match &got {
-        Ok(payload) => want == Ok(payload.as_slice()),
-        Err(error) => refusal(error).is_some_and(|text| want == Err(text)),
-    };
-    drop(got);
-    is_wanted
+/// The text of a refusal that is let go, by one call.
+fn text_of(error: Error) -> Option<&'static str> {
+    let text = refusal(&error);
+    drop(error);
+    text
 }
 
-/// Whether a result is the reader's error of this kind. It is let go by one call.
+/// Whether a result is this answer.
+fn is_answer(got: Result<Vec<u8>, Error>, want: Result<&[u8], &str>) -> bool {
+    match (got, want) {
+        (Ok(payload), Ok(wanted)) => payload.as_slice() == wanted,
+        (Err(error), Err(text)) => text_of(error) == Some(text),
+        (Ok(_), Err(_)) => false,
+        (Err(error), Ok(_)) => {
+            drop(error);
+            false
+        }
+    }
+}
+
+/// The kind of a reader's error that is let go, by one call.
+fn kind_of(error: Error) -> Option<ErrorKind> {
+    let kind = match &error {
+        Error::Io(cause) => Some(cause.kind()),
+        _ => None,
+    };
+    drop(error);
+    kind
+}
+
+/// Whether a result is the reader's error of this kind.
 fn is_fault(got: Result<Vec<u8>, Error>, kind: ErrorKind) -> bool {
-    let is_wanted = matches!(&got, Err(Error::Io(cause)) if cause.kind() == kind);
-    drop(got);
-    is_wanted
+    match got {
+        Ok(_) => false,
+        Err(error) => kind_of(error) == Some(kind),
+    }
 }
 
 /// Whether bytes give this answer, whole and one byte a read.
-fn gives(alloc: Global, kind: Kind, bytes: &[u8], want: Answer) -> bool {
+fn gives(alloc: Global, kind: Kind, bytes: &[u8], want: Result<&[u8], &str>) -> bool {
     is_answer(whole(alloc, kind, bytes), want) && is_answer(unfailing(alloc, kind, bytes), want)
 }
 

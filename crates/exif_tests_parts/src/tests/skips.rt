@@ -5,29 +5,38 @@ use exif_base::{Blocks, Counted, ReadFault, Seekable, Source, discard_exact, rea
 use std::io;
 use std::io::{Cursor, ErrorKind};
 use std::process::Abort;
-use std::test::Fail;
 
 const DIGITS: &[u8] = b"0123456789";
 
+/// Skips at most so many bytes, and skips this many.
+fn skips<R: Source>(rt: &impl Abort, source: &mut R, most: u64, count: u64) {
+    let skipped = source.skip(most).expect(rt, "a skip");
+    assert!(rt; skipped == count);
+}
+
+/// Reads this digit.
+fn reads<R: Source>(rt: &impl Abort, source: &mut R, digit: u8) {
+    let read = read8(source).expect(rt, "a digit");
+    assert!(rt; read == digit);
+}
+
 /// Skips among ten digits, up to their end and no further.
-fn skips_to_the_end<R: Source>(rt: &impl Abort, source: &mut R) -> Result<(), ReadFault> {
-    assert!(rt; source.skip(0)? == 0);
-    assert!(rt; source.skip(3)? == 3);
-    assert!(rt; read8(source)? == b'3');
-    assert!(rt; source.skip(5)? == 5);
-    assert!(rt; read8(source)? == b'9');
-    assert!(rt; source.skip(0)? == 0);
-    assert!(rt; source.skip(1)? == 0);
-    Ok(())
+fn skips_to_the_end<R: Source>(rt: &impl Abort, source: &mut R) {
+    skips(rt, source, 0, 0);
+    skips(rt, source, 3, 3);
+    reads(rt, source, b'3');
+    skips(rt, source, 5, 5);
+    reads(rt, source, b'9');
+    skips(rt, source, 0, 0);
+    skips(rt, source, 1, 0);
 }
 
 /// Skips past the end of ten digits.
-fn skips_past_the_end<R: Source>(rt: &impl Abort, source: &mut R) -> Result<(), ReadFault> {
-    assert!(rt; source.skip(8)? == 8);
-    assert!(rt; source.skip(u64::MAX)? == 2);
-    assert!(rt; source.skip(u64::MAX)? == 0);
+fn skips_past_the_end<R: Source>(rt: &impl Abort, source: &mut R) {
+    skips(rt, source, 8, 8);
+    skips(rt, source, u64::MAX, 2);
+    skips(rt, source, u64::MAX, 0);
     assert!(rt; matches!(read8(source), Err(ReadFault::End)));
-    Ok(())
 }
 
 /// The kind of the error that a skip of three bytes answers, where it fails.
@@ -36,67 +45,60 @@ fn kind_of_skip<R: Source>(source: &mut R) -> Option<ErrorKind> {
 }
 
 #[test]
-fn a_source_that_only_reads(rt: HostRuntime) -> Result<(), Fail> {
-    skips_to_the_end(&rt, &mut Counted::new(DIGITS))?;
-    skips_past_the_end(&rt, &mut Counted::new(DIGITS))?;
-    Ok(())
+fn a_source_that_only_reads(rt: HostRuntime) {
+    skips_to_the_end(&rt, &mut Counted::new(DIGITS));
+    skips_past_the_end(&rt, &mut Counted::new(DIGITS));
 }
 
 #[test]
-fn a_slow_source(rt: HostRuntime) -> Result<(), Fail> {
-    skips_to_the_end(&rt, &mut one_byte(DIGITS, 100, ErrorKind::Other))?;
-    skips_past_the_end(&rt, &mut one_byte(DIGITS, 100, ErrorKind::Other))?;
-    Ok(())
+fn a_slow_source(rt: HostRuntime) {
+    skips_to_the_end(&rt, &mut one_byte(DIGITS, 100, ErrorKind::Other));
+    skips_past_the_end(&rt, &mut one_byte(DIGITS, 100, ErrorKind::Other));
 }
 
 #[test]
-fn a_source_of_more_than_a_block(rt: HostRuntime) -> Result<(), Fail> {
+fn a_source_of_more_than_a_block(rt: HostRuntime) {
     let bytes = [7u8; 10_000];
     let mut source = Counted::new(bytes.as_slice());
-    assert!(rt; source.skip(9_999)? == 9_999);
-    assert!(rt; source.skip(9_999)? == 1);
-    Ok(())
+    skips(&rt, &mut source, 9_999, 9_999);
+    skips(&rt, &mut source, 9_999, 1);
 }
 
 #[test]
-fn blocks_skip_what_is_at_hand(rt: HostRuntime) -> Result<(), Fail> {
+fn blocks_skip_what_is_at_hand(rt: HostRuntime) {
     let mut block = *b"01234...";
     let mut source = Counted::new(b"56789".as_slice());
-    skips_to_the_end(&rt, &mut Blocks::new(&mut block, 5, &mut source))?;
+    skips_to_the_end(&rt, &mut Blocks::new(&mut block, 5, &mut source));
     let mut block = *b"0123456789";
     let mut source = Counted::new(b"".as_slice());
-    skips_past_the_end(&rt, &mut Blocks::new(&mut block, 10, &mut source))?;
-    Ok(())
+    skips_past_the_end(&rt, &mut Blocks::new(&mut block, 10, &mut source));
 }
 
 #[test]
-fn blocks_hand_on_the_rest(rt: HostRuntime) -> Result<(), Fail> {
+fn blocks_hand_on_the_rest(rt: HostRuntime) {
     let mut block = *b"01";
     let mut source = Seekable::new(Cursor::new(b"23456789".as_slice()));
-    skips_past_the_end(&rt, &mut Blocks::new(&mut block, 2, &mut source))?;
+    skips_past_the_end(&rt, &mut Blocks::new(&mut block, 2, &mut source));
     assert!(rt; source.into_inner().position() == 8);
-    Ok(())
 }
 
 #[test]
-fn a_source_that_seeks(rt: HostRuntime) -> Result<(), Fail> {
-    skips_to_the_end(&rt, &mut Seekable::new(Cursor::new(DIGITS)))?;
-    skips_past_the_end(&rt, &mut Seekable::new(Cursor::new(DIGITS)))?;
+fn a_source_that_seeks(rt: HostRuntime) {
+    skips_to_the_end(&rt, &mut Seekable::new(Cursor::new(DIGITS)));
+    skips_past_the_end(&rt, &mut Seekable::new(Cursor::new(DIGITS)));
     let mut behind = Cursor::new(DIGITS);
     behind.set_position(20);
-    assert!(rt; Seekable::new(behind).skip(1)? == 0);
-    Ok(())
+    skips(&rt, &mut Seekable::new(behind), 1, 0);
 }
 
 #[test]
-fn a_source_that_seeks_is_read(rt: HostRuntime) -> Result<(), Fail> {
+fn a_source_that_seeks_is_read(rt: HostRuntime) {
     let mut source = Seekable::new(Cursor::new(DIGITS));
-    discard_exact(&mut source, 7)?;
+    discard_exact(&mut source, 7).expect(&rt, "seven digits");
     let mut rest = Vec::new(rt.alloc());
-    read_to_end(&mut source, &mut rest)?;
+    read_to_end(&mut source, &mut rest).expect(&rt, "digits");
     assert!(rt; rest.as_slice() == b"789".as_slice());
     assert!(rt; source.into_inner().position() == 10);
-    Ok(())
 }
 
 #[test]
@@ -118,10 +120,9 @@ fn a_seek_that_fails(rt: HostRuntime) {
 }
 
 #[test]
-fn a_stream_that_tells_no_end_is_read(rt: HostRuntime) -> Result<(), Fail> {
-    skips_to_the_end(&rt, &mut without_an_end(DIGITS))?;
-    skips_past_the_end(&rt, &mut without_an_end(DIGITS))?;
-    Ok(())
+fn a_stream_that_tells_no_end_is_read(rt: HostRuntime) {
+    skips_to_the_end(&rt, &mut without_an_end(DIGITS));
+    skips_past_the_end(&rt, &mut without_an_end(DIGITS));
 }
 
 #[test]

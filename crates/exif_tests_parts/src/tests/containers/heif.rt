@@ -60,7 +60,8 @@ const FTYP: &[u8] = b"\0\0\0\x14ftypmif1\0\0\0\0mif1";
 const WHOLE: &[u8] =
     b"\0\0\0\x09XXXXx\0\0\0\x14ftypmif1\0\0\0\0mif1\0\0\0Wmeta\0\0\0\0\0\0\0\x18iloc\x01\0\0\0\0\0\0\x01\x1e\x1d\0\x01\0\0\0\x01\0\0\0\x22iinf\0\0\0\0\0\x01\0\0\0\x14infe\x02\0\0\0\x1e\x1d\0\0Exif\0\0\0\x11idat\0\0\0\x01xabcd";
 
-static ROWS: [Row; 63] = [
+// The boxes of the file, and the first children of meta.
+static FILE_ROWS: [Row; 19] = [
     // whole in idat
     (WHOLE, Ok(b"abcd")),
     // past the file
@@ -128,6 +129,10 @@ static ROWS: [Row; 63] = [
         b"\0\0\0\x14ftypmif1\0\0\0\0mif1\0\0\0/meta\0\0\0\0\0\0\0\x22iinf\0\0\0\0\0\x01\0\0\0\x14infe\x02\0\0\0\0\x01\0\0Exif\0",
         TOO_SMALL,
     ),
+];
+
+// A child of meta, and the entries of items.
+static ITEM_ROWS: [Row; 8] = [
     // child size
     (
         b"\0\0\0\x14ftypmif1\0\0\0\0mif1\0\0\0\x14meta\0\0\0\0\0\0\0\x07skip",
@@ -168,6 +173,10 @@ static ROWS: [Row; 63] = [
         b"\0\0\0\x14ftypmif1\0\0\0\0mif1\0\0\0<meta\0\0\0\0\0\0\0\x22iinf\0\0\0\0\0\x01\0\0\0\x14infe\x02\0\0\0\0\x01\0\0Exif\0\0\0\x0eiloc\x03\0\0\0\0\0",
         UNSUPPORTED_ILOC,
     ),
+];
+
+// The places of items.
+static PLACE_ROWS: [Row; 10] = [
     // external of other
     (
         b"\0\0\0\x14ftypmif1\0\0\0\0mif1\0\0\0Fmeta\0\0\0\0\0\0\0\x22iinf\0\0\0\0\0\x01\0\0\0\x14infe\x02\0\0\0\0\x01\0\0Exif\0\0\0\x18iloc\x01\0\0\0\0\0\0\x01\0\x09\0\0\0\x01\0\0",
@@ -218,6 +227,10 @@ static ROWS: [Row; 63] = [
         b"\0\0\0\x14ftypmif1\0\0\0\0mif1\0\0\0Fmeta\0\0\0\0\0\0\0\x22iinf\0\0\0\0\0\x01\0\0\0\x14infe\x02\0\0\0\0\x01\0\0Exif\0\0\0\x18iloc\x01\0\0\0\0\0\0\x01\0\x09\0\x01\0\0\0\x01",
         NO_MATCHING_ITEM,
     ),
+];
+
+// What stands at the places.
+static EXTENT_ROWS: [Row; 15] = [
     // last location
     (
         b"\0\0\0\x14ftypmif1\0\0\0\0mif1\0\0\0[meta\0\0\0\0\0\0\0\x22iinf\0\0\0\0\0\x01\0\0\0\x14infe\x02\0\0\0\0\x01\0\0Exif\0\0\0 iloc\x01\0\0\0\0\0\0\x02\0\x01\0\x03\0\0\0\0\0\x01\0\x01\0\0\0\x01\0\0\0\x0didat\0\0\0\0A",
@@ -293,6 +306,10 @@ static ROWS: [Row; 63] = [
         b"\0\0\0\x14ftypmif1\0\0\0\0mif1\0\0\0`meta\0\0\0\0\0\0\0\x22iinf\0\0\0\0\0\x01\0\0\0\x14infe\x02\0\0\0\0\x01\0\0Exif\0\0\0\x18iloc\x01\0\0\0\0\0\0\x01\0\x01\0\x01\0\0\0\x01\0\0\0\x0didat\0\0\0\0B\0\0\0\x0didat\0\0\0\0A",
         Ok(b"A"),
     ),
+];
+
+// The largest and the shortest boxes.
+static EDGE_ROWS: [Row; 11] = [
     // seek too large
     (b"\0\0\0\x01XXXX\x80\0\0\0\0\0\0\x10", SEEK_TOO_LARGE),
     // largest seek
@@ -337,7 +354,11 @@ static ROWS: [Row; 63] = [
 
 #[test]
 fn rows(rt: HostRuntime) {
-    assert_rows(&rt, Kind::Heif, &ROWS);
+    assert_rows(&rt, Kind::Heif, &FILE_ROWS);
+    assert_rows(&rt, Kind::Heif, &ITEM_ROWS);
+    assert_rows(&rt, Kind::Heif, &PLACE_ROWS);
+    assert_rows(&rt, Kind::Heif, &EXTENT_ROWS);
+    assert_rows(&rt, Kind::Heif, &EDGE_ROWS);
 }
 
 #[test]
