@@ -64,6 +64,15 @@ fn check_line(rt: &(impl Abort + AllocGlobal), line: &str) -> Result<usize, Allo
     let Some((heads, line)) = line.trim_end_matches('.').split_once(": ") else {
         panic!(rt; "a line without texts");
     };
+    check_kinds(rt, heads, line)
+}
+
+/// Checks the texts of kinds that have the same ones, and answers how many they are.
+fn check_kinds(
+    rt: &(impl Abort + AllocGlobal),
+    heads: &str,
+    line: &str,
+) -> Result<usize, AllocError> {
     let mut seen = 0usize;
     for head in heads.split(", ") {
         check_kind(rt, head, line)?;
@@ -72,38 +81,52 @@ fn check_line(rt: &(impl Abort + AllocGlobal), line: &str) -> Result<usize, Allo
     Ok(seen)
 }
 
+/// How many kinds have fixed texts.
+fn kinds_with_texts() -> usize {
+    let mut seen = 0usize;
+    for entry in words() {
+        if fixed_texts(entry.0).is_some() {
+            seen = seen.wrapping_add(1);
+        }
+    }
+    seen
+}
+
 #[test]
 fn fixed_texts_are_the_lines(rt: HostRuntime) -> Result<(), AllocError> {
     let mut seen = 0usize;
     for line in FIXED.lines() {
         seen = seen.wrapping_add(check_line(&rt, line)?);
     }
-    let have_texts = words()
-        .iter()
-        .filter(|entry| fixed_texts(entry.0).is_some())
-        .count();
-    assert!(rt; seen == 30 && have_texts == 31);
+    assert!(rt; seen == 30 && kinds_with_texts() == 31);
     Ok(())
+}
+
+/// The number of an orientation and its sides, `A B`.
+fn push_sides(line: &mut String, number: usize, sides: &str) -> Result<(), AllocError> {
+    let (row, column) = sides.split_once(' ').unwrap_or(("?", "?"));
+    write!(line, "{number} row 0 at {row} and column 0 at {column}")
+}
+
+/// The texts of the orientations behind their numbers.
+fn orientations(alloc: Global) -> Result<String, AllocError> {
+    let mut line = String::new(alloc);
+    for (i, sides) in ORIENTATIONS.split(", ").enumerate() {
+        if i > 0 {
+            line.push_str(", ")?;
+        }
+        push_sides(&mut line, i.wrapping_add(1), sides)?;
+    }
+    Ok(line)
 }
 
 #[test]
 fn orientations_name_two_sides(rt: HostRuntime) -> Result<(), AllocError> {
-    let alloc = rt.alloc();
-    let mut line = String::new(alloc);
-    for (i, sides) in ORIENTATIONS.split(", ").enumerate() {
-        let Some((row, column)) = sides.split_once(' ') else {
-            panic!(rt; "a line without sides");
-        };
-        if i > 0 {
-            line.push_str(", ")?;
-        }
-        let number = i.wrapping_add(1);
-        write!(line, "{number} row 0 at {row} and column 0 at {column}")?;
-    }
     let Some(texts) = fixed_texts(TextKind::Orientation) else {
         panic!(rt; "a kind without texts");
     };
     assert!(rt; texts.name == "orientation");
-    assert!(rt; entries(alloc, texts)? == line);
+    let line = orientations(rt.alloc())?;
+    assert!(rt; entries(rt.alloc(), texts)? == line);
     Ok(())
 }

@@ -155,3 +155,12 @@ gpsdistref [GPS distance ref]: K km, M miles, N nautical miles."#;
 // The sides in the texts of orientations 1 to 8, `row 0 at A and column 0 at B`.
 pub(super) static ORIENTATIONS: &str =
     "top left, top right, bottom right, bottom left, left top, right top, right bottom, left bottom";
+
+/// The number at the front of a line, in hexadecimal, and what stands behind it.
+pub(super) fn numbered(line: &str) -> Option<(u16, &str)> {
+    let (digits, text) = line.trim().split_once(' ')?;
+    match u16::from_str_radix(digits, 16) {
+        Ok(number) => Some((number, text)),
+        Err(_) => None,
+    }
+}

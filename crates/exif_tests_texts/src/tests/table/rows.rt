@@ -1,41 +1,77 @@
 //! Rows written as lines again.
 
-use super::lines::{EXIF, GPS, INTEROP, TIFF};
+use super::lines::{EXIF, GPS, INTEROP, TIFF, numbered};
 use super::words::word_of;
 use exif_table::rows::rows;
 use exif_table::{Context, DefaultValue, Row, UnitPiece, find_row};
 use std::alloc::{AllocError, Global};
+use std::fmt::Display;
 use std::process::Abort;
+
+/// The numbers of a default behind the name of their type.
+fn push_numbers<T: Copy + Display>(
+    text: &mut String,
+    name: &str,
+    numbers: &[T],
+) -> Result<(), AllocError> {
+    write!(text, " ={name}[")?;
+    for (i, number) in numbers.iter().enumerate() {
+        if i > 0 {
+            text.push_str(",")?;
+        }
+        write!(text, "{number}")?;
+    }
+    text.push_str("]")
+}
+
+fn push_fraction(text: &mut String, num: u32, denom: u32) -> Result<(), AllocError> {
+    write!(text, " =Rational[{num}/{denom}]")
+}
+
+fn push_bytes(text: &mut String, bytes: &[u8]) -> Result<(), AllocError> {
+    text.push_str(" =Undefined[")?;
+    for byte in bytes {
+        write!(text, "{byte:x} ")?;
+    }
+    text.push_str("hex]")
+}
 
 fn push_default(text: &mut String, default: DefaultValue) -> Result<(), AllocError> {
     match default {
         DefaultValue::None => Ok(()),
         DefaultValue::ContextDependent => text.push_str(" =ContextDependent"),
         DefaultValue::Unspecified => text.push_str(" =Unspecified"),
-        DefaultValue::Byte([n]) => write!(text, " =Byte[{n}]"),
-        DefaultValue::Short([n]) => write!(text, " =Short[{n}]"),
-        DefaultValue::Short([a, b, c]) => write!(text, " =Short[{a},{b},{c}]"),
-        DefaultValue::Rational(num, denom) => write!(text, " =Rational[{num}/{denom}]"),
-        DefaultValue::Undefined([n]) => write!(text, " =Undefined[{n}]"),
-        DefaultValue::Undefined([a, b, c, d]) => {
-            write!(text, " =Undefined[{a:x} {b:x} {c:x} {d:x} hex]")
-        }
+        DefaultValue::Byte(numbers) => push_numbers(text, "Byte", numbers),
+        DefaultValue::Short(numbers) => push_numbers(text, "Short", numbers),
+        DefaultValue::Rational(num, denom) => push_fraction(text, num, denom),
+        DefaultValue::Undefined([n]) => push_numbers(text, "Undefined", &[*n]),
+        DefaultValue::Undefined(bytes) => push_bytes(text, bytes),
         DefaultValue::Ascii([byte]) => {
-            let letter = char::from(*byte);
-            write!(text, " =Ascii[\"{letter}\"]")
+            text.push_str(" =Ascii[\"")?;
+            text.push(char::from(*byte))?;
+            text.push_str("\"]")
         }
         _ => text.push_str(" ?"),
+    }
+}
+
+fn push_quoted(text: &mut String, unit: &str) -> Result<(), AllocError> {
+    write!(text, "\"{unit}\"")
+}
+
+/// The name of the row with this number.
+fn name_of(context: Context, number: u16) -> &'static str {
+    match find_row(context, number) {
+        Some(row) => row.name,
+        None => "?",
     }
 }
 
 fn push_piece(text: &mut String, piece: UnitPiece<'_>) -> Result<(), AllocError> {
     match piece {
         UnitPiece::Value => text.push_str("V"),
-        UnitPiece::Str(unit) => write!(text, "\"{unit}\""),
-        UnitPiece::Tag(context, number) => match find_row(context, number) {
-            Some(row) => text.push_str(row.name),
-            None => text.push_str("?"),
-        },
+        UnitPiece::Str(unit) => push_quoted(text, unit),
+        UnitPiece::Tag(context, number) => text.push_str(name_of(context, number)),
     }
 }
 
@@ -80,10 +116,7 @@ fn check_lines(
     let mut seen = 0usize;
     for part in lines.trim_end_matches('.').split(';') {
         let part = part.trim();
-        let Some((digits, _)) = part.split_once(' ') else {
-            panic!(rt; "a line without a number");
-        };
-        let Ok(number) = u16::from_str_radix(digits, 16) else {
+        let Some((number, _)) = numbered(part) else {
             panic!(rt; "a line without a number");
         };
         let Some(row) = find_row(context, number) else {

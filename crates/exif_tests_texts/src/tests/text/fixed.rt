@@ -3,7 +3,7 @@
 use super::kinds::{Case, Held, assert_cases, assert_text};
 use exif_table::TextKind;
 use exif_text::Contents;
-use std::alloc::AllocError;
+use std::process::Abort;
 
 // A kind, a number with its text, and what the kind is called.
 static BY_NUMBER: &[(TextKind, u16, &str, &str)] = &[
@@ -113,19 +113,25 @@ static BY_NUMBER: &[(TextKind, u16, &str, &str)] = &[
     ),
 ];
 
-// No kind has a text for this number.
-const NONE: u16 = 9999;
+/// A value for which no kind has a text is shown behind what the kind is called.
+fn assert_reserved(
+    rt: &(impl Abort + AllocGlobal),
+    kind: TextKind,
+    contents: Contents<'_>,
+    name: &str,
+    shown: &str,
+) {
+    let reserved = format!(in rt.alloc(); "[reserved {name} {shown}]").expect(rt, "memory");
+    assert_text(rt, kind, contents, reserved.as_str());
+}
 
 #[test]
-fn chosen_by_a_number(rt: HostRuntime) -> Result<(), AllocError> {
-    let alloc = rt.alloc();
+fn chosen_by_a_number(rt: HostRuntime) {
     assert!(rt; BY_NUMBER.len() == 24);
     for (kind, number, text, name) in BY_NUMBER {
-        assert_text(&rt, *kind, Contents::Short(&[*number]), *text)?;
-        let reserved = format!(in alloc; "[reserved {name} {NONE}]")?;
-        assert_text(&rt, *kind, Contents::Short(&[NONE]), reserved.as_str())?;
+        assert_text(&rt, *kind, Contents::Short(&[*number]), *text);
+        assert_reserved(&rt, *kind, Contents::Short(&[9999]), *name, "9999");
     }
-    Ok(())
 }
 
 // A kind, a letter with its text, and what the kind is called.
@@ -158,15 +164,12 @@ static BY_LETTER: &[(TextKind, &str, &str, &str)] = &[
 ];
 
 #[test]
-fn chosen_by_a_letter(rt: HostRuntime) -> Result<(), AllocError> {
-    let alloc = rt.alloc();
+fn chosen_by_a_letter(rt: HostRuntime) {
     assert!(rt; BY_LETTER.len() == 5);
     for (kind, letter, text, name) in BY_LETTER {
-        assert_text(&rt, *kind, Contents::Text(letter.as_bytes()), *text)?;
-        let reserved = format!(in alloc; "[reserved {name} \"?\"]")?;
-        assert_text(&rt, *kind, Contents::Text(b"?"), reserved.as_str())?;
+        assert_text(&rt, *kind, Contents::Text(letter.as_bytes()), *text);
+        assert_reserved(&rt, *kind, Contents::Text(b"?"), *name, "\"?\"");
     }
-    Ok(())
 }
 
 static BY_BYTE: [Case; 5] = [
@@ -194,8 +197,8 @@ static BY_BYTE: [Case; 5] = [
 ];
 
 #[test]
-fn chosen_by_a_byte(rt: HostRuntime) -> Result<(), AllocError> {
-    assert_cases(&rt, &BY_BYTE)
+fn chosen_by_a_byte(rt: HostRuntime) {
+    assert_cases(&rt, &BY_BYTE);
 }
 
 static SAMPLINGS: [Case; 6] = [
@@ -228,6 +231,6 @@ static SAMPLINGS: [Case; 6] = [
 ];
 
 #[test]
-fn samplings(rt: HostRuntime) -> Result<(), AllocError> {
-    assert_cases(&rt, &SAMPLINGS)
+fn samplings(rt: HostRuntime) {
+    assert_cases(&rt, &SAMPLINGS);
 }

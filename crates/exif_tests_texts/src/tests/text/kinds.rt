@@ -3,7 +3,6 @@
 use exif_table::TextKind;
 use exif_tag_texts::write_value;
 use exif_text::{Contents, Rational, SRational};
-use std::alloc::AllocError;
 use std::fmt;
 use std::process::Abort;
 
@@ -22,17 +21,16 @@ pub fn assert_text(
     kind: TextKind,
     contents: Contents<'_>,
     text: &str,
-) -> Result<(), AllocError> {
+) {
     let shown = Shown(kind, contents);
-    let both = format!(in rt.alloc(); "{shown}|{shown:60}")?;
+    let both = format!(in rt.alloc(); "{shown}|{shown:60}").expect(rt, "memory");
     assert!(rt; is_twice(both.as_str(), text), "{both}");
-    Ok(())
 }
 
 /// Whether a text stands on both sides of a bar.
 pub fn is_twice(both: &str, text: &str) -> bool {
-    match both.strip_prefix(text) {
-        Some(rest) => rest.strip_prefix('|') == Some(text),
+    match both.split_once('|') {
+        Some((left, right)) => left == text && right == text,
         None => false,
     }
 }
@@ -40,7 +38,7 @@ pub fn is_twice(both: &str, text: &str) -> bool {
 /// What the value of a case holds.
 pub enum Held {
     Fractions(&'static [(u32, u32)]),
-    Signed(&'static [(i32, i32)]),
+    Signed(&'static [SRational]),
     Shorts(&'static [u16]),
     Bytes(&'static [u8]),
     Undefined(&'static [u8]),
@@ -55,32 +53,19 @@ fn assert_fractions(
     kind: TextKind,
     pairs: &[(u32, u32)],
     text: &str,
-) -> Result<(), AllocError> {
+) {
     let mut fractions = Vec::new(rt.alloc());
     for pair in pairs {
-        fractions.push(Rational::from(*pair))?;
+        fractions.push(Rational::from(*pair)).expect(rt, "memory");
     }
     assert_text(rt, kind, Contents::Rational(&fractions), text)
 }
 
-fn assert_signed(
-    rt: &(impl Abort + AllocGlobal),
-    kind: TextKind,
-    pairs: &[(i32, i32)],
-    text: &str,
-) -> Result<(), AllocError> {
-    let mut fractions = Vec::new(rt.alloc());
-    for pair in pairs {
-        fractions.push(SRational::from(*pair))?;
-    }
-    assert_text(rt, kind, Contents::SRational(&fractions), text)
-}
-
-fn assert_case(rt: &(impl Abort + AllocGlobal), case: &Case) -> Result<(), AllocError> {
+fn assert_case(rt: &(impl Abort + AllocGlobal), case: &Case) {
     let (kind, text) = (case.0, case.2);
     match &case.1 {
         Held::Fractions(pairs) => assert_fractions(rt, kind, *pairs, text),
-        Held::Signed(pairs) => assert_signed(rt, kind, *pairs, text),
+        Held::Signed(fractions) => assert_text(rt, kind, Contents::SRational(*fractions), text),
         Held::Shorts(numbers) => assert_text(rt, kind, Contents::Short(*numbers), text),
         Held::Bytes(bytes) => assert_text(rt, kind, Contents::Byte(*bytes), text),
         Held::Undefined(bytes) => assert_text(rt, kind, Contents::Undefined(*bytes), text),
@@ -88,12 +73,15 @@ fn assert_case(rt: &(impl Abort + AllocGlobal), case: &Case) -> Result<(), Alloc
     }
 }
 
-pub fn assert_cases(rt: &(impl Abort + AllocGlobal), cases: &[Case]) -> Result<(), AllocError> {
+pub fn assert_cases(rt: &(impl Abort + AllocGlobal), cases: &[Case]) {
     for case in cases {
-        assert_case(rt, case)?;
+        assert_case(rt, case);
     }
-    Ok(())
 }
+
+const MINUS_ONE: SRational = SRational { num: 1, denom: -1 };
+
+const THIRD: SRational = SRational { num: 1, denom: 3 };
 
 static DECIMALS: [Case; 13] = [
     (
@@ -140,20 +128,20 @@ static DECIMALS: [Case; 13] = [
     (TextKind::DateTime, Held::Fractions(&[(3, 2)]), "3/2"),
     (
         TextKind::OptionalDecimal,
-        Held::Signed(&[(1, -1), (1, 3)]),
+        Held::Signed(&[MINUS_ONE, THIRD]),
         "unknown",
     ),
     (
         TextKind::Decimal,
-        Held::Signed(&[(1, -1), (1, 3)]),
+        Held::Signed(&[MINUS_ONE, THIRD]),
         "-1, 0.333333333",
     ),
     (TextKind::Decimal, Held::Shorts(&[7, 8]), "7, 8"),
 ];
 
 #[test]
-fn decimals_of_fractions(rt: HostRuntime) -> Result<(), AllocError> {
-    assert_cases(&rt, &DECIMALS)
+fn decimals_of_fractions(rt: HostRuntime) {
+    assert_cases(&rt, &DECIMALS);
 }
 
 static TIMES_AND_LENSES: [Case; 9] = [
@@ -185,8 +173,8 @@ static TIMES_AND_LENSES: [Case; 9] = [
 ];
 
 #[test]
-fn times_and_lenses(rt: HostRuntime) -> Result<(), AllocError> {
-    assert_cases(&rt, &TIMES_AND_LENSES)
+fn times_and_lenses(rt: HostRuntime) {
+    assert_cases(&rt, &TIMES_AND_LENSES);
 }
 
 static NUMBERS: [Case; 19] = [
@@ -256,8 +244,8 @@ static NUMBERS: [Case; 19] = [
 ];
 
 #[test]
-fn texts_of_numbers(rt: HostRuntime) -> Result<(), AllocError> {
-    assert_cases(&rt, &NUMBERS)
+fn texts_of_numbers(rt: HostRuntime) {
+    assert_cases(&rt, &NUMBERS);
 }
 
 static BYTES: [Case; 15] = [
@@ -307,8 +295,8 @@ static BYTES: [Case; 15] = [
 ];
 
 #[test]
-fn texts_of_bytes(rt: HostRuntime) -> Result<(), AllocError> {
-    assert_cases(&rt, &BYTES)
+fn texts_of_bytes(rt: HostRuntime) {
+    assert_cases(&rt, &BYTES);
 }
 
 static TEXTS: [Case; 13] = [
@@ -360,8 +348,8 @@ static TEXTS: [Case; 13] = [
 ];
 
 #[test]
-fn texts_of_texts(rt: HostRuntime) -> Result<(), AllocError> {
-    assert_cases(&rt, &TEXTS)
+fn texts_of_texts(rt: HostRuntime) {
+    assert_cases(&rt, &TEXTS);
 }
 
 static NOT_TAKEN: [Case; 7] = [
@@ -387,6 +375,6 @@ static NOT_TAKEN: [Case; 7] = [
 ];
 
 #[test]
-fn values_that_are_not_taken(rt: HostRuntime) -> Result<(), AllocError> {
-    assert_cases(&rt, &NOT_TAKEN)
+fn values_that_are_not_taken(rt: HostRuntime) {
+    assert_cases(&rt, &NOT_TAKEN);
 }

@@ -2,8 +2,8 @@
 
 use exif_datetime::DateTime;
 use exif_types::Error;
+use std::alloc::AllocError;
 use std::process::Abort;
-use std::test::Fail;
 
 fn assert_refused(
     rt: &(impl Abort + AllocGlobal),
@@ -19,40 +19,45 @@ fn assert_refused(
     assert!(rt; is_wanted, "{text}");
 }
 
+static SUBSECS: [(&str, Option<u32>); 5] = [
+    ("9876543219", Some(987654321)),
+    ("", None),
+    ("5 x", Some(500000000)),
+    ("999999999x", Some(999999999)),
+    ("000987", Some(987000)),
+];
+
 // Reads parts of seconds one after another; the last are 987000 nanoseconds.
-fn read_subsecs(rt: &(impl Abort + AllocGlobal), date: &mut DateTime) -> Result<(), Fail> {
-    for (text, nanosecond) in [
-        ("9876543219", Some(987654321)),
-        ("", None),
-        ("5 x", Some(500000000)),
-        ("999999999x", Some(999999999)),
-        ("000987", Some(987000)),
-    ] {
-        date.parse_subsec(text.as_bytes())?;
-        assert!(rt; date.nanosecond == nanosecond);
+fn read_subsecs(rt: &impl Abort, date: &mut DateTime) {
+    for (text, nanosecond) in &SUBSECS {
+        let answer = date.parse_subsec(text.as_bytes());
+        answer.expect(rt, "parts of a second");
+        assert!(rt; date.nanosecond == *nanosecond);
     }
-    Ok(())
 }
 
 // Reads two offsets; the last is -6039 minutes.
-fn read_offsets(rt: &(impl Abort + AllocGlobal), date: &mut DateTime) -> Result<(), Fail> {
-    date.parse_offset(b"+09:30 more")?;
+fn read_offsets(rt: &impl Abort, date: &mut DateTime) {
+    date.parse_offset(b"+09:30 more").expect(rt, "an offset");
     assert!(rt; date.offset == Some(570));
-    date.parse_offset(b"-99:99")?;
+    date.parse_offset(b"-99:99").expect(rt, "an offset");
     assert!(rt; date.offset == Some(-6039));
-    Ok(())
+}
+
+fn date_of(rt: &impl Abort, text: &[u8]) -> DateTime {
+    DateTime::from_ascii(text).expect(rt, "a date")
 }
 
 #[test]
-fn a_date_is_read_and_shown(rt: HostRuntime) -> Result<(), Fail> {
-    let date = DateTime::from_ascii(b"2016:05:04 03:02:01")?;
+fn a_date_is_read_and_shown(rt: HostRuntime) -> Result<(), AllocError> {
+    let date = date_of(&rt, b"2016:05:04 03:02:01");
     let shown = format!(in rt.alloc(); "{date}|{date:30}|")?;
     assert!(rt; shown.as_str() == "2016-05-04 03:02:01|2016-05-04 03:02:01|");
     Ok(())
 }
 
 // The debug text of the date behind its offset.
-fn assert_debug(rt: &(impl Abort + AllocGlobal), date: &DateTime) -> Result<(), Fail> {
+fn assert_debug(rt: &(impl Abort + AllocGlobal), date: &DateTime) -> Result<(), AllocError> {
     let shown = format!(in rt.alloc(); "{date:?}")?;
     assert!(rt;
         shown.as_str()
@@ -62,49 +67,56 @@ fn assert_debug(rt: &(impl Abort + AllocGlobal), date: &DateTime) -> Result<(), 
 }
 
 #[test]
-fn what_is_refused_changes_nothing(rt: HostRuntime) -> Result<(), Fail> {
-    let mut date = DateTime::from_ascii(b"2016:05:04 03:02:01")?;
-    read_subsecs(&rt, &mut date)?;
-    read_offsets(&rt, &mut date)?;
+fn what_is_refused_changes_nothing(rt: HostRuntime) -> Result<(), AllocError> {
+    let mut date = date_of(&rt, b"2016:05:04 03:02:01");
+    read_subsecs(&rt, &mut date);
+    read_offsets(&rt, &mut date);
     assert_refused(&rt, date.parse_offset(b"+01:2x"), false, "Not a number");
     assert_refused(&rt, date.parse_subsec(b"12x"), false, "Not a number");
     assert!(rt; date.nanosecond == Some(987000) && date.offset == Some(-6039));
-    date.parse_subsec(b" ")?;
+    date.parse_subsec(b" ").expect(&rt, "parts of a second");
     assert!(rt; date.nanosecond == None);
     assert_debug(&rt, &date)
 }
 
+// A text, whether it is refused as blank, and what is said of it.
+type Refusal = (&'static str, bool, &'static str);
+
+static DATES: [Refusal; 7] = [
+    ("                   ", true, "DateTime is blank"),
+    ("    :  :     :  :  ", true, "DateTime is blank"),
+    ("                    ", false, "Invalid DateTime delimiter"),
+    ("2016:05:04 03:02:0", false, "DateTime too short"),
+    ("2016-05:04 03:02:01", false, "Invalid DateTime delimiter"),
+    ("2016:05:04T03:02:01", false, "Invalid DateTime delimiter"),
+    ("2016:05:04 03:02:0x", false, "Not a number"),
+];
+
 #[test]
 fn refusals_of_dates(rt: HostRuntime) {
-    for (text, blank, message) in [
-        ("                   ", true, "DateTime is blank"),
-        ("    :  :     :  :  ", true, "DateTime is blank"),
-        ("                    ", false, "Invalid DateTime delimiter"),
-        ("2016:05:04 03:02:0", false, "DateTime too short"),
-        ("2016-05:04 03:02:01", false, "Invalid DateTime delimiter"),
-        ("2016:05:04T03:02:01", false, "Invalid DateTime delimiter"),
-        ("2016:05:04 03:02:0x", false, "Not a number"),
-    ] {
+    for (text, blank, message) in &DATES {
         let answer = match DateTime::from_ascii(text.as_bytes()) {
             Ok(_) => Ok(()),
             Err(e) => Err(e),
         };
-        assert_refused(&rt, answer, blank, message);
+        assert_refused(&rt, answer, *blank, *message);
     }
 }
 
+static OFFSETS: [Refusal; 6] = [
+    ("      ", true, "OffsetTime is blank"),
+    ("   :  ", true, "OffsetTime is blank"),
+    ("+01:0", false, "OffsetTime too short"),
+    ("+01-00", false, "Invalid OffsetTime delimiter"),
+    ("+x1:00", false, "Not a number"),
+    ("?01:00", false, "Invalid OffsetTime sign"),
+];
+
 #[test]
-fn refusals_of_offsets(rt: HostRuntime) -> Result<(), Fail> {
-    let mut date = DateTime::from_ascii(b"0000:00:00 00:00:00 and more")?;
-    for (text, blank, message) in [
-        ("      ", true, "OffsetTime is blank"),
-        ("   :  ", true, "OffsetTime is blank"),
-        ("+01:0", false, "OffsetTime too short"),
-        ("+01-00", false, "Invalid OffsetTime delimiter"),
-        ("+x1:00", false, "Not a number"),
-        ("?01:00", false, "Invalid OffsetTime sign"),
-    ] {
-        assert_refused(&rt, date.parse_offset(text.as_bytes()), blank, message);
+fn refusals_of_offsets(rt: HostRuntime) {
+    let mut date = date_of(&rt, b"0000:00:00 00:00:00 and more");
+    for (text, blank, message) in &OFFSETS {
+        let answer = date.parse_offset(text.as_bytes());
+        assert_refused(&rt, answer, *blank, *message);
     }
-    Ok(())
 }

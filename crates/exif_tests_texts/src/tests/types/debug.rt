@@ -1,5 +1,6 @@
 //! The debug texts of fields, of values of each kind, and of unsigned numbers.
 
+use super::list;
 use exif_base::Items;
 use exif_types::{Field, In, Rational, SRational, Tag, Value};
 use std::alloc::AllocError;
@@ -72,10 +73,6 @@ fn value_of(rt: &(impl Abort + AllocGlobal), held: Held) -> Value {
     }
 }
 
-fn list<T: Copy>(rt: &(impl Abort + AllocGlobal), items: &[T]) -> Items<T> {
-    Items::from_slice(rt.alloc(), items).expect(rt, "memory")
-}
-
 // This is shown as a text.
 fn assert_debug<T: Debug + Drop>(rt: &(impl Abort + AllocGlobal), value: T, text: &str) {
     let shown = format!(in rt.alloc(); "{value:?}").expect(rt, "memory");
@@ -99,8 +96,8 @@ fn values(rt: HostRuntime) {
 #[test]
 fn texts(rt: HostRuntime) -> Result<(), AllocError> {
     let mut texts = Vec::new(rt.alloc());
-    texts.push(Items::from_slice(rt.alloc(), b"a\"\n")?)?;
-    texts.push(Items::from_slice(rt.alloc(), b"")?)?;
+    texts.push(list(&rt, b"a\"\n"))?;
+    texts.push(list(&rt, b""))?;
     let value = Value::Ascii(Items::from_vec(texts));
     assert_debug(&rt, value, "Ascii([\"a\\\"\\x0a\", \"\"])");
     Ok(())

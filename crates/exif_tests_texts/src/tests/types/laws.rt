@@ -6,7 +6,6 @@ use exif_types::laws::{
     tags_agree,
 };
 use exif_types::{Context, In, Tag, Value, exif_from_parts};
-use std::alloc::AllocError;
 use std::cmp::Ordering;
 use std::hash::{DefaultHasher, Hasher};
 
@@ -23,15 +22,18 @@ fn contexts_tags_and_directories(rt: HostRuntime) {
 }
 
 #[test]
-fn look_ups_and_numbers(rt: HostRuntime) -> Result<(), AllocError> {
+fn look_ups_and_numbers(rt: HostRuntime) {
     let alloc = rt.alloc();
-    let exif = exif_from_parts(alloc, Vec::new(alloc), Vec::new(alloc), true)?;
+    let exif = exif_from_parts(alloc, Vec::new(alloc), Vec::new(alloc), true);
+    let exif = exif.expect(&rt, "memory");
     let (fields, found) = get_field_gives_the_last(&exif, Tag::Make, In::PRIMARY);
-    assert!(rt; fields.count() == 0 && found.is_none());
-    let value = Value::Short(Items::from_slice(alloc, &[3, 5])?);
+    let is_empty = fields.count() == 0 && found.is_none();
+    drop(exif);
+    assert!(rt; is_empty);
+    let items = Items::from_slice(alloc, &[3, 5]).expect(&rt, "memory");
+    let value = Value::Short(items);
     let (items, number) = get_uint_gives_the_item(&value, 1);
     let is_item = items.is_some() && number == Some(5);
     drop(value);
     assert!(rt; is_item);
-    Ok(())
 }

@@ -1,8 +1,11 @@
 //! Tags by name.
 
+use super::super::assert_shown;
+use super::list;
 use exif_base::Items;
 use exif_types::{Context, In, Rational, Tag, Value};
-use std::alloc::AllocError;
+use std::alloc::{AllocError, Global};
+use std::fmt::Display;
 use std::process::Abort;
 
 /// The constants with these names, each beside its name.
@@ -12,7 +15,7 @@ macro_rules! named {
     };
 }
 
-static NAMED: [(Tag, &str); 153] = named![
+static TIFF: [(Tag, &str); 34] = named![
     ImageWidth,
     ImageLength,
     BitsPerSample,
@@ -46,7 +49,10 @@ static NAMED: [(Tag, &str); 153] = named![
     ReferenceBlackWhite,
     Copyright,
     ExifIFDPointer,
-    GPSInfoIFDPointer,
+    GPSInfoIFDPointer
+];
+
+static EXIF: [(Tag, &str); 36] = named![
     ExposureTime,
     FNumber,
     ExposureProgram,
@@ -82,7 +88,10 @@ static NAMED: [(Tag, &str); 153] = named![
     UserComment,
     SubSecTime,
     SubSecTimeOriginal,
-    SubSecTimeDigitized,
+    SubSecTimeDigitized
+];
+
+static EXIF_BEHIND: [(Tag, &str); 46] = named![
     Temperature,
     Humidity,
     Pressure,
@@ -128,7 +137,10 @@ static NAMED: [(Tag, &str); 153] = named![
     CompositeImage,
     SourceImageNumberOfCompositeImage,
     SourceExposureTimesOfCompositeImage,
-    Gamma,
+    Gamma
+];
+
+static GPS: [(Tag, &str); 37] = named![
     GPSVersionID,
     GPSLatitudeRef,
     GPSLatitude,
@@ -168,21 +180,45 @@ static NAMED: [(Tag, &str); 153] = named![
     RelatedImageLength
 ];
 
-fn assert_names(rt: &(impl Abort + AllocGlobal), named: &[(Tag, &str)]) -> Result<(), AllocError> {
+fn assert_names(rt: &(impl Abort + AllocGlobal), named: &[(Tag, &str)]) {
     for (tag, name) in named {
-        assert!(rt; format!(in rt.alloc(); "{tag}")?.as_str() == *name);
+        assert_shown(rt, *tag, *name);
     }
-    Ok(())
+}
+
+fn assert_names_of_images(rt: &(impl Abort + AllocGlobal)) {
+    assert_names(rt, &TIFF);
+}
+
+fn assert_names_of_pictures(rt: &(impl Abort + AllocGlobal)) {
+    assert_names(rt, &EXIF);
+}
+
+fn assert_names_behind(rt: &(impl Abort + AllocGlobal)) {
+    assert_names(rt, &EXIF_BEHIND);
+}
+
+fn assert_names_of_places(rt: &(impl Abort + AllocGlobal)) {
+    assert_names(rt, &GPS);
 }
 
 #[test]
-fn each_constant_shows_its_name(rt: HostRuntime) -> Result<(), AllocError> {
-    assert_names(&rt, &NAMED)
+fn each_constant_shows_its_name(rt: HostRuntime) {
+    assert_names_of_images(&rt);
+    assert_names_of_pictures(&rt);
+    assert_names_behind(&rt);
+    assert_names_of_places(&rt);
 }
 
 fn side(tag: Tag) -> &'static str {
     match tag {
         Tag::ImageWidth | Tag::PixelXDimension => "width",
+        _ => other_side(tag),
+    }
+}
+
+fn other_side(tag: Tag) -> &'static str {
+    match tag {
         Tag::ImageLength | Tag::PixelYDimension => "height",
         Tag(Context::Gps, _) => "place",
         _ => "none",
@@ -197,10 +233,15 @@ fn constants_stand_in_patterns(rt: HostRuntime) {
     assert!(rt; side(Tag::GPSVersionID) == "place");
 }
 
+// A text in two widths.
+fn padded<T: Display>(alloc: Global, shown: &T) -> Result<String, AllocError> {
+    format!(in alloc; "{shown:11}|{shown:15}")
+}
+
 #[test]
 fn tags_are_padded(rt: HostRuntime) -> Result<(), AllocError> {
-    let shown = format!(in rt.alloc(); "{:15}", Tag::DateTime)?;
-    assert!(rt; shown.as_str() == "DateTime       ");
+    let shown = padded(rt.alloc(), &Tag::DateTime)?;
+    assert!(rt; shown.as_str() == "DateTime   |DateTime       ");
     Ok(())
 }
 
@@ -220,33 +261,40 @@ fn the_longest_tag_is_padded(rt: HostRuntime) -> Result<(), AllocError> {
     Ok(())
 }
 
+// Three in widths of their own.
+fn three<T: Display>(alloc: Global, last: &T, first: &T, second: &T) -> Result<String, AllocError> {
+    format!(in alloc; "{last:^10}|{first:>9}{second:10}|")
+}
+
 #[test]
 fn directories_are_padded(rt: HostRuntime) -> Result<(), AllocError> {
-    let (last, first, second) = (In(65535), In::PRIMARY, In::THUMBNAIL);
-    let shown = format!(in rt.alloc(); "{last:^10}|{first:>9}{second:10}|")?;
+    let shown = three(rt.alloc(), &In(65535), &In::PRIMARY, &In::THUMBNAIL)?;
     assert!(rt; shown.as_str() == " IFD65535 |  primarythumbnail |");
     Ok(())
 }
 
 #[test]
 fn fractions_are_padded(rt: HostRuntime) -> Result<(), AllocError> {
-    let shown = format!(in rt.alloc(); "{:11}", Rational::from((10, 20)))?;
-    assert!(rt; shown.as_str() == "      10/20");
+    let shown = padded(rt.alloc(), &Rational::from((10, 20)))?;
+    assert!(rt; shown.as_str() == "      10/20|          10/20");
     Ok(())
 }
 
+static DESCRIBED: [(Tag, &str); 5] = [
+    (Tag::FNumber, "F number"),
+    (Tag::CFAPattern, "CFA pattern"),
+    (Tag::ShutterSpeedValue, "Shutter speed"),
+    (Tag::ImageWidth, "Image width"),
+    (Tag(Context::Interop, 0x1001), "Related image width"),
+];
+
 #[test]
 fn descriptions(rt: HostRuntime) {
-    for (tag, text) in [
-        (Tag::FNumber, Some("F number")),
-        (Tag::CFAPattern, Some("CFA pattern")),
-        (Tag::ShutterSpeedValue, Some("Shutter speed")),
-        (Tag::ImageWidth, Some("Image width")),
-        (Tag(Context::Interop, 0x1001), Some("Related image width")),
-        (Tag(Context::Tiff, 65000), None),
-    ] {
-        assert!(rt; tag.description() == text);
+    for (tag, text) in &DESCRIBED {
+        let found = tag.description().expect(&rt, "a description");
+        assert!(rt; found == *text);
     }
+    assert!(rt; Tag(Context::Tiff, 65000).description().is_none());
 }
 
 // Lets both go by one call each.
@@ -254,51 +302,55 @@ fn are_equal<T: PartialEq + Drop>(left: T, right: T) -> bool {
     left == right
 }
 
-fn assert_default(rt: &(impl Abort + AllocGlobal), tag: Tag, value: Option<Value>) {
-    let found = tag.default_value(rt.alloc()).expect(rt, "memory");
+fn default_of(rt: &(impl Abort + AllocGlobal), tag: Tag) -> Option<Value> {
+    tag.default_value(rt.alloc()).expect(rt, "memory")
+}
+
+fn assert_default(rt: &(impl Abort + AllocGlobal), tag: Tag, value: Value) {
+    let found = default_of(rt, tag).expect(rt, "a default");
     assert!(rt; are_equal(found, value));
 }
 
 #[test]
-fn defaults(rt: HostRuntime) -> Result<(), AllocError> {
-    let bits = Value::Short(Items::from_slice(rt.alloc(), &[8, 8, 8])?);
-    assert_default(&rt, Tag::BitsPerSample, Some(bits));
-    let altitude = Value::Byte(Items::from_slice(rt.alloc(), &[0])?);
-    assert_default(&rt, Tag::GPSAltitudeRef, Some(altitude));
-    Ok(())
+fn defaults(rt: HostRuntime) {
+    let bits = Value::Short(list(&rt, &[8, 8, 8]));
+    assert_default(&rt, Tag::BitsPerSample, bits);
+    let altitude = Value::Byte(list(&rt, &[0]));
+    assert_default(&rt, Tag::GPSAltitudeRef, altitude);
 }
 
 #[test]
-fn default_of_undefined_bytes(rt: HostRuntime) -> Result<(), AllocError> {
-    let source = Value::Undefined(Items::from_slice(rt.alloc(), &[3])?, 0);
-    assert_default(&rt, Tag::FileSource, Some(source));
-    Ok(())
+fn default_of_undefined_bytes(rt: HostRuntime) {
+    let source = Value::Undefined(list(&rt, &[3]), 0);
+    assert_default(&rt, Tag::FileSource, source);
 }
 
 #[test]
-fn default_of_a_fraction(rt: HostRuntime) -> Result<(), AllocError> {
-    let resolution = Items::from_slice(rt.alloc(), &[Rational::from((72, 1))])?;
-    assert_default(&rt, Tag::XResolution, Some(Value::Rational(resolution)));
-    Ok(())
+fn default_of_a_fraction(rt: HostRuntime) {
+    let resolution = list(&rt, &[Rational::from((72, 1))]);
+    assert_default(&rt, Tag::XResolution, Value::Rational(resolution));
 }
 
 #[test]
 fn default_of_a_text(rt: HostRuntime) -> Result<(), AllocError> {
     let mut letters = Vec::new(rt.alloc());
-    letters.push(Items::from_slice(rt.alloc(), b"K")?)?;
+    letters.push(list(&rt, b"K"))?;
     let speed = Value::Ascii(Items::from_vec(letters));
-    assert_default(&rt, Tag::GPSSpeedRef, Some(speed));
+    assert_default(&rt, Tag::GPSSpeedRef, speed);
     Ok(())
+}
+
+fn assert_no_default(rt: &(impl Abort + AllocGlobal), tag: Tag) {
+    if let Some(value) = default_of(rt, tag) {
+        drop(value);
+        panic!(rt; "a default");
+    }
 }
 
 #[test]
 fn tags_without_a_default(rt: HostRuntime) {
-    for tag in [
-        Tag::DateTime,
-        Tag::GPSVersionID,
-        Tag::Flash,
-        Tag(Context::Tiff, 65000),
-    ] {
-        assert_default(&rt, tag, None);
-    }
+    assert_no_default(&rt, Tag::DateTime);
+    assert_no_default(&rt, Tag::GPSVersionID);
+    assert_no_default(&rt, Tag::Flash);
+    assert_no_default(&rt, Tag(Context::Tiff, 65000));
 }

@@ -1,8 +1,9 @@
 //! The texts of values, alone and with their units.
 
-ghost use Rattle.std.specs.Prelude.{◌≡◌, IfOk};
+ghost use Rattle.std.specs.Prelude.{◌≡◌};
 ghost use Rattle.exif_types.specs.Sound.{IsRead};
 
+use super::list;
 use exif_base::Items;
 use exif_types::{Context, Exif, Field, In, Rational, SRational, Tag, Value, exif_from_parts};
 use std::alloc::{AllocError, Global};
@@ -19,44 +20,41 @@ fn field(tag: Tag, value: Value) -> Field
     }
 }
 
-fn fractions(alloc: Global, tag: Tag, pairs: &[(u32, u32)]) -> Result<Field, AllocError> {
-    let mut list = Vec::new(alloc);
+fn fractions(rt: &(impl Abort + AllocGlobal), tag: Tag, pairs: &[(u32, u32)]) -> Field {
+    let mut list = Vec::new(rt.alloc());
     for pair in pairs {
-        list.push(Rational::from(*pair))?;
+        list.push(Rational::from(*pair)).expect(rt, "memory");
     }
-    Ok(field(tag, Value::Rational(Items::from_vec(list))))
+    field(tag, Value::Rational(Items::from_vec(list)))
 }
 
-fn signed(alloc: Global, tag: Tag, num: i32, denom: i32) -> Result<Field, AllocError> {
-    let list = Items::from_slice(alloc, &[SRational { num, denom }])?;
-    Ok(field(tag, Value::SRational(list)))
+fn signed(rt: &(impl Abort + AllocGlobal), tag: Tag, num: i32, denom: i32) -> Field {
+    field(tag, Value::SRational(list(rt, &[SRational { num, denom }])))
 }
 
-fn shorts(alloc: Global, tag: Tag, numbers: &[u16]) -> Result<Field, AllocError>
-    ensures { IfOk result (λ field. IsRead field) }
+fn shorts(rt: &(impl Abort + AllocGlobal), tag: Tag, numbers: &[u16]) -> Field
+    ensures { IsRead result }
 {
-    Ok(field(tag, Value::Short(Items::from_slice(alloc, numbers)?)))
+    field(tag, Value::Short(list(rt, numbers)))
 }
 
-fn undefined(alloc: Global, tag: Tag, bytes: &[u8]) -> Result<Field, AllocError> {
-    let bytes = Items::from_slice(alloc, bytes)?;
-    Ok(field(tag, Value::Undefined(bytes, 0)))
+fn undefined(rt: &(impl Abort + AllocGlobal), tag: Tag, bytes: &[u8]) -> Field {
+    field(tag, Value::Undefined(list(rt, bytes), 0))
 }
 
 // A field of no name.
-fn bits(alloc: Global, number: u32) -> Result<Field, AllocError> {
-    let bits = Items::from_slice(alloc, &[number])?;
-    Ok(field(Tag(Context::Tiff, 65000), Value::Float(bits)))
+fn bits(rt: &(impl Abort + AllocGlobal), number: u32) -> Field {
+    field(Tag(Context::Tiff, 65000), Value::Float(list(rt, &[number])))
 }
 
-fn bytes(alloc: Global, tag: Tag, bytes: &[u8]) -> Result<Field, AllocError> {
-    Ok(field(tag, Value::Byte(Items::from_slice(alloc, bytes)?)))
+fn bytes(rt: &(impl Abort + AllocGlobal), tag: Tag, bytes: &[u8]) -> Field {
+    field(tag, Value::Byte(list(rt, bytes)))
 }
 
-fn text(alloc: Global, tag: Tag, bytes: &[u8]) -> Result<Field, AllocError> {
-    let mut texts = Vec::new(alloc);
-    texts.push(Items::from_slice(alloc, bytes)?)?;
-    Ok(field(tag, Value::Ascii(Items::from_vec(texts))))
+fn text(rt: &(impl Abort + AllocGlobal), tag: Tag, bytes: &[u8]) -> Field {
+    let mut texts = Vec::new(rt.alloc());
+    texts.push(list(rt, bytes)).expect(rt, "memory");
+    field(tag, Value::Ascii(Items::from_vec(texts)))
 }
 
 // Whether what is shown is this text, in however many columns.
@@ -78,16 +76,14 @@ fn is_value_shown(alloc: Global, field: &Field, text: &str) -> Result<bool, Allo
 }
 
 // The text of the field without its unit.
-fn assert_value(rt: &(impl Abort + AllocGlobal), field: Result<Field, AllocError>, text: &str) {
-    let field = field.expect(rt, "memory");
+fn assert_value(rt: &(impl Abort + AllocGlobal), field: Field, text: &str) {
     let shown = is_value_shown(rt.alloc(), &field, text).expect(rt, "memory");
     drop(field);
     assert!(rt; shown, "{text}");
 }
 
 // The text of the field with its unit, where no other fields are known.
-fn assert_alone(rt: &(impl Abort + AllocGlobal), field: Result<Field, AllocError>, text: &str) {
-    let field = field.expect(rt, "memory");
+fn assert_alone(rt: &(impl Abort + AllocGlobal), field: Field, text: &str) {
     let value = field.display_value().with_unit(());
     let shown = is_shown(rt.alloc(), &value, text).expect(rt, "memory");
     drop(field);
@@ -95,14 +91,7 @@ fn assert_alone(rt: &(impl Abort + AllocGlobal), field: Result<Field, AllocError
 }
 
 // The text of the field with its unit, where one other field is known.
-fn assert_beside(
-    rt: &(impl Abort + AllocGlobal),
-    field: Result<Field, AllocError>,
-    other: Result<Field, AllocError>,
-    text: &str,
-) {
-    let field = field.expect(rt, "memory");
-    let other = other.expect(rt, "memory");
+fn assert_beside(rt: &(impl Abort + AllocGlobal), field: Field, other: Field, text: &str) {
     let value = field.display_value().with_unit(&other);
     let shown = is_shown(rt.alloc(), &value, text).expect(rt, "memory");
     drop(field);
@@ -120,23 +109,28 @@ fn decimals_in_a_row(rt: HostRuntime) -> Result<(), AllocError> {
     Ok(())
 }
 
+static UNDEFINED: [(Tag, &[u8], &str); 4] = [
+    (Tag::ExifVersion, b"0231", "2.31"),
+    (Tag::ExifVersion, b"0230", "2.3"),
+    (Tag::InteroperabilityVersion, b"0100", "1.00"),
+    (Tag::ComponentsConfiguration, b"\x01\x02\x03\0", "YCbCr_"),
+];
+
+fn assert_undefined(rt: &(impl Abort + AllocGlobal)) {
+    for (tag, bytes, shown) in &UNDEFINED {
+        assert_value(rt, undefined(rt, *tag, *bytes), *shown);
+    }
+}
+
 #[test]
 fn values_by_their_tags(rt: HostRuntime) {
-    let alloc = rt.alloc();
-    assert_value(&rt, signed(alloc, Tag::BrightnessValue, 7, -1), "unknown");
-    assert_value(&rt, signed(alloc, Tag::BrightnessValue, 0, 0), "0/0");
-    for (tag, bytes, shown) in [
-        (Tag::ExifVersion, b"0231", "2.31"),
-        (Tag::ExifVersion, b"0230", "2.3"),
-        (Tag::InteroperabilityVersion, b"0100", "1.00"),
-        (Tag::ComponentsConfiguration, b"\x01\x02\x03\0", "YCbCr_"),
-    ] {
-        assert_value(&rt, undefined(alloc, tag, bytes), shown);
-    }
+    assert_value(&rt, signed(&rt, Tag::BrightnessValue, 7, -1), "unknown");
+    assert_value(&rt, signed(&rt, Tag::BrightnessValue, 0, 0), "0/0");
+    assert_undefined(&rt);
     let lens = [(24, 1), (70, 1), (28, 10), (28, 10)];
-    let lens = fractions(alloc, Tag::LensSpecification, &lens);
+    let lens = fractions(&rt, Tag::LensSpecification, &lens);
     assert_value(&rt, lens, "24-70 mm, f/2.8-2.8");
-    let area = shorts(alloc, Tag::SubjectArea, &[1, 2, 3, 4]);
+    let area = shorts(&rt, Tag::SubjectArea, &[1, 2, 3, 4]);
     assert_value(&rt, area, "rectangle (x=1, y=2, w=3, h=4)");
 }
 
@@ -151,13 +145,12 @@ fn texts_by_their_tags(rt: HostRuntime) {
             "\"a \\\"\\\\b\\\"\\x0a\"",
         ),
     ] {
-        assert_value(&rt, text(rt.alloc(), tag, bytes), shown);
+        assert_value(&rt, text(&rt, tag, bytes), shown);
     }
 }
 
 #[test]
 fn fractions_with_units(rt: HostRuntime) {
-    let alloc = rt.alloc();
     for (tag, pair, shown) in [
         (Tag::ExposureTime, (1, 3), "1/3 s"),
         (Tag::ExposureTime, (2, 3), "1/1.5 s"),
@@ -166,19 +159,18 @@ fn fractions_with_units(rt: HostRuntime) {
         (Tag::FNumber, (28, 10), "f/2.8"),
         (Tag::GPSSpeed, (5, 1), "5 km/h"),
     ] {
-        assert_alone(&rt, fractions(alloc, tag, &[pair]), shown);
+        assert_alone(&rt, fractions(&rt, tag, &[pair]), shown);
     }
-    let bias = signed(alloc, Tag::ExposureBiasValue, -1, 3);
+    let bias = signed(&rt, Tag::ExposureBiasValue, -1, 3);
     assert_alone(&rt, bias, "-0.333333333 EV");
-    let bias = signed(alloc, Tag::ExposureBiasValue, -1, 2000000000);
+    let bias = signed(&rt, Tag::ExposureBiasValue, -1, 2000000000);
     assert_alone(&rt, bias, "0 EV");
-    let stamp = fractions(alloc, Tag::GPSTimeStamp, &[(9, 1), (5, 1), (61, 2)]);
+    let stamp = fractions(&rt, Tag::GPSTimeStamp, &[(9, 1), (5, 1), (61, 2)]);
     assert_alone(&rt, stamp, "09:05:30.5");
 }
 
 #[test]
 fn numbers_with_units(rt: HostRuntime) {
-    let alloc = rt.alloc();
     for (tag, number, shown) in [
         (Tag::Orientation, 9, "[reserved orientation 9]"),
         (
@@ -189,50 +181,50 @@ fn numbers_with_units(rt: HostRuntime) {
         (Tag::FocalLengthIn35mmFilm, 24, "24 mm"),
         (Tag::FocalLengthIn35mmFilm, 0, "unknown mm"),
     ] {
-        assert_alone(&rt, shorts(alloc, tag, &[number]), shown);
+        assert_alone(&rt, shorts(&rt, tag, &[number]), shown);
     }
-    assert_alone(&rt, bits(alloc, 0x40200000), "0x40200000");
+    assert_alone(&rt, bits(&rt, 0x40200000), "0x40200000");
 }
 
 // The unit of resolutions, as another directory has it.
-fn thumbnail_unit(alloc: Global) -> Result<Field, AllocError> {
-    let mut unit = shorts(alloc, Tag::ResolutionUnit, &[3])?;
+fn thumbnail_unit(rt: &(impl Abort + AllocGlobal)) -> Field {
+    let mut unit = shorts(rt, Tag::ResolutionUnit, &[3]);
     unit.ifd_num = In::THUMBNAIL;
-    Ok(unit)
+    unit
 }
 
 #[test]
 fn units_of_resolutions(rt: HostRuntime) {
-    let alloc = rt.alloc();
-    let resolution = fractions(alloc, Tag::XResolution, &[(72, 1)]);
-    let unit = shorts(alloc, Tag::ResolutionUnit, &[3]);
+    let resolution = fractions(&rt, Tag::XResolution, &[(72, 1)]);
+    let unit = shorts(&rt, Tag::ResolutionUnit, &[3]);
     assert_beside(&rt, resolution, unit, "72 pixels per cm");
-    let resolution = fractions(alloc, Tag::XResolution, &[(72, 1)]);
-    assert_beside(&rt, resolution, thumbnail_unit(alloc), "72 pixels per inch");
-    let resolution = fractions(alloc, Tag::XResolution, &[(72, 1)]);
-    let unit = text(alloc, Tag::ResolutionUnit, b"cm");
+    let resolution = fractions(&rt, Tag::XResolution, &[(72, 1)]);
+    assert_beside(&rt, resolution, thumbnail_unit(&rt), "72 pixels per inch");
+    let resolution = fractions(&rt, Tag::XResolution, &[(72, 1)]);
+    let unit = text(&rt, Tag::ResolutionUnit, b"cm");
     let shown = "72 pixels per [reserved resolution unit \"cm\"]";
     assert_beside(&rt, resolution, unit, shown);
 }
 
 #[test]
 fn units_of_places(rt: HostRuntime) {
-    let alloc = rt.alloc();
-    let latitude = fractions(alloc, Tag::GPSLatitude, &[(10, 1), (0, 1), (1, 10)]);
+    let latitude = fractions(&rt, Tag::GPSLatitude, &[(10, 1), (0, 1), (1, 10)]);
     let shown = "10 deg 0 min 0.1 sec [GPSLatitudeRef missing]";
     assert_alone(&rt, latitude, shown);
-    let below = bytes(alloc, Tag::GPSAltitudeRef, &[1]);
-    let altitude = fractions(alloc, Tag::GPSAltitude, &[(1, 2)]);
+    let below = bytes(&rt, Tag::GPSAltitudeRef, &[1]);
+    let altitude = fractions(&rt, Tag::GPSAltitude, &[(1, 2)]);
     assert_beside(&rt, altitude, below, "0.5 meters below sea level");
 }
 
 // Two units of resolutions, that were read one behind the other.
-fn two_units(alloc: Global) -> Result<Exif, AllocError> {
+fn two_units(rt: &(impl Abort + AllocGlobal)) -> Exif {
+    let alloc = rt.alloc();
     let mut fields = Vec::new(alloc);
-    fields.push(shorts(alloc, Tag::ResolutionUnit, &[2])?)?;
-    fields.push(shorts(alloc, Tag::ResolutionUnit, &[3])?)?;
-    let exif = exif_from_parts(alloc, Vec::new(alloc), fields, false)?;
-    Ok(exif)
+    let first = fields.push(shorts(rt, Tag::ResolutionUnit, &[2]));
+    first.expect(rt, "memory");
+    let second = fields.push(shorts(rt, Tag::ResolutionUnit, &[3]));
+    second.expect(rt, "memory");
+    exif_from_parts(alloc, Vec::new(alloc), fields, false).expect(rt, "memory")
 }
 
 // Whether a resolution of a directory is shown with the unit that was read there.
@@ -250,16 +242,13 @@ fn is_beside(
 #[test]
 fn units_of_the_fields_that_were_read(rt: HostRuntime) {
     let alloc = rt.alloc();
-    let exif = two_units(alloc).expect(&rt, "memory");
-    let mut field = fractions(alloc, Tag::YResolution, &[(300, 1)]).expect(&rt, "memory");
-    let first = is_beside(alloc, &exif, In::PRIMARY, &mut field, "300 pixels per cm");
-    let second = is_beside(
-        alloc,
-        &exif,
-        In::THUMBNAIL,
-        &mut field,
-        "300 pixels per inch",
-    );
+    let exif = two_units(&rt);
+    let mut field = fractions(&rt, Tag::YResolution, &[(300, 1)]);
+    let text = "300 pixels per cm";
+    let first = is_beside(alloc, &exif, In::PRIMARY, &mut field, text);
+    let text = "300 pixels per inch";
+    let second = is_beside(alloc, &exif, In::THUMBNAIL, &mut field, text);
     drop(field);
+    drop(exif);
     assert!(rt; first == Ok(true) && second == Ok(true));
 }

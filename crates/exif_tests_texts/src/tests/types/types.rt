@@ -1,9 +1,9 @@
 //! The types and counts of values (TIFF 6.0, section 2).
 
+use super::list;
 use exif_base::Items;
 use exif_types::{Rational, Value};
 use std::process::Abort;
-use std::test::Fail;
 
 // The value is of the type with the number, of so many items.
 fn assert_type(rt: &(impl Abort), value: Value, number: u16, unit: u32, count: u32) {
@@ -17,19 +17,16 @@ fn assert_type(rt: &(impl Abort), value: Value, number: u16, unit: u32, count: u
 }
 
 #[test]
-fn values_have_their_types_and_counts(rt: HostRuntime) -> Result<(), Fail> {
-    let alloc = rt.alloc();
-    let mut texts = Vec::new(alloc);
-    texts.push(Items::from_slice(alloc, b"ab")?)?;
-    texts.push(Items::from_slice(alloc, b"")?)?;
+fn values_have_their_types_and_counts(rt: HostRuntime) {
+    let mut texts = Vec::new(rt.alloc());
+    texts.push(list(&rt, b"ab")).expect(&rt, "memory");
+    texts.push(list(&rt, b"")).expect(&rt, "memory");
     assert_type(&rt, Value::Ascii(Items::from_vec(texts)), 2, 1, 4);
-    let longs = Items::from_slice(alloc, &[7, 8, 9])?;
-    assert_type(&rt, Value::Long(longs), 4, 4, 3);
-    let fractions = Items::from_slice(alloc, &[Rational { num: 1, denom: 2 }])?;
+    assert_type(&rt, Value::Long(list(&rt, &[7, 8, 9])), 4, 4, 3);
+    let fractions = list(&rt, &[Rational { num: 1, denom: 2 }]);
     assert_type(&rt, Value::Rational(fractions), 5, 8, 1);
-    let bytes = Items::from_slice(alloc, b"0231")?;
+    let bytes = list(&rt, b"0231");
     assert_type(&rt, Value::Undefined(bytes, 40), 7, 1, 4);
-    Ok(())
 }
 
 #[test]
