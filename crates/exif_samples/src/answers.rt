@@ -90,6 +90,25 @@ pub fn reads(alloc: Global, error: &Error, wanted: &str) -> Result<(), Fail> {
     is_text(shown.as_str(), wanted)
 }
 
+/// Fails where an error, which is let go by one call, is not shown as this text.
+pub fn shows(alloc: Global, error: Error, text: &str) -> Result<(), Fail> {
+    let found = reads(alloc, &error, text);
+    drop(error);
+    found
+}
+
+/// Fails where an answer is no error that is shown as this text.
+pub fn is_refused<T: Drop>(
+    alloc: Global,
+    answer: Result<T, Error>,
+    text: &str,
+) -> Result<(), Fail> {
+    match answer {
+        Ok(_given) => Err(Fail::new("nothing was refused")),
+        Err(error) => shows(alloc, error, text),
+    }
+}
+
 /// Fails where a value is not shown for debugging as this text.
 pub fn debugs<T: Debug>(alloc: Global, value: &T, wanted: &str) -> Result<(), Fail> {
     let shown = debugged(alloc, value)?;

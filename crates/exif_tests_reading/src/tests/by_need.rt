@@ -1,8 +1,7 @@
 //! Files of which no more is read than is needed.
 
-use super::support::is_refused;
 use exif::{Error, Exif, Reader};
-use exif_samples::answers::distilled;
+use exif_samples::answers::{distilled, is_refused};
 use exif_samples::files;
 use exif_samples::readings::{needed_answer, padded, reader_of};
 use std::alloc::Global;

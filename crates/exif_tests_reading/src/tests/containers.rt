@@ -1,8 +1,8 @@
 //! Exif data in JPEG, WebP and HEIF files, by way of the report and the reader.
 
-use super::support::{is_fault, is_refused, is_report, writes_in_each_mode};
+use super::support::{is_fault, is_report, writes_in_each_mode};
 use exif::{Context, Exif, Reader, Tag};
-use exif_samples::answers::{are_bytes, distilled};
+use exif_samples::answers::{are_bytes, distilled, is_refused};
 use exif_samples::devices::{KINDS, Slow};
 use exif_samples::files;
 use exif_samples::found::{is_signed_number, is_text, is_undefined};

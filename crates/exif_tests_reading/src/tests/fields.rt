@@ -1,8 +1,7 @@
 //! Fields, values and look-ups of the small files.
 
-use super::support::is_refused;
 use exif::{Context, Error, Exif, Field, In, Items, Rational, SRational, Tag, Value, parse_exif};
-use exif_samples::answers::debugs;
+use exif_samples::answers::{debugs, is_refused};
 use exif_samples::files;
 use exif_samples::found::{is_number, is_version};
 use exif_samples::readings::{raw_answer, read_strictly, reader_of};

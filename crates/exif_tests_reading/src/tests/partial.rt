@@ -1,8 +1,7 @@
 //! Partial results, and what becomes of them.
 
-use super::support::is_refused;
 use exif::{Error, Exif};
-use exif_samples::answers::{debugs, reads};
+use exif_samples::answers::{debugs, is_refused, reads, shows};
 use exif_samples::files;
 use exif_samples::readings::{raw_answer, reader_of};
 use std::alloc::Global;
@@ -75,26 +74,19 @@ fn another_error_comes_back(rt: HostRuntime) -> Result<(), Fail> {
     }
 }
 
-// An error is shown as this text.
-fn is_shown(alloc: Global, error: Error, text: &str) -> Result<(), Fail> {
-    let answer = reads(alloc, &error, text);
-    drop(error);
-    answer
-}
-
 #[test]
 fn texts_of_errors(rt: HostRuntime) -> Result<(), Fail> {
     let alloc = rt.alloc();
     let directory = "Truncated IFD";
-    is_shown(alloc, Error::InvalidFormat(directory), directory)?;
-    is_shown(alloc, Error::from("Broken JPEG file"), "Broken JPEG file")?;
-    is_shown(alloc, Error::NotFound("JPEG"), "No Exif data found in JPEG")?;
+    shows(alloc, Error::InvalidFormat(directory), directory)?;
+    shows(alloc, Error::from("Broken JPEG file"), "Broken JPEG file")?;
+    shows(alloc, Error::NotFound("JPEG"), "No Exif data found in JPEG")?;
     let date = "DateTime is blank";
-    is_shown(alloc, Error::BlankValue(date), date)?;
-    is_shown(alloc, Error::TooBig("Offset too large"), "Offset too large")?;
+    shows(alloc, Error::BlankValue(date), date)?;
+    shows(alloc, Error::TooBig("Offset too large"), "Offset too large")?;
     let external = "External data reference is not supported";
-    is_shown(alloc, Error::NotSupported(external), external)?;
+    shows(alloc, Error::NotSupported(external), external)?;
     let unsigned = "Not unsigned integer";
-    is_shown(alloc, Error::UnexpectedValue(unsigned), unsigned)?;
-    is_shown(alloc, Error::OutOfMemory, "Out of memory")
+    shows(alloc, Error::UnexpectedValue(unsigned), unsigned)?;
+    shows(alloc, Error::OutOfMemory, "Out of memory")
 }

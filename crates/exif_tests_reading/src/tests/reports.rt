@@ -1,7 +1,7 @@
 //! The reports of the small files, strict and lenient.
 
-use super::support::{is_refused, is_report, writes_in_each_mode};
-use exif_samples::answers::are_bytes;
+use super::support::{is_report, writes_in_each_mode};
+use exif_samples::answers::{are_bytes, is_refused};
 use exif_samples::files;
 use exif_samples::readings::reported;
 use std::alloc::Global;

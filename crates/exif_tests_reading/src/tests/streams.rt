@@ -1,8 +1,8 @@
 //! The calls of each container, over readers that give one byte a call and fail at each call.
 
-use super::support::{is_fault, is_refused};
+use super::support::is_fault;
 use exif::Error;
-use exif_samples::answers::are_bytes;
+use exif_samples::answers::{are_bytes, is_refused};
 use exif_samples::devices::{KINDS, Slow};
 use exif_samples::files;
 use exif_samples::streams::{Container, slow_attr};

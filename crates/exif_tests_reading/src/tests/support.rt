@@ -1,7 +1,7 @@
 //! What several tests of reading ask.
 
 use exif::Error;
-use exif_samples::answers::{are_bytes, fails_with, reads};
+use exif_samples::answers::{are_bytes, fails_with};
 use exif_samples::readings::reported;
 use std::alloc::Global;
 use std::io::ErrorKind;
@@ -48,20 +48,6 @@ pub fn is_fault<T: Drop>(
     good_calls: usize,
 ) -> Result<(), Fail> {
     let found = fails_with(&answer, kind, good_calls);
-    drop(answer);
-    found
-}
-
-/// An answer is an error that is shown as this text. It is let go by one call.
-pub fn is_refused<T: Drop>(
-    alloc: Global,
-    answer: Result<T, Error>,
-    text: &str,
-) -> Result<(), Fail> {
-    let found = match &answer {
-        Ok(_) => Err(Fail::new("nothing was refused")),
-        Err(error) => reads(alloc, error, text),
-    };
     drop(answer);
     found
 }

@@ -1,8 +1,8 @@
 //! What was read and is written again without the place where a picture was taken.
 
-use super::support::{is_end, is_refusal};
+use super::support::is_end;
 use exif::{Context, Exif, In, Tag};
-use exif_samples::answers::are_bytes;
+use exif_samples::answers::{self, are_bytes};
 use exif_samples::devices::Drip;
 use exif_samples::found::{is_number, is_text, is_version};
 use exif_samples::readings::{read_leniently, read_strictly};
@@ -144,7 +144,7 @@ fn is_refused(
     let alloc = rt.alloc();
     let exif = read_strictly(alloc, bytes)?;
     let (answer, sent) = counted_scrub(alloc, &exif, little_endian);
-    is_refusal(alloc, answer, text)?;
+    answers::is_refused(alloc, answer, text)?;
     assert!(rt; sent.bytes == 0 && sent.calls == 0);
     Ok(())
 }

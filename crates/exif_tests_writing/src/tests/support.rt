@@ -2,7 +2,7 @@
 
 use exif::experimental::Writer;
 use exif::{Error, Field, In};
-use exif_samples::answers::{are_bytes, ends_with, reads};
+use exif_samples::answers::{are_bytes, ends_with};
 use exif_samples::writings::{image, push_all, put_jpeg};
 use std::alloc::{AllocError, Global};
 use std::io::ErrorKind;
@@ -38,18 +38,6 @@ pub fn sends(
 ) -> Result<(), Fail> {
     let sent = image(alloc, writer, little_endian)?;
     are_bytes(sent.as_slice(), bytes)
-}
-
-/// An answer is an error that is shown as this text. The error is let go by one call.
-pub fn is_refusal(alloc: Global, answer: Result<(), Error>, text: &str) -> Result<(), Fail> {
-    match answer {
-        Ok(()) => Err(Fail::new("nothing was refused")),
-        Err(error) => {
-            let found = reads(alloc, &error, text);
-            drop(error);
-            found
-        }
-    }
 }
 
 /// Whether an answer is a device's error of a kind, or none where none is named. The error is let

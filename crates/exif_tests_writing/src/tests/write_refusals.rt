@@ -1,20 +1,20 @@
 //! For what nothing is written.
 
-use super::support::{is_refusal, list_of, with_thumbnail, writer_with};
+use super::support::{list_of, with_thumbnail, writer_with};
 use exif::experimental::Writer;
 use exif::{Error, Field, In, Tag, Value};
-use exif_samples::files;
 use exif_samples::readings::read_strictly;
 use exif_samples::writings::{
     counted_write, descriptions, field, image, push_all, put_jpeg, put_strips, text, writer_of,
 };
+use exif_samples::{answers, files};
 use std::alloc::{AllocError, Global};
 use std::test::Fail;
 
 // Nothing is sent, for a reason.
 fn is_refused(alloc: Global, writer: &mut Writer, reason: &str) -> Result<(), Fail> {
     let (answer, sent) = counted_write(writer);
-    is_refusal(alloc, answer, reason)?;
+    answers::is_refused(alloc, answer, reason)?;
     if sent.bytes == 0 && sent.calls == 0 {
         Ok(())
     } else {

@@ -14,6 +14,7 @@ use exif_samples::files::PLACE_BEFORE_DESCRIPTION;
 use exif_types::In;
 use std::alloc::{AllocError, Global};
 use std::io::Cursor;
+use std::process::Abort;
 use std::test::Fail;
 
 // The 62 bytes of the data: a GPS directory from 26 up to 44, and behind it a directory with a
@@ -37,9 +38,11 @@ const COMMENT: &[u8] = b"\xff\xd8\xff\xfe\0\x40";
 
 const SEGMENT: &[u8] = b"\xff\xe1\0\x46Exif\0\0";
 
-// What stands in front of the data and behind them: in TIFF data, a JPEG stream, a WebP file and
-// HEIF files.
-static FILES: [(&[u8], &[u8]); 5] = [
+// What stands in front of the data of a file, and behind them.
+type Around = (&'static [u8], &'static [u8]);
+
+// TIFF data, a JPEG stream, a WebP file and HEIF files.
+static FILES: [Around; 5] = [
     (b"", b""),
     (
         b"\xff\xd8\xff\xe1\0\x46Exif\0\0",
@@ -59,6 +62,15 @@ fn joined(alloc: Global, parts: &[&[u8]]) -> Result<Vec<u8>, AllocError> {
     Ok(file)
 }
 
+fn files() -> &'static [Around] {
+    &FILES
+}
+
+// A file with the data.
+fn file_of(rt: &(impl Abort + AllocGlobal), around: &Around) -> Vec<u8> {
+    joined(rt.alloc(), &[around.0, DATA, around.1]).expect(rt, "memory")
+}
+
 // Whether the places of a file become zeros, and all else stays.
 fn loses_places(alloc: Global, old: &[u8], place: usize) -> Result<bool, Error> {
     let mut new = joined(alloc, &[old])?;
@@ -67,14 +79,16 @@ fn loses_places(alloc: Global, old: &[u8], place: usize) -> Result<bool, Error> 
     Ok(is_zeroed(old, new.as_slice(), place + 26, place + 44))
 }
 
+fn places_go(rt: &(impl Abort + AllocGlobal), around: &Around) -> bool {
+    let old = file_of(rt, around);
+    is_so(loses_places(rt.alloc(), old.as_slice(), around.0.len()))
+}
+
 #[test]
-fn places_become_zeros_in_each_file(rt: HostRuntime) -> Result<(), Fail> {
-    let alloc = rt.alloc();
-    for row in &FILES {
-        let old = joined(alloc, &[row.0, DATA, row.1])?;
-        assert!(rt; is_so(loses_places(alloc, old.as_slice(), row.0.len())));
+fn places_become_zeros_in_each_file(rt: HostRuntime) {
+    for around in files() {
+        assert!(rt; places_go(&rt, around));
     }
-    Ok(())
 }
 
 // Whether the description of a file becomes zeros, all else stays, and there is none then.
@@ -88,14 +102,16 @@ fn loses_field(alloc: Global, old: &[u8], place: usize) -> Result<bool, Error> {
     Ok(erased && gone)
 }
 
+fn field_goes(rt: &(impl Abort + AllocGlobal), around: &Around) -> bool {
+    let old = file_of(rt, around);
+    is_so(loses_field(rt.alloc(), old.as_slice(), around.0.len()))
+}
+
 #[test]
-fn a_field_is_erased_in_each_file(rt: HostRuntime) -> Result<(), Fail> {
-    let alloc = rt.alloc();
-    for row in &FILES {
-        let old = joined(alloc, &[row.0, DATA, row.1])?;
-        assert!(rt; is_so(loses_field(alloc, old.as_slice(), row.0.len())));
+fn a_field_is_erased_in_each_file(rt: HostRuntime) {
+    for around in files() {
+        assert!(rt; field_goes(&rt, around));
     }
-    Ok(())
 }
 
 // Whether patches are these zeros: their place, and how many.
@@ -119,14 +135,16 @@ fn are_told(alloc: Global, file: &[u8], place: usize) -> Result<bool, Error> {
     Ok(are_zeros(places.as_slice(), place + 26, 18) && are_zeros(fields.as_slice(), place + 44, 18))
 }
 
+fn patches_count(rt: &(impl Abort + AllocGlobal), around: &Around) -> bool {
+    let file = file_of(rt, around);
+    is_so(are_told(rt.alloc(), file.as_slice(), around.0.len()))
+}
+
 #[test]
-fn patches_count_from_the_first_byte(rt: HostRuntime) -> Result<(), Fail> {
-    let alloc = rt.alloc();
-    for row in &FILES {
-        let file = joined(alloc, &[row.0, DATA, row.1])?;
-        assert!(rt; is_so(are_told(alloc, file.as_slice(), row.0.len())));
+fn patches_count_from_the_first_byte(rt: HostRuntime) {
+    for around in files() {
+        assert!(rt; patches_count(&rt, around));
     }
-    Ok(())
 }
 
 // Whether the patches of a file that is read once, whose data begin at a place, are zeros over its
@@ -143,15 +161,18 @@ fn are_sought(alloc: Global, file: &[u8], place: usize) -> Result<bool, Error> {
     Ok(are_zeros(patches.as_slice(), place % 1000 + 26, 18))
 }
 
+// Whether the places of a stream are found, read once or sought in.
+fn places_are_found(rt: &(impl Abort + AllocGlobal), around: &Around) -> bool {
+    let file = file_of(rt, around);
+    let place = around.0.len();
+    is_so(are_read(rt.alloc(), file.as_slice(), place))
+        && is_so(are_sought(rt.alloc(), file.as_slice(), place))
+}
+
 #[test]
-fn places_of_streams_become_zeros(rt: HostRuntime) -> Result<(), Fail> {
-    let alloc = rt.alloc();
-    for row in FILES.iter().skip(1).take(2) {
-        let file = joined(alloc, &[row.0, DATA, row.1])?;
-        assert!(rt; is_so(are_read(alloc, file.as_slice(), row.0.len())));
-        assert!(rt; is_so(are_sought(alloc, file.as_slice(), row.0.len())));
-    }
-    Ok(())
+fn places_of_streams_become_zeros(rt: HostRuntime) {
+    assert!(rt; places_are_found(&rt, &FILES[1]));
+    assert!(rt; places_are_found(&rt, &FILES[2]));
 }
 
 // Whether an answer says that the data are scattered.
