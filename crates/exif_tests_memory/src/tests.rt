@@ -3,4 +3,5 @@
 mod memory;
 mod rewriting;
 mod skips;
+mod support;
 mod write_memory;

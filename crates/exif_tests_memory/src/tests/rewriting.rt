@@ -1,12 +1,12 @@
 //! What is written again where memory is refused: all of it, or what is behind some request.
 //! `exif_samples::shortage` says which allocator these tests need.
 
+use super::support::{refused, runs_out, sending};
 use exif::{Counted, Error, Exif, Tag};
 use exif_rewrite::{Remove, rewrite, rewrite_webp, scrubbed_exif};
 use exif_samples::readings::read_strictly;
 use exif_samples::shortage::{Outcome, in_turn};
 use std::alloc::Global;
-use std::test::Fail;
 
 // A lossless image of 2 by 3 pixels with alpha, and what it becomes with two bytes of Exif data.
 const FILE: &[u8] = b"RIFF\x12\0\0\0WEBPVP8L\x05\0\0\0/\x01\x80\0\x10\0";
@@ -25,32 +25,19 @@ const DATA: &[u8] = b"MM\0*\0\0\0\x08\
 
 const UPRIGHT_DATA: &[u8] = b"MM\0*\0\0\0\x08\0\x01\x01\x12\0\x03\0\0\0\x01\0\x06\0\0\0\0\0\0";
 
-// What an answer comes to that is to send these bytes, of so much room that is left. Where memory
-// runs out, nothing was sent.
-fn sent(answer: Result<(), Error>, room: &[u8; 128], left: usize, bytes: &[u8]) -> Outcome {
-    let length = 128usize.saturating_sub(left);
-    let outcome = match &answer {
-        Ok(()) => Outcome::answered(&room[..length] == bytes),
-        Err(error) if length == 0 => Outcome::refused(error),
-        Err(_error) => Outcome::Wrong,
-    };
-    drop(answer);
-    outcome
-}
-
 // A WebP file with new data.
-fn rewriting_webp(alloc: Global) -> Outcome {
+fn rewriting_webp(alloc: Global, file: &[u8], bytes: &[u8]) -> Outcome {
     let mut room = [0u8; 128];
     let mut out = Counted::new(&mut room[..]);
     let answer = rewrite_webp(
         alloc,
-        &mut Counted::new(FILE),
+        &mut Counted::new(file),
         &mut out,
         Some(b"ab"),
         Remove::Metadata,
     );
     let left = out.into_inner().len();
-    sent(answer, &room, left, FILE_AB)
+    sending(answer, &room, left, bytes)
 }
 
 // A file of either kind with new data.
@@ -65,50 +52,46 @@ fn rewriting(alloc: Global, file: &[u8], bytes: &[u8]) -> Outcome {
         Remove::Metadata,
     );
     let left = out.into_inner().len();
-    sent(answer, &room, left, bytes)
+    sending(answer, &room, left, bytes)
 }
 
-// The orientation alone.
-fn keeping(alloc: Global, exif: &Exif) -> Outcome {
-    let answer = scrubbed_exif(alloc, exif, &[Tag::Orientation]);
-    let outcome = match &answer {
+// What an answer comes to that is to be the orientation alone.
+fn keeping(answer: Result<Option<Vec<u8>>, Error>) -> Outcome {
+    match answer {
         Ok(Some(made)) => Outcome::answered(made.as_slice() == UPRIGHT_DATA),
         Ok(None) => Outcome::Wrong,
-        Err(error) => Outcome::refused(error),
-    };
-    drop(answer);
-    outcome
+        Err(error) => refused(error),
+    }
 }
 
 #[test]
-fn a_webp_file_runs_out_of_memory(rt: HostRuntime) -> Result<(), Fail> {
+fn a_webp_file_runs_out_of_memory(rt: HostRuntime) {
     let alloc = rt.alloc();
-    let wants = in_turn(alloc, || rewriting_webp(alloc))?;
-    assert!(rt; wants > 0);
-    Ok(())
+    let wants = in_turn(alloc, || rewriting_webp(alloc, FILE, FILE_AB));
+    runs_out(&rt, wants);
 }
 
 #[test]
-fn a_file_runs_out_of_memory(rt: HostRuntime) -> Result<(), Fail> {
+fn a_file_runs_out_of_memory(rt: HostRuntime) {
     let alloc = rt.alloc();
-    let wants = in_turn(alloc, || rewriting(alloc, FILE, FILE_AB))?;
-    assert!(rt; wants > 0);
-    Ok(())
+    let wants = in_turn(alloc, || rewriting(alloc, FILE, FILE_AB));
+    runs_out(&rt, wants);
 }
 
 #[test]
-fn a_stream_wants_no_memory(rt: HostRuntime) -> Result<(), Fail> {
+fn a_stream_wants_no_memory(rt: HostRuntime) {
     let alloc = rt.alloc();
-    let wants = in_turn(alloc, || rewriting(alloc, STREAM, STREAM_AB))?;
-    assert!(rt; wants == 0);
-    Ok(())
+    let wants = in_turn(alloc, || rewriting(alloc, STREAM, STREAM_AB));
+    assert!(rt; wants.expect(&rt, "enough memory") == 0);
 }
 
 #[test]
-fn kept_fields_run_out_of_memory(rt: HostRuntime) -> Result<(), Fail> {
+fn kept_fields_run_out_of_memory(rt: HostRuntime) {
     let alloc = rt.alloc();
-    let exif = read_strictly(alloc, DATA)?;
-    let wants = in_turn(alloc, || keeping(alloc, &exif))?;
-    assert!(rt; wants > 0);
-    Ok(())
+    let exif = read_strictly(alloc, DATA).expect(&rt, "fields");
+    let wants = in_turn(
+        alloc,
+        || keeping(scrubbed_exif(alloc, &exif, &[Tag::Orientation])),
+    );
+    runs_out(&rt, wants);
 }

@@ -1,60 +1,62 @@
 //! What takes no memory of the containers: bytes that are skipped, and refusals.
 //! `exif_samples::shortage` says which allocator these tests need.
 
-use exif::{Error, Exif, Reader, Tag};
-use exif_samples::answers::{are_bytes, reason};
+use super::support::{reason_of, take_all};
+use exif::{Exif, Reader, Tag};
+use exif_samples::answers::are_bytes;
 use exif_samples::files;
 use exif_samples::found::is_text;
 use exif_samples::readings::answer_of;
-use exif_samples::shortage::{take_most, take_rest};
 use exif_samples::streams::{Container, attr};
-use std::alloc::{AllocError, Global};
 use std::process::Abort;
 use std::test::Fail;
 
 // Spaces behind some bytes, and other bytes behind them.
 fn around_spaces(
-    alloc: Global,
+    rt: &(impl Abort + AllocGlobal),
     head: &[u8],
     spaces: usize,
     tail: &[u8],
-) -> Result<Vec<u8>, AllocError> {
-    let mut bytes = Vec::from_slice(alloc, head)?;
-    for _space in 0..spaces {
-        bytes.push(b' ')?;
-    }
-    bytes.extend_from_slice(tail)?;
-    Ok(bytes)
+) -> Vec<u8> {
+    let mut bytes = Vec::from_slice(rt.alloc(), head).expect(rt, "memory");
+    let length = head.len().saturating_add(spaces);
+    bytes.resize(length, b' ').expect(rt, "memory");
+    bytes.extend_from_slice(tail).expect(rt, "memory");
+    bytes
 }
 
 // With 8192 bytes of memory left, a stream gives these Exif data.
-fn gives(alloc: Global, container: Container, bytes: &[u8], wanted: &[u8]) -> Result<(), Fail> {
-    let most = take_most(alloc)?;
-    let rest = take_rest(alloc, 8192)?;
-    let (given, _left) = attr(alloc, container, bytes);
-    drop(rest);
-    drop(most);
-    let payload = given?;
+fn gives(
+    rt: &(impl Abort + AllocGlobal),
+    container: Container,
+    bytes: &[u8],
+    wanted: &[u8],
+) -> Result<(), Fail> {
+    let taken = take_all(rt, 8192);
+    let (given, _left) = attr(rt.alloc(), container, bytes);
+    drop(taken);
+    let payload = given.expect(rt, "Exif data");
     are_bytes(payload.as_slice(), wanted)
+}
+
+// A segment of Exif data is found behind one that is 60,002 bytes long with its length.
+fn is_found_behind(rt: &(impl Abort + AllocGlobal), head: &[u8]) -> Result<(), Fail> {
+    let bytes = around_spaces(rt, head, 60_000, b"\xff\xe1\0\x09Exif\0\0Z");
+    gives(rt, Container::Jpeg, bytes.as_slice(), b"Z")
 }
 
 #[test]
 fn long_segments_are_skipped(rt: HostRuntime) -> Result<(), Fail> {
-    let segment = b"\xff\xe1\0\x09Exif\0\0Z";
-    // Each first segment is 60,002 bytes long with its length.
-    for head in [b"\xff\xd8\xff\xe0\xea\x62", b"\xff\xd8\xff\xe1\xea\x62"] {
-        let bytes = around_spaces(rt.alloc(), head, 60_000, segment)?;
-        gives(rt.alloc(), Container::Jpeg, bytes.as_slice(), b"Z")?;
-    }
-    Ok(())
+    is_found_behind(&rt, b"\xff\xd8\xff\xe0\xea\x62")?;
+    is_found_behind(&rt, b"\xff\xd8\xff\xe1\xea\x62")
 }
+
+const LONG_CHUNK: &[u8] = b"RIFF\xb7\x86\x01\0WEBPwhat\xa0\x86\x01\0";
 
 #[test]
 fn long_chunks_are_skipped(rt: HostRuntime) -> Result<(), Fail> {
-    let alloc = rt.alloc();
-    let head = b"RIFF\xb7\x86\x01\0WEBPwhat\xa0\x86\x01\0";
-    let bytes = around_spaces(alloc, head, 100_000, b"EXIF\x03\0\0\0abc")?;
-    gives(alloc, Container::WebP, bytes.as_slice(), b"abc")
+    let bytes = around_spaces(&rt, LONG_CHUNK, 100_000, b"EXIF\x03\0\0\0abc");
+    gives(&rt, Container::WebP, bytes.as_slice(), b"abc")
 }
 
 // The boxes in front of 100,000 spaces and three bytes of Exif data (ISO/IEC 14496-12:2015, 8.11).
@@ -63,87 +65,79 @@ const HEIF_WITH_A_GAP: &[u8] =
 
 #[test]
 fn a_long_gap_in_front_of_an_item_is_skipped(rt: HostRuntime) -> Result<(), Fail> {
-    let alloc = rt.alloc();
-    let bytes = around_spaces(alloc, HEIF_WITH_A_GAP, 100_000, b"\0\0\0\0abc")?;
-    gives(alloc, Container::Heif, bytes.as_slice(), b"abc")
+    let bytes = around_spaces(&rt, HEIF_WITH_A_GAP, 100_000, b"\0\0\0\0abc");
+    gives(&rt, Container::Heif, bytes.as_slice(), b"abc")
 }
 
-// What a strict reader answers with so few bytes of memory left.
-fn read_with(alloc: Global, bytes: &[u8], left: u16) -> Result<Result<Exif, Error>, Fail> {
-    let most = take_most(alloc)?;
-    let rest = take_rest(alloc, left)?;
-    let answer = answer_of(alloc, &Reader::new(), bytes);
-    drop(rest);
-    drop(most);
-    Ok(answer)
+// What a strict reader reads with 30,000 bytes of memory left.
+fn read_with_little(rt: &(impl Abort + AllocGlobal), bytes: &[u8]) -> Exif {
+    let taken = take_all(rt, 30_000);
+    let answer = answer_of(rt.alloc(), &Reader::new(), bytes);
+    drop(taken);
+    answer.expect(rt, "fields")
 }
 
-// With so few bytes of memory left, a strict reader gives the description.
-fn gives_the_description(
-    rt: &(impl Abort + AllocGlobal),
-    bytes: &[u8],
-    left: u16,
-) -> Result<(), Fail> {
-    let exif = read_with(rt.alloc(), bytes, left)??;
+// With 30,000 bytes of memory left, a strict reader gives the description.
+fn gives_the_description(rt: &(impl Abort + AllocGlobal), bytes: &[u8]) {
+    let exif = read_with_little(rt, bytes);
     assert!(rt; exif.fields().len() == 1);
     assert!(rt; is_text(exif.fields().next(), Tag::ImageDescription, b"Sample"));
-    Ok(())
 }
+
+// The heads of a segment and of a chunk in front of the description.
+const JPEG_HEAD: &[u8] = b"\xff\xd8\xff\xe0\xea\x62";
+
+const WEBP_HEAD: &[u8] = b"RIFF\xd6\x86\x01\0WEBPwhat\xa0\x86\x01\0";
 
 #[test]
-fn files_are_read_past_what_is_skipped(rt: HostRuntime) -> Result<(), Fail> {
-    let alloc = rt.alloc();
-    let segment = &files::JPEG[2..];
-    let jpeg = around_spaces(alloc, b"\xff\xd8\xff\xe0\xea\x62", 60_000, segment)?;
-    let head = b"RIFF\xd6\x86\x01\0WEBPwhat\xa0\x86\x01\0";
-    let webp = around_spaces(alloc, head, 100_000, &files::WEBP[12..])?;
-    gives_the_description(&rt, jpeg.as_slice(), 30_000)?;
-    gives_the_description(&rt, webp.as_slice(), 30_000)
+fn files_are_read_past_what_is_skipped(rt: HostRuntime) {
+    let jpeg = around_spaces(&rt, JPEG_HEAD, 60_000, &files::JPEG[2..]);
+    let webp = around_spaces(&rt, WEBP_HEAD, 100_000, &files::WEBP[12..]);
+    gives_the_description(&rt, jpeg.as_slice());
+    gives_the_description(&rt, webp.as_slice());
 }
 
-// The refusal of a stream with all memory refused.
-fn refusal(
-    alloc: Global,
-    container: Container,
-    bytes: &[u8],
-) -> Result<Option<&'static str>, Fail> {
-    let most = take_most(alloc)?;
-    let rest = take_rest(alloc, 0)?;
-    let (given, _left) = attr(alloc, container, bytes);
-    drop(rest);
-    drop(most);
-    let text = reason(&given);
-    drop(given);
-    Ok(text)
+// With all memory refused, a stream is refused for this reason.
+fn is_refused(rt: &(impl Abort + AllocGlobal), container: Container, bytes: &[u8], text: &str) {
+    let taken = take_all(rt, 0);
+    let (given, _left) = attr(rt.alloc(), container, bytes);
+    let found = reason_of(given);
+    drop(taken);
+    assert!(rt; found == Some(text));
 }
+
+// A stream and the reason of its refusal.
+type Refused = (&'static [u8], &'static str);
+
+static JPEG_REFUSED: [Refused; 5] = [
+    (b"\x89PNG", "Not a JPEG file"),
+    (b"\xff\xd8\xff\xd8", "Unexpected SOI"),
+    (b"\xff\xd8\xff\xe0\0\x01", "Invalid segment length"),
+    (b"\xff\xd8\x01\x02\x03\xff\0\xff\xd9", "JPEG"),
+    (b"\xff\xd8\xff\xe1\0\x04ab\xff\xd9", "JPEG"),
+];
 
 #[test]
-fn jpeg_streams_are_refused_without_memory(rt: HostRuntime) -> Result<(), Fail> {
-    for (bytes, text) in [
-        (b"\x89PNG".as_slice(), "Not a JPEG file"),
-        (b"\xff\xd8\xff\xd8", "Unexpected SOI"),
-        (b"\xff\xd8\xff\xe0\0\x01", "Invalid segment length"),
-        (b"\xff\xd8\x01\x02\x03\xff\0\xff\xd9", "JPEG"),
-        (b"\xff\xd8\xff\xe1\0\x04ab\xff\xd9", "JPEG"),
-    ] {
-        assert!(rt; refusal(rt.alloc(), Container::Jpeg, bytes)? == Some(text));
+fn jpeg_streams_are_refused_without_memory(rt: HostRuntime) {
+    for (bytes, text) in JPEG_REFUSED {
+        is_refused(&rt, Container::Jpeg, bytes, text);
     }
-    Ok(())
 }
 
+static WEBP_REFUSED: [Refused; 5] = [
+    (b"RIFX\x04\0\0\0WEBP", "Not a WebP file"),
+    (b"RIFF\x03\0\0\0WEBP", "Invalid header file size"),
+    (b"RIFF\x05\0\0\0WEBP", "Chunk overflowing parent"),
+    (
+        b"RIFF\x0c\0\0\0WEBPwhat\x01\0\0\0",
+        "Chunk overflowing parent",
+    ),
+    (b"RIFF\x0e\0\0\0WEBPwhat\x02\0\0\0ab", "WebP"),
+];
+
 #[test]
-fn webp_files_are_refused_without_memory(rt: HostRuntime) -> Result<(), Fail> {
-    for (bytes, text) in [
-        (b"RIFX\x04\0\0\0WEBP".as_slice(), "Not a WebP file"),
-        (b"RIFF\x03\0\0\0WEBP", "Invalid header file size"),
-        (b"RIFF\x05\0\0\0WEBP", "Chunk overflowing parent"),
-        (
-            b"RIFF\x0c\0\0\0WEBPwhat\x01\0\0\0",
-            "Chunk overflowing parent",
-        ),
-        (b"RIFF\x0e\0\0\0WEBPwhat\x02\0\0\0ab", "WebP"),
-    ] {
-        assert!(rt; refusal(rt.alloc(), Container::WebP, bytes)? == Some(text));
+fn webp_files_are_refused_without_memory(rt: HostRuntime) {
+    for (bytes, text) in WEBP_REFUSED {
+        is_refused(&rt, Container::WebP, bytes, text);
     }
-    Ok(())
 }
