@@ -1,5 +1,5 @@
 #!/usr/bin/env python3
-"""compare.py [ORIGINAL_BENCH]: times exif_bench on the files that it makes, and prints a table of the times, how they grow with
+"""compare.py [ORIGINAL_BENCH]: times exif_bench on the files of files.py, and prints a table of the times, how they grow with
 the number of fields, and the peak memory of exif_show. Where the program ORIGINAL_BENCH is handed over (called as
 `PROGRAM FILE N`, with a line `NAME bytes B fields F read BEST MEAN decoded BEST MEAN report BEST MEAN write BEST MEAN`),
 it runs on the same files, and the table has the ratios ours / original."""
@@ -7,6 +7,8 @@ import os
 import subprocess
 import sys
 import tempfile
+
+from files import CASES
 
 ROOT = os.path.dirname(os.path.dirname(os.path.abspath(__file__)))
 BENCH = f"{ROOT}/crates/exif_bench"
@@ -44,14 +46,14 @@ def peak(program, path):
 def main():
     original = sys.argv[1] if len(sys.argv) > 1 else None
     bench, show = built("exif_bench"), built("exif_show")
-    names = [line.split()[0] for line in subprocess.run([bench, "--list"], stdout=subprocess.PIPE, text=True, check=True).stdout.splitlines()]
     print("load average %.1f; ns a call: read (by need), read whole, report, write; KB: peak memory of exif_show; ms: its processor time" % os.getloadavg()[0])
     print("%-26s %10s %10s %10s %10s %8s %6s%s" % ("", *WORKS, "KB", "ms", "   ratios" if original else ""))
     growth = {}
     with tempfile.TemporaryDirectory() as room:
-        for name in names:
+        for name, calls, make in CASES:
             path = f"{room}/{name}"
-            calls = subprocess.run([bench, "--write", name, path], stdout=subprocess.PIPE, text=True, check=True).stdout.strip()
+            with open(path, "wb") as file:
+                file.write(make())
             ours = times(bench, path, calls)
             memory, spent = peak(show, path)
             ratios = ""

@@ -1,15 +1,11 @@
-//! Times reading, reporting and writing on files that it makes itself.
+//! Times reading, reporting and writing on a file.
 //!
 //! Times are of this process, from memory, in ns a call: the best and the mean of several rounds.
 #![tactic(auto)]
 
-mod cases;
-mod images;
 mod timing;
 mod work;
-mod wrapped;
 
-use cases::CASES;
 use exif::Error;
 use std::alloc::Global;
 use std::process::ExitCode;
@@ -18,31 +14,22 @@ use std::{env, fs};
 use timing::time;
 use work::{Work, read};
 
-const USAGE: &str = "usage: exif_bench [--list]
-       exif_bench --write NAME FILE
+const USAGE: &str = "usage: exif_bench --sizes FILE
        exif_bench FILE N [read|whole|report|write]
 
-With no argument: times each case, a line a case.
---list          names each case, its bytes and its fields
---write         puts the file of a case into FILE
-FILE N [WORK]   times N calls on a file";
+--sizes FILE    says how many bytes and fields a file has
+FILE N [WORK]   times N calls on a file, of each work or of one";
 
 // What the program is asked for.
 enum Request<'a> {
-    All,
-    List,
-    Write(&'a str, &'a str),
+    Sizes(&'a str),
     Time(&'a str, u64, Option<Work>),
 }
 
 // What the arguments behind the program's name ask for.
 fn asked_by(arguments: &[String]) -> Option<Request<'_>> {
     match arguments {
-        [] => Some(Request::All),
-        [list] if list.as_str() == "--list" => Some(Request::List),
-        [write, name, file] if write.as_str() == "--write" => {
-            Some(Request::Write(name.as_str(), file.as_str()))
-        }
+        [sizes, file] if sizes.as_str() == "--sizes" => Some(Request::Sizes(file.as_str())),
         [file, calls] => Some(Request::Time(
             file.as_str(),
             calls.as_str().parse::<u64>().ok()?,
@@ -86,59 +73,17 @@ fn timed(
     Ok(line)
 }
 
-fn list(rt: &(impl Print + AllocGlobal)) -> Result<(), Error> {
-    for case in CASES {
-        let bytes = case.bytes(rt.alloc())?;
-        let line = sizes(rt.alloc(), case.name, &bytes)?;
-        println!(rt; "{line}")?;
-    }
-    Ok(())
-}
-
-fn time_all(rt: &(impl Print + Clock + AllocGlobal)) -> Result<(), Error> {
-    for case in CASES {
-        let bytes = case.bytes(rt.alloc())?;
-        let line = timed(rt, case.name, &bytes, case.calls, None)?;
-        println!(rt; "{line}")?;
-    }
-    Ok(())
-}
-
-// Puts the file of a case into a file, and says how often it is to be called.
-fn write(rt: &(impl Print + Files + AllocGlobal), name: &str, file: &str) -> Result<bool, Error> {
-    let Some(case) = CASES.iter().find(|case| case.name == name) else {
-        return Ok(false);
-    };
-    let bytes = case.bytes(rt.alloc())?;
-    fs::write(rt, file, &bytes)?;
-    println!(rt; "{}", case.calls)?;
-    Ok(true)
-}
-
-fn time_file(
-    rt: &(impl Print + Files + Clock + AllocGlobal),
-    file: &str,
-    calls: u64,
-    only: Option<Work>,
-) -> Result<(), Error> {
-    let bytes = fs::read(rt, file)?;
-    let line = timed(rt, file, &bytes, calls, only)?;
-    println!(rt; "{line}")?;
-    Ok(())
-}
-
-// Does what is asked for. Answers whether there is such a case.
+// Does what is asked for.
 fn serve(
     rt: &(impl Print + Files + Clock + AllocGlobal),
     request: Request<'_>,
-) -> Result<bool, Error> {
-    match request {
-        Request::All => time_all(rt)?,
-        Request::List => list(rt)?,
-        Request::Write(name, file) => return write(rt, name, file),
-        Request::Time(file, calls, only) => time_file(rt, file, calls, only)?,
-    }
-    Ok(true)
+) -> Result<(), Error> {
+    let line = match request {
+        Request::Sizes(file) => sizes(rt.alloc(), file, &fs::read(rt, file)?)?,
+        Request::Time(file, calls, only) => timed(rt, file, &fs::read(rt, file)?, calls, only)?,
+    };
+    println!(rt; "{line}")?;
+    Ok(())
 }
 
 // What the program does with its arguments, and the status that it ends with.
@@ -150,10 +95,7 @@ fn run(
         eprintln!(rt; "{USAGE}")?;
         return Ok(2);
     };
-    if !serve(rt, request)? {
-        eprintln!(rt; "no such case: see --list")?;
-        return Ok(1);
-    }
+    serve(rt, request)?;
     Ok(0)
 }
 
