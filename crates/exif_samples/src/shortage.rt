@@ -22,6 +22,9 @@ const PIECES: usize = 40;
 
 const PIECE: usize = 100_000;
 
+// How many bytes of the stack are used before memory is taken.
+const STACK: usize = 1 << 18;
+
 // A size that the allocator sets aside in no list of its own when it is freed.
 const SPLIT: usize = 2048;
 
@@ -36,8 +39,26 @@ fn take(alloc: Global, blocks: &mut Blocks, size: usize) -> Result<(), AllocErro
     Ok(())
 }
 
+// Has the stack grow by a quarter of a megabyte, which it can't once all addresses are taken. It
+// writes to all of that, and answers what it reads there.
+fn grow_stack(bytes: &[u8]) -> u64 {
+    let mut room = [0u8; STACK];
+    for (place, byte) in room.iter_mut().zip(bytes.iter()) {
+        *place = *byte;
+    }
+    let mut sum = 0u64;
+    for place in &room {
+        sum = sum.wrapping_add(u64::from(*place));
+    }
+    sum
+}
+
 /// Takes all memory but 4 MB: blocks of 64 GB, and then of half of that, down to 16 bytes.
 pub fn take_most(alloc: Global) -> Result<Blocks, AllocError> {
+    let bytes: Vec<u8> = Vec::from_slice(alloc, b"deep")?;
+    if grow_stack(bytes.as_slice()) == 0 {
+        return Err(AllocError);
+    }
     let mut blocks = Vec::with_capacity(alloc, MOST_BLOCKS)?;
     let mut pieces: Blocks = Vec::with_capacity(alloc, PIECES)?;
     for _ in 0..PIECES {
@@ -92,11 +113,14 @@ impl Outcome {
         }
     }
 
-    /// The outcome of an error, of which only out of memory may come.
-    pub fn refused(error: &Error) -> Outcome {
-        match error {
-            Error::OutOfMemory => Outcome::Wants,
-            _ => Outcome::Wrong,
+    /// The outcome of an error, of which only out of memory may come. It is let go by one call.
+    pub fn refused(error: Error) -> Outcome {
+        let wants = matches!(&error, Error::OutOfMemory);
+        drop(error);
+        if wants {
+            Outcome::Wants
+        } else {
+            Outcome::Wrong
         }
     }
 }

@@ -1,7 +1,7 @@
 //! What is answered where memory is refused: all of it, or what is behind some request.
 //! `exif_samples::shortage` says which allocator these tests need.
 
-use super::support::{are_equal, is_want, reason_of, refused, runs_out, take_all};
+use super::support::{are_equal, is_want, reason_of, runs_out, take_all};
 use exif::{Error, Exif, Field, In, Items, Rational, Reader, Tag, Value, parse_exif};
 use exif_samples::answers::{are_bytes, counts, kind_of};
 use exif_samples::files;
@@ -77,7 +77,7 @@ fn is_described(exif: &Exif, sample: &Value) -> bool {
 fn described(answer: Result<Exif, Error>, sample: &Value) -> Outcome {
     match answer {
         Ok(exif) => Outcome::answered(is_described(&exif, sample)),
-        Err(error) => refused(error),
+        Err(error) => Outcome::refused(error),
     }
 }
 
@@ -336,7 +336,7 @@ fn is_this<T: PartialEq + Drop>(made: T, wanted: &T) -> bool {
 fn making<T: PartialEq + Drop>(made: Result<T, Error>, wanted: &T) -> Outcome {
     match made {
         Ok(made) => Outcome::answered(is_this(made, wanted)),
-        Err(error) => refused(error),
+        Err(error) => Outcome::refused(error),
     }
 }
 
@@ -368,7 +368,7 @@ fn defaulting(made: Result<Option<Value>, Error>, wanted: &Value) -> Outcome {
     match made {
         Ok(Some(value)) => Outcome::answered(is_this(value, wanted)),
         Ok(None) => Outcome::Wrong,
-        Err(error) => refused(error),
+        Err(error) => Outcome::refused(error),
     }
 }
 

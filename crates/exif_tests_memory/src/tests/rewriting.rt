@@ -1,7 +1,7 @@
 //! What is written again where memory is refused: all of it, or what is behind some request.
 //! `exif_samples::shortage` says which allocator these tests need.
 
-use super::support::{refused, runs_out, sending};
+use super::support::{runs_out, sending};
 use exif::{Counted, Error, Exif, Tag};
 use exif_rewrite::{Remove, rewrite, rewrite_webp, scrubbed_exif};
 use exif_samples::readings::read_strictly;
@@ -60,7 +60,7 @@ fn keeping(answer: Result<Option<Vec<u8>>, Error>) -> Outcome {
     match answer {
         Ok(Some(made)) => Outcome::answered(made.as_slice() == UPRIGHT_DATA),
         Ok(None) => Outcome::Wrong,
-        Err(error) => refused(error),
+        Err(error) => Outcome::refused(error),
     }
 }
 

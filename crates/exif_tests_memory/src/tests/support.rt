@@ -26,15 +26,6 @@ pub fn is_want(error: Error) -> bool {
     is_want
 }
 
-/// What an error comes to, of which only out of memory may come.
-pub fn refused(error: Error) -> Outcome {
-    if is_want(error) {
-        Outcome::Wants
-    } else {
-        Outcome::Wrong
-    }
-}
-
 /// The message of a refusal, if that is the answer. The error is let go by one call.
 pub fn reason_of<T: Drop>(answer: Result<T, Error>) -> Option<&'static str> {
     let text = reason(&answer);

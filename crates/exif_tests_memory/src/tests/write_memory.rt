@@ -1,7 +1,7 @@
 //! What a writer does where memory is refused: all of it, or what is behind some request.
 //! `exif_samples::shortage` says which allocator these tests need.
 
-use super::support::{reason_of, refused, runs_out, sending, take_all};
+use super::support::{reason_of, runs_out, sending, take_all};
 use exif::experimental::Writer;
 use exif::{Error, Exif, Field, In, Tag, Value};
 use exif_samples::answers::{are_bytes, kind_of};
@@ -87,7 +87,7 @@ fn change_with<'a>(
     drop(rest);
     match answer {
         Ok(()) => Outcome::Right,
-        Err(error) => refused(error),
+        Err(error) => Outcome::refused(error),
     }
 }
 

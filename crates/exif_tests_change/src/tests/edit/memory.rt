@@ -5,6 +5,7 @@ use super::calls::{
     all_in_file, field_in_file, field_patches, places_in_file, places_patches, set_in_file,
     set_patches,
 };
+use super::undone::wanting;
 use super::{DESCRIPTION, put, text};
 use exif_base::Counted;
 use exif_edit::{
@@ -149,17 +150,6 @@ fn put_all(bytes: &mut [u8], patches: &[Patch]) {
     }
 }
 
-// What a refused edit comes to that is to leave the file as it was.
-fn refused(error: Error, file: &[u8]) -> Outcome {
-    let wants = matches!(&error, Error::OutOfMemory);
-    drop(error);
-    if wants && file == FILE {
-        Outcome::Wants
-    } else {
-        Outcome::Wrong
-    }
-}
-
 // What an edit of the file comes to that is to give these bytes. An error leaves it as it was.
 fn attempt(alloc: Global, form: Form, edit: Edit, want: &[u8]) -> Outcome {
     let mut file = [0u8; LENGTH];
@@ -184,7 +174,7 @@ fn attempt(alloc: Global, form: Form, edit: Edit, want: &[u8]) -> Outcome {
                 Outcome::Wrong
             }
         }
-        Err(error) => refused(error, &file[..]),
+        Err(error) => wanting(error, &file[..] == FILE),
     }
 }
 

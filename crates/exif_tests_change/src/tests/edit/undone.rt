@@ -31,18 +31,25 @@ fn heif() -> [u8; LENGTH] {
     file
 }
 
+// What an error comes to that is to say that memory ran out, with all bytes as they were.
+pub(super) fn wanting(error: Error, is_kept: bool) -> Outcome {
+    let wants = matches!(&error, Error::OutOfMemory);
+    drop(error);
+    if wants && is_kept {
+        Outcome::Wants
+    } else {
+        Outcome::Wrong
+    }
+}
+
 // What erasing its places comes to. The copy stays, though the patches are tried there first.
 fn erasing_in_heif(alloc: Global) -> Outcome {
     let old = heif();
     let mut file = heif();
-    let answer = places_in_file(alloc, &mut file[..]);
-    let outcome = match &answer {
-        Ok(()) if is_zeroed(&old[..], &file[..], DATA + 26, DATA + 44) => Outcome::Right,
-        Err(Error::OutOfMemory) if file[..] == old[..] => Outcome::Wants,
-        _ => Outcome::Wrong,
-    };
-    drop(answer);
-    outcome
+    match places_in_file(alloc, &mut file[..]) {
+        Ok(()) => Outcome::answered(is_zeroed(&old[..], &file[..], DATA + 26, DATA + 44)),
+        Err(error) => wanting(error, file[..] == old[..]),
+    }
 }
 
 #[test]
@@ -53,14 +60,15 @@ fn what_does_not_serve_in_a_file_is_undone(rt: HostRuntime) -> Result<(), Fail> 
 }
 
 // What a refused edit comes to that is to leave data as they were.
-fn refused(answer: Result<(), Error>, old: &[u8], new: &[u8]) -> Outcome {
-    let outcome = match &answer {
-        Err(Error::SharedBytes) => Outcome::Right,
-        Err(Error::OutOfMemory) => Outcome::Wants,
-        _ => Outcome::Wrong,
-    };
-    drop(answer);
-    if new == old { outcome } else { Outcome::Wrong }
+fn refused(answer: Result<(), Error>, is_kept: bool) -> Outcome {
+    match answer {
+        Ok(()) => Outcome::Wrong,
+        Err(error) if matches!(&error, Error::SharedBytes) => {
+            drop(error);
+            Outcome::answered(is_kept)
+        }
+        Err(error) => wanting(error, is_kept),
+    }
 }
 
 // What erasing places comes to whose values are something else too.
@@ -68,7 +76,7 @@ fn erasing_shared(alloc: Global) -> Outcome {
     let mut bytes = [0u8; 64];
     put(&mut bytes[..], 0, SAME_VALUE);
     let answer = erase_places(alloc, &mut bytes[..]);
-    refused(answer, SAME_VALUE, &bytes[..])
+    refused(answer, &bytes[..] == SAME_VALUE)
 }
 
 #[test]
@@ -89,7 +97,7 @@ fn setting_shared(alloc: Global, value: &Value) -> Outcome {
         In(0),
         value,
     );
-    refused(answer, OVERLAPPING, &bytes[..])
+    refused(answer, &bytes[..] == OVERLAPPING)
 }
 
 #[test]
