@@ -56,8 +56,11 @@ class Answer:
             if edit.is_at(name) and told.startswith(("not proved", "no proof")):
                 behind = self.behind(told)
                 waits = waits or bool(behind)
-                goals = [*self.goals.get(name, ()), *self.open_in(edit.span), *(() if edit.body else self.lemmas)]
-                if goals and not behind:
+                # What was not searched for is left open, whatever the edit says.
+                left = self.open_in(edit.span) if edit.is_searched else ()
+                goals = [*self.goals.get(name, ()), *left, *(() if edit.body else self.lemmas)]
+                # A copy's goals stand on what others promise, bent or not.
+                if goals and (edit.is_copied or not behind):
                     return f"{edit.called(name)} ({', '.join(dict.fromkeys(goals))})", False
         return None, waits
 

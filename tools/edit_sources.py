@@ -106,6 +106,30 @@ class Sources:
         return Body(module_of(path), borrowed + owner + impl["trait"].split("::")[-1] + given, name, is_of_trait=True)
 
 
+def empty_bodies(room, sources, bodies):
+    """Takes the bodies of functions out of the texts in a folder, so that they call nothing: what they promise stays."""
+    for path in sources.texts:
+        rows = read(f"{room}/{path}").split("\n")
+        for number, row in enumerate(rows):
+            head = FUNCTION.match(row)
+            body = sources.body_of(path, rows[:number], len(head[1]), head[2]) if head else None
+            if body in bodies and "const fn" not in row:
+                first, last = body_rows(rows, number)
+                rows[first:last] = ["loop {}"] + [""] * (last - first - 1) if first < last else []
+        with open(f"{room}/{path}", "w", encoding="utf-8") as it:
+            it.write("\n".join(rows))
+
+
+def body_rows(rows, number):
+    """Gives where the rows of a function's body begin and end, between its braces, none where they share its first row."""
+    depth = indent(rows[number])
+    if rows[number].endswith("}"):
+        return 0, 0
+    ends = [at for at in range(number, len(rows)) if rows[at].strip() and indent(rows[at]) == depth]
+    first = next(at for at in ends if rows[at].endswith("{"))
+    return first + 1, next(at for at in ends if at > first)
+
+
 def has_body(rows):
     """Tells whether the function whose fn is in the first row has a body."""
     end = next((it for it in rows if it.endswith((";", "{")) or it is rows[0] and it.endswith("}")), ";")
