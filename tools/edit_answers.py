@@ -59,7 +59,7 @@ class Answer:
                 # What was not searched for is left open, whatever the edit says.
                 left = self.open_in(edit.span) if edit.is_searched else ()
                 goals = [*self.goals.get(name, ()), *left, *(() if edit.body else self.lemmas)]
-                goals = [edit.goal] if edit.goal in goals else [] if edit.goal else goals
+                goals = [it for it in goals if edit.goal in (None, it)]
                 # A copy's goals stand on what others promise, bent or not.
                 if goals and (edit.is_copied or not behind):
                     return f"{edit.called(name)} ({', '.join(dict.fromkeys(goals))})", False
