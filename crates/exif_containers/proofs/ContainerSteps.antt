@@ -16,7 +16,7 @@ use Rattle.exif_containers.specs.declared.container.Format.TheVariants.{Jpeg}
 use Rattle.exif_containers.specs.Container.{TiffIsWhole, answer_as, data_of, begins_tiff, format_in, container_answer}
 
 -- the head of a stream is its first 4096 bytes, or all where there are fewer
-head-first : (head rest : List ℕ) → length head ≤ 4096 → (length head < 4096 → rest ≡ []) → take 4096 (head ++ rest) ≡ head
+pub head-first : (head rest : List ℕ) → length head ≤ 4096 → (length head < 4096 → rest ≡ []) → take 4096 (head ++ rest) ≡ head
 head-first head rest most end = by (cases_lt (length head) 4096)
   where
     by : (length head < 4096) ⊎ (4096 ≤ length head) → take 4096 (head ++ rest) ≡ head

@@ -1,6 +1,6 @@
 -- An item of one extent, as it is read from a file.
 use Rattle.std.proofs.Common.{◌≡◌, ℕ, ◌+◌, ◌-◌, ◌^◌, ◌<◌, ◌≤◌, cond, eqb, ltb, leb, Bool, true, false, List, [], ◌∷◌, ◌++◌, length, take, drop, Option, None, Some, Result, Ok, Err, IfSome, refl, sym, ap, ◌∙◌, subst, arith, length-append, length-drop, append-nil, get_or}
-use Rattle.std.proofs.lemmas.Bool.{lt-ltb, le-ltb, le-leb, eqb-false}
+use Rattle.std.proofs.lemmas.Bool.{lt-ltb, le-ltb, le-leb, eqb-false, lt-leb}
 use Rattle.std.proofs.lemmas.Bool.Decides.{nat_tests}
 use Rattle.std.proofs.lemmas.List.{take-append-le, drop-append-le, length-take-le, take_all}
 use Rattle.std.specs.Io.KnownBytes.{IsAtEnd}
@@ -123,9 +123,6 @@ only_one (x ∷ y ∷ xs) d h = absurd (omega arith)
 pub rest_of : (start : ℕ) (now new : List ℕ) → now ≡ new → take (length now - start) (drop start now) ≡ drop start new
 rest_of start now new e = take_all (length now - start) (drop start now) (omega (arith, length-drop start now)) ∙ ap (drop start) e
 
-small : (k n : ℕ) → n < k → leb k n ≡ false
-small k n h = grind (arith, nat_tests)
-
 -- a place that is too large
 pub overflows : (a : Option (List ℕ)) (front : List ℕ) (p : Place) (e : Extent) → p.method ≡ 0 → p.extents ≡ e ∷ [] → 2 ^ 64 ≤ p.base + e.offset
     → IfSome a (λ rest. item_bytes (front ++ rest) None p ≡ Err invalid_offset)
@@ -138,4 +135,4 @@ pub one_gives : (P : Result (List ℕ) Refusal → Type 0) (a : Option (List ℕ
 one_gives P a front p e place m es h same t =
     along a _ _ (λ rest k. subst P
     (ap (λ n. one_part e.len (drop n (front ++ rest))) same
-    ∙ sym (one_of (front ++ rest) None p e m es ∙ ap (λ b. cond b (Err invalid_offset) (one_part e.len (drop (p.base + e.offset) (front ++ rest)))) (small (2 ^ 64) (p.base + e.offset) h))) k) t
+    ∙ sym (one_of (front ++ rest) None p e m es ∙ ap (λ b. cond b (Err invalid_offset) (one_part e.len (drop (p.base + e.offset) (front ++ rest)))) (lt-leb (2 ^ 64) (p.base + e.offset) h))) k) t

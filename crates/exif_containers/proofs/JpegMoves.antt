@@ -213,7 +213,8 @@ jpeg-two (a ∷ b ∷ []) ys e =
     ap (λ t. cond (eqb a 255 && t) (answer_from ys) (refused (not_jpeg))) (sym (and-true (eqb b 216)))
 jpeg-two (a ∷ b ∷ c ∷ rest) ys e = absurd (omega arith)
 
-jpeg-fewer : (xs : List ℕ) → length xs < 2 → jpeg_answer xs ≡ refused broken_jpeg
+-- a stream of fewer than two bytes is broken
+pub jpeg-fewer : (xs : List ℕ) → length xs < 2 → jpeg_answer xs ≡ refused broken_jpeg
 jpeg-fewer [] h = refl
 jpeg-fewer (a ∷ []) h = refl
 jpeg-fewer (a ∷ b ∷ xs) h = absurd (omega arith)
@@ -223,11 +224,13 @@ pub jpeg_short : (e : Failure) (a : Option (List ℕ)) (l : ℕ) → IsShort bro
     → IfSome a (λ xs. Fails e (jpeg_answer (take l xs)))
 jpeg_short e a l = fails_short e a l (λ xs. length xs < 2) jpeg_answer jpeg-fewer
 
-choose_yes : {A : Type 0} (b : Bool) (x y : A) → false ≡ not b → cond b x y ≡ x
+-- a choice by a test that was answered the other way round
+pub choose_yes : {A : Type 0} (b : Bool) (x y : A) → false ≡ not b → cond b x y ≡ x
 choose_yes true x y e = refl
 choose_yes false x y e = absurd (cc)
 
-choose_no : {A : Type 0} (b : Bool) (x y : A) → true ≡ not b → cond b x y ≡ y
+-- the same of its other side
+pub choose_no : {A : Type 0} (b : Bool) (x y : A) → true ≡ not b → cond b x y ≡ y
 choose_no true x y e = absurd (cc)
 choose_no false x y e = refl
 
@@ -237,14 +240,6 @@ pub jpeg_other : (a b : Option (List ℕ)) (l m : ℕ) (signature : List ℕ) �
 jpeg_other a b l m signature two e =
     moves_fact a b l m (λ xs ys. xs ≡ signature ++ ys) (λ xs. jpeg_answer xs ≡ refused (not_jpeg))
     (λ x y p. ap jpeg_answer p ∙ jpeg-two signature y two ∙ choose_no _ _ _ e)
-
--- the signature, and units that answer nothing
-pub jpeg_passed : (a b c : Option (List ℕ)) (l m n : ℕ) (signature : List ℕ) → length signature ≡ 2 → false ≡ not (pointwise eqb signature (255 ∷ 216 ∷ []))
-    → Moves a l b m (λ xs ys. xs ≡ signature ++ ys) → Moves b m c n (λ xs ys. answer_from xs ≡ answer_from ys)
-    → Moves a l c n (λ xs ys. jpeg_answer xs ≡ answer_from ys)
-jpeg_passed a b c l m n signature two e =
-    moves_then a b c l m n (λ xs ys. xs ≡ signature ++ ys) (λ xs ys. answer_from xs ≡ answer_from ys) (λ xs ys. jpeg_answer xs ≡ answer_from ys)
-    (λ x y z p q. ap jpeg_answer p ∙ jpeg-two signature y two ∙ choose_yes _ _ _ e ∙ q)
 
 -- what holds of the answer of the units left holds of the stream's
 pub jpeg_holds : (Q : Answer → Type 0) (a b : Option (List ℕ)) (l m : ℕ) → Moves a l b m (λ xs ys. jpeg_answer xs ≡ answer_from ys)

@@ -8,10 +8,11 @@ use Rattle.std.proofs.lemmas.Slice.Eq.{bytes_eq-Decides}
 use Rattle.std.proofs.lemmas.List.Elements.{All-nil, All-cons, All-head, All-tail}
 use Rattle.exif_types.specs.Refusals.{Refusal}
 use Rattle.exif_containers.specs.Answer.{Answer, found, refused}
-use Rattle.exif_containers.specs.Jpeg.{JpegUnit, broken_jpeg, not_jpeg, unexpected_soi, invalid_length, no_exif_in_jpeg, two_bytes, from_mark, after_marks, stands_alone, begins_exif, exif_payload, unit_with_body, unit_from_code, first_unit, unit_answer, with_units, units_of, first_answer, answer_from, jpeg_answer}
+use Rattle.exif_containers.specs.Jpeg.{JpegUnit, broken_jpeg, not_jpeg, unexpected_soi, invalid_length, no_exif_in_jpeg, two_bytes, from_mark, after_marks, stands_alone, begins_exif, exif_payload, unit_with_body, unit_from_code, first_unit, unit_answer, with_units, units_of, first_answer, answer_from}
 use Rattle.exif_containers.specs.JpegGrammar.{Brought, nothing, sized, exif, exif_id, HasNoId, UnitTree, print_brought, print_unit, IsBrought, IsUnit, unit_says, IsSilent, HasNoUnit, Ending, speaking, cut, print_ending, IsEnding, answer_said, ending_answer, Stream, short, foreign, units, StreamIsAnswered, IsAStream}
 use Rattle.exif_containers.proofs.LimitedMoves.{from_mark-others}
 use Rattle.exif_containers.proofs.JpegUnits.{unit-alone, unit-segment, answer-first_unit, rest-first_unit}
+use Rattle.exif_containers.proofs.JpegMoves.{jpeg-fewer}
 
 -- ---- a unit is read back
 
@@ -293,14 +294,9 @@ begins-foreign a b h true true p q = absurd (h (eqb-true a 255 p, eqb-true b 216
 begins-foreign a b h true false p q = refl
 begins-foreign a b h false t p q = refl
 
-short-broken : (bytes : List ℕ) → length bytes < 2 → jpeg_answer bytes ≡ refused broken_jpeg
-short-broken [] h = refl
-short-broken (a ∷ []) h = refl
-short-broken (a ∷ b ∷ bytes) h = absurd (omega arith)
-
 -- a stream is answered as its tree says
 pub stream_is_answered : (s : Stream) → StreamIsAnswered s
-stream_is_answered (short bytes) h = short-broken bytes h
+stream_is_answered (short bytes) h = jpeg-fewer bytes h
 stream_is_answered (foreign a b rest) h =
     ap (λ t. cond t (answer_from rest) (refused not_jpeg)) (begins-foreign a b h (eqb a 255) (eqb b 216) refl refl)
 stream_is_answered (units us end) h = answer-silent us (print_ending end) h.0 ∙ answer-ending end h.1

@@ -11,6 +11,7 @@ use Rattle.exif_containers.specs.Answer.{refused}
 use Rattle.exif_containers.specs.Webp.{exif as exif_answer, other, broken_webp, not_webp, invalid_file_size, overflowing, no_exif_in_webp, padded, exif_chunk, other_chunk, chunk_body, chunk_at, body_answer, begins_webp, webp_answer}
 use Rattle.exif_containers.specs.WebpGrammar.{ChunkTree, print_chunk, chunk_len, pad_len, IsHeader, IsExif, IsOther, AreOthers, room_behind, wanted, BodyEnd, exif, used_up, no_room, too_long, cut_header, cut_payload, print_end, IsEnd, end_answer, print_header, WebpFile, body, small, short, foreign, body_room, HasNoHeader, FileIsAnswered, IsAFile}
 use Rattle.exif_containers.proofs.WebpChunks.{webp-twelve, webp-header, begins_webp-append, body-other, body-exif, body-refused}
+use Rattle.exif_isobmff.proofs.LawsBoxes.{eight-split}
 
 -- ---- what the definition makes of a place
 
@@ -279,11 +280,6 @@ header-place room name size more h = by (ltb (room - 8) (little_number 4 size)) 
     by : (t : Bool) → ltb (room - 8) (little_number 4 size) ≡ t → Ended room (name ++ (size ++ more)) ⊎ Passed room (name ++ (size ++ more))
     by true e = inl (record { end = too_long name size more; is = (h, ltb-true (room - 8) (little_number 4 size) e); whole = refl })
     by false e = payload-place room name size more h (ltb-false (room - 8) (little_number 4 size) e)
-
-eight-split : (bytes : List ℕ) → take 4 bytes ++ (take 4 (drop 4 bytes) ++ drop 8 bytes) ≡ bytes
-eight-split bytes =
-    ap (λ t. take 4 bytes ++ (take 4 (drop 4 bytes) ++ t)) (sym (drop-drop 4 4 bytes))
-    ∙ ap (λ t. take 4 bytes ++ t) (take-append-drop 4 (drop 4 bytes)) ∙ take-append-drop 4 bytes
 
 place : (room : ℕ) (bytes : List ℕ) → Ended room bytes ⊎ Passed room bytes
 place room bytes = by-room (eqb room 0) refl

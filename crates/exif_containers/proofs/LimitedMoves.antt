@@ -65,11 +65,6 @@ moves_weaker None b l m P Q f h = tt
 moves_weaker (Some x) None l m P Q f h = absurd h
 moves_weaker (Some x) (Some y) l m P Q f h = (f (take l x) (take m y) h.0, h.1)
 
--- no step
-pub moves_none : (a : Option (List ℕ)) (m : ℕ) (P : List ℕ → List ℕ → Type 0) → ((x : List ℕ) → P x x) → Moves a m a m P
-moves_none None m P f = tt
-moves_none (Some x) m P f = (f (take m x), refl)
-
 -- a step, after which a fact holds of the bytes before it
 pub moves_fact : (a b : Option (List ℕ)) (l m : ℕ) (P : List ℕ → List ℕ → Type 0) (S : List ℕ → Type 0)
     → ((x y : List ℕ) → P x y → S x) → Moves a l b m P → IfSome a (λ x. S (take l x))

@@ -143,14 +143,6 @@ webp_passed (Some xs) None c room r h k = absurd h
 webp_passed (Some xs) (Some ys) None room r h k = absurd k
 webp_passed (Some xs) (Some ys) (Some zs) room r h k = h ∙ body-other room ys r zs k
 
--- a chunk with Exif data is the answer of the file
-pub webp_found : (a b c : Option (List ℕ)) (room : ℕ) (v : List ℕ) → WhereTold a b (λ xs ys. webp_answer xs ≡ body_answer room ys) → WhereTold b c (λ xs ys. chunk_at room xs ≡ Ok (exif v ys))
-    → WhereTold a c (λ xs ys. webp_answer xs ≡ found v ys)
-webp_found None b c room v h k = tt
-webp_found (Some xs) None c room v h k = absurd h
-webp_found (Some xs) (Some ys) None room v h k = absurd k
-webp_found (Some xs) (Some ys) (Some zs) room v h k = h ∙ body-exif room ys v zs k
-
 -- a failure at a chunk is a failure of the file
 fails_body : (e : Failure) (room : ℕ) (ys : List ℕ) → Fails e (chunk_at room ys) → Fails e (body_answer room ys)
 fails_body e room ys = fails_along e (λ c. follow c (answer_within (length ys))) (chunk_at room ys) (λ r. refl)

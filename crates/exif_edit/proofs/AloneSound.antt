@@ -4,6 +4,7 @@ use Rattle.std.specs.Prelude.{◌&&◌, ◌||◌, ◌==◌, ◌^◌, ◌-◌, no
 use Rattle.std.specs.List.{filter, flat_map, list_any}
 use Rattle.std.proofs.lemmas.Bool.Decides.{nat_tests}
 use Rattle.std.proofs.lemmas.List.{length-replicate}
+use Rattle.std.proofs.Math.Bool.{or-false}
 use Rattle.exif_base.specs.Bytes.{Reading, number_at}
 use Rattle.exif_base.specs.Orders.{number_of, order_named}
 use Rattle.exif_base.specs.declared.endian.Order.{Order}
@@ -50,10 +51,6 @@ or_turned true true = refl
 or_turned true false = refl
 or_turned false true = refl
 or_turned false false = refl
-
-or_none : (a : Bool) → (a || false) ≡ a
-or_none true = refl
-or_none false = refl
 
 abbrev room_by : ℕ → ℕ → Bool → Span
 room_by place size b =
@@ -103,7 +100,7 @@ module _ (order : Order) (value : Value) (e : ℕ) (bytes : List ℕ) (ps : List
       ap (λ b. b || false) entry_covers ∙ ap (λ b. meets (changed_entry e) t || b) (sym none)
   by_test false h =
       ap (λ b. b || (covers t entry || false)) room_covers
-      ∙ (ap (λ b. meets room t || b) (or_none (covers t entry) ∙ entry_covers)
+      ∙ (ap (λ b. meets room t || b) (or-false (covers t entry) ∙ entry_covers)
       ∙ or_turned (meets room t) (meets (changed_entry e) t))
 
   value_changed : changes ps t ≡ (meets (changed_entry e) t || meets room t)

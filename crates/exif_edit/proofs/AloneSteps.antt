@@ -5,6 +5,7 @@ use Rattle.std.specs.List.{filter, flat_map, list_any}
 use Rattle.std.proofs.lemmas.Bool.Decides.{nat_tests}
 use Rattle.std.proofs.lemmas.List.Elements.{All-head, All-tail, All-nil, All-cons}
 use Rattle.std.proofs.lemmas.List.Folds.{list_any-append}
+use Rattle.std.proofs.Math.Bool.{or-false, and-false}
 use Rattle.exif_base.specs.Bytes.{Reading, number_at, spaced}
 use Rattle.exif_text.specs.FieldTypes.{type_of, known_length}
 use Rattle.exif_tiff.specs.Footprint.{Stretch, value_stretch}
@@ -44,22 +45,14 @@ entry_met T f at' n i b all h e hit inv =
 
 -- ---- the value of an entry
 
-and_false : (a : Bool) → (a && false) ≡ false
-and_false true = refl
-and_false false = refl
-
 -- no patch has a byte of nothing at 0
 none_of_nothing : (ps : List Patch) → changes ps (record { place = 0; len = 0 }) ≡ false
 none_of_nothing [] = refl
 none_of_nothing (p ∷ ps) =
     let a : nat_lt p.place 0 ≡ false = grind (arith, nat_tests) in
     let b : covers (record { place = 0; len = 0 }) p ≡ false =
-    ap (λ x. nat_lt 0 (p.place + length p.text) && x) a ∙ and_false _ in
+    ap (λ x. nat_lt 0 (p.place + length p.text) && x) a ∙ and-false _ in
     ap (λ x. x || changes ps (record { place = 0; len = 0 })) b ∙ none_of_nothing ps
-
-or_none : (a : Bool) → a ≡ (a || false)
-or_none true = refl
-or_none false = refl
 
 -- a span as a stretch
 abbrev pub stretch_of : Span → Stretch
@@ -86,7 +79,7 @@ module _ (ps : List Patch) (number : Reading) (bytes : List ℕ) (e : ℕ) where
   by_tests false true c p q r =
       let z : nat_le 0 (length bytes) ≡ true = grind (arith, nat_tests) in
       rw z (none_of_nothing ps)
-  by_tests true false true p q r = rw r (or_none _)
+  by_tests true false true p q r = rw r (sym (or-false _))
   by_tests true false false p q r = rw r (none_of_nothing ps)
 
   -- it is changed where the stretch of the value is

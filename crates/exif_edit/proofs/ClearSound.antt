@@ -18,6 +18,7 @@ use Rattle.exif_tiff.specs.declared.fault.Fault.{Fault}
 use Rattle.exif_tiff.specs.declared.fault.Fault.TheVariants.{DataTooLarge, TruncatedHeader, InvalidByteOrder, InvalidFortyTwo}
 use Rattle.exif_table.specs.declared.context.Context.TheVariants.{Tiff}
 use Rattle.exif_images.specs.Encoding.{spelled}
+use Rattle.exif_images.proofs.Images.Standing.{length_spelled}
 use Rattle.exif_edit_base.specs.Causes.{of_data, wrong_header}
 use Rattle.exif_edit_base.specs.Patches.{FitsIn, patched, put_at, zeros_over}
 use Rattle.exif_edit_base.specs.declared.patch.Patch.{Patch}
@@ -25,8 +26,7 @@ use Rattle.exif_edit_base.proofs.CauseSteps.{bound, data_read, ok_same}
 use Rattle.exif_edit_base.proofs.PatchSteps.{length-put_at, put_before, put_on, put_zero}
 use Rattle.exif_edit_base.proofs.ReadSteps.{header_room}
 use Rattle.exif_edit.specs.Clearing.{IsCleared, clear_patches, clearing, empty_place}
-use Rattle.exif_edit.proofs.ReadSound.{raw_right}
-use Rattle.exif_edit.proofs.SetSound.{length-spelled}
+use Rattle.exif_reader.proofs.TiffAnswers.{raw_right}
 
 -- ---- numbers by their bytes
 
@@ -181,7 +181,7 @@ made : (order : Order) (xs : List ℕ) → 8 ≤ length xs
 made order xs h =
     let text = spelled order 4 (empty_place (length xs)) in
     let zs : List ℕ = replicate (length xs - 8) 0 in
-    let ls : length text ≡ 4 = length-spelled order 4 (empty_place (length xs)) in
+    let ls : length text ≡ 4 = length_spelled order 4 (empty_place (length xs)) in
     let lz : length zs ≡ length xs - 8 = length-replicate (length xs - 8) 0 in
     let a = put_at 4 text xs in
     let fa : 4 + length text ≤ length xs = omega arith in
@@ -254,7 +254,7 @@ clear_sound old order h =
       as_long = m.as_long;
       header = same;
       zeros = m.zeros;
-      reads = λ lenient. raw_right lenient new order (same ∙ h)
+      reads = λ lenient. raw_right lenient None new order (same ∙ h)
           ∙ (ap (answer_of lenient) (no_trace order old new m)
           ∙ nothing_shown lenient);
     }
@@ -264,7 +264,7 @@ clearing_fits : (order : Order) (n : ℕ) → 8 ≤ n → All (FitsIn n) (cleari
 clearing_fits order n h =
     let text = spelled order 4 (empty_place n) in
     let zs = zeros_over (record { place = 8; len = n - 8 }) in
-    let ls : length text ≡ 4 = length-spelled order 4 (empty_place n) in
+    let ls : length text ≡ 4 = length_spelled order 4 (empty_place n) in
     let lz : length zs.text ≡ n - 8 = length-replicate (n - 8) 0 in
     All-cons (FitsIn n) (record { place = 4; text = text }) (zs ∷ []) (omega arith)
     (All-cons (FitsIn n) zs [] (omega arith) (All-nil (FitsIn n)))

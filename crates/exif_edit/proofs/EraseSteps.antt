@@ -1,6 +1,5 @@
 -- The steps of erasing.
-use Rattle.std.proofs.Common.{◌≡◌, ◌<◌, ◌+◌, ◌-◌, ℕ, suc, List, [], ◌∷◌, ◌++◌, length, map, drop, get_or, append_assoc, refl, sym, ap, ◌∙◌, arith, drop-cons, Ok, Err}
-use Rattle.std.proofs.lemmas.List.{map-append}
+use Rattle.std.proofs.Common.{◌≡◌, ◌<◌, ◌+◌, ◌-◌, ℕ, List, [], ◌∷◌, ◌++◌, map, append_assoc, refl, sym, ap, ◌∙◌, Ok, Err}
 use Rattle.std.specs.List.{flat_map}
 use Rattle.exif_base.specs.Bytes.{Reading, spaced}
 use Rattle.exif_base.specs.Orders.{number_of, order_named}
@@ -29,22 +28,6 @@ value_on span at' n i out new all h e f =
     ap (λ xs. xs ++ map zeros_over (map span (spaced (at' + 12) 12 (n - (i + 1))))) e
     ∙ (append_assoc out (zeros_over (span at') ∷ [])
     (map zeros_over (map span (spaced (at' + 12) 12 (n - (i + 1))))) ∙ g)
-
--- one of the directories that are left
-pub directory_on : (spans : ℕ → List Span) (qs : List ℕ) (i : ℕ) (out new all : List Patch)
-    → i < length qs
-    → new ≡ out ++ map zeros_over (spans (get_or qs i 0))
-    → out ++ map zeros_over (flat_map spans (drop i qs)) ≡ all
-    → new ++ map zeros_over (flat_map spans (drop (i + 1) qs)) ≡ all
-directory_on spans qs i out new all h e f =
-    let d : drop i qs ≡ get_or qs i 0 ∷ drop (i + 1) qs = let p : i + 1 ≡ suc i =
-    omega arith in rw p (drop-cons qs i 0 h) in
-    let g : out ++ map zeros_over (spans (get_or qs i 0) ++ flat_map spans (drop (i + 1) qs))
-    ≡ all = rw d at f in
-    let rest = flat_map spans (drop (i + 1) qs) in
-    ap (λ xs. xs ++ map zeros_over rest) e
-    ∙ (append_assoc out (map zeros_over (spans (get_or qs i 0))) (map zeros_over rest)
-    ∙ (ap (λ xs. out ++ xs) (sym (map-append zeros_over (spans (get_or qs i 0)) rest)) ∙ g))
 
 -- ---- the whole
 

@@ -16,7 +16,7 @@ use Rattle.exif_images.specs.Layout.{Stands}
 use Rattle.exif_images.specs.Places.{Written}
 use Rattle.exif_images.specs.Slots.{Known}
 use Rattle.exif_images.proofs.Images.Entries.{counted, fits_known, value_is}
-use Rattle.exif_images.proofs.Images.Standing.{number_read, stands_left, stands_of, stands_right}
+use Rattle.exif_images.proofs.Images.Standing.{number_read, stands_left, stands_of, stands_right, length_spelled}
 use Rattle.exif_images.proofs.Images.Values.{length-encode}
 use Rattle.exif_images.proofs.Images.Words.{Fits as IsReadable}
 use Rattle.exif_edit_base.specs.Patches.{padded, patched, put_at}
@@ -24,7 +24,7 @@ use Rattle.exif_edit_base.specs.declared.patch.Patch.{Patch}
 use Rattle.exif_edit_base.specs.declared.patch.Span.{Span}
 use Rattle.exif_edit_base.proofs.PatchSteps.{length-put_at, put_before, put_behind}
 use Rattle.exif_edit.specs.Setting.{element_text, entry_text, is_small, room_patches, room_text, set_place, value_room}
-use Rattle.exif_edit.proofs.SetSound.{Fits, length-spelled, value_lengths}
+use Rattle.exif_edit.proofs.SetSound.{Fits, value_lengths}
 
 -- what was put stands
 put_stands : (place : ℕ) (text bytes : List ℕ) → place + length text ≤ length bytes
@@ -142,8 +142,8 @@ module _ (order : Order) (value : Value) (e : ℕ) (bytes : List ℕ) (ps : List
       let type_text : List ℕ = spelled order 2 (type_number value) in
       let count_text : List ℕ = spelled order 4 (count_of value) in
       let last : List ℕ = element_text order room.place text in
-      let tl : length type_text ≡ 2 = length-spelled order 2 (type_number value) in
-      let cl : length count_text ≡ 4 = length-spelled order 4 (count_of value) in
+      let tl : length type_text ≡ 2 = length_spelled order 2 (type_number value) in
+      let cl : length count_text ≡ 4 = length_spelled order 4 (count_of value) in
       let s = entry_stands in
       let cs = stands_right out type_text (count_text ++ last) (e + 2) (e + 4) s (omega (arith, tl)) in
       let ls = stands_right out count_text last (e + 4) (e + 8) cs (omega (arith, cl)) in

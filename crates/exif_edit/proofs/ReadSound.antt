@@ -1,5 +1,5 @@
 -- Readings in the words of the public answers.
-use Rattle.std.proofs.Common.{◌≡◌, ℕ, Bool, true, false, List, [], None, Result, Ok, Err, refl, sym, ap, ◌∙◌}
+use Rattle.std.proofs.Common.{◌≡◌, ℕ, Bool, true, false, List, None, Result, Ok, Err, refl, sym, ap, ◌∙◌}
 use Rattle.std.specs.Prelude.{◌&&◌}
 use Rattle.std.specs.Bool.{Decides, beq}
 use Rattle.std.specs.Cmp.{booleans_Decides}
@@ -10,13 +10,14 @@ use Rattle.exif_base.specs.Orders.{number_of}
 use Rattle.exif_base.specs.declared.endian.Order.{Order}
 use Rattle.exif_types.specs.FieldEq.{field_eq, field_Decides}
 use Rattle.exif_types.specs.declared.field.Field.{Field}
-use Rattle.exif_tiff.specs.Answers.{Answer, Refused, answer_of, raw_answer}
-use Rattle.exif_tiff.specs.Trace.{Node, content_of, header, trace, ordered_trace, fields_of, faults_of}
+use Rattle.exif_tiff.specs.Answers.{answer_of}
+use Rattle.exif_tiff.specs.Trace.{header, trace, ordered_trace, fields_of, faults_of}
 use Rattle.exif_tiff.specs.declared.fault.Fault.{Fault}
 use Rattle.exif_tiff.specs.declared.fault.Fault.TheVariants.{DataTooLarge, TruncatedHeader, InvalidByteOrder, InvalidFortyTwo, TruncatedCount, TruncatedDirectory, TruncatedNextOffset, TruncatedValue, InvalidPointer, UnexpectedNext, TooManyDirectories, TooManyEntries}
 use Rattle.exif_edit_base.specs.Readings.{Read, fault_eq, is_little, read_eq, reading, reads_as}
 use Rattle.exif_edit_base.proofs.ReadSteps.{reading_by}
 use Rattle.exif_edit.specs.Promises.{ReadAs}
+use Rattle.exif_reader.proofs.TiffAnswers.{raw_right, trace_right}
 
 -- ---- the tests decide
 
@@ -57,32 +58,6 @@ read_same a b e =
 
 -- ---- what the data are read as
 
-trace_is : (x : Result Order Fault) (order : Order) (bytes : List ℕ) → x ≡ Ok order
-    → (elim x as (λ r. List Node) [ Ok o ↦ ordered_trace (number_of o) bytes | Err fault ↦ [] ])
-    ≡ ordered_trace (number_of order) bytes
-trace_is x order bytes e = rw e refl
-
-trace_right : (bytes : List ℕ) (order : Order) → header bytes ≡ Ok order
-    → trace bytes ≡ ordered_trace (number_of order) bytes
-unfolding trace
-trace_right bytes order h = trace_is (header bytes) order bytes h
-
-answer_by : (x : Result Order Fault) (lenient : Bool) (order : Order) (bytes : List ℕ)
-    → x ≡ Ok order
-    → (elim x as (λ r. Answer) [
-      | Err fault ↦ Refused fault
-      | Ok o ↦ answer_of lenient (content_of (ordered_trace (number_of o) bytes))
-    ])
-    ≡ answer_of lenient (content_of (ordered_trace (number_of order) bytes))
-answer_by x lenient order bytes e = rw e refl
-
--- with a good header the answer is that of what stands in the data in its byte order
-pub raw_right : (lenient : Bool) (bytes : List ℕ) (order : Order) → header bytes ≡ Ok order
-    → raw_answer lenient None bytes
-    ≡ answer_of lenient (content_of (ordered_trace (number_of order) bytes))
-unfolding raw_answer
-raw_right lenient bytes order h = answer_by (header bytes) lenient order bytes h
-
 reads_by : (x : Result Order Fault) (bytes : List ℕ) (read : Read) → header bytes ≡ x
     → reading_by x bytes ≡ Ok read
     → (ReadAs bytes read.fields read.faults) × (read.fields ≡ fields_of (trace bytes))
@@ -99,7 +74,7 @@ reads_by (Ok order) bytes read h e =
     e in
     let f : fields_of nodes ≡ read.fields = ap (λ (r : Read). r.fields) b in
     let g : faults_of nodes ≡ read.faults = ap (λ (r : Read). r.faults) b in (
-      λ lenient. raw_right lenient bytes order h
+      λ lenient. raw_right lenient None bytes order h
           ∙ ap (λ (r : Read). answer_of lenient (record { fields = r.fields; faults = r.faults }))
           b,
       sym f ∙ ap fields_of (sym t),

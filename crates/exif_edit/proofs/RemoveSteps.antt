@@ -1,7 +1,7 @@
 -- The steps of erasing the fields of a name.
-use Rattle.std.proofs.Common.{◌≡◌, ◌≤◌, ◌<◌, ◌+◌, ◌-◌, ◌*◌, ◌==◌, ℕ, zero, suc, Bool, true, false, if◌then◌else◌, List, [], ◌∷◌, ◌++◌, length, get_or, map, drop, Result, Ok, Err, refl, sym, ap, ◌∙◌, arith, append_assoc, drop-cons, length-append}
+use Rattle.std.proofs.Common.{◌≡◌, ◌≤◌, ◌<◌, ◌+◌, ◌-◌, ◌*◌, ◌==◌, ℕ, suc, Bool, true, false, if◌then◌else◌, List, [], ◌∷◌, ◌++◌, length, map, Result, Ok, Err, refl, sym, ap, ◌∙◌, arith, append_assoc, length-append}
 use Rattle.std.specs.Prelude.{not}
-use Rattle.std.specs.List.{flat_map, filter}
+use Rattle.std.specs.List.{filter}
 use Rattle.std.proofs.lemmas.Bool.{false≢true}
 use Rattle.std.proofs.lemmas.Bool.Decides.{nat_tests}
 use Rattle.std.proofs.lemmas.Grind.{common_steps}
@@ -9,13 +9,13 @@ use Rattle.std.proofs.lemmas.List.{length-map, map-append}
 use Rattle.exif_base.specs.Bytes.{bytes_at, spaced}
 use Rattle.exif_base.specs.Orders.{number_of, order_named}
 use Rattle.exif_base.specs.declared.endian.Order.{Order}
-use Rattle.exif_types.specs.Lookup.{is_named}
 use Rattle.exif_types.specs.declared.field.Field.{Field}
 use Rattle.exif_types.specs.declared.tag.Tag.{Tag}
 use Rattle.exif_text.specs.declared.ifd.In.{In}
 use Rattle.exif_tiff.specs.Trace.{directory_end, whole_entries}
 use Rattle.exif_tiff.specs.declared.fault.Fault.{Fault}
 use Rattle.exif_images.specs.Encoding.{spelled}
+use Rattle.exif_images.proofs.Images.Standing.{length_spelled}
 use Rattle.exif_reader.specs.declared.stop.Stop.{Stop}
 use Rattle.exif_reader.specs.declared.stop.Stop.TheVariants as stop
 use Rattle.exif_edit_base.specs.Causes.{Becomes, Fails, no_field, place_named}
@@ -27,10 +27,11 @@ use Rattle.exif_entries.specs.Walked.{entry_of}
 use Rattle.exif_edit_base.specs.Patches.{padded, zeros_over}
 use Rattle.exif_edit_base.specs.declared.patch.Span.{Span}
 use Rattle.exif_edit_base.proofs.FindSteps.{field_of, fields_read}
-use Rattle.exif_edit.specs.Removing.{checked_removals, directories_with, directory_without, entries_text, field_patches, has_tag, named_removals, next_text, noted, read_without, removals, removals_from, without_named}
+use Rattle.exif_edit.specs.Removing.{checked_removals, directories_with, directory_without, entries_text, field_patches, has_tag, named_removals, next_text, read_without, removals, removals_from, without_named}
 use Rattle.exif_edit.specs.Setting.{names_places}
+use Rattle.exif_edit.proofs.SetSound.{length-padded}
 use Rattle.exif_tiff.specs.declared.place.EntryPlace.{EntryPlace}
-use Rattle.exif_edit.proofs.SetSound.{length-padded, length-spelled}
+use Rattle.exif_tiff.proofs.VisitBound.{length-spaced}
 use Rattle.exif_reader.proofs.ParserRuns.{spaced_step}
 
 -- ---- entries that pass a test
@@ -82,11 +83,6 @@ few_passed t (x ∷ xs) = by_test (t x) (few_passed t xs)
     by_test true h = omega arith
     by_test false h = omega arith
 
--- a row of n places has n of them
-pub length-spaced : (p unit n : ℕ) → length (spaced p unit n) ≡ n
-length-spaced p unit zero = refl
-length-spaced p unit (suc n) = ap suc (length-spaced (p + unit) unit n)
-
 -- the bytes of entries are no more than twelve each
 pub few_bytes : (bytes : List ℕ) (es : List ℕ) → length (entries_text bytes es) ≤ 12 * length es
 few_bytes bytes [] = omega arith
@@ -105,7 +101,7 @@ text_fits order bytes t p n count next =
     let a = few_bytes bytes es in
     let b = few_passed t (spaced p 12 n) in
     let l = length-spaced p 12 n in
-    let s = length-spelled order 2 count in
+    let s = length_spelled order 2 count in
     let x = length-append (entries_text bytes es) next in
     let y = length-append (spelled order 2 count) (entries_text bytes es ++ next) in
     omega arith
@@ -141,7 +137,7 @@ directory_made order bytes number place count kept text next whole new c k t n w
     p ∙ rw (w, k, t, n, c) refl
 
 next_length : (order : Order) (x : Result ℕ Fault) → length (next_text order x) ≤ 4
-next_length order (Ok next) = let l = length-spelled order 4 next in omega arith
+next_length order (Ok next) = let l = length_spelled order 4 next in omega arith
 next_length order (Err fault) = omega arith
 
 -- a directory without entries takes no more than it did
@@ -161,37 +157,7 @@ directory_length order bytes n p =
 
 -- ---- the directories of a name
 
--- from the last field to the first, one more directory is noted if the field has the name
-pub noted_on : (tag : Tag) (k : In) (fs : List Field) (ps : List EntryPlace) (i : ℕ) (f : Field)
-    (p : EntryPlace) (out new : List ℕ)
-    → i < length fs → length fs ≡ length ps → f ≡ get_or fs i f → p ≡ get_or ps i p
-    → out ≡ directories_with tag k (drop (i + 1) fs) (drop (i + 1) ps)
-    → new ≡ (if is_named tag k f then noted out p.directory else out)
-    → new ≡ directories_with tag k (drop i fs) (drop i ps)
-noted_on tag k fs ps i f p out new h l g q o n =
-    let e : i + 1 ≡ suc i = omega arith in
-    let a : drop i fs ≡ f ∷ drop (i + 1) fs =
-    rw e (drop-cons fs i f h ∙ ap (λ x. x ∷ drop (suc i) fs) (sym g)) in
-    let b : drop i ps ≡ p ∷ drop (i + 1) ps =
-    rw e (drop-cons ps i p (omega arith) ∙ ap (λ x. x ∷ drop (suc i) ps) (sym q)) in
-    n ∙ (ap (λ x. if is_named tag k f then noted x p.directory else x) o
-    ∙ sym (ap (λ x. directories_with tag k x (drop i ps)) a
-    ∙ ap (λ x. directories_with tag k (f ∷ drop (i + 1) fs) x) b))
-
 -- ---- directories and values, one after another
-
--- with what one more place gives put behind the list, it and the rest still make the same whole
-pub places_on : {A B : Type 0} (f : A → List B) (qs : List A) (i : ℕ) (q : A) (out new all : List B)
-    → i < length qs → q ≡ get_or qs i q
-    → new ≡ out ++ f q
-    → out ++ flat_map f (drop i qs) ≡ all
-    → new ++ flat_map f (drop (i + 1) qs) ≡ all
-places_on f qs i q out new all h g e k =
-    let d : drop i qs ≡ q ∷ drop (i + 1) qs = let p : i + 1 ≡ suc i =
-    omega arith in rw p (drop-cons qs i q h ∙ ap (λ x. x ∷ drop (suc i) qs) (sym g)) in
-    let m : out ++ (f q ++ flat_map f (drop (i + 1) qs)) ≡ all = rw d at k in
-    ap (λ xs. xs ++ flat_map f (drop (i + 1) qs)) e
-    ∙ (append_assoc out (f q) (flat_map f (drop (i + 1) qs)) ∙ m)
 
 -- zeros over the spans of two joined lists are those of the first and then of the second
 pub zeros_append : (span : ℕ → Span) (xs ys : List ℕ)

@@ -4,10 +4,8 @@ use Rattle.std.specs.Prelude.{◌^◌, ◌==◌, nat_lt}
 use Rattle.std.proofs.lemmas.Bool.Decides.{nat_tests}
 use Rattle.std.proofs.lemmas.List.{length-replicate}
 use Rattle.std.proofs.lemmas.List.Elements.{All-nil, All-cons, All-append}
-use Rattle.byteorder.specs.Numbers.{length-bytes_high_first, length-bytes_low_first}
 use Rattle.exif_base.specs.Orders.{number_of, order_named}
 use Rattle.exif_base.specs.declared.endian.Order.{Order}
-use Rattle.exif_base.specs.declared.endian.Order.TheVariants.{Big, Little}
 use Rattle.exif_types.specs.ValueTypes.{count_of, type_number}
 use Rattle.exif_types.specs.declared.tag.Tag.{Tag}
 use Rattle.exif_text.specs.declared.ifd.In.{In}
@@ -15,6 +13,7 @@ use Rattle.exif_types.specs.declared.value.Value.{Value}
 use Rattle.exif_tiff.specs.Trace.{fields_of, trace}
 use Rattle.exif_images.specs.Encoding.{encode, moved_to, spelled}
 use Rattle.exif_images.specs.Refused.{is_unknown}
+use Rattle.exif_images.proofs.Images.Standing.{length_spelled}
 use Rattle.exif_edit_base.specs.Causes.{Cause, no_field, of_data, or_cause, place_named, shared, too_long, unknown_type, unless, ◌>>=◌}
 use Rattle.exif_edit_base.specs.Finding.{find_answer, last_located, replaced}
 use Rattle.exif_entries.specs.Locations.{Located, located}
@@ -30,11 +29,6 @@ use Rattle.exif_edit.specs.Setting.{answer_in, checked, checked_patches, entry_t
 use Rattle.exif_edit.proofs.ReadSound.{reads_are, reads_so}
 
 -- ---- the texts of the patches are as long as their rooms
-
--- a number that is spelled with n bytes has n of them
-pub length-spelled : (order : Order) (n x : ℕ) → length (spelled order n x) ≡ n
-length-spelled Big n x = length-bytes_high_first n x
-length-spelled Little n x = length-bytes_low_first 0 n x
 
 -- a text that is no longer than n has n bytes once it is padded to n
 pub length-padded : (n : ℕ) (text : List ℕ) → length text ≤ n → length (padded n text) ≡ n
@@ -63,17 +57,17 @@ length-entry order value place text = by_test (is_small text) refl
         ++ (if b then padded 4 text else spelled order 4 place))) ≡ 10
     by_test true e =
         let s : length text ≤ 4 = grind (arith, nat_tests) in
-        let a = length-spelled order 2 (type_number value) in
-        let b = length-spelled order 4 (count_of value) in
+        let a = length_spelled order 2 (type_number value) in
+        let b = length_spelled order 4 (count_of value) in
         let c = length-padded 4 text s in
         let x = length-append (spelled order 4 (count_of value)) (padded 4 text) in
         let y = length-append (spelled order 2 (type_number value))
         (spelled order 4 (count_of value) ++ padded 4 text) in
         omega arith
     by_test false e =
-        let a = length-spelled order 2 (type_number value) in
-        let b = length-spelled order 4 (count_of value) in
-        let c = length-spelled order 4 place in
+        let a = length_spelled order 2 (type_number value) in
+        let b = length_spelled order 4 (count_of value) in
+        let c = length_spelled order 4 place in
         let x = length-append (spelled order 4 (count_of value)) (spelled order 4 place) in
         let y = length-append (spelled order 2 (type_number value))
         (spelled order 4 (count_of value) ++ spelled order 4 place) in

@@ -1,5 +1,5 @@
 -- Bytes put over others: which stay, and which are new.
-use Rattle.std.proofs.Common.{◌≡◌, ◌-◌, ◌≤◌, ◌<◌, ◌+◌, ℕ, suc, Bool, true, false, if◌then◌else◌, List, [], ◌∷◌, length, get_or, drop, inl, inr, ◌⊎◌, map, replicate, All, refl, sym, ap, subst, ◌∙◌, arith, drop-cons}
+use Rattle.std.proofs.Common.{◌≡◌, ◌-◌, ◌≤◌, ◌<◌, ◌+◌, ℕ, Bool, true, false, if◌then◌else◌, List, [], ◌∷◌, length, get_or, inl, inr, ◌⊎◌, map, replicate, All, refl, sym, ap, subst, ◌∙◌, arith}
 use Rattle.std.specs.Prelude.{◌&&◌, ◌||◌, nat_lt, nat_le}
 use Rattle.std.specs.List.{list_any}
 use Rattle.std.proofs.lemmas.Bool.{false≢true, and_parts}
@@ -79,16 +79,6 @@ patched_outside (p ∷ ps) bytes i h m =
       | inl a ↦ put_before p.place p.text bytes i fits a
       | inr a ↦ put_behind p.place p.text bytes i fits a
     ])
-
--- one of the patches that are left is put
-pub patch_on : (ps : List Patch) (i : ℕ) (p : Patch) (out new all : List ℕ) → i < length ps
-    → p ≡ get_or ps i p → new ≡ put_at p.place p.text out → patched (drop i ps) out ≡ all
-    → patched (drop (i + 1) ps) new ≡ all
-patch_on ps i p out new all h g e f =
-    let d : drop i ps ≡ p ∷ drop (i + 1) ps = let n : i + 1 ≡ suc i =
-    omega arith in rw n (drop-cons ps i p h ∙ ap (λ q. q ∷ drop (suc i) ps) (sym g)) in
-    let k : patched (p ∷ drop (i + 1) ps) out ≡ all = rw d at f in
-    ap (λ xs. patched (drop (i + 1) ps) xs) e ∙ k
 
 -- ---- zeros in spans
 

@@ -9,14 +9,13 @@ use Rattle.std.proofs.lemmas.Bool.{false≢true, and_parts}
 use Rattle.std.proofs.lemmas.List.Elements.{All-nil, All-cons, All-head, All-tail}
 use Rattle.exif_base.specs.Bytes.{bytes_at}
 use Rattle.exif_types.specs.Refusals.{Refusal}
-use Rattle.exif_containers.specs.Container.{begins_tiff, container_answer}
-use Rattle.exif_edit_base.specs.Causes.{of_container, picture, scattered, ◌>>=◌}
+use Rattle.exif_containers.specs.Container.{container_answer}
+use Rattle.exif_edit_base.specs.Causes.{of_container, scattered, ◌>>=◌}
 use Rattle.exif_edit_base.specs.Patches.{FitsIn, patched}
 use Rattle.exif_edit_base.specs.declared.patch.Patch.{Patch}
-use Rattle.exif_edit_base.proofs.CauseSteps.{bound, data_held, ok_same, option_told, passed}
+use Rattle.exif_edit_base.proofs.CauseSteps.{bound, data_held, ok_same, option_told}
 use Rattle.exif_edit_base.proofs.PatchSteps.{Misses, length-patched, patched_outside}
-use Rattle.exif_edit.specs.Clearing.{clear_patches}
-use Rattle.exif_edit_files.specs.InFiles.{Edit, IsEditedIn, clear_file_patches, holds, in_file, place_answer, place_for, placed, search_answer, serves, serves_as_told, shifted, standing_places, told_place}
+use Rattle.exif_edit_files.specs.InFiles.{Edit, IsEditedIn, holds, in_file, place_answer, place_for, placed, search_answer, serves, serves_as_told, shifted, standing_places, told_place}
 use Rattle.exif_edit_files.proofs.StandingPlaces.{standing_within}
 use Rattle.exif_edit_files.specs.Streams.{StaysInside}
 
@@ -193,10 +192,3 @@ file_sound edit file qs stays e =
           (subst (λ rs. All (Misses i) rs) (sym w.are)
           (shifted_miss w.patches w.place (length w.old) i h (stays w.old w.patches w.edited)));
     }
-
--- where all fields of a file are erased, its data are cleared with the same patches
-pub clear_file_answered : (file : List ℕ) (qs : List Patch) → clear_file_patches file ≡ Ok qs
-    → in_file clear_patches file ≡ Ok qs
-unfolding clear_file_patches
-clear_file_answered file qs e =
-    (passed (begins_tiff file) picture (λ u. in_file clear_patches file) qs e).1

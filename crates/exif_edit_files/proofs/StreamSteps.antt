@@ -4,7 +4,7 @@ use Rattle.std.specs.Prelude.{MatchOption}
 use Rattle.std.proofs.lemmas.Bool.{cases_lt}
 use Rattle.std.proofs.lemmas.Grind.{common_steps}
 use Rattle.std.proofs.Math.ListN.{drop_of_length-le}
-use Rattle.std.proofs.lemmas.List.{length-take-le, take_all, take_at}
+use Rattle.std.proofs.lemmas.List.{length-take-le}
 use Rattle.std.specs.Io.KnownBytes.{Consumes, IsAtEnd, prepend_known}
 use Rattle.exif_base.specs.Told.{Skips, WhereTold}
 use Rattle.exif_types.specs.Failures.{Failure}
@@ -15,6 +15,7 @@ use Rattle.exif_containers.specs.Container.{format_in}
 use Rattle.exif_containers.specs.Jpeg.{jpeg_answer}
 use Rattle.exif_containers.specs.declared.container.Format.{Format}
 use Rattle.exif_containers.specs.declared.container.Format.TheVariants.{Jpeg}
+use Rattle.exif_containers.proofs.ContainerSteps.{head-first}
 use Rattle.exif_edit_base.specs.Causes.{Cause, Fails as FailsAs, Stops, cause_of, no_data, ◌>>=◌}
 use Rattle.exif_edit_base.specs.Patches.{FitsIn, patched}
 use Rattle.exif_edit_base.specs.declared.error.Error.{Error}
@@ -57,17 +58,6 @@ jpeg_refuses (Err e) format (Some xs) is h = λ s.
     let k : Fails e (jpeg_answer xs) = rw (take_small xs s) at h in
     rw is k
 
--- the head of a file is its first 4096 bytes, or all where there are fewer
-head_first : (head rest : List ℕ) → length head ≤ 4096 → (length head < 4096 → rest ≡ [])
-    → take 4096 (head ++ rest) ≡ head
-head_first head rest most end = by (cases_lt (length head) 4096)
-  where
-    by : (length head < 4096) ⊎ (4096 ≤ length head) → take 4096 (head ++ rest) ≡ head
-    by (inl lt) =
-        ap (λ t. take 4096 (head ++ t)) (end lt)
-        ∙ (ap (take 4096) (append-nil head) ∙ take_all 4096 head most)
-    by (inr le) = take_at head rest 4096 (omega arith)
-
 -- the bytes of a source, and those at hand behind its head
 pub record HasHead (n : ℕ) (block : List ℕ) (format : Option Format) (a b left : Option (List ℕ)) :
     Type 0 where
@@ -89,7 +79,7 @@ whole_file_of P n block format (Some xs) (Some ys) left h k =
     let room = h.room in
     let bound = h.bound in
     let first : take 4096 (take n block ++ ys) ≡ take n block =
-    head_first (take n block) ys (omega arith) (λ lt. h.end (omega arith)) in
+    head-first (take n block) ys (omega arith) (λ lt. h.end (omega arith)) in
     let same : left ≡ Some xs = h.at_hand ∙ ap (λ zs. Some zs) (sym h.taken) in
     let f : format ≡ format_in (take 4096 xs) =
     h.chosen ∙ ap format_in (sym (ap (take 4096) h.taken ∙ first)) in

@@ -4,6 +4,7 @@ use Rattle.std.proofs.Common.{◌≡◌, ◌≤◌, ◌<◌, ◌+◌, ◌*◌, �
 use Rattle.std.specs.Prelude.{◌&&◌, ◌||◌, nat_le, nat_lt, not}
 use Rattle.std.specs.List.{AllByRecursion, list_any}
 use Rattle.std.proofs.lemmas.Bool.Decides.{nat_tests}
+use Rattle.std.proofs.lemmas.List.Elements.{All-from_recursion}
 use Rattle.exif_base.specs.Bytes.{Reading, number_at}
 use Rattle.exif_base.specs.Orders.{number_of}
 use Rattle.exif_base.specs.declared.endian.Order.{Order}
@@ -16,7 +17,6 @@ use Rattle.exif_tiff.specs.Apart.{are_apart, looks_apart}
 use Rattle.exif_tiff.specs.Decode.{decode}
 use Rattle.exif_tiff.specs.Footprint.{Stretch, ordered_footprint, value_stretch}
 use Rattle.exif_tiff.specs.Trace.{Found, Met, Node, Opens, Visit, entry_value, header, located_of, ordered_trace}
-use Rattle.exif_tiff.proofs.Members.{all_of}
 use Rattle.exif_images.specs.Groups.{Group}
 use Rattle.exif_images.specs.Image.{image}
 use Rattle.exif_images.specs.Ranged.{AreRanged, HavePlainTexts}
@@ -195,7 +195,7 @@ each_apart bytes order head apart =
     let said = subst (λ ls. AllByRecursion (Said bytes order head apart) ls) (sym here)
     (all_said bytes order head apart nodes (ordered_said (number_of order) bytes)) in
     let held = all_held bytes order head apart (located bytes) (λ e. omega arith) in
-    all_of (Alone bytes order head apart) (located bytes)
+    All-from_recursion (Alone bytes order head apart) (located bytes)
     (all_alone bytes order head apart (located bytes) said held)
 
 -- where reading looks at no byte as two things, the last field of a name stands alone

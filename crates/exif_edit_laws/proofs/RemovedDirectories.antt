@@ -20,16 +20,17 @@ use Rattle.exif_tiff.specs.Visits.{AreBytes}
 use Rattle.exif_tiff.proofs.Agreement.{Same, bytes_same}
 use Rattle.exif_tiff.proofs.ApartLists.{AreApart}
 use Rattle.exif_tiff.proofs.Footprints.{end_same, entries_same, places_same}
+use Rattle.exif_tiff.proofs.VisitBound.{length-spaced}
+use Rattle.exif_tiff.proofs.Members.{all_passed}
 use Rattle.exif_images.specs.Encoding.{spelled}
 use Rattle.exif_images.specs.Layout.{Stands}
-use Rattle.exif_images.proofs.Images.Standing.{number_read, stands_left, stands_right}
+use Rattle.exif_images.proofs.Images.Standing.{number_read, stands_left, stands_right, length_spelled}
 use Rattle.exif_edit_base.proofs.LocatedEntries.{places_whole}
 use Rattle.exif_edit.specs.Removing.{entries_text, entries_without, has_tag, next_text}
-use Rattle.exif_edit.proofs.RemoveSteps.{length-spaced}
-use Rattle.exif_edit.proofs.SetSound.{length-padded, length-spelled}
+use Rattle.exif_edit.proofs.SetSound.{length-padded}
 use Rattle.exif_edit_base.proofs.PutBack.{length-bytes_at}
 use Rattle.exif_edit_laws.proofs.RemovedBytes.{as_long, directory_stays, made, value_stays}
-use Rattle.exif_edit_laws.proofs.RemovedLists.{all_members, all_pass, fewer_left, filter_each, filter_member, has}
+use Rattle.exif_edit_laws.proofs.RemovedLists.{all_members, all_pass, fewer_left, filter_member, has}
 use Rattle.exif_edit_laws.proofs.RemovedTexts.{text_stands}
 use Rattle.exif_edit_laws.proofs.ShrunkNodes.{EndsBetter, Follow, Lacks, left}
 
@@ -214,7 +215,7 @@ module _ (order : Order) (a : List ℕ) (tag : Tag) (k : In) (ps ds : List ℕ)
 
     are_whole : AllByRecursion (λ x. x + 12 ≤ length a) es
     are_whole =
-        filter_each (λ x. x + 12 ≤ length a) (λ x. not (has_tag number a tag.1 x))
+        all_passed (λ x. x + 12 ≤ length a) (λ x. not (has_tag number a tag.1 x))
         (entry_places number a p) (places_whole number a p)
 
     are_left : those_left p ≡ es
@@ -233,7 +234,7 @@ module _ (order : Order) (a : List ℕ) (tag : Tag) (k : In) (ps ds : List ℕ)
 
     front_long : length front ≡ 2 + 12 * length es + length next
     front_long =
-        let s = length-spelled order 2 (length es) in
+        let s = length_spelled order 2 (length es) in
         let t = length-entries es are_whole in
         let x = length-append (entries_text a es) next in
         let y = length-append (spelled order 2 (length es)) (entries_text a es ++ next) in
@@ -253,7 +254,7 @@ module _ (order : Order) (a : List ℕ) (tag : Tag) (k : In) (ps ds : List ℕ)
         let padded_long = length-padded (2 + 12 * whole + length next) front (omega (arith, f, l)) in
         let whole_text = text_stands order a tag.1 ps ds apart known p m (omega (arith, padded_long)) mine in
         let fronts = stands_left b front zeros p whole_text in
-        let s = length-spelled order 2 (length es) in
+        let s = length_spelled order 2 (length es) in
         let t = length-entries es are_whole in
         let behind = stands_right b (spelled order 2 (length es)) (entries_text a es ++ next) p (p + 2)
         fronts (omega (arith, s)) in
@@ -299,7 +300,7 @@ module _ (order : Order) (a : List ℕ) (tag : Tag) (k : In) (ps ds : List ℕ)
         let whole_is = at'.whole in
         let within = at'.within in
         let text : next ≡ spelled order 4 place = ap (next_text order) e in
-        let four : length next ≡ 4 = ap (λ xs. length xs) text ∙ length-spelled order 4 place in
+        let four : length next ≡ 4 = ap (λ xs. length xs) text ∙ length_spelled order 4 place in
         let s = stands (omega (arith, whole_is, within, four)) in
         let fits = subst (λ x. x < 256 ^ 4) (sym at'.place)
         (number_fits order 4 a (p + 2 + 12 * number_at number 2 a p) are_bytes) in

@@ -67,17 +67,6 @@ filter_all P f t (e ∷ es) h =
         all_append P (f e) (flat_map f (filter t es)) (all_left P (f e) (flat_map f es) h) r
     by_test false r = r
 
--- what holds of all members holds of those that pass a test
-pub filter_each : (P : ℕ → Type 0) (t : ℕ → Bool) (es : List ℕ) → AllByRecursion P es
-    → AllByRecursion P (filter t es)
-filter_each P t [] h = tt
-filter_each P t (e ∷ es) h = by_test (t e) (filter_each P t es h.1)
-  where
-    by_test : (b : Bool) → AllByRecursion P (filter t es)
-        → AllByRecursion P (if b then e ∷ filter t es else filter t es)
-    by_test true r = (h.0, r)
-    by_test false r = r
-
 -- all members pass a test that always holds
 pub all_pass : (es : List ℕ) → filter (λ e. true) es ≡ es
 all_pass [] = refl

@@ -7,7 +7,7 @@ use Rattle.std.proofs.Math.Nat.{mul-suc}
 use Rattle.std.proofs.lemmas.Bool.{false≢true}
 use Rattle.std.proofs.lemmas.Bool.Decides.{nat_tests}
 use Rattle.std.proofs.lemmas.Grind.{common_steps}
-use Rattle.std.proofs.lemmas.List.{drop-drop, drop-take, get_or-drop, get_or-take, take-take}
+use Rattle.std.proofs.lemmas.List.{drop-drop, drop-take, get_or-drop, take-take}
 use Rattle.exif_base.specs.Bytes.{bytes_at, number_at, spaced}
 use Rattle.exif_base.specs.Orders.{number_of}
 use Rattle.exif_base.specs.declared.endian.Order.{Order}
@@ -15,7 +15,7 @@ use Rattle.exif_tiff.specs.Decode.{decode, decode_as}
 use Rattle.exif_tiff.specs.Footprint.{Agree, value_stretch}
 use Rattle.exif_tiff.specs.Rationals.{rational_at, srational_at}
 use Rattle.exif_tiff.specs.Trace.{entry_value}
-use Rattle.exif_tiff.proofs.Agreement.{Same, decode_same, number_same, same_of}
+use Rattle.exif_tiff.proofs.Agreement.{Same, decode_same, number_same, same_of, taken}
 use Rattle.exif_text.specs.FieldTypes.{known_length, type_of, unit_length}
 use Rattle.exif_types.specs.Numbers.{number_in}
 use Rattle.exif_types.specs.Texts.{texts}
@@ -34,10 +34,6 @@ IsMoved a b e q = bytes_at 12 a e ≡ bytes_at 12 b q
 -- so many bytes from p on in a are those from q on in b
 abbrev Shifted : List ℕ → List ℕ → ℕ → ℕ → ℕ → Type 0
 Shifted a b p q n = (i : ℕ) → i < n → slice_index a (p + i) ≡ slice_index b (q + i)
-
-taken : (n : ℕ) (xs : List ℕ) (p i : ℕ) → i < n
-    → slice_index (bytes_at n xs p) i ≡ slice_index xs (p + i)
-taken n xs p i lt = get_or-take n (drop p xs) i 0 lt ∙ get_or-drop p xs i 0
 
 part : (a b : List ℕ) (e q j n : ℕ) → j + n ≤ 12 → IsMoved a b e q → Shifted a b (e + j) (q + j) n
 part a b e q j n h m i lt =

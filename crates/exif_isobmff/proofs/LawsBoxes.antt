@@ -208,7 +208,8 @@ record HeaderOf (text : List ℕ) : Type 0 where
 four-number : (text : List ℕ) → big_number 4 (take 4 text) ≡ big_number 4 text
 four-number text = big_from-take 0 4 4 text (omega arith)
 
-eight-split : (text : List ℕ) → take 4 text ++ (take 4 (drop 4 text) ++ drop 8 text) ≡ text
+-- two texts of four bytes and what follows them are the text
+pub eight-split : (text : List ℕ) → take 4 text ++ (take 4 (drop 4 text) ++ drop 8 text) ≡ text
 eight-split text =
     ap (λ t. take 4 text ++ (take 4 (drop 4 text) ++ t)) (sym (drop-drop 4 4 text))
     ∙ ap (λ t. take 4 text ++ t) (take-append-drop 4 (drop 4 text)) ∙ take-append-drop 4 text

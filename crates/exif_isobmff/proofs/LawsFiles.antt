@@ -5,6 +5,7 @@ use Rattle.std.specs.Str.{bytes_eq}
 use Rattle.std.proofs.lemmas.Slice.Eq.{bytes_eq-Decides}
 use Rattle.std.proofs.lemmas.Bool.{cases_lt, lt-ltb, le-ltb, le-leb, leb-true, lt-leb}
 use Rattle.std.proofs.lemmas.List.{take_at, drop_at, take_all, drop_all}
+use Rattle.std.proofs.Math.Bool.{or-false}
 use Rattle.byteorder.specs.Endian.{big_number}
 use Rattle.exif_types.specs.Refusals.{Refusal, ◌>>=◌, Front}
 use Rattle.exif_isobmff.specs.declared.kind.Kind.{Kind}
@@ -289,10 +290,6 @@ end-read no_meta seen h = file_done seen [] refl
 meta-from_false : (file : List ℕ) → meta_body file ≡ meta_from false (file_boxes file)
 unfolding meta_body
 meta-from_false file = refl
-
-or-false : (a : Bool) → (a || false) ≡ a
-or-false true = refl
-or-false false = refl
 
 -- the `meta` is found as the tree of the file says
 pub meta_is_found : (t : FrontTree) → MetaIsFound t

@@ -106,9 +106,6 @@ pub record Times {A X : Type 0} (print : X → List ℕ) (val : X → A) (P : X 
   pub vals : map val trees ≡ ys
   pub whole : flat_map print trees ++ rest ≡ text
 
-abbrev fst : {A B : Type 0} → A × B → A
-fst x = x.0
-
 -- values that are read have trees
 pub times-only : {A X : Type 0} (value : List ℕ → Front A) (print : X → List ℕ) (val : X → A) (P : X → Type 0)
     → ((text : List ℕ) (a : A × List ℕ) → value text ≡ Ok a → (x : X) × P x × (val x ≡ a.0) × (print x ++ a.1 ≡ text))

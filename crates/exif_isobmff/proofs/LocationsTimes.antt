@@ -56,10 +56,6 @@ whole : {A : Type 0} (read : Front (List A)) → with_front [] read ≡ read
 whole (Ok x) = refl
 whole (Err r) = refl
 
--- with nothing read before, these are the values
-pub times_first : {A : Type 0} (value : List ℕ → Front A) (n : ℕ) (text : List ℕ) → times_more value [] n text ≡ times n value text
-times_first value n text = whole (times n value text)
-
 -- ---- the last of what they give
 
 abbrev put_first : {A : Type 0} → A → Front (List A) → Front (List A)

@@ -1,7 +1,7 @@
 -- A refusal inside a definition is a refusal of the definition.
-use Rattle.std.proofs.Common.{◌≡◌, false, refl, Option, None, Some, Result, Err, MatchOption, ap, ◌∙◌}
+use Rattle.std.proofs.Common.{◌≡◌, Option, None, Some, Result, Err, MatchOption, ap, ◌∙◌}
 use Rattle.exif_types.specs.Failures.{Failure}
-use Rattle.exif_types.specs.Refusals.{Refusal, refusal_of, is_io_error, IsInterrupted, Refuses, Fails}
+use Rattle.exif_types.specs.Refusals.{Refusal, refusal_of, IsInterrupted, Refuses, Fails}
 use Rattle.exif_types.specs.declared.error.Error.TheVariants as error
 
 -- a definition hands a refusal of its part on
@@ -37,23 +37,3 @@ refusal_with None I part h = absurd h
 -- a refusal is a failure
 pub refusal_fails : {A : Type 0} (e : Failure) (part : Result A Refusal) → Refuses e part → Fails e part
 refusal_fails e part h = refusal_with (refusal_of e) (IsInterrupted e) part h
-
--- a refusal is no device's error
-refusal_told : (e : Failure) → MatchOption (refusal_of e) ⊥ (λ r. Unit {0}) → is_io_error e ≡ false
-refusal_told (error.Io cause) h = absurd h
-refusal_told (error.InvalidFormat text) h = refl
-refusal_told (error.NotFound text) h = refl
-refusal_told (error.BlankValue text) h = refl
-refusal_told (error.TooBig text) h = refl
-refusal_told (error.NotSupported text) h = refl
-refusal_told (error.UnexpectedValue text) h = refl
-refusal_told (error.PartialResult partial) h = refl
-refusal_told error.OutOfMemory h = refl
-
--- a refusal is no device's error
-pub refusal_no_io : {A : Type 0} (e : Failure) (part : Result A Refusal) → Refuses e part → is_io_error e ≡ false
-refusal_no_io e part h = refusal_told e (told (refusal_of e) h)
-  where
-    told : (o : Option Refusal) → MatchOption o ⊥ (λ r. part ≡ Err r) → MatchOption o ⊥ (λ r. Unit {0})
-    told None h = h
-    told (Some r) h = tt

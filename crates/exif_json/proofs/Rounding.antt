@@ -1,6 +1,7 @@
 -- A quotient in steps whose products stay small.
 use Rattle.std.proofs.Common.{◌≡◌, ℕ, ◌+◌, ◌*◌, ◌/◌, ◌%◌, ◌^◌, ◌<◌, ◌≤◌, sym, ap, ◌∙◌, arith}
 use Rattle.std.proofs.Math.Nat.{add-mul-div_left, div-add-mod, div-lt_iff_lt-mul, mod-lt}
+use Rattle.std.proofs.lemmas.Nat.{div_below}
 
 -- twice a number, and a product with a sum
 spread : (u q f : ℕ) → 2 * u * (q * 10000000 + f * 10000) ≡ 20000000 * (u * q) + 20000 * (u * f)
@@ -18,17 +19,13 @@ units_by_parts o u some =
     let shape : 2 * (o * 10 ^ 7) + u ≡ t * 20000 + u + 2 * u * (q * 10000000 + f * 10000) = omega (arith, spread u q f, whole, part) in
     sym (ap (λ n. n / (2 * u)) shape ∙ (add-mul-div_left (t * 20000 + u) (q * 10000000 + f * 10000) (omega arith) ∙ omega arith))
 
--- a quotient is below what the divisor times it is above
-quotient_below : (x k y : ℕ) → 0 < k → x < y * k → x / k < y
-quotient_below x k y some less = (div-lt_iff_lt-mul some).1 less
-
 -- the parts are small
 pub units_small : (o u : ℕ) → 0 < u → o ≤ 255 * u
     → o / u * 10000000 + o % u * 1000 / u * 10000 + (o % u * 1000 % u * 20000 + u) / (2 * u) ≤ 4000000000
 units_small o u some within =
-    let q = quotient_below o u 256 some (omega arith) in
+    let q = div_below o u 256 some (omega arith) in
     let r : o % u < u = mod-lt o some in
     let t : o % u * 1000 % u < u = mod-lt (o % u * 1000) some in
-    let f = quotient_below (o % u * 1000) u 1000 some (omega arith) in
-    let l = quotient_below (o % u * 1000 % u * 20000 + u) (2 * u) 10001 (omega arith) (omega arith) in
+    let f = div_below (o % u * 1000) u 1000 some (omega arith) in
+    let l = div_below (o % u * 1000 % u * 20000 + u) (2 * u) 10001 (omega arith) (omega arith) in
     omega arith

@@ -37,13 +37,6 @@ run_stop xs ys p q fault all e w = sym w ∙ (run-append xs ys p ∙ ap (λ x. a
 pub spaced_step : (n i p unit : ℕ) → i < n → spaced p unit (n - i) ≡ p ∷ spaced (p + unit) unit (n - (i + 1))
 spaced_step n i p unit h = let e : n - i ≡ suc (n - (i + 1)) = omega arith in rw e refl
 
--- a directory has at least one level
-pub depth_pos : (c : Context) → 0 < depth_of c
-depth_pos Tiff = omega arith
-depth_pos Exif = omega arith
-depth_pos Gps = omega arith
-depth_pos Interop = omega arith
-
 -- a directory is opened, and then its nodes are those of its entries
 pub directory_unfold : (number : Reading) (bytes : List ℕ) (k : ℕ) (c : Context) (p : ℕ) → opened c p (flat_map (entry_nodes (directory_nodes (depth_of c - 1) number bytes k) number bytes c k p) (entry_places number bytes p)) ≡ directory_nodes (depth_of c) number bytes k c p
 directory_unfold number bytes k Tiff p = refl

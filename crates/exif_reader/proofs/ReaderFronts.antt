@@ -7,7 +7,7 @@ use Rattle.std.proofs.lemmas.Slice.Eq.{bytes_eq-Decides}
 use Rattle.std.specs.Prelude.{IfSome, codes, ◌||◌}
 use Rattle.std.specs.Str.{bytes_eq}
 use Rattle.std.specs.Borrow.{Bor}
-use Rattle.std.specs.Io.KnownBytes.{Consumes, IsAtEnd, prepend_known}
+use Rattle.std.specs.Io.KnownBytes.{Consumes, prepend_known}
 use Rattle.exif_base.specs.Orders.{order_named}
 use Rattle.exif_base.specs.Told.{TakesAll}
 use Rattle.exif_types.specs.Contents.{ExifContents}
@@ -25,21 +25,6 @@ use Rattle.exif_reader.specs.Files.{AnswersOwnData, ReadsByNeed, ReadsContainer}
 use Rattle.exif_reader.specs.Readings.{HoldsData, HoldsFront, ReadsAs, ReadsHeld}
 
 -- ---- told bytes
-
--- what holds of a front and all that follows it
-pub told_front : (old new : Option (List ℕ)) (front : List ℕ) (P : List ℕ → Type 0)
-    → Consumes old new front → IfSome new (λ rest. P (front ++ rest)) → IfSome old P
-told_front None new front P h k = tt
-told_front (Some xs) None front P h k = absurd h
-told_front (Some xs) (Some ys) front P h k = subst P (sym h) k
-
--- and of a front that nothing follows
-pub told_all : (old new : Option (List ℕ)) (front : List ℕ) (P : List ℕ → Type 0)
-    → Consumes old new front → IsAtEnd new → P front → IfSome old P
-told_all None new front P h e k = tt
-told_all (Some xs) None front P h e k = absurd h
-told_all (Some xs) (Some ys) front P h e k =
-    subst P (sym (h ∙ (ap (λ t. front ++ t) e ∙ append-nil front))) k
 
 -- what holds of a list and all that was put at its end
 pub told_rest : (left : Option (List ℕ)) (old new : List ℕ) (P : List ℕ → Type 0)

@@ -1,12 +1,11 @@
 -- What a reading says of data, it says of the data that it hands on.
-use Rattle.std.proofs.Common.{◌≡◌, inl, inr, ℕ, List, Option, Some, None, IfSome, Result, Ok, Err, sym, subst}
+use Rattle.std.proofs.Common.{◌≡◌, inr, ℕ, List, Option, Some, None, IfSome, Result, Ok, Err, sym, subst}
 use Rattle.exif_types.specs.Contents.{ExifContents}
 use Rattle.exif_types.specs.Failures.{Failure}
 use Rattle.exif_types.specs.Refusals.{Refusal, IsInterrupted}
 use Rattle.exif_types.specs.declared.error.Error.TheVariants as error
 use Rattle.exif_tiff.specs.Answers.{Answer}
-use Rattle.exif_containers.specs.Answer.{IsNamed}
-use Rattle.exif_containers.specs.Container.{container_answer, container_refusals}
+use Rattle.exif_containers.specs.Container.{container_answer}
 use Rattle.exif_reader.specs.Files.{AnswersOwnData, ReadsContainer}
 use Rattle.exif_reader.specs.Readings.{HoldsData, ReadsAs, ReadsHeld}
 
@@ -24,18 +23,6 @@ answers_own_data answer bytes (Err (error.BlankValue text)) h = inr (bytes, h)
 answers_own_data answer bytes (Err (error.TooBig text)) h = inr (bytes, h)
 answers_own_data answer bytes (Err (error.NotSupported text)) h = inr (bytes, h)
 answers_own_data answer bytes (Err (error.UnexpectedValue text)) h = inr (bytes, h)
-
--- an error of a container is one of its refusals, or an interruption
-pub answers_container : (answer : List ℕ → Answer) (e : Failure) → IsNamed container_refusals e → AnswersOwnData answer (Err e)
-answers_container answer (error.PartialResult partial) h = absurd h
-answers_container answer error.OutOfMemory h = tt
-answers_container answer (error.Io cause) h = tt
-answers_container answer (error.InvalidFormat text) h = inl h
-answers_container answer (error.NotFound text) h = inl h
-answers_container answer (error.BlankValue text) h = inl h
-answers_container answer (error.TooBig text) h = inl h
-answers_container answer (error.NotSupported text) h = inl h
-answers_container answer (error.UnexpectedValue text) h = inl h
 
 interrupted : (answer : Answer) (bytes : List ℕ) (result : Result ExifContents Failure) → ReadsAs answer bytes result
     → ReadsHeld HoldsData IsInterrupted answer bytes result

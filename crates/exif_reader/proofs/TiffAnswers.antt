@@ -5,7 +5,7 @@ use Rattle.exif_base.specs.Bytes.{Reading, number_at}
 use Rattle.exif_base.specs.declared.endian.Order.{Order}
 use Rattle.exif_tiff.specs.declared.fault.Fault.{Fault}
 use Rattle.exif_tiff.specs.Trace.{content_of, limited, cut, header, ordered_trace, trace, chain_nodes}
-use Rattle.exif_tiff.specs.Answers.{Answer, Refused, answer_of, raw_answer}
+use Rattle.exif_tiff.specs.Answers.{Answer, answer_of, raw_answer}
 use Rattle.exif_reader.specs.Noted.{Noted}
 use Rattle.exif_reader.specs.Running.{Progress, on_met, run, outcome}
 use Rattle.exif_reader.specs.Results.{Says}
@@ -23,11 +23,6 @@ raw_right lenient limit bytes order e = rw (e, raw_answer) refl
 pub trace_right : (bytes : List ℕ) (order : Order) → header bytes ≡ Ok order → trace bytes ≡ ordered_trace (number_of order) bytes
 unfolding trace
 trace_right bytes order e = rw (e, trace) refl
-
--- a wrong one is refused
-pub raw_wrong : (lenient : Bool) (limit : Option ℕ) (bytes : List ℕ) (fault : Fault) → header bytes ≡ Err fault → raw_answer lenient limit bytes ≡ Refused fault
-unfolding raw_answer
-raw_wrong lenient limit bytes fault e = rw (e, raw_answer) refl
 
 -- what running the chain comes to is the answer
 pub answered : (number : Reading) (bytes : List ℕ) (lenient : Bool) (most : ℕ) (places : Noted) (start : Progress) (x : Progress × Option Fault) → start ≡ at_work lenient most [] [] places → run (chain_nodes 8 number bytes 0 (number_at number 4 bytes 4)) start ≡ x → answer_of lenient (content_of (cut most (ordered_trace number bytes))) ≡ outcome x

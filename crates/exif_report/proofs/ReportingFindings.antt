@@ -1,7 +1,7 @@
 -- What a reading answers is what a report needs.
 use Rattle.std.proofs.Common.{◌≡◌, ◌⊎◌, inl, inr, ℕ, List, [], ◌∷◌, ◌++◌, length, map, Option, Some, None, Result, Ok, Err, MatchOption, refl, sym, ◌∙◌, ap, subst}
 use Rattle.std.proofs.lemmas.List.{append-nil, length-map}
-use Rattle.std.specs.Prelude.{Vec, OnErr, IfSome}
+use Rattle.std.specs.Prelude.{Vec, IfSome}
 use Rattle.std.specs.Borrow.{Bor}
 use Rattle.std.specs.Global.{Global}
 use Rattle.std.specs.List.{flat_map, Contains}
@@ -22,20 +22,6 @@ use Rattle.exif_report.specs.Reports.{Finds, FindsOwn, Holds, HoldsAnswer, Repor
 use Rattle.exif_base.proofs.Sent.{keeps_same, front_none}
 
 -- ---- what was read of a container
-
--- all the fields
-pub finds_whole : (answer : List ℕ → Answer) (container : Result (List ℕ) Refusal) (exif : ExifContents) (errors : List Failure) → errors ≡ []
-    → ReadsByNeed answer container (Ok exif) → HoldsAnswer (given_by answer container) exif errors
-finds_whole answer (Ok bytes) exif errors none h = rw (h.0) (refl, none)
-finds_whole answer (Err r) exif errors none h = h
-
--- the fields and the faults of a partial result
-pub finds_partial : (answer : List ℕ → Answer) (container : Result (List ℕ) Refusal) (partial : PartialContents (Bor (List ℕ))) (exif : ExifContents) (errors : List Failure)
-    → ReadsByNeed answer container (Err (error.PartialResult partial)) → exif ≡ partial.exif → map told_text errors ≡ partial.faults
-    → HoldsAnswer (given_by answer container) exif errors
-finds_partial answer (Ok bytes) partial exif errors h same told =
-    rw (h.1) (ap (λ (e : ExifContents). e.fields) same, ap (map bytes_of) told ∙ h.2)
-finds_partial answer (Err r) partial exif errors h same told = h
 
 -- an error
 abbrev pub RefusedBy : (List ℕ → Answer) → Result (List ℕ) Refusal → Refusal → Type 0
@@ -153,17 +139,6 @@ reports_none (Some bytes) old answer e h = read_none (answer bytes) old e h
 
 -- ---- where the source tells no bytes
 
--- all the fields are those of their own data
-pub own_whole : (answer : List ℕ → Answer) (exif : ExifContents) (errors : List Failure) → errors ≡ [] → AnswersOwnData answer (Ok exif) → Holds (answer exif.buf) exif errors
-own_whole answer exif errors none h = rw (h.0) (refl, none)
-
--- so the fields and the faults of a partial result
-pub own_partial : (answer : List ℕ → Answer) (partial : PartialContents (Bor (List ℕ))) (exif : ExifContents) (errors : List Failure)
-    → AnswersOwnData answer (Err (error.PartialResult partial)) → exif ≡ partial.exif → map told_text errors ≡ partial.faults → Holds (answer exif.buf) exif errors
-own_partial answer partial exif errors h same told =
-    let P : ExifContents → Type 0 = λ contents. Holds (answer contents.buf) contents errors in
-    subst P (sym same) (rw (h.1) (refl, ap (map bytes_of) told ∙ h.2))
-
 own_error : (answer : List ℕ → Answer) (e : Failure) → MatchOption (refusal_of e) (IsInterrupted e) (λ r. Contains container_refusals r ⊎ IsDataRefusal answer r) → FindsOwn answer (Err e)
 own_error answer e h = by_refusal e (refusal_of e) (λ r. Contains container_refusals r ⊎ IsDataRefusal answer r) (IsNamedRefusal answer e) refl (λ r is p. (r, is, p)) h
 
@@ -195,8 +170,3 @@ some_front old new answer exif errors faults e h i f front = inr (i, (exif.buf, 
 pub some_none : (old : Option (List ℕ)) (answer : List ℕ → Answer) (e : Failure) → FindsOwn answer (Err e) → ReportsSome answer (Err e) old old
 some_none old answer e (inl refused) = inl (refused, keeps_same old)
 some_none old answer e (inr interrupted) = inr (interrupted, ([], front_none old old (answer_text (answer [])) (keeps_same old)))
-
--- what holds, holds of an error
-pub on_err : {T E : Type 0} (r : Result T E) (P : Type 0) → P → OnErr r P
-on_err (Ok x) P p = tt
-on_err (Err e) P p = p

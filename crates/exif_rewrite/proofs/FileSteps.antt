@@ -1,18 +1,18 @@
 -- A file whose first bytes choose, and what each container's call says of it.
-use Rattle.std.proofs.Common.{◌≡◌, ◌⊎◌, inl, inr, ℕ, ◌<◌, ◌≤◌, ◌^◌, ◌-◌, List, [], ◌∷◌, ◌++◌, length, take, Option, None, Some, Result, IfErr, IfSome, OnOk, MatchOption, Ok, Err, refl, sym, subst, ap, ◌∙◌, arith, append-nil}
-use Rattle.std.proofs.lemmas.Bool.{cases_lt}
-use Rattle.std.proofs.lemmas.List.{take_at, take_all, length-take-le}
+use Rattle.std.proofs.Common.{◌≡◌, ℕ, ◌<◌, ◌≤◌, ◌^◌, ◌-◌, List, [], ◌∷◌, ◌++◌, length, take, Option, None, Some, Result, IfErr, IfSome, OnOk, MatchOption, Ok, Err, refl, sym, subst, ap, ◌∙◌, arith}
+use Rattle.std.proofs.lemmas.List.{length-take-le}
 use Rattle.std.proofs.lemmas.List.Elements.{Contains-append_left, Contains-append_right}
 use Rattle.std.specs.Io.KnownBytes.{Appends, Consumes, IsAtEnd, prepend_known}
-use Rattle.std.specs.List.{Contains}
 use Rattle.exif_base.proofs.Sent.{keeps_same, front_none}
 use Rattle.exif_base.specs.Sent.{SendsFront}
 use Rattle.exif_types.specs.Failures.{Failure}
-use Rattle.exif_types.specs.Refusals.{Refusal, refusal_of, IsInterrupted}
+use Rattle.exif_types.specs.Refusals.{Refusal, refusal_of}
 use Rattle.exif_containers.specs.Answer.{IsNamed}
 use Rattle.exif_containers.specs.Container.{format_in, unknown_format}
 use Rattle.exif_containers.specs.declared.container.Format.{Format}
 use Rattle.exif_containers.specs.declared.container.Format.TheVariants.{Tiff, Jpeg, Heif, WebP}
+use Rattle.exif_containers.proofs.ContainerSteps.{head-first}
+use Rattle.exif_containers.proofs.ContainerNames.{more_named}
 use Rattle.exif_rewrite_base.specs.declared.remove.Remove.{Remove}
 use Rattle.exif_rewrite_jpeg.specs.Faults.{rewriting_refusals}
 use Rattle.exif_rewrite_jpeg.specs.JpegSteps.{strictly, strict_end}
@@ -24,14 +24,6 @@ use Rattle.exif_rewrite_webp.specs.WebpPlans.{StopsFile, sent_of}
 use Rattle.exif_rewrite.specs.RewrittenFile.{at_once, file_refusals, file_rewriting, heif_stays, rewriting_as, tiff_stays}
 
 -- ---- the head
-
--- the head of a file is its first 4096 bytes, or all where there are fewer
-head-first : (head rest : List ℕ) → length head ≤ 4096 → (length head < 4096 → rest ≡ []) → take 4096 (head ++ rest) ≡ head
-head-first head rest most end = by (cases_lt (length head) 4096)
-  where
-    by : (length head < 4096) ⊎ (4096 ≤ length head) → take 4096 (head ++ rest) ≡ head
-    by (inl lt) = ap (λ t. take 4096 (head ++ t)) (end lt) ∙ ap (take 4096) (append-nil head) ∙ take_all 4096 head most
-    by (inr le) = take_at head rest 4096 (omega arith)
 
 -- what holds of what the bytes become by the head's choice holds of what the file becomes
 pub file_holds : (P : Rewriting → Type 0) (remove : Remove) (put : Option (List ℕ)) (n : ℕ) (block : List ℕ) (format : Option Format) (a b left : Option (List ℕ))
@@ -58,11 +50,6 @@ file_chosen n block format chosen (Some xs) None h bound len end f e = absurd h
 file_chosen n block format chosen (Some xs) (Some ys) h bound len end f e =
     let taken : length (take n block) ≡ n = length-take-le n block bound in
     rw (h, head-first (take n block) ys (omega arith) (λ lt. end (omega arith))) (sym f ∙ e)
-
--- an error in front of all leaves a front of nothing
-pub interrupted_file : (r : Option Refusal) (a p : Option (List ℕ)) (f : List ℕ → Rewriting) → r ≡ None → StopsBy r a p p f
-interrupted_file r None p f is = tt
-interrupted_file r (Some xs) p f is = rw is (front_none p p (f xs).out (keeps_same p), tt)
 
 -- ---- JPEG streams
 
@@ -149,15 +136,6 @@ unfolding rewriting_as
 unknown_refused format remove put xs is = rw is
 
 -- ---- all refusals are named
-
--- an error that has a name in one list has it in a longer one
-more_named : {T : Type 0} (few all : List Refusal) → ((r : Refusal) → Contains few r → Contains all r) → (result : Result T Failure) → IfErr result (IsNamed few) → IfErr result (IsNamed all)
-more_named few all f (Ok x) h = tt
-more_named few all f (Err e) h = by (refusal_of e) h
-  where
-    by : (o : Option Refusal) → MatchOption o (IsInterrupted e) (Contains few) → MatchOption o (IsInterrupted e) (Contains all)
-    by None h = h
-    by (Some r) h = f r h
 
 -- the refusals of files that are refused by their head
 by_head : List Refusal

@@ -18,6 +18,7 @@ use Rattle.exif_images.specs.Rewriting.{pushed_all}
 use Rattle.exif_images.specs.WriteFaults.{write_refusal}
 use Rattle.exif_images.specs.declared.write_fault.WriteFault.{WriteFault}
 use Rattle.exif_rewrite.specs.ScrubbedExif.{ReadsAs, image_or, scrubbed_answer}
+use Rattle.exif_containers.proofs.ContainerNames.{interrupted_none}
 
 -- nothing is wanted where no field is
 pub none_wanted : {X : Type 0} (p : X → Bool) (xs : List X) → list_any p xs ≡ false → filter p xs ≡ []
@@ -47,18 +48,6 @@ scrubbed_whole order [] groups items is made h =
 scrubbed_whole order (field ∷ fields) groups items is made h =
     let none : write_fault (pushed_all (field ∷ fields) []) ≡ None = subst (λ t. write_fault t ≡ None) is h in
     ap (λ o. image_or o (image order (pushed_all (field ∷ fields) []))) none ∙ ap (λ t. Ok (Some t)) (sym (made ∙ ap (image order) is))
-
--- an interruption is no refusal
-interrupted_none : (e : Failure) → IsInterrupted e → refusal_of e ≡ None
-interrupted_none (error.Io cause) h = refl
-interrupted_none error.OutOfMemory h = refl
-interrupted_none (error.InvalidFormat text) h = absurd h
-interrupted_none (error.NotFound text) h = absurd h
-interrupted_none (error.BlankValue text) h = absurd h
-interrupted_none (error.TooBig text) h = absurd h
-interrupted_none (error.NotSupported text) h = absurd h
-interrupted_none (error.UnexpectedValue text) h = absurd h
-interrupted_none (error.PartialResult partial) h = absurd h
 
 -- an image that was not written
 pub scrubbed_fails : (order : Order) (fields : List Field) (groups : List Group) (e : Failure)

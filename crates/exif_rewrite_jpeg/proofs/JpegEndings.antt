@@ -1,20 +1,20 @@
 -- How a JPEG stream that is written again ends, and what is said of it.
-use Rattle.std.proofs.Common.{◌≡◌, ℕ, true, List, [], ◌++◌, take, Option, None, Some, IfSome, MatchOption, refl, arith}
+use Rattle.std.proofs.Common.{◌≡◌, ℕ, true, List, [], ◌++◌, take, Option, None, Some, IfSome, refl, arith}
 use Rattle.std.specs.Io.KnownBytes.{Appends, Keeps, prepend_known}
 use Rattle.exif_base.specs.Blocks.{cut_known}
 use Rattle.exif_base.specs.Sent.{SendsFront}
 use Rattle.exif_base.proofs.Sent.{front_second, front_first, front_all, appends_more, appends_kept}
 use Rattle.exif_types.specs.Failures.{Failure}
 use Rattle.exif_types.specs.declared.error.Error.TheVariants as error
+use Rattle.exif_types.specs.Refusals.{Refusal, is_io_error, IsInterrupted}
 use Rattle.exif_containers.specs.Answer.{IsNamed}
-use Rattle.exif_types.specs.Refusals.{Refusal, refusal_of, is_io_error, IsInterrupted}
 use Rattle.exif_containers.specs.declared.jpeg.TheConstants.{LIMIT}
 use Rattle.exif_rewrite_jpeg.specs.declared.ended.Ended.{Ended}
 use Rattle.exif_rewrite_jpeg.specs.declared.ended.Ended.TheVariants as ended
 use Rattle.exif_rewrite_jpeg.specs.declared.fault.Fault.{Fault}
 use Rattle.exif_rewrite_jpeg.specs.declared.fault.Fault.TheVariants as fault
-use Rattle.exif_rewrite_jpeg.specs.Faults.{fault_refusal, IsErrorOf, rewriting_refusals}
-use Rattle.exif_rewrite_jpeg.specs.Passing.{Finishes, StopsBy, Stopped}
+use Rattle.exif_rewrite_jpeg.specs.Faults.{IsErrorOf, rewriting_refusals}
+use Rattle.exif_rewrite_jpeg.specs.Passing.{Finishes, StopsBy}
 use Rattle.exif_rewrite_jpeg.specs.Rewriting.{Rewriting, End, refused_by}
 use Rattle.exif_rewrite_jpeg.specs.JpegSteps.{IsEnded, as_it_stands, end_of, waits_in}
 use Rattle.exif_rewrite_jpeg.proofs.PassingSteps.{none_refused}
@@ -41,14 +41,6 @@ told_named fault.Length e is = rw is.0 (3, omega arith, refl)
 told_named fault.TooBig e is = rw is.0 (4, omega arith, refl)
 told_named (fault.Read cause) e is = rw is.0 (io_interrupted e is.1)
 told_named (fault.Write cause) e is = rw is.0 (io_interrupted e is.1)
-
-refused_as : (o o' : Option Refusal) (P : Refusal → Type 0) → o' ≡ o → MatchOption o (Unit {0}) P → MatchOption o' (Unit {0}) P
-refused_as o o' P e h = rw e h
-
--- a fault as the error that tells it
-pub told_stop : (f : Fault) (e : Failure) (a p q : Option (List ℕ)) (r : List ℕ → Rewriting) → IsErrorOf f e → Stopped f a p q r → StopsBy (refusal_of e) a p q r
-told_stop f e None p q r is h = tt
-told_stop f e (Some x) p q r is h = (h.0, refused_as (fault_refusal f) (refusal_of e) (λ d. (r x).end ≡ refused_by d) is.0 h.1)
 
 -- ---- as far as it stands
 

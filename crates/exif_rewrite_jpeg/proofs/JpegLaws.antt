@@ -4,6 +4,7 @@ use Rattle.std.specs.List.{All}
 use Rattle.std.proofs.lemmas.Bool.{eqb-true}
 use Rattle.std.proofs.lemmas.Bool.Decides.{nat_tests}
 use Rattle.std.proofs.lemmas.List.Elements.{All-nil}
+use Rattle.std.proofs.Math.Bool.{or-false}
 use Rattle.exif_types.specs.Refusals.{Refusal}
 use Rattle.exif_containers.specs.Jpeg.{JpegUnit, not_jpeg, invalid_length, first_unit}
 use Rattle.exif_containers.specs.JpegGrammar.{exif, exif_id, UnitTree, print_brought, print_unit, IsUnit}
@@ -45,11 +46,6 @@ text_of u = unit_text (u.fill + 1) u.code (print_brought u.brought)
 -- the text of a unit is what is printed of it without what is passed over before it
 pub text_bare : (u : UnitTree) → text_of u ≡ print_unit (bare u)
 text_bare u = ap (λ n. unit_text n u.code (print_brought u.brought)) (add-one u.fill)
-
--- a truth value joined by or with false stays as it is
-pub or_false : (d : Bool) → (d || false) ≡ d
-or_false true = refl
-or_false false = refl
 
 -- ---- the new segment is a unit that is left out
 
@@ -97,7 +93,7 @@ new_again remove d payload ys h =
     ∙ ap (λ b. after (exif_segment payload) (form (cond b (Some invalid_length) None) false (stays remove d 225 (exif_id ++ payload)) (text_of (segment_tree payload)) (behind remove ys) (rewriting remove [] (d || false) ys)))
     (large (256 * high payload + low payload) (omega (arith, size_is payload h)))
     ∙ ap (λ b. after (exif_segment payload) (after (cond b (text_of (segment_tree payload)) []) (rewriting remove [] (d || false) ys))) (left_out remove d payload)
-    ∙ ap (λ b. after (exif_segment payload) (rewriting remove [] b ys)) (or_false d)
+    ∙ ap (λ b. after (exif_segment payload) (rewriting remove [] b ys)) (or-false d)
 
 -- what may stand in for the new segment
 abbrev pub New : List ℕ → Type 0
@@ -127,7 +123,7 @@ scan_stays remove d code content e = by (eqb code 218) refl
     stay Metadata = refl
 
     by : (t : Bool) → eqb code 218 ≡ t → (d || t) ≡ d
-    by false is = or_false d
+    by false is = or-false d
     by true is =
         let k : true ≡ false = sym (stay remove) ∙ ap (λ c. stays remove d c content) (sym (eqb-true code 218 is)) ∙ e in absurd (cc)
 

@@ -1,8 +1,7 @@
 -- The steps of a JPEG stream that is written again.
-use Rattle.std.proofs.Common.{◌≡◌, ◌≢◌, ℕ, zero, suc, ◌+◌, ◌-◌, ◌*◌, ◌<◌, ◌≤◌, max, Bool, true, false, cond, eqb, List, [], ◌∷◌, ◌++◌, length, take, drop, replicate, Option, None, Some, IfSome, MatchOption, Err, not, ◌&&◌, ◌||◌, ap, sym, ◌∙◌, refl, arith, add-one, append_assoc, append-nil}
+use Rattle.std.proofs.Common.{◌≡◌, ◌≢◌, ℕ, zero, suc, ◌+◌, ◌-◌, ◌*◌, ◌<◌, ◌≤◌, max, Bool, true, false, cond, eqb, List, [], ◌∷◌, ◌++◌, length, take, drop, replicate, Option, None, Some, IfSome, Err, not, ◌&&◌, ◌||◌, ap, sym, ◌∙◌, refl, arith, add-one, append_assoc, append-nil}
 use Rattle.std.specs.List.{All}
 use Rattle.std.proofs.lemmas.Bool.{ne_eqb}
-use Rattle.std.proofs.lemmas.Bool.Decides.{nat_tests}
 use Rattle.std.proofs.lemmas.List.{take-append-drop, length-take-le, drop_at}
 use Rattle.std.proofs.lemmas.Slice.{take-put_mid}
 use borrow.Rule.Slice.PartMut.{put_mid}
@@ -10,19 +9,19 @@ use Rattle.std.specs.Cmp.Lexicographic.{pointwise}
 use Rattle.std.proofs.Math.Bool.{and-true}
 use Rattle.std.specs.Io.KnownBytes.{Appends, Consumes}
 use Rattle.exif_base.specs.Sent.{SendsFront}
-use Rattle.exif_base.specs.Told.{HasFewer}
-use Rattle.exif_base.proofs.Sent.{front_second, front_first, appends_more, front_none, keeps_same}
-use Rattle.exif_types.specs.Refusals.{Refusal}
-use Rattle.exif_containers.specs.Jpeg.{JpegUnit, not_jpeg, broken_jpeg, two_bytes, from_mark, after_marks, stands_alone, unit_with_body, unit_from_code, first_unit}
+use Rattle.exif_base.proofs.Sent.{front_second, front_first}
+use Rattle.exif_base.proofs.ReadSteps.{consumes_append}
+use Rattle.exif_containers.specs.Jpeg.{JpegUnit, not_jpeg, two_bytes, from_mark, after_marks, stands_alone, unit_from_code, first_unit}
 use Rattle.exif_containers.proofs.LimitedMoves.{from_mark-others}
-use Rattle.exif_containers.proofs.JpegUnits.{unit-alone, unit-segment, rest-first_unit}
+use Rattle.exif_containers.proofs.JpegUnits.{unit-segment, rest-first_unit}
 use Rattle.exif_containers.proofs.LawsJpeg.{after_marks-fill}
+use Rattle.exif_containers.proofs.JpegMoves.{choose_yes, choose_no}
 use Rattle.exif_rewrite_base.specs.declared.remove.Remove.{Remove}
 use Rattle.exif_rewrite_jpeg.specs.declared.fault.Stop.{Stop}
 use Rattle.exif_rewrite_jpeg.specs.declared.fault.Stop.TheVariants as stop
 use Rattle.exif_rewrite_jpeg.specs.declared.fault.Fault.{Fault}
 use Rattle.exif_rewrite_jpeg.specs.declared.fault.Fault.TheVariants as fault
-use Rattle.exif_rewrite_jpeg.specs.Faults.{OnEnd, fault_refusal, fault_of}
+use Rattle.exif_rewrite_jpeg.specs.Faults.{OnEnd, fault_refusal}
 use Rattle.exif_rewrite_jpeg.specs.Passing.{Passes, Finishes, Stopped, ToMark}
 use Rattle.exif_rewrite_jpeg.specs.Rewriting.{Rewriting, finished, cut_off, refused_by, after, ends, unless_refused, Follows}
 use Rattle.exif_rewrite_base.specs.Removing.{behind}
@@ -223,20 +222,9 @@ unit_goes_on a b c f p q r s remove new left d k d' fill code body e e' is h ne 
 
 -- ---- what of a unit is sent
 
-refusal_ends : (o : Option Refusal) (r : Rewriting) → MatchOption o (Unit {0}) (λ d. (unless_refused o r).end ≡ refused_by d)
-refusal_ends None r = tt
-refusal_ends (Some d) r = refl
-
 abbrev unit_sent : Remove → List ℕ → Bool → ℕ → ℕ → List ℕ → List ℕ → Rewriting
 unit_sent remove new d n code body rest =
     cond (eqb code 217) (ends finished (unit_text n code body ++ behind remove rest)) (after (kept remove d n code body) (rewriting remove (still code new) (d || eqb code 218) rest))
-
--- a fault that says a unit's refusal stops its rewriting with nothing sent
-pub check_stopped : (e : Fault) (a p : Option (List ℕ)) (remove : Remove) (new : List ℕ) (d : Bool) (n code : ℕ) (body : List ℕ) → fault_refusal e ≡ unit_refusal code body
-    → Stopped e a p p (unit_rewriting remove new d n code body)
-check_stopped e None p remove new d n code body is = tt
-check_stopped e (Some x) p remove new d n code body is =
-    (front_none p p (unit_rewriting remove new d n code body x).out (keeps_same p), rw is (refusal_ends (unit_refusal code body) (unit_sent remove new d n code body x)))
 
 unit_is_sent : (remove : Remove) (new : List ℕ) (d : Bool) (n code : ℕ) (body rest : List ℕ) → unit_refusal code body ≡ None → code ≢ 217
     → unit_rewriting remove new d n code body rest ≡ after (kept remove d n code body) (rewriting remove (still code new) (d || eqb code 218) rest)
@@ -249,12 +237,6 @@ pub kept_stopped : (e : Fault) (a p q : Option (List ℕ)) (remove : Remove) (ne
     → SendsFront p q (kept remove d n code body) → Stopped e a p q (unit_rewriting remove new d n code body)
 kept_stopped e a p q remove new d n code body is none ne =
     stopped_front (fault_refusal e) a p q (kept remove d n code body) (unit_rewriting remove new d n code body) (rewriting remove (still code new) (d || eqb code 218)) is (λ x. unit_is_sent remove new d n code body x none ne)
-
--- once what is kept of a unit was sent, the bytes behind it follow in the next stage
-pub kept_follows : (a p q : Option (List ℕ)) (remove : Remove) (new : List ℕ) (d : Bool) (n code : ℕ) (body : List ℕ) → unit_refusal code body ≡ None → code ≢ 217
-    → Appends p q (kept remove d n code body) → Passes a a p q (Follows (unit_rewriting remove new d n code body) (rewriting remove (still code new) (d || eqb code 218)))
-kept_follows a p q remove new d n code body none ne =
-    follows_sent a p q (kept remove d n code body) (unit_rewriting remove new d n code body) (rewriting remove (still code new) (d || eqb code 218)) (λ x. unit_is_sent remove new d n code body x none ne)
 
 -- ---- the end of the image
 
@@ -274,20 +256,6 @@ tail_stopped e (Some x) p q r remove new d n code body is none all h k =
       none_refused (fault_refusal e) (λ t. finished ≡ refused_by t) none,
     )
 
--- where bytes behind the image stay, its end and all of them are all that is sent
-pub tail_finishes : (a p q r : Option (List ℕ)) (remove : Remove) (new : List ℕ) (d : Bool) (n code : ℕ) (body : List ℕ) → code ≡ 217 → ((xs : List ℕ) → behind remove xs ≡ xs)
-    → Appends p q (unit_text n code body) → IfSome a (Appends q r) → Finishes finished a p r (unit_rewriting remove new d n code body)
-tail_finishes None p q r remove new d n code body is all h k = tt
-tail_finishes (Some x) p q r remove new d n code body is all h k =
-    rw is (refl, rw (all x) (appends_more p q r (unit_text n 217 body) x (rw is at h) k))
-
--- where nothing behind the image stays, its end alone is all that is sent
-pub bare_finishes : (a p q : Option (List ℕ)) (remove : Remove) (new : List ℕ) (d : Bool) (n code : ℕ) (body : List ℕ) → code ≡ 217 → ((xs : List ℕ) → behind remove xs ≡ [])
-    → Appends p q (unit_text n code body) → Finishes finished a p q (unit_rewriting remove new d n code body)
-bare_finishes None p q remove new d n code body is none h = tt
-bare_finishes (Some x) p q remove new d n code body is none h =
-    rw is (refl, rw (none x) (rw (append-nil (unit_text n 217 body)) (rw is at h)))
-
 -- ---- the body of a unit
 
 -- a part that was put into the room stands between its place and its end
@@ -305,10 +273,6 @@ two_same (a ∷ b ∷ xs) (c ∷ f ∷ ys) h e =
     let l : a ≡ c = cc in
     let m : b ≡ f = cc in
     ap (λ t. 256 * t + b) l ∙ ap (λ t. 256 * c + t) m
-
--- a code that stands alone brings an empty body
-pub alone_brings : (code : ℕ) → stands_alone code ≡ true → Brings code []
-alone_brings code e rest = unit-alone code rest e
 
 body_brings : (code : ℕ) (body : List ℕ) → stands_alone code ≡ false → length body ≡ max 2 (two_bytes body) → Brings code body
 body_brings code [] e h = absurd (omega arith)
@@ -334,48 +298,11 @@ room_brings code len room room' e most same front small is =
     take_two (a ∷ []) (suc (suc n)) h = refl
     take_two (a ∷ b ∷ xs) (suc (suc n)) h = refl
 
-with_body_short : (code len : ℕ) (ys : List ℕ) → length ys < len → unit_with_body code ys len ≡ None
-with_body_short code len ys h = grind (arith, nat_tests)
-
-fewer_none : (code : ℕ) (xs : List ℕ) → stands_alone code ≡ false → length xs < max 2 (two_bytes xs) → unit_from_code (code ∷ xs) ≡ None
-fewer_none code xs e h = ap (unit_with_body code xs) (ap (λ t. cond t 0 (max 2 (two_bytes xs))) e) ∙ with_body_short code (max 2 (two_bytes xs)) xs h
-
--- where bytes end before the two of a length, there is no whole unit
-pub size_missing : (s : Stop) (a : Option (List ℕ)) (code : ℕ) → stands_alone code ≡ false → OnEnd {T = Unit {0}} (Err s) (HasFewer a 2) → OnEnd {T = ℕ} (Err s) (IfSome a (λ xs. unit_from_code (code ∷ xs) ≡ None))
-size_missing s a code e = on_end (Unit {0}) ℕ s (HasFewer a 2) _ (go a)
-  where
-    go : (a : Option (List ℕ)) → HasFewer a 2 → IfSome a (λ xs. unit_from_code (code ∷ xs) ≡ None)
-    go None h = tt
-    go (Some x) h = fewer_none code x e (omega arith)
-
--- where bytes end before the length that a unit's first two spell, it is not whole
-pub content_missing : (s : Stop) (a b : Option (List ℕ)) (code len : ℕ) (room : List ℕ) → stands_alone code ≡ false → 2 ≤ length room → len ≡ max 2 (two_bytes room) → Consumes a b (take 2 room)
-    → OnEnd {T = Unit {0}} (Err s) (HasFewer b (len - 2)) → OnEnd {T = ℕ} (Err s) (IfSome a (λ xs. unit_from_code (code ∷ xs) ≡ None))
-content_missing s a b code len room e two is h = on_end (Unit {0}) ℕ s (HasFewer b (len - 2)) _ (go a b h)
-  where
-    begun : (room y : List ℕ) → 2 ≤ length room → (two_bytes (take 2 room ++ y) ≡ two_bytes room) × (length (take 2 room ++ y) ≡ 2 + length y)
-    begun [] y h = absurd (omega arith)
-    begun (i ∷ []) y h = absurd (omega arith)
-    begun (i ∷ j ∷ room) y h = (refl, omega arith)
-
-    go : (a b : Option (List ℕ)) → Consumes a b (take 2 room) → HasFewer b (len - 2) → IfSome a (λ xs. unit_from_code (code ∷ xs) ≡ None)
-    go None b h k = tt
-    go (Some x) None h k = absurd h
-    go (Some x) (Some y) h k =
-        let w = begun room y two in
-        ap (λ t. unit_from_code (code ∷ t)) h ∙ fewer_none code (take 2 room ++ y) e (omega (arith, w.0, w.1, k, is))
-
-consumes_more : (a b c : Option (List ℕ)) (xs ys : List ℕ) → Consumes a b xs → Consumes b c ys → Consumes a c (xs ++ ys)
-consumes_more None b c xs ys h k = tt
-consumes_more (Some x) None c xs ys h k = absurd h
-consumes_more (Some x) (Some y) None xs ys h k = absurd k
-consumes_more (Some x) (Some y) (Some z) xs ys h k = h ∙ ap (λ t. xs ++ t) k ∙ sym (append_assoc xs ys z)
-
 -- where the two bytes of a length were taken and then the content, the whole body was
 pub body_taken : (a b c : Option (List ℕ)) (len : ℕ) (room room' : List ℕ) → 2 ≤ len → take 2 room' ≡ take 2 room → Consumes a b (take 2 room) → Consumes b c (drop 2 (take len room')) → Consumes a c (take len room')
 body_taken a b c len room room' two front h k =
     let begins : take 2 (take len room') ≡ take 2 room = take_two room' len two ∙ front in
-    rw (sym (take-append-drop 2 (take len room')) ∙ ap (λ t. t ++ drop 2 (take len room')) begins) (consumes_more a b c (take 2 room) (drop 2 (take len room')) h k)
+    rw (sym (take-append-drop 2 (take len room')) ∙ ap (λ t. t ++ drop 2 (take len room')) begins) (consumes_append a b c (take 2 room) (drop 2 (take len room')) h k)
   where
     take_two : (xs : List ℕ) (n : ℕ) → 2 ≤ n → take 2 (take n xs) ≡ take 2 xs
     take_two xs zero h = absurd (omega arith)
@@ -385,14 +312,6 @@ body_taken a b c len room room' two front h k =
     take_two (a ∷ b ∷ xs) (suc (suc n)) h = refl
 
 -- ---- ffs, a code and a body
-
--- where bytes end before a code, there is no whole unit
-pub unit_code_missing : (s : Stop) (a : Option (List ℕ)) → OnEnd {T = ℕ × ℕ} (Err s) (IfSome a (λ xs. after_marks xs ≡ [])) → OnEnd {T = ℕ} (Err s) (IfSome a (λ xs. unit_from_code (after_marks xs) ≡ None))
-unit_code_missing s a = on_end (ℕ × ℕ) ℕ s (IfSome a (λ xs. after_marks xs ≡ [])) _ (go a)
-  where
-    go : (a : Option (List ℕ)) → IfSome a (λ xs. after_marks xs ≡ []) → IfSome a (λ xs. unit_from_code (after_marks xs) ≡ None)
-    go None h = tt
-    go (Some x) h = ap unit_from_code h
 
 -- where no whole body stands behind a code, no whole unit stands from its ffs on
 pub unit_body_missing : (X : Type 0) (s : Stop) (a b : Option (List ℕ)) (fill code : ℕ) → code ≢ 255 → Consumes a b (replicate fill 255 ++ (code ∷ []))
@@ -408,7 +327,7 @@ unit_body_missing X s a b fill code ne h = on_end ℕ X s (IfSome b (λ xs. unit
 -- where ffs and a code were taken and then the body, the whole unit was
 pub unit_whole : (a b c : Option (List ℕ)) (fill code : ℕ) (body : List ℕ) → Consumes a b (replicate fill 255 ++ (code ∷ [])) → Consumes b c body → Consumes a c (replicate fill 255 ++ (code ∷ body))
 unit_whole a b c fill code body h k =
-    rw (sym (append_assoc (replicate fill 255) (code ∷ []) body)) (consumes_more a b c (replicate fill 255 ++ (code ∷ [])) body h k)
+    rw (sym (append_assoc (replicate fill 255) (code ∷ []) body)) (consumes_append a b c (replicate fill 255 ++ (code ∷ [])) body h k)
 
 -- ---- the signature
 
@@ -419,28 +338,6 @@ stream_two remove new (a ∷ []) ys e = absurd (omega arith)
 stream_two remove new (a ∷ b ∷ []) ys e =
     ap (λ t. cond (eqb a 255 && t) (after (255 ∷ 216 ∷ []) (rewriting remove new false ys)) (ends (refused_by not_jpeg) [])) (sym (and-true (eqb b 216)))
 stream_two remove new (a ∷ b ∷ c ∷ rest) ys e = absurd (omega arith)
-
-choose_yes : {A : Type 0} (b : Bool) (x y : A) → false ≡ not b → cond b x y ≡ x
-choose_yes true x y e = refl
-choose_yes false x y e = absurd (cc)
-
-choose_no : {A : Type 0} (b : Bool) (x y : A) → true ≡ not b → cond b x y ≡ y
-choose_no true x y e = absurd (cc)
-choose_no false x y e = refl
-
-stream_fewer : (remove : Remove) (new xs : List ℕ) → length xs < 2 → stream_rewriting remove new xs ≡ ends (refused_by broken_jpeg) []
-stream_fewer remove new [] h = refl
-stream_fewer remove new (a ∷ []) h = refl
-stream_fewer remove new (a ∷ b ∷ xs) h = absurd (omega arith)
-
--- where fewer than two bytes came, or the reader failed, the stream stops with nothing sent
-pub stream_short : (s : Stop) (a p : Option (List ℕ)) (remove : Remove) (new : List ℕ) → OnEnd {T = Unit {0}} (Err s) (HasFewer a 2) → Stopped (fault_of s) a p p (stream_rewriting remove new)
-stream_short stop.End a p remove new h = stopped_refused (Some broken_jpeg) broken_jpeg a p (stream_rewriting remove new) refl (go a h)
-  where
-    go : (a : Option (List ℕ)) → HasFewer a 2 → IfSome a (λ x. (stream_rewriting remove new x).end ≡ refused_by broken_jpeg)
-    go None h = tt
-    go (Some x) h = ap (λ (t : Rewriting). t.end) (stream_fewer remove new x h)
-stream_short (stop.Failed cause) a p remove new h = stopped_idle None a p (stream_rewriting remove new) refl
 
 -- a stream that does not begin ff d8 is refused with nothing sent
 pub stream_foreign : (a b p : Option (List ℕ)) (remove : Remove) (new signature : List ℕ) → length signature ≡ 2 → true ≡ not (pointwise eqb signature (255 ∷ 216 ∷ []))

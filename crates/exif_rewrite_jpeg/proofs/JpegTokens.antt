@@ -2,6 +2,7 @@
 use Rattle.std.proofs.Common.{◌≡◌, ◌≢◌, ◌⊎◌, inl, inr, ℕ, zero, suc, ◌+◌, ◌<◌, ◌≤◌, Bool, true, false, cond, eqb, ltb, ◌&&◌, ◌||◌, List, [], ◌∷◌, ◌++◌, length, map, drop, Option, None, Some, ap, sym, subst, ◌∙◌, refl, arith, append_assoc, append-nil, replicate}
 use Rattle.std.specs.List.{All, flat_map}
 use Rattle.std.proofs.lemmas.List.Concat.{flat_map-append}
+use Rattle.std.proofs.Math.Bool.{or-false}
 use Rattle.exif_types.specs.Refusals.{Refusal}
 use Rattle.exif_containers.specs.Jpeg.{JpegUnit, not_jpeg, from_mark, after_marks, unit_from_code, first_unit}
 use Rattle.exif_containers.specs.JpegGrammar.{UnitTree, print_brought, print_unit, IsUnit}
@@ -17,7 +18,7 @@ use Rattle.exif_rewrite_jpeg.specs.JpegSteps.{unit_rewriting}
 use Rattle.exif_rewrite_jpeg.specs.JpegTokens.{Token, byte, unit, token_text, tokens_first, tokens_within, tokens, trailer_first, trailer_within, trailer, image, new_tokens, unit_stays, rewritten_tokens, IsFilter, IsFiltered, AreBare, HasOnlyBare}
 use Rattle.exif_rewrite_jpeg.proofs.PassingSteps.{before_mark_others}
 use Rattle.exif_rewrite_jpeg.proofs.JpegSteps.{marks_fill}
-use Rattle.exif_rewrite_jpeg.proofs.JpegLaws.{rewriting_unit, bare, bare_unit, text_of, text_bare, Fits, segment_tree, segment_unit, form, refusal_in, stays_in, never_cut, outside_others, scan_stays, or_false, fits_where, given}
+use Rattle.exif_rewrite_jpeg.proofs.JpegLaws.{rewriting_unit, bare, bare_unit, text_of, text_bare, Fits, segment_tree, segment_unit, form, refusal_in, stays_in, never_cut, outside_others, scan_stays, fits_where, given}
 
 -- ---- the first token
 
@@ -287,7 +288,7 @@ bare_new new left d ts put l h = elim l [
   where
     whole : (new : List Token) → Put new → AreBare new d ts → AreBare new d (new ++ ts)
     whole new nothing_put h = h
-    whole new (exif_put n body) h = (inr refl, bare_scan (unit n 225 body ∷ []) (d || false) d ts (sym (or_false d)) h)
+    whole new (exif_put n body) h = (inr refl, bare_scan (unit n 225 body ∷ []) (d || false) d ts (sym (or-false d)) h)
 
 bare_kept : (new : List Token) (d k : Bool) (n code : ℕ) (body : List ℕ) (ts : List Token) → unit_stays Metadata d code body ≡ k
     → AreBare new (d || eqb code 218) ts → AreBare new d (cond k (unit n code body ∷ []) [] ++ ts)

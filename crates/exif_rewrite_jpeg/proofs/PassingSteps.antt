@@ -3,7 +3,7 @@ use Rattle.std.proofs.Common.{◌≡◌, ◌≢◌, ℕ, zero, suc, ◌+◌, ◌
 use Rattle.std.specs.List.{All}
 use Rattle.std.proofs.lemmas.Bool.{ne_eqb}
 use Rattle.std.proofs.lemmas.List.{take-append-drop, take-take, replicate-append-replicate}
-use Rattle.std.proofs.lemmas.List.Elements.{All-nil, All-append, All-tail}
+use Rattle.std.proofs.lemmas.List.Elements.{All-append, All-tail}
 use Rattle.std.specs.Io.{StartsWith}
 use Rattle.std.specs.Io.KnownBytes.{Appends, Consumes, IsAtEnd, Keeps}
 use Rattle.exif_base.specs.Sent.{SendsFront}
@@ -15,7 +15,7 @@ use Rattle.exif_rewrite_jpeg.specs.declared.fault.Stop.{Stop}
 use Rattle.exif_rewrite_jpeg.specs.declared.fault.Stop.TheVariants as stop
 use Rattle.exif_rewrite_jpeg.specs.Faults.{OnEnd}
 use Rattle.exif_rewrite_jpeg.specs.Rewriting.{Rewriting, End, refused_by, after, Follows}
-use Rattle.exif_rewrite_jpeg.specs.Passing.{Passes, Finishes, StopsBy, Goes, Others, ToMark}
+use Rattle.exif_rewrite_jpeg.specs.Passing.{Passes, Finishes, StopsBy, Others, ToMark}
 use Rattle.exif_rewrite_jpeg.specs.RewrittenJpeg.{before_mark, outside, unit_text}
 
 -- ---- two steps
@@ -46,10 +46,6 @@ passes_taken (Some x) (Some y) p taken h = ([], (h, refl), appends_none p)
 passes_sent : (a p q : Option (List ℕ)) (sent : List ℕ) → Appends p q sent → Passes a a p q (λ xs ys s. (xs ≡ ys) × (s ≡ sent))
 passes_sent None p q sent h = tt
 passes_sent (Some x) p q sent h = (sent, (refl, refl), h)
-
-passes_none : (a p : Option (List ℕ)) (P : List ℕ → List ℕ → List ℕ → Type 0) → ((x : List ℕ) → P x x []) → Passes a a p p P
-passes_none None p P f = tt
-passes_none (Some x) p P f = ([], f x, appends_none p)
 
 -- bytes that were kept before
 keeps_passes : (a b c p q : Option (List ℕ)) (P : List ℕ → List ℕ → List ℕ → Type 0) → Keeps a b → Passes b c p q P → Passes a c p q P
@@ -93,11 +89,6 @@ finishes_then end (Some x) None p q r f g h k = absurd h
 finishes_then end (Some x) (Some y) p q r f g h k =
     (ap (λ (t : Rewriting). t.end) h.1 ∙ k.0, rw (ap (λ (t : Rewriting). t.out) h.1) (appends_more p q r h.0 (g y).out h.2 k.1))
 
--- a rewriting that goes on as another goes on, or finishes, as that one does
-pub goes_then : (goes : Bool) (a b c p q r : Option (List ℕ)) (f g h : List ℕ → Rewriting) → Passes a b p q (Follows f g) → Goes goes b c q r g h → Goes goes a c p r f h
-goes_then true a b c p q r f g h = follows_then a b c p q r f g h
-goes_then false a b c p q r f g h = finishes_then _ a b p q r f g
-
 -- a rewriting that goes on as another is stopped where that one is, by the same refusal
 pub stopped_then : (o : Option Refusal) (a b p q r : Option (List ℕ)) (f g : List ℕ → Rewriting) → Passes a b p q (Follows f g) → StopsBy o b q r g → StopsBy o a p r f
 stopped_then o None b p q r f g h k = tt
@@ -118,10 +109,6 @@ pub follows_taken : (a b p : Option (List ℕ)) (taken : List ℕ) (f g : List �
 follows_taken a b p taken f g i h =
     passes_weaker a b p p (λ xs ys s. (xs ≡ taken ++ ys) × (s ≡ [])) (Follows f g)
     (λ x y s k. ap f k.0 ∙ i y ∙ ap (λ t. after t (g y)) (sym k.1)) (passes_taken a b p taken h)
-
--- with nothing taken and nothing sent, a rewriting goes on as itself
-pub follows_none : (a p : Option (List ℕ)) (f : List ℕ → Rewriting) → Passes a a p p (Follows f f)
-follows_none a p f = passes_none a p (Follows f f) (λ x. refl)
 
 -- a front of what a rewriting begins with was sent, and a device failed
 pub stopped_front : (o : Option Refusal) (a p q : Option (List ℕ)) (front : List ℕ) (f g : List ℕ → Rewriting) → o ≡ None
@@ -184,10 +171,6 @@ run_to_mark None b p q k run taken e h s all = tt
 run_to_mark (Some x) None p q k run taken e h s all = absurd h
 run_to_mark (Some x) (Some y) p q k run taken e h s all =
     (outside k run, (run, h ∙ ap (λ t. t ++ y) e ∙ append_assoc run (255 ∷ []) y, all, refl), s)
-
--- nothing taken and nothing sent is a step over bytes that are no ff
-pub others_none : (a p : Option (List ℕ)) (k : Bool) → Passes a a p p (Others k)
-others_none a p k = passes_none a p (Others k) (λ x. ([], refl, All-nil (λ b. b ≢ 255), sym (outside_none k)))
 
 others_join : (k : Bool) (x y z s t : List ℕ) → Others k x y s → Others k y z t → Others k x z (s ++ t)
 others_join k x y z s t h i = (
@@ -291,10 +274,6 @@ no_mark fill =
 abbrev pub All_of : List ℕ → List ℕ → List ℕ → Type 0
 All_of xs ys s = xs ≡ s ++ ys
 
--- with nothing taken and nothing sent, all that was taken was sent
-pub rest_none : (a p : Option (List ℕ)) → Passes a a p p All_of
-rest_none a p = passes_none a p All_of (λ x. refl)
-
 -- after one more run that was taken and sent, all that was taken was sent
 pub rest_more : (a b c d p q r : Option (List ℕ)) (run : List ℕ) → Passes a b p q All_of → Keeps b c → Consumes c d run → Appends q r run → Passes a d p r All_of
 rest_more a b c d p q r run h e k s =
@@ -304,12 +283,6 @@ rest_more a b c d p q r run h e k s =
     sent None d k = tt
     sent (Some x) None k = absurd k
     sent (Some x) (Some y) k = (run, k, s)
-
--- where all that was taken was sent, a front of the source was sent
-pub rest_idle : (a b p q : Option (List ℕ)) → Passes a b p q All_of → IfSome a (SendsFront p q)
-rest_idle None b p q h = tt
-rest_idle (Some x) None p q h = absurd h
-rest_idle (Some x) (Some y) p q h = rw h.1 (front_second p q q h.0 y h.2 (front_none q q y (keeps_same q)))
 
 -- all that was taken was sent, and then a front of the next bytes: a front of the source
 pub rest_cut : (a b c p q r : Option (List ℕ)) (hand : List ℕ) (n : ℕ) → Passes a b p q All_of → Keeps b c → IfSome c (λ xs. StartsWith xs hand) → n ≤ length hand
@@ -323,10 +296,3 @@ rest_cut a b c p q r hand n h e k le f = by a b h (keeps_some b c (λ xs. Starts
         let same : take n y ≡ take n hand = sym (take-take n (length hand) y le) ∙ ap (take n) k in
         let whole : y ≡ take n hand ++ drop n y = sym (take-append-drop n y) ∙ ap (λ t. t ++ drop n y) same in
         rw (h.1 ∙ ap (λ t. h.0 ++ t) whole) (front_second p q r h.0 (take n hand ++ drop n y) h.2 (front_first q r (take n hand) (drop n y) f))
-
--- where all that was taken was sent, and no byte is left, all of the source was sent
-pub rest_end : (a b c p q : Option (List ℕ)) → Passes a b p q All_of → Keeps b c → IsAtEnd c → IfSome a (Appends p q)
-rest_end None b c p q h e i = tt
-rest_end (Some x) None c p q h e i = absurd h
-rest_end (Some x) (Some y) None p q h e i = absurd e
-rest_end (Some x) (Some y) (Some z) p q h e i = rw (h.1 ∙ ap (λ t. h.0 ++ t) (sym e ∙ i) ∙ append-nil h.0) h.2

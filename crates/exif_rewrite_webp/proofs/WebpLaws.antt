@@ -4,6 +4,7 @@ use Rattle.std.specs.List.{AllByRecursion}
 use Rattle.std.specs.Int.{to_le_bytes, w32}
 use Rattle.std.proofs.lemmas.Bool.Decides.{nat_tests}
 use Rattle.std.proofs.lemmas.List.{take_at, drop_at, length-take-le}
+use Rattle.std.proofs.lemmas.Bool.{le-ltb}
 use Rattle.byteorder.specs.Endian.{little_number}
 use Rattle.exif_types.specs.Refusals.{Refusal, ◌>>=◌}
 use Rattle.exif_containers.specs.Webp.{broken_webp, invalid_file_size, overflowing, padded}
@@ -16,9 +17,6 @@ use Rattle.exif_rewrite_webp.specs.WebpLaws.{FileIsFiltered, IsBareChunk, FileIs
 use Rattle.exif_rewrite_webp.proofs.WebpSteps.{body_step}
 
 -- ---- a chunk is read back
-
-less_no : (n m : ℕ) → m ≤ n → ltb n m ≡ false
-less_no n m h = grind (arith, nat_tests)
 
 -- a number below 2^32, spelled in four bytes, is read back from them, whatever follows
 pub spelled : (n : ℕ) (rest : List ℕ) → n < 4294967296 → little_number 4 (to_le_bytes w32 n ++ rest) ≡ n
@@ -38,9 +36,9 @@ behind_back : (name payload rest : List ℕ) (room : ℕ) → length payload + l
     → chunk_of name (length payload) room (payload ++ (pad_of (length payload) ++ rest))
     ≡ Ok (record { chunk = record { name = name; payload = payload }; rest = rest; room = room - (length payload + length (pad_of (length payload))) })
 behind_back name payload rest room h =
-    ap (λ t. cond t (Err overflowing) (cond (ltb (length bytes) (padded (length payload) room)) (Err broken_webp) (Ok (front (padded (length payload) room) (take (length payload) bytes))))) (less_no room (length payload) (omega (arith, h)))
+    ap (λ t. cond t (Err overflowing) (cond (ltb (length bytes) (padded (length payload) room)) (Err broken_webp) (Ok (front (padded (length payload) room) (take (length payload) bytes))))) (le-ltb room (length payload) (omega (arith, h)))
     ∙ ap (λ n. cond (ltb (length bytes) n) (Err broken_webp) (Ok (front n (take (length payload) bytes)))) (padded_is (length payload) room h)
-    ∙ ap (λ t. cond t (Err broken_webp) (Ok (front whole (take (length payload) bytes)))) (less_no (length bytes) whole (omega (arith, long)))
+    ∙ ap (λ t. cond t (Err broken_webp) (Ok (front whole (take (length payload) bytes)))) (le-ltb (length bytes) whole (omega (arith, long)))
     ∙ ap (λ p. Ok (front whole p)) (take_at payload (pad_of (length payload) ++ rest) (length payload) refl)
     ∙ ap (λ r. Ok (record { chunk = record { name = name; payload = payload }; rest = r; room = room - whole })) gone
   where
@@ -86,8 +84,8 @@ chunk_back c rest room four fits small = by c.name four refl
         → first_chunk room (i ∷ j ∷ k ∷ l ∷ (to_le_bytes w32 len ++ more)) ≡ Ok (record { chunk = c; rest = rest; room = room - length (chunk_text c) })
     at_name i j k l e =
         ap (λ t. cond t (Err overflowing) (cond (ltb (length (i ∷ j ∷ k ∷ l ∷ (to_le_bytes w32 len ++ more))) 8) (Err broken_webp)
-        (chunk_of (i ∷ j ∷ k ∷ l ∷ []) (little_number 4 (to_le_bytes w32 len ++ more)) (room - 8) more))) (less_no room 8 (omega (arith, fits, is_len)))
-        ∙ ap (λ t. cond t (Err broken_webp) (chunk_of (i ∷ j ∷ k ∷ l ∷ []) (little_number 4 (to_le_bytes w32 len ++ more)) (room - 8) more)) (less_no (length (i ∷ j ∷ k ∷ l ∷ (to_le_bytes w32 len ++ more))) 8 (omega arith))
+        (chunk_of (i ∷ j ∷ k ∷ l ∷ []) (little_number 4 (to_le_bytes w32 len ++ more)) (room - 8) more))) (le-ltb room 8 (omega (arith, fits, is_len)))
+        ∙ ap (λ t. cond t (Err broken_webp) (chunk_of (i ∷ j ∷ k ∷ l ∷ []) (little_number 4 (to_le_bytes w32 len ++ more)) (room - 8) more)) (le-ltb (length (i ∷ j ∷ k ∷ l ∷ (to_le_bytes w32 len ++ more))) 8 (omega arith))
         ∙ ap (λ n. chunk_of (i ∷ j ∷ k ∷ l ∷ []) n (room - 8) more) (spelled len more (omega (arith, small, is_len)))
         ∙ behind_back (i ∷ j ∷ k ∷ l ∷ []) c.payload rest (room - 8) (omega (arith, fits, is_len))
         ∙ ap (λ n. Ok (record { chunk = record { name = n; payload = c.payload }; rest = rest; room = room - 8 - (length c.payload + length (pad_of (length c.payload))) })) e
@@ -134,9 +132,9 @@ body_back (c ∷ cs) rest room named e small =
 pub file_back : (cs : List Chunk) (rest : List ℕ) (size : ℕ) → AllByRecursion HasName cs → size ≡ 4 + length (chunks_text cs) → size < 4294967296
     → file_body (file_text size cs ++ rest) ≡ Ok (record { chunks = cs; rest = rest })
 file_back cs rest size named e small =
-    ap (λ t. cond t (Err broken_webp) (room_of size_read) >>= λ room. body_of room (chunks_text cs ++ rest)) (less_no (length (file_text size cs ++ rest)) 12 (omega arith))
+    ap (λ t. cond t (Err broken_webp) (room_of size_read) >>= λ room. body_of room (chunks_text cs ++ rest)) (le-ltb (length (file_text size cs ++ rest)) 12 (omega arith))
     ∙ ap (λ n. cond (ltb n 4) (Err invalid) (Ok (n - 4)) >>= λ room. body_of room (chunks_text cs ++ rest)) (spelled size (codes "WEBP" ++ (chunks_text cs ++ rest)) small)
-    ∙ ap (λ t. cond t (Err invalid) (Ok (size - 4)) >>= λ room. body_of room (chunks_text cs ++ rest)) (less_no size 4 (omega (arith, e)))
+    ∙ ap (λ t. cond t (Err invalid) (Ok (size - 4)) >>= λ room. body_of room (chunks_text cs ++ rest)) (le-ltb size 4 (omega (arith, e)))
     ∙ body_back cs rest (size - 4) named (omega (arith, e)) (omega (arith, small))
   where
     invalid : Refusal

@@ -1,11 +1,11 @@
 -- The steps over the chunks of a WebP file.
-use Rattle.std.proofs.Common.{◌≡◌, ◌≢◌, ℕ, zero, suc, ◌+◌, ◌-◌, ◌<◌, ◌≤◌, Bool, true, false, cond, ◌||◌, eqb, ltb, List, [], ◌∷◌, ◌++◌, length, map, take, drop, get_or, Option, None, Some, IfSome, MatchOption, Result, Ok, Err, IfOk, ap, sym, ◌∙◌, refl, arith, append_assoc, append-nil, length-append, codes}
+use Rattle.std.proofs.Common.{◌≡◌, ◌≢◌, ℕ, zero, suc, ◌+◌, ◌-◌, ◌<◌, ◌≤◌, Bool, true, false, cond, eqb, ltb, List, [], ◌∷◌, ◌++◌, length, map, take, drop, get_or, Option, None, Some, IfSome, MatchOption, Result, Ok, Err, IfOk, ap, sym, ◌∙◌, refl, arith, append_assoc, append-nil, length-append, codes}
 use Rattle.std.specs.List.{flat_map, filter, Contains}
 use Rattle.std.specs.Int.{to_le_bytes, w32}
 use Rattle.std.specs.Io.KnownBytes.{Appends, Keeps}
 use Rattle.std.proofs.lemmas.Bool.{ne_eqb, le-ltb}
 use Rattle.std.proofs.lemmas.Bool.Decides.{nat_tests}
-use Rattle.std.proofs.lemmas.List.{take_more, take_rest, take-append-drop, map-append}
+use Rattle.std.proofs.lemmas.List.{take_rest, take-append-drop, map-append}
 use Rattle.std.proofs.lemmas.List.Concat.{flat_map-append}
 use Rattle.byteorder.specs.Endian.{little_number}
 use Rattle.exif_base.specs.Sent.{SendsFront}
@@ -15,6 +15,7 @@ use Rattle.exif_types.specs.declared.error.Error.TheVariants as error
 use Rattle.exif_types.specs.Refusals.{Refusal, refusal_of, IsInterrupted, Refuses, Fails, ◌>>=◌}
 use Rattle.exif_containers.specs.Answer.{IsNamed}
 use Rattle.exif_containers.specs.Webp.{broken_webp, not_webp, invalid_file_size, overflowing, padded}
+use Rattle.exif_containers.proofs.ContainerNames.{interrupted_none}
 use Rattle.exif_rewrite_base.specs.declared.remove.Remove.{Remove}
 use Rattle.exif_rewrite_webp.specs.declared.chunks.Chunk.{Chunk as LentChunk}
 use Rattle.exif_rewrite_webp.specs.declared.chunks.Front.{Front as LentFront}
@@ -37,14 +38,6 @@ total_join : (xs ys : List LentChunk) → total (xs ++ ys) ≡ total xs + total 
 total_join xs ys =
     ap (λ l. length (chunks_text l)) (map-append chunk_view xs ys) ∙ ap (λ (l : List ℕ). length l) (flat_map-append chunk_text (map chunk_view xs) (map chunk_view ys))
     ∙ length-append (chunks_text (map chunk_view xs)) (chunks_text (map chunk_view ys))
-
-total_one : (x : LentChunk) → total (x ∷ []) ≡ length (chunk_text (chunk_view x))
-total_one x = ap (λ (l : List ℕ). length l) (append-nil (chunk_text (chunk_view x)))
-
--- one more chunk adds the length of its bytes to that of the chunks before it
-pub total_more : (xs : List LentChunk) (i : ℕ) (x d : LentChunk) → i < length xs → x ≡ get_or xs i d → total (take (i + 1) xs) ≡ total (take i xs) + length (chunk_text (chunk_view x))
-total_more xs i x d h e =
-    ap total (take_more xs i d h) ∙ total_join (take i xs) (get_or xs i d ∷ []) ∙ ap (λ n. total (take i xs) + n) (total_one (get_or xs i d) ∙ ap (λ c. length (chunk_text (chunk_view c))) (sym e))
 
 -- the first chunks take no more bytes than all
 pub total_part : (xs : List LentChunk) (i : ℕ) → total (take i xs) ≤ total xs
@@ -352,17 +345,6 @@ fails_stops e p o h = (nothing_sent o p, by (refusal_of e) h)
     by None h = tt
     by (Some r) h = h
 
-interrupted_none : (e : Failure) → IsInterrupted e → refusal_of e ≡ None
-interrupted_none (error.Io cause) h = refl
-interrupted_none error.OutOfMemory h = refl
-interrupted_none (error.InvalidFormat text) h = absurd h
-interrupted_none (error.NotFound text) h = absurd h
-interrupted_none (error.BlankValue text) h = absurd h
-interrupted_none (error.TooBig text) h = absurd h
-interrupted_none (error.NotSupported text) h = absurd h
-interrupted_none (error.UnexpectedValue text) h = absurd h
-interrupted_none (error.PartialResult partial) h = absurd h
-
 -- an interruption before anything was sent stops the source's file, whatever it becomes
 pub interrupted_stops : (e : Failure) (a p : Option (List ℕ)) (f : List ℕ → Result (List ℕ) Refusal) → IsInterrupted e → IfSome a (λ xs. StopsFile e p p (f xs))
 interrupted_stops e None p f h = tt
@@ -371,11 +353,6 @@ interrupted_stops e (Some x) p f h = rw (interrupted_none e h) (nothing_sent (f 
 -- an interruption is none of the refusals that a file may meet, and is named so
 pub interrupted_named : (e : Failure) → IsInterrupted e → IsNamed webp_rewriting_refusals e
 interrupted_named e h = rw (interrupted_none e h) h
-
--- of two devices of which the second did not fail, some failed where the first did
-pub or_none_failed : (failed : Bool) → failed ≡ (failed || false)
-or_none_failed true = refl
-or_none_failed false = refl
 
 -- where the bytes read are all of the source, their error stops its file with nothing sent
 pub plan_stops : (e : Failure) (a p : Option (List ℕ)) (bytes : List ℕ) (f : List ℕ → Result (List ℕ) Refusal) → IfSome a (λ xs. bytes ≡ xs) → Fails e (f bytes) → IfSome a (λ xs. StopsFile e p p (f xs))

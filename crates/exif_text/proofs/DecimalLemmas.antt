@@ -5,7 +5,8 @@ use Rattle.std.proofs.lemmas.Bool.{cases_lt}
 use Rattle.std.proofs.lemmas.Bool.Decides.{nat_tests}
 use Rattle.exif_text.specs.Decimal.{in_digits, without_last_zeros, push_unless_last_zero}
 
-tenth : (k : ℕ) → 10 ^ suc k ≡ 10 * 10 ^ k
+-- a power of ten is ten times the one below
+pub tenth : (k : ℕ) → 10 ^ suc k ≡ 10 * 10 ^ k
 tenth k = omega (arith, pow-suc 10 k)
 
 place_pos : (k : ℕ) → 0 < 10 ^ k

@@ -1,15 +1,16 @@
 -- The number that digits and zeros behind them spell.
 use Rattle.std.proofs.Common.{◌≡◌, ℕ, zero, suc, ◌+◌, ◌-◌, ◌*◌, ◌^◌, ◌<◌, ◌≤◌, true, false, List, [], ◌∷◌, ◌++◌, length, replicate, take, get_or, refl, sym, ap, ◌∙◌, lit<, arith, ⊎_elim}
+use Rattle.std.proofs.Math.Nat.{one-le-pow, pow-le-pow_right, mul-le-mul_right}
 use Rattle.std.specs.List.{list_all}
 use Rattle.std.specs.Char.{is_ascii_digit, digit_value}
 use Rattle.std.specs.Str.Parse.{digits_value, digits_value_after}
-use Rattle.std.proofs.Math.Nat.{pow-suc, one-le-pow, pow-le-pow_right, mul-le-mul_right}
 use Rattle.std.proofs.lemmas.Nat.{pow-add}
 use Rattle.std.proofs.lemmas.Bool.{cases_Bool}
 use Rattle.std.proofs.lemmas.Bool.Decides.{nat_tests}
 use Rattle.std.proofs.lemmas.List.Folds.{list_all_at}
 use Rattle.std.proofs.lemmas.Str.{digit_value_digit}
 use Rattle.std.proofs.lemmas.Int.Digits.{digits_value_more}
+use Rattle.exif_text.proofs.DecimalLemmas.{tenth}
 
 -- each byte is a digit
 pub digit_in_range : (ds : List ℕ) (i : ℕ) → list_all is_ascii_digit ds ≡ true → i < length ds → (48 ≤ get_or ds i 0) × (get_or ds i 0 ≤ 57)
@@ -27,10 +28,6 @@ value_more ds i all within =
     let worth = digit_value_digit (get_or ds i 0) digit in
     omega (arith, digits_value_more 10 ds i within, worth)
 
--- one place more
-tenfold : (k : ℕ) → 10 ^ suc k ≡ 10 * 10 ^ k
-tenfold k = omega (arith, pow-suc 10 k)
-
 shifted : (n p q : ℕ) → q ≡ 10 * p → (n * 10 + 0) * p ≡ n * q
 shifted n p q e = rw e (omega arith)
 
@@ -39,7 +36,7 @@ zeros_after : (n k : ℕ) → digits_value_after 10 n (replicate k 48) ≡ n * 1
 zeros_after n zero = omega arith
 zeros_after n (suc k) =
     let next : digits_value_after 10 (n * 10 + 0) (replicate k 48) ≡ (n * 10 + 0) * 10 ^ k = zeros_after (n * 10 + 0) k in
-    next ∙ shifted n (10 ^ k) (10 ^ suc k) (tenfold k)
+    next ∙ shifted n (10 ^ k) (10 ^ suc k) (tenth k)
 
 -- digits behind digits
 value_after-append : (n : ℕ) (xs ys : List ℕ) → digits_value_after 10 n (xs ++ ys) ≡ digits_value_after 10 (digits_value_after 10 n xs) ys

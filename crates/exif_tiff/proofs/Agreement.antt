@@ -25,7 +25,8 @@ Same a b p n = (i : ℕ) → p ≤ i → i < p + n → slice_index a i ≡ slice
 pub part_same : (a b : List ℕ) (p n q m : ℕ) → p ≤ q → q + m ≤ p + n → Same a b p n → Same a b q m
 part_same a b p n q m low high h i from to = h i (omega arith) (omega arith)
 
-taken : (n : ℕ) (xs : List ℕ) (p i : ℕ) → i < n → slice_index (bytes_at n xs p) i ≡ slice_index xs (p + i)
+-- a byte of a stretch is that of the data at its place
+pub taken : (n : ℕ) (xs : List ℕ) (p i : ℕ) → i < n → slice_index (bytes_at n xs p) i ≡ slice_index xs (p + i)
 taken n xs p i lt = get_or-take n (drop p xs) i 0 lt ∙ get_or-drop p xs i 0
 
 -- where the bytes of a stretch are equal, each place of it holds the same byte in both

@@ -31,7 +31,7 @@ abbrev pub split : List ℕ → List (List ℕ)
 split = slice_split (λ b. b == 0)
 
 -- an empty text behind others is left out
-drops_last : (ts : List (List ℕ)) → without_empty_last (ts ++ [] ∷ []) ≡ ts
+pub drops_last : (ts : List (List ℕ)) → without_empty_last (ts ++ [] ∷ []) ≡ ts
 drops_last [] = refl
 drops_last (t ∷ []) = refl
 drops_last (t ∷ u ∷ ts) = ap (λ us. t ∷ us) (drops_last (u ∷ ts))

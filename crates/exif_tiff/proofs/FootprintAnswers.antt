@@ -1,5 +1,6 @@
 -- Reading answers the same of data that agree on the footprint of the one.
 use Rattle.std.proofs.Common.{◌≡◌, ◌^◌, ◌-◌, ◌==◌, ℕ, Bool, if◌then◌else◌, List, [], ◌∷◌, length, slice_index, Option, Some, None, Result, Ok, Err, refl, ap, ◌∙◌, arith}
+use Rattle.std.proofs.lemmas.List.Elements.{recursion_from_All}
 use Rattle.std.specs.Prelude.{nat_lt}
 use Rattle.std.specs.List.{AllByRecursion}
 use Rattle.exif_base.specs.Bytes.{number_at}
@@ -13,7 +14,6 @@ use Rattle.exif_tiff.specs.Trace.{Node, content_of, header, limited, order_of, o
 use Rattle.exif_tiff.proofs.Agreement.{Same, number_same, part_same, same_of}
 use Rattle.exif_tiff.proofs.FootprintShared.{shared_in_order}
 use Rattle.exif_tiff.proofs.Footprints.{ordered_same}
-use Rattle.exif_tiff.proofs.Members.{each_of}
 
 -- a header by its order
 abbrev pub ordered : List ℕ → Option Order → Result Order Fault
@@ -90,7 +90,7 @@ module _ (a b : List ℕ) (as_long : length a ≡ length b) where
 -- data of one length that agree on the footprint of the one have the same footprint
 pub footprint_shared : (a b : List ℕ) → FootprintIsShared a b
 footprint_shared a b as_long agree =
-    let all = each_of (Agree a b) (footprint a) agree in
+    let all = recursion_from_All (Agree a b) (footprint a) agree in
     let s = same_of a b 0 8 all.0 in
     footprint_same a b as_long (header a) s all.1
     ∙ ap (footprint_by a b as_long b) (header_same a b as_long s)
@@ -99,7 +99,7 @@ footprint_shared a b as_long agree =
 pub trace_settled : (a b : List ℕ) → FootprintSettlesTrace a b
 unfolding trace
 trace_settled a b as_long agree =
-    let all = each_of (Agree a b) (footprint a) agree in
+    let all = recursion_from_All (Agree a b) (footprint a) agree in
     let s = same_of a b 0 8 all.0 in
     trace_by a b as_long (header a) s all.1
     ∙ ap (λ x. elim x as (λ _. List Node)
@@ -110,7 +110,7 @@ pub answer_settled : (lenient : Bool) (limit : Option ℕ) (a b : List ℕ)
     → FootprintSettlesAnswer lenient limit a b
 unfolding raw_answer
 answer_settled lenient limit a b as_long agree =
-    let all = each_of (Agree a b) (footprint a) agree in
+    let all = recursion_from_All (Agree a b) (footprint a) agree in
     let s = same_of a b 0 8 all.0 in
     answer_same a b as_long lenient limit (header a) s all.1
     ∙ ap (answer_by a b as_long lenient limit b) (header_same a b as_long s)

@@ -14,6 +14,7 @@ use Rattle.exif_table.specs.declared.context.Context.{Context}
 use Rattle.exif_table.specs.declared.context.Context.TheVariants.{Tiff}
 use Rattle.exif_tiff.specs.Trace.{Node, Visit, Found, Met, Directory, visits_of, fields_of, faults_of, trace, ordered_trace, header, chain_nodes, chain_after, directory_nodes, directory_end, entry_nodes, entry_places, entry_value, valued_nodes, tagged_nodes, pointer_nodes, child_end, child_of, Opens}
 use Rattle.exif_tiff.specs.Visits.{ReportsAreBounded}
+use Rattle.exif_tiff.proofs.VisitBound.{visits-append}
 
 -- the fields of two pieces of a trace are those of the first, then those of the second
 pub fields-append : (xs ys : List Node) → fields_of (xs ++ ys) ≡ fields_of xs ++ fields_of ys
@@ -34,13 +35,6 @@ faults-append (Met fault ∷ xs) ys = ap (λ fs. fault ∷ fs) (faults-append xs
 -- fields and faults are at most the visits and k
 pub record Reports (k : ℕ) (nodes : List Node) : Type 0 where
   pub bound : length (fields_of nodes) + length (faults_of nodes) ≤ visits_of nodes + k
-
-visits-append : (xs ys : List Node) → visits_of (xs ++ ys) ≡ visits_of xs + visits_of ys
-visits-append [] ys = omega arith
-visits-append (Opens directory ∷ xs) ys = visits-append xs ys
-visits-append (Visit ∷ xs) ys = omega (arith, visits-append xs ys)
-visits-append (Found l ∷ xs) ys = visits-append xs ys
-visits-append (Met fault ∷ xs) ys = visits-append xs ys
 
 reports_join : (i j k : ℕ) (xs ys : List Node) → i + j ≤ k → Reports i xs → Reports j ys → Reports k (xs ++ ys)
 reports_join i j k xs ys e a b = record {

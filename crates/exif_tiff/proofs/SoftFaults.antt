@@ -3,6 +3,7 @@ use Rattle.std.proofs.Common.{◌≡◌, ◌∙◌, ◌+◌, ◌*◌, ◌-◌, �
 use Rattle.std.specs.List.{AllByRecursion, flat_map, All}
 use Rattle.std.specs.Prelude.{◌^◌, if◌then◌else◌, ⊤, nat_lt}
 use Rattle.std.proofs.lemmas.Bool.{lt-ltb, ltb-true}
+use Rattle.std.proofs.lemmas.List.Elements.{All-from_recursion}
 use Rattle.exif_base.specs.Bytes.{Reading, number_at}
 use Rattle.exif_base.specs.Orders.{number_of}
 use Rattle.exif_base.specs.declared.endian.Order.{Order}
@@ -16,7 +17,7 @@ use Rattle.exif_tiff.specs.declared.fault.Fault.TheVariants.{DataTooLarge, Trunc
 use Rattle.exif_tiff.specs.Trace.{Node, Visit, Found, Met, Directory, fields_of, faults_of, cut, limited, content_of, trace, ordered_trace, header, order_of, chain_nodes, chain_after, directory_nodes, directory_end, entry_nodes, entry_places, entry_value, valued_nodes, tagged_nodes, pointer_nodes, child_end, child_of, Opens}
 use Rattle.exif_tiff.specs.Answers.{Answer, Refused, Partial, answer_of, raw_answer}
 use Rattle.exif_tiff.specs.SoftFaults.{is_hard, is_soft, is_soft_under, FaultsAreSoft, FaultsAreSoftUnder, PassesSoftFaults, RefusesHardOrSoft, HeaderFaultsAreHard, TooLargeIsExact}
-use Rattle.exif_tiff.proofs.Members.{all_append, all_of}
+use Rattle.exif_tiff.proofs.Members.{all_append}
 
 -- a node that is no fault but a soft one
 abbrev IsSoftNode : Node → Type 0
@@ -122,7 +123,7 @@ each_soft bytes = soft_faults (trace bytes) (trace_soft bytes)
 
 -- so all faults that data hold behind their header are soft
 pub faults_soft : (bytes : List ℕ) → FaultsAreSoft bytes
-faults_soft bytes = all_of (λ fault. is_soft fault ≡ true) (faults_of (trace bytes)) (each_soft bytes)
+faults_soft bytes = All-from_recursion (λ fault. is_soft fault ≡ true) (faults_of (trace bytes)) (each_soft bytes)
 
 -- what is soft without a limit is soft under any
 soft_under : (limit : Option ℕ) (fault : Fault) → is_soft fault ≡ true → is_soft_under limit fault ≡ true
@@ -157,7 +158,7 @@ each_soft_under (Some n) bytes = cut_soft n n (trace bytes) (trace_soft bytes)
 
 -- under a limit they are so too, where the fault of the limit counts as soft
 pub faults_soft_under : (limit : Option ℕ) (bytes : List ℕ) → FaultsAreSoftUnder limit bytes
-faults_soft_under limit bytes = all_of (λ fault. is_soft_under limit fault ≡ true) (faults_of (limited limit (trace bytes))) (each_soft_under limit bytes)
+faults_soft_under limit bytes = All-from_recursion (λ fault. is_soft_under limit fault ≡ true) (faults_of (limited limit (trace bytes))) (each_soft_under limit bytes)
 
 -- what is answered behind a good header, and a bad one
 pub answer_behind : (lenient : Bool) (limit : Option ℕ) (bytes : List ℕ) (order : Order) → header bytes ≡ Ok order
@@ -201,7 +202,7 @@ passes_soft limit bytes fields faults e = go (headers bytes)
     go : ((fault : Fault) × (header bytes ≡ Err fault)) ⊎ ((order : Order) × (header bytes ≡ Ok order)) → All (λ fault. is_soft_under limit fault ≡ true) faults
     go (inl h) = let k = answer_refused true limit bytes h.0 h.1 in absurd cc
     go (inr h) =
-        all_of (λ fault. is_soft_under limit fault ≡ true) faults
+        All-from_recursion (λ fault. is_soft_under limit fault ≡ true) faults
         (partial_soft limit fields (fields_of (limited limit (trace bytes))) faults (faults_of (limited limit (trace bytes))) (each_soft_under limit bytes)
         (sym (answer_behind true limit bytes h.0 h.1) ∙ e))
 

@@ -18,14 +18,16 @@ use Rattle.exif_table.specs.declared.context.Context.TheVariants.{Tiff}
 use Rattle.exif_tiff.specs.Trace.{Node, Visit, Found, Met, Directory, valued_nodes, visits_of, trace, ordered_trace, header, chain_nodes, chain_after, directory_nodes, directory_end, entry_nodes, entry_places, entry_value, whole_entries, tagged_nodes, pointer_nodes, child_end, child_of, Opens}
 use Rattle.exif_tiff.specs.Visits.{AreBytes, entries_at_most, visits_at_most, VisitsAreBounded}
 
-visits-append : (xs ys : List Node) → visits_of (xs ++ ys) ≡ visits_of xs + visits_of ys
+-- visits of two lists add up
+pub visits-append : (xs ys : List Node) → visits_of (xs ++ ys) ≡ visits_of xs + visits_of ys
 visits-append [] ys = omega arith
 visits-append (Opens directory ∷ xs) ys = visits-append xs ys
 visits-append (Visit ∷ xs) ys = omega (arith, visits-append xs ys)
 visits-append (Found l ∷ xs) ys = visits-append xs ys
 visits-append (Met fault ∷ xs) ys = visits-append xs ys
 
-length-spaced : (p u n : ℕ) → length (spaced p u n) ≡ n
+-- as many places as were asked for
+pub length-spaced : (p u n : ℕ) → length (spaced p u n) ≡ n
 length-spaced p u zero = refl
 length-spaced p u (suc n) = omega (arith, length-spaced (p + u) u n)
 

@@ -5,6 +5,7 @@ use Rattle.std.specs.Option.{option_copied}
 use Rattle.std.specs.Bool.{Decides}
 use Rattle.std.proofs.lemmas.Bool.{false≢true}
 use Rattle.std.proofs.lemmas.List.{reverse-append}
+use Rattle.std.proofs.lemmas.List.Elements.{All-nil, All-cons}
 use Rattle.exif_text.specs.declared.ifd.In.{In}
 use Rattle.exif_types.specs.declared.tag.Tag.{Tag}
 use Rattle.exif_types.specs.declared.field.Field.{Field}
@@ -29,13 +30,6 @@ find_one_more {X} p (y ∷ ys) x =
     elim (p y) as (λ b. cond b (Some y) (find p (ys ++ x ∷ [])) ≡ or_else (cond b (Some y) (find p ys)) (cond (p x) (Some x) None))
     [ true ↦ refl | false ↦ find_one_more p ys x ]
 
-none_in_nil : {X : Type 0} (P : X → Type 0) → All P []
-none_in_nil P k d h = absurd (omega arith)
-
-none_in_more : {X : Type 0} (P : X → Type 0) (x : X) (xs : List X) → P x → All P xs → All P (x ∷ xs)
-none_in_more P x xs h t zero d k = h
-none_in_more P x xs h t (suc i) d k = t i d (omega arith)
-
 -- what was found of a longer list
 found_more : (tag : Tag) (ifd_num : In) (found : Option Field) (new : Bool) (x : Field) (xs : List Field) → Decides new (HasName tag ifd_num x)
     → MatchOption found (NoneNamed tag ifd_num xs) (IsLastNamed tag ifd_num xs)
@@ -43,12 +37,12 @@ found_more : (tag : Tag) (ifd_num : In) (found : Option Field) (new : Bool) (x :
 found_more tag ifd_num (Some y) new x xs d h = (x ∷ h.0, h.1, ap (λ t. x ∷ t) h.2, h.3, h.4)
 found_more tag ifd_num None true x xs d h = ([], xs, refl, d.0 refl, h)
 found_more tag ifd_num None false x xs d h =
-    none_in_more (λ f. ¬ (HasName tag ifd_num f)) x xs (λ named. false≢true (d.1 named)) h
+    All-cons (λ f. ¬ (HasName tag ifd_num f)) x xs (λ named. false≢true (d.1 named)) h
 
 -- the last field of a name, or none
 pub last_is_last : (fields : List Field) (tag : Tag) (ifd_num : In)
     → MatchOption (last_named fields tag ifd_num) (NoneNamed tag ifd_num fields) (IsLastNamed tag ifd_num fields)
-last_is_last [] tag ifd_num = none_in_nil (λ f. ¬ (HasName tag ifd_num f))
+last_is_last [] tag ifd_num = All-nil (λ f. ¬ (HasName tag ifd_num f))
 last_is_last (x ∷ xs) tag ifd_num =
     let P : Option Field → Type 0 = λ o. MatchOption o (NoneNamed tag ifd_num (x ∷ xs)) (IsLastNamed tag ifd_num (x ∷ xs)) in
     let p = is_named tag ifd_num in

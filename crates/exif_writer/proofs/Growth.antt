@@ -54,10 +54,6 @@ empty_ranged Exif = tt
 empty_ranged Gps = tt
 empty_ranged Interop = tt
 
--- where there are no groups, each entry is one that a writer may hold
-pub none_ranged : AreRanged []
-none_ranged = tt
-
 -- a change of one group that keeps its ranges keeps those of all
 pub changed_ranged : (n : ℕ) (f : Group → Group) (groups : List Group) → ((group : Group) → GroupIsRanged group → GroupIsRanged (f group))
     → AreRanged groups → AreRanged (changed n f groups)

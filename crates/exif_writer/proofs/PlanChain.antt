@@ -1,6 +1,6 @@
 -- The cause of a list of groups, and the plans of its drafts, one group after another.
 use Rattle.std.proofs.Common.{◌≡◌, ℕ, zero, suc, ◌+◌, ◌<◌, ◌≤◌, ◌^◌, List, [], ◌∷◌, ◌++◌, length, map, take, drop, get_or, refl, sym, ap, subst, ◌∙◌, arith, append_assoc, true, false, Option, Some, None}
-use Rattle.std.specs.Prelude.{if◌then◌else◌, nat_lt, is_some, SomeIff, IsSome, Bool, ◌==◌}
+use Rattle.std.specs.Prelude.{if◌then◌else◌, nat_lt, is_some, Bool, ◌==◌}
 use Rattle.std.proofs.lemmas.Bool.{lt-ltb, le-ltb, eqb-true, eqb-false}
 use Rattle.exif_images.specs.declared.write_fault.WriteFault.{WriteFault}
 use Rattle.exif_images.specs.declared.write_fault.WriteFault.TheVariants.{NoDirectory, OffsetTooLarge}
@@ -175,10 +175,6 @@ plans_done groups i start plans h so =
     let D : List Plan → Type 0 = ArePlans 8 (map draft_of groups) in
     subst D (append-nil plans) (so [] (subst A (sym none) tt))
 
--- before the first plan is made, the plans still to come are those of all groups
-pub plans_none : (groups : List Group) (more : List Plan) → ArePlans 8 (map draft_of groups) more → ArePlans 8 (map draft_of groups) ([] ++ more)
-plans_none groups more h = h
-
 -- groups that are written: no cause, and an end that 32 bits hold
 none_first : (cause : Option WriteFault) (rest : Option WriteFault) → (let r : Option WriteFault = elim cause [ Some c ↦ Some c | None ↦ rest ] in r) ≡ None → cause ≡ None
 none_first None rest h = refl
@@ -214,8 +210,3 @@ has_room groups i start x d last h e k at s =
         let within = next_within groups (i + 1) (omega arith) in
         let small = (not_refused groups h).small in
         omega arith
-
--- an answer that there is
-pub some_of : {T : Type 0} (P : Type 0) (v : T) (o : Option T) → SomeIff o P v → P → IsSome o
-some_of P v None h p = absurd (h p)
-some_of P v (Some x) h p = refl

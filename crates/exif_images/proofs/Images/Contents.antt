@@ -2,6 +2,7 @@
 use Rattle.std.proofs.Common.{◌≡◌, ℕ, zero, suc, ◌+◌, ◌<◌, ◌≤◌, List, [], ◌∷◌, ◌++◌, length, take, drop, map, refl, sym, ap, ◌∙◌, arith, true, false, Option, Some, None}
 use Rattle.std.specs.Prelude.{nat_lt, ◌↔◌}
 use Rattle.std.proofs.lemmas.Bool.{lt-ltb, le-ltb}
+use Rattle.std.proofs.lemmas.List.Elements.{filter-append}
 use Rattle.std.specs.List.{AllByRecursion, AllZip, filter}
 use Rattle.exif_base.specs.declared.endian.Order.{Order}
 use Rattle.exif_types.specs.declared.value.Value.TheVariants.{Long}
@@ -28,7 +29,7 @@ use Rattle.exif_images.proofs.Images.Whole.{not_refused, parts_stand}
 use Rattle.exif_images.proofs.Images.ReadBack.{Leaves, read_back, image_chain, image_leaves, faults_over, faults_under}
 use Rattle.exif_images.proofs.Images.Families.{draft_stands}
 use Rattle.exif_images.proofs.Images.Pushing.{group_at, blocks_at}
-use Rattle.exif_images.proofs.Images.Rewritten.{all_at, rewrites_same, AllNumbered, fields_numbered, filter-append}
+use Rattle.exif_images.proofs.Images.Rewritten.{all_at, rewrites_same, AllNumbered, fields_numbered}
 use Rattle.exif_images.proofs.Images.Naming.{start_at, top_field, places_slots, lengths_slots, places_under, lengths_under}
 
 -- the blocks of a group stand

@@ -6,7 +6,7 @@ use Rattle.std.proofs.Common.{◌≡◌, ℕ, ◌<◌, ◌^◌, List, [], ◌∷
 use Rattle.std.specs.Prelude.{◌==◌, ◌≢◌}
 use Rattle.std.specs.List.{All, AllByRecursion}
 use Rattle.std.proofs.lemmas.Bool.{or_parts}
-use Rattle.std.proofs.lemmas.List.Elements.{All-head, All-tail}
+use Rattle.std.proofs.lemmas.List.Elements.{All-head, All-tail, recursion_from_All}
 use Rattle.exif_types.specs.declared.value.Value.{Value}
 use Rattle.exif_types.specs.declared.value.Value.TheVariants.{Byte, Ascii, Short, Long, Rational, SByte, Undefined, SShort, SLong, SRational, Float, Double, Unknown}
 use Rattle.exif_images.specs.Encoding.{moved_to}
@@ -20,29 +20,28 @@ use Rattle.exif_images.specs.declared.block_kind.BlockKind.TheVariants.{Strips, 
 use Rattle.exif_images.specs.Refused.{is_unknown}
 use Rattle.exif_images.proofs.Images.Words.{Fits, IsAccepted, IsPlain, SlotFits}
 use Rattle.exif_images.specs.Ranged.{IsRanged, IsEntry}
-use Rattle.exif_tiff.proofs.Members.{each_of}
 use Rattle.exif_images.proofs.Images.Slots.{all_slots}
 
 each_text : (texts : List (List ℕ)) → All (All (λ b. b ≢ 0)) texts → AllByRecursion IsPlain texts
 each_text [] h = tt
 each_text (text ∷ texts) h =
     let plain : List ℕ → Type 0 = All (λ b. b ≢ 0) in
-    (each_of (λ b. b ≢ 0) text (All-head plain text texts h), each_text texts (All-tail plain text texts h))
+    (recursion_from_All (λ b. b ≢ 0) text (All-head plain text texts h), each_text texts (All-tail plain text texts h))
 
 -- a value fits if its numbers are in range, its texts plain and its type known
 pub fits_of : (value : Value) → IsRanged value → HasPlainTexts value → is_unknown value ≡ false → Fits value
 fits_of (Byte xs) r z u = tt
 fits_of (Ascii xs) r z u = each_text xs z
-fits_of (Short xs) r z u = each_of _ xs r
-fits_of (Long xs) r z u = each_of _ xs r
-fits_of (Rational xs) r z u = each_of _ xs r
-fits_of (SByte xs) r z u = each_of _ xs r
+fits_of (Short xs) r z u = recursion_from_All _ xs r
+fits_of (Long xs) r z u = recursion_from_All _ xs r
+fits_of (Rational xs) r z u = recursion_from_All _ xs r
+fits_of (SByte xs) r z u = recursion_from_All _ xs r
 fits_of (Undefined xs place) r z u = tt
-fits_of (SShort xs) r z u = each_of _ xs r
-fits_of (SLong xs) r z u = each_of _ xs r
-fits_of (SRational xs) r z u = each_of _ xs r
-fits_of (Float xs) r z u = each_of _ xs r
-fits_of (Double xs) r z u = each_of _ xs r
+fits_of (SShort xs) r z u = recursion_from_All _ xs r
+fits_of (SLong xs) r z u = recursion_from_All _ xs r
+fits_of (SRational xs) r z u = recursion_from_All _ xs r
+fits_of (Float xs) r z u = recursion_from_All _ xs r
+fits_of (Double xs) r z u = recursion_from_All _ xs r
 fits_of (Unknown type count place) r z u = absurd cc
 
 fits_moved : (place : ℕ) (value : Value) → Fits value → Fits (moved_to place value)

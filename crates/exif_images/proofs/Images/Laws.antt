@@ -1,26 +1,27 @@
 -- The laws, from the words of the proofs to those of the definitions.
-use Rattle.std.proofs.Common.{◌≡◌, ◌∙◌, List, [], ◌∷◌, Bool, true, false, None, map, refl, sym, ap, arith}
+use Rattle.std.proofs.Common.{◌≡◌, ◌∙◌, List, [], ◌∷◌, true, false, None, map, sym, ap, arith}
+use Rattle.std.proofs.lemmas.List.Elements.{recursion_from_All, All-from_recursion}
 use Rattle.exif_base.specs.declared.endian.Order.{Order}
 use Rattle.exif_base.specs.declared.endian.Order.TheVariants.{Big, Little}
 use Rattle.exif_base.specs.Orders.{number_of}
 use Rattle.exif_types.specs.declared.field.Field.{Field}
 use Rattle.exif_tiff.specs.declared.fault.Fault.TheVariants.{TooManyDirectories}
 use Rattle.exif_tiff.specs.Trace.{ordered_trace}
-use Rattle.exif_tiff.specs.Answers.{Whole, answer_of}
+use Rattle.exif_tiff.specs.Answers.{Whole}
+use Rattle.exif_tiff.proofs.Fronts.{shown_by}
 use Rattle.exif_images.specs.Groups.{Group}
 use Rattle.exif_images.specs.Slots.{draft_of}
 use Rattle.exif_images.specs.Image.{parts, image}
 use Rattle.exif_images.specs.Flat.{flat}
 use Rattle.exif_images.specs.Refused.{write_fault}
 use Rattle.exif_images.specs.Ranged.{AreRanged, HavePlainTexts, AreReadable}
-use Rattle.exif_images.specs.Layout.{Stands, IsOutside, LaidOut, LengthIsEnd, BlocksStand}
+use Rattle.exif_images.specs.Layout.{Stands, IsOutside, LaidOut, LengthIsEnd}
 use Rattle.exif_images.specs.ReadBack.{ReadsBack, ReadsFirstEight, first_eight}
-use Rattle.exif_images.specs.Rewriting.{RewritesSame, RewritesInEachOrder, pushed_all, all_blocks_set, EqualByContents, LengthsAgree, OrdersAgree}
-use Rattle.exif_tiff.proofs.Members.{each_of, all_of}
+use Rattle.exif_images.specs.Rewriting.{RewritesInEachOrder, pushed_all, all_blocks_set, EqualByContents, LengthsAgree, OrdersAgree}
 use Rattle.exif_images.proofs.Images.Whole.{not_refused, length-image, parts_span, parts_stand, pads_zero}
 use Rattle.exif_images.proofs.Images.ReadBack.{Leaves, image_answer, image_leaves, read_back, faults_more}
 use Rattle.exif_images.proofs.Images.Rewritten.{rewrites_same}
-use Rattle.exif_images.proofs.Images.Contents.{blocks_stand, same_images, reads_front}
+use Rattle.exif_images.proofs.Images.Contents.{same_images, reads_front}
 
 -- the parts of an image that is written stand side by side, at most one zero byte between two
 pub laid_out : (order : Order) (groups : List Group) → write_fault groups ≡ None → LaidOut order groups
@@ -28,8 +29,8 @@ laid_out order groups h =
     let each = (not_refused groups h).each in
     record {
       span = rw (length-image order groups each) (parts_span order groups each);
-      stand = all_of (λ part. Stands (image order groups) part.place part.text) (parts order (map draft_of groups)) (parts_stand order groups each);
-      pads = λ place within outside. pads_zero order groups each place (each_of (IsOutside place) (parts order (map draft_of groups)) outside);
+      stand = All-from_recursion (λ part. Stands (image order groups) part.place part.text) (parts order (map draft_of groups)) (parts_stand order groups each);
+      pads = λ place within outside. pads_zero order groups each place (recursion_from_All (IsOutside place) (parts order (map draft_of groups)) outside);
     }
 
 -- an image that is written ends where its last draft does, below 2^32 bytes
@@ -40,18 +41,10 @@ length_is_end order groups h =
     let end = length-image order groups accepted.each in
     record { end = end; small = omega arith }
 
--- two fields name the places and the lengths of a directory's blocks, which stand there
-pub blocks_named : (order : Order) (groups : List Group) → AreRanged groups → write_fault groups ≡ None → BlocksStand order groups
-blocks_named order groups ranged h = blocks_stand order groups ranged h
-
-whole : (lenient : Bool) (fields : List Field) → answer_of lenient (record { fields = fields; faults = [] }) ≡ Whole fields
-whole true fields = refl
-whole false fields = refl
-
 -- readable groups are read back from their image whole, as their flat fields, in both modes
 pub reads_back : (order : Order) (groups : List Group) → AreReadable groups → ReadsBack order groups
 reads_back order groups h lenient =
-    image_answer order groups (flat groups) [] h.written (read_back order groups h.ranged h.plain h.few h.written) lenient ∙ whole lenient (flat groups)
+    image_answer order groups (flat groups) [] h.written (read_back order groups h.ranged h.plain h.few h.written) lenient ∙ shown_by lenient (flat groups)
 
 -- of more than eight groups lenient reading gives the first eight, and strict reading none
 pub reads_first_eight : (order : Order) (groups : List Group) → AreRanged groups → HavePlainTexts groups → write_fault groups ≡ None → ReadsFirstEight order groups
@@ -64,16 +57,12 @@ reads_first_eight order groups ranged plain h many =
       image_answer order groups fields (TooManyDirectories ∷ []) h one false,
     )
 
--- pushing the fields of an image and setting the same blocks gives the same image
-pub rewrites : (order : Order) (groups : List Group) → AreRanged groups → write_fault groups ≡ None → RewritesSame order groups
-rewrites order groups ranged h = rewrites_same order groups ranged h
-
 -- what is read in one byte order, with the same blocks, gives the image in each order
 pub rewrites_in_each_order : (order : Order) (groups : List Group) → AreReadable groups → RewritesInEachOrder order groups
 rewrites_in_each_order order groups h lenient fields other read =
     let same : Whole fields ≡ Whole (flat groups) = sym read ∙ reads_back order groups h lenient in
     let exact : fields ≡ flat groups = cc in
-    ap (λ fs. image other (all_blocks_set 0 groups (pushed_all fs []))) exact ∙ rewrites other groups h.ranged h.written
+    ap (λ fs. image other (all_blocks_set 0 groups (pushed_all fs []))) exact ∙ rewrites_same other groups h.ranged h.written
 
 -- readable groups have equal images in a byte order exactly if their fields and blocks are equal
 pub equal_by_contents : (order : Order) (groups : List Group) → AreReadable groups → EqualByContents order groups

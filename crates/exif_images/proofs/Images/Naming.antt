@@ -4,6 +4,8 @@ use Rattle.std.specs.Prelude.{if◌then◌else◌, ◌==◌, ◌&&◌, nat_le}
 use Rattle.std.specs.List.{AllByRecursion, flat_map, filter}
 use Rattle.std.proofs.lemmas.Bool.{eq-eqb, ne_eqb, or_parts}
 use Rattle.std.proofs.lemmas.List.{append-nil}
+use Rattle.std.proofs.Math.Bool.{and-false}
+use Rattle.std.proofs.lemmas.List.Elements.{filter-append}
 use Rattle.exif_images.specs.Encoding.{moved_to}
 use Rattle.exif_table.specs.declared.context.Context.{Context}
 use Rattle.exif_table.specs.declared.context.Context.TheVariants.{Tiff, Exif, Gps}
@@ -21,15 +23,11 @@ use Rattle.exif_images.proofs.Images.Sorting.{filter-sorted}
 use Rattle.exif_images.proofs.Images.Slots.{all_slots, all_tiff}
 use Rattle.exif_images.proofs.Images.Pushing.{group_at}
 use Rattle.exif_images.proofs.Images.Shares.{always}
-use Rattle.exif_images.proofs.Images.Rewritten.{filter-append, AllNumbered, fields_numbered}
+use Rattle.exif_images.proofs.Images.Rewritten.{AllNumbered, fields_numbered}
 
 -- whether a field is one of a top directory under a tag
 abbrev pub under : ℕ → ℕ → Field → Bool
 under tag ifd field = is_tiff field.tag.0 && (field.tag.1 == tag) && (field.ifd_num.0 == ifd)
-
-filter_nothing : {X : Type 0} (test : X → Bool) (l : List X) → AllByRecursion (λ x. test x ≡ false) l → filter test l ≡ []
-filter_nothing test [] h = refl
-filter_nothing test (x ∷ l) h = rw h.0 (filter_nothing test l h.1)
 
 -- children lie in other contexts
 ChildIsLow : Slot → Type 0
@@ -131,15 +129,11 @@ start_at zero start groups = start
 start_at (suc m) start [] = start
 start_at (suc m) start (group ∷ groups) = start_at m (draft_end (draft_of group) start) groups
 
-and_false : (a : Bool) → (a && false) ≡ false
-and_false true = refl
-and_false false = refl
-
 none_elsewhere : (t ifd n : ℕ) (fields : List Field) → n ≢ ifd → AllNumbered n fields → filter (under t ifd) fields ≡ []
 none_elsewhere t ifd n [] h a = refl
 none_elsewhere t ifd n (field ∷ fields) h a =
     let off : (field.ifd_num.0 == ifd) ≡ false = ne_eqb field.ifd_num.0 ifd (λ e. h (sym a.0 ∙ e)) in
-    let no' : under t ifd field ≡ false = ap (λ b. is_tiff field.tag.0 && (field.tag.1 == t) && b) off ∙ and_false (is_tiff field.tag.0 && (field.tag.1 == t)) in
+    let no' : under t ifd field ≡ false = ap (λ b. is_tiff field.tag.0 && (field.tag.1 == t) && b) off ∙ and-false (is_tiff field.tag.0 && (field.tag.1 == t)) in
     rw no' (none_elsewhere t ifd n fields h a.1)
 
 none_later : (groups : List Group) (t ifd n start : ℕ) → ifd < n → filter (under t ifd) (flat_from n start (map draft_of groups)) ≡ []

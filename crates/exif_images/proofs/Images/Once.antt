@@ -8,8 +8,8 @@ use Rattle.exif_images.specs.declared.block_kind.BlockKind.{BlockKind}
 use Rattle.exif_images.specs.declared.block_kind.BlockKind.TheVariants.{Strips, Tiles, Jpeg}
 use Rattle.exif_images.specs.Groups.{Group, Entry, blocks_in}
 use Rattle.exif_images.specs.Slots.{Content, Known, PlacesOf, LengthsOf, PlaceOf, Slot, block_slots, exif_slots, gps_slots, in_tag_order, inserted, interop_slots, known, pointer_slots, set_slots, slots_of, tiff_slots}
+use Rattle.exif_images.proofs.Images.Slots.{all_in_tag_order, all_inserted}
 use Rattle.exif_tiff.proofs.Members.{all_append}
-use Rattle.exif_images.proofs.Images.Slots.{all_in_tag_order}
 
 -- the child that an entry names
 abbrev pub child_named : Content → Option Context
@@ -45,20 +45,12 @@ turned s (t ∷ ts) h = (λ child a b. h.0 child b a, turned s ts h.1)
 
 -- ---- entries in tag order
 
-all_with : (P : Slot → Type 0) (s : Slot) (ts : List Slot) → P s → AllByRecursion P ts → AllByRecursion P (inserted s ts)
-all_with P s [] p h = (p, tt)
-all_with P s (t ∷ ts) p h =
-    elim (nat_le s.tag t.tag) as (λ b. AllByRecursion P (if b then s ∷ t ∷ ts else t ∷ inserted s ts)) [
-      | true ↦ (p, h)
-      | false ↦ (h.0, all_with P s ts p h.1)
-    ]
-
 once_inserted : (s : Slot) (ts : List Slot) → AllByRecursion (Differ s) ts → NamesOnce ts → NamesOnce (inserted s ts)
 once_inserted s [] h k = (tt, tt)
 once_inserted s (t ∷ ts) h k =
     elim (nat_le s.tag t.tag) as (λ b. NamesOnce (if b then s ∷ t ∷ ts else t ∷ inserted s ts)) [
       | true ↦ (h, k)
-      | false ↦ (all_with (Differ t) s ts (λ child a b. h.0 child b a) k.0, once_inserted s ts h.1 k.1)
+      | false ↦ (all_inserted (Differ t) s ts (λ child a b. h.0 child b a) k.0, once_inserted s ts h.1 k.1)
     ]
 
 once_sorted : (ts : List Slot) → NamesOnce ts → NamesOnce (in_tag_order ts)

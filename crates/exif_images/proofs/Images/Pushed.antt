@@ -3,7 +3,7 @@ use Rattle.std.proofs.Common.{◌≡◌, ◌∙◌, ℕ, zero, suc, ◌<◌, Lis
 use Rattle.std.specs.Prelude.{if◌then◌else◌, ◌==◌}
 use Rattle.std.specs.List.{AllByRecursion, Contains}
 use Rattle.std.proofs.lemmas.Bool.{eqb-true}
-use Rattle.std.proofs.lemmas.List.Elements.{All-contains_itself}
+use Rattle.std.proofs.lemmas.List.Elements.{All-contains_itself, recursion_from_All, All-from_recursion}
 use Rattle.exif_types.specs.Lookup.{context_eq}
 use Rattle.exif_types.specs.Sound.{HasPlainTexts}
 use Rattle.exif_table.specs.declared.context.Context.{Context}
@@ -17,7 +17,7 @@ use Rattle.exif_images.specs.Groups.{Group, Entry, empty_group, is_ignored, entr
 use Rattle.exif_images.specs.Ranged.{IsEntry}
 use Rattle.exif_images.specs.Rewriting.{pushed_all, all_blocks_set, blocks_set, set_if, BlocksOf}
 use Rattle.exif_images.specs.Pushing.{IsFieldRanged, PushesPlainTexts, PushesRanged, PushesFew, PushesNoBlocks, SetsNothing, IsPushed, NamesBlocks, HasPushedAndBlocks, IsMoved, HasPushedAlone}
-use Rattle.exif_tiff.proofs.Members.{all_append, each_of, all_of}
+use Rattle.exif_tiff.proofs.Members.{all_append}
 use Rattle.exif_images.proofs.Images.Pushing.{group_at, entries_added, pushed_entries, pushed_all_blocks, blocks_at}
 use Rattle.exif_images.proofs.Images.Rewritten.{length-pushed_all}
 use Rattle.exif_images.proofs.Images.Shares.{always}
@@ -101,7 +101,7 @@ pushes_plain fields groups plain h =
     let Q : Context → Entry → Type 0 = λ context entry. HasPlainTexts entry.value in
     entries_to Q (pushed_all fields groups)
     (pushed_all_have (λ m. Q) fields groups
-    (weaker (λ field. HasPlainTexts field.value) (λ field. is_ignored field.tag.0 field.tag.1 ≡ false → HasPlainTexts field.value) (λ field p e. p) fields (each_of (λ field. HasPlainTexts field.value) fields plain))
+    (weaker (λ field. HasPlainTexts field.value) (λ field. is_ignored field.tag.0 field.tag.1 ≡ false → HasPlainTexts field.value) (λ field p e. p) fields (recursion_from_All (λ field. HasPlainTexts field.value) fields plain))
     (entries_from Q groups h))
 
 -- pushing fields of numbers that fit keeps all entries such as a writer may hold
@@ -110,12 +110,12 @@ pushes_ranged fields groups ranged h =
     entries_to IsEntry (pushed_all fields groups)
     (pushed_all_have (λ m. IsEntry) fields groups
     (weaker IsFieldRanged (λ field. is_ignored field.tag.0 field.tag.1 ≡ false → IsEntry field.tag.0 (entry_of field))
-    (λ field p e. record { tag = p.tag; value = p.value; pushed = e }) fields (each_of IsFieldRanged fields ranged))
+    (λ field p e. record { tag = p.tag; value = p.value; pushed = e }) fields (recursion_from_All IsFieldRanged fields ranged))
     (entries_from IsEntry groups h))
 
 -- pushing fields of the first n directories leaves at most n groups, if there were no more
 pub pushes_few : (n : ℕ) (fields : List Field) (groups : List Group) → PushesFew n fields groups
-pushes_few n fields groups low h = length-pushed_all fields groups n (each_of (λ field. field.ifd_num.0 < n) fields low) h
+pushes_few n fields groups low h = length-pushed_all fields groups n (recursion_from_All (λ field. field.ifd_num.0 < n) fields low) h
 
 -- Pushing sets no blocks, and setting none changes nothing.
 abbrev NoBlocks : Group → Type 0
@@ -136,9 +136,9 @@ none_at (group ∷ groups) (suc m) h kind = none_at groups m h.1 kind
 -- pushing fields sets no blocks where there were none
 pub pushes_no_blocks : (fields : List Field) (groups : List Group) → PushesNoBlocks fields groups
 pushes_no_blocks fields groups h =
-    all_of NoBlocks (pushed_all fields groups)
+    All-from_recursion NoBlocks (pushed_all fields groups)
     (all_by_number NoBlocks (pushed_all fields groups)
-    (λ m k. same_blocks (group_at (pushed_all fields groups) m) (group_at groups m) (pushed_all_blocks fields groups m) (none_at groups m (each_of NoBlocks groups h))))
+    (λ m k. same_blocks (group_at (pushed_all fields groups) m) (group_at groups m) (pushed_all_blocks fields groups m) (none_at groups m (recursion_from_All NoBlocks groups h))))
 
 no_single : (jpeg : Option (List ℕ)) → single jpeg ≡ None → jpeg ≡ None
 no_single None h = refl
@@ -157,18 +157,18 @@ set_nothing (group ∷ from) n groups h = ap (all_blocks_set (suc n) from) (set_
 
 -- setting the blocks of groups that have none changes nothing
 pub sets_nothing : (from groups : List Group) → SetsNothing from groups
-sets_nothing from groups h = set_nothing from 0 groups (each_of NoBlocks from h)
+sets_nothing from groups h = set_nothing from 0 groups (recursion_from_All NoBlocks from h)
 
 -- Each field of an image is a pushed one or names blocks.
 pub has_pushed_and_blocks : (groups : List Group) → HasPushedAndBlocks groups
 has_pushed_and_blocks groups =
     let P : Field → Type 0 = λ field. IsPushed groups field ⊎ NamesBlocks groups field in
-    all_of P (flat groups) (flat_has P groups (λ m k. record {
+    All-from_recursion P (flat groups) (flat_has P groups (λ m k. record {
       pushed = λ context.
           weaker (Contains (pushed_in (group_at groups m) context)) (λ entry. (place : ℕ) → P (field_of context entry.tag m (moved_to place entry.value)))
           (λ entry c place. inl (record { entry = entry; place = place; pushed = c; moved = refl }))
           (pushed_in (group_at groups m) context)
-          (each_of (Contains (pushed_in (group_at groups m) context)) (pushed_in (group_at groups m) context) (All-contains_itself (pushed_in (group_at groups m) context)));
+          (recursion_from_All (Contains (pushed_in (group_at groups m) context)) (pushed_in (group_at groups m) context) (All-contains_itself (pushed_in (group_at groups m) context)));
       places = λ kind texts is numbers. inr (record { kind = kind; texts = texts; numbers = numbers; set = is; names = inl refl });
       lengths = λ kind texts is numbers. inr (record { kind = kind; texts = texts; numbers = numbers; set = is; names = inr refl });
     }))
@@ -185,9 +185,9 @@ has_pushed_alone fields =
     let entries : EntriesHave (IsOf fields) made =
     pushed_all_have (IsOf fields) fields []
     (weaker (Contains fields) (λ field. is_ignored field.tag.0 field.tag.1 ≡ false → IsOf fields field.ifd_num.0 field.tag.0 (entry_of field))
-    (λ field c e place. record { from = field; place = place; given = c; moved = refl }) fields (each_of (Contains fields) fields (All-contains_itself fields)))
+    (λ field c e place. record { from = field; place = place; given = c; moved = refl }) fields (recursion_from_All (Contains fields) fields (All-contains_itself fields)))
     (empty_have (IsOf fields)) in
-    all_of (IsMoved fields) (flat made) (flat_has (IsMoved fields) made (λ m k. record {
+    All-from_recursion (IsMoved fields) (flat made) (flat_has (IsMoved fields) made (λ m k. record {
       pushed = entries m;
       places = λ kind texts is numbers. (let n = no_blocks m kind in absurd cc);
       lengths = λ kind texts is numbers. (let n = no_blocks m kind in absurd cc);

@@ -5,6 +5,7 @@ use Rattle.std.specs.List.{AllByRecursion, flat_map, filter}
 use Rattle.std.proofs.lemmas.Bool.{ne_eqb, ltb-true, ltb-false}
 use Rattle.std.proofs.lemmas.List.{append-nil, append_assoc}
 use Rattle.std.proofs.lemmas.List.Concat.{flat_map-append}
+use Rattle.std.proofs.lemmas.List.Elements.{filter-append}
 use Rattle.exif_base.specs.declared.endian.Order.{Order}
 use Rattle.exif_types.specs.Lookup.{context_eq}
 use Rattle.exif_table.specs.declared.context.Context.{Context}
@@ -89,15 +90,6 @@ flat_adds (group ∷ groups) n (suc m) start context h =
     rw e (flat_map-append (added (suc n + m) context) (directory_fields (draft_of group) start n 3 Tiff) (flat_from (suc n) (draft_end (draft_of group) start) (map draft_of groups))
     ∙ (λ i. add_nothing (suc n + m) n context (directory_fields (draft_of group) start n 3 Tiff) (λ k. omega arith) (fields_numbered (draft_of group) start n 3 Tiff) i
     ++ flat_adds groups (suc n) m (draft_end (draft_of group) start) context (omega arith) i))
-
--- choosing from two joined lists gives what is chosen from the first, then from the second
-pub filter-append : {X : Type 0} (test : X → Bool) (xs ys : List X) → filter test (xs ++ ys) ≡ filter test xs ++ filter test ys
-filter-append test [] ys = refl
-filter-append test (x ∷ xs) ys =
-    elim (test x) as (λ b. cond b (x ∷ filter test (xs ++ ys)) (filter test (xs ++ ys)) ≡ cond b (x ∷ filter test xs) (filter test xs) ++ filter test ys) [
-      | true ↦ ap (λ r. x ∷ r) (filter-append test xs ys)
-      | false ↦ filter-append test xs ys
-    ]
 
 -- entries with tags that are none of the writer's own
 abbrev pub NoneIgnored : Context → List Entry → Type 0

@@ -1,9 +1,9 @@
 -- Scrubbing what was read.
 use Rattle.exif_images.proofs.Moved.{same_moved}
 use Rattle.std.proofs.Common.{◌≡◌, ◌∙◌, ℕ, ◌<◌, List, [], ◌∷◌, refl, sym, ap, arith, Bool, true, false}
+use Rattle.std.proofs.lemmas.List.Elements.{All-filter, All-contains, filter_passes, recursion_from_All, All-from_recursion}
 use Rattle.std.specs.Prelude.{◌&&◌, not}
 use Rattle.std.specs.List.{AllByRecursion, filter}
-use Rattle.std.proofs.lemmas.List.Elements.{All-filter, All-contains, filter_passes}
 use Rattle.exif_types.specs.Sound.{HasPlainTexts, IsRead}
 use Rattle.exif_types.specs.declared.value.Value.{Value}
 use Rattle.exif_types.specs.declared.field.Field.{Field}
@@ -17,9 +17,9 @@ use Rattle.exif_images.specs.Rewriting.{pushed_all}
 use Rattle.exif_images.specs.Pushing.{IsMoved, HaveNoBlocks}
 use Rattle.exif_images.specs.Scrubbing.{is_gps, is_kept, kept, scrubbed, ScrubsToKept, ScrubsOnce, Scrubs}
 use Rattle.exif_base.specs.declared.endian.Order.{Order}
-use Rattle.exif_tiff.proofs.Members.{each_of, all_of}
 use Rattle.exif_images.proofs.Images.Pushed.{weaker, pushes_plain, pushes_few, pushes_no_blocks, sets_nothing, has_pushed_alone}
-use Rattle.exif_images.proofs.Images.Laws.{reads_back, rewrites}
+use Rattle.exif_images.proofs.Images.Laws.{reads_back}
+use Rattle.exif_images.proofs.Images.Rewritten.{rewrites_same}
 
 both : (a b : Bool) → (not a && not b) ≡ true → (a ≡ false) × (b ≡ false)
 both true b h = absurd cc
@@ -47,22 +47,22 @@ moved_kept fields field m =
 each_kept : (fields : List Field) → AllByRecursion (λ field. is_kept field ≡ true) (flat (scrubbed fields))
 each_kept fields =
     weaker (IsMoved (kept fields)) (λ field. is_kept field ≡ true) (moved_kept fields) (flat (scrubbed fields))
-    (each_of (IsMoved (kept fields)) (flat (scrubbed fields)) (has_pushed_alone (kept fields)))
+    (recursion_from_All (IsMoved (kept fields)) (flat (scrubbed fields)) (has_pushed_alone (kept fields)))
 
 -- scrubbing what was read leaves at most eight plain groups, without GPS and unknown types
 pub scrubs_to_kept : (fields : List Field) → ScrubsToKept fields
 scrubs_to_kept fields read =
     let stay = each_kept fields in
-    let each = each_of IsRead (kept fields) (All-filter is_kept IsRead fields read) in
+    let each = recursion_from_All IsRead (kept fields) (All-filter is_kept IsRead fields read) in
     record {
       plain = pushes_plain (kept fields) []
-          (all_of (λ field. HasPlainTexts field.value) (kept fields) (weaker IsRead (λ field. HasPlainTexts field.value) (λ field h. h.plain) (kept fields) each))
+          (All-from_recursion (λ field. HasPlainTexts field.value) (kept fields) (weaker IsRead (λ field. HasPlainTexts field.value) (λ field h. h.plain) (kept fields) each))
           tt;
       few = pushes_few 8 (kept fields) []
-          (all_of (λ field. field.ifd_num.0 < 8) (kept fields) (weaker IsRead (λ field. field.ifd_num.0 < 8) (λ field h. h.number) (kept fields) each)) (omega arith);
-      without_gps = all_of (λ field. is_gps field.tag.0 ≡ false) (flat (scrubbed fields))
+          (All-from_recursion (λ field. field.ifd_num.0 < 8) (kept fields) (weaker IsRead (λ field. field.ifd_num.0 < 8) (λ field h. h.number) (kept fields) each)) (omega arith);
+      without_gps = All-from_recursion (λ field. is_gps field.tag.0 ≡ false) (flat (scrubbed fields))
           (weaker (λ field. is_kept field ≡ true) (λ field. is_gps field.tag.0 ≡ false) (λ field h. (both (is_gps field.tag.0) (is_unknown field.value) h).0) (flat (scrubbed fields)) stay);
-      without_unknown = all_of (λ field. is_unknown field.value ≡ false) (flat (scrubbed fields))
+      without_unknown = All-from_recursion (λ field. is_unknown field.value ≡ false) (flat (scrubbed fields))
           (weaker (λ field. is_kept field ≡ true) (λ field. is_unknown field.value ≡ false) (λ field h. (both (is_gps field.tag.0) (is_unknown field.value) h).1) (flat (scrubbed fields)) stay);
       all_kept = all_pass is_kept (flat (scrubbed fields)) stay;
     }
@@ -84,5 +84,5 @@ scrubs order fields read ranged written =
     record {
       readable = ready;
       reads_back = reads_back order (scrubbed fields) ready;
-      once = scrubs_once order fields (rewrites order (scrubbed fields) ranged written);
+      once = scrubs_once order fields (rewrites_same order (scrubbed fields) ranged written);
     }

@@ -10,7 +10,8 @@ use Rattle.exif_images.specs.declared.block_kind.BlockKind.TheVariants.{Strips, 
 use Rattle.exif_images.specs.Slots.{Slot, PlaceOf, known, inserted, in_tag_order, block_slots, pointer_slots, slots_of, tiff_slots, exif_slots, gps_slots, interop_slots}
 use Rattle.exif_tiff.proofs.Members.{all_append}
 
-all_inserted : (P : Slot → Type 0) (slot : Slot) (slots : List Slot) → P slot → AllByRecursion P slots → AllByRecursion P (inserted slot slots)
+-- what holds of a slot and of all others holds of all with it in its place
+pub all_inserted : (P : Slot → Type 0) (slot : Slot) (slots : List Slot) → P slot → AllByRecursion P slots → AllByRecursion P (inserted slot slots)
 all_inserted P slot [] p h = (p, tt)
 all_inserted P slot (next ∷ slots) p h =
     elim (nat_le slot.tag next.tag) as (λ b. AllByRecursion P (if b then slot ∷ next ∷ slots else next ∷ inserted slot slots)) [

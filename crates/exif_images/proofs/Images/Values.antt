@@ -16,6 +16,7 @@ use Rattle.exif_text.specs.declared.rational.SRational as srational
 use Rattle.exif_tiff.specs.Rationals.{rational_at, srational_at}
 use Rattle.exif_types.specs.Texts.{texts, without_empty_last, ended}
 use Rattle.exif_tiff.specs.Decode.{decode}
+use Rattle.exif_tiff.proofs.DecodeLemmas.{drops_last}
 use Rattle.exif_types.specs.declared.value.Value.{Value}
 use Rattle.exif_types.specs.declared.value.Value.TheVariants.{Byte, Ascii, Short, Long, Rational, SByte, Undefined, SShort, SLong, SRational, Float, Double, Unknown}
 use Rattle.exif_images.specs.Encoding.{spelled, encode, value_len, moved_to}
@@ -53,14 +54,9 @@ split_ended [] h = refl
 split_ended (x ∷ xs) h =
     ap (slice_split (λ b. b == 0)) (append_assoc x (0 ∷ []) (flat_map ended xs)) ∙ text_first x (flat_map ended xs) h.0 ∙ ap (λ r. x ∷ r) (split_ended xs h.1)
 
-without_last : (xs : List (List ℕ)) → without_empty_last (xs ++ [] ∷ []) ≡ xs
-without_last [] = refl
-without_last (x ∷ []) = refl
-without_last (x ∷ y ∷ xs) = ap (λ r. x ∷ r) (without_last (y ∷ xs))
-
 -- texts without zero bytes are read, each up to the zero byte that ends it
 texts_ended : (xs : List (List ℕ)) → AllByRecursion IsPlain xs → texts (flat_map ended xs) ≡ xs
-texts_ended xs h = ap without_empty_last (split_ended xs h) ∙ without_last xs
+texts_ended xs h = ap without_empty_last (split_ended xs h) ∙ drops_last xs
 
 length_pair : (order : Order) (x y : ℕ) → length (spelled order 4 x ++ spelled order 4 y) ≡ 8
 length_pair order x y =

@@ -1,5 +1,6 @@
 -- The premises of the laws of images and of scrubbing can be met: a worked example meets them.
 use Rattle.std.proofs.Common.{◌≢◌, [], ◌∷◌, arith}
+use Rattle.std.proofs.lemmas.List.Elements.{All-from_recursion}
 use Rattle.std.specs.Prelude.{codes}
 use Rattle.std.specs.List.{All}
 use Rattle.exif_base.specs.declared.endian.Order.{Order}
@@ -9,22 +10,21 @@ use Rattle.exif_images.specs.Ranged.{AreRanged, AreReadable}
 use Rattle.exif_images.specs.Pushing.{IsFieldRanged}
 use Rattle.exif_images.specs.Scrubbing.{kept, scrubbed, IsScrubbed}
 use Rattle.exif_images.specs.ImageExamples.{a_picture, a_picture_written}
-use Rattle.exif_tiff.proofs.Members.{all_of}
 use Rattle.exif_images.proofs.Images.Pushed.{pushes_ranged}
 use Rattle.exif_images.proofs.Images.Scrubbed.{scrubs}
 
 plain_word : All (λ b. b ≢ 0) (codes "Sample")
-plain_word = all_of (λ b. b ≢ 0) (codes "Sample") (omega arith, (omega arith, (omega arith, (omega arith, (omega arith, (omega arith, tt))))))
+plain_word = All-from_recursion (λ b. b ≢ 0) (codes "Sample") (omega arith, (omega arith, (omega arith, (omega arith, (omega arith, (omega arith, tt))))))
 
 picture_read : All IsRead a_picture
 picture_read =
-    all_of IsRead a_picture (
+    All-from_recursion IsRead a_picture (
       record { plain = tt; number = omega arith },
       (
         record { plain = tt; number = omega arith },
         (
           record { plain = tt; number = omega arith },
-          (record { plain = all_of (All (λ b. b ≢ 0)) (codes "Sample" ∷ []) (plain_word, tt); number = omega arith }, tt),
+          (record { plain = All-from_recursion (All (λ b. b ≢ 0)) (codes "Sample" ∷ []) (plain_word, tt); number = omega arith }, tt),
         ),
       ),
     )
@@ -32,7 +32,7 @@ picture_read =
 picture_ranged : AreRanged (scrubbed a_picture)
 picture_ranged =
     pushes_ranged (kept a_picture) []
-    (all_of IsFieldRanged (kept a_picture) (record { tag = omega arith; value = tt }, (record { tag = omega arith; value = tt }, tt)))
+    (All-from_recursion IsFieldRanged (kept a_picture) (record { tag = omega arith; value = tt }, (record { tag = omega arith; value = tt }, tt)))
     tt
 
 picture_scrubbed : (order : Order) → IsScrubbed order a_picture

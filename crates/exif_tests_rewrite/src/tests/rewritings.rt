@@ -26,7 +26,7 @@ const READ_FAILS: ErrorKind = ErrorKind::UnexpectedEof;
 
 const WRITE_FAILS: ErrorKind = ErrorKind::BrokenPipe;
 
-/// A refusal's text; of the reader's own error, the writer's own and want of memory a word.
+/// A refusal's text; of the reader's own error, the writer's own and out of memory a word.
 pub fn text_of(error: &Error) -> &'static str {
     match error {
         Error::InvalidFormat(text) | Error::TooBig(text) | Error::NotSupported(text) => *text,

@@ -6,9 +6,9 @@ use Rattle.exif_images.specs.Refused.{write_fault}
 use Rattle.exif_images.specs.Rewriting.{pushed_all}
 use Rattle.exif_images.specs.Scrubbing.{kept, scrubbed, IsScrubbed}
 use Rattle.exif_base.specs.Orders.{order_named}
-use Rattle.exif_report.proofs.ReportingFindings.{on_err}
 use Rattle.exif_base.proofs.Sent.{keeps_same, front_none}
 use Rattle.exif_report.proofs.scrubbing.scrub.Goals as goal
+use Rattle.exif_writer.proofs.SendRunning.{on_err}
 
 -- what follows where a call succeeded
 on_ok : (r : Result (Unit {0}) Failure) (P Q : Type 0) → OnOk r P → (P → Q) → OnOk r Q

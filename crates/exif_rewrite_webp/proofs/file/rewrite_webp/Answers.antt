@@ -1,12 +1,13 @@
-use Rattle.std.proofs.Common.{false, true, refl, ◌∙◌}
+use Rattle.std.proofs.Common.{false, true, refl, sym, ◌∙◌}
 use Rattle.std.proofs.lemmas.Result.{err_from_is_err_and}
+use Rattle.std.proofs.Math.Bool.{or-false}
 use Rattle.exif_base.proofs.Sent.{front_all, keeps_same}
 use Rattle.exif_rewrite_base.specs.Removing.{payload_of}
 use Rattle.exif_rewrite_webp.specs.RewrittenWebp.{webp_rewriting}
 use Rattle.exif_rewrite_webp.specs.WebpPlans.{plan_view}
+use Rattle.exif_rewrite_webp.proofs.WebpSteps.{interrupted_stops, interrupted_named, plan_stops, fails_named, send_stops, file_sent}
 use Rattle.exif_types.specs.Refusals.{is_io_error}
 use Rattle.exif_types.specs.declared.error.Error.TheVariants as error
-use Rattle.exif_rewrite_webp.proofs.WebpSteps.{interrupted_stops, interrupted_named, plan_stops, fails_named, send_stops, file_sent, or_none_failed}
 use Rattle.exif_rewrite_webp.proofs.file.rewrite_webp.Goals as goal
 
 pub returns-in_err-bytes-clause-sent : goal.returns-in_err-bytes-clause-sent
@@ -33,7 +34,7 @@ pub returns-in_err-bytes-clause-count : goal.returns-in_err-bytes-clause-count
 returns-in_err-bytes-clause-count g c =
     let p = err_from_is_err_and c.from_residual.result c.from_residual.ensures.1 in
     let e = c.in_err-bytes.field-0.0 in
-    (is_io_error e, false, c.in_err-bytes.ensures.counts.count, refl, rw (p.1, p.2) (or_none_failed (is_io_error e)))
+    (is_io_error e, false, c.in_err-bytes.ensures.counts.count, refl, rw (p.1, p.2) (sym (or-false (is_io_error e))))
 
 pub returns-in_err-bytes-clause-read_through : goal.returns-in_err-bytes-clause-read_through
 returns-in_err-bytes-clause-read_through g c = c.in_err-bytes.ensures.counts.same

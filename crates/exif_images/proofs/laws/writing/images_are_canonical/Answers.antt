@@ -1,8 +1,9 @@
-use Rattle.exif_images.proofs.Images.Laws.{rewrites, rewrites_in_each_order, equal_by_contents, lengths_agree, orders_agree}
+use Rattle.exif_images.proofs.Images.Laws.{rewrites_in_each_order, equal_by_contents, lengths_agree, orders_agree}
 use Rattle.exif_images.proofs.laws.writing.images_are_canonical.Goals as goal
+use Rattle.exif_images.proofs.Images.Rewritten.{rewrites_same}
 
 pub returns-clause-rewriting : goal.returns-clause-rewriting
-returns-clause-rewriting c = rewrites
+returns-clause-rewriting c = rewrites_same
 
 pub returns-clause-each_order : goal.returns-clause-each_order
 returns-clause-each_order c = rewrites_in_each_order

@@ -1,6 +1,7 @@
 use Rattle.exif_images.proofs.Images.Apart.{image_looks_apart}
-use Rattle.exif_images.proofs.Images.Laws.{laid_out, length_is_end, blocks_named}
+use Rattle.exif_images.proofs.Images.Laws.{laid_out, length_is_end}
 use Rattle.exif_images.proofs.laws.writing.images_are_laid_out.Goals as goal
+use Rattle.exif_images.proofs.Images.Contents.{blocks_stand}
 
 pub returns-clause-parts : goal.returns-clause-parts
 returns-clause-parts c = laid_out
@@ -9,7 +10,7 @@ pub returns-clause-ends : goal.returns-clause-ends
 returns-clause-ends c = length_is_end
 
 pub returns-clause-blocks : goal.returns-clause-blocks
-returns-clause-blocks c = blocks_named
+returns-clause-blocks c = blocks_stand
 
 pub returns-clause-apart : goal.returns-clause-apart
 returns-clause-apart c = image_looks_apart
