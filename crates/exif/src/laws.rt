@@ -1,7 +1,7 @@
 //! Laws of reading and writing. They hold for all bytes and all groups, and speak of the
 //! definitions alone.
 
-pub use exif_images::laws::{
+pub use exif_layout::laws::{
     calls_make_groups, images_are_canonical, images_are_laid_out, images_hold_what_was_pushed,
     images_read_back, pushing_keeps, scrubbing_twice_is_once, writes_send_equal_bytes,
 };

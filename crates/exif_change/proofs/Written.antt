@@ -4,9 +4,9 @@ use Rattle.std.specs.List.{All}
 use Rattle.exif_base.specs.declared.endian.Order.{Order}
 use Rattle.exif_types.specs.declared.field.Field.{Field}
 use Rattle.exif_containers.specs.Container.{format_in}
-use Rattle.exif_images.specs.Groups.{Group, jpeg_set, pushed}
-use Rattle.exif_images.specs.Image.{image}
-use Rattle.exif_images.specs.Rewriting.{pushed_all}
+use Rattle.exif_layout.specs.Groups.{Group, jpeg_set, pushed}
+use Rattle.exif_layout.specs.Image.{image}
+use Rattle.exif_layout.specs.Rewriting.{pushed_all}
 use Rattle.exif_change.specs.InPlace.{fitting_set}
 use Rattle.exif_change.specs.Setting.{HasThumbnail, IsBlockOf, IsSet, IsSetAnew, IsWrittenAnew, assigned_tags, has_room, others, renewed}
 use Rattle.exif_change.specs.declared.assignment.Assignment.{Assignment}

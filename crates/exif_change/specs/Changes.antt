@@ -7,8 +7,8 @@ use Rattle.exif_edit_base.specs.Causes.{no_data}
 use Rattle.exif_edit.specs.Erasing.{erase_patches}
 use Rattle.exif_edit_files.specs.InFiles.{Edit, clear_file_patches, edited_file, in_file}
 use Rattle.exif_rewrite.specs.RewrittenFile.{file_rewriting}
-use Rattle.exif_rewrite_base.specs.declared.remove.Remove.{Remove}
-use Rattle.exif_rewrite_base.specs.declared.remove.Remove.TheVariants.{Metadata}
+use Rattle.exif_containers.specs.declared.remove.Remove.{Remove}
+use Rattle.exif_containers.specs.declared.remove.Remove.TheVariants.{Metadata}
 use Rattle.exif_rewrite_jpeg.specs.Rewriting.{ends, finished}
 use Rattle.exif_change.specs.declared.scrubbing.Removed.{Removed}
 use Rattle.exif_change.specs.declared.scrubbing.Removed.TheVariants as removed

@@ -15,10 +15,10 @@ use Rattle.exif_containers.specs.Container.{container_answer, format_in}
 use Rattle.exif_containers.specs.declared.container.Format.{Format}
 use Rattle.exif_containers.specs.declared.container.Format.TheVariants.{Tiff, Jpeg, Heif, WebP}
 use Rattle.exif_reader.specs.Files.{file_answer}
-use Rattle.exif_rewrite_base.specs.declared.remove.Remove.TheVariants.{Exif}
-use Rattle.exif_images.specs.Groups.{Group, jpeg_set}
-use Rattle.exif_images.specs.Image.{image}
-use Rattle.exif_images.specs.Rewriting.{pushed_all, set_if}
+use Rattle.exif_containers.specs.declared.remove.Remove.TheVariants.{Exif}
+use Rattle.exif_layout.specs.Groups.{Group, jpeg_set}
+use Rattle.exif_layout.specs.Image.{image}
+use Rattle.exif_layout.specs.Rewriting.{pushed_all, set_if}
 use Rattle.exif_change.specs.Changes.{IsRewritten}
 use Rattle.exif_change.specs.InPlace.{field_set, fitting_set}
 use Rattle.exif_change.specs.declared.assignment.Assignment.{Assignment}

@@ -2,9 +2,9 @@
 
 ghost use Rattle.std.specs.Prelude.{◌≡◌, Some, IfOk, OnOk};
 ghost use Rattle.exif_base.specs.Orders.{order_named};
-ghost use Rattle.exif_images.specs.Image.{image};
-ghost use Rattle.exif_images.specs.Rewriting.{pushed_all};
-ghost use Rattle.exif_rewrite_base.specs.Removing.{payload_of};
+ghost use Rattle.exif_layout.specs.Image.{image};
+ghost use Rattle.exif_layout.specs.Rewriting.{pushed_all};
+ghost use Rattle.exif_containers.specs.Removing.{payload_of};
 ghost use Rattle.exif_change.specs.Changes.{IsRewritten};
 ghost use Rattle.exif_change.specs.Setting.{HasThumbnail, IsBlockOf, has_room, is_renewed, others, renewed};
 

@@ -9,4 +9,5 @@ pub mod JpegUnits
 pub mod LawsJpeg
 pub mod LawsWebp
 pub mod LimitedMoves
+pub mod RemovingLemmas
 pub mod WebpChunks

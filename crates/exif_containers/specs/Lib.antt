@@ -3,6 +3,7 @@ pub mod Container
 pub mod HeifSteps
 pub mod Jpeg
 pub mod JpegGrammar
+pub mod Removing
 pub mod Webp
 pub mod WebpGrammar
 pub mod WebpSteps

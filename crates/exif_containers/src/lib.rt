@@ -8,8 +8,10 @@ pub mod container;
 pub mod isobmff;
 pub mod jpeg;
 pub mod laws;
+pub mod remove;
 pub mod util;
 pub mod webp;
 
 pub use container::exif_attr_of_stream;
 pub use jpeg::get_exif_attr_from_jpeg;
+pub use remove::Remove;

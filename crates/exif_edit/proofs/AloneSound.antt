@@ -16,11 +16,11 @@ use Rattle.exif_text.specs.declared.ifd.In.{In}
 use Rattle.exif_types.specs.declared.value.Value.{Value}
 use Rattle.exif_tiff.specs.Footprint.{Stretch, looked_at}
 use Rattle.exif_tiff.specs.Trace.{header}
-use Rattle.exif_images.specs.Encoding.{encode}
-use Rattle.exif_images.specs.Ranged.{IsRanged}
-use Rattle.exif_images.specs.Refused.{is_unknown}
-use Rattle.exif_entries.specs.Locations.{Located, gps_places, located}
-use Rattle.exif_entries.specs.Walked.{Finds, Walked, entry_of}
+use Rattle.exif_layout.specs.Encoding.{encode}
+use Rattle.exif_layout.specs.Ranged.{IsRanged}
+use Rattle.exif_layout.specs.Refused.{is_unknown}
+use Rattle.exif_edit_base.specs.Locations.{Located, gps_places, located}
+use Rattle.exif_edit_base.specs.Walked.{Finds, Walked, entry_of}
 use Rattle.exif_tiff.specs.declared.place.DirectoryPlace.{DirectoryPlace}
 use Rattle.exif_tiff.specs.declared.place.EntryPlace.{EntryPlace}
 use Rattle.exif_edit_base.specs.Causes.{shared, too_long, unless, ◌>>=◌}

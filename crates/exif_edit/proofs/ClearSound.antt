@@ -17,8 +17,8 @@ use Rattle.exif_tiff.specs.Trace.{Node, opened, directory_nodes, entry_nodes, ch
 use Rattle.exif_tiff.specs.declared.fault.Fault.{Fault}
 use Rattle.exif_tiff.specs.declared.fault.Fault.TheVariants.{DataTooLarge, TruncatedHeader, InvalidByteOrder, InvalidFortyTwo}
 use Rattle.exif_table.specs.declared.context.Context.TheVariants.{Tiff}
-use Rattle.exif_images.specs.Encoding.{spelled}
-use Rattle.exif_images.proofs.Images.Standing.{length_spelled}
+use Rattle.exif_layout.specs.Encoding.{spelled}
+use Rattle.exif_layout.proofs.Images.Standing.{length_spelled}
 use Rattle.exif_edit_base.specs.Causes.{of_data, wrong_header}
 use Rattle.exif_edit_base.specs.Patches.{FitsIn, patched, put_at, zeros_over}
 use Rattle.exif_edit_base.specs.declared.patch.Patch.{Patch}

@@ -16,7 +16,7 @@ use Rattle.exif_tiff.specs.Trace.{trace, fields_of, faults_of, whole_entries, en
 use Rattle.exif_tiff.specs.declared.fault.Fault.{Fault}
 use Rattle.exif_edit_base.specs.Causes.{of_data, shared}
 use Rattle.exif_edit_base.specs.Patches.{FitsIn, patched, zeros_over}
-use Rattle.exif_entries.specs.Locations.{gps_places}
+use Rattle.exif_edit_base.specs.Locations.{gps_places}
 use Rattle.exif_edit_base.specs.Readings.{Read, reading}
 use Rattle.exif_edit_base.specs.declared.patch.Patch.{Patch}
 use Rattle.exif_edit_base.specs.declared.patch.Span.{Span}

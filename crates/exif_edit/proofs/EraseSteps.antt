@@ -9,7 +9,7 @@ use Rattle.exif_reader.specs.declared.stop.Stop.{Stop}
 use Rattle.exif_reader.specs.declared.stop.Stop.TheVariants as stop
 use Rattle.exif_edit_base.specs.Causes.{Becomes, Fails}
 use Rattle.exif_edit_base.specs.Patches.{zeros_over}
-use Rattle.exif_entries.specs.Locations.{gps_places}
+use Rattle.exif_edit_base.specs.Locations.{gps_places}
 use Rattle.exif_edit_base.specs.Readings.{Read, ReadsTo, reading}
 use Rattle.exif_edit_base.specs.declared.error.Error.{Error}
 use Rattle.exif_edit_base.specs.declared.patch.Patch.{Patch}

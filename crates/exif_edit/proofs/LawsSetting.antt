@@ -13,8 +13,8 @@ use Rattle.exif_types.specs.declared.tag.Tag.{Tag}
 use Rattle.exif_types.specs.declared.value.Value.{Value}
 use Rattle.exif_tiff.specs.Trace.{header}
 use Rattle.exif_tiff.specs.declared.fault.Fault.{Fault}
-use Rattle.exif_images.specs.Encoding.{encode}
-use Rattle.exif_entries.specs.Locations.{Located, located}
+use Rattle.exif_layout.specs.Encoding.{encode}
+use Rattle.exif_edit_base.specs.Locations.{Located, located}
 use Rattle.exif_edit_base.specs.Finding.{last_located}
 use Rattle.exif_edit_base.specs.Patches.{FitsIn, patched, put_at}
 use Rattle.exif_edit_base.specs.declared.patch.Patch.{Patch}

@@ -11,14 +11,14 @@ use Rattle.exif_types.specs.ValueTypes.{count_of, type_number}
 use Rattle.exif_types.specs.declared.value.Value.{Value}
 use Rattle.exif_tiff.specs.Trace.{entry_value}
 use Rattle.exif_tiff.proofs.Agreement.{bytes_same}
-use Rattle.exif_images.specs.Encoding.{encode, moved_to, spelled, value_len}
-use Rattle.exif_images.specs.Layout.{Stands}
-use Rattle.exif_images.specs.Places.{Written}
-use Rattle.exif_images.specs.Slots.{Known}
-use Rattle.exif_images.proofs.Images.Entries.{counted, fits_known, value_is}
-use Rattle.exif_images.proofs.Images.Standing.{number_read, stands_left, stands_of, stands_right, length_spelled}
-use Rattle.exif_images.proofs.Images.Values.{length-encode}
-use Rattle.exif_images.proofs.Images.Words.{Fits as IsReadable}
+use Rattle.exif_layout.specs.Encoding.{encode, moved_to, spelled, value_len}
+use Rattle.exif_layout.specs.Layout.{Stands}
+use Rattle.exif_layout.specs.Places.{Written}
+use Rattle.exif_layout.specs.Slots.{Known}
+use Rattle.exif_layout.proofs.Images.Entries.{counted, fits_known, value_is}
+use Rattle.exif_layout.proofs.Images.Standing.{number_read, stands_left, stands_of, stands_right, length_spelled}
+use Rattle.exif_layout.proofs.Images.Values.{length-encode}
+use Rattle.exif_layout.proofs.Images.Words.{Fits as IsReadable}
 use Rattle.exif_edit_base.specs.Patches.{padded, patched, put_at}
 use Rattle.exif_edit_base.specs.declared.patch.Patch.{Patch}
 use Rattle.exif_edit_base.specs.declared.patch.Span.{Span}

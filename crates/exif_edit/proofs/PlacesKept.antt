@@ -24,8 +24,8 @@ use Rattle.exif_tiff.proofs.Footprints as footprints
 use Rattle.exif_tiff.proofs.Footprints.{all_flat}
 use Rattle.exif_tiff.proofs.Members.{all_append, all_left, all_right}
 use Rattle.exif_tiff.proofs.ReportBound.{faults-append, fields-append}
-use Rattle.exif_entries.specs.Locations.{gps_of, gps_place}
-use Rattle.exif_entries.proofs.LawsLocated.{end_has_none}
+use Rattle.exif_edit_base.specs.Locations.{gps_of, gps_place}
+use Rattle.exif_edit_base.proofs.LawsLocated.{end_has_none}
 use Rattle.exif_edit.specs.Erasing.{is_gps, without_gps}
 use Rattle.exif_edit.specs.PlacesAlone.{all_kept, below_kept, chain_kept, directories_kept}
 

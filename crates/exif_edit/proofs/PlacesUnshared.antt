@@ -19,7 +19,7 @@ use Rattle.exif_tiff.specs.Trace.{Node, directories_of, header, ordered_trace, t
 use Rattle.exif_tiff.proofs.Agreement.{bytes_same, same_of}
 use Rattle.exif_tiff.proofs.FootprintAnswers.{header_same}
 use Rattle.exif_tiff.proofs.Footprints.{all_flat}
-use Rattle.exif_entries.specs.Locations.{directory_places, gps_of, gps_places}
+use Rattle.exif_edit_base.specs.Locations.{directory_places, gps_of, gps_places}
 use Rattle.exif_edit_base.specs.Causes.{shared}
 use Rattle.exif_edit_base.specs.Patches.{inside, patched, zeros_over}
 use Rattle.exif_edit_base.specs.Readings.{Read, reading}

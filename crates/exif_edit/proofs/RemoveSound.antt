@@ -19,19 +19,19 @@ use Rattle.exif_tiff.specs.Trace.{trace, fields_of, faults_of, whole_entries}
 use Rattle.exif_tiff.specs.declared.fault.Fault.{Fault}
 use Rattle.exif_edit_base.specs.Causes.{Cause, no_field, of_data, place_named, shared}
 use Rattle.exif_edit_base.specs.Patches.{FitsIn, inside, patched, zeros_over}
-use Rattle.exif_entries.specs.Locations.{located}
+use Rattle.exif_edit_base.specs.Locations.{located}
 use Rattle.exif_edit_base.specs.Readings.{Read, reading}
 use Rattle.exif_edit_base.specs.declared.patch.Patch.{Patch}
 use Rattle.exif_edit_base.specs.declared.patch.Span.{Span}
 use Rattle.exif_edit_base.proofs.CauseSteps.{bound, data_read, passed, tested}
 use Rattle.exif_edit_base.proofs.FindSteps.{field_of, header_named}
-use Rattle.exif_entries.specs.Walked.{entry_of}
+use Rattle.exif_edit_base.specs.Walked.{entry_of}
 use Rattle.exif_edit_base.proofs.PatchSteps.{AllWithin, Misses, length-patched, outside_place, patched_outside, zeroed_at}
 use Rattle.exif_edit.specs.Erasing.{directory_span}
 use Rattle.exif_edit.specs.Promises.{IsFieldErased, ReadAs, named_directories, told_by}
 use Rattle.exif_edit.specs.Removing.{directories_with, directory_patches, directory_without, entries_with, field_patches, named_removals, named_spans, named_values, read_without, removals, removals_from, still_reads, taken_spans, untold, without_named}
 use Rattle.exif_edit.specs.Setting.{names_places}
-use Rattle.exif_entries.proofs.LawsLocated.{located_fields}
+use Rattle.exif_edit_base.proofs.LawsLocated.{located_fields}
 use Rattle.exif_edit.proofs.EraseSound.{values_within, within-append, zeros_fit}
 use Rattle.exif_edit.proofs.ReadSound.{reads_are}
 use Rattle.exif_edit.proofs.RemoveSteps.{directory_length}

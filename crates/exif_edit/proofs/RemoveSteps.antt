@@ -14,16 +14,16 @@ use Rattle.exif_types.specs.declared.tag.Tag.{Tag}
 use Rattle.exif_text.specs.declared.ifd.In.{In}
 use Rattle.exif_tiff.specs.Trace.{directory_end, whole_entries}
 use Rattle.exif_tiff.specs.declared.fault.Fault.{Fault}
-use Rattle.exif_images.specs.Encoding.{spelled}
-use Rattle.exif_images.proofs.Images.Standing.{length_spelled}
+use Rattle.exif_layout.specs.Encoding.{spelled}
+use Rattle.exif_layout.proofs.Images.Standing.{length_spelled}
 use Rattle.exif_reader.specs.declared.stop.Stop.{Stop}
 use Rattle.exif_reader.specs.declared.stop.Stop.TheVariants as stop
 use Rattle.exif_edit_base.specs.Causes.{Becomes, Fails, no_field, place_named}
-use Rattle.exif_entries.specs.Locations.{located}
+use Rattle.exif_edit_base.specs.Locations.{located}
 use Rattle.exif_edit_base.specs.Readings.{Read, ReadsTo, reading}
 use Rattle.exif_edit_base.specs.declared.error.Error.{Error}
 use Rattle.exif_edit_base.specs.declared.patch.Patch.{Patch}
-use Rattle.exif_entries.specs.Walked.{entry_of}
+use Rattle.exif_edit_base.specs.Walked.{entry_of}
 use Rattle.exif_edit_base.specs.Patches.{padded, zeros_over}
 use Rattle.exif_edit_base.specs.declared.patch.Span.{Span}
 use Rattle.exif_edit_base.proofs.FindSteps.{field_of, fields_read}

@@ -13,12 +13,12 @@ use Rattle.exif_types.specs.declared.value.Value.{Value}
 use Rattle.exif_tiff.specs.Answers.{answer_of, shown}
 use Rattle.exif_tiff.specs.Trace.{fields_of, faults_of, trace}
 use Rattle.exif_tiff.specs.declared.fault.Fault.{Fault}
-use Rattle.exif_images.specs.Encoding.{moved_to}
+use Rattle.exif_layout.specs.Encoding.{moved_to}
 use Rattle.exif_edit_base.specs.Finding.{last_located, replaced, with_value}
-use Rattle.exif_entries.specs.Locations.{Located, located}
+use Rattle.exif_edit_base.specs.Locations.{Located, located}
 use Rattle.exif_edit_base.proofs.FindSteps.{any_map, field_of}
 use Rattle.exif_edit_base.proofs.ReadSteps.{is_refused, not_refused, unshown, unshown_shown}
-use Rattle.exif_entries.proofs.LawsLocated.{located_fields}
+use Rattle.exif_edit_base.proofs.LawsLocated.{located_fields}
 use Rattle.exif_edit.specs.Promises.{FindsNone, FindsValue, IsFieldErased, IsSet, told_by}
 use Rattle.exif_edit.specs.Removing.{told_at, without_named}
 

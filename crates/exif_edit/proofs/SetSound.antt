@@ -11,12 +11,12 @@ use Rattle.exif_types.specs.declared.tag.Tag.{Tag}
 use Rattle.exif_text.specs.declared.ifd.In.{In}
 use Rattle.exif_types.specs.declared.value.Value.{Value}
 use Rattle.exif_tiff.specs.Trace.{fields_of, trace}
-use Rattle.exif_images.specs.Encoding.{encode, moved_to, spelled}
-use Rattle.exif_images.specs.Refused.{is_unknown}
-use Rattle.exif_images.proofs.Images.Standing.{length_spelled}
+use Rattle.exif_layout.specs.Encoding.{encode, moved_to, spelled}
+use Rattle.exif_layout.specs.Refused.{is_unknown}
+use Rattle.exif_layout.proofs.Images.Standing.{length_spelled}
 use Rattle.exif_edit_base.specs.Causes.{Cause, no_field, of_data, or_cause, place_named, shared, too_long, unknown_type, unless, ◌>>=◌}
 use Rattle.exif_edit_base.specs.Finding.{find_answer, last_located, replaced}
-use Rattle.exif_entries.specs.Locations.{Located, located}
+use Rattle.exif_edit_base.specs.Locations.{Located, located}
 use Rattle.exif_edit_base.specs.Patches.{FitsIn, inside, padded, patched}
 use Rattle.exif_edit_base.specs.Readings.{Read, reading, reads_as}
 use Rattle.exif_edit_base.specs.declared.patch.Patch.{Patch}

@@ -9,8 +9,8 @@ use Rattle.exif_types.specs.ValueTypes.{count_of}
 use Rattle.exif_types.specs.declared.tag.Tag.{Tag}
 use Rattle.exif_types.specs.declared.value.Value.{Value}
 use Rattle.exif_types.specs.declared.field.Field.{Field}
-use Rattle.exif_images.specs.Encoding.{encode, moved_to}
-use Rattle.exif_images.specs.Refused.{is_unknown}
+use Rattle.exif_layout.specs.Encoding.{encode, moved_to}
+use Rattle.exif_layout.specs.Refused.{is_unknown}
 use Rattle.exif_edit_base.specs.Causes.{Cause, place_named, shared, too_long, unknown_type}
 use Rattle.exif_edit_base.specs.Finding.{find_answer, replaced}
 use Rattle.exif_edit_base.specs.Readings.{Read}

@@ -14,7 +14,7 @@ use Rattle.exif_types.specs.declared.value.Value.{Value}
 use Rattle.exif_types.specs.declared.value.Value.TheVariants as value
 use Rattle.exif_tiff.specs.Trace.{Found, Met, Node, Opens, Visit, header, entry_value, located_of, ordered_trace, trace}
 use Rattle.exif_tiff.specs.declared.fault.Fault.{Fault}
-use Rattle.exif_entries.specs.Locations.{Located, located}
+use Rattle.exif_edit_base.specs.Locations.{Located, located}
 use Rattle.exif_edit_base.proofs.FindSteps.{field_of}
 use Rattle.exif_edit_base.proofs.LocatedEntries.{AreSaid, ordered_said}
 use Rattle.exif_edit.specs.Promises.{told_by}

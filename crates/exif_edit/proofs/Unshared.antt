@@ -28,12 +28,12 @@ use Rattle.exif_tiff.specs.Footprint.{Agree, Stretch}
 use Rattle.exif_tiff.specs.Trace.{Node, child_of, entry_value, fields_of, faults_of, header, located_of, ordered_trace, trace}
 use Rattle.exif_tiff.proofs.Agreement.{bytes_same, number_same, same_of}
 use Rattle.exif_tiff.proofs.FootprintAnswers.{header_same}
-use Rattle.exif_images.specs.Encoding.{encode, moved_to}
-use Rattle.exif_images.specs.Ranged.{IsRanged}
-use Rattle.exif_images.specs.Refused.{is_unknown}
-use Rattle.exif_images.proofs.Images.Fitting.{fits_of}
-use Rattle.exif_entries.specs.Locations.{Located, located}
-use Rattle.exif_entries.proofs.LawsLocated.{ordered_fields}
+use Rattle.exif_layout.specs.Encoding.{encode, moved_to}
+use Rattle.exif_layout.specs.Ranged.{IsRanged}
+use Rattle.exif_layout.specs.Refused.{is_unknown}
+use Rattle.exif_layout.proofs.Images.Fitting.{fits_of}
+use Rattle.exif_edit_base.specs.Locations.{Located, located}
+use Rattle.exif_edit_base.proofs.LawsLocated.{ordered_fields}
 use Rattle.exif_edit_base.specs.Causes.{Cause, place_named, shared, too_long, unknown_type, unless, ◌>>=◌}
 use Rattle.exif_edit_base.specs.Finding.{find_answer, last_located, replaced, with_value}
 use Rattle.exif_edit_base.specs.Patches.{FitsIn, inside, patched}

@@ -18,8 +18,8 @@ use Rattle.exif_tiff.specs.declared.place.DirectoryPlace.{DirectoryPlace}
 use Rattle.exif_tiff.specs.Footprint.{Below, chain_directories, entry_directories, following, named, pointed}
 use Rattle.exif_tiff.specs.Trace.{Directory, Found, Met, Node, Opens, Visit, chain_after, chain_nodes, child_end, child_of, depth_of, directories_of, directory_end, directory_nodes, entry_nodes, entry_places, entry_value, header, ordered_trace, pointer_nodes, tagged_nodes, trace, valued_nodes}
 use Rattle.exif_tiff.proofs.Visited.{visited}
-use Rattle.exif_entries.specs.Locations.{directory_places}
-use Rattle.exif_entries.specs.Walked.{Finds, Walked}
+use Rattle.exif_edit_base.specs.Locations.{directory_places}
+use Rattle.exif_edit_base.specs.Walked.{Finds, Walked}
 use Rattle.exif_edit.specs.Erasing.{is_gps}
 use Rattle.exif_edit.specs.PlacesAlone.{below_kept, chain_kept, directories_kept}
 

@@ -3,7 +3,7 @@ use Rattle.std.specs.Prelude.{◌≡◌, ℕ, ◌-◌, ◌≤◌, nat_lt, List, 
 use Rattle.exif_base.specs.declared.endian.Order.{Order}
 use Rattle.exif_tiff.specs.Answers.{Whole, raw_answer}
 use Rattle.exif_tiff.specs.Trace.{header}
-use Rattle.exif_images.specs.Encoding.{spelled}
+use Rattle.exif_layout.specs.Encoding.{spelled}
 use Rattle.exif_edit_base.specs.Causes.{Cause, of_data, ◌>>=◌}
 use Rattle.exif_edit_base.specs.Patches.{patched, zeros_over}
 use Rattle.exif_edit_base.specs.declared.patch.Patch.{Patch}

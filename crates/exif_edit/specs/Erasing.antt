@@ -11,7 +11,7 @@ use Rattle.exif_types.specs.FieldEq.{field_eq}
 use Rattle.exif_types.specs.declared.field.Field.{Field}
 use Rattle.exif_tiff.specs.Trace.{whole_entries, entry_places}
 use Rattle.exif_edit_base.specs.Causes.{Cause, of_data, shared, ◌>>=◌}
-use Rattle.exif_entries.specs.Locations.{gps_places}
+use Rattle.exif_edit_base.specs.Locations.{gps_places}
 use Rattle.exif_edit_base.specs.Patches.{patched, zeros_over}
 use Rattle.exif_edit_base.specs.Readings.{Read, reading}
 use Rattle.exif_edit_base.specs.declared.patch.Patch.{Patch}

@@ -8,7 +8,7 @@ use Rattle.exif_tiff.specs.Trace.{trace, ordered_trace}
 use Rattle.exif_edit_base.specs.Causes.{no_field, place_named, too_long}
 use Rattle.exif_edit_base.specs.Finding.{find_answer}
 use Rattle.exif_edit_base.specs.Readings.{reading}
-use Rattle.exif_entries.specs.Locations.{directory_places, gps_places, located}
+use Rattle.exif_edit_base.specs.Locations.{directory_places, gps_places, located}
 use Rattle.exif_edit.specs.Erasing.{erase_answer, erase_patches, gps_spans}
 use Rattle.exif_edit.specs.PlacesAlone.{places_stand_alone}
 use Rattle.exif_edit.specs.Sharing.{stands_alone}

@@ -11,14 +11,14 @@ use Rattle.exif_types.specs.declared.field.Field.{Field}
 use Rattle.exif_tiff.specs.Trace.{header, trace, fields_of, faults_of}
 use Rattle.exif_tiff.specs.Answers.{answer_of, raw_answer, shown}
 use Rattle.exif_tiff.specs.declared.fault.Fault.{Fault}
-use Rattle.exif_images.specs.Encoding.{moved_to}
+use Rattle.exif_layout.specs.Encoding.{moved_to}
 use Rattle.exif_edit_base.specs.Finding.{last_located, replaced}
 use Rattle.exif_edit_base.specs.Patches.{inside}
-use Rattle.exif_entries.specs.Locations.{Located, located}
+use Rattle.exif_edit_base.specs.Locations.{Located, located}
 use Rattle.exif_edit.specs.Erasing.{gps_spans, without_gps}
 use Rattle.exif_edit.specs.Removing.{directories_with, named_spans, named_values, told_at, without_named}
 use Rattle.exif_edit.specs.Setting.{set_answer, value_room}
-use Rattle.exif_entries.specs.Walked.{entry_of}
+use Rattle.exif_edit_base.specs.Walked.{entry_of}
 
 -- in both modes the data are read as these fields and faults
 abbrev pub ReadAs : List ℕ → List Field → List Fault → Type 0

@@ -15,15 +15,15 @@ use Rattle.exif_types.specs.declared.value.Value.TheVariants.{Undefined, Unknown
 use Rattle.exif_types.specs.declared.field.Field.{Field}
 use Rattle.exif_tiff.specs.Trace.{directory_end, entry_places, whole_entries}
 use Rattle.exif_tiff.specs.declared.fault.Fault.{Fault}
-use Rattle.exif_images.specs.Encoding.{spelled}
+use Rattle.exif_layout.specs.Encoding.{spelled}
 use Rattle.exif_edit_base.specs.Causes.{Cause, no_field, of_data, place_named, shared, unless, ◌>>=◌}
 use Rattle.exif_edit_base.specs.Finding.{with_value}
 use Rattle.exif_edit_base.specs.Patches.{padded, patched, zeros_over}
-use Rattle.exif_entries.specs.Locations.{located}
+use Rattle.exif_edit_base.specs.Locations.{located}
 use Rattle.exif_edit_base.specs.Readings.{Read, reading}
 use Rattle.exif_edit_base.specs.declared.patch.Patch.{Patch}
 use Rattle.exif_edit_base.specs.declared.patch.Span.{Span}
-use Rattle.exif_entries.specs.Walked.{entry_of}
+use Rattle.exif_edit_base.specs.Walked.{entry_of}
 use Rattle.exif_edit.specs.Erasing.{directory_span, value_span}
 use Rattle.exif_edit.specs.Setting.{names_places}
 use Rattle.exif_tiff.specs.declared.place.EntryPlace.{EntryPlace}

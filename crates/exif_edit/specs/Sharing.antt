@@ -11,10 +11,10 @@ use Rattle.exif_types.specs.declared.tag.Tag.{Tag}
 use Rattle.exif_types.specs.declared.value.Value.{Value}
 use Rattle.exif_tiff.specs.Footprint.{Stretch, chain_directories, value_stretch}
 use Rattle.exif_tiff.specs.Trace.{entry_places, header, whole_entries}
-use Rattle.exif_images.specs.Encoding.{encode}
-use Rattle.exif_images.specs.Ranged.{IsRanged}
-use Rattle.exif_images.specs.Refused.{is_unknown}
-use Rattle.exif_entries.specs.Locations.{Located, located}
+use Rattle.exif_layout.specs.Encoding.{encode}
+use Rattle.exif_layout.specs.Ranged.{IsRanged}
+use Rattle.exif_layout.specs.Refused.{is_unknown}
+use Rattle.exif_edit_base.specs.Locations.{Located, located}
 use Rattle.exif_edit_base.specs.Causes.{Cause, place_named, too_long, unknown_type, unless, ◌>>=◌}
 use Rattle.exif_edit_base.specs.Finding.{last_located}
 use Rattle.exif_edit_base.specs.declared.patch.Patch.{Patch}

@@ -6,7 +6,7 @@ ghost use Rattle.std.specs.List.{filter, flat_map, list_any};
 ghost use Rattle.exif_base.specs.Orders.{number_of};
 ghost use Rattle.exif_tiff.specs.Footprint.{looked_at, value_stretch};
 ghost use Rattle.exif_tiff.specs.Trace.{entry_places, header};
-ghost use Rattle.exif_entries.specs.Walked.{Finds};
+ghost use Rattle.exif_edit_base.specs.Walked.{Finds};
 ghost use Rattle.exif_edit_base.specs.Patches.{FitsIn};
 ghost use Rattle.exif_edit.specs.Changing.{ChangeEntry, ChangePlaces, changes, covers};
 ghost use Rattle.exif_edit.specs.Erasing.{is_gps};
@@ -17,7 +17,7 @@ use crate::erase::{value_span, whole_entries};
 use crate::set::value_room;
 use exif_base::Order;
 use exif_edit_base::patch::Patch;
-use exif_entries::{DirectoryPlace, EntryPlace, Walk};
+use exif_edit_base::{DirectoryPlace, EntryPlace, Walk};
 use exif_types::Context;
 
 // So many pairs of a patch and a stretch are asked at most. Where places make more of them, a second

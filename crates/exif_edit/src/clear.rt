@@ -1,7 +1,7 @@
 //! All fields erased: the header stays, and no directory is left.
 
 ghost use Rattle.std.specs.Prelude.{◌≡◌, ◌≤◌, ◌-◌, ◌<◌, ◌^◌, All, length, replicate, IfOk, OnOk};
-ghost use Rattle.exif_images.specs.Encoding.{spelled};
+ghost use Rattle.exif_layout.specs.Encoding.{spelled};
 ghost use Rattle.exif_edit_base.specs.Causes.{Edits, Makes};
 ghost use Rattle.exif_edit_base.specs.Patches.{FitsIn, put_at};
 ghost use Rattle.exif_edit.specs.Clearing.{IsCleared, clear_answer, clear_patches, clearing, empty_place};
@@ -9,7 +9,7 @@ ghost use Rattle.exif_edit.specs.Clearing.{IsCleared, clear_answer, clear_patche
 use exif_base::{BigEndian, Endian, Items, LittleEndian, Order};
 use exif_edit_base::Error;
 use exif_edit_base::patch::{Patch, Span, zeros};
-use exif_images::item::spelled_u32;
+use exif_layout::item::spelled_u32;
 use exif_reader::tiff::header;
 use std::alloc::{AllocError, Global};
 

@@ -3,13 +3,13 @@
 ghost use Rattle.std.specs.Prelude.{◌≡◌, ◌≢◌, ◌≤◌, ◌<◌, ◌+◌, ◌*◌, ◌^◌, All, [], ◌∷◌, max, length, true, false, Ok, IfOk, IfErr, OnOk};
 ghost use Rattle.exif_base.specs.Orders.{number_of};
 ghost use Rattle.exif_tiff.specs.Trace.{header};
-ghost use Rattle.exif_entries.specs.Walked.{Finds};
+ghost use Rattle.exif_edit_base.specs.Walked.{Finds};
 ghost use Rattle.exif_types.specs.Sound.{HasPlainTexts};
 ghost use Rattle.exif_types.specs.ValueTypes.{count_of};
 ghost use Rattle.exif_types.specs.declared.error.Error.TheVariants as Failure;
-ghost use Rattle.exif_images.specs.Encoding.{encode, moved_to};
-ghost use Rattle.exif_images.specs.Ranged.{IsRanged};
-ghost use Rattle.exif_images.specs.Refused.{is_unknown};
+ghost use Rattle.exif_layout.specs.Encoding.{encode, moved_to};
+ghost use Rattle.exif_layout.specs.Ranged.{IsRanged};
+ghost use Rattle.exif_layout.specs.Refused.{is_unknown};
 ghost use Rattle.exif_edit_base.specs.Causes.{Edits, Makes};
 ghost use Rattle.exif_edit_base.specs.Finding.{IsLastAt, replaced};
 ghost use Rattle.exif_edit_base.specs.Patches.{FitsIn};
@@ -27,7 +27,7 @@ use exif_edit_base::Error;
 use exif_edit_base::find::{Found, find};
 use exif_edit_base::patch::{Patch, Span, padded};
 use exif_edit_base::read::{number16, number32, order_named};
-use exif_images::show_value_fits;
+use exif_layout::show_value_fits;
 use exif_types::{Context, Field, FieldType, In, Tag, Value};
 use std::alloc::{AllocError, Global};
 

@@ -3,12 +3,12 @@
 ghost use Rattle.std.specs.Prelude.{◌≡◌, IfOk};
 ghost use Rattle.exif_edit.specs.Setting.{entry_text};
 ghost use Rattle.exif_types.specs.ValueTypes.{count_of};
-ghost use Rattle.exif_images.specs.Encoding.{encode};
-ghost use Rattle.exif_images.specs.Refused.{is_unknown};
+ghost use Rattle.exif_layout.specs.Encoding.{encode};
+ghost use Rattle.exif_layout.specs.Refused.{is_unknown};
 
 use exif_base::{Counted, Order};
 use exif_edit_base::patch::padded;
-use exif_images::item::{send_value, spelled_u16, spelled_u32};
+use exif_layout::item::{send_value, spelled_u16, spelled_u32};
 use exif_types::Value;
 use std::alloc::{AllocError, Global};
 

@@ -20,10 +20,10 @@ use Rattle.exif_reader.specs.declared.stop.Stop.{Stop}
 use Rattle.exif_reader.specs.declared.stop.Stop.TheVariants as stop
 use Rattle.exif_edit_base.specs.Causes.{Becomes, Fails, no_field}
 use Rattle.exif_edit_base.specs.Finding.{IsLastAt, find_answer, last_located, replaced, with_value}
-use Rattle.exif_entries.specs.Locations.{Located, located}
+use Rattle.exif_edit_base.specs.Locations.{Located, located}
 use Rattle.exif_edit_base.specs.Readings.{Read, is_little, reading, ReadsTo}
 use Rattle.exif_edit_base.specs.declared.error.Error.{Error}
-use Rattle.exif_entries.proofs.LawsLocated.{ordered_fields}
+use Rattle.exif_edit_base.proofs.LawsLocated.{ordered_fields}
 use Rattle.exif_edit_base.proofs.ReadSteps.{reading_by}
 
 -- the field of a located one, without its places

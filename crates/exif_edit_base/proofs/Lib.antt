@@ -1,6 +1,8 @@
 pub mod CauseSteps
 pub mod ChangeSteps
 pub mod FindSteps
+pub mod Found
+pub mod LawsLocated
 pub mod LocatedEntries
 pub mod PatchSteps
 pub mod PutBack

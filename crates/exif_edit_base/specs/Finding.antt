@@ -7,7 +7,7 @@ use Rattle.exif_text.specs.declared.ifd.In.{In}
 use Rattle.exif_types.specs.declared.value.Value.{Value}
 use Rattle.exif_types.specs.declared.field.Field.{Field}
 use Rattle.exif_edit_base.specs.Causes.{Cause, no_field, of_data, or_cause, ◌>>=◌}
-use Rattle.exif_entries.specs.Locations.{Located, located}
+use Rattle.exif_edit_base.specs.Locations.{Located, located}
 use Rattle.exif_edit_base.specs.Readings.{Read, reading}
 
 -- the last field of a name, with its place

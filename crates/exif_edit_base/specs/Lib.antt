@@ -1,4 +1,7 @@
 pub mod Causes
 pub mod Finding
+pub mod Locations
 pub mod Patches
 pub mod Readings
+pub mod Results
+pub mod Walked

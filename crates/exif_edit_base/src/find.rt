@@ -2,7 +2,7 @@
 
 ghost use Rattle.std.specs.Prelude.{◌≡◌, ◌<◌, ◌^◌, All, length, false, slice_get, Some, IfOk, OnOk, MatchOption};
 ghost use Rattle.exif_types.specs.Lookup.{is_named};
-ghost use Rattle.exif_entries.specs.Walked.{Finds};
+ghost use Rattle.exif_edit_base.specs.Walked.{Finds};
 ghost use Rattle.exif_edit_base.specs.Causes.{Makes};
 ghost use Rattle.exif_edit_base.specs.Finding.{IsLastAt, find_answer};
 ghost use Rattle.exif_edit_base.specs.Readings.{read_of};
@@ -10,8 +10,9 @@ ghost use Rattle.exif_edit_base.specs.declared.find.Found.{Found};
 
 use crate::error::Error;
 use crate::read::locate;
-use exif_entries::{EntryPlace, Located, Walk};
+use crate::walk::{Located, Walk};
 use exif_reader::tiff::Parsed;
+use exif_tiff::EntryPlace;
 use exif_types::{Field, In, Tag};
 use std::alloc::Global;
 

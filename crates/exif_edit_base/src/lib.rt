@@ -4,8 +4,12 @@
 
 pub mod error;
 pub mod find;
+pub mod laws;
 pub mod patch;
 pub mod read;
+mod walk;
 
 pub use error::Error;
+pub use exif_tiff::{DirectoryPlace, EntryPlace};
 pub use patch::Patch;
+pub use walk::{Located, Walk, read_located};

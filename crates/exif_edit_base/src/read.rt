@@ -4,12 +4,12 @@ ghost use Rattle.std.specs.Prelude.{◌≡◌, ◌≤◌, ◌<◌, ◌^◌, ◌+
 ghost use Rattle.std.specs.Cmp.Lexicographic.{pointwise};
 ghost use Rattle.exif_base.specs.Bytes.{number_at};
 ghost use Rattle.exif_base.specs.Orders.{number_of, order_named};
-ghost use Rattle.exif_entries.specs.Results.{parsed_of};
-ghost use Rattle.exif_entries.specs.Walked.{Finds};
+ghost use Rattle.exif_edit_base.specs.Results.{parsed_of};
+ghost use Rattle.exif_edit_base.specs.Walked.{Finds};
 ghost use Rattle.exif_edit_base.specs.Readings.{ReadsTo, fault_eq, read_of, reading, reads_as};
 
+use crate::walk::{Located, read_located};
 use exif_base::{BigEndian, Endian, LittleEndian, Order};
-use exif_entries::{Located, read_located};
 use exif_reader::stop::Stop;
 use exif_reader::tiff::{Parsed, parse};
 use exif_tiff::Fault;

@@ -17,13 +17,13 @@ use Rattle.exif_tiff.specs.Apart.{are_apart, looks_apart}
 use Rattle.exif_tiff.specs.Decode.{decode}
 use Rattle.exif_tiff.specs.Footprint.{Stretch, ordered_footprint, value_stretch}
 use Rattle.exif_tiff.specs.Trace.{Found, Met, Node, Opens, Visit, entry_value, header, located_of, ordered_trace}
-use Rattle.exif_images.specs.Groups.{Group}
-use Rattle.exif_images.specs.Image.{image}
-use Rattle.exif_images.specs.Ranged.{AreRanged, HavePlainTexts}
-use Rattle.exif_images.specs.Refused.{write_fault}
-use Rattle.exif_images.proofs.Images.Apart.{image_looks_apart}
-use Rattle.exif_images.proofs.Images.ReadBack.{image_header}
-use Rattle.exif_entries.specs.Locations.{Located, located}
+use Rattle.exif_layout.specs.Groups.{Group}
+use Rattle.exif_layout.specs.Image.{image}
+use Rattle.exif_layout.specs.Ranged.{AreRanged, HavePlainTexts}
+use Rattle.exif_layout.specs.Refused.{write_fault}
+use Rattle.exif_layout.proofs.Images.Apart.{image_looks_apart}
+use Rattle.exif_layout.proofs.Images.ReadBack.{image_header}
+use Rattle.exif_edit_base.specs.Locations.{Located, located}
 use Rattle.exif_edit_base.specs.Finding.{last_located}
 use Rattle.exif_edit_base.specs.declared.patch.Span.{Span}
 use Rattle.exif_edit_base.proofs.LocatedEntries.{AreSaid, IsSaid, last_said, ordered_said}

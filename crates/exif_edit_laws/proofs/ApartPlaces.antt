@@ -16,8 +16,8 @@ use Rattle.exif_tiff.specs.Apart.{are_apart}
 use Rattle.exif_tiff.specs.Footprint.{Stretch, chain_directories, directory_stretch, looked_at, value_stretch}
 use Rattle.exif_tiff.specs.Trace.{entry_of, entry_places, header, whole_entries}
 use Rattle.exif_tiff.proofs.ApartLists.{IsApart}
-use Rattle.exif_entries.specs.Locations.{directory_places, gps_of, gps_places, located}
-use Rattle.exif_entries.specs.Walked.{Finds, Walked}
+use Rattle.exif_edit_base.specs.Locations.{directory_places, gps_of, gps_places, located}
+use Rattle.exif_edit_base.specs.Walked.{Finds, Walked}
 use Rattle.exif_edit_base.specs.declared.patch.Span.{Span}
 use Rattle.exif_edit.specs.Erasing.{clipped, directory_spans, gps_spans, nowhere, value_span, within}
 use Rattle.exif_edit.specs.PlacesAlone.{all_kept, chain_kept, places_stand_alone}

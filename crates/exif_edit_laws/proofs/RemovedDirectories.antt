@@ -22,9 +22,9 @@ use Rattle.exif_tiff.proofs.ApartLists.{AreApart}
 use Rattle.exif_tiff.proofs.Footprints.{end_same, entries_same, places_same}
 use Rattle.exif_tiff.proofs.VisitBound.{length-spaced}
 use Rattle.exif_tiff.proofs.Members.{all_passed}
-use Rattle.exif_images.specs.Encoding.{spelled}
-use Rattle.exif_images.specs.Layout.{Stands}
-use Rattle.exif_images.proofs.Images.Standing.{number_read, stands_left, stands_right, length_spelled}
+use Rattle.exif_layout.specs.Encoding.{spelled}
+use Rattle.exif_layout.specs.Layout.{Stands}
+use Rattle.exif_layout.proofs.Images.Standing.{number_read, stands_left, stands_right, length_spelled}
 use Rattle.exif_edit_base.proofs.LocatedEntries.{places_whole}
 use Rattle.exif_edit.specs.Removing.{entries_text, entries_without, has_tag, next_text}
 use Rattle.exif_edit.proofs.SetSound.{length-padded}

@@ -10,7 +10,7 @@ use Rattle.exif_base.specs.declared.endian.Order.{Order}
 use Rattle.exif_tiff.specs.Footprint.{Stretch, directory_stretch, looked_at, value_stretch}
 use Rattle.exif_tiff.specs.Trace.{entry_places}
 use Rattle.exif_tiff.proofs.ApartLists.{AreApart, EachApart, IsApart}
-use Rattle.exif_images.specs.Layout.{Stands}
+use Rattle.exif_layout.specs.Layout.{Stands}
 use Rattle.exif_edit_base.specs.Patches.{FitsIn, patched}
 use Rattle.exif_edit_base.specs.declared.patch.Patch.{Patch}
 use Rattle.exif_edit_base.proofs.PatchSteps.{fit_in, length-patched, patched_outside, put_on}

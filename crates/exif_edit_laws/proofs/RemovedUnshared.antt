@@ -28,8 +28,8 @@ use Rattle.exif_tiff.proofs.ApartLists.{AreApart, EachApart, IsApart}
 use Rattle.exif_tiff.proofs.FootprintAnswers.{header_same}
 use Rattle.exif_tiff.proofs.Footprints.{all_flat}
 use Rattle.exif_tiff.proofs.Visited.{visited}
-use Rattle.exif_entries.specs.Locations.{located}
-use Rattle.exif_entries.proofs.LawsLocated.{ordered_fields}
+use Rattle.exif_edit_base.specs.Locations.{located}
+use Rattle.exif_edit_base.proofs.LawsLocated.{ordered_fields}
 use Rattle.exif_edit_base.specs.Causes.{shared}
 use Rattle.exif_edit_base.specs.Patches.{patched}
 use Rattle.exif_edit_base.specs.Readings.{Read, reading}

@@ -8,10 +8,10 @@ use Rattle.exif_types.specs.declared.tag.Tag.{Tag}
 use Rattle.exif_types.specs.declared.value.Value.{Value}
 use Rattle.exif_tiff.specs.Apart.{looks_apart}
 use Rattle.exif_tiff.specs.Trace.{header}
-use Rattle.exif_images.specs.Groups.{Group}
-use Rattle.exif_images.specs.Image.{image}
-use Rattle.exif_images.specs.Ranged.{IsRanged}
-use Rattle.exif_entries.specs.Locations.{Located, located}
+use Rattle.exif_layout.specs.Groups.{Group}
+use Rattle.exif_layout.specs.Image.{image}
+use Rattle.exif_layout.specs.Ranged.{IsRanged}
+use Rattle.exif_edit_base.specs.Locations.{Located, located}
 use Rattle.exif_edit_base.specs.Finding.{last_located}
 use Rattle.exif_edit_base.specs.Patches.{zeros_over}
 use Rattle.exif_edit.specs.Erasing.{erase_patches, gps_spans}

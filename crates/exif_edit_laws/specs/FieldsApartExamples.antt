@@ -4,7 +4,7 @@ use Rattle.std.specs.Prelude.{ℕ, ◌≡◌, refl, true, false, List, [], ◌�
 use Rattle.exif_table.specs.declared.context.Context.TheVariants.{Tiff}
 use Rattle.exif_tiff.specs.Apart.{looks_apart}
 use Rattle.exif_tiff.specs.Trace.{ordered_trace, trace}
-use Rattle.exif_entries.specs.Locations.{located}
+use Rattle.exif_edit_base.specs.Locations.{located}
 use Rattle.exif_edit_base.specs.Causes.{shared}
 use Rattle.exif_edit_base.specs.Readings.{reading}
 use Rattle.exif_edit.specs.Removing.{field_answer, field_patches, named_removals}

@@ -8,9 +8,9 @@ ghost use Rattle.exif_base.specs.declared.endian.Order.{Order as Endian};
 ghost use Rattle.exif_text.specs.declared.ifd.In.{In as Ifd};
 ghost use Rattle.exif_types.specs.declared.tag.Tag.{Tag as Name};
 ghost use Rattle.exif_types.specs.declared.value.Value.{Value as Content};
-ghost use Rattle.exif_images.specs.Groups.{Group};
-ghost use Rattle.exif_images.specs.Ranged.{AreRanged, HavePlainTexts};
-ghost use Rattle.exif_images.specs.Refused.{write_fault};
+ghost use Rattle.exif_layout.specs.Groups.{Group};
+ghost use Rattle.exif_layout.specs.Ranged.{AreRanged, HavePlainTexts};
+ghost use Rattle.exif_layout.specs.Refused.{write_fault};
 ghost use Rattle.exif_edit_laws.specs.Apart.{AreErasedApart, AreErasedInImage, EachStandsAlone, IsSetApart, IsSetInImage, LastStandsAlone, PlacesStandAlone};
 ghost use Rattle.exif_edit_laws.specs.FieldsApart.{FieldsAreErasedApart};
 

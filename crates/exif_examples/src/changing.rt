@@ -4,11 +4,11 @@ ghost use Rattle.std.specs.Prelude.{◌≡◌, None, IfOk, OnErr, OnOk};
 ghost use Rattle.exif_base.specs.Orders.{order_named};
 ghost use Rattle.exif_edit.specs.Erasing.{erase_patches};
 ghost use Rattle.exif_edit_files.specs.InFiles.{IsEditedIn};
-ghost use Rattle.exif_rewrite_base.specs.declared.remove.Remove.TheVariants.{Metadata};
+ghost use Rattle.exif_containers.specs.declared.remove.Remove.TheVariants.{Metadata};
 ghost use Rattle.exif_rewrite_jpeg.specs.Rewriting.{ends, finished};
 ghost use Rattle.exif_rewrite.specs.RewrittenFile.{file_rewriting};
-ghost use Rattle.exif_images.specs.Image.{image};
-ghost use Rattle.exif_images.specs.Scrubbing.{scrubbed};
+ghost use Rattle.exif_layout.specs.Image.{image};
+ghost use Rattle.exif_layout.specs.Scrubbing.{scrubbed};
 ghost use Rattle.exif_examples.specs.Fields.{orientation_patches};
 
 use exif::{Counted, Exif, In, Items, Tag, Value};
@@ -61,6 +61,6 @@ pub fn without_place(alloc: Global, exif: &Exif) -> Result<Vec<u8>, exif::Error>
         ≡ image (order_named exif.now.little_endian) (scrubbed exif.now.fields)) }
 {
     let mut data = Counted::new(Vec::new(alloc));
-    exif_report::scrub(alloc, exif, &mut data, exif.little_endian())?;
+    exif_rewrite::scrub(alloc, exif, &mut data, exif.little_endian())?;
     Ok(data.into_inner())
 }

@@ -3,9 +3,9 @@
 ghost use Rattle.std.specs.Prelude.{◌≡◌, [], ◌∷◌, IfOk};
 ghost use Rattle.exif_base.specs.Orders.{order_named};
 ghost use Rattle.exif_base.specs.declared.endian.Order.TheVariants.{Big};
-ghost use Rattle.exif_images.specs.Groups.{jpeg_set, pushed};
-ghost use Rattle.exif_images.specs.Image.{image};
-ghost use Rattle.exif_images.specs.Rewriting.{pushed_all};
+ghost use Rattle.exif_layout.specs.Groups.{jpeg_set, pushed};
+ghost use Rattle.exif_layout.specs.Image.{image};
+ghost use Rattle.exif_layout.specs.Rewriting.{pushed_all};
 ghost use Rattle.exif_examples.specs.Fields.{orientation_field};
 
 use exif::experimental::Writer;

@@ -1,9 +1,7 @@
-//! The report of a file, and fields written again without the place where a picture was taken.
+//! The report of a file: a line for each field, and for each fault.
 #![tactic(auto)]
 
 pub mod lines;
 pub mod reporting;
-pub mod scrubbing;
 
 pub use reporting::{report, report_limited};
-pub use scrubbing::scrub;

@@ -5,7 +5,7 @@ ghost use Rattle.std.specs.String.{string_bytes};
 ghost use Rattle.exif_types.specs.Failures.{IsInvalidFormat};
 ghost use Rattle.exif_report.specs.Lines.{field_line, error_line};
 
-use exif::{Error, Exif, Field};
+use exif_types::{Error, Exif, Field};
 use std::fmt::Write;
 
 /// Puts a field's line at the end of the text: its tag, its directory and its value with its unit,

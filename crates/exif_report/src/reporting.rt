@@ -15,9 +15,9 @@ ghost use Rattle.exif_report.specs.Writes.{Writes};
 ghost use Rattle.exif_report.specs.Reports.{Finds, FindsOwn, Reports, ReportsSome, given_by};
 
 use crate::lines::{push_field_line, set_error_line};
-use exif::{Error, Exif, Field, Reader, Sink, Source};
-use exif_base::send_all;
-use exif_types::fields_left;
+use exif_base::{Sink, Source, send_all};
+use exif_reader::Reader;
+use exif_types::{Error, Exif, Field, fields_left};
 use std::alloc::Global;
 use std::io;
 

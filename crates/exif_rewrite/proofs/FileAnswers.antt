@@ -8,7 +8,7 @@ use Rattle.exif_containers.specs.Jpeg.{jpeg_answer}
 use Rattle.exif_containers.specs.Webp.{webp_answer}
 use Rattle.exif_containers.specs.declared.container.Format.{Format}
 use Rattle.exif_containers.specs.declared.container.Format.TheVariants.{Tiff, Jpeg, Heif, WebP}
-use Rattle.exif_rewrite_base.specs.declared.remove.Remove.{Remove}
+use Rattle.exif_containers.specs.declared.remove.Remove.{Remove}
 use Rattle.exif_rewrite_jpeg.specs.JpegLaws as jpeg_laws
 use Rattle.exif_rewrite_jpeg.specs.JpegSteps.{strictly, strict_end}
 use Rattle.exif_rewrite_jpeg.specs.JpegTokens.{IsFiltered}

@@ -13,7 +13,7 @@ use Rattle.exif_containers.specs.declared.container.Format.{Format}
 use Rattle.exif_containers.specs.declared.container.Format.TheVariants.{Tiff, Jpeg, Heif, WebP}
 use Rattle.exif_containers.proofs.ContainerSteps.{head-first}
 use Rattle.exif_containers.proofs.ContainerNames.{more_named}
-use Rattle.exif_rewrite_base.specs.declared.remove.Remove.{Remove}
+use Rattle.exif_containers.specs.declared.remove.Remove.{Remove}
 use Rattle.exif_rewrite_jpeg.specs.Faults.{rewriting_refusals}
 use Rattle.exif_rewrite_jpeg.specs.JpegSteps.{strictly, strict_end}
 use Rattle.exif_rewrite_jpeg.specs.Passing.{Finishes, StopsBy}

@@ -7,16 +7,16 @@ use Rattle.exif_types.specs.Refusals.{Fails, IsInterrupted, Refusal, refusal_of}
 use Rattle.exif_types.specs.Sound.{IsRead}
 use Rattle.exif_types.specs.declared.error.Error.TheVariants as error
 use Rattle.exif_types.specs.declared.field.Field.{Field}
-use Rattle.exif_images.specs.Flat.{flat}
-use Rattle.exif_images.specs.Groups.{Group}
-use Rattle.exif_images.specs.Image.{image}
-use Rattle.exif_images.specs.Pushing.{HasPushedAlone, HoldsInTagOrder, PushesFew, PushesPlainTexts}
-use Rattle.exif_images.specs.Ranged.{HavePlainTexts}
-use Rattle.exif_images.specs.ReadBack.{ReadsBack}
-use Rattle.exif_images.specs.Refused.{write_fault}
-use Rattle.exif_images.specs.Rewriting.{pushed_all}
-use Rattle.exif_images.specs.WriteFaults.{write_refusal}
-use Rattle.exif_images.specs.declared.write_fault.WriteFault.{WriteFault}
+use Rattle.exif_layout.specs.Flat.{flat}
+use Rattle.exif_layout.specs.Groups.{Group}
+use Rattle.exif_layout.specs.Image.{image}
+use Rattle.exif_layout.specs.Pushing.{HasPushedAlone, HoldsInTagOrder, PushesFew, PushesPlainTexts}
+use Rattle.exif_layout.specs.Ranged.{HavePlainTexts}
+use Rattle.exif_layout.specs.ReadBack.{ReadsBack}
+use Rattle.exif_layout.specs.Refused.{write_fault}
+use Rattle.exif_layout.specs.Rewriting.{pushed_all}
+use Rattle.exif_layout.specs.WriteFaults.{write_refusal}
+use Rattle.exif_layout.specs.declared.write_fault.WriteFault.{WriteFault}
 use Rattle.exif_rewrite.specs.ScrubbedExif.{ReadsAs, image_or, scrubbed_answer}
 use Rattle.exif_containers.proofs.ContainerNames.{interrupted_none}
 

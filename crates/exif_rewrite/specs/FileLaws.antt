@@ -4,7 +4,7 @@ use Rattle.exif_types.specs.Refusals.{Refusal}
 use Rattle.exif_containers.specs.Container.{container_answer}
 use Rattle.exif_containers.specs.Jpeg.{no_exif_in_jpeg}
 use Rattle.exif_containers.specs.Webp.{no_exif_in_webp}
-use Rattle.exif_rewrite_base.specs.declared.remove.Remove.{Remove}
+use Rattle.exif_containers.specs.declared.remove.Remove.{Remove}
 use Rattle.exif_rewrite_jpeg.specs.Rewriting.{Rewriting, finished}
 use Rattle.exif_rewrite.specs.RewrittenFile.{file_rewriting}
 

@@ -8,14 +8,14 @@ use Rattle.exif_types.specs.Refusals.{Refusal}
 use Rattle.exif_types.specs.declared.field.Field.{Field}
 use Rattle.exif_types.specs.declared.tag.Tag.{Tag}
 use Rattle.exif_tiff.specs.Answers.{Whole, raw_answer}
-use Rattle.exif_images.specs.Groups.{is_ignored}
-use Rattle.exif_images.specs.Image.{image}
-use Rattle.exif_images.specs.Pushing.{IsMoved, slots_into}
-use Rattle.exif_images.specs.Refused.{is_unknown, write_fault}
-use Rattle.exif_images.specs.Rewriting.{pushed_all}
-use Rattle.exif_images.specs.Slots.{in_tag_order}
-use Rattle.exif_images.specs.WriteFaults.{write_refusal}
-use Rattle.exif_images.specs.declared.write_fault.WriteFault.{WriteFault}
+use Rattle.exif_layout.specs.Groups.{is_ignored}
+use Rattle.exif_layout.specs.Image.{image}
+use Rattle.exif_layout.specs.Pushing.{IsMoved, slots_into}
+use Rattle.exif_layout.specs.Refused.{is_unknown, write_fault}
+use Rattle.exif_layout.specs.Rewriting.{pushed_all}
+use Rattle.exif_layout.specs.Slots.{in_tag_order}
+use Rattle.exif_layout.specs.WriteFaults.{write_refusal}
+use Rattle.exif_layout.specs.declared.write_fault.WriteFault.{WriteFault}
 
 -- whether a field is one of the primary image that is to be kept, and that a writer can write
 abbrev pub is_wanted : List Tag → Field → Bool

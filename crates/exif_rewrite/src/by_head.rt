@@ -8,14 +8,14 @@ ghost use Rattle.exif_types.specs.declared.error.Error.TheVariants.{OutOfMemory}
 ghost use Rattle.exif_containers.specs.Answer.{IsNamed};
 ghost use Rattle.exif_containers.specs.Container.{format_in};
 ghost use Rattle.exif_containers.specs.declared.container.Format.TheVariants as Format;
-ghost use Rattle.exif_rewrite_base.specs.Removing.{payload_of};
+ghost use Rattle.exif_containers.specs.Removing.{payload_of};
 ghost use Rattle.exif_rewrite_jpeg.specs.Passing.{Finishes, StopsBy};
 ghost use Rattle.exif_rewrite_jpeg.specs.Rewriting.{finished};
 ghost use Rattle.exif_rewrite.specs.RewrittenFile.{file_refusals, file_rewriting, rewriting_as};
 
 use exif_base::{Blocks, Sink, Source, read_front};
+use exif_containers::Remove;
 use exif_containers::container::{Format, format_of};
-use exif_rewrite_base::Remove;
 use exif_rewrite_jpeg::rewrite_jpeg;
 use exif_rewrite_webp::rewrite_webp;
 use exif_types::Error;

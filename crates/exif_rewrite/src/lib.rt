@@ -4,9 +4,11 @@
 pub mod by_head;
 pub mod laws;
 pub mod scrubbed;
+pub mod scrubbing;
 
 pub use by_head::rewrite;
-pub use exif_rewrite_base::Remove;
+pub use exif_containers::Remove;
 pub use exif_rewrite_jpeg::{Ended, rewrite_jpeg, rewrite_jpeg_as_it_stands};
 pub use exif_rewrite_webp::rewrite_webp;
 pub use scrubbed::{UPRIGHT, scrubbed_exif};
+pub use scrubbing::scrub;

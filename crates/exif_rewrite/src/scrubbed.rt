@@ -6,12 +6,12 @@ ghost use Rattle.std.specs.Option.{option_map};
 ghost use Rattle.exif_base.specs.Orders.{order_named};
 ghost use Rattle.exif_types.specs.Lookup.{tag_eq};
 ghost use Rattle.exif_types.specs.Refusals.{Gives, IsInterrupted, is_io, is_io_error, refusal_of};
-ghost use Rattle.exif_images.specs.Rewriting.{pushed_all};
+ghost use Rattle.exif_layout.specs.Rewriting.{pushed_all};
 ghost use Rattle.exif_rewrite.specs.ScrubbedExif.{ReadsAs, is_wanted, scrubbed_answer, wanted};
 
 use exif_base::Counted;
-use exif_images::is_own;
-use exif_images::laws::{images_hold_what_was_pushed, pushing_keeps};
+use exif_layout::is_own;
+use exif_layout::laws::{images_hold_what_was_pushed, pushing_keeps};
 use exif_types::{Error, Exif, Field, In, Tag, Value};
 use exif_writer::Writer;
 use std::alloc::Global;

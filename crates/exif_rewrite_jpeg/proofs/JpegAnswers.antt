@@ -10,10 +10,10 @@ use Rattle.exif_containers.specs.JpegGrammar.{UnitTree, print_brought, print_uni
 use Rattle.exif_containers.proofs.JpegUnits.{answer-first_unit, rest-first_unit}
 use Rattle.exif_containers.proofs.LimitedMoves.{from_mark-others}
 use Rattle.exif_containers.proofs.LawsJpeg.{first_unit-print, tree-of_unit}
-use Rattle.exif_rewrite_base.specs.declared.remove.Remove.{Remove}
-use Rattle.exif_rewrite_base.specs.declared.remove.Remove.TheVariants.{Exif, Metadata}
+use Rattle.exif_containers.specs.declared.remove.Remove.{Remove}
+use Rattle.exif_containers.specs.declared.remove.Remove.TheVariants.{Exif, Metadata}
 use Rattle.exif_rewrite_jpeg.specs.Rewriting.{Rewriting, finished, refused_by, after, ends}
-use Rattle.exif_rewrite_base.specs.Removing.{behind}
+use Rattle.exif_containers.specs.Removing.{behind}
 use Rattle.exif_rewrite_jpeg.specs.RewrittenJpeg.{outside, passes, stays, exif_segment, placed, still, rewriting}
 use Rattle.exif_rewrite_jpeg.specs.JpegLaws.{IsAnswered}
 use Rattle.exif_rewrite_jpeg.specs.JpegSteps.{unit_rewriting}

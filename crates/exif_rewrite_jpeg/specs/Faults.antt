@@ -7,7 +7,7 @@ use Rattle.exif_rewrite_jpeg.specs.declared.fault.Stop.{Stop}
 use Rattle.exif_rewrite_jpeg.specs.declared.fault.Stop.TheVariants as stop
 use Rattle.exif_rewrite_jpeg.specs.declared.fault.Fault.{Fault}
 use Rattle.exif_rewrite_jpeg.specs.declared.fault.Fault.TheVariants as fault
-use Rattle.exif_rewrite_base.specs.Removing.{too_large}
+use Rattle.exif_containers.specs.Removing.{too_large}
 
 -- the fault that the end or a failure of the reader is
 abbrev pub fault_of : Stop → Fault

@@ -11,9 +11,9 @@ use Rattle.exif_containers.specs.Webp.{webp_answer, no_exif_in_webp}
 use Rattle.exif_containers.specs.WebpGrammar.{ChunkTree, print_chunk, pad_len, AreOthers, IsExif, room_behind, exif, used_up}
 use Rattle.exif_containers.specs.WebpGrammar as grammar
 use Rattle.exif_containers.proofs.LawsWebp.{file_is_answered}
-use Rattle.exif_rewrite_base.specs.declared.remove.Remove.{Remove}
-use Rattle.exif_rewrite_base.specs.declared.remove.Remove.TheVariants.{Exif, Metadata}
-use Rattle.exif_rewrite_base.specs.Removing.{behind}
+use Rattle.exif_containers.specs.declared.remove.Remove.{Remove}
+use Rattle.exif_containers.specs.declared.remove.Remove.TheVariants.{Exif, Metadata}
+use Rattle.exif_containers.specs.Removing.{behind}
 use Rattle.exif_rewrite_webp.specs.RewrittenWebp.{is, chunk_stays, staying, flagged, settled, chunk_named}
 use Rattle.exif_rewrite_webp.specs.WebpChunks.{Chunk, Body, file_body, pad_of, chunk_text, chunks_text, file_text}
 use Rattle.exif_rewrite_webp.specs.WebpLaws.{FileAnswers, FileIsAnswered}

@@ -8,9 +8,9 @@ use Rattle.std.proofs.lemmas.Bool.{le-ltb}
 use Rattle.byteorder.specs.Endian.{little_number}
 use Rattle.exif_types.specs.Refusals.{Refusal, ◌>>=◌}
 use Rattle.exif_containers.specs.Webp.{broken_webp, invalid_file_size, overflowing, padded}
-use Rattle.exif_rewrite_base.specs.declared.remove.Remove.{Remove}
-use Rattle.exif_rewrite_base.specs.declared.remove.Remove.TheVariants.{Metadata}
-use Rattle.exif_rewrite_base.specs.Removing.{too_large, behind}
+use Rattle.exif_containers.specs.declared.remove.Remove.{Remove}
+use Rattle.exif_containers.specs.declared.remove.Remove.TheVariants.{Metadata}
+use Rattle.exif_containers.specs.Removing.{too_large, behind}
 use Rattle.exif_rewrite_webp.specs.RewrittenWebp.{is, is_image, chunk_stays, staying, flagged, settled, canvas_where, chunk_named, is_put, new_chunks, file_of, webp_rewriting}
 use Rattle.exif_rewrite_webp.specs.WebpChunks.{Chunk, Front, Body, in_front, chunk_of, first_chunk, body_within, body_of, header_room, file_body, pad_of, chunk_text, chunks_text, file_text}
 use Rattle.exif_rewrite_webp.specs.WebpLaws.{FileIsFiltered, IsBareChunk, FileIsBare}

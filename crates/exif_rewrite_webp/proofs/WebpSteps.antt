@@ -16,10 +16,10 @@ use Rattle.exif_types.specs.Refusals.{Refusal, refusal_of, IsInterrupted, Refuse
 use Rattle.exif_containers.specs.Answer.{IsNamed}
 use Rattle.exif_containers.specs.Webp.{broken_webp, not_webp, invalid_file_size, overflowing, padded}
 use Rattle.exif_containers.proofs.ContainerNames.{interrupted_none}
-use Rattle.exif_rewrite_base.specs.declared.remove.Remove.{Remove}
+use Rattle.exif_containers.specs.declared.remove.Remove.{Remove}
 use Rattle.exif_rewrite_webp.specs.declared.chunks.Chunk.{Chunk as LentChunk}
 use Rattle.exif_rewrite_webp.specs.declared.chunks.Front.{Front as LentFront}
-use Rattle.exif_rewrite_base.specs.Removing.{too_large, behind}
+use Rattle.exif_containers.specs.Removing.{too_large, behind}
 use Rattle.exif_rewrite_webp.specs.RewrittenWebp.{is, chunk_stays, staying, flagged, settled, lossy, lossless, or_none, no_canvas, canvas_where, chunk_named, is_put, new_chunks, sized, file_of, webp_rewriting, webp_rewriting_refusals}
 use Rattle.exif_rewrite_webp.specs.WebpChunks.{Chunk, Front, Body, in_front, chunk_of, first_chunk, body_within, body_of, header_room, file_body, pad_of, chunk_text, chunks_text, file_text}
 use Rattle.exif_rewrite_webp.specs.WebpPlans.{chunk_view, kept_body, kept_file, staying_in, settled_text, header_text, named_text, StopsFile, sent_of}

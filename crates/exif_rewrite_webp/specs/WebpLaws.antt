@@ -3,9 +3,9 @@ use Rattle.std.specs.Prelude.{◌≡◌, ℕ, ◌+◌, List, ◌⊎◌, length, 
 use Rattle.std.specs.List.{AllByRecursion}
 use Rattle.exif_containers.specs.Answer.{found, refused}
 use Rattle.exif_containers.specs.Webp.{webp_answer, no_exif_in_webp}
-use Rattle.exif_rewrite_base.specs.declared.remove.Remove.{Remove}
-use Rattle.exif_rewrite_base.specs.declared.remove.Remove.TheVariants.{Metadata}
-use Rattle.exif_rewrite_base.specs.Removing.{behind}
+use Rattle.exif_containers.specs.declared.remove.Remove.{Remove}
+use Rattle.exif_containers.specs.declared.remove.Remove.TheVariants.{Metadata}
+use Rattle.exif_containers.specs.Removing.{behind}
 use Rattle.exif_rewrite_webp.specs.RewrittenWebp.{is_image, staying, canvas_where, new_chunks, webp_rewriting}
 use Rattle.exif_rewrite_webp.specs.WebpChunks.{Chunk, Body, file_body, chunks_text, file_text}
 

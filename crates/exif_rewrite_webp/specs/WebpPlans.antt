@@ -5,12 +5,12 @@ use Rattle.std.specs.List.{flat_map}
 use Rattle.exif_base.specs.Sent.{SendsFront}
 use Rattle.exif_types.specs.Failures.{Failure}
 use Rattle.exif_types.specs.Refusals.{Refusal, refusal_of, ◌>>=◌}
-use Rattle.exif_rewrite_base.specs.declared.remove.Remove.{Remove}
+use Rattle.exif_containers.specs.declared.remove.Remove.{Remove}
 use Rattle.exif_rewrite_webp.specs.declared.chunks.Chunk.{Chunk as LentChunk}
 use Rattle.exif_rewrite_webp.specs.declared.chunks.Front.{Front as LentFront}
 use Rattle.exif_rewrite_webp.specs.declared.chunks.Kept.{Kept as LentKept}
 use Rattle.exif_rewrite_webp.specs.declared.plan.Plan.{Plan as LentPlan}
-use Rattle.exif_rewrite_base.specs.Removing.{behind, payload_of}
+use Rattle.exif_containers.specs.Removing.{behind, payload_of}
 use Rattle.exif_rewrite_webp.specs.RewrittenWebp.{staying, settled, canvas_where, new_chunks, file_of, chunk_named, is_put}
 use Rattle.exif_rewrite_webp.specs.WebpChunks.{Chunk, Front, Body, body_of, chunk_text, chunks_text}
 

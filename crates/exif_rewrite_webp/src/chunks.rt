@@ -8,7 +8,7 @@ ghost use Rattle.exif_rewrite_webp.specs.WebpPlans.{chunk_view, front_view, kept
 
 use exif_base::{Endian, LittleEndian};
 use exif_containers::webp::{is_webp, padded_len};
-use exif_rewrite_base::Remove;
+use exif_containers::Remove;
 use exif_types::Error;
 use std::alloc::{AllocError, Global};
 

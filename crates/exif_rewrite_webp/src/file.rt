@@ -5,7 +5,7 @@ ghost use Rattle.std.specs.Io.KnownBytes.{Appends, Keeps};
 ghost use Rattle.exif_base.specs.Device.{CountsBoth};
 ghost use Rattle.exif_types.specs.Refusals.{is_io, is_io_error};
 ghost use Rattle.exif_containers.specs.Answer.{IsNamed};
-ghost use Rattle.exif_rewrite_base.specs.Removing.{payload_of};
+ghost use Rattle.exif_containers.specs.Removing.{payload_of};
 ghost use Rattle.exif_rewrite_webp.specs.RewrittenWebp.{webp_rewriting, webp_rewriting_refusals};
 ghost use Rattle.exif_rewrite_webp.specs.WebpPlans.{StopsFile};
 
@@ -13,7 +13,7 @@ use crate::plan::plan_file;
 use crate::send::send_plan;
 use exif_base::{Sink, Source};
 use exif_containers::util::read_all;
-use exif_rewrite_base::Remove;
+use exif_containers::Remove;
 use exif_types::Error;
 use std::alloc::Global;
 

@@ -2,14 +2,14 @@
 
 ghost use Rattle.std.specs.Prelude.{◌≡◌, ◌≤◌, ◌+◌, ◌^◌, false, map, length, codes};
 ghost use Rattle.exif_types.specs.Refusals.{Answers, Gives, is_io};
-ghost use Rattle.exif_rewrite_base.specs.Removing.{behind as behind_body, payload_of};
+ghost use Rattle.exif_containers.specs.Removing.{behind as behind_body, payload_of};
 ghost use Rattle.exif_rewrite_webp.specs.RewrittenWebp.{canvas_where as canvas_given, sized, webp_rewriting};
 ghost use Rattle.exif_rewrite_webp.specs.WebpChunks.{chunk_text, chunks_text};
 ghost use Rattle.exif_rewrite_webp.specs.WebpPlans.{chunk_view, named_text, plan_view};
 
 use crate::canvas::canvas;
 use crate::chunks::{Chunk, body_room, keep_chunks};
-use exif_rewrite_base::Remove;
+use exif_containers::Remove;
 use exif_types::Error;
 use std::alloc::Global;
 

@@ -5,7 +5,8 @@ mod program;
 #[cfg(test)]
 mod tests;
 
-use exif::{Counted, Error, Seekable};
+use exif_base::{Counted, Seekable};
+use exif_types::Error;
 use program::{mode, say, show};
 use std::fs::File;
 use std::io::{BufWriter, ErrorKind, Seek};

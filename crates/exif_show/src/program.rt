@@ -5,9 +5,9 @@ ghost use Rattle.exif_base.specs.Device.{count_after};
 ghost use Rattle.exif_types.specs.Refusals.{is_io, IsInterrupted};
 ghost use Rattle.exif_show.specs.Program.{asked_by, Says, SaysWhole, Shows};
 
-use exif::{Error, Sink, Source};
-use exif_base::send_all;
+use exif_base::{Sink, Source, send_all};
 use exif_report::report;
+use exif_types::Error;
 use std::alloc::Global;
 
 /// What the arguments behind the program's name ask for: whether to pass over faults, and which of

@@ -2,7 +2,7 @@
 //! devices fail.
 
 use crate::program::{mode, show};
-use exif::Counted;
+use exif_base::Counted;
 use std::io;
 use std::io::{ErrorKind, Read, Write};
 use std::test::Fail;

@@ -1,5 +1,5 @@
-//! A folder for each part: `exif_table`, `exif_text` with `exif_tag_texts`, `exif_types` with
-//! `exif_datetime`.
+//! A folder for each part: `exif_table`, `exif_text` with `exif_display`, `exif_types` with
+//! `exif_types`.
 
 use std::fmt::Display;
 use std::process::Abort;

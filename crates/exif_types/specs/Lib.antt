@@ -1,4 +1,5 @@
 pub mod Contents
+pub mod Dates
 pub mod Defaults
 pub mod Distilling
 pub mod ErrorFalls

@@ -1,10 +1,10 @@
 -- Sizes of blocks added up, and where they end.
 use Rattle.std.proofs.Common.{◌≡◌, ℕ, zero, suc, ◌+◌, ◌*◌, ◌<◌, ◌≤◌, List, [], ◌∷◌, length, take, get_or, refl, ap, ◌∙◌, arith}
 use denote.Ref.{Bor}
-use Rattle.exif_images.specs.Places.{after_blocks, places_from}
-use Rattle.exif_images.specs.Views.{blocks_of}
+use Rattle.exif_layout.specs.Places.{after_blocks, places_from}
+use Rattle.exif_layout.specs.Views.{blocks_of}
 use Rattle.exif_writer.specs.Sending.{sum_of}
-use Rattle.exif_images.specs.EntryContents.{lens}
+use Rattle.exif_layout.specs.EntryContents.{lens}
 use Rattle.exif_writer.proofs.SendRunning.{up_to, sum_append}
 
 -- a product is no less than its second factor

@@ -6,9 +6,9 @@ use Rattle.exif_tiff.proofs.Members.{all_append}
 use Rattle.std.specs.Prelude.{Bool, true, false, not, if◌then◌else◌, OnOk, OnErr, is_err}
 use Rattle.exif_table.specs.declared.context.Context.{Context}
 use Rattle.exif_table.specs.declared.context.Context.TheVariants.{Tiff, Exif, Gps, Interop}
-use Rattle.exif_images.specs.Groups.{Group, Entry, empty_group, changed, pushed_in, with_entry, with_strips, with_tiles, with_jpeg}
-use Rattle.exif_images.specs.Ranged.{IsEntry, AreRanged}
-use Rattle.exif_images.specs.Views.{grown}
+use Rattle.exif_layout.specs.Groups.{Group, Entry, empty_group, changed, pushed_in, with_entry, with_strips, with_tiles, with_jpeg}
+use Rattle.exif_layout.specs.Ranged.{IsEntry, AreRanged}
+use Rattle.exif_layout.specs.Views.{grown}
 
 grown_nil : (n : ℕ) → grown n [] ≡ replicate (suc n) empty_group
 grown_nil n = let e : suc n - 0 ≡ suc n = omega arith in ap (λ m. replicate m empty_group) e

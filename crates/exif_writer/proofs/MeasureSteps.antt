@@ -3,12 +3,12 @@ use Rattle.std.proofs.Common.{◌≡◌, ℕ, ◌+◌, ◌-◌, ◌%◌, ◌<◌
 use Rattle.std.specs.Prelude.{if◌then◌else◌, nat_le, nat_lt, Option, Some, None}
 use Rattle.std.specs.Option.{option_map}
 use Rattle.std.proofs.lemmas.Bool.{le-leb, lt-leb, lt-ltb, le-ltb}
-use Rattle.exif_images.proofs.Images.Exact as exact
+use Rattle.exif_layout.proofs.Images.Exact as exact
 use Rattle.exif_writer.specs.declared.measure.Tail.{Tail}
 use Rattle.exif_writer.specs.Tails.{measure, Tells}
-use Rattle.exif_images.specs.Slots.{Slot, content_len, in_tag_order}
-use Rattle.exif_images.specs.Places.{after_values}
-use Rattle.exif_images.specs.Measuring.{span, last_out, end_from}
+use Rattle.exif_layout.specs.Slots.{Slot, content_len, in_tag_order}
+use Rattle.exif_layout.specs.Places.{after_values}
+use Rattle.exif_layout.specs.Measuring.{span, last_out, end_from}
 
 -- a count stays right over one more entry whose value takes at most four bytes
 pub tells_small : (tail : Tail) (size : ℕ) (slots : List Slot) (slot : Slot) → size ≤ 4 → content_len slot.content ≡ size → Tells tail slots → Tells tail (slots ++ slot ∷ [])

@@ -6,26 +6,26 @@ use Rattle.std.proofs.lemmas.Bool.{lt-leb, or_parts, or_from}
 use Rattle.std.proofs.lemmas.List.{take-append-drop, append-nil}
 use denote.Ref.{Bor}
 use Rattle.exif_types.specs.declared.field.Field.{Field}
-use Rattle.exif_images.proofs.Images.Exact as exact
+use Rattle.exif_layout.proofs.Images.Exact as exact
 use Rattle.exif_writer.specs.declared.measure.Tail.{Tail}
 use Rattle.exif_writer.specs.Tails.{Tells}
-use Rattle.exif_images.specs.Views.{entries_in}
+use Rattle.exif_layout.specs.Views.{entries_in}
 use Rattle.exif_writer.proofs.SendRunning.{up_to}
-use Rattle.exif_images.proofs.Moved.{same_moved}
+use Rattle.exif_layout.proofs.Moved.{same_moved}
 use Rattle.exif_writer.proofs.BlockSums.{lens_length}
-use Rattle.exif_images.specs.EntryContents.{lens}
-use Rattle.exif_images.specs.declared.block_kind.BlockKind.{BlockKind}
-use Rattle.exif_images.specs.declared.block_kind.BlockKind.TheVariants.{Strips, Tiles, Jpeg}
+use Rattle.exif_layout.specs.EntryContents.{lens}
+use Rattle.exif_layout.specs.declared.block_kind.BlockKind.{BlockKind}
+use Rattle.exif_layout.specs.declared.block_kind.BlockKind.TheVariants.{Strips, Tiles, Jpeg}
 use Rattle.exif_table.specs.declared.context.Context.{Context}
 use Rattle.exif_table.specs.declared.context.Context.TheVariants.{Tiff, Exif, Gps, Interop}
-use Rattle.exif_images.proofs.Images.Counting.{values_end_is}
+use Rattle.exif_layout.proofs.Images.Counting.{values_end_is}
 use Rattle.exif_writer.proofs.MeasureSteps.{tells_small}
-use Rattle.exif_images.specs.Groups.{Group, Entry, pushed_in, entry_of, places_tag, lengths_tag, single}
-use Rattle.exif_images.specs.Encoding.{value_len}
-use Rattle.exif_images.specs.Measuring.{span, last_out, end_from}
-use Rattle.exif_images.specs.Places.{even, after_values}
-use Rattle.exif_images.specs.Refused.{any_unknown, is_unknown}
-use Rattle.exif_images.specs.Slots.{Slot, PlacesOf, LengthsOf, PlaceOf, known, content_len, set_slots, block_slots, pointer_slots, exif_slots, gps_slots, interop_slots, tiff_unsorted, unsorted, slots_of}
+use Rattle.exif_layout.specs.Groups.{Group, Entry, pushed_in, entry_of, places_tag, lengths_tag, single}
+use Rattle.exif_layout.specs.Encoding.{value_len}
+use Rattle.exif_layout.specs.Measuring.{span, last_out, end_from}
+use Rattle.exif_layout.specs.Places.{even, after_values}
+use Rattle.exif_layout.specs.Refused.{any_unknown, is_unknown}
+use Rattle.exif_layout.specs.Slots.{Slot, PlacesOf, LengthsOf, PlaceOf, known, content_len, set_slots, block_slots, pointer_slots, exif_slots, gps_slots, interop_slots, tiff_unsorted, unsorted, slots_of}
 
 -- what follows of an answer that there is, and of none
 pub none_map : {T P Q : Type 0} (o : Option T) → (P → Q) → IfNone o P → IfNone o Q

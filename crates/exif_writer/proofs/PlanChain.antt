@@ -2,18 +2,18 @@
 use Rattle.std.proofs.Common.{◌≡◌, ℕ, zero, suc, ◌+◌, ◌<◌, ◌≤◌, ◌^◌, List, [], ◌∷◌, ◌++◌, length, map, take, drop, get_or, refl, sym, ap, subst, ◌∙◌, arith, append_assoc, true, false, Option, Some, None}
 use Rattle.std.specs.Prelude.{if◌then◌else◌, nat_lt, is_some, Bool, ◌==◌}
 use Rattle.std.proofs.lemmas.Bool.{lt-ltb, le-ltb, eqb-true, eqb-false}
-use Rattle.exif_images.specs.declared.write_fault.WriteFault.{WriteFault}
-use Rattle.exif_images.specs.declared.write_fault.WriteFault.TheVariants.{NoDirectory, OffsetTooLarge}
+use Rattle.exif_layout.specs.declared.write_fault.WriteFault.{WriteFault}
+use Rattle.exif_layout.specs.declared.write_fault.WriteFault.TheVariants.{NoDirectory, OffsetTooLarge}
 use Rattle.exif_writer.specs.Drafts.{HasRoom, IsSettledPlan, ArePlans, next_of}
 use Rattle.exif_writer.specs.declared.plan.Plan.{Plan}
 use Rattle.exif_writer.proofs.PlanPlaces.{tiff_is, places_within}
 use Rattle.std.proofs.lemmas.List.{append-nil, drop_more, drop_all}
-use Rattle.exif_images.specs.Groups.{Group, empty_group}
-use Rattle.exif_images.specs.Places.{draft_end, drafts_end, next_place, even}
-use Rattle.exif_images.specs.Refused.{group_fault, first_group_fault, write_fault}
-use Rattle.exif_images.specs.Slots.{Draft, draft_of}
-use Rattle.exif_images.proofs.Images.Room.{drafts_low}
-use Rattle.exif_images.proofs.Images.Whole.{first_none, not_refused}
+use Rattle.exif_layout.specs.Groups.{Group, empty_group}
+use Rattle.exif_layout.specs.Places.{draft_end, drafts_end, next_place, even}
+use Rattle.exif_layout.specs.Refused.{group_fault, first_group_fault, write_fault}
+use Rattle.exif_layout.specs.Slots.{Draft, draft_of}
+use Rattle.exif_layout.proofs.Images.Room.{drafts_low}
+use Rattle.exif_layout.proofs.Images.Whole.{first_none, not_refused}
 use Rattle.exif_writer.proofs.SendMembers.{around}
 use Rattle.exif_writer.proofs.SendRunning.{up_to}
 

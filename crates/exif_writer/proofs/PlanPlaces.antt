@@ -1,10 +1,10 @@
 -- The places of a draft, each from the one before.
 use Rattle.std.proofs.Common.{◌≡◌, ℕ, ◌+◌, ◌%◌, ◌≤◌, ◌<◌, ◌^◌, List, ◌∙◌, ap, refl, arith}
 use Rattle.exif_table.specs.declared.context.Context.TheVariants.{Tiff, Exif, Gps, Interop}
-use Rattle.exif_images.specs.declared.block_kind.BlockKind.TheVariants.{Strips, Tiles, Jpeg}
-use Rattle.exif_images.specs.Slots.{Draft}
-use Rattle.exif_images.specs.Places.{directory_len, after_values, after_blocks, tiff_place, exif_place, gps_place, interop_place, tiff_values, exif_values, gps_values, interop_values, strips_place, tiles_place, jpeg_place, draft_end}
-use Rattle.exif_images.proofs.Images.Room.{places_grow}
+use Rattle.exif_layout.specs.declared.block_kind.BlockKind.TheVariants.{Strips, Tiles, Jpeg}
+use Rattle.exif_layout.specs.Slots.{Draft}
+use Rattle.exif_layout.specs.Places.{directory_len, after_values, after_blocks, tiff_place, exif_place, gps_place, interop_place, tiff_values, exif_values, gps_values, interop_values, strips_place, tiles_place, jpeg_place, draft_end}
+use Rattle.exif_layout.proofs.Images.Room.{places_grow}
 
 -- Each place, from the one before it.
 module _ (draft : Draft) (start : ℕ) where

@@ -7,10 +7,10 @@ use Rattle.std.proofs.lemmas.List.{append-nil, take_all, drop_all, with_items_is
 use Rattle.std.specs.Vec.{with_items}
 use Rattle.std.specs.declared.vec.Vec.{Vec}
 use mir.Val.{bool_byte}
-use Rattle.exif_images.specs.Slots as format
-use Rattle.exif_images.specs.Places.{even, after_value}
+use Rattle.exif_layout.specs.Slots as format
+use Rattle.exif_layout.specs.Places.{even, after_value}
 use Rattle.exif_writer.specs.Sending.{symbol, after_slot, values_end, settle_slot, settle, IsSettled, AreSettled}
-use Rattle.exif_images.specs.EntryContents.{content_size}
+use Rattle.exif_layout.specs.EntryContents.{content_size}
 use Rattle.exif_writer.specs.declared.plan.Slot.{Slot}
 
 -- the next slot is still as it was

@@ -8,29 +8,29 @@ use denote.Ref.{Bor}
 use Rattle.exif_base.specs.declared.endian.Order.{Order}
 use Rattle.exif_table.specs.declared.context.Context.{Context}
 use Rattle.exif_table.specs.declared.context.Context.TheVariants.{Tiff, Exif, Gps, Interop}
-use Rattle.exif_images.specs.declared.block_kind.BlockKind.{BlockKind}
-use Rattle.exif_images.specs.Groups.{Group, blocks_in, pushed_in}
-use Rattle.exif_images.specs.Image.{image}
-use Rattle.exif_images.specs.Places.{after_value, after_values, draft_end, drafts_end, next_place, values_place}
-use Rattle.exif_images.specs.Refused.{write_fault}
-use Rattle.exif_images.specs.Slots as format
-use Rattle.exif_images.specs.Slots.{draft_of, slots_of, block_list, set_slots, known, content_len}
-use Rattle.exif_images.proofs.Images.Room.{blocks_len, blocks_within, values_within, values_room, drafts_low}
-use Rattle.exif_images.proofs.Images.Shares.{always}
-use Rattle.exif_images.proofs.Images.Slots.{all_slots}
-use Rattle.exif_images.proofs.Images.Whole.{known_slots, not_refused}
-use Rattle.exif_images.proofs.Images.Words.{IsAccepted, IsKnown, AllKnown}
+use Rattle.exif_layout.specs.declared.block_kind.BlockKind.{BlockKind}
+use Rattle.exif_layout.specs.Groups.{Group, blocks_in, pushed_in}
+use Rattle.exif_layout.specs.Image.{image}
+use Rattle.exif_layout.specs.Places.{after_value, after_values, draft_end, drafts_end, next_place, values_place}
+use Rattle.exif_layout.specs.Refused.{write_fault}
+use Rattle.exif_layout.specs.Slots as format
+use Rattle.exif_layout.specs.Slots.{draft_of, slots_of, block_list, set_slots, known, content_len}
+use Rattle.exif_layout.proofs.Images.Room.{blocks_len, blocks_within, values_within, values_room, drafts_low}
+use Rattle.exif_layout.proofs.Images.Shares.{always}
+use Rattle.exif_layout.proofs.Images.Slots.{all_slots}
+use Rattle.exif_layout.proofs.Images.Whole.{known_slots, not_refused}
+use Rattle.exif_layout.proofs.Images.Words.{IsAccepted, IsKnown, AllKnown}
 use Rattle.exif_writer.proofs.SendLaid.{ArePlaces, are_places, size_is, IsSendable, image_is}
-use Rattle.exif_images.proofs.Moved.{same_moved}
+use Rattle.exif_layout.proofs.Moved.{same_moved}
 use Rattle.exif_writer.specs.Drafts.{IsPlan, ArePlans}
 use Rattle.exif_writer.specs.Plans.{CanSettle, IsReadyDirectory, IsReadyPlan, sent_image}
 use Rattle.exif_writer.specs.Sending.{sum_of, symbol, Settles, IsMeasurable, IsReady, values_end}
-use Rattle.exif_images.specs.EntryContents.{lens, symbol_of, content_size, IsKnownContent}
+use Rattle.exif_layout.specs.EntryContents.{lens, symbol_of, content_size, IsKnownContent}
 use Rattle.exif_writer.specs.declared.plan.Places.{Places}
 use Rattle.exif_writer.specs.declared.plan.Plan.{Plan}
 use Rattle.exif_writer.specs.declared.plan.Slot.{Slot}
-use Rattle.exif_images.specs.declared.content.Content.{Content}
-use Rattle.exif_images.specs.declared.content.Content.TheVariants.{Known, OneShort, OneLong, PlacesOf, LengthsOf, PlaceOf}
+use Rattle.exif_layout.specs.declared.content.Content.{Content}
+use Rattle.exif_layout.specs.declared.content.Content.TheVariants.{Known, OneShort, OneLong, PlacesOf, LengthsOf, PlaceOf}
 
 -- an entry of blocks holds the lengths of the blocks that are set
 abbrev Holds : Group → format.Content → Type 0

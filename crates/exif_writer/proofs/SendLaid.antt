@@ -4,38 +4,38 @@ use Rattle.std.specs.Prelude.{if◌then◌else◌, nat_le}
 use Rattle.std.proofs.lemmas.List.{append-nil, length-map}
 use denote.Ref.{Bor}
 use Rattle.std.specs.List.{AllByRecursion, flat_map}
-use Rattle.exif_images.specs.Slots as format
-use Rattle.exif_images.proofs.Images.Values.{length-encode}
-use Rattle.exif_images.proofs.Images.Places.{length-value_of, known_value, length-written, directory_spans, values_span, blocks_span, even_low, even_high, draft_spans}
+use Rattle.exif_layout.specs.Slots as format
+use Rattle.exif_layout.proofs.Images.Values.{length-encode}
+use Rattle.exif_layout.proofs.Images.Places.{length-value_of, known_value, length-written, directory_spans, values_span, blocks_span, even_low, even_high, draft_spans}
 use Rattle.exif_writer.specs.declared.plan.Places.{Places}
 use Rattle.exif_writer.specs.declared.plan.Slot.{Slot}
 use Rattle.exif_writer.specs.declared.plan.Plan.{Plan}
-use Rattle.exif_images.specs.declared.content.Content.{Content}
-use Rattle.exif_images.specs.declared.content.Content.TheVariants.{Known, OneShort, OneLong, PlacesOf, LengthsOf, PlaceOf}
+use Rattle.exif_layout.specs.declared.content.Content.{Content}
+use Rattle.exif_layout.specs.declared.content.Content.TheVariants.{Known, OneShort, OneLong, PlacesOf, LengthsOf, PlaceOf}
 use Rattle.exif_writer.specs.Sending.{block_place, context_place, settled, symbol, slot_text, after_slot, IsSettled, AreSettled, entries_text, slots_text, values_text, blocks_text}
-use Rattle.exif_images.specs.EntryContents.{lens, symbol_of, content_type, content_count, content_size}
-use Rattle.exif_images.specs.Views.{blocks_of}
+use Rattle.exif_layout.specs.EntryContents.{lens, symbol_of, content_type, content_count, content_size}
+use Rattle.exif_layout.specs.Views.{blocks_of}
 use Rattle.exif_writer.specs.Plans.{plan_text, plans_text, sent_image}
 use Rattle.exif_writer.specs.Drafts.{places_of, IsPlan, IsSettledPlan, ArePlans}
 use Rattle.exif_writer.proofs.PlanSettling.{zeros_before}
-use Rattle.exif_images.proofs.Images.Laid.{joined, length_header}
-use Rattle.exif_images.proofs.Moved.{same_moved}
+use Rattle.exif_layout.proofs.Images.Laid.{joined, length_header}
+use Rattle.exif_layout.proofs.Moved.{same_moved}
 use Rattle.exif_writer.proofs.BlockSums.{places_length, lens_length}
 use Rattle.exif_base.specs.declared.endian.Order.{Order}
-use Rattle.exif_images.specs.declared.block_kind.BlockKind.{BlockKind}
-use Rattle.exif_images.specs.declared.block_kind.BlockKind.TheVariants.{Strips, Tiles, Jpeg}
+use Rattle.exif_layout.specs.declared.block_kind.BlockKind.{BlockKind}
+use Rattle.exif_layout.specs.declared.block_kind.BlockKind.TheVariants.{Strips, Tiles, Jpeg}
 use Rattle.exif_table.specs.declared.context.Context.{Context}
 use Rattle.exif_table.specs.declared.context.Context.TheVariants.{Tiff, Exif, Gps, Interop}
-use Rattle.exif_images.specs.Groups.{Group}
-use Rattle.exif_images.specs.Encoding.{spelled, encode, value_len}
+use Rattle.exif_layout.specs.Groups.{Group}
+use Rattle.exif_layout.specs.Encoding.{spelled, encode, value_len}
 use Rattle.exif_types.specs.ValueTypes.{type_number, count_of}
 use Rattle.exif_types.specs.declared.value.Value.{Value}
 use Rattle.exif_types.specs.declared.value.Value.TheVariants.{Long}
 use Rattle.exif_text.specs.FieldTypes.{unit}
-use Rattle.exif_images.specs.Slots.{Draft, content_len, draft_of}
-use Rattle.exif_images.specs.Image.{laid, block_parts, value_parts, directory_part, entry_text, draft_parts, parts_from, header_text, image}
-use Rattle.exif_images.specs.Places.{written, even, after_value, value_of, blocks_place, directory_place, places_from, entries_of, tiff_place, exif_place, gps_place, interop_place, tiff_values, exif_values, gps_values, interop_values, strips_place, tiles_place, jpeg_place, draft_end, next_place}
-use Rattle.exif_images.proofs.Images.Words.{IsKnown, AllKnown}
+use Rattle.exif_layout.specs.Slots.{Draft, content_len, draft_of}
+use Rattle.exif_layout.specs.Image.{laid, block_parts, value_parts, directory_part, entry_text, draft_parts, parts_from, header_text, image}
+use Rattle.exif_layout.specs.Places.{written, even, after_value, value_of, blocks_place, directory_place, places_from, entries_of, tiff_place, exif_place, gps_place, interop_place, tiff_values, exif_values, gps_values, interop_values, strips_place, tiles_place, jpeg_place, draft_end, next_place}
+use Rattle.exif_layout.proofs.Images.Words.{IsKnown, AllKnown}
 
 -- blocks
 pub laid_blocks : (place : ℕ) (texts : List (Bor (List ℕ))) → laid place (block_parts place (blocks_of texts)) ≡ blocks_text texts

@@ -7,12 +7,12 @@ use Rattle.std.specs.List.{flat_map}
 use denote.Ref.{Bor}
 use Rattle.exif_writer.specs.Running.{run, state}
 use Rattle.exif_writer.specs.Sending.{sum_of}
-use Rattle.exif_images.specs.EntryContents.{lens}
+use Rattle.exif_layout.specs.EntryContents.{lens}
 use Rattle.exif_writer.proofs.SendChains.{HasSent, sends_whole, sends_then, sends_stop}
 use Rattle.exif_writer.proofs.SendMembers.{around}
 use Rattle.exif_base.specs.declared.endian.Order.{Order}
-use Rattle.exif_images.specs.Encoding.{spelled}
-use Rattle.exif_images.specs.Places.{places_from}
+use Rattle.exif_layout.specs.Encoding.{spelled}
+use Rattle.exif_layout.specs.Places.{places_from}
 use Rattle.exif_base.specs.Sent.{Sends}
 use Rattle.exif_base.specs.declared.device.Sink as sink
 

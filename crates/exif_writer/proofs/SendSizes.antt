@@ -3,25 +3,25 @@ use Rattle.std.proofs.Common.{◌≡◌, Some, ℕ, zero, suc, ◌+◌, ◌<◌,
 use Rattle.std.specs.Prelude.{if◌then◌else◌, nat_le, ◌-◌, replicate}
 use Rattle.exif_writer.specs.declared.plan.Places.{Places}
 use Rattle.exif_writer.specs.declared.plan.Slot.{Slot}
-use Rattle.exif_images.proofs.Images.Room.{count_within as value_within}
-pub use Rattle.exif_images.proofs.Moved.{encode_moved}
+use Rattle.exif_layout.proofs.Images.Room.{count_within as value_within}
+pub use Rattle.exif_layout.proofs.Moved.{encode_moved}
 use Rattle.exif_writer.proofs.SendMembers.{around}
 use Rattle.exif_writer.proofs.SendRunning.{state-append}
 use Rattle.std.specs.List.{AllByRecursion}
-use Rattle.exif_images.specs.declared.content.Content.{Content}
-use Rattle.exif_images.specs.declared.content.Content.TheVariants.{Known, OneShort, OneLong, PlacesOf, LengthsOf, PlaceOf}
+use Rattle.exif_layout.specs.declared.content.Content.{Content}
+use Rattle.exif_layout.specs.declared.content.Content.TheVariants.{Known, OneShort, OneLong, PlacesOf, LengthsOf, PlaceOf}
 use Rattle.exif_writer.specs.Sending.{slot_text, slots_text, entries_text, after_slot, values_end, element, settled, value_text}
-use Rattle.exif_images.specs.EntryContents.{content_count, content_size, content_type, IsKnownContent}
+use Rattle.exif_layout.specs.EntryContents.{content_count, content_size, content_type, IsKnownContent}
 use Rattle.std.proofs.lemmas.Bool.{le-leb, lt-leb}
 use Rattle.exif_base.specs.declared.endian.Order.{Order}
-use Rattle.exif_images.specs.Encoding.{spelled, encode}
+use Rattle.exif_layout.specs.Encoding.{spelled, encode}
 use Rattle.exif_types.specs.ValueTypes.{type_number, field_type_of}
 use Rattle.exif_text.specs.declared.field_type.FieldType.{FieldType}
 use Rattle.exif_text.specs.declared.field_type.FieldType.TheVariants as field_type
 use Rattle.exif_types.specs.declared.value.Value.{Value}
 use Rattle.exif_types.specs.declared.value.Value.TheVariants.{Byte, Ascii, Short, Long, Rational, SByte, Undefined, SShort, SLong, SRational, Float, Double, Unknown}
 use Rattle.exif_text.specs.FieldTypes.{unit, unit_length}
-use Rattle.exif_images.specs.Places.{even}
+use Rattle.exif_layout.specs.Places.{even}
 
 -- a known type and its unit
 pub known_unit : (value : Value) (type : FieldType) → field_type_of value ≡ Some type → unit (type_number value) ≡ unit_length type

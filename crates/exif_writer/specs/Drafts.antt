@@ -1,16 +1,16 @@
 -- The plans of drafts: where everything of a draft stands, its entries and its blocks.
 use Rattle.std.specs.Prelude.{ℕ, ◌≡◌, ◌<◌, ◌^◌, Bool, None, if◌then◌else◌, List, [], ◌∷◌, map}
 use Rattle.exif_table.specs.declared.context.Context.TheVariants.{Tiff, Exif, Gps, Interop}
-use Rattle.exif_images.specs.declared.block_kind.BlockKind.TheVariants.{Strips, Tiles, Jpeg}
-use Rattle.exif_images.specs.Slots.{Draft, draft_of}
-use Rattle.exif_images.specs.Groups.{Group}
-use Rattle.exif_images.specs.Refused.{group_fault}
-use Rattle.exif_images.specs.Places.{even, tiff_place, exif_place, gps_place, interop_place, tiff_values, exif_values, gps_values, interop_values, strips_place, tiles_place, jpeg_place, draft_end, next_place}
+use Rattle.exif_layout.specs.declared.block_kind.BlockKind.TheVariants.{Strips, Tiles, Jpeg}
+use Rattle.exif_layout.specs.Slots.{Draft, draft_of}
+use Rattle.exif_layout.specs.Groups.{Group}
+use Rattle.exif_layout.specs.Refused.{group_fault}
+use Rattle.exif_layout.specs.Places.{even, tiff_place, exif_place, gps_place, interop_place, tiff_values, exif_values, gps_values, interop_values, strips_place, tiles_place, jpeg_place, draft_end, next_place}
 use Rattle.exif_writer.specs.declared.plan.Places.{Places}
 use Rattle.exif_writer.specs.declared.plan.Directories.{Directories}
 use Rattle.exif_writer.specs.declared.plan.Plan.{Plan}
 use Rattle.exif_writer.specs.Sending.{symbol, AreSettled}
-use Rattle.exif_images.specs.Views.{blocks_of}
+use Rattle.exif_layout.specs.Views.{blocks_of}
 
 -- the places of a draft, as a plan has them
 abbrev pub places_of : Draft → ℕ → ℕ → Places

@@ -6,7 +6,7 @@ use Rattle.exif_writer.specs.declared.plan.Slot.{Slot}
 use Rattle.exif_writer.specs.declared.plan.Plan.{Plan}
 use Rattle.exif_writer.specs.Sending.{IsReady, IsMeasurable, values_end, slots_text, values_text, blocks_text}
 use Rattle.exif_base.specs.declared.endian.Order.{Order}
-use Rattle.exif_images.specs.Image.{header_text}
+use Rattle.exif_layout.specs.Image.{header_text}
 
 -- a directory whose values can be settled from a place on
 pub record CanSettle (values : ℕ) (slots : List Slot) : Type 0 where

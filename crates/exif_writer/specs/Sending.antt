@@ -2,22 +2,22 @@
 use Rattle.std.specs.Prelude.{ℕ, ◌≡◌, ◌+◌, ◌-◌, ◌≤◌, ◌++◌, nat_le, ◌%◌, ◌==◌, false, if◌then◌else◌, List, [], ◌∷◌, length, replicate, ⊤}
 use denote.Ref.{Bor}
 use Rattle.std.specs.List.{flat_map}
-use Rattle.exif_images.specs.Slots as format
-use Rattle.exif_images.specs.EntryContents.{lens, symbol_of, content_type, content_count, content_size, IsKnownContent}
+use Rattle.exif_layout.specs.Slots as format
+use Rattle.exif_layout.specs.EntryContents.{lens, symbol_of, content_type, content_count, content_size, IsKnownContent}
 use Rattle.exif_writer.specs.Running.{state}
 use Rattle.exif_writer.specs.declared.plan.Places.{Places}
 use Rattle.exif_writer.specs.declared.plan.Slot.{Slot}
-use Rattle.exif_images.specs.declared.content.Content.{Content}
-use Rattle.exif_images.specs.declared.content.Content.TheVariants.{Known, OneShort, OneLong, PlacesOf, LengthsOf, PlaceOf}
+use Rattle.exif_layout.specs.declared.content.Content.{Content}
+use Rattle.exif_layout.specs.declared.content.Content.TheVariants.{Known, OneShort, OneLong, PlacesOf, LengthsOf, PlaceOf}
 use Rattle.exif_types.specs.declared.value.Value.{Value}
 use Rattle.exif_types.specs.declared.value.Value.TheVariants.{Short, Long}
 use Rattle.exif_table.specs.declared.context.Context.{Context}
 use Rattle.exif_table.specs.declared.context.Context.TheVariants.{Tiff, Exif, Gps, Interop}
-use Rattle.exif_images.specs.declared.block_kind.BlockKind.{BlockKind}
-use Rattle.exif_images.specs.declared.block_kind.BlockKind.TheVariants.{Strips, Tiles, Jpeg}
-use Rattle.exif_images.specs.Encoding.{spelled, encode, moved_to}
+use Rattle.exif_layout.specs.declared.block_kind.BlockKind.{BlockKind}
+use Rattle.exif_layout.specs.declared.block_kind.BlockKind.TheVariants.{Strips, Tiles, Jpeg}
+use Rattle.exif_layout.specs.Encoding.{spelled, encode, moved_to}
 use Rattle.exif_base.specs.declared.endian.Order.{Order}
-use Rattle.exif_images.specs.Places.{places_from, even, after_value}
+use Rattle.exif_layout.specs.Places.{places_from, even, after_value}
 
 -- how long all of the borrowed blocks are
 abbrev pub sum_of : List (Bor (List ℕ)) → ℕ

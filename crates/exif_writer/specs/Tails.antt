@@ -2,8 +2,8 @@
 use Rattle.std.specs.Prelude.{◌≡◌, ℕ, List}
 use Rattle.std.specs.Option.{option_map}
 use Rattle.exif_writer.specs.declared.measure.Tail.{Tail}
-use Rattle.exif_images.specs.Slots.{Slot, content_len}
-use Rattle.exif_images.specs.Measuring.{span, last_out}
+use Rattle.exif_layout.specs.Slots.{Slot, content_len}
+use Rattle.exif_layout.specs.Measuring.{span, last_out}
 
 -- a slot's tag and how many bytes its value takes
 abbrev pub measure : Slot → ℕ × ℕ

@@ -1,4 +1,4 @@
-//! Fields and blocks written as one TIFF image, as `exif_images` defines it.
+//! Fields and blocks written as one TIFF image, as `exif_layout` defines it.
 #![tactic(auto)]
 
 mod measure;

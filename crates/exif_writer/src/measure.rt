@@ -1,17 +1,17 @@
 //! Why nothing is written, and where the image would end, measured without memory.
 
 ghost use Rattle.std.specs.Prelude.{◌≡◌, ◌+◌, ◌*◌, ◌<◌, ◌≤◌, ◌^◌, false, length, SomeIff, ◌-◌, ◌%◌, ◌++◌, [], ◌∷◌, List, map, IfSome, IfNone, None, IfOk};
-ghost use Rattle.exif_images.specs.Encoding.{value_len};
-ghost use Rattle.exif_images.specs.Places.{after_blocks, after_values, directory_len, tiff_values, strips_place, draft_end, drafts_end};
-ghost use Rattle.exif_images.specs.Refused.{is_unknown, any_unknown, group_fault, first_group_fault, write_fault};
-ghost use Rattle.exif_images.specs.Views.{blocks_of, set_in, entries_in};
+ghost use Rattle.exif_layout.specs.Encoding.{value_len};
+ghost use Rattle.exif_layout.specs.Places.{after_blocks, after_values, directory_len, tiff_values, strips_place, draft_end, drafts_end};
+ghost use Rattle.exif_layout.specs.Refused.{is_unknown, any_unknown, group_fault, first_group_fault, write_fault};
+ghost use Rattle.exif_layout.specs.Views.{blocks_of, set_in, entries_in};
 ghost use Rattle.exif_writer.specs.Tails.{Tells};
-ghost use Rattle.exif_images.specs.Measuring.{MeasuredAs, span};
-ghost use Rattle.exif_images.specs.Slots.{Slot, known, set_slots, content_len, in_tag_order, draft_of, slots_of, unsorted};
-ghost use Rattle.exif_images.specs.Counting.{counted_len};
+ghost use Rattle.exif_layout.specs.Measuring.{MeasuredAs, span};
+ghost use Rattle.exif_layout.specs.Slots.{Slot, known, set_slots, content_len, in_tag_order, draft_of, slots_of, unsorted};
+ghost use Rattle.exif_layout.specs.Counting.{counted_len};
 
 use crate::plan::{lengths_tag, places_tag};
-use exif_images::{BlockKind, Ifd, WriteFault};
+use exif_layout::{BlockKind, Ifd, WriteFault};
 use exif_types::{Context, Field, Value};
 
 /// The end of so many bytes that begin at a place.

@@ -3,19 +3,19 @@
 
 ghost use Rattle.std.specs.Prelude.{◌≡◌, ◌≤◌, map, OnOk, ◌++◌, IfOk, length, None};
 ghost use Rattle.exif_writer.specs.Sending.{symbol, settle, settle_slot, after_slot, values_end, IsMeasurable};
-ghost use Rattle.exif_images.specs.EntryContents.{symbol_of};
-ghost use Rattle.exif_images.specs.Places.{after_blocks, draft_end};
-ghost use Rattle.exif_images.specs.Groups.{places_tag, lengths_tag};
-ghost use Rattle.exif_images.specs.Slots.{in_tag_order, draft_of, known, set_slots, pointer_slots};
+ghost use Rattle.exif_layout.specs.EntryContents.{symbol_of};
+ghost use Rattle.exif_layout.specs.Places.{after_blocks, draft_end};
+ghost use Rattle.exif_layout.specs.Groups.{places_tag, lengths_tag};
+ghost use Rattle.exif_layout.specs.Slots.{in_tag_order, draft_of, known, set_slots, pointer_slots};
 ghost use Rattle.exif_writer.specs.Drafts.{AreDirectories, AreSettledDirectories, HasRoom, IsSettledPlan, next_of, places_of, ArePlans};
 ghost use Rattle.exif_writer.specs.Plans.{CanSettle};
-ghost use Rattle.exif_images.specs.Views.{blocks_of, set_in, entries_in};
-ghost use Rattle.exif_images.specs.Refused.{write_fault};
+ghost use Rattle.exif_layout.specs.Views.{blocks_of, set_in, entries_in};
+ghost use Rattle.exif_layout.specs.Refused.{write_fault};
 
 use crate::measure::{FIRST, context_len};
 use crate::tag_order::sort;
-use exif_images::content::Content;
-use exif_images::{BlockKind, Ifd};
+use exif_layout::content::Content;
+use exif_layout::{BlockKind, Ifd};
 use exif_types::{Context, Field, Tag};
 use std::alloc::{AllocError, Global};
 

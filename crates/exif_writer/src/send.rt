@@ -3,18 +3,18 @@
 ghost use Rattle.std.specs.Prelude.{◌≡◌, ◌+◌, ◌*◌, ◌++◌, ◌^◌, ◌<◌, ◌≤◌, length, map, false, IfSome};
 ghost use Rattle.std.specs.List.{flat_map, AllByRecursion};
 ghost use Rattle.exif_writer.specs.Sending.{block_place, context_place, sum_of, settled, Settles, element, slot_text, IsReady, entries_text, slots_text, value_text, values_text, blocks_text};
-ghost use Rattle.exif_images.specs.EntryContents.{lens};
-ghost use Rattle.exif_images.specs.Encoding.{spelled, encode};
-ghost use Rattle.exif_images.specs.Places.{places_from};
-ghost use Rattle.exif_images.specs.Image.{header_text, order_mark};
+ghost use Rattle.exif_layout.specs.EntryContents.{lens};
+ghost use Rattle.exif_layout.specs.Encoding.{spelled, encode};
+ghost use Rattle.exif_layout.specs.Places.{places_from};
+ghost use Rattle.exif_layout.specs.Image.{header_text, order_mark};
 ghost use Rattle.exif_base.specs.Sent.{Sends};
 ghost use Rattle.exif_writer.specs.Plans.{IsReadyPlan, directories_text, plan_values_text, plan_blocks_text, plan_text, plans_text, sent_image};
 
 use crate::plan::{Places, Plan, Slot};
 use exif_base::{Order, Sink, send_all};
-use exif_images::BlockKind;
-use exif_images::content::Content;
-use exif_images::item::{
+use exif_layout::BlockKind;
+use exif_layout::content::Content;
+use exif_layout::item::{
     send_entry, send_head, send_u16, send_u32, send_value, send_zeros, spelled_short, spelled_u32,
 };
 use exif_types::Context;

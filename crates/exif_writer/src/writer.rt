@@ -6,24 +6,24 @@ ghost use Rattle.exif_base.specs.Device.{count_after};
 ghost use Rattle.exif_base.specs.Orders.{order_named};
 ghost use Rattle.exif_base.specs.Sent.{SendsFront};
 ghost use Rattle.exif_types.specs.Refusals.{IsInterrupted, is_io, is_io_error, refusal_of};
-ghost use Rattle.exif_images.specs.Groups.{pushed, strips_set, tiles_set, jpeg_set};
-ghost use Rattle.exif_images.specs.Image.{image};
-ghost use Rattle.exif_images.specs.Layout.{LaidOut, LengthIsEnd, BlocksStand};
-ghost use Rattle.exif_images.specs.Ranged.{AreRanged, HavePlainTexts};
-ghost use Rattle.exif_images.specs.ReadBack.{ReadsBack, ReadsFirstEight};
-ghost use Rattle.exif_images.specs.Rewriting.{RewritesSame, RewritesInEachOrder, EqualByContents, OrdersAgree, LengthsAgree};
-ghost use Rattle.exif_images.specs.Refused.{write_fault};
-ghost use Rattle.exif_images.specs.WriteFaults.{write_refusal};
-ghost use Rattle.exif_images.specs.ReadBack.{ContainsItself};
-ghost use Rattle.exif_images.specs.Views.{blocks_of, grown};
+ghost use Rattle.exif_layout.specs.Groups.{pushed, strips_set, tiles_set, jpeg_set};
+ghost use Rattle.exif_layout.specs.Image.{image};
+ghost use Rattle.exif_layout.specs.Layout.{LaidOut, LengthIsEnd, BlocksStand};
+ghost use Rattle.exif_layout.specs.Ranged.{AreRanged, HavePlainTexts};
+ghost use Rattle.exif_layout.specs.ReadBack.{ReadsBack, ReadsFirstEight};
+ghost use Rattle.exif_layout.specs.Rewriting.{RewritesSame, RewritesInEachOrder, EqualByContents, OrdersAgree, LengthsAgree};
+ghost use Rattle.exif_layout.specs.Refused.{write_fault};
+ghost use Rattle.exif_layout.specs.WriteFaults.{write_refusal};
+ghost use Rattle.exif_layout.specs.ReadBack.{ContainsItself};
+ghost use Rattle.exif_layout.specs.Views.{blocks_of, grown};
 
 use crate::measure::write_fault;
 use crate::plan::plans;
 use crate::send::send_image;
 use exif_base::{Order, Sink};
 use exif_containers::laws::tiff_data_stand_alone;
-use exif_images::laws::{images_are_canonical, images_are_laid_out, images_read_back};
-use exif_images::{Ifd, is_own, show_field_fits};
+use exif_layout::laws::{images_are_canonical, images_are_laid_out, images_read_back};
+use exif_layout::{Ifd, is_own, show_field_fits};
 use exif_types::{Error, Field, In};
 use std::alloc::{AllocError, Global};
 use std::marker::Model;
@@ -48,8 +48,8 @@ pub struct Writer<'a> {
 
 impl<'a> Model for Writer<'a> {
     ghost use Rattle.std.specs.Prelude.{List};
-    ghost use Rattle.exif_images.specs.Groups.{Group};
-    ghost use Rattle.exif_images.specs.Ranged.{AreRanged};
+    ghost use Rattle.exif_layout.specs.Groups.{Group};
+    ghost use Rattle.exif_layout.specs.Ranged.{AreRanged};
 
     ghost Value = { List Group };
 

@@ -12,8 +12,8 @@ use exif_examples::reading::{
 };
 use exif_examples::values::{artist, resolution_unit, width};
 use exif_examples::writing::{new_exif, written_again};
-use exif_samples::answers::{are_bytes, is_text, shown};
-use exif_samples::files;
+use exif_test_support::answers::{are_bytes, is_text, shown};
+use exif_test_support::files;
 use picture::PICTURE;
 use std::alloc::Global;
 use std::io::{Cursor, ErrorKind};

@@ -1,14 +1,14 @@
 //! What is answered where memory is refused: all of it, or what is behind some request.
-//! `exif_samples::shortage` says which allocator these tests need.
+//! `exif_test_support::shortage` says which allocator these tests need.
 
 use super::support::{are_equal, is_want, reason_of, runs_out, take_all};
 use exif::{Error, Exif, Field, In, Items, Rational, Reader, Tag, Value, parse_exif};
-use exif_samples::answers::{are_bytes, counts, kind_of};
-use exif_samples::files;
-use exif_samples::readings::{
+use exif_test_support::answers::{are_bytes, counts, kind_of};
+use exif_test_support::files;
+use exif_test_support::readings::{
     answer_of, raw_answer, read_strictly, reader_of, report_into, report_to, shared_children,
 };
-use exif_samples::shortage::{Greedy, Outcome, in_turn, take_most};
+use exif_test_support::shortage::{Greedy, Outcome, in_turn, take_most};
 use std::alloc::Global;
 use std::io::ErrorKind;
 use std::process::Abort;

@@ -1,11 +1,11 @@
 //! What is written again where memory is refused: all of it, or what is behind some request.
-//! `exif_samples::shortage` says which allocator these tests need.
+//! `exif_test_support::shortage` says which allocator these tests need.
 
 use super::support::{runs_out, sending};
 use exif::{Counted, Error, Exif, Tag};
 use exif_rewrite::{Remove, rewrite, rewrite_webp, scrubbed_exif};
-use exif_samples::readings::read_strictly;
-use exif_samples::shortage::{Outcome, in_turn};
+use exif_test_support::readings::read_strictly;
+use exif_test_support::shortage::{Outcome, in_turn};
 use std::alloc::Global;
 
 // A lossless image of 2 by 3 pixels with alpha, and what it becomes with two bytes of Exif data.

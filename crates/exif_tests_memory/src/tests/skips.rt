@@ -1,13 +1,13 @@
 //! What takes no memory of the containers: bytes that are skipped, and refusals.
-//! `exif_samples::shortage` says which allocator these tests need.
+//! `exif_test_support::shortage` says which allocator these tests need.
 
 use super::support::{reason_of, take_all};
 use exif::{Exif, Reader, Tag};
-use exif_samples::answers::are_bytes;
-use exif_samples::files;
-use exif_samples::found::is_text;
-use exif_samples::readings::answer_of;
-use exif_samples::streams::{Container, attr};
+use exif_test_support::answers::are_bytes;
+use exif_test_support::files;
+use exif_test_support::found::is_text;
+use exif_test_support::readings::answer_of;
+use exif_test_support::streams::{Container, attr};
 use std::process::Abort;
 use std::test::Fail;
 

@@ -1,8 +1,8 @@
 //! What the tests of all calls share.
 
 use exif::Error;
-use exif_samples::answers::reason;
-use exif_samples::shortage::{Blocks, Outcome, Shortage, take_most, take_rest};
+use exif_test_support::answers::reason;
+use exif_test_support::shortage::{Blocks, Outcome, Shortage, take_most, take_rest};
 use std::process::Abort;
 
 /// All memory but so many bytes, as long as it is held.

@@ -1,17 +1,17 @@
 //! What a writer does where memory is refused: all of it, or what is behind some request.
-//! `exif_samples::shortage` says which allocator these tests need.
+//! `exif_test_support::shortage` says which allocator these tests need.
 
 use super::support::{reason_of, runs_out, sending, take_all};
 use exif::experimental::Writer;
 use exif::{Error, Exif, Field, In, Tag, Value};
-use exif_samples::answers::{are_bytes, kind_of};
-use exif_samples::readings::read_strictly;
-use exif_samples::shortage::{Outcome, in_turn, take_most, take_rest};
-use exif_samples::writings::{
+use exif_test_support::answers::{are_bytes, kind_of};
+use exif_test_support::readings::read_strictly;
+use exif_test_support::shortage::{Outcome, in_turn, take_most, take_rest};
+use exif_test_support::writings::{
     description, descriptions, field, four_fields, is_image, push, push_all, put_jpeg, put_strips,
     put_tiles, scrub_into, write_into, written,
 };
-use exif_samples::{files, images};
+use exif_test_support::{files, images};
 use std::alloc::Global;
 use std::io::ErrorKind;
 use std::process::Abort;

@@ -1,9 +1,9 @@
 //! Files of which no more is read than is needed.
 
 use exif::{Error, Exif, Reader};
-use exif_samples::answers::{distilled, is_refused};
-use exif_samples::files;
-use exif_samples::readings::{needed_answer, padded, reader_of};
+use exif_test_support::answers::{distilled, is_refused};
+use exif_test_support::files;
+use exif_test_support::readings::{needed_answer, padded, reader_of};
 use std::alloc::Global;
 use std::test::Fail;
 

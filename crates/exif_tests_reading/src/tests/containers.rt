@@ -2,12 +2,12 @@
 
 use super::support::{is_fault, is_report, writes_in_each_mode};
 use exif::{Context, Exif, Reader, Tag};
-use exif_samples::answers::{are_bytes, distilled, is_refused};
-use exif_samples::devices::{KINDS, Slow};
-use exif_samples::files;
-use exif_samples::found::{is_signed_number, is_text, is_undefined};
-use exif_samples::readings::{answer_of, padded, reader_of, slow_answer, slow_report};
-use exif_samples::streams::{Container, attr};
+use exif_test_support::answers::{are_bytes, distilled, is_refused};
+use exif_test_support::devices::{KINDS, Slow};
+use exif_test_support::files;
+use exif_test_support::found::{is_signed_number, is_text, is_undefined};
+use exif_test_support::readings::{answer_of, padded, reader_of, slow_answer, slow_report};
+use exif_test_support::streams::{Container, attr};
 use std::alloc::Global;
 use std::io::ErrorKind;
 use std::process::Abort;

@@ -1,10 +1,10 @@
 //! Reports from readers that give one byte a call or fail, and to such writers.
 
 use super::support::{is_fault, is_report};
-use exif_samples::answers::are_bytes;
-use exif_samples::devices::{Drip, KINDS, Slow};
-use exif_samples::files;
-use exif_samples::readings::{dripping_report, slow_report};
+use exif_test_support::answers::are_bytes;
+use exif_test_support::devices::{Drip, KINDS, Slow};
+use exif_test_support::files;
+use exif_test_support::readings::{dripping_report, slow_report};
 use std::alloc::Global;
 use std::io::ErrorKind;
 use std::test::Fail;

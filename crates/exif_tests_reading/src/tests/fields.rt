@@ -1,10 +1,10 @@
 //! Fields, values and look-ups of the small files.
 
 use exif::{Context, Error, Exif, Field, In, Items, Rational, SRational, Tag, Value, parse_exif};
-use exif_samples::answers::{debugs, is_refused};
-use exif_samples::files;
-use exif_samples::found::{is_number, is_version};
-use exif_samples::readings::{raw_answer, read_strictly, reader_of};
+use exif_test_support::answers::{debugs, is_refused};
+use exif_test_support::files;
+use exif_test_support::found::{is_number, is_version};
+use exif_test_support::readings::{raw_answer, read_strictly, reader_of};
 use std::alloc::Global;
 use std::fmt::Debug;
 use std::process::Abort;

@@ -1,9 +1,9 @@
 //! The limit on visited entries, and how many entries there are to visit.
 
 use exif::Reader;
-use exif_samples::answers::{counts, is_text};
-use exif_samples::files;
-use exif_samples::readings::{raw_answer, read, reader_of, refusal, reported, shared_children};
+use exif_test_support::answers::{counts, is_text};
+use exif_test_support::files;
+use exif_test_support::readings::{raw_answer, read, reader_of, refusal, reported, shared_children};
 use std::alloc::Global;
 use std::process::Abort;
 use std::test::Fail;

@@ -1,7 +1,7 @@
 //! Names, directories and values of what was read, as reports show them.
 
 use super::support::writes;
-use exif_samples::files;
+use exif_test_support::files;
 use std::process::Abort;
 use std::test::Fail;
 

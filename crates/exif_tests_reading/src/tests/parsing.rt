@@ -1,9 +1,9 @@
 //! Images that are parsed strictly, as TIFF data alone.
 
 use exif::{Field, In, Tag, parse_exif};
-use exif_samples::answers::reason;
-use exif_samples::found::{is_bytes, is_no_number, is_number, is_text, is_version};
-use exif_samples::{files, images};
+use exif_test_support::answers::reason;
+use exif_test_support::found::{is_bytes, is_no_number, is_number, is_text, is_version};
+use exif_test_support::{files, images};
 use std::alloc::{AllocError, Global};
 use std::process::Abort;
 use std::test::Fail;

@@ -1,9 +1,9 @@
 //! Partial results, and what becomes of them.
 
 use exif::{Error, Exif};
-use exif_samples::answers::{debugs, is_refused, reads, shows};
-use exif_samples::files;
-use exif_samples::readings::{raw_answer, reader_of};
+use exif_test_support::answers::{debugs, is_refused, reads, shows};
+use exif_test_support::files;
+use exif_test_support::readings::{raw_answer, reader_of};
 use std::alloc::Global;
 use std::process::Abort;
 use std::test::Fail;

@@ -1,9 +1,9 @@
 //! The reports of the small files, strict and lenient.
 
 use super::support::{is_report, writes_in_each_mode};
-use exif_samples::answers::{are_bytes, is_refused};
-use exif_samples::files;
-use exif_samples::readings::reported;
+use exif_test_support::answers::{are_bytes, is_refused};
+use exif_test_support::files;
+use exif_test_support::readings::reported;
 use std::alloc::Global;
 use std::process::Abort;
 use std::test::Fail;

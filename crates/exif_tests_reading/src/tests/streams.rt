@@ -2,10 +2,10 @@
 
 use super::support::is_fault;
 use exif::Error;
-use exif_samples::answers::{are_bytes, is_refused};
-use exif_samples::devices::{KINDS, Slow};
-use exif_samples::files;
-use exif_samples::streams::{Container, slow_attr};
+use exif_test_support::answers::{are_bytes, is_refused};
+use exif_test_support::devices::{KINDS, Slow};
+use exif_test_support::files;
+use exif_test_support::streams::{Container, slow_attr};
 use std::alloc::Global;
 use std::io::ErrorKind;
 use std::test::Fail;

@@ -1,8 +1,8 @@
 //! What several tests of reading ask.
 
 use exif::Error;
-use exif_samples::answers::{are_bytes, fails_with};
-use exif_samples::readings::reported;
+use exif_test_support::answers::{are_bytes, fails_with};
+use exif_test_support::readings::reported;
 use std::alloc::Global;
 use std::io::ErrorKind;
 use std::process::Abort;

@@ -2,10 +2,10 @@
 
 use super::support::writes;
 use exif::{Exif, Field, In, Items, ProvideUnit, Rational, SRational, Tag, Value};
-use exif_samples::answers::{is_text, shown};
-use exif_samples::files;
-use exif_samples::readings::read_strictly;
-use exif_samples::writings::field;
+use exif_test_support::answers::{is_text, shown};
+use exif_test_support::files;
+use exif_test_support::readings::read_strictly;
+use exif_test_support::writings::field;
 use std::alloc::{AllocError, Global};
 use std::test::Fail;
 

@@ -2,7 +2,7 @@
 
 use exif_base::Counted;
 use exif_rewrite::{Ended, Remove, rewrite, rewrite_jpeg, rewrite_jpeg_as_it_stands, rewrite_webp};
-use exif_samples::devices::{Drip, Slow};
+use exif_test_support::devices::{Drip, Slow};
 use exif_types::Error;
 use std::alloc::Global;
 use std::io::ErrorKind;

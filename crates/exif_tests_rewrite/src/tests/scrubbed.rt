@@ -1,8 +1,8 @@
 //! The named fields of small TIFF data, byte for byte.
 
 use exif_rewrite::{UPRIGHT, scrubbed_exif};
-use exif_samples::answers::are_bytes;
-use exif_samples::readings::{read_leniently, read_strictly};
+use exif_test_support::answers::are_bytes;
+use exif_test_support::readings::{read_leniently, read_strictly};
 use exif_types::{Context, In, Tag};
 use std::alloc::Global;
 use std::test::Fail;

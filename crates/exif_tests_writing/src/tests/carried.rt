@@ -2,10 +2,10 @@
 
 use super::support::with_thumbnail;
 use exif::{Error, Exif, Field, In, Reader, Tag};
-use exif_samples::answers::are_bytes;
-use exif_samples::found::{is_bytes, is_number, is_text, is_version};
-use exif_samples::readings::answer_of;
-use exif_samples::writings::{four_fields, image};
+use exif_test_support::answers::are_bytes;
+use exif_test_support::found::{is_bytes, is_number, is_text, is_version};
+use exif_test_support::readings::answer_of;
+use exif_test_support::writings::{four_fields, image};
 use std::alloc::{AllocError, Global};
 use std::process::Abort;
 use std::test::Fail;

@@ -3,8 +3,8 @@
 use super::support::{list_of, writer_with};
 use exif::experimental::Writer;
 use exif::{In, Items, Tag, Value};
-use exif_samples::answers::debugs;
-use exif_samples::writings::{field, put_jpeg, put_strips, put_tiles};
+use exif_test_support::answers::debugs;
+use exif_test_support::writings::{field, put_jpeg, put_strips, put_tiles};
 use std::test::Fail;
 
 const NOTHING: &str = "Writer { alloc: Global, ifds: [] }";

@@ -2,12 +2,12 @@
 
 use super::support::is_end;
 use exif::{Context, Exif, In, Tag};
-use exif_samples::answers::{self, are_bytes};
-use exif_samples::devices::Drip;
-use exif_samples::found::{is_number, is_text, is_version};
-use exif_samples::readings::{read_leniently, read_strictly};
-use exif_samples::writings::{counted_scrub, dripping_scrub, scrubbed};
-use exif_samples::{files, images};
+use exif_test_support::answers::{self, are_bytes};
+use exif_test_support::devices::Drip;
+use exif_test_support::found::{is_number, is_text, is_version};
+use exif_test_support::readings::{read_leniently, read_strictly};
+use exif_test_support::writings::{counted_scrub, dripping_scrub, scrubbed};
+use exif_test_support::{files, images};
 use std::alloc::Global;
 use std::io::ErrorKind;
 use std::process::Abort;

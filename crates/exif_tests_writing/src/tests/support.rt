@@ -2,8 +2,8 @@
 
 use exif::experimental::Writer;
 use exif::{Error, Field, In};
-use exif_samples::answers::{are_bytes, ends_with};
-use exif_samples::writings::{image, push_all, put_jpeg};
+use exif_test_support::answers::{are_bytes, ends_with};
+use exif_test_support::writings::{image, push_all, put_jpeg};
 use std::alloc::{AllocError, Global};
 use std::io::ErrorKind;
 use std::test::Fail;

@@ -3,9 +3,9 @@
 use super::support::{is_end, with_thumbnail, writer_with};
 use exif::In;
 use exif::experimental::Writer;
-use exif_samples::devices::Drip;
-use exif_samples::writings::{descriptions, dripping_write, four_fields, put_strips};
-use exif_samples::{files, images};
+use exif_test_support::devices::Drip;
+use exif_test_support::writings::{descriptions, dripping_write, four_fields, put_strips};
+use exif_test_support::{files, images};
 use std::alloc::Global;
 use std::io::ErrorKind;
 use std::process::Abort;

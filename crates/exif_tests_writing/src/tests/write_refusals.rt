@@ -3,11 +3,11 @@
 use super::support::{list_of, with_thumbnail, writer_with};
 use exif::experimental::Writer;
 use exif::{Error, Field, In, Tag, Value};
-use exif_samples::readings::read_strictly;
-use exif_samples::writings::{
+use exif_test_support::readings::read_strictly;
+use exif_test_support::writings::{
     counted_write, descriptions, field, image, push_all, put_jpeg, put_strips, text, writer_of,
 };
-use exif_samples::{answers, files};
+use exif_test_support::{answers, files};
 use std::alloc::{AllocError, Global};
 use std::test::Fail;
 

@@ -3,11 +3,11 @@
 use super::support::{list_of, sends, with_thumbnail, writer_with};
 use exif::experimental::Writer;
 use exif::{Context, Error, Field, In, Items, Rational, SRational, Tag, Value};
-use exif_samples::answers::are_bytes;
-use exif_samples::writings::{
+use exif_test_support::answers::are_bytes;
+use exif_test_support::writings::{
     descriptions, field, four_fields, image, push, put_strips, put_tiles, version,
 };
-use exif_samples::{files, images};
+use exif_test_support::{files, images};
 use std::alloc::{AllocError, Global};
 use std::test::Fail;
 

@@ -1,5 +1,5 @@
 use Rattle.std.proofs.Common.{◌≡◌, drop}
-use Rattle.exif_images.specs.Rewriting.{pushed_all}
+use Rattle.exif_layout.specs.Rewriting.{pushed_all}
 use Rattle.exif_change.proofs.block.push_all.Given as goal
 
 -- what is left of the fields takes the writer where all of them do

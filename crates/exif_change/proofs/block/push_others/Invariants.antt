@@ -1,5 +1,5 @@
 use Rattle.std.proofs.Common.{◌≡◌}
-use Rattle.exif_images.specs.Rewriting.{pushed_all}
+use Rattle.exif_layout.specs.Rewriting.{pushed_all}
 use Rattle.exif_change.specs.Setting.{others}
 use Rattle.exif_change.proofs.block.push_others.Given as goal
 

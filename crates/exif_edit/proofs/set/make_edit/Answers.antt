@@ -1,7 +1,7 @@
 use Rattle.std.proofs.Common.{ℕ, List, ap, length, arith, ◌<◌, ◌≤◌}
 use Rattle.std.specs.Prelude.{max}
 use Rattle.exif_types.specs.ValueTypes.{count_of}
-use Rattle.exif_images.specs.Encoding.{encode}
+use Rattle.exif_layout.specs.Encoding.{encode}
 use Rattle.exif_edit.proofs.SetSteps.{edit_outside, edit_far, edit_long, edit_many, edit_fits}
 use Rattle.exif_edit.proofs.SetSound.{edit_fits_in, value_fits}
 use Rattle.exif_edit.proofs.set.make_edit.Goals as goal

@@ -1,4 +1,4 @@
-use Rattle.exif_entries.specs.Results.{parsed_of}
+use Rattle.exif_edit_base.specs.Results.{parsed_of}
 use Rattle.exif_edit_base.proofs.ReadSteps.{says_reads}
 use Rattle.exif_edit_base.proofs.read.locate.Goals as goal
 

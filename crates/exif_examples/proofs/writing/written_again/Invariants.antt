@@ -1,5 +1,5 @@
 use Rattle.std.proofs.Common.{◌≡◌, []}
-use Rattle.exif_images.specs.Rewriting.{pushed_all}
+use Rattle.exif_layout.specs.Rewriting.{pushed_all}
 use Rattle.exif_examples.proofs.writing.written_again.Given as goal
 
 -- what is left of the fields takes the writer where all of them do

@@ -1,6 +1,6 @@
 use Rattle.std.proofs.Common.{◌≡◌, ◌||◌}
 use Rattle.std.specs.List.{list_any}
-use Rattle.exif_images.specs.Rewriting.{pushed_all}
+use Rattle.exif_layout.specs.Rewriting.{pushed_all}
 use Rattle.exif_rewrite.specs.ScrubbedExif.{is_wanted, wanted}
 use Rattle.exif_rewrite.proofs.scrubbed.push_wanted.Given as goal
 

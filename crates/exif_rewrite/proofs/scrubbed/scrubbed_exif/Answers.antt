@@ -2,8 +2,8 @@ use Rattle.std.proofs.Common.{◌≡◌, ◌∙◌, ◌++◌, [], ap, sym}
 use Rattle.std.proofs.lemmas.List.Elements.{All-filter}
 use Rattle.exif_base.specs.Orders.{order_named}
 use Rattle.exif_types.specs.Sound.{IsRead}
-use Rattle.exif_images.specs.Image.{image}
-use Rattle.exif_images.specs.Rewriting.{pushed_all}
+use Rattle.exif_layout.specs.Image.{image}
+use Rattle.exif_layout.specs.Rewriting.{pushed_all}
 use Rattle.exif_rewrite.specs.ScrubbedExif.{is_wanted, scrubbed_answer, wanted}
 use Rattle.exif_rewrite.proofs.ScrubbedSteps.{fails_same, none_wanted, scrubbed_fails, scrubbed_reads, scrubbed_whole, some_wanted}
 use Rattle.exif_rewrite.proofs.scrubbed.scrubbed_exif.Goals as goal

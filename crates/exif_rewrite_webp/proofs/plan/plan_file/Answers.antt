@@ -1,7 +1,7 @@
 use Rattle.std.proofs.Common.{◌+◌, length, map, sym}
 use Rattle.std.proofs.lemmas.Result.{err_from_is_err_and}
 use Rattle.std.proofs.lemmas.List.{take_rest}
-use Rattle.exif_rewrite_base.specs.Removing.{payload_of}
+use Rattle.exif_containers.specs.Removing.{payload_of}
 use Rattle.exif_rewrite_webp.specs.WebpChunks.{chunks_text}
 use Rattle.exif_rewrite_webp.specs.WebpPlans.{chunk_view, kept_view}
 use Rattle.exif_rewrite_webp.proofs.WebpSteps.{canvas_fails, size_fails, plan_gives, new_len}

@@ -10,7 +10,7 @@ use super::{is_so, is_zero, part, refuses, text};
 use exif_base::{Counted, Seekable};
 use exif_edit::{Error, Patch};
 use exif_edit_files::erase_places_patches_of;
-use exif_samples::files::PLACE_BEFORE_DESCRIPTION;
+use exif_test_support::files::PLACE_BEFORE_DESCRIPTION;
 use exif_types::In;
 use std::alloc::{AllocError, Global};
 use std::io::Cursor;

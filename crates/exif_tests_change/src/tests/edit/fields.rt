@@ -3,7 +3,7 @@
 use super::calls::{field_erased, field_stays};
 use super::{DESCRIPTION, is_so};
 use exif_edit::{Error, erase_field_patches};
-use exif_samples::files::{DESCRIBED_BIG, DESCRIBED_LITTLE};
+use exif_test_support::files::{DESCRIBED_BIG, DESCRIBED_LITTLE};
 use exif_types::{Context, In, Tag};
 use std::alloc::Global;
 use std::test::Fail;

@@ -3,7 +3,7 @@
 use super::calls::{all_in_file, is_zeroed, places_in_file, set_in_file, set_patches};
 use super::{is_so, part, refuses, text};
 use exif_edit::Error;
-use exif_samples::files::{DESCRIBED_BIG, HEIF, JPEG, WEBP};
+use exif_test_support::files::{DESCRIBED_BIG, HEIF, JPEG, WEBP};
 use exif_types::In;
 use std::alloc::{AllocError, Global};
 use std::test::Fail;

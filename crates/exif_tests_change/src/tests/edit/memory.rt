@@ -1,5 +1,5 @@
 //! What edits answer where memory is refused: all of it, or what is behind some request.
-//! `exif_samples::shortage` says which allocator these tests need.
+//! `exif_test_support::shortage` says which allocator these tests need.
 
 use super::calls::{
     all_in_file, field_in_file, field_patches, places_in_file, places_patches, set_in_file,
@@ -16,7 +16,7 @@ use exif_edit_files::{
     erase_all_patches_in_file, erase_field_patches_of, erase_places_patches_of,
     set_value_patches_of,
 };
-use exif_samples::shortage::{Outcome, in_turn};
+use exif_test_support::shortage::{Outcome, in_turn};
 use exif_types::{In, Value};
 use std::alloc::Global;
 use std::test::Fail;

@@ -3,7 +3,7 @@
 use super::calls::{places_zeroed, without_places};
 use super::{is_so, is_zero, part};
 use exif_edit::{Error, erase_places_patches};
-use exif_samples::files::{DESCRIBED_BIG, JOURNEY, NOTHING, PLACE_BEFORE_DESCRIPTION};
+use exif_test_support::files::{DESCRIBED_BIG, JOURNEY, NOTHING, PLACE_BEFORE_DESCRIPTION};
 use std::alloc::{AllocError, Global};
 use std::test::Fail;
 

@@ -4,7 +4,7 @@ use super::calls::{places_stay, places_zeroed, sets_numbers, text_stays, value_s
 use super::fields::{LOOP, OVERLAPPING, SOFT};
 use super::{DESCRIPTION, with_texts};
 use exif_base::Items;
-use exif_samples::files::{CUT_DIRECTORY, DESCRIBED_BIG};
+use exif_test_support::files::{CUT_DIRECTORY, DESCRIBED_BIG};
 use exif_types::{Context, In, Tag, Value};
 use std::alloc::{AllocError, Global};
 use std::test::Fail;

@@ -5,7 +5,7 @@ use super::{DESCRIPTION, is_so, refuses, text};
 use exif_base::{Counted, Seekable};
 use exif_edit::{Error, Patch};
 use exif_edit_files::{erase_field_patches_of, erase_places_patches_of, set_value_patches_of};
-use exif_samples::files::{DESCRIBED_BIG, HEIF, JPEG, WEBP};
+use exif_test_support::files::{DESCRIBED_BIG, HEIF, JPEG, WEBP};
 use exif_types::In;
 use std::alloc::Global;
 use std::io::Cursor;

@@ -3,7 +3,7 @@
 use super::calls::{sets, value_stays};
 use super::with_texts;
 use exif_base::Items;
-use exif_samples::files::{EVERY_TYPE_BIG, EVERY_TYPE_LITTLE};
+use exif_test_support::files::{EVERY_TYPE_BIG, EVERY_TYPE_LITTLE};
 use exif_types::{Context, In, Rational, SRational, Tag, Value};
 use std::alloc::{AllocError, Global};
 use std::test::Fail;

@@ -3,7 +3,7 @@
 use super::pictures::{DESCRIBED, PLAIN, UPRIGHT};
 use super::{gives, refuses, scrubbed};
 use exif_change::Removed;
-use exif_samples::files::{DESCRIBED_BIG, EVERY_DIRECTORY, HEIF, HEIF_BRANDS, JPEG};
+use exif_test_support::files::{DESCRIBED_BIG, EVERY_DIRECTORY, HEIF, HEIF_BRANDS, JPEG};
 
 #[test]
 fn all_metadata_go(rt: HostRuntime) {

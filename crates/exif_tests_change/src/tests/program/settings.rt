@@ -3,7 +3,7 @@
 use super::pictures::{DESCRIBED, DESCRIBED_LONGER, PLAIN, RESOLVED};
 use super::{refuses, with_values};
 use exif_change::{Assignment, Changed, Refusal};
-use exif_samples::files::DESCRIBED_BIG;
+use exif_test_support::files::DESCRIBED_BIG;
 use std::process::Abort;
 
 // What a word says.

@@ -1,7 +1,7 @@
 //! The thumbnail of a picture.
 
 use exif_change::{read, thumbnail};
-use exif_samples::files::{DESCRIBED_BIG, EVERY_DIRECTORY};
+use exif_test_support::files::{DESCRIBED_BIG, EVERY_DIRECTORY};
 use std::process::Abort;
 
 fn assert_thumbnail(rt: &(impl Abort + AllocGlobal), file: &[u8], wanted: Option<&[u8]>) {

@@ -4,9 +4,9 @@ use super::{odd, picture, types};
 use exif::Error;
 use exif_containers::container::{Format, format_of};
 use exif_json::{read_json, refusal_json};
-use exif_samples::answers::are_bytes;
-use exif_samples::files;
-use exif_samples::readings::{answer_of, reader_of};
+use exif_test_support::answers::are_bytes;
+use exif_test_support::files;
+use exif_test_support::readings::{answer_of, reader_of};
 use std::alloc::Global;
 use std::test::Fail;
 

@@ -1,7 +1,6 @@
 //! Dates, their parts and their refusals.
 
-use exif_datetime::DateTime;
-use exif_types::Error;
+use exif_types::{DateTime, Error};
 use std::alloc::AllocError;
 use std::process::Abort;
 

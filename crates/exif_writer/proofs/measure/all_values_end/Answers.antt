@@ -1,6 +1,6 @@
 use Rattle.std.proofs.Common.{arith, refl, sym}
 use Rattle.exif_writer.proofs.PlanPlaces.{all_values_within, exif_at, gps_at, interop_at, strips_at}
-use Rattle.exif_images.specs.Slots.{draft_of}
+use Rattle.exif_layout.specs.Slots.{draft_of}
 use Rattle.exif_writer.proofs.MeasureTails.{at_least}
 use Rattle.exif_writer.proofs.measure.all_values_end.Goals as goal
 

@@ -1,7 +1,7 @@
 use Rattle.std.proofs.Common.{◌∙◌, ap, arith, sym}
-use Rattle.exif_images.proofs.Images.Counting.{count_is, directory_len_is}
-use Rattle.exif_images.proofs.Images.Whole.{accepted}
-use Rattle.exif_images.specs.Counting.{counted_len}
+use Rattle.exif_layout.proofs.Images.Counting.{count_is, directory_len_is}
+use Rattle.exif_layout.proofs.Images.Whole.{accepted}
+use Rattle.exif_layout.specs.Counting.{counted_len}
 use Rattle.exif_writer.proofs.measure.context_len.Goals as goal
 
 pub directory_len-requires : goal.directory_len-requires

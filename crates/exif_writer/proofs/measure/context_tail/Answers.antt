@@ -1,10 +1,10 @@
 use Rattle.std.proofs.Common.{arith, ap, map, ◌++◌}
-use Rattle.exif_images.proofs.Images.Whole.{accepted}
+use Rattle.exif_layout.proofs.Images.Whole.{accepted}
 use Rattle.exif_writer.proofs.MeasureTails.{all_known, none_map, some_map, pushed_front, tiff_fronts, tiff_told, other_told}
-use Rattle.exif_images.specs.declared.block_kind.BlockKind.TheVariants.{Strips}
-use Rattle.exif_images.specs.Measuring.{span}
-use Rattle.exif_images.specs.Groups.{pushed_in}
-use Rattle.exif_images.specs.Slots.{known, block_slots}
+use Rattle.exif_layout.specs.declared.block_kind.BlockKind.TheVariants.{Strips}
+use Rattle.exif_layout.specs.Measuring.{span}
+use Rattle.exif_layout.specs.Groups.{pushed_in}
+use Rattle.exif_layout.specs.Slots.{known, block_slots}
 use Rattle.exif_writer.proofs.measure.context_tail.Goals as goal
 
 pub tail_of-requires : goal.tail_of-requires

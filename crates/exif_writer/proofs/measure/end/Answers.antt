@@ -1,6 +1,6 @@
 use Rattle.std.proofs.Common.{arith, refl, sym}
 use Rattle.exif_writer.proofs.PlanPlaces.{places_within, tiles_at, jpeg_at, end_at}
-use Rattle.exif_images.specs.Slots.{draft_of}
+use Rattle.exif_layout.specs.Slots.{draft_of}
 use Rattle.exif_writer.proofs.MeasureTails.{at_least}
 use Rattle.exif_writer.proofs.measure.end.Goals as goal
 

@@ -1,5 +1,5 @@
 use Rattle.std.proofs.Common.{◌≡◌, take, None}
-use Rattle.exif_images.specs.Refused.{first_group_fault}
+use Rattle.exif_layout.specs.Refused.{first_group_fault}
 use Rattle.exif_writer.proofs.measure.first_fault.Given as goal
 
 abbrev pub invariant-loop-ifd : goal.invariant-loop-ifd

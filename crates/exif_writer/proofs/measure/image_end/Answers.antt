@@ -1,7 +1,7 @@
 use Rattle.std.proofs.Common.{◌∙◌, ap, arith, sym}
 use Rattle.exif_writer.proofs.PlanChain.{fault_at, ends_more, ends_within, ends_low}
-use Rattle.exif_images.specs.Places.{draft_end}
-use Rattle.exif_images.specs.Slots.{draft_of}
+use Rattle.exif_layout.specs.Places.{draft_end}
+use Rattle.exif_layout.specs.Slots.{draft_of}
 use Rattle.exif_writer.proofs.measure.image_end.Goals as goal
 
 pub end-requires-clause-fault : goal.end-requires-clause-fault

@@ -1,6 +1,6 @@
 use Rattle.std.proofs.Common.{◌≡◌, ◌<◌, ◌^◌, map, take}
-use Rattle.exif_images.specs.Places.{drafts_end}
-use Rattle.exif_images.specs.Slots.{draft_of}
+use Rattle.exif_layout.specs.Places.{drafts_end}
+use Rattle.exif_layout.specs.Slots.{draft_of}
 use Rattle.exif_writer.proofs.measure.image_end.Given as goal
 
 abbrev pub invariant-loop-ifd : goal.invariant-loop-ifd

@@ -1,9 +1,9 @@
 use Rattle.std.proofs.Common.{◌∙◌, ◌+◌, arith, ap, refl, sym, take}
 use Rattle.exif_writer.proofs.MeasureTails.{of_fields, of_more, span_front, known_len, known_at, over_alone, at_least}
-use Rattle.exif_images.specs.Encoding.{value_len}
-use Rattle.exif_images.specs.Groups.{entry_of}
-use Rattle.exif_images.specs.Measuring.{span}
-use Rattle.exif_images.specs.Slots.{known}
+use Rattle.exif_layout.specs.Encoding.{value_len}
+use Rattle.exif_layout.specs.Groups.{entry_of}
+use Rattle.exif_layout.specs.Measuring.{span}
+use Rattle.exif_layout.specs.Slots.{known}
 use Rattle.exif_writer.proofs.measure.tail_of.Goals as goal
 
 pub value_size-requires : goal.value_size-requires

@@ -2,7 +2,7 @@ use Rattle.std.proofs.Common.{◌≡◌, ◌∙◌, ℕ, ◌*◌, ◌<◌, ◌^�
 use Rattle.std.specs.Prelude.{SomeIff}
 use Rattle.exif_text.specs.FieldTypes.{unit}
 use Rattle.exif_types.specs.ValueTypes.{count_of, field_type_of, type_number}
-use Rattle.exif_images.specs.Encoding.{value_len}
+use Rattle.exif_layout.specs.Encoding.{value_len}
 use Rattle.exif_writer.proofs.SendSizes.{known_unit}
 use Rattle.exif_writer.proofs.measure.value_size.Goals as goal
 

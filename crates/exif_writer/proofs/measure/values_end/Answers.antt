@@ -1,7 +1,7 @@
 use Rattle.std.proofs.Common.{arith}
-use Rattle.exif_images.proofs.Images.Counting.{slots_sorted}
+use Rattle.exif_layout.proofs.Images.Counting.{slots_sorted}
 use Rattle.exif_writer.proofs.MeasureTails.{span_beyond}
-use Rattle.exif_images.specs.Slots.{unsorted}
+use Rattle.exif_layout.specs.Slots.{unsorted}
 use Rattle.exif_writer.proofs.measure.values_end.Goals as goal
 
 pub returns-in_err-context_tail : goal.returns-in_err-context_tail

@@ -1,8 +1,8 @@
 use Rattle.std.proofs.Common.{◌≡◌, ◌∙◌, ◌++◌, ap, map}
 use Rattle.exif_writer.specs.Sending.{symbol}
 use Rattle.exif_table.specs.declared.context.Context.TheVariants.{Exif, Gps, Interop}
-use Rattle.exif_images.specs.declared.block_kind.BlockKind.TheVariants.{Strips, Tiles, Jpeg}
-use Rattle.exif_images.specs.Slots.{in_tag_order, known, set_slots, pointer_slots, tiff_slots, exif_slots, gps_slots, interop_slots}
+use Rattle.exif_layout.specs.declared.block_kind.BlockKind.TheVariants.{Strips, Tiles, Jpeg}
+use Rattle.exif_layout.specs.Slots.{in_tag_order, known, set_slots, pointer_slots, tiff_slots, exif_slots, gps_slots, interop_slots}
 use Rattle.exif_writer.proofs.plan.directories_of.Goals as goal
 
 pub returns : goal.returns

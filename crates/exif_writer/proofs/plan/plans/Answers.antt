@@ -1,7 +1,7 @@
 use Rattle.std.proofs.Common.{◌≡◌, ◌∙◌, ap, refl, sym}
 use Rattle.exif_writer.proofs.PlanChain.{has_room, ends_more, next_is, plans_more, plans_done}
-use Rattle.exif_images.specs.Places.{draft_end}
-use Rattle.exif_images.specs.Slots.{draft_of}
+use Rattle.exif_layout.specs.Places.{draft_end}
+use Rattle.exif_layout.specs.Slots.{draft_of}
 use Rattle.exif_writer.proofs.plan.plans.Goals as goal
 
 pub plan_of-requires : goal.plan_of-requires

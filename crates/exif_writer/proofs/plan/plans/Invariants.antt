@@ -1,8 +1,8 @@
 use Rattle.std.proofs.Common.{◌≡◌, ◌++◌, List, drop, map, take}
 use Rattle.exif_writer.specs.Drafts.{ArePlans}
 use Rattle.exif_writer.specs.declared.plan.Plan.{Plan}
-use Rattle.exif_images.specs.Places.{drafts_end}
-use Rattle.exif_images.specs.Slots.{draft_of}
+use Rattle.exif_layout.specs.Places.{drafts_end}
+use Rattle.exif_layout.specs.Slots.{draft_of}
 use Rattle.exif_writer.proofs.plan.plans.Given as goal
 
 abbrev pub invariant-loop-index : goal.invariant-loop-index

@@ -2,7 +2,7 @@ use Rattle.std.proofs.Common.{length, arith, refl, sym, get_or}
 use Rattle.exif_writer.proofs.SendRunning.{lengths_text, sum_within, no_text}
 use Rattle.exif_writer.proofs.SendChains.{sends_none, sends_member, sends_stop_member, sends_members}
 use Rattle.exif_writer.proofs.send.send_lengths.Goals as goal
-use Rattle.exif_images.specs.Encoding.{spelled}
+use Rattle.exif_layout.specs.Encoding.{spelled}
 
 pub loop-block-init : goal.loop-block-init
 loop-block-init g c = sends_none

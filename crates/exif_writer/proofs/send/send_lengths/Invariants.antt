@@ -1,6 +1,6 @@
 use Rattle.std.proofs.Common.{length, take}
 use Rattle.std.specs.List.{flat_map}
-use Rattle.exif_images.specs.Encoding.{spelled}
+use Rattle.exif_layout.specs.Encoding.{spelled}
 use Rattle.exif_writer.proofs.SendChains.{HasSent}
 use Rattle.exif_writer.proofs.send.send_lengths.Given as goal
 

@@ -2,7 +2,7 @@ use Rattle.std.proofs.Common.{◌+◌, length, arith, refl, sym, take, get_or}
 use Rattle.exif_writer.proofs.SendRunning.{runs_member, runs_stop, runs_all, state_more, run_places, state_sum, sum_within, no_text}
 use Rattle.exif_writer.proofs.SendChains.{sends_none}
 use Rattle.exif_writer.proofs.send.send_places.Goals as goal
-use Rattle.exif_images.specs.Encoding.{spelled}
+use Rattle.exif_layout.specs.Encoding.{spelled}
 
 pub loop-block-init : goal.loop-block-init
 loop-block-init g c = record { sent = sends_none; place = refl }

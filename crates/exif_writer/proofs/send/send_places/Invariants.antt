@@ -2,7 +2,7 @@ use Rattle.std.proofs.Common.{◌≡◌, ◌+◌, length, take}
 use Rattle.exif_writer.specs.Running.{run, state}
 use Rattle.exif_writer.proofs.SendChains.{HasSent}
 use Rattle.exif_writer.proofs.send.send_places.Given as goal
-use Rattle.exif_images.specs.Encoding.{spelled}
+use Rattle.exif_layout.specs.Encoding.{spelled}
 
 abbrev pub invariant-loop-block : goal.invariant-loop-block
 invariant-loop-block g l = record {

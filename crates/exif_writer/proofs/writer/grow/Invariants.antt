@@ -1,5 +1,5 @@
 use Rattle.std.proofs.Common.{◌≡◌, ◌++◌, ◌-◌, replicate}
-use Rattle.exif_images.specs.Groups.{empty_group}
+use Rattle.exif_layout.specs.Groups.{empty_group}
 use Rattle.exif_writer.proofs.writer.grow.Given as goal
 
 abbrev pub invariant-loop-made : goal.invariant-loop-made

@@ -1,13 +1,13 @@
 use Rattle.std.proofs.Common.{◌≡◌, ◌∙◌, ◌+◌, ◌%◌, ap, arith, map, refl}
 use Rattle.exif_table.specs.declared.context.Context.TheVariants.{Tiff, Exif, Gps, Interop}
-use Rattle.exif_images.proofs.Images.Whole.{accepted}
+use Rattle.exif_layout.proofs.Images.Whole.{accepted}
 use Rattle.exif_writer.proofs.PlanPlaces.{AreValuesPlaces, AreBlocksPlaces, tiff_is, exif_place_at, gps_place_at, interop_place_at, tiff_values_at, exif_at, gps_at, interop_at, strips_at, tiles_at, jpeg_at, end_at, directories_fit, places_within}
 use Rattle.exif_writer.proofs.Ready.{can_settle, ends_at}
 use Rattle.exif_writer.proofs.PlanSettling.{settling_at}
 use Rattle.exif_writer.specs.Drafts.{next_of}
-use Rattle.exif_images.specs.Places.{strips_place}
+use Rattle.exif_layout.specs.Places.{strips_place}
 use Rattle.exif_writer.specs.Sending.{symbol}
-use Rattle.exif_images.specs.Slots.{draft_of}
+use Rattle.exif_layout.specs.Slots.{draft_of}
 use Rattle.exif_writer.proofs.plan.Directories.settle.Goals as goal
 use Rattle.exif_writer.proofs.plan.Directories.settle.Goals.{After-settle-strips, After-after_blocks-end}
 

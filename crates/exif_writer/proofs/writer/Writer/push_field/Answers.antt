@@ -1,7 +1,7 @@
 use Rattle.std.proofs.Common.{◌∙◌, sym, ap}
-use Rattle.exif_images.specs.Groups.{Group, with_entry, entry_of, changed}
-use Rattle.exif_images.specs.Ranged.{IsEntry}
-use Rattle.exif_images.specs.Views.{grown}
+use Rattle.exif_layout.specs.Groups.{Group, with_entry, entry_of, changed}
+use Rattle.exif_layout.specs.Ranged.{IsEntry}
+use Rattle.exif_layout.specs.Views.{grown}
 use Rattle.exif_writer.proofs.Growth.{changed_by, changed_ranged, entry_ranged, ranged_as, cut_back, on_ok, on_err}
 use Rattle.exif_writer.proofs.writer.Writer.push_field.Goals as goal
 

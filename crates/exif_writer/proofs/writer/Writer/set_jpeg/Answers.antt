@@ -1,6 +1,6 @@
 use Rattle.std.proofs.Common.{◌∙◌, ap}
-use Rattle.exif_images.specs.Groups.{with_jpeg, changed}
-use Rattle.exif_images.specs.Views.{grown}
+use Rattle.exif_layout.specs.Groups.{with_jpeg, changed}
+use Rattle.exif_layout.specs.Views.{grown}
 use Rattle.exif_writer.proofs.Growth.{changed_by, changed_ranged, jpeg_ranged, ranged_as}
 use Rattle.exif_writer.proofs.writer.Writer.set_jpeg.Goals as goal
 

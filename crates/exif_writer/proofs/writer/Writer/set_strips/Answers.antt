@@ -1,6 +1,6 @@
 use Rattle.std.proofs.Common.{◌∙◌, ap}
-use Rattle.exif_images.specs.Groups.{with_strips, changed}
-use Rattle.exif_images.specs.Views.{blocks_of, grown}
+use Rattle.exif_layout.specs.Groups.{with_strips, changed}
+use Rattle.exif_layout.specs.Views.{blocks_of, grown}
 use Rattle.exif_writer.proofs.Growth.{changed_by, changed_ranged, strips_ranged, ranged_as}
 use Rattle.exif_writer.proofs.writer.Writer.set_strips.Goals as goal
 

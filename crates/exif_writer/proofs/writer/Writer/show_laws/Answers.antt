@@ -1,7 +1,7 @@
 use Rattle.std.proofs.Common.{List, subst}
-use Rattle.exif_images.specs.Groups.{Group}
-use Rattle.exif_images.specs.Image.{image}
-use Rattle.exif_images.specs.Ranged.{AreRanged}
+use Rattle.exif_layout.specs.Groups.{Group}
+use Rattle.exif_layout.specs.Image.{image}
+use Rattle.exif_layout.specs.Ranged.{AreRanged}
 use Rattle.exif_base.specs.Orders.{order_named}
 use Rattle.exif_writer.proofs.Marks.{begins_image}
 use Rattle.exif_writer.proofs.writer.Writer.show_laws.Goals as goal

@@ -1,7 +1,7 @@
 use Rattle.std.proofs.Common.{rules, ◌≡◌, ◌∙◌, List, None, ap, map, subst, sym}
-use Rattle.exif_images.specs.Groups.{Group}
-use Rattle.exif_images.specs.Refused.{write_fault}
-use Rattle.exif_images.specs.Slots.{draft_of}
+use Rattle.exif_layout.specs.Groups.{Group}
+use Rattle.exif_layout.specs.Refused.{write_fault}
+use Rattle.exif_layout.specs.Slots.{draft_of}
 use Rattle.exif_writer.specs.Drafts.{ArePlans}
 use Rattle.exif_writer.proofs.Ready.{ready_plans, sent_is}
 use Rattle.exif_writer.proofs.SendRunning.{on_err}

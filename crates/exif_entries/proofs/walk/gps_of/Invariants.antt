@@ -1,8 +1,0 @@
-use Rattle.std.proofs.Common.{◌≡◌, ◌++◌, drop}
-use Rattle.exif_entries.specs.Locations.{gps_of}
-use Rattle.exif_entries.proofs.walk.gps_of.Given as goal
-
--- what is left of the directories adds what all of them do
-abbrev pub invariant-loop-directory : goal.invariant-loop-directory
-invariant-loop-directory l =
-    l.places.items ++ gps_of (drop l.directory-index l.directories) ≡ gps_of l.directories

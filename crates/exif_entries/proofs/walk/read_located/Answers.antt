@@ -1,9 +1,0 @@
-use Rattle.std.proofs.Common.{ap, ◌∙◌}
-use Rattle.exif_entries.specs.Locations.{gps_of}
-use Rattle.exif_entries.proofs.Found.{found}
-use Rattle.exif_entries.proofs.walk.read_located.Goals as goal
-
-pub returns-clause-places : goal.returns-clause-places
-returns-clause-places c =
-    found c.args.bytes.now c.in_ok-placed.placed.places c.in_ok-gps.gps.items c.in_ok-placed.ensures.places
-    (c.in_ok-gps.ensures ∙ ap gps_of c.directories.ensures)

@@ -1,3 +1,0 @@
-pub mod Locations
-pub mod Results
-pub mod Walked

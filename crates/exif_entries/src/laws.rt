@@ -1,9 +1,0 @@
-//! Laws of places. They hold for all bytes, and speak of the definitions alone.
-
-ghost use Rattle.std.specs.Prelude.{ℕ, List};
-ghost use Rattle.exif_entries.specs.Locations.{LocatesWhatIsRead};
-
-/// The fields that are located are those that reading gives, in their order.
-pub fn located_fields_are_read()
-    ensures { (bytes : List ℕ) → LocatesWhatIsRead bytes }
-{}

@@ -1,0 +1,99 @@
+-- The image of groups: its parts, what they say and where they stand (TIFF 6.0, section 2;
+-- Exif 2.32, 4.5.2).
+use Rattle.std.specs.Prelude.{ℕ, ◌+◌, ◌-◌, nat_le, List, [], ◌∷◌, ◌++◌, length, map, replicate, if◌then◌else◌}
+use Rattle.std.specs.List.{flat_map}
+use Rattle.exif_base.specs.declared.endian.Order.{Order}
+use Rattle.exif_base.specs.declared.endian.Order.TheVariants.{Big, Little}
+use Rattle.exif_table.specs.declared.context.Context.TheVariants.{Tiff, Exif, Gps, Interop}
+use Rattle.exif_layout.specs.declared.block_kind.BlockKind.TheVariants.{Strips, Tiles, Jpeg}
+use Rattle.exif_layout.specs.Groups.{Group}
+use Rattle.exif_layout.specs.Encoding.{spelled, encode, value_len}
+use Rattle.exif_types.specs.ValueTypes.{type_number, count_of}
+use Rattle.exif_layout.specs.Slots.{Draft, draft_of}
+use Rattle.exif_layout.specs.Places.{Written, entries_of, tiff_place, exif_place, gps_place, interop_place, strips_place, tiles_place, jpeg_place, draft_end, next_place}
+
+-- a part of an image: its place and its bytes
+pub record Part : Type 0 where
+  pub place : ℕ
+  pub text : List ℕ
+
+-- the 12 bytes of an entry
+abbrev pub entry_text : Order → Written → List ℕ
+entry_text order entry =
+    spelled order 2 entry.tag
+    ++ (spelled order 2 (type_number entry.value)
+    ++ (spelled order 4 (count_of entry.value)
+    ++ (if nat_le (value_len entry.value) 4
+    then encode order entry.value ++ replicate (4 - value_len entry.value) 0
+    else spelled order 4 entry.place)))
+
+-- a directory: the count, the entries, and the place of the next one
+abbrev pub directory_text : Order → ℕ → List Written → List ℕ
+directory_text order next entries =
+    spelled order 2 (length entries)
+    ++ (flat_map (entry_text order) entries ++ spelled order 4 next)
+
+-- a directory with no entries isn't there
+abbrev pub directory_part : Order → ℕ → ℕ → List Written → List Part
+directory_part order place next [] = []
+directory_part order place next (entry ∷ entries) =
+    record { place = place; text = directory_text order next (entry ∷ entries) } ∷ []
+
+-- the values that don't fit into their entries
+abbrev pub value_parts : Order → List Written → List Part
+value_parts order [] = []
+value_parts order (entry ∷ entries) =
+    if nat_le (value_len entry.value) 4 then value_parts order entries
+    else record { place = entry.place; text = encode order entry.value } ∷ value_parts order entries
+
+-- each block as a part, one right behind the other from a place on
+abbrev pub block_parts : ℕ → List (List ℕ) → List Part
+block_parts place [] = []
+block_parts place (text ∷ texts) =
+    record { place = place; text = text } ∷ block_parts (place + length text) texts
+
+-- the parts of a draft that begins at `start`, `next` being the place of the next directory of the
+-- chain
+unfoldable pub draft_parts : Order → Draft → ℕ → ℕ → List Part
+draft_parts order draft start next =
+    directory_part order (tiff_place draft start) next (entries_of draft start Tiff)
+    ++ (directory_part order (exif_place draft start) 0 (entries_of draft start Exif)
+    ++ (directory_part order (gps_place draft start) 0 (entries_of draft start Gps)
+    ++ (directory_part order (interop_place draft start) 0 (entries_of draft start Interop)
+    ++ (value_parts order (entries_of draft start Tiff)
+    ++ (value_parts order (entries_of draft start Exif)
+    ++ (value_parts order (entries_of draft start Gps)
+    ++ (value_parts order (entries_of draft start Interop)
+    ++ (block_parts (strips_place draft start) (draft.blocks Strips)
+    ++ (block_parts (tiles_place draft start) (draft.blocks Tiles)
+    ++ block_parts (jpeg_place draft start) (draft.blocks Jpeg))))))))))
+
+-- the parts of drafts, one draft behind the other, where the first one begins at `start`
+abbrev pub parts_from : Order → ℕ → List Draft → List Part
+parts_from order start [] = []
+parts_from order start (draft ∷ drafts) =
+    draft_parts order draft start (next_place (draft_end draft start) drafts)
+    ++ parts_from order (draft_end draft start) drafts
+
+-- the two bytes that name the byte order: MM for big-endian, II for little-endian
+abbrev pub order_mark : Order → List ℕ
+order_mark Big = 0x4d ∷ 0x4d ∷ []
+order_mark Little = 0x49 ∷ 0x49 ∷ []
+
+-- byte order, the number 42, the place of the first directory
+abbrev pub header_text : Order → List ℕ
+header_text order = order_mark order ++ (spelled order 2 42 ++ spelled order 4 8)
+
+-- all parts of an image: the header, and behind it those of the drafts
+abbrev pub parts : Order → List Draft → List Part
+parts order drafts = record { place = 0; text = header_text order } ∷ parts_from order 8 drafts
+
+-- the bytes from `place` on that have each part's text at its place, and zero elsewhere
+abbrev pub laid : ℕ → List Part → List ℕ
+laid place [] = []
+laid place (part ∷ parts) =
+    replicate (part.place - place) 0 ++ (part.text ++ laid (part.place + length part.text) parts)
+
+-- the bytes that groups are written as, in an order
+unfoldable pub image : Order → List Group → List ℕ
+image order groups = laid 0 (parts order (map draft_of groups))
