@@ -1,7 +1,7 @@
-"""Changed pictures into the library for C: python3 fuzz.py DRIVER SEED COUNT.
+"""Pass randomly changed pictures to the C library: python3 fuzz.py DRIVER SEED COUNT.
 
-DRIVER is bindings/c/out/fuzz, which is built with the address sanitizer and stops at the first byte
-that is read or written out of its place. The same seed makes the same files.
+DRIVER is bindings/c/out/fuzz. It is built with the address sanitizer and stops at the first invalid
+access. The same seed makes the same files.
 """
 
 import importlib.util
@@ -26,13 +26,13 @@ def pictures():
 
 
 def overwritten(by, data):
-    """Some bytes of any value."""
+    """Overwrite a few bytes with random values."""
     for _ in range(by.randint(1, 6)):
         data[by.randrange(len(data))] = by.randrange(256)
 
 
 def numbered(by, data):
-    """A number of two or four bytes at an edge, in either order."""
+    """Write a boundary number of two or four bytes, in either byte order."""
     kind = by.choice("<H >H <I >I".split())
     place = by.randrange(len(data))
     limit = 0xFFFF if kind.endswith("H") else 0xFFFFFFFF
@@ -41,19 +41,19 @@ def numbered(by, data):
 
 
 def cut(by, data):
-    """The front alone."""
+    """Keep only a prefix."""
     del data[by.randrange(len(data)) :]
 
 
 def moved(by, data):
-    """A piece put in another place too."""
+    """Insert a copy of a piece at another offset."""
     place, length = by.randrange(len(data)), by.randint(1, 40)
     target = by.randrange(len(data))
     data[target:target] = data[place : place + length]
 
 
 def dropped(by, data):
-    """A piece taken out."""
+    """Remove a piece."""
     place = by.randrange(len(data))
     del data[place : place + by.randint(1, 40)]
 

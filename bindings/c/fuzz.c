@@ -1,6 +1,6 @@
-/* Hands files to the library in memory that ends where a page without access begins, so that a byte
- * read or written behind it stops the program. On standard input: a length of four bytes, least
- * first, and so many bytes, again and again. The last line tells how many files there were. */
+/* Passes files to the library in memory that is followed by an inaccessible page, so that a read or
+ * write past the end stops the program. Standard input: a 32-bit little-endian length and that many
+ * bytes, repeated. The last line of the output is the number of files. */
 #include "mexaldor.h"
 
 #include <stdio.h>
@@ -9,7 +9,7 @@
 #include <sys/mman.h>
 #include <unistd.h>
 
-/* So many bytes in front of a page without access. */
+/* Memory that is followed by an inaccessible page. */
 struct guarded {
     uint8_t *pages;
     size_t size;

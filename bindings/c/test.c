@@ -1,4 +1,4 @@
-/* Tests the library as a C program calls it: test FOLDER, with the files of tests/make_files.py. */
+/* Tests the library from C: test FOLDER, where FOLDER has the files of tests/make_files.py. */
 #define _POSIX_C_SOURCE 200809L
 #include "mexaldor.h"
 

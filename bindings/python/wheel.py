@@ -1,6 +1,6 @@
-"""Makes a wheel of the package with the shared library in it: python3 wheel.py LIBRARY FOLDER.
+"""Make a wheel of the package and the shared library: python3 wheel.py LIBRARY FOLDER.
 
-A wheel is an archive with three files of its own (PEP 427): nothing has to be installed for it.
+A wheel is a zip archive with three extra files (PEP 427), so no other package is needed.
 """
 
 import base64

@@ -1,4 +1,4 @@
-"""Exif data of TIFF, JPEG, HEIF and WebP files read, edited in place and taken out.
+"""Read, edit and remove the Exif data of TIFF, JPEG, HEIF and WebP files.
 
     >>> import mexaldor
     >>> mexaldor.read("holiday.jpg")["summary"]["orientation"]
@@ -6,8 +6,8 @@
     >>> turned = mexaldor.set(open("holiday.jpg", "rb").read(), "Orientation=1")
     >>> clean = mexaldor.scrub("holiday.jpg")
 
-The calls share nothing and let other threads run. What they do is proved; how they are called from
-here is tested.
+The calls share no state and release the interpreter lock. What the library does is proved; this
+package, which calls it, is tested.
 """
 
 from __future__ import annotations
@@ -27,7 +27,7 @@ Source = Union[str, "os.PathLike[str]", bytes, bytearray, memoryview]
 
 
 class Status(enum.IntEnum):
-    """How a call ended."""
+    """The result of a call of the library."""
 
     OK = 0
     FAULTS = 1
@@ -51,7 +51,7 @@ class Status(enum.IntEnum):
 
 
 class Refused(Exception):
-    """A call is refused, and nothing has changed; `status` says why."""
+    """A call was refused and nothing has changed. `status` gives the reason."""
 
     def __init__(self, status: Status, text: str) -> None:
         super().__init__(text)
@@ -63,7 +63,7 @@ class _Answer(ctypes.Structure):
 
 
 def _library() -> ctypes.CDLL:
-    """The shared library: that of MEXALDOR_LIBRARY, the one in this package, or the system's."""
+    """The shared library: from MEXALDOR_LIBRARY, from this package, or from the system."""
     beside = pathlib.Path(__file__).with_name("libmexaldor.so.0")
     path = os.environ.get("MEXALDOR_LIBRARY")
     if path is None:
@@ -89,7 +89,7 @@ _mexaldor = _library()
 
 
 def _bytes(source: Source) -> bytes:
-    """The bytes of a file, or those that are given."""
+    """The bytes of the file, or the given bytes."""
     if isinstance(source, (bytes, bytearray, memoryview)):
         return bytes(source)
     return pathlib.Path(source).read_bytes()
@@ -102,11 +102,12 @@ def _refused(status: int) -> Refused:
 
 
 def read(source: Source, *, strict: bool = False, limit: int = 0) -> Dict[str, Any]:
-    """What the Exif data of a file hold: a dictionary as docs/exif.schema.json has it.
+    """Read the Exif data of a file, as a dictionary described by docs/exif.schema.json.
 
-    `source` is a path, or the bytes of a file. Soft faults are passed over and stand under
-    "faults"; with `strict` the first one is refused. `limit` is the most entries that are read of
-    files of strangers; 0 stands for 1,000,000. `Refused` says why nothing is read.
+    `source` is a path or the bytes of a file. Faults in directories and values are skipped and
+    listed under "faults"; with `strict`, the first fault raises `Refused`. `limit` is the most
+    directory entries to read, for untrusted files; 0 means 1,000,000. `Refused` is raised if the
+    file cannot be read.
     """
     data = _bytes(source)
     room = ctypes.create_string_buffer(max(4096, len(data) // 4))
@@ -123,7 +124,11 @@ def read(source: Source, *, strict: bool = False, limit: int = 0) -> Dict[str, A
 
 
 def scrub(source: Source) -> bytes:
-    """A file without its metadata, as new bytes: JPEG, WebP and HEIF; a TIFF file is refused."""
+    """Return a copy of a file without its metadata.
+
+    JPEG and WebP files lose all metadata; the colour profile and what decoders need stay. In HEIF
+    files only the Exif fields are erased, and XMP stays. TIFF files are refused.
+    """
     data = _bytes(source)
     room = ctypes.create_string_buffer(len(data) + 1)
     answer = _mexaldor.mexaldor_scrub(data, len(data), room, len(room))
@@ -133,7 +138,10 @@ def scrub(source: Source) -> bytes:
 
 
 def erase_places(source: Source) -> bytes:
-    """A file without what says where the picture was taken, as new bytes of the same length."""
+    """Return a copy of a file, of the same length, with the GPS data of Exif erased.
+
+    Locations in XMP and in maker notes stay.
+    """
     room, length = _room(_bytes(source))
     status = _mexaldor.mexaldor_erase_places(room, length)
     if status != Status.OK:
@@ -142,8 +150,9 @@ def erase_places(source: Source) -> bytes:
 
 
 def set(source: Source, assignment: str) -> bytes:
-    """A file with one field of the primary image set where it stands, as new bytes of the same
-    length: "Orientation=6", "DateTime=2024-05-01T12:30:00".
+    """Return a copy of a file, of the same length, with one field of the main image set.
+
+    The assignment is TAG=VALUE: "Orientation=6", "DateTime=2024-05-01T12:30:00".
     """
     room, length = _room(_bytes(source))
     word = assignment.encode()
@@ -154,7 +163,7 @@ def set(source: Source, assignment: str) -> bytes:
 
 
 def _room(data: bytes) -> "tuple[ctypes.Array[ctypes.c_char], int]":
-    """A buffer that holds bytes, which a call may change."""
+    """A buffer with these bytes, which a call may change."""
     room = ctypes.create_string_buffer(max(1, len(data)))
     room[: len(data)] = data
     return room, len(data)

@@ -1,4 +1,4 @@
-//! Links libmexaldor.a: from the folder MEXALDOR_LIB_DIR, else from bindings/c/out of the repository.
+//! Links libmexaldor.a from the folder MEXALDOR_LIB_DIR, or from bindings/c/out of the repository.
 
 use std::env;
 use std::path::PathBuf;

@@ -1,19 +1,19 @@
-//! The calls of libmexaldor as C has them: see `mexaldor.h`, which says what each one wants. The
-//! crate `mexaldor` has them as safe functions.
+//! The C functions of libmexaldor. `mexaldor.h` documents what each of them requires. The crate
+//! `mexaldor` wraps them in safe functions.
 #![no_std]
 
-/// How a call ended, and the whole length of what it made, in bytes.
+/// The status of a call, and the length of its complete output in bytes.
 #[repr(C)]
 #[derive(Clone, Copy, Debug)]
 pub struct mexaldor_answer {
-    /// 0, or a number that `mexaldor_error` tells the text of.
+    /// 0, or a status for `mexaldor_error`.
     pub status: u32,
-    /// The length of the whole answer.
+    /// The length of the complete output.
     pub length: usize,
 }
 
 extern "C" {
-    /// The JSON object of a file.
+    /// Makes the JSON object of a file.
     pub fn mexaldor_read(
         file: *const u8,
         length: usize,
@@ -22,22 +22,22 @@ extern "C" {
         out: *mut u8,
         room: usize,
     ) -> mexaldor_answer;
-    /// Places erased in the file itself.
+    /// Erases the GPS data of Exif in place.
     pub fn mexaldor_erase_places(file: *mut u8, length: usize) -> u32;
-    /// A file without its metadata.
+    /// Makes a copy of a file without its metadata.
     pub fn mexaldor_scrub(
         file: *const u8,
         length: usize,
         out: *mut u8,
         room: usize,
     ) -> mexaldor_answer;
-    /// One field set in the file itself.
+    /// Sets one field in place.
     pub fn mexaldor_set(
         file: *mut u8,
         length: usize,
         assignment: *const u8,
         assignment_length: usize,
     ) -> u32;
-    /// The text of a status.
+    /// Gives the text of a status.
     pub fn mexaldor_error(status: u32, out: *mut u8, room: usize) -> usize;
 }

@@ -1,4 +1,4 @@
-//! Exif data of TIFF, JPEG, HEIF and WebP files read, edited in place and taken out.
+//! Reads, edits and removes the Exif data of TIFF, JPEG, HEIF and WebP files.
 //!
 //! ```no_run
 //! # fn main() -> Result<(), Box<dyn std::error::Error>> {
@@ -11,49 +11,49 @@
 //! # }
 //! ```
 //!
-//! What the calls do is proved; how they are called from here is tested.
+//! What the library does is proved; this crate, which calls it, is tested.
 
 use mexaldor_sys as sys;
 use std::fmt;
 
-/// What was read of a file.
+/// The result of reading a file.
 #[derive(Clone, Debug, PartialEq, Eq)]
 pub struct Told {
-    /// The JSON object of its fields, as docs/exif.schema.json has it.
+    /// The JSON object of its fields; docs/exif.schema.json describes it.
     pub json: String,
-    /// Whether faults were passed over, which stand in the object.
+    /// Whether faults were skipped. The object lists them.
     pub faults: bool,
 }
 
-/// Why a call is refused. Nothing has changed then.
+/// Why a call was refused. Nothing has changed.
 #[derive(Clone, Copy, Debug, PartialEq, Eq)]
 pub struct Refused(u32);
 
 impl Refused {
-    /// No file that is read, or Exif data with a fault.
+    /// An unknown file format, or Exif data with a fault.
     pub const INVALID_FORMAT: Refused = Refused(2);
-    /// No Exif data in the file.
+    /// The file has no Exif data.
     pub const NOT_FOUND: Refused = Refused(3);
-    /// There was no memory.
+    /// Out of memory.
     pub const OUT_OF_MEMORY: Refused = Refused(8);
-    /// No such field where one is to be set.
+    /// The file has no such field to set.
     pub const FIELD_NOT_FOUND: Refused = Refused(16);
-    /// The new value takes more bytes than the old one's room.
+    /// The new value does not fit into the space of the old one.
     pub const VALUE_TOO_LONG: Refused = Refused(18);
-    /// The field says where other bytes stand.
+    /// The field holds the offset or length of other data.
     pub const NAMES_PLACES: Refused = Refused(19);
-    /// The bytes are those of something else too.
+    /// Something else uses the same bytes.
     pub const SHARED_BYTES: Refused = Refused(20);
-    /// The Exif data do not stand in one piece.
+    /// The Exif data are not stored in one piece.
     pub const SCATTERED_DATA: Refused = Refused(21);
-    /// A TIFF file: the picture stands in the same data.
+    /// A TIFF file: the picture is stored in the same data.
     pub const PICTURE_DATA: Refused = Refused(22);
-    /// No `TAG=VALUE`, or an unknown tag.
+    /// Not `TAG=VALUE`, or an unknown tag.
     pub const NO_ASSIGNMENT: Refused = Refused(32);
-    /// The text is no value of the field's type.
+    /// The text is not a value of the type of the field.
     pub const NOT_OF_ITS_TYPE: Refused = Refused(33);
 
-    /// The number, as `mexaldor.h` has it.
+    /// The status number of `mexaldor.h`.
     pub fn number(self) -> u32 {
         self.0
     }
@@ -75,18 +75,18 @@ impl std::error::Error for Refused {}
 /// How files are read.
 #[derive(Clone, Copy, Debug, Default)]
 pub struct Options {
-    /// The first fault is refused; else soft faults are passed over.
+    /// Whether the first fault is an error. Otherwise faults in directories and values are skipped.
     pub strict: bool,
-    /// The most entries that are read of files of strangers; 0 stands for 1,000,000.
+    /// The most directory entries to read, for untrusted files; 0 means 1,000,000.
     pub limit: u64,
 }
 
-/// Reads the Exif data of a file; soft faults are passed over.
+/// Reads the Exif data of a file. Faults in directories and values are skipped.
 pub fn read(file: &[u8]) -> Result<Told, Refused> {
     read_with(file, Options::default())
 }
 
-/// Reads the Exif data of a file.
+/// Reads the Exif data of a file with these options.
 pub fn read_with(file: &[u8], options: Options) -> Result<Told, Refused> {
     let Options { strict, limit } = options;
     // SAFETY: `file` has its length, and `out` has `room` bytes, which nobody else holds.
@@ -99,7 +99,7 @@ pub fn read_with(file: &[u8], options: Options) -> Result<Told, Refused> {
     }
 }
 
-/// Sets one field of the primary image where it stands, by `TAG=VALUE`.
+/// Sets one field of the main image in place, by `TAG=VALUE`.
 pub fn set(file: &mut [u8], assignment: &str) -> Result<(), Refused> {
     // SAFETY: both have their lengths, and `file` is held by nobody else.
     ended(unsafe {
@@ -107,15 +107,18 @@ pub fn set(file: &mut [u8], assignment: &str) -> Result<(), Refused> {
     })
 }
 
-/// Erases what says where a picture was taken, where it stands.
+/// Erases the GPS data of Exif in place. Locations in XMP and in maker notes stay.
 pub fn erase_places(file: &mut [u8]) -> Result<(), Refused> {
     // SAFETY: `file` has its length and is held by nobody else.
     ended(unsafe { sys::mexaldor_erase_places(file.as_mut_ptr(), file.len()) })
 }
 
-/// A file without its metadata.
+/// Returns a copy of a file without its metadata.
+///
+/// JPEG and WebP files lose all metadata; the colour profile and what decoders need stay. In HEIF
+/// files only the Exif fields are erased, and XMP stays. TIFF files are refused.
 pub fn scrub(file: &[u8]) -> Result<Vec<u8>, Refused> {
-    // The last payload of a WebP file may lack its pad byte, and gets it.
+    // A WebP file whose last payload lacks its pad byte gets one.
     let mut new = vec![0; file.len() + 1];
     // SAFETY: both have their lengths, and `new` is held by nobody else.
     let answer =
@@ -132,7 +135,7 @@ fn ended(status: u32) -> Result<(), Refused> {
     }
 }
 
-// What a call puts into a buffer, which grows until it is long enough.
+// Calls with a buffer, and again with a larger one if it was too short.
 fn filled(call: impl Fn(*mut u8, usize) -> sys::mexaldor_answer) -> (u32, Vec<u8>) {
     let mut room = vec![0; 4096];
     loop {
