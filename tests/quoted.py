@@ -1,17 +1,19 @@
-"""Holds the quotations of the guides to what they quote: python3 tests/quoted.py, from the root.
+"""Checks what the guides quote: python3 tests/quoted.py, from the root.
 
 Each block of Rust in a guide, or in a comment of a public item, is a run of lines of one file of crates/exif_examples,
-but for its indentation. What
-follows `$ ./exif_show` in README is what the program prints. docs/sample.jpg is what make_sample.py makes, and the
-picture of the examples' tests. Each part has the version of CHANGELOG.md.
+except for its indentation. README's program (the block with `fn main`) is run by `rt try` in a copy of the crates.
+What follows `$ ./exif_show` in README is what the program prints. docs/sample.jpg is what make_sample.py makes, and
+the picture of the examples' tests. Each part has the version of CHANGELOG.md.
 """
 
 import ast
 import glob
 import os
 import re
+import shutil
 import subprocess
 import sys
+import tempfile
 import textwrap
 
 sys.path.insert(0, os.path.dirname(__file__))
@@ -20,7 +22,7 @@ from make_sample import sample
 GUIDES = ["README.md", "docs/CALLING.md"]
 SOURCES = "crates/*/src/**/*.rt"
 EXAMPLES = "crates/exif_examples/src"
-PICTURE = "crates/exif_tests_change/src/tests/examples/picture.rt"
+PICTURES = "crates/exif_tests*/src/**/examples/picture.rt"
 VERSIONS = {
     "README.md": r"The version is ([\d.]+),",
     "crates/mexaldor/src/arguments.rt": r'\.version\("([\d.]+)"\)',
@@ -53,19 +55,19 @@ def lines_of(text):
 
 
 def documentation(text):
-    """What a file's `//!` and `///` lines say, each where it stands; other lines are blank."""
+    """The text of a file's `//!` and `///` lines, each on its own line; other lines are blank."""
     said = [re.match(r"\s*//[/!] ?(.*)", line) for line in text.split("\n")]
     return "\n".join(line.group(1) if line else "" for line in said) + "\n"
 
 
 def blocks(text, kind):
-    """The fenced blocks of a kind, each with the line that it begins at."""
+    """The fenced blocks of a kind, each with its first line's number."""
     found = re.finditer(rf"^```{kind}\n(.*?)^```$", text, re.M | re.S)
     return [(text.count("\n", 0, it.start()) + 1, it.group(1)) for it in found]
 
 
-def stands_in(quoted, files):
-    """Whether lines stand one behind the other in a file, all of them further in by as much."""
+def is_in(quoted, files):
+    """Whether the lines are consecutive in a file, all of them indented by the same amount."""
     for text in files:
         for start in range(len(text) - len(quoted) + 1):
             if text[start].strip() == quoted[0].strip():
@@ -74,18 +76,42 @@ def stands_in(quoted, files):
     return False
 
 
+def is_program(block):
+    return "fn main(" in block
+
+
+def check_program():
+    """README's program of one's own, run without a proof over a copy of the crates."""
+    programs = [it for _, it in blocks(read("README.md"), "rust") if is_program(it)]
+    check("README has one program of one's own", len(programs) == 1)
+    if not shutil.which("rt"):
+        print("skipped, rt is not installed: README's program")
+        return
+    with tempfile.TemporaryDirectory() as folder:
+        shutil.copytree("crates", f"{folder}/crates", ignore=shutil.ignore_patterns("out"))
+        shutil.copy("crates.txt", folder)
+        with open(f"{folder}/crates.txt", "a", encoding="utf-8") as file:
+            file.write("photos: exif\n")
+        os.makedirs(f"{folder}/crates/photos/src")
+        with open(f"{folder}/crates/photos/src/main.rt", "w", encoding="utf-8") as file:
+            file.write(programs[0])
+        picture = os.path.abspath("docs/sample.jpg")
+        ran = subprocess.run(["rt", "try", "--", picture], cwd=f"{folder}/crates/photos", capture_output=True, text=True)
+        wanted = f"{picture}: row 0 at right and column 0 at top\n"
+        check("README's program prints the orientation", ran.stdout == wanted, ran.stderr[-500:])
+
+
 def check_rust():
     names = [os.path.join(EXAMPLES, name) for name in sorted(os.listdir(EXAMPLES)) if name.endswith(".rt")]
     files = [read(name).split("\n") for name in names if not name.endswith("/tests.rt")]
-    guides = [(name, blocks(read(name), "rust")) for name in GUIDES]
+    guides = [(name, [it for it in blocks(read(name), "rust") if not is_program(it[1])]) for name in GUIDES]
     sources = [name for name in sorted(glob.glob(SOURCES, recursive=True)) if not name.startswith(EXAMPLES)]
     comments = [(name, blocks(documentation(read(name)), "(?:rust)?")) for name in sources]
     for name, found in guides + comments:
         for line, block in found:
             quoted = lines_of(block)
-            check(f"{name}: the block of line {line} is quoted", stands_in(quoted, files), quoted[0])
-    for name, found in guides:
-        check(f"{name} quotes examples", len(found) > 0)
+            check(f"{name}: the block of line {line} is quoted", is_in(quoted, files), quoted[0])
+    check("docs/CALLING.md quotes examples", any(found for _, found in guides))
     check("comments quote examples", any(found for _, found in comments))
 
 
@@ -93,30 +119,32 @@ def check_reports():
     for line, block in blocks(read("README.md"), ""):
         said = re.match(r"\$ \./exif_show (docs/\S+)\n(.*)", block, re.S)
         if said and not os.access(PROGRAM, os.X_OK):
-            print(f"passed over: README's report of line {line}, since {PROGRAM} is not built")
+            print(f"skipped, {PROGRAM} is not built: README's report of line {line}")
         elif said:
-            told = subprocess.run([PROGRAM, said.group(1)], capture_output=True, text=True).stdout
-            check(f"README's report of line {line} is the program's", told == said.group(2))
+            printed = subprocess.run([PROGRAM, said.group(1)], capture_output=True, text=True).stdout
+            check(f"README's report of line {line} is the program's", printed == said.group(2))
 
 
 def check_sample():
     with open("docs/sample.jpg", "rb") as file:
         picture = file.read()
     check("the sample is what make_sample.py makes", picture == sample())
-    literal = re.search(r'= (b"(?:[^"\\]|\\.)*");', read(PICTURE), re.S).group(1)
-    told = ast.literal_eval("b" + '"' + re.sub(r"\\0", r"\\x00", re.sub(r"\\\n\s*", "", literal[2:])))
-    check("the examples' tests read the sample", told == picture)
+    (place,) = glob.glob(PICTURES, recursive=True)
+    literal = re.search(r'= (b"(?:[^"\\]|\\.)*");', read(place), re.S).group(1)
+    embedded = ast.literal_eval("b" + '"' + re.sub(r"\\0", r"\\x00", re.sub(r"\\\n\s*", "", literal[2:])))
+    check("the examples' tests read the sample", embedded == picture)
 
 
 def check_versions():
     wanted = re.search(r"^## ([\d.]+)", read("CHANGELOG.md"), re.M).group(1)
     for path, form in VERSIONS.items():
-        told = re.search(form, read(path), re.M)
-        check(f"{path} is of version {wanted}", told is not None and told.group(1) == wanted)
+        version = re.search(form, read(path), re.M)
+        check(f"{path} is of version {wanted}", version is not None and version.group(1) == wanted)
 
 
 if __name__ == "__main__":
     check_rust()
+    check_program()
     check_reports()
     check_sample()
     check_versions()

@@ -14,7 +14,7 @@ use exif_change::Refusal;
 pub enum Status {
     /// All is well.
     Well,
-    /// Faults were passed over.
+    /// Faults were skipped.
     Faults,
     /// No file that is read, or Exif data with a fault.
     InvalidFormat,
@@ -36,21 +36,21 @@ pub enum Status {
     UnknownType,
     /// The new value takes more bytes than the old one's room.
     ValueTooLong,
-    /// The field says where other bytes stand.
+    /// The field holds offsets of other data.
     NamesPlaces,
     /// The bytes are those of something else too.
     SharedBytes,
-    /// The Exif data do not stand in one piece.
+    /// The Exif data are not contiguous.
     ScatteredData,
     /// A TIFF file: the picture stands in the same data.
     PictureData,
-    /// The header of the data is wrong.
+    /// Invalid header of the Exif data.
     InvalidHeader,
     /// No `TAG=VALUE` of a known tag.
     NoAssignment,
-    /// The text is no value of the field's type.
+    /// Invalid value for the type of the field.
     NotOfItsType,
-    /// New data would lose the thumbnail.
+    /// Rewriting the data would lose the thumbnail.
     OtherThumbnail,
     /// There is no date to shift.
     NoDate,
@@ -101,7 +101,7 @@ impl Status {
     {
         match self {
             Status::Well => "No error",
-            Status::Faults => "Faults were passed over",
+            Status::Faults => "Faults were skipped",
             Status::InvalidFormat => "Invalid format",
             Status::NotFound => "No Exif data found",
             Status::BlankValue => "Blank value",
@@ -109,20 +109,20 @@ impl Status {
             Status::NotSupported => "Not supported",
             Status::UnexpectedValue => "Unexpected value",
             Status::OutOfMemory => "Out of memory",
-            Status::FieldNotFound => "No such field, and none that can be made",
+            Status::FieldNotFound => "No such field, and it cannot be created",
             Status::UnknownType => "Cannot write unknown field types",
-            Status::ValueTooLong => "The value is too long for its room",
-            Status::NamesPlaces => "The field says where other bytes stand",
-            Status::SharedBytes => "The bytes are shared with something else",
-            Status::ScatteredData => "The Exif data do not stand in one piece",
-            Status::PictureData => "The picture stands in the same data",
-            Status::InvalidHeader => "The header of the data is wrong",
-            Status::NoAssignment => "No TAG=VALUE of a known tag",
-            Status::NotOfItsType => "The text is no value of the field's type",
-            Status::OtherThumbnail => "New data would lose the thumbnail",
+            Status::ValueTooLong => "The value is too long for its space",
+            Status::NamesPlaces => "The field holds offsets of other data",
+            Status::SharedBytes => "The bytes are shared with other data",
+            Status::ScatteredData => "The Exif data are not contiguous",
+            Status::PictureData => "The picture is in the same data",
+            Status::InvalidHeader => "Invalid header of the Exif data",
+            Status::NoAssignment => "Expected TAG=VALUE with a known tag",
+            Status::NotOfItsType => "Invalid value for the type of the field",
+            Status::OtherThumbnail => "Rewriting the data would lose the thumbnail",
             Status::NoDate => "No date to shift",
-            Status::InvalidDate => "A date that no calendar has",
-            Status::DateOutOfRange => "The shifted date has no year of four digits",
+            Status::InvalidDate => "Invalid date",
+            Status::DateOutOfRange => "The shifted date is out of range",
             Status::NoThumbnail => "No thumbnail",
         }
     }

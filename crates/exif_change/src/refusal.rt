@@ -18,7 +18,7 @@ pub enum Refusal {
     OtherThumbnail,
     /// The file has no such field, and the standard's type of it is not known here.
     FieldNotFound,
-    /// The text is no value of the field's type.
+    /// Invalid value for the type of the field.
     NotOfItsType,
     /// No date stands in the file.
     NoDate,
@@ -65,20 +65,20 @@ impl fmt::Display for Refusal {
             Refusal::PictureData => {
                 write!(
                     f,
-                    "The picture stands in the same data (--places-only erases its places)"
+                    "The picture is in the same data (--places-only erases its GPS data)"
                 )
             }
             Refusal::OtherThumbnail => {
                 write!(
                     f,
-                    "The value does not fit, and new data would lose the thumbnail"
+                    "The value does not fit, and rewriting the data would lose the thumbnail"
                 )
             }
-            Refusal::FieldNotFound => write!(f, "No such field, and none that can be made"),
-            Refusal::NotOfItsType => write!(f, "The text is no value of the field's type"),
+            Refusal::FieldNotFound => write!(f, "No such field, and it cannot be created"),
+            Refusal::NotOfItsType => write!(f, "Invalid value for the type of the field"),
             Refusal::NoDate => write!(f, "No date to shift"),
-            Refusal::InvalidDate => write!(f, "A date that no calendar has"),
-            Refusal::DateOutOfRange => write!(f, "The shifted date has no year of four digits"),
+            Refusal::InvalidDate => write!(f, "Invalid date"),
+            Refusal::DateOutOfRange => write!(f, "The shifted date is out of range"),
             Refusal::NoThumbnail => write!(f, "No thumbnail"),
             Refusal::OutOfMemory => write!(f, "Out of memory"),
         }

@@ -142,7 +142,7 @@ impl<'r, 'a, W: Sink, E: Sink> Turns<'r, 'a, W, E> {
             Ok(Done::NotesMoved) => {
                 self.say(
                     path,
-                    &"maker notes have moved; what they say of places may be wrong now",
+                    &"maker notes were moved; offsets inside them may be wrong",
                 )?;
                 Ok(Status::Well)
             }

@@ -39,7 +39,7 @@ impl Progress {
             return Ok(());
         }
         let done = self.done;
-        let line = format!(in rt.alloc(); "\r\x1b[K{done} files done, {waiting} names wait")?;
+        let line = format!(in rt.alloc(); "\r\x1b[K{done} files done, {waiting} left")?;
         send_all(err, line.as_bytes())
     }
 

@@ -17,7 +17,7 @@ pub enum Error {
     UnknownType,
     /// The value takes more bytes than there is room for it.
     ValueTooLong,
-    /// The field says where other bytes stand, or how many: strips, tiles, thumbnails, child
+    /// The field holds offsets of other data, or how many: strips, tiles, thumbnails, child
     /// directories.
     NamesPlaces,
     /// Bytes of the field are those of something else too, which would change with it.
@@ -26,7 +26,7 @@ pub enum Error {
     ScatteredData,
     /// The file is TIFF data, which hold the picture too.
     PictureData,
-    /// The header of the data is wrong.
+    /// Invalid header of the Exif data.
     Header(Fault),
     /// The file is refused by its container, or holds no Exif data.
     Container(exif_types::Error),
@@ -85,11 +85,11 @@ impl fmt::Display for Error {
         match self {
             Error::FieldNotFound => write!(f, "No such field"),
             Error::UnknownType => write!(f, "Cannot write unknown field types"),
-            Error::ValueTooLong => write!(f, "The value is too long for its room"),
-            Error::NamesPlaces => write!(f, "The field says where other bytes stand"),
-            Error::SharedBytes => write!(f, "The bytes are shared with something else"),
-            Error::ScatteredData => write!(f, "The Exif data do not stand in one piece"),
-            Error::PictureData => write!(f, "The picture stands in the same data"),
+            Error::ValueTooLong => write!(f, "The value is too long for its space"),
+            Error::NamesPlaces => write!(f, "The field holds offsets of other data"),
+            Error::SharedBytes => write!(f, "The bytes are shared with other data"),
+            Error::ScatteredData => write!(f, "The Exif data are not contiguous"),
+            Error::PictureData => write!(f, "The picture is in the same data"),
             Error::Header(fault) => write!(f, "{}", fault.message()),
             Error::Container(error) => write!(f, "{error}"),
             Error::OutOfMemory => write!(f, "Out of memory"),

@@ -11,7 +11,7 @@ use Rattle.exif_containers.specs.declared.container.Format.TheVariants.{Tiff, Jp
 
 -- TIFF data and HEIF files are edited as a whole
 abbrev pub whole_file : Refusal
-whole_file = not_supported (codes "This file is edited as a whole")
+whole_file = not_supported (codes "The file can only be edited as a whole")
 
 -- the Exif data of a container whose files are not held, and all that follows them
 abbrev pub piece_as : Option Format → List ℕ → Answer

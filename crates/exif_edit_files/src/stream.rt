@@ -47,7 +47,7 @@ fn data_as<R: Source>(
         Some(Format::Jpeg) => jpeg::get_exif_attr(alloc, source),
         Some(Format::WebP) => webp::get_exif_attr(alloc, source),
         Some(Format::Tiff | Format::Heif) => Err(exif_types::Error::NotSupported(
-            "This file is edited as a whole",
+            "The file can only be edited as a whole",
         )),
         None => Err(exif_types::Error::InvalidFormat("Unknown image format")),
     }
@@ -76,7 +76,7 @@ pub fn piece_in<R: Source>(
     let behind = blocks.skip(u64::MAX)?;
     let used = behind.saturating_add(data.len() as u64);
     if len < used {
-        return Err(exif_types::Error::NotSupported("The file is shorter than it was told to be"));
+        return Err(exif_types::Error::NotSupported("The file is shorter than the given length"));
     }
     let place = len - used;
     Ok(Piece { data, place })

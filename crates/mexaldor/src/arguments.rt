@@ -10,15 +10,15 @@ pub fn command<'a>(alloc: Global) -> Result<Command<'a>, AllocError> {
         .version("0.1.0")
         .about("Exif metadata of pictures (TIFF, JPEG, HEIF, WebP)")
         .after_help(
-            "Status: 0; 3 where faults were passed over; 1 where a file was refused; 2 for arguments that ask for nothing.",
+            "Exit status: 0 on success, 1 if a file was refused, 2 for wrong arguments, 3 if faults were skipped.",
         )
         .subcommand_required(true)
         .arg_required_else_help(true)
-        .subcommand(reading(alloc, "show", "Print a line for each field of each file")?)?
+        .subcommand(reading(alloc, "show", "Print the fields of files, one per line")?)?
         .subcommand(reading(
             alloc,
             "json",
-            "Print a JSON object for each file, one a line",
+            "Print one JSON object per file and line",
         )?)?
         .subcommand(scrub(alloc)?)?
         .subcommand(set(alloc)?)?
@@ -32,7 +32,7 @@ fn reading<'a>(alloc: Global, name: &'a str, about: &'a str) -> Result<Command<'
         .about(about)
         .arg(options::strict(alloc))?
         .arg(options::limit(alloc))?;
-    many(alloc, command)?.arg(options::words(alloc, "PATH", "Files, - for standard input"))
+    many(alloc, command)?.arg(options::words(alloc, "PATH", "Files; - is standard input"))
 }
 
 // The options of a subcommand that takes many files.
@@ -60,44 +60,44 @@ fn replacing<'a>(alloc: Global, command: Command<'a>) -> Result<Command<'a>, All
 
 fn scrub<'a>(alloc: Global) -> Result<Command<'a>, AllocError> {
     let command = Command::new(alloc, "scrub")
-        .about("Take metadata out: FILE OUT, or --in-place FILE..")
-        .arg(options::flag(alloc, "keep-orientation", "Keep the picture's orientation"))?
+        .about("Remove metadata: FILE OUT, or --in-place FILE...")
+        .arg(options::flag(alloc, "keep-orientation", "Keep the orientation"))?
         .arg(options::flag(
             alloc,
             "places-only",
-            "Erase only the GPS data of Exif, where they stand",
+            "Only erase the GPS data of Exif, in place",
         )
         .conflicts_with("keep-orientation")?)?;
-    changing(alloc, command)?.arg(options::words(alloc, "FILE", "A picture, and the new one"))
+    changing(alloc, command)?.arg(options::words(alloc, "FILE", "The picture and the new file, or pictures with --in-place"))
 }
 
 fn set<'a>(alloc: Global) -> Result<Command<'a>, AllocError> {
     let command = Command::new(alloc, "set")
-        .about("Set values: FILE OUT TAG=VALUE.., or --in-place FILE.. TAG=VALUE..")
+        .about("Set values: FILE OUT TAG=VALUE..., or --in-place FILE... TAG=VALUE...")
         .after_help(
-            "A value that fits stands where the old one stood; else JPEG and WebP files get newly written Exif data. A file whose name looks like TAG=VALUE is named as ./TAG=VALUE.",
+            "A value that fits is written in place; otherwise the Exif data of JPEG and WebP files are rewritten. Write ./TAG=VALUE for a file whose name looks like an assignment.",
         );
     changing(alloc, command)?.arg(options::words(
         alloc,
         "WORD",
-        "Files, and values as in Orientation=6",
+        "Files, and values such as Orientation=6",
     ))
 }
 
 fn shift<'a>(alloc: Global) -> Result<Command<'a>, AllocError> {
     let command = Command::new(alloc, "shift")
-        .about("Move the dates of files whose camera's clock was wrong, in place")
+        .about("Move dates in place, to correct the camera's clock")
         .arg(options::flag(
             alloc,
             "exif",
-            "Move DateTimeOriginal and DateTimeDigitized alone",
+            "Only move DateTimeOriginal and DateTimeDigitized",
         ))?
         .arg(
             Arg::new(alloc, "by")
                 .value_name("+-[DAYSd]HH:MM[:SS]")
                 .required(true)
                 .allow_hyphen_values(true)
-                .help("By how much, as in +1:00 or -2d12:30"),
+                .help("How far, e.g. +1:00 or -2d03:30"),
         )?;
     replacing(alloc, command)?.arg(options::words(alloc, "FILE", "Pictures"))
 }
@@ -115,6 +115,6 @@ fn thumbnail<'a>(alloc: Global) -> Result<Command<'a>, AllocError> {
             Arg::new(alloc, "out")
                 .value_name("OUT")
                 .required(true)
-                .help("The new file, - for standard output"),
+                .help("The new file; - is standard output"),
         )
 }

@@ -26,7 +26,7 @@ fn asked<'a>(
     found: &ArgMatches<'a>,
 ) -> Result<Result<Request<'a>, Missing>, AllocError> {
     let Some((name, matches)) = found.subcommand() else {
-        return Ok(Err("a subcommand is missing"));
+        return Ok(Err("expected a subcommand"));
     };
     if name == "thumbnail" {
         return thumbnail_of(alloc, matches);
@@ -42,7 +42,7 @@ fn asked<'a>(
         }
     }
     if values.is_empty() {
-        return Ok(Err("no TAG=VALUE is given, or the tag has no such name"));
+        return Ok(Err("expected TAG=VALUE with a known tag"));
     }
     files.retain(|word| Assignment::parse(word).is_none());
     Ok(changing(Change::Set(values), matches, files))
@@ -67,7 +67,7 @@ fn without_values<'a>(
                     files,
                 )
             }
-            None => Err("the shift is none: +1:00, -0:00:30 and +2d12:00 are"),
+            None => Err("invalid shift; expected e.g. +1:00 or -2d03:30"),
         },
     }
 }
@@ -81,11 +81,11 @@ fn changing<'a>(
     let target = if matches.get_flag("in-place") {
         Target::InPlace(keeping_of(matches))
     } else if matches.get_flag("recursive") || matches.get_flag("null") {
-        return Err("--recursive and --null want --in-place");
+        return Err("--recursive and --null need --in-place");
     } else {
         match (files.pop(), files.len()) {
             (Some(out), 1) => Target::Out(out),
-            _ => return Err("FILE and OUT are wanted, or --in-place and files"),
+            _ => return Err("expected FILE OUT, or --in-place FILE..."),
         }
     };
     request(Task::Change(change, target), matches, files)
@@ -98,7 +98,7 @@ fn request<'a>(
 ) -> Result<Request<'a>, Missing> {
     let names_from_input = matches.get_flag("null");
     if paths.is_empty() && !names_from_input {
-        return Err("no file is named");
+        return Err("expected a file");
     }
     Ok(Request {
         task,
@@ -114,7 +114,7 @@ fn thumbnail_of<'a>(
     matches: &ArgMatches<'a>,
 ) -> Result<Result<Request<'a>, Missing>, AllocError> {
     let (Some(file), Some(out)) = (matches.get_str("file"), matches.get_str("out")) else {
-        return Ok(Err("FILE and OUT are wanted"));
+        return Ok(Err("expected FILE OUT"));
     };
     Ok(Ok(Request {
         task: Task::Thumbnail(out),

@@ -16,7 +16,7 @@ pub fn strict<'a>(alloc: Global) -> Arg<'a> {
     flag(
         alloc,
         "strict",
-        "Refuse a file at its first fault, where else faults are passed over and told",
+        "Refuse a file at its first fault, instead of reporting faults and continuing",
     )
 }
 
@@ -25,14 +25,14 @@ pub fn limit<'a>(alloc: Global) -> Arg<'a> {
         .long("limit")
         .value_name("N")
         .value_parser(ValueParser::Unsigned(0, u64::MAX))
-        .help("Read at most N entries of a file [default: 1000000]")
+        .help("Read at most N directory entries of a file [default: 1000000]")
 }
 
 pub fn recursive<'a>(alloc: Global) -> Arg<'a> {
     flag(
         alloc,
         "recursive",
-        "Take the pictures in folders, and in the folders in them",
+        "Process the pictures in folders, recursively",
     )
     .short('r')
 }
@@ -41,24 +41,24 @@ pub fn null<'a>(alloc: Global) -> Arg<'a> {
     flag(
         alloc,
         "null",
-        "Read names from standard input too, each ended by a zero byte",
+        "Also read file names from standard input, each ended by a zero byte",
     )
     .short('0')
 }
 
 pub fn quiet<'a>(alloc: Global) -> Arg<'a> {
-    flag(alloc, "quiet", "Write no line of progress").short('q')
+    flag(alloc, "quiet", "Do not show progress").short('q')
 }
 
 pub fn in_place<'a>(alloc: Global) -> Arg<'a> {
-    flag(alloc, "in-place", "Replace each file by the new one").short('i')
+    flag(alloc, "in-place", "Replace each file").short('i')
 }
 
 pub fn backup<'a>(alloc: Global) -> Arg<'a> {
     flag(
         alloc,
         "backup",
-        "Keep the old file beside the new one, as NAME.orig",
+        "Keep each old file as NAME.orig",
     )
 }
 
@@ -66,7 +66,7 @@ pub fn keep_time<'a>(alloc: Global) -> Arg<'a> {
     flag(
         alloc,
         "keep-time",
-        "Give the new file the times of the old one",
+        "Keep the access and modification times of each file",
     )
 }
 

@@ -177,7 +177,7 @@ fn places_of_streams_become_zeros(rt: HostRuntime) {
 
 // Whether an answer says that the data are scattered.
 fn are_scattered(alloc: Global, answer: Result<(), Error>) -> Result<bool, AllocError> {
-    refuses(alloc, answer, "The Exif data do not stand in one piece")
+    refuses(alloc, answer, "The Exif data are not contiguous")
 }
 
 // Whether the places of a file of scattered data are not erased.

@@ -92,7 +92,7 @@ fn patches_are_a_directory_and_a_value(rt: HostRuntime) {
     assert!(rt; is_so(are_told(rt.alloc(), (8, 42), (50, 7))));
 }
 
-const SHARES: &str = "The bytes are shared with something else";
+const SHARES: &str = "The bytes are shared with other data";
 
 #[test]
 fn refusals_change_nothing(rt: HostRuntime) -> Result<(), Fail> {
@@ -102,7 +102,7 @@ fn refusals_change_nothing(rt: HostRuntime) -> Result<(), Fail> {
     let rows: [(&[u8], Tag, &str); 6] = [
         (LOOP, width, SHARES),
         (OVERLAPPING, width, SHARES),
-        (THREE, strips, "The field says where other bytes stand"),
+        (THREE, strips, "The field holds offsets of other data"),
         (THREE, DESCRIPTION, "No such field"),
         (SHARED, Tag(Context::Tiff, 0x11a), SHARES),
         (b"MM\0*", DESCRIPTION, "Truncated TIFF header"),

@@ -59,7 +59,7 @@ fn the_picture_of_a_tiff_file_stays(rt: HostRuntime) -> Result<(), Fail> {
     let alloc = rt.alloc();
     let mut file = Vec::from_slice(alloc, DESCRIBED_BIG)?;
     let answer = all_in_file(alloc, file.as_mut_slice());
-    let why = "The picture stands in the same data";
+    let why = "The picture is in the same data";
     assert!(rt; refused(alloc, answer, why, file.as_slice(), DESCRIBED_BIG)?);
     Ok(())
 }

@@ -13,7 +13,7 @@ const WIDTH: Tag = Tag(Context::Tiff, 0x100);
 
 const HEIGHT: Tag = Tag(Context::Tiff, 0x101);
 
-const SHARED: &str = "The bytes are shared with something else";
+const SHARED: &str = "The bytes are shared with other data";
 
 // Whether setting numbers is refused for bytes that are something else too, and the bytes stay.
 fn stays(

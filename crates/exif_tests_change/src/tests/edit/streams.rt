@@ -16,8 +16,8 @@ static STREAMS: [&[u8]; 2] = [JPEG, WEBP];
 
 // Files that are edited as a whole, and bytes that are no file.
 static REFUSED: [(&[u8], &str); 3] = [
-    (DESCRIBED_BIG, "This file is edited as a whole"),
-    (HEIF, "This file is edited as a whole"),
+    (DESCRIBED_BIG, "The file can only be edited as a whole"),
+    (HEIF, "The file can only be edited as a whole"),
     (b"?", "Unknown image format"),
 ];
 

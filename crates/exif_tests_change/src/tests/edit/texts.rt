@@ -11,29 +11,29 @@ fn assert_shown(rt: &(impl Abort + AllocGlobal), error: Error, text: &str) {
 
 #[test]
 fn errors_are_shown(rt: HostRuntime) {
-    let shared = "The bytes are shared with something else";
+    let shared = "The bytes are shared with other data";
     assert_shown(&rt, Error::FieldNotFound, "No such field");
     assert_shown(&rt, Error::UnknownType, "Cannot write unknown field types");
     assert_shown(
         &rt,
         Error::ValueTooLong,
-        "The value is too long for its room",
+        "The value is too long for its space",
     );
     assert_shown(
         &rt,
         Error::NamesPlaces,
-        "The field says where other bytes stand",
+        "The field holds offsets of other data",
     );
     assert_shown(&rt, Error::SharedBytes, shared);
     assert_shown(
         &rt,
         Error::ScatteredData,
-        "The Exif data do not stand in one piece",
+        "The Exif data are not contiguous",
     );
     assert_shown(
         &rt,
         Error::PictureData,
-        "The picture stands in the same data",
+        "The picture is in the same data",
     );
     let header = Error::Header(Fault::TruncatedHeader);
     assert_shown(&rt, header, "Truncated TIFF header");

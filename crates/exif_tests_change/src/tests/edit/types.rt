@@ -218,7 +218,7 @@ fn long_value(alloc: Global, number: u16) -> Result<Value, AllocError> {
 fn is_too_long(alloc: Global, number: u16) -> Result<bool, AllocError> {
     let value = long_value(alloc, number)?;
     let name = (Tag(Context::Tiff, number), In(0));
-    let why = "The value is too long for its room";
+    let why = "The value is too long for its space";
     let answer = value_stays(alloc, EVERY_TYPE_BIG, name, &value, why);
     drop(value);
     answer

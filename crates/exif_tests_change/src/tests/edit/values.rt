@@ -74,9 +74,9 @@ fn the_last_of_a_name_is_set(rt: HostRuntime) -> Result<(), Fail> {
     Ok(())
 }
 
-const TOO_LONG: &str = "The value is too long for its room";
+const TOO_LONG: &str = "The value is too long for its space";
 
-const PLACED: &str = "The field says where other bytes stand";
+const PLACED: &str = "The field holds offsets of other data";
 
 #[test]
 fn refusals_for_a_long_text_change_nothing(rt: HostRuntime) -> Result<(), Fail> {
@@ -105,7 +105,7 @@ fn other_refusals_change_nothing(rt: HostRuntime) -> Result<(), Fail> {
     drop(unknown);
     assert!(rt; stays?);
     let resolution = Tag(Context::Tiff, 0x11a);
-    let shared = "The bytes are shared with something else";
+    let shared = "The bytes are shared with other data";
     assert!(rt; text_stays(alloc, SHARED, resolution, b"1234567", shared)?);
     Ok(())
 }

@@ -49,7 +49,7 @@ fn fields_of_heif_files_go(rt: HostRuntime) {
 #[test]
 fn what_cannot_be_scrubbed_is_refused(rt: HostRuntime) {
     let answer = scrubbed(&rt, DESCRIBED_BIG, Removed::Metadata);
-    let text = "The picture stands in the same data (--places-only erases its places)";
+    let text = "The picture is in the same data (--places-only erases its GPS data)";
     assert!(rt; refuses(&rt, answer, text));
     let answer = scrubbed(&rt, b"text", Removed::Places);
     assert!(rt; refuses(&rt, answer, "Unknown image format"));

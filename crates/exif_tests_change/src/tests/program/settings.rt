@@ -69,7 +69,7 @@ fn dates_may_be_written_as_iso_8601_has_them(rt: HostRuntime) {
 }
 
 /// The refusal of a text that the field's type can't hold.
-const NO_VALUE: &str = "The text is no value of the field's type";
+const NO_VALUE: &str = "Invalid value for the type of the field";
 
 #[test]
 fn values_that_cannot_be_set_are_refused(rt: HostRuntime) {
@@ -82,12 +82,12 @@ fn values_that_cannot_be_set_are_refused(rt: HostRuntime) {
         (
             PLAIN,
             "MakerNote=x",
-            "No such field, and none that can be made",
+            "No such field, and it cannot be created",
         ),
         (
             DESCRIBED_BIG,
             "ImageDescription=Longer than it",
-            "The value is too long for its room",
+            "The value is too long for its space",
         ),
         (DESCRIBED_BIG, "Artist=Somebody", "No such field"),
         (b"text", "Artist=Somebody", "Unknown image format"),

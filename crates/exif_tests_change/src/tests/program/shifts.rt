@@ -38,9 +38,9 @@ fn blank_dates_stay(rt: HostRuntime) {
 #[test]
 fn dates_that_cannot_move_are_refused(rt: HostRuntime) {
     let wrong = shifted(&rt, WRONG, "1:00", Dates::All);
-    assert!(rt; refuses(&rt, wrong, "A date that no calendar has"));
+    assert!(rt; refuses(&rt, wrong, "Invalid date"));
     let late = shifted(&rt, DATED, "+9999999d00:00", Dates::All);
-    assert!(rt; refuses(&rt, late, "The shifted date has no year of four digits"));
+    assert!(rt; refuses(&rt, late, "The shifted date is out of range"));
     let none = shifted(&rt, BLANK, "1:00", Dates::Exif);
     assert!(rt; refuses(&rt, none, "No date to shift"));
 }
