@@ -38,8 +38,8 @@ def peak(program, path):
     """The peak memory of a program on a file, in KB, and its processor time in ms. GNU time starts it: what is started from here
     would count the memory of this process as its own."""
     words = ["/usr/bin/time", "-f", "%M %U %S", program, path]
-    said = subprocess.run(words, stdout=subprocess.DEVNULL, stderr=subprocess.PIPE, text=True, check=False).stderr
-    memory, user, system = said.splitlines()[-1].split()
+    printed = subprocess.run(words, stdout=subprocess.DEVNULL, stderr=subprocess.PIPE, text=True, check=False).stderr
+    memory, user, system = printed.splitlines()[-1].split()
     return int(memory), 1000 * (float(user) + float(system))
 
 
@@ -49,9 +49,9 @@ def main():
     print("load average %.1f; ns a call: read (by need), read whole, report, write; KB: peak memory of exif_show; ms: its processor time" % os.getloadavg()[0])
     print("%-26s %10s %10s %10s %10s %8s %6s%s" % ("", *WORKS, "KB", "ms", "   ratios" if original else ""))
     growth = {}
-    with tempfile.TemporaryDirectory() as room:
+    with tempfile.TemporaryDirectory() as scratch:
         for name, calls, make in CASES:
-            path = f"{room}/{name}"
+            path = f"{scratch}/{name}"
             with open(path, "wb") as file:
                 file.write(make())
             ours = times(bench, path, calls)

@@ -7,13 +7,13 @@ passed=0
 failed=0
 
 if [ ! -x "$mexaldor" ]; then
-    echo "the program stands not at $mexaldor: run ./mexaldor --version, or set MEXALDOR" >&2
+    echo "no program at $mexaldor: run ./mexaldor --version, or set MEXALDOR" >&2
     exit 1
 fi
 
-room=$(mktemp -d)
-trap 'chmod -R u+w "$room" 2>/dev/null; rm -rf "$room"' EXIT
-cd "$room" || exit 1
+scratch=$(mktemp -d)
+trap 'chmod -R u+w "$scratch" 2>/dev/null; rm -rf "$scratch"' EXIT
+cd "$scratch" || exit 1
 python3 "$root/tests/make_files.py" files || exit 1
 
 # passes NAME STATUS: counts a check whose status is 0 as passed.
@@ -30,20 +30,20 @@ passes() {
 check() {
     name=$1
     shift
-    "$@" >said 2>&1
+    "$@" >output 2>&1
     status=$?
-    [ "$status" = 0 ] || cat said
+    [ "$status" = 0 ] || cat output
     passes "$name" "$status"
 }
 
 # gives NAME STATUS COMMAND..: a command ends with a status; what it wrote is in out and err.
 gives() {
     name=$1
-    wanted=$2
+    expected=$2
     shift 2
     "$@" >out 2>err
     status=$?
-    [ "$status" = "$wanted" ]
+    [ "$status" = "$expected" ]
     passes "$name (status $status)" $?
 }
 
@@ -65,7 +65,7 @@ fresh() {
     cp -r files work
 }
 
-# nothing_beside: no file stands beside those that were made.
+# nothing_beside: no hidden file is left beside those that were made.
 nothing_beside() {
     left=$(find work -name '.*mexaldor*')
     [ -z "$left" ]
@@ -76,7 +76,7 @@ nothing_beside() {
 has() {
     for tool in "$@"; do
         if ! command -v "$tool" >/dev/null; then
-            echo "passed over, $tool is not installed: $(basename "$0")"
+            echo "skipped, $tool is not installed: $(basename "$0")"
             return 1
         fi
     done

@@ -4,16 +4,16 @@
 
 # arguments
 gives "no arguments ask for help" 2 "$mexaldor"
-gives "help is told" 0 "$mexaldor" --help
+gives "--help prints help" 0 "$mexaldor" --help
 holds "help names each subcommand" thumbnail
-gives "the version is told" 0 "$mexaldor" --version
+gives "--version prints the version" 0 "$mexaldor" --version
 gives "an unknown subcommand is refused" 2 "$mexaldor" nothing
-gives "show wants a file" 2 "$mexaldor" show
+gives "show needs a file" 2 "$mexaldor" show
 gives "an unknown option is refused" 2 "$mexaldor" show --nothing files/whole.jpg
 gives "a limit is a number" 2 "$mexaldor" show --limit x files/whole.jpg
-gives "scrub wants two files" 2 "$mexaldor" scrub files/whole.jpg
-gives "set wants a value" 2 "$mexaldor" set --in-place files/whole.jpg
-gives "shift wants a time" 2 "$mexaldor" shift soon files/whole.jpg
+gives "scrub needs two files" 2 "$mexaldor" scrub files/whole.jpg
+gives "set needs a value" 2 "$mexaldor" set --in-place files/whole.jpg
+gives "shift needs a time" 2 "$mexaldor" shift soon files/whole.jpg
 gives "two ways to scrub are refused" 2 "$mexaldor" scrub --places-only --keep-orientation files/whole.jpg x.jpg
 
 gives "a backup is of a file that is replaced" 2 "$mexaldor" scrub --backup files/whole.jpg x.jpg
@@ -24,15 +24,15 @@ check "nothing was written by these" test ! -e x.jpg
 for file in whole.jpg whole.tif big.tif whole.webp whole.heic; do
     gives "show reads $file" 0 "$mexaldor" show "files/$file"
     holds "show names $file" "files/$file:"
-    holds "show tells the orientation of $file" "row 0 at right and column 0 at top"
+    holds "show prints the orientation of $file" "row 0 at right and column 0 at top"
 done
-gives "show passes over faults" 3 "$mexaldor" show files/faulty.jpg
+gives "show continues after faults" 3 "$mexaldor" show files/faulty.jpg
 gives "show refuses faults where it is strict" 1 "$mexaldor" show --strict files/faulty.jpg
 gives "show reads standard input" 0 sh -c '"$1" show - <files/whole.jpg' sh "$mexaldor"
 gives "a fault of one file does not end the others" 1 "$mexaldor" show files/absent.jpg files/whole.jpg
 says "a missing file is named" "files/absent.jpg: No such file"
 holds "the other file is shown" "files/whole.jpg:"
-gives "a folder wants -r" 1 "$mexaldor" show files
+gives "a folder needs -r" 1 "$mexaldor" show files
 gives "a limit is a fault" 3 "$mexaldor" show --limit 3 files/whole.jpg
 gives "a closed pipe is no error" 0 sh -c '{ "$1" show files/whole.jpg files/whole.tif; echo "$?" >status; } | head -n 1 >/dev/null; exit "$(cat status)"' sh "$mexaldor"
 check "a closed pipe says nothing" test ! -s err
@@ -98,7 +98,7 @@ for file in whole.jpg whole.webp; do
     gives "scrub keeps the orientation of $file" 0 "$mexaldor" scrub --keep-orientation "work/$file" "work/new.$file"
     gives "one field is left in $file" 0 "$mexaldor" show "work/new.$file"
     check "it is alone" test "$(wc -l <out)" = 2
-    holds "the orientation is told" Orientation
+    holds "the orientation is printed" Orientation
 done
 check "no metadata is left in the JPEG" sh -c '! grep -aqE "xmpmeta|comment|behind" work/new.whole.jpg'
 check "no metadata is left in the WebP" sh -c '! grep -aq xmpmeta work/new.whole.webp'
@@ -111,10 +111,10 @@ gives "HEIF files lose their fields" 0 "$mexaldor" scrub --in-place work/whole.h
 gives "the HEIF file has no field" 0 "$mexaldor" show work/whole.heic
 check "nor a line of one" test "$(wc -l <out)" = 1
 fresh
-gives "places are erased in all" 0 "$mexaldor" scrub --places-only -i work/whole.jpg work/whole.tif work/big.tif work/whole.webp work/whole.heic
+gives "GPS data are erased in all" 0 "$mexaldor" scrub --places-only -i work/whole.jpg work/whole.tif work/big.tif work/whole.webp work/whole.heic
 for file in whole.jpg whole.tif big.tif whole.webp whole.heic; do
     "$mexaldor" show "work/$file" >out
-    check "no place is told of $file" sh -c '! grep -q GPS out'
+    check "no GPS field is left in $file" sh -c '! grep -q GPS out'
     holds "the rest of $file is" Orientation
     check "$file keeps its length" test "$(wc -c <"work/$file")" = "$(wc -c <"files/$file")"
 done
@@ -130,27 +130,27 @@ for file in whole.jpg whole.tif whole.webp whole.heic; do
     "$mexaldor" show "work/$file" >out
     holds "$file has the new text" '"Short"'
 done
-gives "a longer text has JPEG data written anew" 0 "$mexaldor" set work/whole.jpg work/new.jpg "ImageDescription=A text that is longer than the old one was"
-says "maker notes that move are told" "maker notes"
+gives "a longer text has JPEG data rewritten" 0 "$mexaldor" set work/whole.jpg work/new.jpg "ImageDescription=A text that is longer than the old one was"
+says "moved maker notes are reported" "maker notes"
 "$mexaldor" show work/new.jpg >out
 holds "the longer text is there" "longer than the old one"
 holds "the rest is there" "2020-02-28 23:30:00"
 "$mexaldor" thumbnail work/new.jpg work/thumbnail.jpg
 check "the thumbnail is there" test "$(wc -c <work/thumbnail.jpg)" = 4
 gives "a longer text does not fit a TIFF file" 1 "$mexaldor" set -i work/whole.tif "ImageDescription=A text that is longer than the old one was"
-says "that is told" "too long"
+says "the message says why" "too long"
 gives "a picture without data gets some" 0 "$mexaldor" set -i work/plain.jpg work/plain.webp Artist=Somebody "DateTimeOriginal=2024-05-01T12:30:00" ExposureTime=1/125 FNumber=2.8
 for file in plain.jpg plain.webp; do
     "$mexaldor" json "work/$file" >out
     holds "$file has its date" "2024-05-01T12:30:00"
     holds "$file has its fraction" "[28,10]"
 done
-gives "data with a fault are not written anew" 1 "$mexaldor" set -i work/faulty.jpg Artist=Somebody
+gives "data with a fault are not rewritten" 1 "$mexaldor" set -i work/faulty.jpg Artist=Somebody
 check "they stay" cmp files/faulty.jpg work/faulty.jpg
 gives "but a value that fits is set in them" 0 "$mexaldor" set -i work/faulty.jpg Orientation=1
 gives "a text is no number" 1 "$mexaldor" set -i work/whole.jpg Orientation=up
-gives "a place can't be set" 1 "$mexaldor" set -i work/whole.jpg ExifIFDPointer=8
-gives "a tag that is none is refused" 2 "$mexaldor" set -i work/whole.jpg Orientatoin=1
+gives "an offset can't be set" 1 "$mexaldor" set -i work/whole.jpg ExifIFDPointer=8
+gives "an unknown tag is refused" 2 "$mexaldor" set -i work/whole.jpg Orientatoin=1
 nothing_beside set
 
 # shift
@@ -165,8 +165,8 @@ check "the file is the old one" cmp files/whole.jpg work/whole.jpg
 gives "only the dates of Exif move" 0 "$mexaldor" shift --exif -0:30:01 work/whole.jpg
 "$mexaldor" show work/whole.jpg >out
 check "one date moved" test "$(grep -c '2020-02-28 22:59:59' out)" = 1
-gives "a file without dates is told" 1 "$mexaldor" shift +1:00 work/undated.jpg
-gives "a date of no calendar is told" 1 "$mexaldor" shift +1:00 work/wrongdate.jpg
+gives "a file without dates is reported" 1 "$mexaldor" shift +1:00 work/undated.jpg
+gives "an invalid date is reported" 1 "$mexaldor" shift +1:00 work/wrongdate.jpg
 nothing_beside shift
 
 # thumbnail
@@ -174,7 +174,7 @@ gives "the thumbnail is written" 0 "$mexaldor" thumbnail files/whole.jpg work/th
 check "it is the one" sh -c 'printf "\377\330\377\331" | cmp - work/thumbnail.jpg'
 gives "the thumbnail goes to standard output" 0 "$mexaldor" thumbnail files/big.tif -
 check "it is the same" cmp out work/thumbnail.jpg
-gives "a picture without one is told" 1 "$mexaldor" thumbnail files/plain.jpg work/none.jpg
+gives "a picture without one is reported" 1 "$mexaldor" thumbnail files/plain.jpg work/none.jpg
 check "nothing is written then" test ! -e work/none.jpg
 
 # folders
@@ -192,27 +192,27 @@ for folder in range(100):
     for file in range(100):
         open(f"thousands/{folder:02}/{file:02}.jpg", "wb").write(data)
 P
-check "10,000 files are told" sh -c '"$1" json -r thousands >objects && test "$(wc -l <objects)" = 10000' sh "$mexaldor"
-check "they stand in order" sh -c 'sed "s/.*\"path\":\"\([^\"]*\)\".*/\1/" objects | LC_ALL=C sort -c'
+check "10,000 files are read" sh -c '"$1" json -r thousands >objects && test "$(wc -l <objects)" = 10000' sh "$mexaldor"
+check "they are in order" sh -c 'sed "s/.*\"path\":\"\([^\"]*\)\".*/\1/" objects | LC_ALL=C sort -c'
 
-check "a line of progress stands on a terminal alone" python3 - "$mexaldor" <<'P'
+check "progress is shown on a terminal only" python3 - "$mexaldor" <<'P'
 import os, pty, subprocess, sys
-def told(*words):
+def output_of(*words):
     ours, theirs = pty.openpty()
     ran = subprocess.Popen([sys.argv[1], *words], stdout=subprocess.DEVNULL, stderr=theirs)
     os.close(theirs)
-    said = b""
+    seen = b""
     try:
         while piece := os.read(ours, 4096):
-            said += piece
+            seen += piece
     except OSError:
         pass
     ran.wait()
-    return said
-line = told("json", "-r", "thousands")
+    return seen
+line = output_of("json", "-r", "thousands")
 assert b"files done" in line and line.endswith(b"\x1b[K"), line
 assert line.count(b"\r") < 100, line.count(b"\r")
-assert told("json", "-q", "-r", "thousands") == b""
+assert output_of("json", "-q", "-r", "thousands") == b""
 P
 
 ends

@@ -1,6 +1,6 @@
 #!/bin/sh
 # Replaces files where the disk fails: a file that is too long for it, a folder that can't be
-# written, a process that is killed. The old or the new file stands whole each time.
+# written, a process that is killed. Each time the old or the new file is there, whole.
 . "$(dirname "$0")/checks.sh"
 
 python3 - <<'P'
@@ -13,30 +13,30 @@ P
 
 # a disk that takes 1 MB of a file and then no more
 fresh
-gives "a full disk is told" 1 sh -c 'trap "" XFSZ; ulimit -f 2048; exec "$1" set -i work/long.jpg Orientation=1' sh "$mexaldor"
+gives "a full disk is reported" 1 sh -c 'trap "" XFSZ; ulimit -f 2048; exec "$1" set -i work/long.jpg Orientation=1' sh "$mexaldor"
 says "by its name" "work/long.jpg:"
-check "the old file stands" cmp files/long.jpg work/long.jpg
+check "the old file stays" cmp files/long.jpg work/long.jpg
 nothing_beside "a full disk"
-gives "an OUT on a full disk is told" 1 sh -c 'trap "" XFSZ; ulimit -f 2048; exec "$1" set work/long.jpg work/new.jpg Orientation=1' sh "$mexaldor"
-check "no half file stands" test ! -e work/new.jpg
+gives "an OUT on a full disk is reported" 1 sh -c 'trap "" XFSZ; ulimit -f 2048; exec "$1" set work/long.jpg work/new.jpg Orientation=1' sh "$mexaldor"
+check "no half file is left" test ! -e work/new.jpg
 nothing_beside "an OUT on a full disk"
 
 # a real file system of 4 MB, where one may be mounted
 mkdir small
 if mount -t tmpfs -o size=4m none small 2>/dev/null; then
     cp files/long.jpg small/
-    gives "a small disk is told" 1 "$mexaldor" set -i small/long.jpg Orientation=1
-    check "the old file stands there" cmp files/long.jpg small/long.jpg
-    check "nothing stands beside it" test "$(ls -A small)" = long.jpg
+    gives "a small disk is reported" 1 "$mexaldor" set -i small/long.jpg Orientation=1
+    check "the old file stays there" cmp files/long.jpg small/long.jpg
+    check "nothing is left beside it" test "$(ls -A small)" = long.jpg
     umount small
 else
-    echo "passed over, nothing may be mounted here: a small disk"
+    echo "skipped, nothing may be mounted here: a small disk"
 fi
 
-# a folder that can't be written
+# a read-only folder
 fresh
 if [ "$(id -u)" = 0 ]; then
-    chmod 755 "$room"
+    chmod 755 "$scratch"
     chown -R 65534:65534 work
     nobody="setpriv --reuid=65534 --regid=65534 --clear-groups"
     $nobody "$mexaldor" --version >out 2>err || nobody=
@@ -45,22 +45,22 @@ else
 fi
 if [ -n "$nobody" ]; then
     chmod a-w work
-    gives "a folder that can't be written is told" 1 $nobody "$mexaldor" set -i work/whole.jpg Orientation=1
-    check "the file stands" cmp files/whole.jpg work/whole.jpg
-    gives "so is an OUT there" 1 $nobody "$mexaldor" scrub work/whole.jpg work/new.jpg
+    gives "a read-only folder is reported" 1 $nobody "$mexaldor" set -i work/whole.jpg Orientation=1
+    check "the file stays" cmp files/whole.jpg work/whole.jpg
+    gives "an OUT there is reported" 1 $nobody "$mexaldor" scrub work/whole.jpg work/new.jpg
     chmod u+w work
     chmod a-r work/whole.jpg
-    gives "a file that can't be read is told" 1 $nobody "$mexaldor" set -i work/whole.jpg Orientation=1
-    nothing_beside "a folder that can't be written"
+    gives "an unreadable file is reported" 1 $nobody "$mexaldor" set -i work/whole.jpg Orientation=1
+    nothing_beside "a read-only folder"
 else
-    echo "passed over, the program can't be run as nobody: a folder that can't be written"
+    echo "skipped, the program can't be run as nobody: a read-only folder"
 fi
 
 # what is no file, and what is none any more
 gives "a device is not replaced" 1 "$mexaldor" thumbnail files/whole.jpg /dev/null
 check "it is a device still" test -c /dev/null
 gives "a folder is not replaced" 1 "$mexaldor" thumbnail files/whole.jpg work
-gives "a folder that is missing is told" 1 "$mexaldor" thumbnail files/whole.jpg none/thumbnail.jpg
+gives "a missing folder is reported" 1 "$mexaldor" thumbnail files/whole.jpg none/thumbnail.jpg
 
 # permissions, times, links, backups
 fresh

@@ -1,32 +1,32 @@
 #!/bin/sh
-# Runs exif_show as people do, asks what its first call says, and reads the man pages.
+# Runs exif_show as people do, checks its first calls, and reads the man pages.
 . "$(dirname "$0")/checks.sh"
 exif_show=${EXIF_SHOW:-$root/crates/exif_show/out/exif_show}
 
 gives "the sample is shown" 0 "$exif_show" "$root/docs/sample.jpg"
-holds "its place is shown" "GPSLatitude primary 33 deg 51 min 35.9 sec S"
+holds "its location is shown" "GPSLatitude primary 33 deg 51 min 35.9 sec S"
 gives "no file is a usage line" 2 "$exif_show"
-says "the usage line is told" "usage: exif_show [-c] FILE"
+says "the usage line is printed" "usage: exif_show [-c] FILE"
 gives "a missing file is an error" 1 "$exif_show" files/absent.jpg
 gives "faults are refused" 1 "$exif_show" files/faulty.jpg
-gives "faults are passed over" 3 "$exif_show" -c files/faulty.jpg
+gives "faults are skipped" 3 "$exif_show" -c files/faulty.jpg
 gives "a name that is no UTF-8 is refused" 1 sh -c '"$1" "$(printf "files/\377.jpg")"' sh "$exif_show"
 says "the refusal is a sentence" "The name is not UTF-8"
 
-# Directories in front of gigabytes, with memory for none of these: the front says all, and more than 2^32 bytes are too many.
+# Directories in front of gigabytes, with little memory: a prefix suffices, and 2^32 bytes are too many.
 printf 'MM\0*\0\0\0\010\0\001\001\016\0\002\0\0\0\007\0\0\0\032\0\0\0\0Sample\0' >large.tif
 truncate -s 3G large.tif
-gives "3 GB are shown by their front" 0 sh -c 'ulimit -v 65536 && exec "$1" large.tif' sh "$exif_show"
-holds "the field in front is shown" 'ImageDescription primary "Sample"'
+gives "3 GB are shown by their prefix" 0 sh -c 'ulimit -v 65536 && exec "$1" large.tif' sh "$exif_show"
+holds "the first field is shown" 'ImageDescription primary "Sample"'
 truncate -s 4294967295 large.tif
-gives "as many as places of 32 bits reach are shown" 0 sh -c 'ulimit -v 65536 && exec "$1" large.tif' sh "$exif_show"
+gives "as many as 32-bit offsets reach are shown" 0 sh -c 'ulimit -v 65536 && exec "$1" large.tif' sh "$exif_show"
 truncate -s 4294967296 large.tif
 gives "one more is refused" 1 sh -c 'ulimit -v 65536 && exec "$1" large.tif' sh "$exif_show"
 says "the refusal is named" "TIFF data too large"
 rm large.tif
 
-# What the first call says: tools/ in a repository of four crates, one of them proved, with an rt that only tells.
-mkdir -p young/bin young/crates/exif_show young/crates/base/out young/crates/other/src
+# The first calls: tools/ in a repository of four crates, with an rt that only prints.
+mkdir -p young/bin young/crates/exif_show young/crates/base/out/rlib young/crates/other/src
 cp -r "$root/tools" "$root/exif_show" young
 cat >young/crates.txt <<'T'
 # a library, one on it, and the program
@@ -37,31 +37,49 @@ other: base
 T
 cat >young/bin/rt <<'T'
 #!/bin/sh
+if [ "$1" = try ]; then
+    shift 2
+    printf 'unproved'
+    printf ' <%s>' "$@"
+    echo
+    echo "a line of the program" >&2
+    echo "checked: ended status=3" >&2
+    echo "run=ended status=3 runners=1 proved=no" >&2
+    exit 3
+fi
 echo "library core: modules loaded=1 checked=0"
 echo "crate base: modules loaded=1 checked=1"
-echo "so far: 0 of 2 functions checked; the verdict comes last"
-echo "so far: 1 of 2 functions checked"
 echo "crate middle: modules loaded=1 checked=1"
 mkdir -p out ../middle/out && printf '#!/bin/sh\necho shown "$@"\n' >out/exif_show && chmod +x out/exif_show
 T
 chmod +x young/bin/rt
-gives "the first call builds" 0 env PATH="$room/young/bin:$PATH" young/exif_show picture.jpg
-says "it says how much there is to prove" "exif_show: proving and building 2 crates the first time, about 3 minutes"
-says "it says how many crates stand" "exif_show: 1 of 2 crates proved, base the last"
-says "it says how far the next one is" "exif_show:   of the next 1 of 2 functions"
-holds "then it shows the file" "shown picture.jpg"
-gives "a second call only shows" 0 young/exif_show picture.jpg
+odd='an odd = $na"me
+.jpg'
+cp files/whole.jpg "$odd"
+gives "the first call runs unproved, with the program's status" 3 env PATH="$scratch/young/bin:$PATH" young/exif_show -c "$odd"
+says "it says so" "without proof"
+says "it names what proves and builds" "./install.sh"
+says "it shows what the program writes on standard error" "a line of the program"
+check "it shows nothing of rt" sh -c '! grep -q "checked:\|run=" err'
+check "it hands the path on, as an absolute one" sh -c 'printf "unproved <-c> <%s/%s>\n" "$1" "$2" | cmp - out' sh "$scratch" "$odd"
+printf '#!/bin/sh\necho "checked: no-answer: the program wrote more than 1048576 bytes" >&2\necho "run=no-answer proved=no" >&2\nexit 6\n' >young/bin/try
+cp young/bin/rt young/bin/kept && cp young/bin/try young/bin/rt && chmod +x young/bin/rt
+gives "a report that is too long for such a run fails" 1 env PATH="$scratch/young/bin:$PATH" young/exif_show files/whole.jpg
+says "it says why" "the program wrote more than 1048576 bytes"
+says "and what has no such limit" "./install.sh"
+mv young/bin/kept young/bin/rt
+gives "MEXALDOR_PROVED=1 builds" 0 env MEXALDOR_PROVED=1 PATH="$scratch/young/bin:$PATH" young/exif_show picture.jpg
+says "it says how much there is to prove" "exif_show: proving and building 2 crates"
+says "it says how far it is" "exif_show: 1 of 2 crates proved, about 1 minutes left"
+holds "then it runs the program" "shown picture.jpg"
+gives "a later call only runs it" 0 young/exif_show picture.jpg
 check "it says nothing else" test ! -s err
 sleep 1
 touch young/crates/other/src/lib.rt
-gives "an edit is proved" 0 env PATH="$room/young/bin:$PATH" young/exif_show picture.jpg
-says "it says that something has changed" "exif_show: proving again what has changed in 3 crates"
-says "it says what was proved" "exif_show: middle proved"
+gives "after an edit it runs unproved" 3 env PATH="$scratch/young/bin:$PATH" young/exif_show picture.jpg
 printf '#!/bin/sh\necho "error: not proved"\n' >young/bin/rt
-sleep 1
-touch young/crates/other/src/lib.rt
-gives "what is not proved is not run" 1 env PATH="$room/young/bin:$PATH" young/exif_show picture.jpg
-says "what rt said last is shown" "error: not proved"
+gives "what is not proved is not run" 1 env MEXALDOR_PROVED=1 PATH="$scratch/young/bin:$PATH" young/exif_show picture.jpg
+says "the last lines of rt are shown" "error: not proved"
 
 # The man pages, but for the pages that they name and that need not be installed.
 for page in "$root"/docs/man/*.1; do

@@ -56,8 +56,8 @@ def lines_of(text):
 
 def documentation(text):
     """The text of a file's `//!` and `///` lines, each on its own line; other lines are blank."""
-    said = [re.match(r"\s*//[/!] ?(.*)", line) for line in text.split("\n")]
-    return "\n".join(line.group(1) if line else "" for line in said) + "\n"
+    comments = [re.match(r"\s*//[/!] ?(.*)", line) for line in text.split("\n")]
+    return "\n".join(line.group(1) if line else "" for line in comments) + "\n"
 
 
 def blocks(text, kind):
@@ -117,12 +117,12 @@ def check_rust():
 
 def check_reports():
     for line, block in blocks(read("README.md"), ""):
-        said = re.match(r"\$ \./exif_show (docs/\S+)\n(.*)", block, re.S)
-        if said and not os.access(PROGRAM, os.X_OK):
+        report = re.match(r"\$ \./exif_show (docs/\S+)\n(.*)", block, re.S)
+        if report and not os.access(PROGRAM, os.X_OK):
             print(f"skipped, {PROGRAM} is not built: README's report of line {line}")
-        elif said:
-            printed = subprocess.run([PROGRAM, said.group(1)], capture_output=True, text=True).stdout
-            check(f"README's report of line {line} is the program's", printed == said.group(2))
+        elif report:
+            printed = subprocess.run([PROGRAM, report.group(1)], capture_output=True, text=True).stdout
+            check(f"README's report of line {line} is the program's", printed == report.group(2))
 
 
 def check_sample():
