@@ -1,4 +1,4 @@
-//! Pictures changed where they stand, and written again without what nobody else is to know.
+//! Pictures edited in place, and rewritten without private data.
 
 ghost use Rattle.std.specs.Prelude.{◌≡◌, None, IfOk, OnErr, OnOk};
 ghost use Rattle.exif_base.specs.Orders.{order_named};
@@ -16,7 +16,7 @@ use exif_edit_files::{erase_places_in_file, set_value_in_file};
 use exif_rewrite::{Remove, rewrite};
 use std::alloc::Global;
 
-/// Sets the orientation of a picture in memory. An error leaves its bytes.
+/// Sets the orientation of a picture in memory. After an error its bytes are unchanged.
 pub fn set_orientation(
     alloc: Global,
     picture: &mut [u8],
@@ -30,8 +30,8 @@ pub fn set_orientation(
     set_value_in_file(alloc, picture, Tag::Orientation, In::PRIMARY, &value)
 }
 
-/// Erases where a picture in memory was taken: each byte of that is zero then, and no other one
-/// has changed. An error leaves its bytes.
+/// Erases the GPS data of a picture in memory: their bytes become zero, and no other byte changes.
+/// After an error its bytes are unchanged.
 pub fn erase_place(alloc: Global, picture: &mut [u8]) -> Result<(), exif_edit::Error>
     ensures erased { OnOk result (IsEditedIn erase_patches picture.old picture.new) }
     ensures kept { OnErr result (picture.new ≡ picture.old) }
@@ -55,7 +55,7 @@ pub fn without_metadata(alloc: Global, picture: &[u8]) -> Result<Vec<u8>, exif::
     Ok(clean.into_inner())
 }
 
-/// The Exif data of a picture without its place, to be put into a file.
+/// The Exif data of a picture without its location, to be put into a file.
 pub fn without_place(alloc: Global, exif: &Exif) -> Result<Vec<u8>, exif::Error>
     ensures data { IfOk result (λ written. written.items
         ≡ image (order_named exif.now.little_endian) (scrubbed exif.now.fields)) }

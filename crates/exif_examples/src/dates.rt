@@ -19,8 +19,8 @@ pub fn text(exif: &Exif, tag: Tag) -> Option<&[u8]>
     }
 }
 
-/// When the picture was taken, with the part of the second and the minutes ahead of UTC where
-/// they are known. A date that the camera left blank is none.
+/// When the picture was taken, with the fraction of the second and the offset from UTC if they
+/// are known. A blank date is `None`.
 pub fn date_taken(exif: &Exif) -> Result<Option<DateTime>, Error>
     ensures undated { text_found exif.now.fields Context.Exif 0x9003 ≡ None
         → result ≡ Ok None }

@@ -1,5 +1,4 @@
-//! What people ask of a picture, each answered by a few lines over the library: proved, tested,
-//! and quoted by the guides.
+//! Common tasks, each in a few lines over the library: proved, tested, and quoted by the guides.
 #![tactic(auto)]
 
 pub mod changing;

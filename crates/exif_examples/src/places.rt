@@ -31,7 +31,7 @@ impl fmt::Display for Angle {
     }
 }
 
-/// The latitude and the longitude of the place.
+/// The latitude and the longitude of the location.
 pub fn place(exif: &Exif) -> Option<(Angle, Angle)>
     ensures latitude { IfSome result (λ place.
         found exif.now.fields Context.Gps 2 ≡ Some (Value.Rational place.0.parts)) }

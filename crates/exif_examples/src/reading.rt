@@ -15,7 +15,7 @@ use std::alloc::Global;
 use std::fmt::Write;
 use std::fs::File;
 
-/// What a picture says, or its first fault. A file seeks, and so does a `Cursor` over bytes.
+/// The fields of a picture, or its first fault. The picture is a file or a `Cursor` over bytes.
 pub fn read_picture<R: ReadSeek + Drop>(alloc: Global, picture: R) -> Result<Exif, Error>
     ensures reads { IfSome (R.remaining picture)
         (λ bytes. ReadsContainer (raw_answer false None) (container_answer bytes) result) }
@@ -23,8 +23,8 @@ pub fn read_picture<R: ReadSeek + Drop>(alloc: Global, picture: R) -> Result<Exi
     Reader::new().read_from_container(alloc, &mut Seekable::new(picture))
 }
 
-/// The same where the fields alone are wanted: of large TIFF data, as a camera's raw file, no more
-/// is read than a front that says all.
+/// The same if only the fields are needed: of a large TIFF file, such as a camera's raw file, only
+/// a prefix is read if that suffices.
 pub fn read_fields<R: ReadSeek + Drop>(alloc: Global, picture: R) -> Result<Exif, Error>
     ensures reads { IfSome (R.remaining picture)
         (λ bytes. ReadsByNeed (raw_answer false None) (container_answer bytes) result) }
@@ -32,7 +32,7 @@ pub fn read_fields<R: ReadSeek + Drop>(alloc: Global, picture: R) -> Result<Exif
     Reader::new().read_by_need(alloc, &mut Seekable::new(picture))
 }
 
-/// What can be read of a damaged picture, and how many faults were passed over.
+/// What can be read of a damaged picture, and how many faults were skipped.
 pub fn read_damaged<R: ReadSeek + Drop>(alloc: Global, file: R) -> Result<(Exif, usize), Error> {
     let mut reader = Reader::new();
     reader.continue_on_error(true);
@@ -44,8 +44,8 @@ pub fn read_damaged<R: ReadSeek + Drop>(alloc: Global, file: R) -> Result<(Exif,
     Ok((exif, faults))
 }
 
-/// What a stranger's picture says. A thousand entries are visited at most, where a small file may
-/// name millions, and so no more fields than these and one come back.
+/// The fields of an untrusted picture. At most a thousand entries are visited, since a small file
+/// can make a reader visit millions of them.
 pub fn read_from_stranger<R: ReadSeek + Drop>(alloc: Global, picture: R) -> Result<Exif, Error>
     ensures few { IfOk result (λ exif. length exif.fields ≤ 1001) }
 {
@@ -54,7 +54,7 @@ pub fn read_from_stranger<R: ReadSeek + Drop>(alloc: Global, picture: R) -> Resu
     reader.read_from_container(alloc, &mut Seekable::new(picture))
 }
 
-/// Prints how the picture in a file stands.
+/// Prints the orientation of the picture in a file.
 pub fn print_orientation(rt: &HostRuntime, path: &str) -> Result<(), Error> {
     let file = File::open(rt, path)?;
     let exif = Reader::new().read_from_container(rt.alloc(), &mut Seekable::new(file))?;
@@ -64,7 +64,7 @@ pub fn print_orientation(rt: &HostRuntime, path: &str) -> Result<(), Error> {
     Ok(())
 }
 
-/// Which of the eight ways the picture stands: 1 upright, 6 to be turned clockwise.
+/// The orientation, 1 to 8: 1 is upright, 6 needs a turn clockwise.
 pub fn orientation(exif: &Exif) -> Option<u32>
     ensures number { result ≡ number_of exif.now.fields Context.Tiff 0x112 }
 {

@@ -8,7 +8,7 @@ ghost use Rattle.exif_json.specs.Finding.{number_of};
 use exif::{Error, Exif, Field, In, Tag, Value};
 use std::alloc::Global;
 
-/// A field that names the photographer, in ASCII.
+/// A field with the photographer's name, in ASCII.
 pub fn artist(alloc: Global, name: &[u8]) -> Result<Field, Error>
     ensures text { IfOk result (λ field. field.value ≡ Ascii (name.now ∷ [])) }
 {
@@ -19,7 +19,7 @@ pub fn artist(alloc: Global, name: &[u8]) -> Result<Field, Error>
     })
 }
 
-/// The width in pixels, if the picture tells it. A value that is no number is an error.
+/// The width in pixels, if the picture has that field. A value that is not a number is an error.
 pub fn width(exif: &Exif) -> Result<Option<u32>, Error>
     ensures number { IfOk result
         (λ width. width ≡ number_of exif.now.fields Context.Exif 0xa002) }
@@ -31,7 +31,7 @@ pub fn width(exif: &Exif) -> Result<Option<u32>, Error>
     Ok(numbers.get(0))
 }
 
-/// The unit of the resolution: what the picture says, or what the standard gives in its absence.
+/// The unit of the resolution, or the standard's default if the picture has none.
 pub fn resolution_unit(alloc: Global, exif: &Exif) -> Result<String, Error> {
     let tag = Tag::ResolutionUnit;
     let default = tag.default_value(alloc)?;

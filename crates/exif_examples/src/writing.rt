@@ -12,7 +12,7 @@ use exif::experimental::Writer;
 use exif::{Counted, Error, Exif, Field, In, Items, Tag, Value};
 use std::alloc::Global;
 
-/// Exif data of a picture that stands in one of the eight ways, with its thumbnail.
+/// Exif data with an orientation and a thumbnail.
 pub fn new_exif(alloc: Global, orientation: u16, thumbnail: &[u8]) -> Result<Vec<u8>, Error>
     ensures data { IfOk result (λ written. written.items
         ≡ image Big (jpeg_set thumbnail.now 1 (pushed (orientation_field orientation) []))) }
@@ -30,8 +30,8 @@ pub fn new_exif(alloc: Global, orientation: u16, thumbnail: &[u8]) -> Result<Vec
     Ok(image.into_inner())
 }
 
-/// What was read, written again in its byte order, without a thumbnail, strips and tiles: these
-/// are set beside the fields, by `set_jpeg` and the like.
+/// The fields that were read, written again in their byte order. Thumbnails, strips and tiles are
+/// not fields: `set_jpeg` and its like add them.
 pub fn written_again(alloc: Global, exif: &Exif) -> Result<Vec<u8>, Error>
     ensures data { IfOk result (λ written. written.items
         ≡ image (order_named exif.now.little_endian) (pushed_all exif.now.fields [])) }
