@@ -1,4 +1,4 @@
-use Rattle.std.proofs.Common.{arith, refl, rules, ◌∙◌}
+use Rattle.std.proofs.Common.{arith, refl, ◌∙◌}
 use Rattle.exif_base.proofs.ReadSteps.{fetched_count, fetched_more, kept_more}
 use Rattle.exif_base.proofs.read.read_at_most.Goals as goal
 
@@ -27,9 +27,6 @@ returns-clause-bound g c = omega (arith, c.in_ok-at_hand.ensures.bound, c.in_ok-
 
 pub returns-clause-end : goal.returns-clause-end
 returns-clause-end g c = λ less. c.in_ok-behind.ensures.end (omega arith)
-
-pub returns-clause-no_end : goal.returns-clause-no_end
-returns-clause-no_end g c = search rules
 
 pub returns-clause-kept : goal.returns-clause-kept
 returns-clause-kept g c = kept_more _ _ _ c.take_at_hand.ensures.kept c.read_by_blocks.ensures.kept

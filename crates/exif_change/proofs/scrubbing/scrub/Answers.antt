@@ -12,6 +12,3 @@ returns-in_ok-written-in-AllButOrientation-Some-Jpeg c =
     let asked : c.args.removed ≡ removed.AllButOrientation = search rules in
     let emptied : IsEmptied (format_in c.args.file.items) (payload_of c.as_deref.result) c.args.file.items new = search rules in
     subst (λ it. IsScrubbed it c.args.file.items new) (sym asked) (payload_of c.as_deref.result, emptied)
-
-pub returns-in_ok-written-in-Metadata-Some-Jpeg : goal.returns-in_ok-written-in-Metadata-Some-Jpeg
-returns-in_ok-written-in-Metadata-Some-Jpeg c = search rules

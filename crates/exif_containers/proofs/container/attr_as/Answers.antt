@@ -21,6 +21,3 @@ returns-in-Some-Jpeg-clause-gives g c =
 pub returns-in-None-clause-gives : goal.returns-in-None-clause-gives
 unfolding answer_as
 returns-in-None-clause-gives g c = search rules
-
-pub returns-in-None-clause-named : goal.returns-in-None-clause-named
-returns-in-None-clause-named g c = search rules

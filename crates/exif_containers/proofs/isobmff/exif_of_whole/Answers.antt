@@ -1,4 +1,3 @@
-use Rattle.std.proofs.Common.{rules}
 use Rattle.std.proofs.lemmas.Result.{err_from_is_err_and}
 use Rattle.exif_isobmff.proofs.ExifNames.{exif_of_only}
 use Rattle.exif_containers.proofs.IsobmffNames.{fails_named}
@@ -8,9 +7,3 @@ pub returns-in_err-payload-clause-named : goal.returns-in_err-payload-clause-nam
 returns-in_err-payload-clause-named g c =
     let p = err_from_is_err_and c.from_residual-in_err-payload.result c.from_residual-in_err-payload.ensures.1 in
     rw (p.1, p.2) (fails_named c.in_err-payload.field-0.0 _ (exif_of_only _) c.in_err-payload.ensures.gives)
-
-pub returns-in_err-payload-clause-gives : goal.returns-in_err-payload-clause-gives
-returns-in_err-payload-clause-gives g c = search rules
-
-pub returns-clause-gives : goal.returns-clause-gives
-returns-clause-gives g c = search rules

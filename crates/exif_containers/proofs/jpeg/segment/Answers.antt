@@ -1,4 +1,3 @@
-use Rattle.std.proofs.Common.{rules}
 use Rattle.std.proofs.lemmas.Result.{err_from_is_err_and}
 use Rattle.exif_containers.proofs.JpegMoves.{segment_collects, segment_exif, segment_other}
 use Rattle.exif_containers.proofs.jpeg.segment.Goals as goal
@@ -15,6 +14,3 @@ pub returns-in_err-payload-clause-memory : goal.returns-in_err-payload-clause-me
 returns-in_err-payload-clause-memory g c =
     let p = err_from_is_err_and c.from_residual-in_err-payload.result c.from_residual-in_err-payload.ensures.1 in
     rw (p.1, p.2) (λ h. segment_collects (g.R.Source.left c.args.source.now) _ c.args.budget.now _ c.args.code c.from-size.result c.if-code-eq-APP1.true (rw c.from-size.ensures c.in_ok-next16.ensures.taken) (c.in_err-payload.ensures.memory h))
-
-pub returns-then-size-lt2-clause-taken : goal.returns-then-size-lt2-clause-taken
-returns-then-size-lt2-clause-taken g c = search rules

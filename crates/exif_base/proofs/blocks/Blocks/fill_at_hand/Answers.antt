@@ -1,9 +1,6 @@
 use Rattle.std.proofs.lemmas.Grind.{common_steps}
-use Rattle.std.proofs.Common.{arith, rules}
+use Rattle.std.proofs.Common.{arith}
 use Rattle.exif_base.proofs.blocks.Blocks.fill_at_hand.Goals as goal
 
 pub returns-clause-bytes : goal.returns-clause-bytes
 returns-clause-bytes g c = grind (arith, common_steps)
-
-pub returns-clause-end : goal.returns-clause-end
-returns-clause-end g c = search rules

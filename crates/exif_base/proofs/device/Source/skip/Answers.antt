@@ -12,6 +12,3 @@ loop-rest-preserved g c =
       count = search rules;
       same = search rules;
     }
-
-pub returns-then-n-eq0-clause-bytes : goal.returns-then-n-eq0-clause-bytes
-returns-then-n-eq0-clause-bytes g c = search rules

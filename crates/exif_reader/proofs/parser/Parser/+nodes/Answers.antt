@@ -1,4 +1,4 @@
-use Rattle.std.proofs.Common.{rules, ℕ, List, arith, sym, ◌∙◌, ◌-◌, ap, Option}
+use Rattle.std.proofs.Common.{ℕ, List, arith, sym, ◌∙◌, ◌-◌, ap, Option}
 use Rattle.std.proofs.Math.Nat.{sub-zero}
 use Rattle.std.proofs.lemmas.Result.{err_from_is_err_and}
 use Rattle.exif_tiff.specs.Trace.{Node, directory_nodes, entry_nodes, depth_of}
@@ -42,6 +42,3 @@ pub pointer-returns-in-Err : goal.pointer-returns-in-Err
 pointer-returns-in-Err g t c =
     pointer_fault (directory_nodes (depth_of c.args.child) g.E.Endian.number_of c.args.bytes.now c.args.ifd_num.0) g.E.Endian.number_of c.args.bytes.now c.args.child c.args.place c.in-Some.place c.in-Err.fault c.met-in-Err.result c.args.self.now c.directory.new.self c.met-in-Err.new.self c.in-Some.is c.in_ok-directory.ensures
     (end_fault _ c.in-Err.fault (sym c.directory_end.ensures ∙ c.in-Err.is)) c.met-in-Err.ensures
-
-pub pointer-returns-in-Ok-eq0 : goal.pointer-returns-in-Ok-eq0
-pointer-returns-in-Ok-eq0 g t c = search rules

@@ -1,4 +1,4 @@
-use Rattle.std.proofs.Common.{rules, ◌≡◌, ◌∙◌, List, None, ap, map, subst, sym}
+use Rattle.std.proofs.Common.{◌≡◌, ◌∙◌, List, None, ap, map, subst, sym}
 use Rattle.exif_layout.specs.Groups.{Group}
 use Rattle.exif_layout.specs.Refused.{write_fault}
 use Rattle.exif_layout.specs.Slots.{draft_of}
@@ -26,12 +26,3 @@ returns-clause-sent g c =
     let P : List Group → Type 0 = λ groups. ArePlans 8 (map draft_of groups) c.in_ok-plans.plans.items in
     let same = sent_is c.order_of.result c.args.self.now c.in_ok-plans.plans.items none (subst P c.ifds-2.ensures c.in_ok-plans.ensures) in
     rw (c.as_slice.ensures.value, same, c.order_of.ensures) at (c.in_ok-send_image.ensures.sends.sent)
-
-pub returns-in-Some-clause-kept : goal.returns-in-Some-clause-kept
-returns-in-Some-clause-kept g c = search rules
-
-pub returns-in-Some-clause-front : goal.returns-in-Some-clause-front
-returns-in-Some-clause-front g c = search rules
-
-pub returns-in-Some-clause-count : goal.returns-in-Some-clause-count
-returns-in-Some-clause-count g c = search rules

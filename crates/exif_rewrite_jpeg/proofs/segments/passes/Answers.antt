@@ -1,5 +1,0 @@
-use Rattle.std.proofs.Common.{rules}
-use Rattle.exif_rewrite_jpeg.proofs.segments.passes.Goals as goal
-
-pub returns-in-Metadata : goal.returns-in-Metadata
-returns-in-Metadata c = search rules
