@@ -8,8 +8,8 @@ ghost use Rattle.exif_rewrite_jpeg.specs.RewrittenJpeg.{begins as begins_with, e
 
 use crate::fault::Fault;
 use exif_base::{Sink, send_all};
-use exif_containers::jpeg::{APP1, EOI, MARK, RST0, SOI, TEM};
 use exif_containers::Remove;
+use exif_containers::jpeg::{APP1, EOI, MARK, RST0, SOI, TEM};
 use std::io;
 
 /// The first segment for applications: that of JFIF.

@@ -7,8 +7,8 @@ ghost use Rattle.exif_rewrite_webp.specs.WebpChunks.{chunk_of as chunk_in, first
 ghost use Rattle.exif_rewrite_webp.specs.WebpPlans.{chunk_view, front_view, kept_body, kept_view};
 
 use exif_base::{Endian, LittleEndian};
-use exif_containers::webp::{is_webp, padded_len};
 use exif_containers::Remove;
+use exif_containers::webp::{is_webp, padded_len};
 use exif_types::Error;
 use std::alloc::{AllocError, Global};
 

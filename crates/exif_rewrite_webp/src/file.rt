@@ -12,8 +12,8 @@ ghost use Rattle.exif_rewrite_webp.specs.WebpPlans.{StopsFile};
 use crate::plan::plan_file;
 use crate::send::send_plan;
 use exif_base::{Sink, Source};
-use exif_containers::util::read_all;
 use exif_containers::Remove;
+use exif_containers::util::read_all;
 use exif_types::Error;
 use std::alloc::Global;
 

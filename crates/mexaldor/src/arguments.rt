@@ -15,11 +15,7 @@ pub fn command<'a>(alloc: Global) -> Result<Command<'a>, AllocError> {
         .subcommand_required(true)
         .arg_required_else_help(true)
         .subcommand(reading(alloc, "show", "Print the fields of files, one per line")?)?
-        .subcommand(reading(
-            alloc,
-            "json",
-            "Print one JSON object per file and line",
-        )?)?
+        .subcommand(reading(alloc, "json", "Print one JSON object per file and line")?)?
         .subcommand(scrub(alloc)?)?
         .subcommand(set(alloc)?)?
         .subcommand(shift(alloc)?)?
@@ -68,7 +64,11 @@ fn scrub<'a>(alloc: Global) -> Result<Command<'a>, AllocError> {
             "Only erase the GPS data of Exif, in place",
         )
         .conflicts_with("keep-orientation")?)?;
-    changing(alloc, command)?.arg(options::words(alloc, "FILE", "The picture and the new file, or pictures with --in-place"))
+    changing(alloc, command)?.arg(options::words(
+        alloc,
+        "FILE",
+        "The picture and the new file, or pictures with --in-place",
+    ))
 }
 
 fn set<'a>(alloc: Global) -> Result<Command<'a>, AllocError> {

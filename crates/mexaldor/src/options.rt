@@ -55,11 +55,7 @@ pub fn in_place<'a>(alloc: Global) -> Arg<'a> {
 }
 
 pub fn backup<'a>(alloc: Global) -> Arg<'a> {
-    flag(
-        alloc,
-        "backup",
-        "Keep each old file as NAME.orig",
-    )
+    flag(alloc, "backup", "Keep each old file as NAME.orig")
 }
 
 pub fn keep_time<'a>(alloc: Global) -> Arg<'a> {

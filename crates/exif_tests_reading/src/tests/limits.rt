@@ -3,7 +3,9 @@
 use exif::Reader;
 use exif_test_support::answers::{counts, is_text};
 use exif_test_support::files;
-use exif_test_support::readings::{raw_answer, read, reader_of, refusal, reported, shared_children};
+use exif_test_support::readings::{
+    raw_answer, read, reader_of, refusal, reported, shared_children,
+};
 use std::alloc::Global;
 use std::process::Abort;
 use std::test::Fail;

@@ -30,11 +30,7 @@ fn errors_are_shown(rt: HostRuntime) {
         Error::ScatteredData,
         "The Exif data are not contiguous",
     );
-    assert_shown(
-        &rt,
-        Error::PictureData,
-        "The picture is in the same data",
-    );
+    assert_shown(&rt, Error::PictureData, "The picture is in the same data");
     let header = Error::Header(Fault::TruncatedHeader);
     assert_shown(&rt, header, "Truncated TIFF header");
     assert_shown(&rt, Error::OutOfMemory, "Out of memory");

@@ -4,7 +4,9 @@ use super::calls::{all_erased, sets_numbers, sets_text, text_stays, value_stays}
 use super::{DESCRIPTION, is_done, is_so, text};
 use exif_edit::{Error, set_value, set_value_patches};
 use exif_reader::parse_exif;
-use exif_test_support::files::{DESCRIBED_BIG, DESCRIBED_LITTLE, EVERY_TYPE_BIG, EVERY_TYPE_LITTLE};
+use exif_test_support::files::{
+    DESCRIBED_BIG, DESCRIBED_LITTLE, EVERY_TYPE_BIG, EVERY_TYPE_LITTLE,
+};
 use exif_types::{Context, In, Tag, Value};
 use std::alloc::{AllocError, Global};
 use std::test::Fail;

@@ -1,7 +1,7 @@
 //! Texts by kind, and kinds at values that they don't take.
 
-use exif_table::TextKind;
 use exif_display::write_value;
+use exif_table::TextKind;
 use exif_text::{Contents, Rational, SRational};
 use std::fmt;
 use std::process::Abort;
