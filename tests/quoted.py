@@ -20,7 +20,7 @@ from make_sample import sample
 GUIDES = ["README.md", "docs/CALLING.md"]
 SOURCES = "crates/*/src/**/*.rt"
 EXAMPLES = "crates/exif_examples/src"
-PICTURE = "crates/exif_tests_change/src/tests/examples/picture.rt"
+PICTURE = "crates/exif_tests/src/tests/examples/picture.rt"
 VERSIONS = {
     "README.md": r"The version is ([\d.]+),",
     "crates/mexaldor/src/arguments.rt": r'\.version\("([\d.]+)"\)',

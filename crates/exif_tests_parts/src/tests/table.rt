@@ -1,7 +1,5 @@
-//! The table and the fixed texts are those of the lines of text.
+//! The fixed texts are those of the lines of text: none is missing, and none is too many.
 
-mod descriptions;
 mod fixed;
 mod lines;
-mod rows;
 mod words;

@@ -1,13 +1,12 @@
-//! Tags, values, fields and dates: constants, debug texts, laws at values, and what becomes of a date.
+//! Tags, values, fields and dates: constants, debug texts, laws at values, and what a date keeps.
 
 use exif_base::Items;
 use std::process::Abort;
 
-mod counts;
+mod constants;
 mod dates;
 mod debug;
 mod laws;
-mod tags;
 
 /// A list of these.
 pub fn list<T: Copy>(rt: &(impl Abort + AllocGlobal), items: &[T]) -> Items<T> {

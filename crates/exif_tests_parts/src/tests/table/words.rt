@@ -63,16 +63,6 @@ pub(super) fn words() -> &'static [(TextKind, &'static str)] {
     &WORDS
 }
 
-/// The word of a kind.
-pub(super) fn word_of(kind: TextKind) -> &'static str {
-    for entry in words() {
-        if entry.0 == kind {
-            return entry.1;
-        }
-    }
-    ""
-}
-
 /// The kind that a word names.
 pub(super) fn kind_of(word: &str) -> Option<TextKind> {
     for entry in words() {

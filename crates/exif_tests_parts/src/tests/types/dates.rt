@@ -1,4 +1,4 @@
-//! Dates, their parts and their refusals.
+//! What a date keeps where parts of it are refused.
 
 use exif_types::{DateTime, Error};
 use std::alloc::AllocError;
@@ -47,14 +47,6 @@ fn date_of(rt: &impl Abort, text: &[u8]) -> DateTime {
     DateTime::from_ascii(text).expect(rt, "a date")
 }
 
-#[test]
-fn a_date_is_read_and_shown(rt: HostRuntime) -> Result<(), AllocError> {
-    let date = date_of(&rt, b"2016:05:04 03:02:01");
-    let shown = format!(in rt.alloc(); "{date}|{date:30}|")?;
-    assert!(rt; shown.as_str() == "2016-05-04 03:02:01|2016-05-04 03:02:01|");
-    Ok(())
-}
-
 // The debug text of the date behind its offset.
 fn assert_debug(rt: &(impl Abort + AllocGlobal), date: &DateTime) -> Result<(), AllocError> {
     let shown = format!(in rt.alloc(); "{date:?}")?;
@@ -76,46 +68,4 @@ fn what_is_refused_changes_nothing(rt: HostRuntime) -> Result<(), AllocError> {
     date.parse_subsec(b" ").expect(&rt, "parts of a second");
     assert!(rt; date.nanosecond == None);
     assert_debug(&rt, &date)
-}
-
-// A text, whether it is refused as blank, and what is said of it.
-type Refusal = (&'static str, bool, &'static str);
-
-static DATES: [Refusal; 7] = [
-    ("                   ", true, "DateTime is blank"),
-    ("    :  :     :  :  ", true, "DateTime is blank"),
-    ("                    ", false, "Invalid DateTime delimiter"),
-    ("2016:05:04 03:02:0", false, "DateTime too short"),
-    ("2016-05:04 03:02:01", false, "Invalid DateTime delimiter"),
-    ("2016:05:04T03:02:01", false, "Invalid DateTime delimiter"),
-    ("2016:05:04 03:02:0x", false, "Not a number"),
-];
-
-#[test]
-fn refusals_of_dates(rt: HostRuntime) {
-    for (text, blank, message) in &DATES {
-        let answer = match DateTime::from_ascii(text.as_bytes()) {
-            Ok(_) => Ok(()),
-            Err(e) => Err(e),
-        };
-        assert_refused(&rt, answer, *blank, *message);
-    }
-}
-
-static OFFSETS: [Refusal; 6] = [
-    ("      ", true, "OffsetTime is blank"),
-    ("   :  ", true, "OffsetTime is blank"),
-    ("+01:0", false, "OffsetTime too short"),
-    ("+01-00", false, "Invalid OffsetTime delimiter"),
-    ("+x1:00", false, "Not a number"),
-    ("?01:00", false, "Invalid OffsetTime sign"),
-];
-
-#[test]
-fn refusals_of_offsets(rt: HostRuntime) {
-    let mut date = date_of(&rt, b"0000:00:00 00:00:00 and more");
-    for (text, blank, message) in &OFFSETS {
-        let answer = date.parse_offset(text.as_bytes());
-        assert_refused(&rt, answer, *blank, *message);
-    }
 }
