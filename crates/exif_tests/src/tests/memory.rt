@@ -28,10 +28,10 @@ pub fn take_all(rt: &(impl Abort + AllocGlobal), left: u16) -> Taken {
 }
 
 /// Whether an error is that memory ran out. It is let go by one call.
-pub fn is_want(error: Error) -> bool {
-    let is_want = matches!(&error, Error::OutOfMemory);
+pub fn is_out_of_memory(error: Error) -> bool {
+    let is_out_of_memory = matches!(&error, Error::OutOfMemory);
     drop(error);
-    is_want
+    is_out_of_memory
 }
 
 /// The message of a refusal, if that is the answer. The error is let go by one call.
@@ -51,21 +51,21 @@ pub fn are_equal<T: PartialEq>(first: &T, second: &T) -> bool {
 
 // What an error comes to where these bytes were sent. Where memory runs out, none are.
 fn refused_after(error: Error, sent: &[u8]) -> Outcome {
-    if is_want(error) && sent.is_empty() {
-        Outcome::Wants
+    if is_out_of_memory(error) && sent.is_empty() {
+        Outcome::OutOfMemory
     } else {
         Outcome::Wrong
     }
 }
 
-// What was written to a room of which so much is left.
-fn written(room: &[u8], left: usize) -> &[u8] {
-    &room[..room.len().saturating_sub(left)]
+// What was written to a space of which so much is left.
+fn written(space: &[u8], left: usize) -> &[u8] {
+    &space[..space.len().saturating_sub(left)]
 }
 
-/// What an answer comes to that is to send these bytes to a room, of which so much is left.
-pub fn sending(answer: Result<(), Error>, room: &[u8], left: usize, bytes: &[u8]) -> Outcome {
-    let sent = written(room, left);
+/// What an answer comes to that is to send these bytes to a space, of which so much is left.
+pub fn sending(answer: Result<(), Error>, space: &[u8], left: usize, bytes: &[u8]) -> Outcome {
+    let sent = written(space, left);
     match answer {
         Ok(()) => Outcome::answered(sent == bytes),
         Err(error) => refused_after(error, sent),
@@ -73,8 +73,8 @@ pub fn sending(answer: Result<(), Error>, room: &[u8], left: usize, bytes: &[u8]
 }
 
 /// Memory ran out in some calls, and the last one was right.
-pub fn runs_out(rt: &impl Abort, wants: Result<u16, Shortage>) {
-    let count = wants.expect(rt, "enough memory");
+pub fn runs_out(rt: &impl Abort, refused: Result<u16, Shortage>) {
+    let count = refused.expect(rt, "enough memory");
     assert!(rt; count > 0);
 }
 

@@ -1,7 +1,7 @@
 //! What edits answer where memory is refused: all of it, or what is behind some request.
 //! `exif_test_support::shortage` says which allocator these tests need.
 
-use super::undone::wanting;
+use super::undone::out_of_memory;
 use super::{DESCRIPTION, put, text};
 use exif_base::Counted;
 use exif_edit::{
@@ -18,12 +18,12 @@ use exif_types::{In, Value};
 use std::alloc::Global;
 use std::test::Fail;
 
-// The segment of a JPEG stream whose data have a GPS version and a description that stands behind its
+// The segment of a JPEG stream whose data have a GPS version and a description that is behind its
 // entry.
 const FILE: &[u8] =
     b"\xff\xd8\xff\xe1\0\x47Exif\0\0MM\0*\0\0\0\x08\0\x02\x01\x0e\0\x02\0\0\0\x07\0\0\0\x38\x88\x25\0\x04\0\0\0\x01\0\0\0\x26\0\0\0\0\0\x01\0\0\0\x01\0\0\0\x04\x02\x03\0\0\0\0\0\0Sample\0";
 
-// The same with another description, without its place, without the description, and without all.
+// The same with another description, without its GPS data, without the description, and without all.
 const SET: &[u8] =
     b"\xff\xd8\xff\xe1\0\x47Exif\0\0MM\0*\0\0\0\x08\0\x02\x01\x0e\0\x02\0\0\0\x05\0\0\0\x38\x88\x25\0\x04\0\0\0\x01\0\0\0\x26\0\0\0\0\0\x01\0\0\0\x01\0\0\0\x04\x02\x03\0\0\0\0\0\0Blue\0\0\0";
 
@@ -93,7 +93,7 @@ fn setting(
     Ok(Vec::new(alloc))
 }
 
-// The places erased.
+// The GPS data erased.
 fn erasing_places(alloc: Global, form: Form, file: &mut [u8; LENGTH]) -> Result<Vec<Patch>, Error> {
     match form {
         Form::Data => erase_places(alloc, &mut file[FRONT..])?,
@@ -148,7 +148,7 @@ fn put_all(bytes: &mut [u8], patches: &[Patch]) {
 }
 
 // What an edit of the file comes to that is to give these bytes. An error leaves it as it was.
-fn attempt(alloc: Global, form: Form, edit: Edit, want: &[u8]) -> Outcome {
+fn attempt(alloc: Global, form: Form, edit: Edit, wanted: &[u8]) -> Outcome {
     let mut file = [0u8; LENGTH];
     put(&mut file[..], 0, FILE);
     let answer = match edit {
@@ -165,21 +165,21 @@ fn attempt(alloc: Global, form: Form, edit: Edit, want: &[u8]) -> Outcome {
     match answer {
         Ok(patches) => {
             put_all(&mut file[begin..], patches.as_slice());
-            if &file[..] == want {
+            if &file[..] == wanted {
                 Outcome::Right
             } else {
                 Outcome::Wrong
             }
         }
-        Err(error) => wanting(error, &file[..] == FILE),
+        Err(error) => out_of_memory(error, &file[..] == FILE),
     }
 }
 
 // In how many calls memory runs out, in each form.
-fn wants(alloc: Global, edit: Edit, want: &[u8]) -> Result<[u16; 5], Fail> {
+fn refusals(alloc: Global, edit: Edit, wanted: &[u8]) -> Result<[u16; 5], Fail> {
     let mut counts = [0u16; 5];
     for (count, form) in counts.iter_mut().zip(FORMS.iter()) {
-        *count = in_turn(alloc, || attempt(alloc, *form, edit, want))?;
+        *count = in_turn(alloc, || attempt(alloc, *form, edit, wanted))?;
     }
     Ok(counts)
 }
@@ -187,7 +187,7 @@ fn wants(alloc: Global, edit: Edit, want: &[u8]) -> Result<[u16; 5], Fail> {
 #[test]
 fn a_value_runs_out_of_memory(rt: HostRuntime) -> Result<(), Fail> {
     let value = text(rt.alloc(), b"Blue")?;
-    let counts = wants(rt.alloc(), Edit::Value(&value), SET);
+    let counts = refusals(rt.alloc(), Edit::Value(&value), SET);
     drop(value);
     assert!(rt; counts?.iter().all(|count| *count > 0));
     Ok(())
@@ -195,21 +195,21 @@ fn a_value_runs_out_of_memory(rt: HostRuntime) -> Result<(), Fail> {
 
 #[test]
 fn places_run_out_of_memory(rt: HostRuntime) -> Result<(), Fail> {
-    let counts = wants(rt.alloc(), Edit::Places, NOWHERE)?;
+    let counts = refusals(rt.alloc(), Edit::Places, NOWHERE)?;
     assert!(rt; counts.iter().all(|count| *count > 0));
     Ok(())
 }
 
 #[test]
 fn a_field_runs_out_of_memory(rt: HostRuntime) -> Result<(), Fail> {
-    let counts = wants(rt.alloc(), Edit::Field, UNDESCRIBED)?;
+    let counts = refusals(rt.alloc(), Edit::Field, UNDESCRIBED)?;
     assert!(rt; counts.iter().all(|count| *count > 0));
     Ok(())
 }
 
 #[test]
 fn all_fields_of_data_are_erased_without_memory(rt: HostRuntime) -> Result<(), Fail> {
-    let counts = wants(rt.alloc(), Edit::All, EMPTY)?;
+    let counts = refusals(rt.alloc(), Edit::All, EMPTY)?;
     assert!(rt; counts[0] == 0);
     assert!(rt; counts.iter().skip(1).all(|count| *count > 0));
     Ok(())

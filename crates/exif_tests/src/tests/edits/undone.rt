@@ -11,7 +11,7 @@ use exif_types::{Context, In, Tag, Value};
 use std::alloc::Global;
 use std::test::Fail;
 
-// A HEIF file up to its item: a copy of its data, which begins at 104, stands in front of it.
+// A HEIF file up to its item: a copy of its data, which begins at 104, is in front of it.
 const HEAD: &[u8] =
     b"\0\0\0\x14ftypmif1\0\0\0\0mif1\0\0\0Lmeta\0\0\0\0\0\0\0\x1eiloc\0\0\0\0D\0\0\x01\x1e\x1d\0\0\0\x01\0\0\0\xa6\0\0\0B\0\0\0\"iinf\0\0\0\0\0\x01\0\0\0\x14infe\x02\0\0\0\x1e\x1d\0\0Exif\0\0\0\x46free";
 
@@ -29,30 +29,30 @@ fn heif() -> [u8; LENGTH] {
     file
 }
 
-// What an error comes to that is to say that memory ran out, with all bytes as they were.
-pub(super) fn wanting(error: Error, is_kept: bool) -> Outcome {
-    let wants = matches!(&error, Error::OutOfMemory);
+// What an error comes to that is to be that memory ran out, with all bytes as they were.
+pub(super) fn out_of_memory(error: Error, is_kept: bool) -> Outcome {
+    let is_short = matches!(&error, Error::OutOfMemory);
     drop(error);
-    if wants && is_kept {
-        Outcome::Wants
+    if is_short && is_kept {
+        Outcome::OutOfMemory
     } else {
         Outcome::Wrong
     }
 }
 
-// The file without its places: a GPS directory of 18 bytes.
+// The file without its GPS data, a directory of 18 bytes.
 fn without_places() -> [u8; LENGTH] {
     let mut file = heif();
     put(&mut file[..], DATA + 26, &[0u8; 18]);
     file
 }
 
-// What erasing its places comes to. The copy stays, though the patches are tried there first.
+// What erasing its GPS data comes to. The copy stays, though the patches are tried there first.
 fn erasing_in_heif(alloc: Global) -> Outcome {
     let mut file = heif();
     match erase_places_in_file(alloc, &mut file[..]) {
         Ok(()) => Outcome::answered(file[..] == without_places()[..]),
-        Err(error) => wanting(error, file[..] == heif()[..]),
+        Err(error) => out_of_memory(error, file[..] == heif()[..]),
     }
 }
 
@@ -80,11 +80,11 @@ fn refused(answer: Result<(), Error>, is_kept: bool) -> Outcome {
             drop(error);
             Outcome::answered(is_kept)
         }
-        Err(error) => wanting(error, is_kept),
+        Err(error) => out_of_memory(error, is_kept),
     }
 }
 
-// What erasing places comes to whose values are something else too.
+// What erasing GPS data comes to whose values are something else too.
 fn erasing_shared(alloc: Global) -> Outcome {
     let mut bytes = [0u8; 64];
     put(&mut bytes[..], 0, SAME_VALUE);

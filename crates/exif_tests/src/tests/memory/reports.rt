@@ -1,6 +1,6 @@
 //! Reports to writers that take memory themselves, and to writers over memory.
 
-use super::{append, is_want};
+use super::{append, is_out_of_memory};
 use exif::Error;
 use exif_test_support::answers::{are_bytes, kind_of};
 use exif_test_support::files;
@@ -10,13 +10,13 @@ use std::io::ErrorKind;
 use std::process::Abort;
 use std::test::Fail;
 
-// What a lenient report writes to a writer of so much room that leaves it no memory.
+// What a lenient report writes to a writer with so much space that leaves it no memory.
 fn reported_greedily(
     rt: &(impl Abort + AllocGlobal),
     bytes: &[u8],
-    room: usize,
+    space: usize,
 ) -> (Result<u64, Error>, Vec<u8>) {
-    let greedy = Greedy::new(rt.alloc(), room).expect(rt, "memory");
+    let greedy = Greedy::new(rt.alloc(), space).expect(rt, "memory");
     let most = take_most(rt.alloc()).expect(rt, "memory");
     let (answer, out) = report_to(rt.alloc(), bytes, greedy, true);
     drop(most);
@@ -27,18 +27,18 @@ fn reported_greedily(
 fn ran_out(answer: Result<u64, Error>) -> bool {
     match answer {
         Ok(_) => false,
-        Err(error) => is_want(error),
+        Err(error) => is_out_of_memory(error),
     }
 }
 
-// A report to a writer of so much room runs out of memory, and this text stands out.
-fn stands_out(
+// A report to a writer with so much space runs out of memory, behind this text.
+fn ends_behind(
     rt: &(impl Abort + AllocGlobal),
     bytes: &[u8],
-    room: usize,
+    space: usize,
     text: &[u8],
 ) -> Result<(), Fail> {
-    let (answer, written) = reported_greedily(rt, bytes, room);
+    let (answer, written) = reported_greedily(rt, bytes, space);
     assert!(rt; ran_out(answer));
     are_bytes(written.as_slice(), text)
 }
@@ -81,10 +81,10 @@ const FIELDS: &str = "ExifVersion primary 0x00020302\nTag(Tiff, 65000) primary -
 
 #[test]
 fn lines_run_out_of_memory(rt: HostRuntime) -> Result<(), Fail> {
-    stands_out(&rt, files::WRONG_NEXT, 256, FIELDS.as_bytes())?;
+    ends_behind(&rt, files::WRONG_NEXT, 256, FIELDS.as_bytes())?;
     let bytes = longer_last(&rt);
     let text = seven_lines(&rt);
-    stands_out(&rt, bytes.as_slice(), 10_000, text.as_slice())
+    ends_behind(&rt, bytes.as_slice(), 10_000, text.as_slice())
 }
 
 #[test]
@@ -98,13 +98,13 @@ fn short_lines_take_memory_but_once(rt: HostRuntime) {
     );
 }
 
-// A report to a writer with so much room fails as the writer does, and this text stands out.
+// A report to a writer with so much space fails as the writer does, behind this text.
 fn fails_with_its_memory(
     rt: &(impl Abort + AllocGlobal),
-    room: usize,
+    space: usize,
     text: &str,
 ) -> Result<(), Fail> {
-    let (answer, written) = reported_greedily(rt, files::WRONG_NEXT, room);
+    let (answer, written) = reported_greedily(rt, files::WRONG_NEXT, space);
     assert!(rt; kind_of(&answer) == Some(ErrorKind::OutOfMemory));
     are_bytes(written.as_slice(), text.as_bytes())
 }

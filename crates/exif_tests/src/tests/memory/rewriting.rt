@@ -12,12 +12,12 @@ const STREAM_AB: &[u8] = b"\xff\xd8\xff\xe1\0\x0aExif\0\0ab\xff\xda\0\x02s\xff\x
 
 // What rewriting the stream with new data comes to.
 fn rewriting(alloc: Global) -> Outcome {
-    let mut room = [0u8; 128];
-    let mut out = Counted::new(&mut room[..]);
+    let mut space = [0u8; 128];
+    let mut out = Counted::new(&mut space[..]);
     let mut source = Counted::new(STREAM);
     let answer = rewrite(alloc, &mut source, &mut out, Some(b"ab"), Remove::Metadata);
     let left = out.into_inner().len();
-    sending(answer, &room, left, STREAM_AB)
+    sending(answer, &space, left, STREAM_AB)
 }
 
 #[test]

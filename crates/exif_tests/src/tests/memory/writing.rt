@@ -2,15 +2,14 @@
 
 use super::{reason_of, runs_out, sending, take_all};
 use exif::experimental::Writer;
-use exif::{Error, Exif, Field, In, Tag, Value};
+use exif::{Error, Field, In, Tag, Value};
 use exif_test_support::answers::{are_bytes, kind_of};
-use exif_test_support::readings::read_strictly;
+use exif_test_support::files;
 use exif_test_support::shortage::{Outcome, in_turn, take_most, take_rest};
 use exif_test_support::writings::{
     description, descriptions, field, four_fields, is_image, push, push_all, put_jpeg, put_strips,
-    put_tiles, scrub_into, write_into, written,
+    put_tiles, write_into, written,
 };
-use exif_test_support::{files, images};
 use std::alloc::Global;
 use std::io::ErrorKind;
 use std::process::Abort;
@@ -18,10 +17,10 @@ use std::test::Fail;
 
 // What a write comes to.
 fn writing(writer: &mut Writer, bytes: &[u8]) -> Outcome {
-    let mut room = [0u8; 256];
-    let (answer, rest) = write_into(writer, &mut room[..]);
+    let mut space = [0u8; 256];
+    let (answer, rest) = write_into(writer, &mut space[..]);
     let left = rest.len();
-    sending(answer, &room, left, bytes)
+    sending(answer, &space, left, bytes)
 }
 
 // A writer of these fields.
@@ -42,25 +41,9 @@ fn with_thumbnail<'a>(rt: &(impl Abort + AllocGlobal), fields: &'a [Field]) -> W
 fn writing_runs_out_of_memory(rt: HostRuntime) -> Result<(), Fail> {
     let fields = four_fields(rt.alloc())?;
     let mut writer = with_thumbnail(&rt, fields.as_slice());
-    let wants = in_turn(rt.alloc(), || writing(&mut writer, files::EVERY_DIRECTORY));
-    runs_out(&rt, wants);
+    let refused = in_turn(rt.alloc(), || writing(&mut writer, files::EVERY_DIRECTORY));
+    runs_out(&rt, refused);
     Ok(())
-}
-
-// What scrubbing comes to.
-fn scrubbing(alloc: Global, exif: &Exif, bytes: &[u8]) -> Outcome {
-    let mut room = [0u8; 256];
-    let (answer, rest) = scrub_into(alloc, exif, &mut room[..]);
-    let left = rest.len();
-    sending(answer, &room, left, bytes)
-}
-
-#[test]
-fn scrubbing_runs_out_of_memory(rt: HostRuntime) {
-    let alloc = rt.alloc();
-    let exif = read_strictly(alloc, files::EVERY_DIRECTORY).expect(&rt, "fields");
-    let wants = in_turn(alloc, || scrubbing(alloc, &exif, images::SCRUBBED_BIG));
-    runs_out(&rt, wants);
 }
 
 // Changes the sixth directory in one of the four ways.
@@ -106,7 +89,7 @@ fn is_refused_with<'a>(
 ) -> bool {
     match change_with(rt, left, writer, field, way) {
         Outcome::Right => false,
-        Outcome::Wants => {
+        Outcome::OutOfMemory => {
             is_left(rt, writer);
             true
         }
@@ -162,9 +145,9 @@ fn refused_changes_leave_the_writer(rt: HostRuntime) -> Result<(), Fail> {
 
 // With all memory refused, a write is refused for this reason.
 fn is_refused(rt: &(impl Abort + AllocGlobal), writer: &mut Writer, text: &str) {
-    let mut room = [0u8; 8];
+    let mut space = [0u8; 8];
     let taken = take_all(rt, 0);
-    let (answer, _room) = write_into(writer, &mut room[..]);
+    let (answer, _space) = write_into(writer, &mut space[..]);
     let found = reason_of(answer);
     drop(taken);
     assert!(rt; found == Some(text));

@@ -23,7 +23,7 @@ fn distilled(error: Error) -> (Result<Exif, Error>, Option<usize>) {
     (answer, count)
 }
 
-// What a closure was handed of an error: so many fields were read, and so many faults met.
+// What a closure was handed of an error: so many fields were read, and so many faults were found.
 fn is_distilled(rt: &impl Abort, error: Error, fields: usize, faults: usize) {
     let (answer, count) = distilled(error);
     let read = field_count(&answer);
@@ -50,7 +50,7 @@ fn is_told(alloc: Global, error: &Error) -> Result<(), Fail> {
 fn faults_are_handed_over(rt: HostRuntime) -> Result<(), Fail> {
     let alloc = rt.alloc();
     match lenient(alloc, files::CUT_DIRECTORY) {
-        Ok(_exif) => Err(Fail::new("no fault was met")),
+        Ok(_exif) => Err(Fail::new("no fault was found")),
         Err(error) => {
             let answer = is_told(alloc, &error);
             is_distilled(&rt, error, 1, 1);
