@@ -156,7 +156,7 @@ fn sends_to_a_vector(rt: HostRuntime) -> Result<(), Fail> {
 fn sends_to_a_slow_writer(rt: HostRuntime) -> Result<(), Fail> {
     let mut slow = dripping(100, ErrorKind::Other);
     send_all(&mut slow, b"abcdefgh")?;
-    assert!(rt; slow.into_inner().room == *b"abcdefgh");
+    assert!(rt; slow.into_inner().bytes == *b"abcdefgh");
     Ok(())
 }
 
@@ -165,7 +165,7 @@ fn send_fails(rt: &impl Abort, kind: ErrorKind) {
     let mut failing = dripping(2, kind);
     assert!(rt; error_of(send_all(&mut failing, b"abcdefgh")) == Some(kind));
     let inner = failing.into_inner();
-    assert!(rt; inner.room == *b"ab\0\0\0\0\0\0");
+    assert!(rt; inner.bytes == *b"ab\0\0\0\0\0\0");
     assert!(rt; inner.failures == 1);
 }
 

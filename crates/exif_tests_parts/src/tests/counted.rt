@@ -1,4 +1,4 @@
-//! `Counted` hands each call on: once, with the whole of its bytes or of its room, and flushes.
+//! `Counted` hands each call on: once, with all of its bytes or of its space, and flushes.
 
 use exif_base::{Counted, Sink, Source};
 use std::alloc::Global;
@@ -6,42 +6,39 @@ use std::io;
 use std::io::{ErrorKind, Read, Write};
 use std::test::Fail;
 
-/// A reader of two bytes a call, which notes how much room each call had, and fails at the fifth.
+/// A reader of two bytes a call, which notes how much space each call had, and fails at the fifth.
 #[derive(Drop)]
 struct NotedReads {
-    rooms: Vec<usize>,
+    spaces: Vec<usize>,
 }
 
 impl Read for NotedReads {
     fn read(&mut self, buf: &mut [u8]) -> io::Result<usize> {
-        self.rooms.push(buf.len())?;
-        if self.rooms.len() == 5 {
+        self.spaces.push(buf.len())?;
+        if self.spaces.len() == 5 {
             return Err(io::Error::new(ErrorKind::Interrupted, "the fifth call"));
         }
-        let mut count = 0;
-        for (place, byte) in buf.iter_mut().zip(b"ab") {
-            *place = *byte;
-            count = 1usize.saturating_add(count);
-        }
+        let count = buf.len().min(2);
+        buf[..count].copy_from_slice(&b"ab"[..count]);
         Ok(count)
     }
 }
 
 fn reads(alloc: Global) -> Counted<NotedReads> {
     Counted::new(NotedReads {
-        rooms: Vec::new(alloc),
+        spaces: Vec::new(alloc),
     })
 }
 
 #[test]
 fn each_fetch_is_one_read(rt: HostRuntime) -> Result<(), Fail> {
     let mut source = reads(rt.alloc());
-    let mut room = [0u8; 7];
-    assert!(rt; source.fetch(&mut room)? == 2);
-    assert!(rt; room == *b"ab\0\0\0\0\0");
-    assert!(rt; source.fetch(&mut room[..1])? == 1);
-    assert!(rt; source.fetch(&mut room[..0])? == 0);
-    assert!(rt; source.into_inner().rooms.as_slice() == [7usize, 1, 0].as_slice());
+    let mut space = [0u8; 7];
+    assert!(rt; source.fetch(&mut space)? == 2);
+    assert!(rt; space == *b"ab\0\0\0\0\0");
+    assert!(rt; source.fetch(&mut space[..1])? == 1);
+    assert!(rt; source.fetch(&mut space[..0])? == 0);
+    assert!(rt; source.into_inner().spaces.as_slice() == [7usize, 1, 0].as_slice());
     Ok(())
 }
 
@@ -52,8 +49,8 @@ fn each_piece_of_a_skip_is_one_read(rt: HostRuntime) -> Result<(), Fail> {
     assert!(rt; source.skip(7)? == 7);
     let failed = source.skip(3).err().map(|e| e.kind());
     assert!(rt; failed == Some(ErrorKind::Interrupted));
-    let rooms = source.into_inner().rooms;
-    assert!(rt; rooms.as_slice() == [7usize, 5, 3, 1, 3].as_slice());
+    let spaces = source.into_inner().spaces;
+    assert!(rt; spaces.as_slice() == [7usize, 5, 3, 1, 3].as_slice());
     Ok(())
 }
 

@@ -54,7 +54,7 @@ pub fn byte_reader(bytes: &[u8]) -> OneByte<'_> {
 /// A writer of one byte a call, which fails from some call on and counts its failures.
 #[derive(Drop)]
 pub struct Drip {
-    pub room: [u8; 8],
+    pub bytes: [u8; 8],
     taken: usize,
     good_calls: usize,
     kind: ErrorKind,
@@ -64,10 +64,10 @@ pub struct Drip {
 impl Write for Drip {
     fn write(&mut self, buf: &[u8]) -> io::Result<usize> {
         self.flush()?;
-        if buf.is_empty() || self.taken >= self.room.len() {
+        if buf.is_empty() || self.taken >= self.bytes.len() {
             return Ok(0);
         }
-        self.room[self.taken] = buf[0];
+        self.bytes[self.taken] = buf[0];
         self.taken += 1;
         Ok(1)
     }
@@ -85,7 +85,7 @@ impl Write for Drip {
 /// A writer of one byte a call, with so many good calls.
 fn writer(good_calls: usize, kind: ErrorKind) -> Drip {
     Drip {
-        room: [0u8; 8],
+        bytes: [0u8; 8],
         taken: 0,
         good_calls,
         kind,

@@ -99,7 +99,7 @@ fn send_goes_on(rt: &impl Abort, good_calls: usize, kind: ErrorKind) {
     assert!(rt; error_of(send_all(&mut sink, LETTERS)) == Some(kind));
     let rest = LETTERS.get(good_calls..).unwrap_or(b"");
     assert!(rt; send_all(&mut sink, rest).is_ok());
-    assert!(rt; sink.into_inner().inner.room == *b"abcdefgh");
+    assert!(rt; sink.into_inner().inner.bytes == *b"abcdefgh");
 }
 
 #[test]
@@ -117,7 +117,7 @@ fn flush_goes_on(rt: &impl Abort, kind: ErrorKind) {
     assert!(rt; send_all(&mut sink, LETTERS).is_ok());
     assert!(rt; error_of(sink.flush()) == Some(kind));
     assert!(rt; sink.flush().is_ok());
-    assert!(rt; sink.into_inner().inner.room == *b"abcdefgh");
+    assert!(rt; sink.into_inner().inner.bytes == *b"abcdefgh");
 }
 
 #[test]
