@@ -13,6 +13,17 @@ gives "faults are skipped" 3 "$exif_show" -c files/faulty.jpg
 gives "a name that is no UTF-8 is refused" 1 sh -c '"$1" "$(printf "files/\377.jpg")"' sh "$exif_show"
 says "the refusal is a sentence" "The name is not UTF-8"
 
+# A chain of nine directories, of which eight are read.
+printf 'MM\0*\0\0\0\010' >chain.tif
+for next in 032 054 076 120 142 164 206 230 000; do
+    printf "\\0\\001\\001\\016\\0\\002\\0\\0\\0\\002p\\0\\0\\0\\0\\0\\0\\$next" >>chain.tif
+done
+gives "nine directories are refused" 1 "$exif_show" chain.tif
+says "the limit is named" "exif_show: Limit the IFD count to 8"
+gives "eight of nine directories are shown" 3 "$exif_show" -c chain.tif
+holds "the eighth is shown" 'ImageDescription IFD7 "p"'
+holds "the fault is shown" "fault: Limit the IFD count to 8"
+
 # Directories in front of gigabytes, with little memory: a prefix suffices, and 2^32 bytes are too many.
 printf 'MM\0*\0\0\0\010\0\001\001\016\0\002\0\0\0\007\0\0\0\032\0\0\0\0Sample\0' >large.tif
 truncate -s 3G large.tif

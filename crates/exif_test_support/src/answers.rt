@@ -39,33 +39,6 @@ pub fn text_of(alloc: Global, error: &Error) -> Result<String, Fail> {
     shown(alloc, error)
 }
 
-/// Whether an error is shown as this text.
-pub fn is_shown(alloc: Global, error: &Error, text: &str) -> bool {
-    match format!(in alloc; "{error}") {
-        Ok(shown) => shown.as_str() == text,
-        Err(_no_memory) => false,
-    }
-}
-
-/// Whether an answer is a device's error of a kind, or none where none is named.
-pub fn ends_with(answer: &Result<(), Error>, kind: Option<ErrorKind>) -> bool {
-    kind_of(answer) == kind && answer.is_ok() == kind.is_none()
-}
-
-/// Fails where an answer is not a device's error of a kind.
-pub fn fails_with<T: Drop>(
-    answer: &Result<T, Error>,
-    kind: ErrorKind,
-    good_calls: usize,
-) -> Result<(), Fail> {
-    let found = kind_of(answer);
-    if found == Some(kind) {
-        Ok(())
-    } else {
-        Err(Fail::new(format_args!("{found:?} in place of {kind:?} after {good_calls} calls")))
-    }
-}
-
 /// Fails where a text is not the wanted one.
 pub fn is_text(found: &str, wanted: &str) -> Result<(), Fail> {
     if found == wanted {

@@ -121,3 +121,55 @@ impl Write for Counting {
         Ok(())
     }
 }
+
+/// A device that fails at one call, the one behind so many good ones, and then goes on. The call that
+/// fails gives or takes nothing.
+#[derive(Drop)]
+pub struct Once<D> {
+    /// The device that goes on.
+    pub inner: D,
+    good_calls: usize,
+    has_failed: bool,
+    kind: ErrorKind,
+}
+
+impl<D> Once<D> {
+    /// A device over another one, which fails with an error of a kind.
+    pub fn new(inner: D, good_calls: usize, kind: ErrorKind) -> Once<D> {
+        Once {
+            inner,
+            good_calls,
+            has_failed: false,
+            kind,
+        }
+    }
+
+    // One call more, which is a good one or the one that fails.
+    fn call(&mut self) -> io::Result<()> {
+        if self.good_calls == 0 && !self.has_failed {
+            self.has_failed = true;
+            return Err(io::Error::new(self.kind, "the device failed once"));
+        }
+        self.good_calls = self.good_calls.saturating_sub(1);
+        Ok(())
+    }
+}
+
+impl<R: Read> Read for Once<R> {
+    fn read(&mut self, buf: &mut [u8]) -> io::Result<usize> {
+        self.call()?;
+        self.inner.read(buf)
+    }
+}
+
+impl<W: Write> Write for Once<W> {
+    fn write(&mut self, buf: &[u8]) -> io::Result<usize> {
+        self.call()?;
+        self.inner.write(buf)
+    }
+
+    fn flush(&mut self) -> io::Result<()> {
+        self.call()?;
+        self.inner.flush()
+    }
+}

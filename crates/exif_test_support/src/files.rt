@@ -11,16 +11,13 @@ pub const DESCRIBED_BIG: &[u8] =
 pub const DESCRIBED_LITTLE: &[u8] =
     b"II*\0\x08\0\0\0\x01\0\x0e\x01\x02\0\x07\0\0\0\x1a\0\0\0\0\0\0\0Sample\0";
 
-/// A directory whose next place is its own.
+/// A directory that is the next of itself.
 pub const CIRCLE: &[u8] = b"MM\0*\0\0\0\x08\0\x01\x01\0\0\x03\0\0\0\x01\0\x14\0\0\0\0\0\x08";
 
-/// An Exif directory that names a next one, an entry of signed numbers, and a next place past the
+/// An Exif directory that names a next one, an entry of signed numbers, and a next offset past the
 /// end.
 pub const WRONG_NEXT: &[u8] =
     b"MM\0*\0\0\0\x08\0\x02\x87i\0\x04\0\0\0\x01\0\0\0&\xfd\xe8\0\x09\0\0\0\x01\xfe\xdc\xba\x98\xff\xff\xff\xff\0\x01\x90\0\0\x07\0\0\0\x04\0\x02\x03\x02\0\0\0\x01";
-
-/// A value of a type that is not known.
-pub const UNKNOWN_TYPE: &[u8] = b"MM\0*\0\0\0\x08\0\x01\x01\0\xff\xff\0\0\0\x01\0\x14\0\0\0\0\0\0";
 
 /// A number, and a text that is longer than the number's line.
 pub const LONGER_LINE: &[u8] =
@@ -33,18 +30,6 @@ pub const SHARED_CHILD: &[u8] =
 /// Two entries, of which the last lacks two bytes.
 pub const CUT_DIRECTORY: &[u8] =
     b"MM\0*\0\0\0\x08\0\x02\x01\0\0\x03\0\0\0\x01\0\x14\0\0\x01\x01\0\x03\0\0\0\x01\0\x15\0";
-
-/// An Exif directory that names a next one, and nothing else wrong.
-pub const CHILD_WITH_NEXT: &[u8] =
-    b"MM\0*\0\0\0\x08\0\x01\x87i\0\x04\0\0\0\x01\0\0\0\x1a\0\0\0\0\0\x01\x90\0\0\x07\0\0\0\x040231\0\0\0\x08";
-
-/// A pointer of signed type, one without a number, and a width.
-pub const WRONG_POINTERS: &[u8] =
-    b"MM\0*\0\0\0\x08\0\x03\x87i\0\x09\0\0\0\x01\0\0\0\x1a\x88%\0\x04\0\0\0\0\0\0\0\x1a\x01\0\0\x03\0\0\0\x01\0\x14\0\0\0\0\0\0";
-
-/// The pointers' numbers in directories where they point to nothing.
-pub const POINTER_NUMBERS_ELSEWHERE: &[u8] =
-    b"MM\0*\0\0\0\x08\0\x02\x87i\0\x04\0\0\0\x01\0\0\0&\x88%\0\x04\0\0\0\x01\0\0\08\0\0\0\0\0\x01\x87i\0\x04\0\0\0\x01\0\0\0\x07\0\0\0\0\0\x02\xa0\x05\0\x04\0\0\0\x01\0\0\0\x07\x88%\0\x03\0\0\0\x01\0\x09\0\0\0\0\0\0";
 
 /// A value of each of the twelve types, of a thirteenth and of no text, big endian.
 pub const EVERY_TYPE_BIG: &[u8] =
@@ -63,19 +48,6 @@ pub const EVERY_DIRECTORY: &[u8] =
 pub const PLACE_BEFORE_DESCRIPTION: &[u8] =
     b"MM\0*\0\0\0\x08\0\x01\x88\x25\0\x04\0\0\0\x01\0\0\0\x1a\0\0\0\x2c\0\x01\0\0\0\x01\0\0\0\x04\x02\x03\0\0\0\0\0\0\0\x01\x01\x0e\0\x02\0\0\0\x02p\0\0\0\0\0\0\0";
 
-/// What a camera says of a picture, with a time by satellite.
-pub const CAMERA: &[u8] =
-    b"MM\0*\0\0\0\x08\0\x04\x01\x12\0\x03\0\0\0\x01\0\x06\0\0\x012\0\x02\0\0\0\x14\0\0\0\xc2\x87i\0\x04\0\0\0\x01\0\0\0>\x88%\0\x04\0\0\0\x01\0\0\0\xa4\0\0\0\0\0\x08\x82\x9a\0\x05\0\0\0\x01\0\0\0\xd6\x82\x9d\0\x05\0\0\0\x01\0\0\0\xde\x90\0\0\x07\0\0\0\x040230\x91\x01\0\x07\0\0\0\x04\x01\x02\x03\0\x92\x09\0\x03\0\0\0\x01\0\x19\0\0\x92\x14\0\x03\0\0\0\x04\0\0\0\xe6\xa3\0\0\x07\0\0\0\x01\x03\0\0\0\xa42\0\x05\0\0\0\x04\0\0\0\xee\0\0\0\0\0\x02\0\x07\0\x05\0\0\0\x03\0\0\x01\x0e\0\x1d\0\x02\0\0\0\x0b\0\0\x01&\0\0\0\02016:05:04 03:02:01\0\0\0\0\x01\0\0\0\x03\0\0\0\x1c\0\0\0\x0a\0\x01\0\x02\0\x03\0\x04\0\0\0\x18\0\0\0\x01\0\0\0F\0\0\0\x01\0\0\0\x1c\0\0\0\x0a\0\0\0\x1c\0\0\0\x0a\0\0\0\x09\0\0\0\x01\0\0\0\x05\0\0\0\x01\0\0\0=\0\0\0\x022016:05:04\0";
-
-/// Resolutions of an image and of its thumbnail, with two units for the first and none for the
-/// second.
-pub const RESOLUTIONS: &[u8] =
-    b"MM\0*\0\0\0\x08\0\x03\x01\x1a\0\x05\0\0\0\x01\0\0\0D\x01(\0\x03\0\0\0\x01\0\x02\0\0\x01(\0\x03\0\0\0\x01\0\x03\0\0\0\0\02\0\x01\x01\x1a\0\x05\0\0\0\x01\0\0\0L\0\0\0\0\0\0\0H\0\0\0\x01\0\0\0H\0\0\0\x01";
-
-/// Measures by satellite: no reference for the latitude, and a number as that of the longitude.
-pub const JOURNEY: &[u8] =
-    b"MM\0*\0\0\0\x08\0\x01\x88%\0\x04\0\0\0\x01\0\0\0\x1a\0\0\0\0\0\x0a\0\x02\0\x05\0\0\0\x03\0\0\0\x98\0\x03\0\x03\0\0\0\x01\0E\0\0\0\x04\0\x05\0\0\0\x03\0\0\0\xb0\0\x05\0\x01\0\0\0\x01\x01\0\0\0\0\x06\0\x05\0\0\0\x01\0\0\0\xc8\0\x0d\0\x05\0\0\0\x01\0\0\0\xd0\0\x0e\0\x02\0\0\0\x02M\0\0\0\0\x0f\0\x05\0\0\0\x01\0\0\0\xd8\0\x11\0\x05\0\0\0\x01\0\0\0\xe0\0\x1a\0\x05\0\0\0\x01\0\0\0\xe8\0\0\0\0\0\0\0\x0a\0\0\0\x01\0\0\0\0\0\0\0\x01\0\0\0\x01\0\0\0\x0a\0\0\0\x14\0\0\0\x01\0\0\0\x1e\0\0\0\x01\0\0\0\0\0\0\0\x01\0\0\0\x01\0\0\0\x02\0\0\0\x05\0\0\0\x01\0\0\0Z\0\0\0\x01\0\0\0-\0\0\0\x01\0\0\0\x03\0\0\0\x01";
-
 /// The image description in the first segment of a JPEG stream.
 pub const JPEG: &[u8] =
     b"\xff\xd8\xff\xe1\0)Exif\0\0MM\0*\0\0\0\x08\0\x01\x01\x0e\0\x02\0\0\0\x07\0\0\0\x1a\0\0\0\0Sample\0";
@@ -87,17 +59,3 @@ pub const WEBP: &[u8] =
 /// The image description in a HEIF file.
 pub const HEIF: &[u8] =
     b"\0\0\0\x14ftypmif1\0\0\0\0mif1\0\0\0Lmeta\0\0\0\0\0\0\0\x1eiloc\0\0\0\0D\0\0\x01\x1e\x1d\0\0\0\x01\0\0\0`\0\0\0%\0\0\0\"iinf\0\0\0\0\0\x01\0\0\0\x14infe\x02\0\0\0\x1e\x1d\0\0Exif\0\0\0\0MM\0*\0\0\0\x08\0\x01\x01\x0e\0\x02\0\0\0\x07\0\0\0\x1a\0\0\0\0Sample\0";
-
-/// A HEIF file whose Exif item holds four bytes.
-pub const HEIF_SHORT_DATA: &[u8] =
-    b"\0\0\0\x09XXXXx\0\0\0\x14ftypmif1\0\0\0\0mif1\0\0\0Wmeta\0\0\0\0\0\0\0\x18iloc\x01\0\0\0\0\0\0\x01\x1e\x1d\0\x01\0\0\0\x01\0\0\0\"iinf\0\0\0\0\0\x01\0\0\0\x14infe\x02\0\0\0\x1e\x1d\0\0Exif\0\0\0\x11idat\0\0\0\x01xabcd";
-
-/// A HEIF file whose Exif item lies behind its end.
-pub const HEIF_EMPTY_ITEM: &[u8] =
-    b"\0\0\0\x14ftypmif1\0\0\0\0mif1\0\0\0Hmeta\0\0\0\0\0\0\0\x1ailoc\0\0\0\0@\0\0\x01\x1e\x1d\0\0\0\x01\0\0\x10\0\0\0\0\"iinf\0\0\0\0\0\x01\0\0\0\x14infe\x02\0\0\0\x1e\x1d\0\0Exif";
-
-/// A HEIF file that ends within its second box, which is not looked into.
-pub const HEIF_BOX_CUT: &[u8] = b"\0\0\0\x14ftypmif1\0\0\0\0mif1\0\0\0\xffXXXX";
-
-/// The first box of a HEIF file.
-pub const HEIF_BRANDS: &[u8] = b"\0\0\0\x14ftypmif1\0\0\0\0mif1";

@@ -20,15 +20,7 @@ pub fn is_number(found: Option<&Field>, tag: Tag, ifd_num: In, number: u32) -> b
     }
 }
 
-/// Whether a field of the first directory has a list of whole numbers, and none in it.
-pub fn is_no_number(found: Option<&Field>, tag: Tag) -> bool {
-    match value_of(found, tag, In::PRIMARY) {
-        Some(value) => matches!(value, Value::Long(_)) && value.get_uint(0).is_none(),
-        None => false,
-    }
-}
-
-/// Whether a field is the version of Exif, whose bytes stand at a place of the image.
+/// Whether a field is the version of Exif, whose bytes are at an offset of the image.
 pub fn is_version(found: Option<&Field>, at: u32) -> bool {
     is_undefined(found, Tag::ExifVersion, b"0231", at)
 }
@@ -41,26 +33,10 @@ pub fn is_text(found: Option<&Field>, tag: Tag, text: &[u8]) -> bool {
     }
 }
 
-/// Whether a field of the first directory has these bytes.
-pub fn is_bytes(found: Option<&Field>, tag: Tag, bytes: &[u8]) -> bool {
-    match value_of(found, tag, In::PRIMARY) {
-        Some(Value::Byte(found)) => found.as_slice() == bytes,
-        _ => false,
-    }
-}
-
-/// Whether a field of the first directory has undefined bytes, these, which stand at a place.
+/// Whether a field of the first directory has undefined bytes, these, which are at an offset.
 pub fn is_undefined(found: Option<&Field>, tag: Tag, bytes: &[u8], at: u32) -> bool {
     match value_of(found, tag, In::PRIMARY) {
-        Some(Value::Undefined(found, place)) => found.as_slice() == bytes && *place == at,
-        _ => false,
-    }
-}
-
-/// Whether a field of the first directory has one signed number, which is this.
-pub fn is_signed_number(found: Option<&Field>, tag: Tag, number: i32) -> bool {
-    match value_of(found, tag, In::PRIMARY) {
-        Some(Value::SLong(numbers)) => numbers.as_slice() == [number].as_slice(),
+        Some(Value::Undefined(found, offset)) => found.as_slice() == bytes && *offset == at,
         _ => false,
     }
 }

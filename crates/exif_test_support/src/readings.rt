@@ -1,9 +1,8 @@
 //! What readers and reports make of bytes.
 
 use crate::answers::text_of;
-use crate::devices::{Drip, Slow};
 use exif::{Counted, Error, Exif, Reader};
-use exif_report::{report, report_limited};
+use exif_report::report;
 use std::alloc::Global;
 use std::io::{Read, Write};
 use std::test::Fail;
@@ -30,24 +29,6 @@ pub fn answer_of(alloc: Global, reader: &Reader, bytes: &[u8]) -> Result<Exif, E
     file_answer(alloc, reader, bytes)
 }
 
-/// What a reader answers of a file in memory, of which it reads what it needs.
-pub fn needed_answer(alloc: Global, reader: &Reader, bytes: &[u8]) -> Result<Exif, Error> {
-    reader.read_by_need(alloc, &mut Counted::new(bytes))
-}
-
-/// What a reader answers of a file that comes byte by byte.
-pub fn slow_answer(alloc: Global, reader: &Reader, file: Slow) -> Result<Exif, Error> {
-    file_answer(alloc, reader, file)
-}
-
-/// What a reader answers of data: the text of its error, or none.
-pub fn refusal(alloc: Global, reader: &Reader, bytes: &[u8]) -> Result<Option<String>, Fail> {
-    match raw_answer(alloc, reader, bytes) {
-        Ok(_exif) => Ok(None),
-        Err(error) => Ok(Some(text_of(alloc, &error)?)),
-    }
-}
-
 /// The fields that a reader reads, and the texts of the faults that it passes over.
 pub fn read(alloc: Global, reader: &Reader, bytes: &[u8]) -> Result<(Exif, Vec<String>), Fail> {
     match raw_answer(alloc, reader, bytes) {
@@ -70,27 +51,9 @@ fn texts_of(alloc: Global, errors: &[Error]) -> Result<Vec<String>, Fail> {
     Ok(texts)
 }
 
-/// What a lenient reader reads, and the texts of the faults that it passes over.
-pub fn read_leniently(alloc: Global, bytes: &[u8]) -> Result<(Exif, Vec<String>), Fail> {
-    read(alloc, &reader_of(true), bytes)
-}
-
 /// What a strict reader reads.
 pub fn read_strictly(alloc: Global, bytes: &[u8]) -> Result<Exif, Error> {
     raw_answer(alloc, &Reader::new(), bytes)
-}
-
-/// What a report answers, and what it wrote.
-pub fn reported(
-    alloc: Global,
-    bytes: &[u8],
-    lenient: bool,
-    limit: Option<u64>,
-) -> (Result<u64, Error>, Vec<u8>) {
-    match limit {
-        None => report_to(alloc, bytes, Vec::new(alloc), lenient),
-        Some(limit) => limited_report(alloc, bytes, lenient, limit),
-    }
 }
 
 /// What the report of a file answers, and the writer that it was written to.
@@ -105,50 +68,8 @@ pub fn report_to<R: Read + Drop, W: Write>(
     (answer, out.into_inner())
 }
 
-/// What the report of a file that comes byte by byte answers, and what it wrote.
-pub fn slow_report(alloc: Global, file: Slow, lenient: bool) -> (Result<u64, Error>, Vec<u8>) {
-    report_to(alloc, file, Vec::new(alloc), lenient)
-}
-
-/// What a strict report of a file answers, and the writer that took it byte by byte.
-pub fn dripping_report(alloc: Global, bytes: &[u8], out: Drip) -> (Result<u64, Error>, Drip) {
-    report_to(alloc, bytes, out, false)
-}
-
-/// What a report of a file answers, and what is left of the room that it was written to.
-pub fn report_into<'a>(
-    alloc: Global,
-    bytes: &[u8],
-    room: &'a mut [u8],
-    lenient: bool,
-) -> (Result<u64, Error>, &'a mut [u8]) {
-    report_to(alloc, bytes, room, lenient)
-}
-
-// What a report with a limit answers, and what it wrote.
-fn limited_report(
-    alloc: Global,
-    bytes: &[u8],
-    lenient: bool,
-    limit: u64,
-) -> (Result<u64, Error>, Vec<u8>) {
-    let mut out = Counted::new(Vec::new(alloc));
-    let answer = report_limited(alloc, &mut Counted::new(bytes), &mut out, lenient, limit);
-    (answer, out.into_inner())
-}
-
-/// Bytes, and zeros behind them, so many in all.
-pub fn padded(alloc: Global, bytes: &[u8], len: usize) -> Result<Vec<u8>, Fail> {
-    let mut padded = Vec::with_capacity(alloc, len)?;
-    padded.extend_from_slice(bytes)?;
-    for _ in bytes.len()..len {
-        padded.push(0)?;
-    }
-    Ok(padded)
-}
-
 /// Three directories of so many entries side by side: pointers to the second, pointers to the
-/// third, and numbers. The first names a next place.
+/// third, and numbers. The first names a next offset.
 pub fn shared_children(alloc: Global, count: u16, next: u32) -> Result<Vec<u8>, Fail> {
     let mut bytes = Vec::from_slice(alloc, b"MM\0\x2a\0\0\0\x08")?;
     let entries = u32::from(count);

@@ -12,7 +12,7 @@ use std::io::Write;
 /// Blocks of memory, to which no byte is written.
 pub type Blocks = Vec<Vec<u8>>;
 
-// How many steps of 16 bytes a call asks for at most.
+// How many steps of 16 bytes a call needs at most.
 const MOST_STEPS: u16 = 4000;
 
 const MOST_BLOCKS: usize = 200_000;
@@ -42,13 +42,13 @@ fn take(alloc: Global, blocks: &mut Blocks, size: usize) -> Result<(), AllocErro
 // Has the stack grow by a quarter of a megabyte, which it can't once all addresses are taken. It
 // writes to all of that, and answers what it reads there.
 fn grow_stack(bytes: &[u8]) -> u64 {
-    let mut room = [0u8; STACK];
-    for (place, byte) in room.iter_mut().zip(bytes.iter()) {
-        *place = *byte;
+    let mut block = [0u8; STACK];
+    for (cell, byte) in block.iter_mut().zip(bytes.iter()) {
+        *cell = *byte;
     }
     let mut sum = 0u64;
-    for place in &room {
-        sum = sum.wrapping_add(u64::from(*place));
+    for cell in &block {
+        sum = sum.wrapping_add(u64::from(*cell));
     }
     sum
 }
@@ -96,7 +96,7 @@ pub fn take_rest(alloc: Global, left: u16) -> Result<Blocks, AllocError> {
 #[derive(Drop)]
 pub enum Outcome {
     /// Memory ran out, and it gave nothing false.
-    Wants,
+    OutOfMemory,
     /// It answers as with all the memory.
     Right,
     /// It answers anything else.
@@ -115,10 +115,10 @@ impl Outcome {
 
     /// The outcome of an error, of which only out of memory may come. It is let go by one call.
     pub fn refused(error: Error) -> Outcome {
-        let wants = matches!(&error, Error::OutOfMemory);
+        let is_short = matches!(&error, Error::OutOfMemory);
         drop(error);
-        if wants {
-            Outcome::Wants
+        if is_short {
+            Outcome::OutOfMemory
         } else {
             Outcome::Wrong
         }
@@ -153,7 +153,7 @@ pub fn in_turn<F: FnMut() -> Outcome + Drop>(alloc: Global, mut call: F) -> Resu
         let outcome = call();
         drop(rest);
         match outcome {
-            Outcome::Wants => {}
+            Outcome::OutOfMemory => {}
             Outcome::Right => return Ok(step),
             Outcome::Wrong => return Err(Shortage::Wrong(step)),
         }
@@ -171,10 +171,10 @@ pub struct Greedy {
 }
 
 impl Greedy {
-    /// A writer with room for so many bytes. For one more there is no memory, and the call fails.
-    pub fn new(alloc: Global, room: usize) -> Result<Greedy, AllocError> {
+    /// A writer with space for so many bytes. For one more there is no memory, and the call fails.
+    pub fn new(alloc: Global, space: usize) -> Result<Greedy, AllocError> {
         Ok(Greedy {
-            written: Vec::with_capacity(alloc, room)?,
+            written: Vec::with_capacity(alloc, space)?,
             blocks: Vec::with_capacity(alloc, 1000)?,
             alloc,
         })

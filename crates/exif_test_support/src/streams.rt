@@ -36,9 +36,3 @@ pub fn attr<'a>(
 ) -> (Result<Vec<u8>, Error>, &'a [u8]) {
     attr_of(alloc, container, bytes)
 }
-
-/// The Exif data in a stream of a container that comes byte by byte.
-pub fn slow_attr(alloc: Global, container: Container, stream: Slow) -> Result<Vec<u8>, Error> {
-    let (given, _rest) = attr_of(alloc, container, stream);
-    given
-}

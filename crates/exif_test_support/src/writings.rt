@@ -1,9 +1,8 @@
 //! Fields, and what a writer makes of them.
 
-use crate::devices::{Counting, Drip};
+use crate::devices::Counting;
 use exif::experimental::Writer;
-use exif::{Counted, Error, Exif, Field, In, Items, Tag, Value};
-use exif_rewrite::scrub;
+use exif::{Counted, Error, Field, In, Items, Tag, Value};
 use std::alloc::Global;
 use std::io::Write;
 use std::test::Fail;
@@ -96,15 +95,6 @@ pub fn push_all<'a>(writer: &mut Writer<'a>, fields: &'a [Field]) -> Result<(), 
     Ok(())
 }
 
-/// A writer of all fields that were read.
-pub fn writer_of<'a>(alloc: Global, exif: &'a Exif) -> Result<Writer<'a>, Error> {
-    let mut writer = Writer::new(alloc);
-    for field in exif.fields() {
-        push(&mut writer, field)?;
-    }
-    Ok(writer)
-}
-
 // What a write answers, and the writer that the image was sent to.
 fn write_to<W: Write>(writer: &mut Writer, out: W, little_endian: bool) -> (Result<(), Error>, W) {
     let mut out = Counted::new(out);
@@ -112,33 +102,12 @@ fn write_to<W: Write>(writer: &mut Writer, out: W, little_endian: bool) -> (Resu
     (answer, out.into_inner())
 }
 
-// What scrubbing answers, and the writer that the image was sent to.
-fn scrub_to<W: Write>(
-    alloc: Global,
-    exif: &Exif,
-    out: W,
-    little_endian: bool,
-) -> (Result<(), Error>, W) {
-    let mut out = Counted::new(out);
-    let answer = scrub(alloc, exif, &mut out, little_endian);
-    (answer, out.into_inner())
-}
-
-/// What a write answers, and the writer that took the image byte by byte.
-pub fn dripping_write(
-    writer: &mut Writer,
-    out: Drip,
-    little_endian: bool,
-) -> (Result<(), Error>, Drip) {
-    write_to(writer, out, little_endian)
-}
-
-/// What a write answers, big endian, and what is left of the room that the image was sent to.
+/// What a write answers, big endian, and what is left of the space that the image was sent to.
 pub fn write_into<'a>(
     writer: &mut Writer,
-    room: &'a mut [u8],
+    space: &'a mut [u8],
 ) -> (Result<(), Error>, &'a mut [u8]) {
-    write_to(writer, room, false)
+    write_to(writer, space, false)
 }
 
 /// What a write answers, and what was sent.
@@ -155,44 +124,9 @@ pub fn counted_write(writer: &mut Writer) -> (Result<(), Error>, Counting) {
     write_to(writer, Counting::new(), false)
 }
 
-/// What scrubbing answers, and the writer that took the image byte by byte.
-pub fn dripping_scrub(
-    alloc: Global,
-    exif: &Exif,
-    out: Drip,
-    little_endian: bool,
-) -> (Result<(), Error>, Drip) {
-    scrub_to(alloc, exif, out, little_endian)
-}
-
-/// What scrubbing answers, big endian, and what is left of the room that the image was sent to.
-pub fn scrub_into<'a>(
-    alloc: Global,
-    exif: &Exif,
-    room: &'a mut [u8],
-) -> (Result<(), Error>, &'a mut [u8]) {
-    scrub_to(alloc, exif, room, false)
-}
-
-/// What scrubbing answers, and how much was sent.
-pub fn counted_scrub(
-    alloc: Global,
-    exif: &Exif,
-    little_endian: bool,
-) -> (Result<(), Error>, Counting) {
-    scrub_to(alloc, exif, Counting::new(), little_endian)
-}
-
 /// What a writer sends.
 pub fn image(alloc: Global, writer: &mut Writer, little_endian: bool) -> Result<Vec<u8>, Error> {
     let (answer, sent) = written(alloc, writer, little_endian);
-    answer?;
-    Ok(sent)
-}
-
-/// What scrubbing sends.
-pub fn scrubbed(alloc: Global, exif: &Exif, little_endian: bool) -> Result<Vec<u8>, Error> {
-    let (answer, sent) = scrub_to(alloc, exif, Vec::new(alloc), little_endian);
     answer?;
     Ok(sent)
 }

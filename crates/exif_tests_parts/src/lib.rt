@@ -1,5 +1,5 @@
-//! The tests of single parts: devices, numbers and lists, and the containers, each by its public
-//! calls.
+//! The tests of what stands below the reader: devices, numbers, lists, the tag table, values and their
+//! texts, dates, and the containers, each by its public calls.
 #![tactic(auto)]
 
 #[cfg(test)]

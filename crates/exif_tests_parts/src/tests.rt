@@ -1,8 +1,23 @@
-//! The parts of `exif_base` and of `exif_containers`.
+//! A file or a folder for each topic. `devices` are the readers and writers that the others use.
+
+use std::fmt::Display;
+use std::process::Abort;
 
 mod base;
 mod containers;
+mod counted;
 mod devices;
+mod faults;
+mod fractions;
 mod items;
 mod lists;
+mod printing;
 mod skips;
+mod table;
+mod types;
+
+/// This is shown as a text.
+pub fn assert_shown<T: Display + Drop>(rt: &(impl Abort + AllocGlobal), shown: T, text: &str) {
+    let shown = format!(in rt.alloc(); "{shown}").expect(rt, "memory");
+    assert!(rt; shown.as_str() == text, "{text}");
+}

@@ -2,11 +2,10 @@
 
 use super::devices::{dripping, one_byte};
 use exif_base::{
-    BigEndian, Blocks, Counted, Endian, Feed, Items, LittleEndian, Order, ReadFault, Seekable,
-    Sink, Source, discard_exact, read_exact, read_exact_len, read_front, read_to_end, read8,
-    read16, read64, send_all,
+    Blocks, Counted, Feed, ReadFault, Seekable, Sink, Source, discard_exact, read_exact,
+    read_exact_len, read_front, read_to_end, read8, read16, read64, send_all,
 };
-use std::alloc::{AllocError, Global};
+use std::alloc::AllocError;
 use std::io;
 use std::io::{Cursor, ErrorKind};
 use std::process::Abort;
@@ -157,7 +156,7 @@ fn sends_to_a_vector(rt: HostRuntime) -> Result<(), Fail> {
 fn sends_to_a_slow_writer(rt: HostRuntime) -> Result<(), Fail> {
     let mut slow = dripping(100, ErrorKind::Other);
     send_all(&mut slow, b"abcdefgh")?;
-    assert!(rt; slow.into_inner().room == *b"abcdefgh");
+    assert!(rt; slow.into_inner().bytes == *b"abcdefgh");
     Ok(())
 }
 
@@ -166,7 +165,7 @@ fn send_fails(rt: &impl Abort, kind: ErrorKind) {
     let mut failing = dripping(2, kind);
     assert!(rt; error_of(send_all(&mut failing, b"abcdefgh")) == Some(kind));
     let inner = failing.into_inner();
-    assert!(rt; inner.room == *b"ab\0\0\0\0\0\0");
+    assert!(rt; inner.bytes == *b"ab\0\0\0\0\0\0");
     assert!(rt; inner.failures == 1);
 }
 
@@ -263,57 +262,6 @@ fn bytes_at_hand_are_looked_at(rt: HostRuntime) {
     assert!(rt; blocks.fill().is_ok());
     assert!(rt; blocks.at_hand().is_empty());
     assert!(rt; error_of(blocks.fill()) == Some(ErrorKind::Other));
-}
-
-/// The numbers of 16, 32 and 64 bits behind the first byte.
-fn numbers_behind<E: Endian>(buf: &[u8; 9]) -> (u16, u32, u64) {
-    (E::loadu16(buf, 1), E::loadu32(buf, 1), E::loadu64(buf, 1))
-}
-
-#[test]
-fn loads_in_both_orders(rt: HostRuntime) {
-    let buf = b"\xff\x80\x01\x02\x03\x04\x05\x06\x07";
-    assert!(rt; numbers_behind::<BigEndian>(buf) == (0x8001, 0x8001_0203, 0x8001_0203_0405_0607));
-    assert!(rt;
-        numbers_behind::<LittleEndian>(buf) == (0x0180, 0x0302_0180, 0x0706_0504_0302_0180)
-    );
-    assert!(rt; Order::Big != Order::Little);
-}
-
-/// A list of two numbers.
-fn three_and_five(alloc: Global) -> Result<Items<u16>, AllocError> {
-    Items::from_slice(alloc, &[3u16, 5])
-}
-
-#[test]
-fn lists(rt: HostRuntime) -> Result<(), AllocError> {
-    let items = three_and_five(rt.alloc())?;
-    assert!(rt; items.len() == 2 && !items.is_empty());
-    assert!(rt; items.as_slice() == [3u16, 5].as_slice());
-    Ok(())
-}
-
-#[test]
-fn debug_texts_of_lists(rt: HostRuntime) -> Result<(), AllocError> {
-    let items = three_and_five(rt.alloc())?;
-    let text = format!(in rt.alloc(); "{items:?}")?;
-    assert!(rt; text.as_str() == "[3, 5]");
-    Ok(())
-}
-
-#[test]
-fn copies_of_lists(rt: HostRuntime) -> Result<(), AllocError> {
-    let items = three_and_five(rt.alloc())?;
-    assert!(rt; items.clone(rt.alloc())? == items);
-    Ok(())
-}
-
-#[test]
-fn lists_and_vectors(rt: HostRuntime) -> Result<(), AllocError> {
-    let again: Items<u16> = three_and_five(rt.alloc())?.into_vec().into();
-    let again = Items::from_vec(again.into_vec());
-    assert!(rt; again == three_and_five(rt.alloc())?);
-    Ok(())
 }
 
 #[test]

@@ -31,20 +31,30 @@ impl Read for OneByte<'_> {
     }
 }
 
-/// A counted reader of one byte a call, with so many good calls.
-pub fn one_byte(bytes: &[u8], good_calls: usize, kind: ErrorKind) -> Counted<OneByte<'_>> {
-    Counted::new(OneByte {
+/// A reader of one byte a call, with so many good calls.
+fn reader(bytes: &[u8], good_calls: usize, kind: ErrorKind) -> OneByte<'_> {
+    OneByte {
         bytes,
         good_calls,
         kind,
         failures: 0,
-    })
+    }
+}
+
+/// A counted reader of one byte a call, with so many good calls.
+pub fn one_byte(bytes: &[u8], good_calls: usize, kind: ErrorKind) -> Counted<OneByte<'_>> {
+    Counted::new(reader(bytes, good_calls, kind))
+}
+
+/// A reader of one byte a call, all of which are good.
+pub fn byte_reader(bytes: &[u8]) -> OneByte<'_> {
+    reader(bytes, usize::MAX, ErrorKind::Other)
 }
 
 /// A writer of one byte a call, which fails from some call on and counts its failures.
 #[derive(Drop)]
 pub struct Drip {
-    pub room: [u8; 8],
+    pub bytes: [u8; 8],
     taken: usize,
     good_calls: usize,
     kind: ErrorKind,
@@ -54,10 +64,10 @@ pub struct Drip {
 impl Write for Drip {
     fn write(&mut self, buf: &[u8]) -> io::Result<usize> {
         self.flush()?;
-        if buf.is_empty() || self.taken >= self.room.len() {
+        if buf.is_empty() || self.taken >= self.bytes.len() {
             return Ok(0);
         }
-        self.room[self.taken] = buf[0];
+        self.bytes[self.taken] = buf[0];
         self.taken += 1;
         Ok(1)
     }
@@ -72,15 +82,25 @@ impl Write for Drip {
     }
 }
 
-/// A counted writer of one byte a call, with so many good calls.
-pub fn dripping(good_calls: usize, kind: ErrorKind) -> Counted<Drip> {
-    Counted::new(Drip {
-        room: [0u8; 8],
+/// A writer of one byte a call, with so many good calls.
+fn writer(good_calls: usize, kind: ErrorKind) -> Drip {
+    Drip {
+        bytes: [0u8; 8],
         taken: 0,
         good_calls,
         kind,
         failures: 0,
-    })
+    }
+}
+
+/// A counted writer of one byte a call, with so many good calls.
+pub fn dripping(good_calls: usize, kind: ErrorKind) -> Counted<Drip> {
+    Counted::new(writer(good_calls, kind))
+}
+
+/// A writer of one byte a call, all of which are good.
+pub fn byte_writer() -> Drip {
+    writer(usize::MAX, ErrorKind::Other)
 }
 
 /// A reader that seeks, fails from some call on and counts its failures.
@@ -146,4 +166,55 @@ pub fn without_an_end(bytes: &[u8]) -> Seekable<Stream<'_>> {
         kind: ErrorKind::InvalidInput,
         failures: 0,
     })
+}
+
+/// A device that fails at one call, the one behind so many good ones, and then goes on. The call that
+/// fails gives or takes nothing.
+#[derive(Drop)]
+pub struct Once<D> {
+    pub inner: D,
+    good_calls: usize,
+    has_failed: bool,
+    kind: ErrorKind,
+}
+
+impl<D> Once<D> {
+    /// A device over another one, counted.
+    pub fn counted(inner: D, good_calls: usize, kind: ErrorKind) -> Counted<Once<D>> {
+        Counted::new(Once {
+            inner,
+            good_calls,
+            has_failed: false,
+            kind,
+        })
+    }
+
+    // One call more, which is a good one or the one that fails.
+    fn call(&mut self) -> io::Result<()> {
+        if self.good_calls == 0 && !self.has_failed {
+            self.has_failed = true;
+            return Err(io::Error::new(self.kind, "the device failed once"));
+        }
+        self.good_calls = self.good_calls.saturating_sub(1);
+        Ok(())
+    }
+}
+
+impl<R: Read> Read for Once<R> {
+    fn read(&mut self, buf: &mut [u8]) -> io::Result<usize> {
+        self.call()?;
+        self.inner.read(buf)
+    }
+}
+
+impl<W: Write> Write for Once<W> {
+    fn write(&mut self, buf: &[u8]) -> io::Result<usize> {
+        self.call()?;
+        self.inner.write(buf)
+    }
+
+    fn flush(&mut self) -> io::Result<()> {
+        self.call()?;
+        self.inner.flush()
+    }
 }

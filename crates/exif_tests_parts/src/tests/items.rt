@@ -60,3 +60,10 @@ fn texts_are_given_as_slices(rt: HostRuntime) {
     drop(value);
     assert!(rt; is_given);
 }
+
+#[test]
+fn debug_texts_of_lists(rt: HostRuntime) {
+    let items = Items::from_slice(rt.alloc(), &[3u16, 5]).expect(&rt, "memory");
+    let text = format!(in rt.alloc(); "{items:?}").expect(&rt, "memory");
+    assert!(rt; text.as_str() == "[3, 5]");
+}

@@ -1,0 +1,107 @@
+//! The offsets of patches: in data, and in files, where they count from the first byte.
+
+use super::{DESCRIPTION, is_so, text};
+use exif_edit::{Error, Patch, erase_field_patches, set_value_patches};
+use exif_edit_files::set_value_patches_in_file;
+use exif_test_support::files::{DESCRIBED_BIG, JPEG, PLACE_BEFORE_DESCRIPTION};
+use exif_types::{Context, In, Tag};
+use std::alloc::{AllocError, Global};
+use std::process::Abort;
+use std::test::Fail;
+
+// A width, a program's name at 50, four bytes of any meaning, and a second directory at 57.
+const THREE: &[u8] =
+    b"MM\0*\0\0\0\x08\0\x03\x01\0\0\x03\0\0\0\x01\0\x14\0\0\x01\x31\0\x02\0\0\0\x07\0\0\0\x32\xc4\xa5\0\x07\0\0\0\x04abcd\0\0\0\x39Sample\0\0\0\0\0\0\0";
+
+// A JPEG stream with a comment of the same bytes as its data, which begin at 78.
+static PARTS: [&[u8]; 5] = [
+    b"\xff\xd8\xff\xfe\0\x40",
+    PLACE_BEFORE_DESCRIPTION,
+    b"\xff\xe1\0\x46Exif\0\0",
+    PLACE_BEFORE_DESCRIPTION,
+    b"\xff\xd9",
+];
+
+fn joined(alloc: Global) -> Result<Vec<u8>, AllocError> {
+    let mut file = Vec::new(alloc);
+    for part in PARTS {
+        file.extend_from_slice(part)?;
+    }
+    Ok(file)
+}
+
+// Whether the offsets and the bytes of patches are these, each in a row.
+fn are_these(
+    alloc: Global,
+    patches: &[Patch],
+    at: &[u64],
+    wanted: &[u8],
+) -> Result<bool, AllocError> {
+    let mut offsets = Vec::new(alloc);
+    let mut bytes = Vec::new(alloc);
+    for patch in patches {
+        offsets.push(patch.place)?;
+        bytes.extend_from_slice(patch.text.as_slice())?;
+    }
+    Ok(offsets.as_slice() == at && bytes.as_slice() == wanted)
+}
+
+// Whether the patches that set a description in data are these.
+fn sets_by(alloc: Global, new: &[u8], at: &[u64], wanted: &[u8]) -> Result<bool, Error> {
+    let value = text(alloc, new)?;
+    let patches = set_value_patches(alloc, DESCRIBED_BIG, DESCRIPTION, In(0), &value);
+    drop(value);
+    Ok(are_these(alloc, patches?.as_slice(), at, wanted)?)
+}
+
+#[test]
+fn a_value_and_the_end_of_its_entry(rt: HostRuntime) {
+    let wanted: &[u8] = b"Blue\0\0\0\0\x02\0\0\0\x05\0\0\0\x1a";
+    assert!(rt; is_so(sets_by(rt.alloc(), b"Blue", &[26, 12], wanted)));
+}
+
+// The same of a description in a file.
+fn sets_in_file_by(
+    alloc: Global,
+    file: &[u8],
+    ifd_num: In,
+    new: &[u8],
+    at: &[u64],
+    wanted: &[u8],
+) -> Result<bool, Error> {
+    let value = text(alloc, new)?;
+    let patches = set_value_patches_in_file(alloc, file, DESCRIPTION, ifd_num, &value);
+    drop(value);
+    Ok(are_these(alloc, patches?.as_slice(), at, wanted)?)
+}
+
+#[test]
+fn the_same_in_a_file(rt: HostRuntime) {
+    // The data begin at 12.
+    let wanted: &[u8] = b"Blue\0\0\0\0\x02\0\0\0\x05\0\0\0\x1a";
+    assert!(rt; is_so(sets_in_file_by(rt.alloc(), JPEG, In(0), b"Blue", &[38, 24], wanted)));
+}
+
+#[test]
+fn an_entry_behind_a_copy_of_it(rt: HostRuntime) -> Result<(), Fail> {
+    // The entry is at 46 of the data. Its value is in it, and stays what it is.
+    let file = joined(rt.alloc())?;
+    let wanted: &[u8] = b"\0\x02\0\0\0\x02p\0\0\0";
+    let bytes = file.as_slice();
+    assert!(rt; is_so(sets_in_file_by(rt.alloc(), bytes, In(1), b"p", &[126], wanted)));
+    Ok(())
+}
+
+// The offset and the length of each patch that erases the program's name.
+fn erases_by(alloc: Global, first: (u64, usize), second: (u64, usize)) -> Result<bool, Error> {
+    let patches = erase_field_patches(alloc, THREE, Tag(Context::Tiff, 0x131), In(0))?;
+    match patches.as_slice() {
+        [a, b] => Ok((a.place, a.text.len()) == first && (b.place, b.text.len()) == second),
+        _ => Ok(false),
+    }
+}
+
+#[test]
+fn a_directory_and_a_value(rt: HostRuntime) {
+    assert!(rt; is_so(erases_by(rt.alloc(), (8, 42), (50, 7))));
+}

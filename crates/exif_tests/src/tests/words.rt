@@ -1,0 +1,20 @@
+//! Words that programs are given: what sets a value, and by how much dates are shifted.
+
+use exif_change::{Assignment, ClockShift};
+
+#[test]
+fn words_that_set_nothing_known(rt: HostRuntime) {
+    assert!(rt; Assignment::parse("Orientatoin=1").is_none());
+    assert!(rt; Assignment::parse("Orientation").is_none());
+}
+
+#[test]
+fn shifts_are_clocks(rt: HostRuntime) {
+    for text in [
+        "", "+", "1", "1d", "1:60", "1:00:60", "d1:00", "1d1d1:00", "+-1:00", "1:0x",
+    ] {
+        assert!(rt; ClockShift::parse(text).is_none());
+    }
+    assert!(rt; ClockShift::parse("+1d01:00") == ClockShift::parse("25:00:00"));
+    assert!(rt; ClockShift::parse("-0:00:01") != ClockShift::parse("0:00:01"));
+}

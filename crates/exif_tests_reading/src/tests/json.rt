@@ -1,6 +1,0 @@
-//! What is told of small files in JSON.
-
-mod objects;
-mod odd;
-mod picture;
-mod types;
