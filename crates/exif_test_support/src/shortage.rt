@@ -12,17 +12,17 @@ use std::io::Write;
 /// Blocks of memory, to which no byte is written.
 pub type Blocks = Vec<Vec<u8>>;
 
-// How many steps of 16 bytes a call needs at most.
-const MOST_STEPS: u16 = 4000;
+/// How many steps of 16 bytes a call needs at most.
+pub const MAX_STEPS: u16 = 4000;
 
-const MOST_BLOCKS: usize = 200_000;
+const MAX_BLOCKS: usize = 200_000;
 
 // What stays free where most memory is taken: so many pieces, side by side, of this size.
 const PIECES: usize = 40;
 
 const PIECE: usize = 100_000;
 
-// How many bytes of the stack are used before memory is taken.
+// How many bytes of the stack each of two nested calls uses before memory is taken.
 const STACK: usize = 1 << 18;
 
 // A size that the allocator sets aside in no list of its own when it is freed.
@@ -30,7 +30,7 @@ const SPLIT: usize = 2048;
 
 // Takes blocks of one size until one is refused.
 fn take(alloc: Global, blocks: &mut Blocks, size: usize) -> Result<(), AllocError> {
-    for _ in 0..MOST_BLOCKS {
+    for _ in 0..MAX_BLOCKS {
         match Vec::with_capacity(alloc, size) {
             Ok(block) => blocks.push(block)?,
             Err(_refused) => break,
@@ -39,16 +39,29 @@ fn take(alloc: Global, blocks: &mut Blocks, size: usize) -> Result<(), AllocErro
     Ok(())
 }
 
-// Has the stack grow by a quarter of a megabyte, which it can't once all addresses are taken. It
-// writes to all of that, and answers what it reads there.
+// Lets the stack grow by half a megabyte, which it can't once all addresses are taken: two nested
+// calls write a quarter each, and answer what they read there.
 fn grow_stack(bytes: &[u8]) -> u64 {
-    let mut block = [0u8; STACK];
-    for (cell, byte) in block.iter_mut().zip(bytes.iter()) {
-        *cell = *byte;
+    let mut space = [0u8; STACK];
+    for (byte, new) in space.iter_mut().zip(bytes.iter()) {
+        *byte = *new;
     }
+    let inner = grow_stack_more(bytes);
+    sum_of(&space).wrapping_add(inner)
+}
+
+fn grow_stack_more(bytes: &[u8]) -> u64 {
+    let mut space = [0u8; STACK];
+    for (byte, new) in space.iter_mut().zip(bytes.iter()) {
+        *byte = *new;
+    }
+    sum_of(&space)
+}
+
+fn sum_of(bytes: &[u8]) -> u64 {
     let mut sum = 0u64;
-    for cell in &block {
-        sum = sum.wrapping_add(u64::from(*cell));
+    for byte in bytes {
+        sum = sum.wrapping_add(u64::from(*byte));
     }
     sum
 }
@@ -59,7 +72,7 @@ pub fn take_most(alloc: Global) -> Result<Blocks, AllocError> {
     if grow_stack(bytes.as_slice()) == 0 {
         return Err(AllocError);
     }
-    let mut blocks = Vec::with_capacity(alloc, MOST_BLOCKS)?;
+    let mut blocks = Vec::with_capacity(alloc, MAX_BLOCKS)?;
     let mut pieces: Blocks = Vec::with_capacity(alloc, PIECES)?;
     for _ in 0..PIECES {
         pieces.push(Vec::with_capacity(alloc, PIECE)?)?;
@@ -148,7 +161,7 @@ pub fn in_turn<F: FnMut() -> Outcome + Drop>(alloc: Global, mut call: F) -> Resu
     requires { F.IsAlwaysCallable call }
 {
     let _most = take_most(alloc)?;
-    for step in 0..MOST_STEPS {
+    for step in 0..MAX_STEPS {
         let rest = take_rest(alloc, 16 * step)?;
         let outcome = call();
         drop(rest);

@@ -1,0 +1,122 @@
+//! Whole files that programs change.
+
+use crate::calls::{end_of, end_of_error, send};
+use exif::{Sink, Source};
+use exif_cases::{Call, Case, CaseError};
+use exif_change::{Assignment, Changed, ClockShift, Dates, Refusal, Removed, read, thumbnail};
+use exif_containers::util::read_all;
+use std::alloc::{AllocError, Global};
+use std::fmt::Display;
+
+/// Reads a file, changes it, and sends what it is then. A refusal sends nothing but the old file.
+pub fn change<R: Source, W: Sink>(
+    alloc: Global,
+    case: &Case,
+    source: &mut R,
+    out: &mut W,
+) -> Result<String, CaseError> {
+    match read_all(alloc, source) {
+        Ok(file) => changed(alloc, case, file, out),
+        Err(error) => end_of_error(alloc, error),
+    }
+}
+
+fn changed<W: Sink>(
+    alloc: Global,
+    case: &Case,
+    file: Vec<u8>,
+    out: &mut W,
+) -> Result<String, CaseError> {
+    let old = file.clone()?;
+    let answer = match case.call {
+        Call::ScrubFile => exif_change::scrub(alloc, old, removed(case)),
+        Call::Assign => assigned(alloc, case, old)?,
+        Call::Shift => shifted(alloc, case, old)?,
+        _ => thumbnail_of(alloc, old)?,
+    };
+    sent(alloc, file, answer, out)
+}
+
+// Sends the new file, or the old one and the text of the refusal.
+fn sent<E: Display + Drop, W: Sink>(
+    alloc: Global,
+    old: Vec<u8>,
+    answer: Result<Vec<u8>, E>,
+    out: &mut W,
+) -> Result<String, CaseError> {
+    match answer {
+        Ok(new) => end_of(alloc, send(out, new.as_slice())),
+        Err(refusal) => {
+            let end = end_of_error(alloc, refusal)?;
+            let failure = end_of(alloc, send(out, old.as_slice()))?;
+            if failure.is_empty() {
+                Ok(end)
+            } else {
+                Ok(failure)
+            }
+        }
+    }
+}
+
+fn removed(case: &Case) -> Removed {
+    if case.keeps_orientation {
+        Removed::AllButOrientation
+    } else if case.removes_all {
+        Removed::Metadata
+    } else {
+        Removed::Places
+    }
+}
+
+type Answer = Result<Vec<u8>, Refusal>;
+
+fn assigned(alloc: Global, case: &Case, old: Vec<u8>) -> Result<Answer, CaseError> {
+    let mut assignments = Vec::new(alloc);
+    for word in case.words.as_slice() {
+        let Some(assignment) = Assignment::parse(word.as_str()) else {
+            return Err(CaseError::Line("no assignment"));
+        };
+        assignments.push(assignment)?;
+    }
+    file_of(exif_change::set(alloc, old, assignments.as_slice()))
+}
+
+// The file of an answer. No case moves a maker note.
+fn file_of(answer: Result<Changed, Refusal>) -> Result<Answer, CaseError> {
+    match answer {
+        Ok(changed) => {
+            if changed.moved_notes {
+                return Err(CaseError::Line("a maker note has moved"));
+            }
+            Ok(Ok(changed.file))
+        }
+        Err(refusal) => Ok(Err(refusal)),
+    }
+}
+
+fn shifted(alloc: Global, case: &Case, old: Vec<u8>) -> Result<Answer, CaseError> {
+    let Some(by) = ClockShift::parse(case.word()) else {
+        return Err(CaseError::Line("no shift"));
+    };
+    let dates = if case.exif_dates {
+        Dates::Exif
+    } else {
+        Dates::All
+    };
+    Ok(exif_change::shift(alloc, old, by, dates))
+}
+
+// The thumbnail of a file; nothing where there is none.
+fn thumbnail_of(alloc: Global, file: Vec<u8>) -> Result<Answer, CaseError> {
+    match read(alloc, file.as_slice()) {
+        Ok(exif) => Ok(Ok(copy_of(alloc, thumbnail(&exif))?)),
+        Err(error) => Ok(Err(Refusal::from(error))),
+    }
+}
+
+fn copy_of(alloc: Global, bytes: Option<&[u8]>) -> Result<Vec<u8>, AllocError> {
+    match bytes {
+        Some(bytes) => Vec::from_slice(alloc, bytes),
+        None => Vec::from_slice(alloc, b"none"),
+    }
+}
