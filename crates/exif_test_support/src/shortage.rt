@@ -41,6 +41,9 @@ fn take(alloc: Global, blocks: &mut Blocks, size: usize) -> Result<(), AllocErro
 
 // Lets the stack grow by half a megabyte, which it can't once all addresses are taken: two nested
 // calls write a quarter each, and answer what they read there.
+//
+// Neither call is inlined: its caller would keep the space in its own frame.
+#[inline(never)]
 fn grow_stack(bytes: &[u8]) -> u64 {
     let mut space = [0u8; STACK];
     for (byte, new) in space.iter_mut().zip(bytes.iter()) {
@@ -50,6 +53,7 @@ fn grow_stack(bytes: &[u8]) -> u64 {
     sum_of(&space).wrapping_add(inner)
 }
 
+#[inline(never)]
 fn grow_stack_more(bytes: &[u8]) -> u64 {
     let mut space = [0u8; STACK];
     for (byte, new) in space.iter_mut().zip(bytes.iter()) {

@@ -7,9 +7,6 @@ use exif_cases::{Case, CaseError};
 use exif_test_support::shortage::{MAX_STEPS, take_most, take_rest};
 use std::alloc::Global;
 
-// The space for the output.
-const SPACE: usize = 2000;
-
 // What comes of a case with little memory.
 #[derive(Clone, Copy)]
 enum Found {
@@ -45,7 +42,7 @@ fn steps(alloc: Global, case: &Case) -> Result<(u16, bool), CaseError> {
 
 // The case with so many bytes of memory, and space for the output beside them.
 fn within(alloc: Global, case: &Case, left: u16) -> Result<Found, CaseError> {
-    let space: Vec<u8> = Vec::with_capacity(alloc, SPACE)?;
+    let space: Vec<u8> = Vec::with_capacity(alloc, case.output.len())?;
     let rest = take_rest(alloc, left)?;
     let mut out = Counted::new(space);
     let answer = run(

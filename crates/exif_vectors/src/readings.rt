@@ -99,7 +99,10 @@ pub fn json<R: Source, W: Sink>(
 ) -> Result<(), Error> {
     let file = read_all(alloc, source)?;
     let format = format_of(file.as_slice()).unwrap_or(Format::Tiff);
-    let answer = read(alloc, case, &mut Counted::new(file.as_slice()));
+    let answer = match read(alloc, case, &mut Counted::new(file.as_slice())) {
+        Err(Error::OutOfMemory) => return Err(Error::OutOfMemory),
+        other => other,
+    };
     let text = told_json(alloc, case.path.as_slice(), format, answer)?;
     send(out, text.as_slice())
 }
