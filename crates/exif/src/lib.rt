@@ -30,9 +30,9 @@ pub mod laws;
 
 pub use exif_base::{Counted, Items, ReadFault, ReadSeek, Seekable, Sink, Source};
 pub use exif_containers::get_exif_attr_from_jpeg;
+pub use exif_datetime::DateTime;
 pub use exif_reader::{Reader, parse_exif};
 pub use exif_types::{
-    Context, DateTime, Decimal, Display, DisplayValue, DisplayValueUnit, Error, Exif, Field,
-    FieldType, Fields, In, PartialResult, ProvideUnit, Rational, SRational, Tag, UIntIter,
-    UIntValue, Value,
+    Context, Decimal, Display, DisplayValue, DisplayValueUnit, Error, Exif, Field, FieldType,
+    Fields, In, PartialResult, ProvideUnit, Rational, SRational, Tag, UIntIter, UIntValue, Value,
 };

@@ -1,5 +1,5 @@
-//! Devices that give or take one byte a call, and fail after some good calls; and one that only
-//! counts.
+//! Devices that give or take one byte a call and fail after a number of successful calls, a device
+//! that fails once, and a writer that only counts.
 
 use std::alloc::Global;
 use std::io;
@@ -12,21 +12,66 @@ pub const KINDS: [ErrorKind; 3] = [
     ErrorKind::UnexpectedEof,
 ];
 
-/// A reader of one byte a call, which fails once its good calls are used up.
+/// An error of a device. Each kind has a text of its own, so that the text shows the kind too.
+#[derive(Clone, Copy)]
+pub struct Failure {
+    pub kind: ErrorKind,
+    pub text: &'static str,
+}
+
+impl Failure {
+    fn error(self) -> io::Error {
+        io::Error::new(self.kind, self.text)
+    }
+}
+
+/// The errors of readers.
+pub static READ_FAILURES: [Failure; 3] = [
+    Failure {
+        kind: ErrorKind::Other,
+        text: "the reader failed",
+    },
+    Failure {
+        kind: ErrorKind::Interrupted,
+        text: "the reader was interrupted",
+    },
+    Failure {
+        kind: ErrorKind::UnexpectedEof,
+        text: "the reader reported an end",
+    },
+];
+
+/// The errors of writers.
+pub static WRITE_FAILURES: [Failure; 3] = [
+    Failure {
+        kind: ErrorKind::Other,
+        text: "the writer failed",
+    },
+    Failure {
+        kind: ErrorKind::Interrupted,
+        text: "the writer was interrupted",
+    },
+    Failure {
+        kind: ErrorKind::UnexpectedEof,
+        text: "the writer reported an end",
+    },
+];
+
+/// A reader of one byte a call, which fails after its successful calls.
 #[derive(Drop)]
 pub struct Slow<'a> {
     bytes: &'a [u8],
     good_calls: usize,
-    kind: ErrorKind,
+    failure: Failure,
 }
 
 impl<'a> Slow<'a> {
-    /// A reader of these bytes. After so many good calls each call fails with an error of a kind.
-    pub fn new(bytes: &'a [u8], good_calls: usize, kind: ErrorKind) -> Slow<'a> {
+    /// A reader of these bytes. After so many successful calls each call fails.
+    pub fn new(bytes: &'a [u8], good_calls: usize, failure: Failure) -> Slow<'a> {
         Slow {
             bytes,
             good_calls,
-            kind,
+            failure,
         }
     }
 }
@@ -34,7 +79,7 @@ impl<'a> Slow<'a> {
 impl Read for Slow<'_> {
     fn read(&mut self, buf: &mut [u8]) -> io::Result<usize> {
         if self.good_calls == 0 {
-            return Err(io::Error::new(self.kind, "the reader failed"));
+            return Err(self.failure.error());
         }
         self.good_calls -= 1;
         let bytes: &[u8] = self.bytes;
@@ -47,41 +92,39 @@ impl Read for Slow<'_> {
     }
 }
 
-/// A writer of one byte a call, which fails once its good calls are used up.
+/// A writer of one byte a call, which fails after its successful calls.
 #[derive(Drop)]
 pub struct Drip {
     /// The bytes that were taken.
     pub taken: Vec<u8>,
     good_calls: usize,
-    kind: Option<ErrorKind>,
+    failure: Failure,
 }
 
 impl Drip {
-    /// A writer that after so many good calls fails with an error of a kind, or takes nothing.
-    pub fn new(alloc: Global, good_calls: usize, kind: Option<ErrorKind>) -> Drip {
+    /// A writer that fails after so many successful calls.
+    pub fn new(alloc: Global, good_calls: usize, failure: Failure) -> Drip {
         Drip {
             taken: Vec::new(alloc),
             good_calls,
-            kind,
+            failure,
         }
     }
 
-    // One call less, or the answer that a call has once they are used up.
-    fn call(&mut self) -> io::Result<bool> {
-        if self.good_calls > 0 {
-            self.good_calls -= 1;
-            return Ok(true);
+    // Counts a call, or gives the error of a call after the last good one.
+    fn call(&mut self) -> io::Result<()> {
+        if self.good_calls == 0 {
+            return Err(self.failure.error());
         }
-        match self.kind {
-            Some(kind) => Err(io::Error::new(kind, "the writer failed")),
-            None => Ok(false),
-        }
+        self.good_calls -= 1;
+        Ok(())
     }
 }
 
 impl Write for Drip {
     fn write(&mut self, buf: &[u8]) -> io::Result<usize> {
-        if !self.call()? || buf.is_empty() {
+        self.call()?;
+        if buf.is_empty() {
             return Ok(0);
         }
         self.taken.push(buf[0])?;
@@ -89,8 +132,7 @@ impl Write for Drip {
     }
 
     fn flush(&mut self) -> io::Result<()> {
-        self.call()?;
-        Ok(())
+        self.call()
     }
 }
 

@@ -1,5 +1,4 @@
 pub mod Contents
-pub mod Dates
 pub mod Defaults
 pub mod Distilling
 pub mod ErrorFalls

@@ -1,7 +1,6 @@
 //! Values, tags, fields and errors: the types that users of `exif` meet.
 #![tactic(auto)]
 
-pub mod datetime;
 mod defaults;
 pub mod display;
 pub mod error;
@@ -15,7 +14,6 @@ pub mod unit;
 pub mod unsigned;
 pub mod value;
 
-pub use datetime::DateTime;
 pub use display::{Display, DisplayValue};
 pub use error::{Error, PartialResult, partial_from_parts};
 pub use exif::{Exif, exif_from_parts};

@@ -6,7 +6,6 @@
 
 mod calls;
 mod changes;
-mod devices;
 mod edits;
 mod memory;
 mod modes;

@@ -1,10 +1,10 @@
 //! The modes in which a case is run, and how what comes out differs from what is expected.
 
 use crate::calls::run;
-use crate::devices::{Drip, Failure, READ_FAILURES, Slow, WRITE_FAILURES};
 use crate::memory::short_of_memory;
 use exif::{Counted, Seekable, Tag, Value};
 use exif_cases::{Call, Case, CaseError};
+use exif_test_support::devices::{Drip, Failure, READ_FAILURES, Slow, WRITE_FAILURES};
 use std::alloc::{AllocError, Global};
 use std::io::Cursor;
 
@@ -52,7 +52,7 @@ fn slow(
     let mut source = Counted::new(Slow::new(case.input.as_slice(), reads, failure));
     let end = run(alloc, case, &mut source, &mut out)?;
     Ok(Outcome {
-        bytes: out.into_inner().written,
+        bytes: out.into_inner().taken,
         end,
     })
 }

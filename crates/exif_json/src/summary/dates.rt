@@ -3,7 +3,7 @@
 ghost use Rattle.std.specs.Prelude.{◌≡◌, ◌++◌, Some, codes};
 ghost use Rattle.std.specs.Fmt.{WritesOnOk};
 ghost use Rattle.exif_text.specs.Clock.{date_text, time_text};
-ghost use Rattle.exif_types.specs.Dates.{calendar_date, time_of_day};
+ghost use Rattle.exif_datetime.specs.Dates.{calendar_date, time_of_day};
 ghost use Rattle.exif_json.specs.Dates.{date_taken, fraction_text, is_in_range, iso_text, minutes_text, offset_text};
 
 use super::looking::find_text;

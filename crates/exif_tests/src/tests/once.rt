@@ -5,7 +5,7 @@ use exif::experimental::Writer;
 use exif::{Counted, Error, Exif};
 use exif_rewrite::{Remove, rewrite};
 use exif_test_support::answers::kind_of;
-use exif_test_support::devices::{Drip, KINDS, Once, Slow};
+use exif_test_support::devices::{Drip, KINDS, Once, READ_FAILURES, Slow, WRITE_FAILURES};
 use exif_test_support::files;
 use exif_test_support::readings::{reader_of, report_to};
 use exif_test_support::writings::{descriptions, push_all};
@@ -24,12 +24,20 @@ static FILES: [&[u8]; 5] = [
 
 // A reader of one byte a call, which fails once behind so many.
 fn input(bytes: &[u8], good_calls: usize, kind: ErrorKind) -> Once<Slow<'_>> {
-    Once::new(Slow::new(bytes, usize::MAX, kind), good_calls, kind)
+    Once::new(
+        Slow::new(bytes, usize::MAX, READ_FAILURES[0]),
+        good_calls,
+        kind,
+    )
 }
 
 // A writer of one byte a call, which fails once behind so many.
 fn output(alloc: Global, good_calls: usize, kind: ErrorKind) -> Once<Drip> {
-    Once::new(Drip::new(alloc, usize::MAX, Some(kind)), good_calls, kind)
+    Once::new(
+        Drip::new(alloc, usize::MAX, WRITE_FAILURES[0]),
+        good_calls,
+        kind,
+    )
 }
 
 // Whether an answer is the error of a device. It is let go by one call.

@@ -3,7 +3,8 @@
 //! it does.
 
 use exif_base::Items;
-use exif_types::{Context, DateTime, Field, In, Rational, SRational, Tag, Value};
+use exif_datetime::DateTime;
+use exif_types::{Context, Field, In, Rational, SRational, Tag, Value};
 use std::fmt;
 use std::fmt::{Alignment, Display, Write};
 use std::process::Abort;

@@ -1,6 +1,7 @@
 //! What a date keeps where parts of it are refused.
 
-use exif_types::{DateTime, Error};
+use exif_datetime::DateTime;
+use exif_types::Error;
 use std::alloc::AllocError;
 use std::process::Abort;
 

@@ -2,14 +2,14 @@
 
 ghost use Rattle.std.specs.Prelude.{◌≡◌, Some};
 ghost use Rattle.exif_types.specs.Refusals.{refusal_of};
-ghost use Rattle.exif_types.specs.Dates.{calendar_date, date_of, refusal_for, time_of_day};
+ghost use Rattle.exif_datetime.specs.Dates.{calendar_date, date_of, refusal_for, time_of_day};
 
-use crate::Error;
 use exif_text::DateFault;
 use exif_text::clock::write_date_time;
 use exif_text::date::{Date, TimeOfDay, read_date_time};
 use exif_text::offset::read_offset;
 use exif_text::subsec::read_subsec;
+use exif_types::Error;
 use std::fmt;
 
 /// A date and a time of day. It is shown as `2016-05-04 03:02:01`, without fraction and offset, and
@@ -44,7 +44,7 @@ pub struct DateTime {
 
 impl DateTime {
     ghost use Rattle.exif_types.specs.Refusals.{Answers};
-    ghost use Rattle.exif_types.specs.Dates.{read_date, read_offset, read_subsec, was_read, with_offset, with_subsec};
+    ghost use Rattle.exif_datetime.specs.Dates.{read_date, read_offset, read_subsec, was_read, with_offset, with_subsec};
 
     /// Reads `2016:05:04 03:02:01` (Exif 2.32, 4.6.4 D). Ranges are not checked, and more bytes are
     /// ignored. A date of spaces, or of spaces between colons, is refused as `BlankValue`, another
@@ -130,7 +130,7 @@ impl DateTime {
 }
 
 impl fmt::Display for DateTime {
-    ghost use Rattle.exif_types.specs.Dates.{date_text};
+    ghost use Rattle.exif_datetime.specs.Dates.{date_text};
 
     ghost output = { λ date. Some (date_text date) };
 

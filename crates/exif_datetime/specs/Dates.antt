@@ -8,7 +8,7 @@ use Rattle.exif_text.specs.Dates.{datetime_text, parse_datetime, parse_offset}
 use Rattle.exif_text.specs.Faults.{message_of}
 use Rattle.exif_text.specs.Subsec.{parse_subsec}
 use Rattle.exif_types.specs.Refusals.{Refusal, blank_value, invalid_format}
-use Rattle.exif_types.specs.declared.datetime.DateTime.{DateTime}
+use Rattle.exif_datetime.specs.declared.datetime.DateTime.{DateTime}
 
 -- the refusal that a fault is: blank where there are only spaces, and colons at their places
 abbrev pub refusal_for : DateFault → Refusal
