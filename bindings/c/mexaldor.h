@@ -37,6 +37,8 @@ enum mexaldor_status {
     MEXALDOR_SCATTERED_DATA = 21,   /* the Exif data are not stored in one piece */
     MEXALDOR_PICTURE_DATA = 22,     /* a TIFF file: the picture is stored in the same data */
     MEXALDOR_INVALID_HEADER = 23,
+    MEXALDOR_NO_DIRECTORY = 24,     /* there is no directory to put the field into */
+    MEXALDOR_FULL_DIRECTORY = 25,   /* the directory has no space for an entry */
     MEXALDOR_NO_ASSIGNMENT = 32,    /* not TAG=VALUE in UTF-8, or an unknown tag */
     MEXALDOR_NOT_OF_ITS_TYPE = 33   /* the text is not a value of the type of the field */
 };

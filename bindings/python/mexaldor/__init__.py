@@ -46,6 +46,8 @@ class Status(enum.IntEnum):
     SCATTERED_DATA = 21
     PICTURE_DATA = 22
     INVALID_HEADER = 23
+    NO_DIRECTORY = 24
+    FULL_DIRECTORY = 25
     NO_ASSIGNMENT = 32
     NOT_OF_ITS_TYPE = 33
 

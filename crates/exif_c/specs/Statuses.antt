@@ -4,7 +4,7 @@ use Rattle.exif_types.specs.Failures.{Failure}
 use Rattle.exif_types.specs.Refusals as refusals
 use Rattle.exif_types.specs.Refusals.{invalid_format, not_found, blank_value, too_big, not_supported, unexpected_value}
 use Rattle.exif_types.specs.declared.error.Error.TheVariants as error
-use Rattle.exif_edit_base.specs.Causes.{Cause, no_field, unknown_type, too_long, place_named, shared, scattered, picture, wrong_header, no_data}
+use Rattle.exif_edit_base.specs.Causes.{Cause, no_field, no_directory, full_directory, unknown_type, too_long, place_named, shared, scattered, picture, wrong_header, no_data}
 use Rattle.exif_edit_base.specs.declared.error.Error.{Error}
 use Rattle.exif_edit_base.specs.declared.error.Error.TheVariants as edit
 use Rattle.exif_change.specs.declared.refusal.Refusal.{Refusal}
@@ -31,6 +31,8 @@ number_of status.SharedBytes = 20
 number_of status.ScatteredData = 21
 number_of status.PictureData = 22
 number_of status.InvalidHeader = 23
+number_of status.NoDirectory = 24
+number_of status.FullDirectory = 25
 number_of status.NoAssignment = 32
 number_of status.NotOfItsType = 33
 number_of status.OtherThumbnail = 34
@@ -58,6 +60,8 @@ text_of status.SharedBytes = codes "The bytes are shared with other data"
 text_of status.ScatteredData = codes "The Exif data are not contiguous"
 text_of status.PictureData = codes "The picture is in the same data"
 text_of status.InvalidHeader = codes "Invalid header of the Exif data"
+text_of status.NoDirectory = codes "No directory to put the field into"
+text_of status.FullDirectory = codes "The directory has no space for an entry"
 text_of status.NoAssignment = codes "Expected TAG=VALUE with a known tag"
 text_of status.NotOfItsType = codes "Invalid value for the type of the field"
 text_of status.OtherThumbnail = codes "Rewriting the data would lose the thumbnail"
@@ -73,6 +77,7 @@ all =
     status.TooBig ∷ status.NotSupported ∷ status.UnexpectedValue ∷ status.OutOfMemory ∷
     status.FieldNotFound ∷ status.UnknownType ∷ status.ValueTooLong ∷ status.NamesPlaces ∷
     status.SharedBytes ∷ status.ScatteredData ∷ status.PictureData ∷ status.InvalidHeader ∷
+    status.NoDirectory ∷ status.FullDirectory ∷
     status.NoAssignment ∷ status.NotOfItsType ∷ status.OtherThumbnail ∷ status.NoDate ∷
     status.InvalidDate ∷ status.DateOutOfRange ∷ status.NoThumbnail ∷ []
 
@@ -109,6 +114,8 @@ kind_status (unexpected_value text) = status.UnexpectedValue
 -- that of a cause for which an edit in place is refused
 abbrev pub cause_status : Cause → Status
 cause_status no_field = status.FieldNotFound
+cause_status no_directory = status.NoDirectory
+cause_status full_directory = status.FullDirectory
 cause_status unknown_type = status.UnknownType
 cause_status too_long = status.ValueTooLong
 cause_status place_named = status.NamesPlaces
@@ -121,6 +128,8 @@ cause_status (no_data refusal) = kind_status refusal
 -- that of an error of an edit in place
 abbrev pub edit_status : Error → Status
 edit_status edit.FieldNotFound = status.FieldNotFound
+edit_status edit.NoDirectory = status.NoDirectory
+edit_status edit.FullDirectory = status.FullDirectory
 edit_status edit.UnknownType = status.UnknownType
 edit_status edit.ValueTooLong = status.ValueTooLong
 edit_status edit.NamesPlaces = status.NamesPlaces

@@ -46,6 +46,10 @@ pub enum Status {
     PictureData,
     /// Invalid header of the Exif data.
     InvalidHeader,
+    /// There is no directory to put the field into.
+    NoDirectory,
+    /// The directory has no space for an entry.
+    FullDirectory,
     /// No `TAG=VALUE` of a known tag.
     NoAssignment,
     /// Invalid value for the type of the field.
@@ -85,6 +89,8 @@ impl Status {
             Status::ScatteredData => 21,
             Status::PictureData => 22,
             Status::InvalidHeader => 23,
+            Status::NoDirectory => 24,
+            Status::FullDirectory => 25,
             Status::NoAssignment => 32,
             Status::NotOfItsType => 33,
             Status::OtherThumbnail => 34,
@@ -117,6 +123,8 @@ impl Status {
             Status::ScatteredData => "The Exif data are not contiguous",
             Status::PictureData => "The picture is in the same data",
             Status::InvalidHeader => "Invalid header of the Exif data",
+            Status::NoDirectory => "No directory to put the field into",
+            Status::FullDirectory => "The directory has no space for an entry",
             Status::NoAssignment => "Expected TAG=VALUE with a known tag",
             Status::NotOfItsType => "Invalid value for the type of the field",
             Status::OtherThumbnail => "Rewriting the data would lose the thumbnail",
@@ -149,6 +157,8 @@ impl Status {
             Status::ScatteredData,
             Status::PictureData,
             Status::InvalidHeader,
+            Status::NoDirectory,
+            Status::FullDirectory,
             Status::NoAssignment,
             Status::NotOfItsType,
             Status::OtherThumbnail,
@@ -192,6 +202,8 @@ pub fn edit_status(error: &exif_edit::Error) -> Status
 {
     match error {
         exif_edit::Error::FieldNotFound => Status::FieldNotFound,
+        exif_edit::Error::NoDirectory => Status::NoDirectory,
+        exif_edit::Error::FullDirectory => Status::FullDirectory,
         exif_edit::Error::UnknownType => Status::UnknownType,
         exif_edit::Error::ValueTooLong => Status::ValueTooLong,
         exif_edit::Error::NamesPlaces => Status::NamesPlaces,

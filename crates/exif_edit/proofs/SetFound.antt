@@ -19,13 +19,13 @@ use Rattle.exif_edit_base.specs.Locations.{Located, located}
 use Rattle.exif_edit_base.proofs.FindSteps.{any_map, field_of}
 use Rattle.exif_edit_base.proofs.ReadSteps.{is_refused, not_refused, unshown, unshown_shown}
 use Rattle.exif_edit_base.proofs.LawsLocated.{located_fields}
-use Rattle.exif_edit.specs.Promises.{FindsNone, FindsValue, IsFieldErased, IsSet, told_by}
+use Rattle.exif_edit.specs.Promises.{FindsNone, FindsValue, IsFieldErased, IsSet, ReadAs, told_by}
 use Rattle.exif_edit.specs.Removing.{told_at, without_named}
 
 -- ---- the last of a name
 
 -- the last that passes, found from the front
-last_passing : (Field → Bool) → List Field → Option Field
+pub last_passing : (Field → Bool) → List Field → Option Field
 last_passing p [] = None
 last_passing p (x ∷ xs) =
     if list_any p xs then last_passing p xs else (if p x then Some x else None)
@@ -47,7 +47,8 @@ find_one_more p (y ∷ ys) x = by_test (p y) (find_one_more p ys x)
     by_test true k = refl
     by_test false k = k
 
-passing_none : (p : Field → Bool) (xs : List Field) → list_any p xs ≡ false
+-- none passes
+pub passing_none : (p : Field → Bool) (xs : List Field) → list_any p xs ≡ false
     → last_passing p xs ≡ None
 unfolding last_passing
 passing_none p [] h = refl
@@ -74,7 +75,7 @@ passing_some p (x ∷ xs) h = by_tests (p x) (list_any p xs) refl h (passing_som
     by_tests false false e h k = absurd (false≢true h)
 
 -- found from behind it is the same
-from_behind : (p : Field → Bool) (xs : List Field) → find p (reverse xs) ≡ last_passing p xs
+pub from_behind : (p : Field → Bool) (xs : List Field) → find p (reverse xs) ≡ last_passing p xs
 unfolding last_passing or_else
 from_behind p [] = refl
 from_behind p (x ∷ xs) =
@@ -177,7 +178,7 @@ located_any tag k (l ∷ ls) at e =
         none_some e = cc
 
 -- fields that are shown are those of the content
-shown_fields : (lenient : Bool) (fs gs : List Field) (xs ys : List Fault)
+pub shown_fields : (lenient : Bool) (fs gs : List Field) (xs ys : List Fault)
     → answer_of lenient (record { fields = fs; faults = xs }) ≡ shown gs ys → fs ≡ gs
 shown_fields true fs gs xs ys e =
     ap (λ (p : List Field × List Fault). p.0)
@@ -187,20 +188,28 @@ shown_fields false fs gs [] ys e =
 shown_fields false fs gs (x ∷ xs) ys e =
     absurd (false≢true (sym (not_refused gs ys) ∙ sym (ap is_refused e)))
 
--- once a value was set, a look-up of its name finds it
-pub set_found : (old new : List ℕ) (tag : Tag) (k : In) (value : Value) → IsSet old tag k value new
+-- where the last field of a name is read with a value, a look-up of the name finds it
+pub replaced_read : (old new : List ℕ) (tag : Tag) (k : In) (value : Value) (place : ℕ) (at : Located)
+    → last_located tag k (located old) ≡ Some at
+    → ReadAs new (replaced tag k (moved_to place value) (fields_of (trace old)))
+    (faults_of (trace old))
     → FindsValue tag k value new
-set_found old new tag k value s lenient fields faults e =
+replaced_read old new tag k value place at found reads lenient fields faults e =
     let fs = fields_of (trace old) in
     let any : list_any (is_named tag k) fs ≡ true =
     subst (λ xs. list_any (is_named tag k) xs ≡ true) (located_fields old)
-    (located_any tag k (located old) s.at s.found) in
-    let same = shown_fields lenient (replaced tag k (moved_to s.place value) fs) fields
-    (faults_of (trace old)) faults (sym (s.reads lenient) ∙ e) in (
-      s.place,
+    (located_any tag k (located old) at found) in
+    let same = shown_fields lenient (replaced tag k (moved_to place value) fs) fields
+    (faults_of (trace old)) faults (sym (reads lenient) ∙ e) in (
+      place,
       ap (λ xs. last_named xs tag k) (sym same)
-          ∙ replaced_found tag k (moved_to s.place value) fs any,
+          ∙ replaced_found tag k (moved_to place value) fs any,
     )
+
+-- once a value was set, a look-up of its name finds it
+pub set_found : (old new : List ℕ) (tag : Tag) (k : In) (value : Value) → IsSet old tag k value new
+    → FindsValue tag k value new
+set_found old new tag k value s = replaced_read old new tag k value s.place s.at s.found s.reads
 
 -- ---- none of a name is left
 

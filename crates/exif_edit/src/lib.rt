@@ -13,9 +13,9 @@ mod clear;
 mod erase;
 pub mod laws;
 mod plan;
-mod remove;
-mod set;
-mod spell;
+pub mod remove;
+pub mod set;
+pub mod spell;
 
 pub use clear::{erase_all, erase_all_patches};
 pub use erase::{erase_places, erase_places_patches};

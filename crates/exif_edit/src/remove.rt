@@ -279,8 +279,8 @@ fn is_other(field: &Field, tag: Tag, ifd_num: In) -> bool
     !is_named(field, tag, ifd_num)
 }
 
-// Leaves the fields of a name out.
-fn drop_named(fields: &mut Vec<Field>, tag: Tag, ifd_num: In)
+/// Leaves the fields of a name out.
+pub fn drop_named(fields: &mut Vec<Field>, tag: Tag, ifd_num: In)
     ensures { fields.new.items ≡ without_named tag ifd_num fields.old.items }
 {
     fields.retain(|field| is_other(field, tag, ifd_num));
@@ -301,8 +301,8 @@ fn untell_one(field: &mut Field)
     }
 }
 
-// The fields as they are told in whichever entries they stand.
-fn untell(fields: &mut [Field])
+/// The fields without the offsets of small values, which are those of their entries.
+pub fn untell(fields: &mut [Field])
     ensures { fields.new ≡ untold fields.old }
 {
     for field in fields.iter_mut() {

@@ -167,8 +167,8 @@ fn make_edit(
     Ok(Edit { patches, place })
 }
 
-// The value, standing at a place.
-fn moved(alloc: Global, value: &Value, place: u32) -> Result<Value, Error>
+/// A copy of the value, stored at this offset.
+pub fn moved(alloc: Global, value: &Value, place: u32) -> Result<Value, Error>
     ensures answer { IfOk result (λ v. v ≡ moved_to place value.now) }
     ensures memory { IfErr result (λ e. e ≡ Error.OutOfMemory) }
 {
@@ -179,8 +179,8 @@ fn moved(alloc: Global, value: &Value, place: u32) -> Result<Value, Error>
     }
 }
 
-// Sets the value of the last field of a name.
-fn set_field(fields: &mut Vec<Field>, index: usize, value: Value, tag: Tag, ifd_num: In)
+/// Sets the value of the last field of a name, which is at this index.
+pub fn set_field(fields: &mut Vec<Field>, index: usize, value: Value, tag: Tag, ifd_num: In)
     requires { IsLastAt tag ifd_num fields.old.items index }
     ensures { fields.new.items ≡ replaced tag ifd_num value fields.old.items }
 {

@@ -14,6 +14,8 @@ use Rattle.exif_edit_base.specs.declared.error.Error.TheVariants as error
 -- why an edit is refused, as plain data
 pub data Cause : Type 0 where
   no_field : Cause
+  no_directory : Cause
+  full_directory : Cause
   unknown_type : Cause
   too_long : Cause
   place_named : Cause
@@ -30,6 +32,8 @@ no_data_by None = None
 -- the cause that an error tells; out of memory is none
 abbrev pub cause_of : Error → Option Cause
 cause_of error.FieldNotFound = Some no_field
+cause_of error.NoDirectory = Some no_directory
+cause_of error.FullDirectory = Some full_directory
 cause_of error.UnknownType = Some unknown_type
 cause_of error.ValueTooLong = Some too_long
 cause_of error.NamesPlaces = Some place_named
@@ -43,6 +47,8 @@ cause_of error.OutOfMemory = None
 -- how an error is shown
 abbrev pub error_text : Error → Option (List ℕ)
 error_text error.FieldNotFound = Some (codes "No such field")
+error_text error.NoDirectory = Some (codes "No directory to put the field into")
+error_text error.FullDirectory = Some (codes "The directory has no space for an entry")
 error_text error.UnknownType = Some (codes "Cannot write unknown field types")
 error_text error.ValueTooLong = Some (codes "The value is too long for its space")
 error_text error.NamesPlaces = Some (codes "The field holds offsets of other data")

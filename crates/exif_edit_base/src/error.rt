@@ -13,6 +13,10 @@ use std::fmt;
 pub enum Error {
     /// No field has this tag in this directory.
     FieldNotFound,
+    /// There is no directory to put the field into, nor one that would point at it.
+    NoDirectory,
+    /// The directory has 65,535 entries, the most that its count can say.
+    FullDirectory,
     /// The value is of a type that is not known.
     UnknownType,
     /// The value takes more bytes than there is room for it.
@@ -84,6 +88,8 @@ impl fmt::Display for Error {
     fn fmt<W: fmt::Write>(&self, f: &mut fmt::Formatter<W>) -> fmt::Result {
         match self {
             Error::FieldNotFound => write!(f, "No such field"),
+            Error::NoDirectory => write!(f, "No directory to put the field into"),
+            Error::FullDirectory => write!(f, "The directory has no space for an entry"),
             Error::UnknownType => write!(f, "Cannot write unknown field types"),
             Error::ValueTooLong => write!(f, "The value is too long for its space"),
             Error::NamesPlaces => write!(f, "The field holds offsets of other data"),

@@ -34,8 +34,8 @@ pub fn locate(alloc: Global, bytes: &[u8]) -> Result<Located, Stop>
     read_located(alloc, bytes)
 }
 
-// Whether two lists of faults are one.
-fn same_faults(a: &[Fault], b: &[Fault]) -> bool
+/// Whether two lists of faults are one.
+pub fn same_faults(a: &[Fault], b: &[Fault]) -> bool
     ensures { result ≡ pointwise fault_eq a.now b.now }
 {
     a == b

@@ -48,6 +48,10 @@ impl Refused {
     pub const SCATTERED_DATA: Refused = Refused(21);
     /// A TIFF file: the picture is stored in the same data.
     pub const PICTURE_DATA: Refused = Refused(22);
+    /// There is no directory to put the field into.
+    pub const NO_DIRECTORY: Refused = Refused(24);
+    /// The directory has no space for an entry.
+    pub const FULL_DIRECTORY: Refused = Refused(25);
     /// Not `TAG=VALUE`, or an unknown tag.
     pub const NO_ASSIGNMENT: Refused = Refused(32);
     /// The text is not a value of the type of the field.
