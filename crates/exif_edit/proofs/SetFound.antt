@@ -25,7 +25,7 @@ use Rattle.exif_edit.specs.Removing.{told_at, without_named}
 -- ---- the last of a name
 
 -- the last that passes, found from the front
-pub last_passing : (Field → Bool) → List Field → Option Field
+unfoldable pub last_passing : (Field → Bool) → List Field → Option Field
 last_passing p [] = None
 last_passing p (x ∷ xs) =
     if list_any p xs then last_passing p xs else (if p x then Some x else None)

@@ -1,6 +1,7 @@
 //! What edits report and refuse: the offsets of their patches, the texts of their errors, and bytes that
 //! stay as they were where memory runs out.
 
+mod growth;
 mod memory;
 mod patches;
 mod texts;

@@ -14,6 +14,10 @@ fn assert_shown<E: Display + Drop>(rt: &(impl Abort + AllocGlobal), error: E, te
 fn errors_are_shown(rt: HostRuntime) {
     let shared = "The bytes are shared with other data";
     assert_shown(&rt, Error::FieldNotFound, "No such field");
+    let no_directory = "No directory to put the field into";
+    assert_shown(&rt, Error::NoDirectory, no_directory);
+    let full = "The directory has no space for an entry";
+    assert_shown(&rt, Error::FullDirectory, full);
     assert_shown(&rt, Error::UnknownType, "Cannot write unknown field types");
     assert_shown(
         &rt,

@@ -1,0 +1,12 @@
+pub mod AppendSound
+pub mod AppendSteps
+pub mod CreateSound
+pub mod CreateSteps
+pub mod DirectorySteps
+pub mod FieldSteps
+pub mod Found
+pub mod GrowSteps
+pub mod GrowthSteps
+pub mod InsertSound
+pub mod InsertSteps
+pub mod OldKept

@@ -1,0 +1,33 @@
+//! Several fields set, one after the other.
+
+ghost use Rattle.std.specs.Prelude.{◌≡◌, IfOk};
+ghost use Rattle.exif_edit_base.specs.Causes.{Makes};
+ghost use Rattle.exif_grow.specs.Setting.{field_grown, fields_grown};
+
+use crate::grow::grow_value;
+use crate::growth::grown;
+use exif_edit_base::Error;
+use exif_types::Field;
+use std::alloc::Global;
+
+// The new data with a field.
+fn set_field(alloc: Global, bytes: &[u8], field: &Field) -> Result<Vec<u8>, Error>
+    ensures answer { Makes (λ v. v.items) result (field_grown field.now bytes.now) }
+{
+    let growth = grow_value(alloc, bytes, field.tag, field.ifd_num, &field.value)?;
+    Ok(grown(alloc, &growth, bytes)?)
+}
+
+/// The data with several fields set by [`grow_value`], one after the other.
+///
+/// The first refusal is that of the whole. It takes the memory of one `grow_value`, and that of the
+/// new data.
+pub fn set_fields(alloc: Global, bytes: &[u8], fields: &[Field]) -> Result<Vec<u8>, Error>
+    ensures answer { Makes (λ v. v.items) result (fields_grown fields.now bytes.now) }
+{
+    let mut data = Vec::from_slice(alloc, bytes)?;
+    for field in fields {
+        data = set_field(alloc, data.as_slice(), field)?;
+    }
+    Ok(data)
+}
