@@ -3,7 +3,9 @@ pub mod ChangeSteps
 pub mod FindSteps
 pub mod Found
 pub mod LawsLocated
+pub mod LeftSteps
 pub mod LocatedEntries
+pub mod OffsetSteps
 pub mod PatchSteps
 pub mod PutBack
 pub mod ReadFaults

@@ -1,5 +1,6 @@
 pub mod Causes
 pub mod Finding
+pub mod GpsOffsets
 pub mod Locations
 pub mod Patches
 pub mod Readings

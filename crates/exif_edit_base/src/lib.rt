@@ -5,11 +5,14 @@
 pub mod error;
 pub mod find;
 pub mod laws;
+pub mod offsets;
 pub mod patch;
 pub mod read;
+pub mod unerased;
 mod walk;
 
 pub use error::Error;
 pub use exif_tiff::{DirectoryPlace, EntryPlace};
 pub use patch::Patch;
+pub use unerased::{Unerased, leftovers};
 pub use walk::{Located, Walk, read_located};
