@@ -19,7 +19,7 @@ use Rattle.exif_tiff.specs.Trace.{header}
 use Rattle.exif_layout.specs.Encoding.{encode}
 use Rattle.exif_layout.specs.Ranged.{IsRanged}
 use Rattle.exif_layout.specs.Refused.{is_unknown}
-use Rattle.exif_edit_base.specs.Locations.{Located, gps_places, located}
+use Rattle.exif_edit_base.specs.Locations.{Located, located}
 use Rattle.exif_edit_base.specs.Walked.{Finds, Walked, entry_of}
 use Rattle.exif_tiff.specs.declared.place.DirectoryPlace.{DirectoryPlace}
 use Rattle.exif_tiff.specs.declared.place.EntryPlace.{EntryPlace}
@@ -32,12 +32,11 @@ use Rattle.exif_edit_base.specs.declared.patch.Span.{Span}
 use Rattle.exif_edit_base.proofs.CauseSteps.{passed}
 use Rattle.exif_edit_base.proofs.FindSteps.{header_named}
 use Rattle.exif_edit.specs.Changing.{ChangeEntry, ChangePlaces, changes, covers}
-use Rattle.exif_edit.specs.Erasing.{directory_spans, erase_patches, gps_spans, is_gps}
+use Rattle.exif_edit.specs.Erasing.{erase_patches, gps_spans, is_gps}
 use Rattle.exif_edit.specs.PlacesAlone.{all_kept, places_stand_alone}
 use Rattle.exif_edit.specs.Setting.{answer_in, checked_patches, entry_text, names_places, room_of, room_text, set_patches, value_answer, value_patches, value_room}
 use Rattle.exif_edit.specs.Sharing.{all_beside, beside, changed_entry, fit_answer, meets, names_child, stands_alone, standing_at}
 use Rattle.exif_edit.proofs.AloneSteps.{any_flat, any_kept, any_same}
-use Rattle.exif_edit.proofs.EraseSteps.{spans_are}
 use Rattle.exif_edit.proofs.PlacesUnshared.{places_unshared}
 use Rattle.exif_edit.proofs.SetSound.{Fits, edit_fits_in, value_lengths, was_found}
 use Rattle.exif_edit.proofs.SetSteps.{set_known}
@@ -301,10 +300,3 @@ pub erase_alone : (bytes : List ℕ) (order : Order) (ps : List Patch) → heade
     → places_stand_alone (number_of order) bytes ≡ true → erase_patches bytes ≡ Ok ps
 erase_alone bytes order ps h z alone =
     places_unshared bytes order h alone ∙ ap (λ qs. Ok qs) (sym z)
-
--- the zeros over the GPS directories that were found
-pub zeros_found : (bytes qs : List ℕ) (order : Order) (ps : List Patch) → qs ≡ gps_places bytes
-    → ps ≡ map zeros_over (flat_map (directory_spans (number_of order) bytes) qs)
-    → ps ≡ map zeros_over (gps_spans (number_of order) bytes)
-zeros_found bytes qs order ps w n =
-    n ∙ ap (λ ss. map zeros_over ss) (spans_are (number_of order) bytes qs w)

@@ -16,14 +16,14 @@ use Rattle.exif_tiff.specs.Trace.{trace, fields_of, faults_of, whole_entries, en
 use Rattle.exif_tiff.specs.declared.fault.Fault.{Fault}
 use Rattle.exif_edit_base.specs.Causes.{of_data, shared}
 use Rattle.exif_edit_base.specs.Patches.{FitsIn, patched, zeros_over}
-use Rattle.exif_edit_base.specs.Locations.{gps_places}
+use Rattle.exif_edit_base.specs.GpsOffsets.{gps_offsets}
 use Rattle.exif_edit_base.specs.Readings.{Read, reading}
 use Rattle.exif_edit_base.specs.declared.patch.Patch.{Patch}
 use Rattle.exif_edit_base.specs.declared.patch.Span.{Span}
 use Rattle.exif_edit_base.proofs.CauseSteps.{bound, data_read, tested}
 use Rattle.exif_edit_base.proofs.FindSteps.{header_named}
 use Rattle.exif_edit_base.proofs.PatchSteps.{AllWithin, length-patched, zeroed_at}
-use Rattle.exif_edit.specs.Erasing.{cleared, clears, clipped, directory_spans, erase_patches, gps_spans, kept, nowhere, value_span, within, without_gps}
+use Rattle.exif_edit.specs.Erasing.{cleared, clears, clipped, directory_spans, erase_patches, gps_room, gps_spans, gps_value_span, kept, nowhere, value_span, within, without_gps}
 use Rattle.exif_edit.specs.Promises.{IsErased, ReadAs}
 use Rattle.exif_edit.specs.Setting.{value_room}
 use Rattle.exif_edit.proofs.ReadSound.{reads_are}
@@ -62,6 +62,13 @@ values_within number bytes [] = tt
 values_within number bytes (e ∷ es) =
     (within_within (length bytes) (value_room number bytes e), values_within number bytes es)
 
+-- so do those of entries of GPS directories
+gps_values_within : (number : Reading) (bytes es : List ℕ)
+    → AllWithin (length bytes) (map (gps_value_span number bytes) es)
+gps_values_within number bytes [] = tt
+gps_values_within number bytes (e ∷ es) =
+    (clipped_within (length bytes) (gps_room number bytes e), gps_values_within number bytes es)
+
 directories_within : (number : Reading) (bytes qs : List ℕ)
     → AllWithin (length bytes) (flat_map (directory_spans number bytes) qs)
 directories_within number bytes [] = tt
@@ -70,7 +77,7 @@ directories_within number bytes (q ∷ qs) =
     (flat_map (directory_spans number bytes) qs) (
       clipped_within (length bytes)
           (record { place = q; len = 2 + 12 * whole_entries number bytes q + 4 }),
-      values_within
+      gps_values_within
           number bytes (entry_places number bytes q),
     )
     (directories_within number bytes qs)
@@ -79,7 +86,7 @@ directories_within number bytes (q ∷ qs) =
 pub spans_within : (number : Reading) (bytes : List ℕ)
     → AllWithin (length bytes) (gps_spans number bytes)
 unfolding gps_spans
-spans_within number bytes = directories_within number bytes (gps_places bytes)
+spans_within number bytes = directories_within number bytes (gps_offsets number bytes)
 
 -- zeros over spans that lie in data of a length lie there, too
 pub zeros_fit : (n : ℕ) (ss : List Span) → AllWithin n ss → All (FitsIn n) (map zeros_over ss)

@@ -9,7 +9,7 @@ use Rattle.exif_reader.specs.declared.stop.Stop.{Stop}
 use Rattle.exif_reader.specs.declared.stop.Stop.TheVariants as stop
 use Rattle.exif_edit_base.specs.Causes.{Becomes, Fails}
 use Rattle.exif_edit_base.specs.Patches.{zeros_over}
-use Rattle.exif_edit_base.specs.Locations.{gps_places}
+use Rattle.exif_edit_base.specs.GpsOffsets.{gps_offsets}
 use Rattle.exif_edit_base.specs.Readings.{Read, ReadsTo, reading}
 use Rattle.exif_edit_base.specs.declared.error.Error.{Error}
 use Rattle.exif_edit_base.specs.declared.patch.Patch.{Patch}
@@ -45,20 +45,21 @@ erase_cleared : (bytes : List ℕ) (read : Read) → reading bytes ≡ Ok read
 unfolding erase_patches
 erase_cleared bytes read h = rw h refl
 
--- the spans of the GPS directories that were found are all the spans of GPS data
-pub spans_are : (number : Reading) (bytes qs : List ℕ) → qs ≡ gps_places bytes
-    → flat_map (directory_spans number bytes) qs ≡ gps_spans number bytes
-unfolding gps_spans
-spans_are number bytes qs e = ap (λ ps. flat_map (directory_spans number bytes) ps) e
-
--- the zeros are those of the GPS directories
-pub zeros_are : (bytes qs : List ℕ) (ps : List Patch) (read : Read) (order : Order)
-    → order ≡ order_named read.little → qs ≡ gps_places bytes
-    → ps ≡ map zeros_over (flat_map (directory_spans (number_of order) bytes) qs)
+-- the zeros are those of the order that the data name
+pub zeros_are : (bytes : List ℕ) (ps : List Patch) (read : Read) (order : Order)
+    → order ≡ order_named read.little → ps ≡ map zeros_over (gps_spans (number_of order) bytes)
     → ps ≡ map zeros_over (gps_spans (number_of (order_named read.little)) bytes)
-zeros_are bytes qs ps read order o w n =
-    n ∙ (ap (λ ss. map zeros_over ss) (spans_are (number_of order) bytes qs w)
-    ∙ ap (λ x. map zeros_over (gps_spans (number_of x) bytes)) o)
+zeros_are bytes ps read order o n =
+    n ∙ ap (λ x. map zeros_over (gps_spans (number_of x) bytes)) o
+
+-- the zeros over the GPS directories that were found
+pub zeros_found : (number : Reading) (bytes qs : List ℕ) (ps : List Patch)
+    → qs ≡ gps_offsets number bytes
+    → ps ≡ map zeros_over (flat_map (directory_spans number bytes) qs)
+    → ps ≡ map zeros_over (gps_spans number bytes)
+unfolding gps_spans
+zeros_found number bytes qs ps w n =
+    n ∙ ap (λ xs. map zeros_over (flat_map (directory_spans number bytes) xs)) w
 
 -- the patches are the answer if the data are read without the fields then
 pub erase_wanted : (bytes : List ℕ) (ps : List Patch) (read : Read) (fs : List Field)

@@ -19,12 +19,15 @@ use Rattle.exif_tiff.specs.Trace.{Node, directories_of, header, ordered_trace, t
 use Rattle.exif_tiff.proofs.Agreement.{bytes_same, same_of}
 use Rattle.exif_tiff.proofs.FootprintAnswers.{header_same}
 use Rattle.exif_tiff.proofs.Footprints.{all_flat}
+use Rattle.exif_tiff.proofs.Members.{all_left}
+use Rattle.exif_edit_base.specs.GpsOffsets.{gps_offsets, gps_pointers}
 use Rattle.exif_edit_base.specs.Locations.{directory_places, gps_of, gps_places}
 use Rattle.exif_edit_base.specs.Causes.{shared}
 use Rattle.exif_edit_base.specs.Patches.{inside, patched, zeros_over}
 use Rattle.exif_edit_base.specs.Readings.{Read, reading}
 use Rattle.exif_edit_base.specs.declared.patch.Patch.{Patch}
 use Rattle.exif_edit_base.specs.declared.patch.Span.{Span}
+use Rattle.exif_edit_base.proofs.OffsetSteps.{noted_holds}
 use Rattle.exif_edit_base.proofs.PatchSteps.{length-patched, zeroed_at}
 use Rattle.exif_edit.specs.Erasing.{clears, clipped, directory_spans, erase_patches, gps_spans, kept}
 use Rattle.exif_edit.specs.PlacesAlone.{AreErasedUnshared, all_kept, places_stand_alone}
@@ -144,15 +147,24 @@ module _ (order : Order) (bytes : List ℕ) (head : header bytes ≡ Ok order)
           let past : length out ≤ i = grind (arith, nat_tests, as_long) in
           get_or_past out i 0 past
 
+  -- the spans of the directory at q are zeros
+  abbrev AreZeroed : ℕ → Type 0
+  AreZeroed q = AllByRecursion Zeroed (directory_spans number bytes q)
+
+  visited_zeroed : AllByRecursion AreZeroed (gps_places bytes)
+  unfolding gps_spans gps_offsets
+  visited_zeroed =
+      noted_holds (λ qs. AllByRecursion AreZeroed qs) bytes (all_left AreZeroed) (gps_places bytes)
+      (gps_pointers number bytes)
+      (all_flat Zeroed (directory_spans number bytes) (gps_offsets number bytes) all_zeroed)
+
   emptied : AllByRecursion (Emptied order bytes out as_long)
       (gps_of (directories_of (ordered_trace number bytes)))
-  unfolding gps_spans
   emptied =
       subst (λ ps. AllByRecursion (Emptied order bytes out as_long) ps)
       (gps_places_in bytes order head)
-      (each_gives (λ q. AllByRecursion Zeroed (directory_spans number bytes q))
-      (Emptied order bytes out as_long) (gps_places bytes) emptied_of
-      (all_flat Zeroed (directory_spans number bytes) (gps_places bytes) all_zeroed))
+      (each_gives AreZeroed (Emptied order bytes out as_long) (gps_places bytes) emptied_of
+      visited_zeroed)
 
   head_out : header out ≡ Ok order
   head_out = sym (header_same bytes out as_long (same_of bytes out 0 8 agree.0)) ∙ head

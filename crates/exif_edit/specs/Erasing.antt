@@ -1,22 +1,23 @@
 -- Places erased: GPS directories and their values become zero bytes.
-use Rattle.std.specs.Prelude.{ℕ, ◌+◌, ◌-◌, ◌*◌, ◌&&◌, nat_le, min, Bool, true, false, not, List, ◌∷◌, length, map, Result, Ok, Err, if◌then◌else◌}
+use Rattle.std.specs.Prelude.{ℕ, ◌+◌, ◌-◌, ◌*◌, ◌==◌, ◌&&◌, nat_le, min, Bool, true, false, not, List, ◌∷◌, length, map, Result, Ok, Err, if◌then◌else◌}
 use Rattle.std.specs.Bool.{beq}
 use Rattle.std.specs.List.{flat_map, filter}
 use Rattle.std.specs.Cmp.Lexicographic.{pointwise}
-use Rattle.exif_base.specs.Bytes.{Reading}
+use Rattle.exif_base.specs.Bytes.{Reading, number_at}
 use Rattle.exif_base.specs.Orders.{number_of, order_named}
 use Rattle.exif_table.specs.declared.context.Context.{Context}
 use Rattle.exif_table.specs.declared.context.Context.TheVariants.{Tiff, Exif, Gps, Interop}
+use Rattle.exif_text.specs.FieldTypes.{type_of, known_length}
 use Rattle.exif_types.specs.FieldEq.{field_eq}
 use Rattle.exif_types.specs.declared.field.Field.{Field}
 use Rattle.exif_tiff.specs.Trace.{whole_entries, entry_places}
 use Rattle.exif_edit_base.specs.Causes.{Cause, of_data, shared, ◌>>=◌}
-use Rattle.exif_edit_base.specs.Locations.{gps_places}
+use Rattle.exif_edit_base.specs.GpsOffsets.{gps_offsets}
 use Rattle.exif_edit_base.specs.Patches.{patched, zeros_over}
 use Rattle.exif_edit_base.specs.Readings.{Read, reading}
 use Rattle.exif_edit_base.specs.declared.patch.Patch.{Patch}
 use Rattle.exif_edit_base.specs.declared.patch.Span.{Span}
-use Rattle.exif_edit.specs.Setting.{value_room}
+use Rattle.exif_edit.specs.Setting.{room_of, value_room}
 
 -- no span
 abbrev pub nowhere : Span
@@ -41,14 +42,30 @@ abbrev pub directory_span : Reading → List ℕ → ℕ → Span
 directory_span number bytes q =
     clipped (length bytes) (record { place = q; len = 2 + 12 * whole_entries number bytes q + 4 })
 
--- the same, and the values of its entries
+-- how many bytes an item of a type takes: also of those that reading does not know, UTF-8 text (Exif
+-- 3.0, 4.6.2) and offsets of directories (TIFF Technical Note 1, "TIFF Trees")
+abbrev pub item_len : ℕ → ℕ
+item_len t = if t == 129 then 1 else (if t == 13 then 4 else known_length (type_of t))
+
+-- where the value of the entry at e of a GPS directory is, outside of the entry
+abbrev pub gps_room : Reading → List ℕ → ℕ → Span
+gps_room number bytes e =
+    room_of (number_at number 4 bytes (e + 8))
+    (item_len (number_at number 2 bytes (e + 2)) * number_at number 4 bytes (e + 4))
+
+-- so much of it as lies in the data
+abbrev pub gps_value_span : Reading → List ℕ → ℕ → Span
+gps_value_span number bytes e = clipped (length bytes) (gps_room number bytes e)
+
+-- the directory at q and the values of its entries
 abbrev pub directory_spans : Reading → List ℕ → ℕ → List Span
 directory_spans number bytes q =
-    directory_span number bytes q ∷ map (value_span number bytes) (entry_places number bytes q)
+    directory_span number bytes q
+    ∷ map (gps_value_span number bytes) (entry_places number bytes q)
 
--- the GPS directories of data, and the values of their entries
+-- the GPS directories of data, whether or not reading visits them, and the values of their entries
 unfoldable pub gps_spans : Reading → List ℕ → List Span
-gps_spans number bytes = flat_map (directory_spans number bytes) (gps_places bytes)
+gps_spans number bytes = flat_map (directory_spans number bytes) (gps_offsets number bytes)
 
 -- whether a context is that of GPS data
 abbrev pub is_gps : Context → Bool

@@ -7,6 +7,7 @@ use Rattle.exif_types.specs.declared.value.Value.TheVariants as value
 use Rattle.exif_tiff.specs.Trace.{trace, ordered_trace}
 use Rattle.exif_edit_base.specs.Causes.{no_field, place_named, too_long}
 use Rattle.exif_edit_base.specs.Finding.{find_answer}
+use Rattle.exif_edit_base.specs.GpsOffsets.{all_directories, chain_from, children_from, gps_offsets, gps_pointers, pointers}
 use Rattle.exif_edit_base.specs.Readings.{reading}
 use Rattle.exif_edit_base.specs.Locations.{directory_places, gps_places, located}
 use Rattle.exif_edit.specs.Erasing.{erase_answer, erase_patches, gps_spans}
@@ -97,7 +98,7 @@ placed =
 
 -- nothing else is looked at there
 places_alone : places_stand_alone (number_of Big) placed ≡ true
-unfolding gps_places gps_spans directory_places trace ordered_trace
+unfolding gps_places gps_spans gps_offsets gps_pointers all_directories children_from chain_from pointers directory_places trace ordered_trace
 places_alone = refl
 
 -- the directory and its value are zeros, and the byte behind them stays
@@ -112,5 +113,36 @@ without_place : erase_answer placed
     ∷ 0 ∷ 0 ∷ 0 ∷ 0
     ∷ 0 ∷ 0 ∷ 0 ∷ 0 ∷ 0 ∷ 0 ∷ 0
     ∷ 9 ∷ [])
-unfolding erase_patches reading gps_places gps_spans directory_places trace ordered_trace
+unfolding erase_patches reading gps_places gps_spans gps_offsets gps_pointers all_directories children_from chain_from pointers directory_places trace ordered_trace
 without_place = refl
+
+-- a pointer of type IFD in a SubIFD, to which reading does not go: the GPS directory is at 44
+abbrev hidden : List ℕ
+hidden =
+    77 ∷ 77 ∷ 0 ∷ 42 ∷ 0 ∷ 0 ∷ 0 ∷ 8
+    ∷ 0 ∷ 1
+    ∷ 1 ∷ 74 ∷ 0 ∷ 4 ∷ 0 ∷ 0 ∷ 0 ∷ 1 ∷ 0 ∷ 0 ∷ 0 ∷ 26
+    ∷ 0 ∷ 0 ∷ 0 ∷ 0
+    ∷ 0 ∷ 1
+    ∷ 136 ∷ 37 ∷ 0 ∷ 13 ∷ 0 ∷ 0 ∷ 0 ∷ 1 ∷ 0 ∷ 0 ∷ 0 ∷ 44
+    ∷ 0 ∷ 0 ∷ 0 ∷ 0
+    ∷ 0 ∷ 1
+    ∷ 0 ∷ 27 ∷ 0 ∷ 129 ∷ 0 ∷ 0 ∷ 0 ∷ 6 ∷ 0 ∷ 0 ∷ 0 ∷ 62
+    ∷ 0 ∷ 0 ∷ 0 ∷ 0
+    ∷ 77 ∷ 65 ∷ 78 ∷ 85 ∷ 65 ∷ []
+
+-- it is zeros, and so is what is there of its text of six bytes, of type UTF-8
+without_hidden : erase_answer hidden
+    ≡ Ok (77 ∷ 77 ∷ 0 ∷ 42 ∷ 0 ∷ 0 ∷ 0 ∷ 8
+    ∷ 0 ∷ 1
+    ∷ 1 ∷ 74 ∷ 0 ∷ 4 ∷ 0 ∷ 0 ∷ 0 ∷ 1 ∷ 0 ∷ 0 ∷ 0 ∷ 26
+    ∷ 0 ∷ 0 ∷ 0 ∷ 0
+    ∷ 0 ∷ 1
+    ∷ 136 ∷ 37 ∷ 0 ∷ 13 ∷ 0 ∷ 0 ∷ 0 ∷ 1 ∷ 0 ∷ 0 ∷ 0 ∷ 44
+    ∷ 0 ∷ 0 ∷ 0 ∷ 0
+    ∷ 0 ∷ 0
+    ∷ 0 ∷ 0 ∷ 0 ∷ 0 ∷ 0 ∷ 0 ∷ 0 ∷ 0 ∷ 0 ∷ 0 ∷ 0 ∷ 0
+    ∷ 0 ∷ 0 ∷ 0 ∷ 0
+    ∷ 0 ∷ 0 ∷ 0 ∷ 0 ∷ 0 ∷ [])
+unfolding erase_patches reading gps_places gps_spans gps_offsets gps_pointers all_directories children_from chain_from pointers directory_places trace ordered_trace
+without_hidden = refl

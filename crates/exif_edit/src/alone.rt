@@ -13,9 +13,10 @@ ghost use Rattle.exif_edit.specs.Erasing.{is_gps};
 ghost use Rattle.exif_edit.specs.PlacesAlone.{places_stand_alone};
 ghost use Rattle.exif_edit.specs.Sharing.{beside, other_entry, stands_alone};
 
-use crate::erase::{value_span, whole_entries};
+use crate::erase::value_span;
 use crate::set::value_room;
 use exif_base::Order;
+use exif_edit_base::offsets::whole_entries;
 use exif_edit_base::patch::Patch;
 use exif_edit_base::{DirectoryPlace, EntryPlace, Walk};
 use exif_types::Context;

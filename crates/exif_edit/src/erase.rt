@@ -4,38 +4,26 @@ ghost use Rattle.std.specs.Prelude.{◌≡◌, ◌≤◌, ◌<◌, ◌+◌, ◌*
 ghost use Rattle.std.specs.List.{flat_map};
 ghost use Rattle.exif_base.specs.Bytes.{spaced};
 ghost use Rattle.exif_base.specs.Orders.{number_of};
-ghost use Rattle.exif_tiff.specs.Trace.{whole_entries};
 ghost use Rattle.exif_edit_base.specs.Causes.{Edits, Makes};
+ghost use Rattle.exif_edit_base.specs.Locations.{gps_places};
 ghost use Rattle.exif_edit_base.specs.Patches.{FitsIn, zeros_over};
 ghost use Rattle.exif_edit_base.specs.Readings.{read_of};
-ghost use Rattle.exif_edit.specs.Erasing.{clears, clipped, directory_spans, erase_answer, erase_patches, is_gps, value_span, without_gps};
+ghost use Rattle.exif_edit.specs.Erasing.{clears, clipped, directory_spans, erase_answer, erase_patches, gps_room, gps_spans, gps_value_span, is_gps, item_len, value_span, without_gps};
 ghost use Rattle.exif_edit.specs.Plans.{Plans};
 ghost use Rattle.exif_edit.specs.Promises.{IsErased};
 
 use crate::alone::places_stand_alone;
 use crate::plan::{Plan, Wanted, carry_out, try_on_copy};
 use crate::set::value_room;
-use exif_base::{BigEndian, LittleEndian, Order};
+use exif_base::Order;
+use exif_edit_base::offsets::{gps_offsets, whole_entries};
 use exif_edit_base::patch::{Patch, Span, zeros};
-use exif_edit_base::read::{locate, order_named, read};
+use exif_edit_base::read::{locate, number16, number32, order_named, read};
 use exif_edit_base::{Error, Located};
-use exif_reader::directory;
 use exif_reader::stop::Stop;
 use exif_reader::tiff::Parsed;
-use exif_types::{Context, Field};
+use exif_types::{Context, Field, FieldType};
 use std::alloc::{AllocError, Global};
-
-/// How many entries of the directory at a place are whole.
-pub fn whole_entries(order: Order, bytes: &[u8], place: u32) -> usize
-    ensures value { result ≡ whole_entries (number_of order) bytes.now place }
-    ensures room { 0 < result → place + 2 + 12 * result ≤ length bytes.now }
-    ensures small { result < 65536 }
-{
-    match order {
-        Order::Big => directory::whole_entries::<BigEndian>(bytes, place),
-        Order::Little => directory::whole_entries::<LittleEndian>(bytes, place),
-    }
-}
 
 // What of a span lies in data of a length.
 fn clipped(total: usize, span: Span) -> Span
@@ -66,7 +54,47 @@ pub fn value_span(order: Order, bytes: &[u8], entry: u32) -> Span
     }
 }
 
-// Adds zeros over the values of entries.
+// How many bytes an item of a type takes, also where reading does not know the type.
+fn item_len(field_type: u16) -> usize
+    ensures value { result ≡ item_len field_type }
+    ensures small { result ≤ 8 }
+{
+    match field_type {
+        129 => 1,
+        13 => 4,
+        _ => match FieldType::of(field_type) {
+            None => 0,
+            Some(known) => known.unit_length() as usize,
+        },
+    }
+}
+
+// Where the value of an entry of a GPS directory is, outside of the entry.
+fn gps_room(order: Order, bytes: &[u8], entry: u32) -> Span
+    requires { entry + 12 ≤ length bytes.now }
+    ensures value { result ≡ gps_room (number_of order) bytes.now entry }
+    ensures bound { result.len < 2 ^ 36 }
+{
+    let at = entry as usize;
+    let count = number32(order, bytes, at + 4) as usize;
+    let place = number32(order, bytes, at + 8);
+    let len = item_len(number16(order, bytes, at + 2)) * count;
+    if len <= 4 {
+        Span { place: 0, len: 0 }
+    } else {
+        Span { place, len }
+    }
+}
+
+// So much of it as lies in the data.
+fn gps_value_span(order: Order, bytes: &[u8], entry: u32) -> Span
+    requires { entry + 12 ≤ length bytes.now }
+    ensures { result ≡ gps_value_span (number_of order) bytes.now entry }
+{
+    clipped(bytes.len(), gps_room(order, bytes, entry))
+}
+
+// Adds zeros over the values of the entries of a GPS directory.
 fn add_values(
     alloc: Global,
     order: Order,
@@ -79,11 +107,11 @@ fn add_values(
     requires room { 0 < count → first + 12 * count ≤ length bytes.now }
     requires bound { first + 12 * count < 2 ^ 40 }
     ensures { OnOk result (patches.new.items ≡ patches.old.items ++ map zeros_over
-        (map (value_span (number_of order) bytes.now) (spaced first 12 count))) }
+        (map (gps_value_span (number_of order) bytes.now) (spaced first 12 count))) }
 {
     let mut at = first;
     for _ in 0..count {
-        let span = value_span(order, bytes, at as u32);
+        let span = gps_value_span(order, bytes, at as u32);
         let patch = zeros(alloc, span)?;
         patches.push(patch)?;
         at += 12;
@@ -129,6 +157,25 @@ fn zeroed(
     Ok(patches)
 }
 
+// Zeros over the GPS directories to which data point, whether or not reading visits them, and over
+// their values.
+fn zeros_over_gps(
+    alloc: Global,
+    order: Order,
+    bytes: &[u8],
+    visited: &[u32],
+) -> Result<Vec<Patch>, AllocError>
+    requires room { 8 ≤ length bytes.now }
+    requires small { length bytes.now < 2 ^ 32 }
+    requires visited { visited.now ≡ gps_places bytes.now }
+    ensures { IfOk result (λ ps. ps.items
+        ≡ map zeros_over (gps_spans (number_of order) bytes.now)) }
+{
+    let offsets = gps_offsets(alloc, order, bytes, visited)?;
+    let patches = zeroed(alloc, order, bytes, offsets.as_slice())?;
+    Ok(patches)
+}
+
 // Whether a field is no GPS field.
 fn is_kept(field: &Field) -> bool
     ensures { result ≡ not (is_gps field.now.tag.0) }
@@ -165,7 +212,7 @@ fn plan(alloc: Global, bytes: &[u8]) -> Result<Plan, Error>
 {
     let Located { mut parsed, walk } = locate(alloc, bytes)?;
     let order = order_named(parsed.little_endian);
-    let patches = zeroed(alloc, order, bytes, walk.gps())?;
+    let patches = zeros_over_gps(alloc, order, bytes, walk.gps())?;
     if places_stand_alone(order, bytes, patches.as_slice(), &walk) {
         return Ok(Plan {
             patches,
@@ -190,8 +237,12 @@ pub fn erase_places_patches(alloc: Global, bytes: &[u8]) -> Result<Vec<Patch>, E
     try_on_copy(alloc, bytes, plan)
 }
 
-/// Puts zeros over the GPS directories of the chain and over their values. The pointers stay, to
-/// empty directories. Places in XMP, in maker notes and in bytes that nothing points to stay too.
+/// Puts zeros over the GPS directories to which data point, and over their values: those that
+/// reading visits, and those to which a GPS pointer of type SHORT, LONG, SLONG or IFD leads from the
+/// chain, however long it is, from Exif and interoperability directories, and from SubIFDs. Of a
+/// value that is cut off by the end of the data the part that is there goes. The pointers stay, to
+/// empty directories. Locations in XMP, in maker notes and in bytes that nothing points to stay
+/// too; [`leftovers`](exif_edit_base::leftovers) says where GPS pointers lead that are not followed.
 ///
 /// Refusals are `Header` and `SharedBytes`, which places that stand alone never get (see
 /// [`laws`](crate::laws)). It takes the memory of one reading and of the zeros; and where bytes are

@@ -19,6 +19,6 @@ pub mod spell;
 
 pub use clear::{erase_all, erase_all_patches};
 pub use erase::{erase_places, erase_places_patches};
-pub use exif_edit_base::{Error, Patch};
+pub use exif_edit_base::{Error, Patch, Unerased, leftovers};
 pub use remove::{erase_field, erase_field_patches};
 pub use set::{set_value, set_value_patches};

@@ -16,11 +16,12 @@ ghost use Rattle.exif_edit.specs.Promises.{FindsNone, IsFieldErased};
 ghost use Rattle.exif_edit.specs.Removing.{directories_with, directory_patches, directory_text, directory_without, entries_text, field_answer, field_patches, has_tag, named_removals, next_text, noted, removals, still_reads, taken_spans, told_at, untold, without_named};
 ghost use Rattle.exif_edit.specs.declared.remove.Kept.{Kept};
 
-use crate::erase::{value_span, whole_entries};
+use crate::erase::value_span;
 use crate::plan::{Plan, Wanted, carry_out, try_on_copy};
 use crate::set::names_places;
 use exif_base::{BigEndian, Items, LittleEndian, Order};
 use exif_edit_base::find::is_named;
+use exif_edit_base::offsets::whole_entries;
 use exif_edit_base::patch::{Patch, padded, zeros};
 use exif_edit_base::read::{locate, number16, order_named, read};
 use exif_edit_base::{EntryPlace, Error, Located};

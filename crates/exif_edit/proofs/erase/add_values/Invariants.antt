@@ -2,7 +2,7 @@ use Rattle.std.proofs.Common.{◌≡◌, ◌≤◌, ◌<◌, ◌+◌, ◌*◌, �
 use Rattle.exif_base.specs.Bytes.{spaced}
 use Rattle.exif_base.specs.Orders.{number_of}
 use Rattle.exif_edit_base.specs.Patches.{zeros_over}
-use Rattle.exif_edit.specs.Erasing.{value_span}
+use Rattle.exif_edit.specs.Erasing.{gps_value_span}
 use Rattle.exif_edit.proofs.erase.add_values.Given as goal
 
 -- what is left of the entries adds what all of them do
@@ -12,8 +12,8 @@ invariant-loop l = record {
   bound : l.at ≡ l.first + 12 * l.counter;
   rest : l.patches.items
       ++ map zeros_over
-      (map (value_span (number_of l.order) l.bytes) (spaced l.at 12 (l.count - l.counter)))
+      (map (gps_value_span (number_of l.order) l.bytes) (spaced l.at 12 (l.count - l.counter)))
       ≡ l.fn.patches.items
       ++ map zeros_over
-      (map (value_span (number_of l.order) l.bytes) (spaced l.first 12 l.count));
+      (map (gps_value_span (number_of l.order) l.bytes) (spaced l.first 12 l.count));
 }

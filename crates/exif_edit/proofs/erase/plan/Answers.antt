@@ -5,7 +5,7 @@ use Rattle.exif_edit_base.specs.Readings.{read_of}
 use Rattle.exif_edit_base.proofs.FindSteps.{header_named}
 use Rattle.exif_edit.specs.Plans.{planned}
 use Rattle.exif_edit.proofs.PlanSteps.{any_planned}
-use Rattle.exif_edit.proofs.AloneSound.{erase_alone, places_change, zeros_found}
+use Rattle.exif_edit.proofs.AloneSound.{erase_alone, places_change}
 use Rattle.exif_edit.proofs.AloneSteps.{fit_small}
 use Rattle.exif_edit.proofs.EraseSteps.{erase_fault, erase_wanted, zeros_are}
 use Rattle.exif_edit.proofs.EraseSound.{gps_fit}
@@ -27,18 +27,16 @@ places_stand_alone-requires-clause-patches c =
     rw c.as_slice.ensures.value
     (fit_small _ _ c.in_ok-parsed.ensures.small
     (gps_fit c.args.bytes.now c.in_ok-patches.patches.items c.in_ok-parsed.field-0.parsed.little_endian
-    (zeros_are c.args.bytes.now c.in_ok-parsed.field-0.walk.gps c.in_ok-patches.patches.items
+    (zeros_are c.args.bytes.now c.in_ok-patches.patches.items
     (read_of c.in_ok-parsed.field-0.parsed) c.order_named-order.result c.order_named-order.ensures
-    c.in_ok-parsed.ensures.places.gps (rw c.gps.ensures at c.in_ok-patches.ensures))))
+    c.in_ok-patches.ensures)))
 
 pub places_stand_alone-requires-clause-erased : goal.places_stand_alone-requires-clause-erased
 places_stand_alone-requires-clause-erased c =
     rw c.as_slice.ensures.value
     (places_change (number_of c.order_named-order.result) c.args.bytes.now
     c.in_ok-patches.patches.items
-    (zeros_found c.args.bytes.now c.in_ok-parsed.field-0.walk.gps c.order_named-order.result
-    c.in_ok-patches.patches.items c.in_ok-parsed.ensures.places.gps
-    (rw c.gps.ensures at c.in_ok-patches.ensures)))
+    c.in_ok-patches.ensures)
 
 pub returns-then-places_stand_alone-clause-answer : goal.returns-then-places_stand_alone-clause-answer
 returns-then-places_stand_alone-clause-answer c =
@@ -46,31 +44,29 @@ returns-then-places_stand_alone-clause-answer c =
     ∙ sym (erase_alone c.args.bytes.now c.order_named-order.result c.in_ok-patches.patches.items
     (header_named c.args.bytes.now (read_of c.in_ok-parsed.field-0.parsed) c.in_ok-parsed.ensures.reads
     ∙ ap (λ o. Ok o) (sym c.order_named-order.ensures))
-    (zeros_found c.args.bytes.now c.in_ok-parsed.field-0.walk.gps c.order_named-order.result
-    c.in_ok-patches.patches.items c.in_ok-parsed.ensures.places.gps
-    (rw c.gps.ensures at c.in_ok-patches.ensures))
+    c.in_ok-patches.ensures
     (c.places_stand_alone.ensures c.if-places_stand_alone.true))
 
 pub returns-then-places_stand_alone-clause-within : goal.returns-then-places_stand_alone-clause-within
 returns-then-places_stand_alone-clause-within c =
     gps_fit c.args.bytes.now c.in_ok-patches.patches.items c.in_ok-parsed.field-0.parsed.little_endian
-    (zeros_are c.args.bytes.now c.in_ok-parsed.field-0.walk.gps c.in_ok-patches.patches.items
+    (zeros_are c.args.bytes.now c.in_ok-patches.patches.items
     (read_of c.in_ok-parsed.field-0.parsed) c.order_named-order.result c.order_named-order.ensures
-    c.in_ok-parsed.ensures.places.gps (rw c.gps.ensures at c.in_ok-patches.ensures))
+    c.in_ok-patches.ensures)
 
 pub returns-clause-answer : goal.returns-clause-answer
 unfolding planned
 returns-clause-answer c =
     erase_wanted c.args.bytes.now c.in_ok-patches.patches.items
     (read_of c.in_ok-parsed.field-0.parsed) c.drop_gps.new.fields.items c.in_ok-parsed.ensures.reads
-    (zeros_are c.args.bytes.now c.in_ok-parsed.field-0.walk.gps c.in_ok-patches.patches.items
+    (zeros_are c.args.bytes.now c.in_ok-patches.patches.items
     (read_of c.in_ok-parsed.field-0.parsed) c.order_named-order.result c.order_named-order.ensures
-    c.in_ok-parsed.ensures.places.gps (rw c.gps.ensures at c.in_ok-patches.ensures))
+    c.in_ok-patches.ensures)
     c.drop_gps.ensures
 
 pub returns-clause-within : goal.returns-clause-within
 returns-clause-within c =
     gps_fit c.args.bytes.now c.in_ok-patches.patches.items c.in_ok-parsed.field-0.parsed.little_endian
-    (zeros_are c.args.bytes.now c.in_ok-parsed.field-0.walk.gps c.in_ok-patches.patches.items
+    (zeros_are c.args.bytes.now c.in_ok-patches.patches.items
     (read_of c.in_ok-parsed.field-0.parsed) c.order_named-order.result c.order_named-order.ensures
-    c.in_ok-parsed.ensures.places.gps (rw c.gps.ensures at c.in_ok-patches.ensures))
+    c.in_ok-patches.ensures)
