@@ -130,24 +130,27 @@ for file in whole.jpg whole.tif whole.webp whole.heic; do
     "$mexaldor" show "work/$file" >out
     holds "$file has the new text" '"Short"'
 done
-gives "a longer text has JPEG data rewritten" 0 "$mexaldor" set work/whole.jpg work/new.jpg "ImageDescription=A text that is longer than the old one was"
-says "moved maker notes are reported" "maker notes"
+gives "a longer text is appended to the data of a JPEG file" 0 "$mexaldor" set work/whole.jpg work/new.jpg "ImageDescription=A text that is longer than the old one was"
+check "nothing is said" test ! -s err
 "$mexaldor" show work/new.jpg >out
 holds "the longer text is there" "longer than the old one"
 holds "the rest is there" "2020-02-28 23:30:00"
 "$mexaldor" thumbnail work/new.jpg work/thumbnail.jpg
 check "the thumbnail is there" test "$(wc -c <work/thumbnail.jpg)" = 4
-gives "a longer text does not fit a TIFF file" 1 "$mexaldor" set -i work/whole.tif "ImageDescription=A text that is longer than the old one was"
+gives "and to a TIFF file" 0 "$mexaldor" set -i work/whole.tif "ImageDescription=A text that is longer than the old one was"
+"$mexaldor" show work/whole.tif >out
+holds "which has the longer text" "longer than the old one"
+gives "a longer text does not fit a HEIF file" 1 "$mexaldor" set -i work/whole.heic "ImageDescription=A text that is longer than the old one was"
 says "the message says why" "too long"
+gives "a JPEG segment has an end" 1 "$mexaldor" set -i work/whole.jpg "ImageDescription=$(printf %070000d 0)"
+says "the message says it" "too large"
 gives "a picture without data gets some" 0 "$mexaldor" set -i work/plain.jpg work/plain.webp Artist=Somebody "DateTimeOriginal=2024-05-01T12:30:00" ExposureTime=1/125 FNumber=2.8
 for file in plain.jpg plain.webp; do
     "$mexaldor" json "work/$file" >out
     holds "$file has its date" "2024-05-01T12:30:00"
     holds "$file has its fraction" "[28,10]"
 done
-gives "data with a fault are not rewritten" 1 "$mexaldor" set -i work/faulty.jpg Artist=Somebody
-check "they stay" cmp files/faulty.jpg work/faulty.jpg
-gives "but a value that fits is set in them" 0 "$mexaldor" set -i work/faulty.jpg Orientation=1
+gives "a value that fits is set in data with a fault" 0 "$mexaldor" set -i work/faulty.jpg Orientation=1
 gives "a text is no number" 1 "$mexaldor" set -i work/whole.jpg Orientation=up
 gives "an offset can't be set" 1 "$mexaldor" set -i work/whole.jpg ExifIFDPointer=8
 gives "an unknown tag is refused" 2 "$mexaldor" set -i work/whole.jpg Orientatoin=1

@@ -90,4 +90,130 @@ if has exiv2; then
     check "exiv2 reads the new orientation, and all else as before" test "$(diff old new | grep -c '^>')" = 1
 fi
 
+# others FILE TAG: what exiftool reads of a file, and the thumbnail itself, but for one tag, the size and
+# the thumbnail's offset in the file. A rewritten WebP file has its Exif data last.
+others() {
+    seen "$1" 2>/dev/null | grep -v -e "FileSize" -e "ThumbnailOffset" -e "MPImageStart" -e "MPImageLength" -e "MPF" -e "^\[[A-Za-z0-9]*\] *$2 " | sort
+    exiftool -b -ThumbnailImage "$1" 2>/dev/null | cksum
+}
+
+# warnings FILE: what exiftool finds wrong, but that a new directory lacks the field of its version.
+warnings() {
+    exiftool -validate -warning -a -s3 "$1" | tail -n +2 | grep -v "Missing required" | sort
+}
+
+# grows FILE TAG VALUE: a longer value or a new field is read by exiftool, and all else as before.
+grows() {
+    new=work/new.${1##*.}
+    rm -f "$new"
+    "$mexaldor" set "$1" "$new" "$2=$3"
+    check "$1: exiftool reads the new $2" test "$(exiftool -s3 -"$2" "$new")" = "$3"
+    others "$1" "$2" >old
+    others "$new" "$2" >new
+    check "$1: and all else as before $2" cmp old new
+    warnings "$1" >old.warnings
+    warnings "$new" >new.warnings
+    check "$1: $2 brings no warning" cmp old.warnings new.warnings
+    if has exiv2; then
+        exiv2 -PEkycv "$1" 2>old.errors | grep -v "\.$2 " | grep -v "Exif.*Tag " >old
+        exiv2 -PEkycv "$new" 2>new.errors | grep -v "\.$2 " | grep -v "Exif.*Tag " >new
+        check "$1: exiv2 reads all else as before $2" cmp old new
+        check "$1: exiv2 finds nothing new wrong" cmp old.errors new.errors
+    fi
+}
+
+# A picture as cameras write them: maker notes, a sub-directory, an uncompressed thumbnail, and a second
+# picture that an MPF segment points to; and a TIFF picture with strips, whose sub-directory has a tile.
+python3 - files/plain.jpg work/rich.jpg work/rich.tif <<'RICH'
+import struct, sys
+
+def directory(entries, at, following=0):
+    """A directory at an offset: entries of tag, type, count and bytes; values follow it."""
+    values, behind = b"", at + 2 + 12 * len(entries) + 4
+    listed = struct.pack(">H", len(entries))
+    for tag, kind, count, value in sorted(entries):
+        if len(value) > 4:
+            listed += struct.pack(">HHII", tag, kind, count, behind + len(values))
+            values += value + b"\0" * (len(value) % 2)
+        else:
+            listed += struct.pack(">HHI", tag, kind, count) + value.ljust(4, b"\0")
+    return listed + struct.pack(">I", following) + values
+
+def short(*numbers):
+    return struct.pack(f">{len(numbers)}H", *numbers)
+
+def long(*numbers):
+    return struct.pack(f">{len(numbers)}I", *numbers)
+
+def laid(*parts):
+    """TIFF data of parts, each a function of its offset and of the offsets of all."""
+    offsets = [8] * len(parts)
+    for _ in parts:
+        data = b"MM\0*\0\0\0\x08"
+        for number, part in enumerate(parts):
+            offsets[number] = len(data)
+            data += part(offsets[number], offsets)
+            data += b"\0" * (len(data) % 2)
+    return data
+
+NOTES = b"\0\1\0\6\0\2\0\0\0\x14"
+data = laid(
+    lambda at, o: directory([(0x10F, 2, 6, b"Canon\0"), (0x112, 3, 1, short(6)), (0x14A, 4, 1, long(o[4])),
+                             (0x8769, 4, 1, long(o[1]))], at, o[5]),
+    lambda at, o: directory([(0x9003, 2, 20, b"2020:02:28 23:30:00\0"), (0x927C, 7, 18, NOTES + long(o[3]) + b"\0" * 4)], at),
+    lambda at, o: b"",
+    lambda at, o: b"Canon PowerShot S30\0",
+    lambda at, o: directory([(0xFE, 4, 1, long(1)), (0x100, 3, 1, short(1)), (0x101, 3, 1, short(1)), (0x10E, 2, 5, b"Sub1\0")], at),
+    lambda at, o: directory([(0xFE, 4, 1, long(1)), (0x100, 3, 1, short(2)), (0x101, 3, 1, short(2)), (0x102, 3, 3, short(8, 8, 8)), (0x103, 3, 1, short(1)),
+                             (0x106, 3, 1, short(2)), (0x111, 4, 1, long(o[6])), (0x115, 3, 1, short(3)), (0x116, 3, 1, short(2)),
+                             (0x117, 4, 1, long(12))], at),
+    lambda at, o: bytes(range(12)))
+plain = open(sys.argv[1], "rb").read()
+
+def segment(code, body):
+    return bytes([255, code]) + struct.pack(">H", len(body) + 2) + body
+
+def mpf(first, second):
+    entries = long(0x20030000, first, 0, 0) + long(0x00000000, len(plain), second, 0)
+    return segment(0xE2, b"MPF\0MM\0*\0\0\0\x08" + directory([(0xB000, 7, 4, b"0100"), (0xB001, 4, 1, long(2)), (0xB002, 7, 32, entries)], 8))
+
+start = plain[:2] + segment(0xE1, b"Exif\0\0" + data)
+first = len(start + mpf(0, 0) + plain[2:])
+open(sys.argv[2], "wb").write(start + mpf(first, first - len(start) - 8) + plain[2:] + plain)
+picture = laid(
+    lambda at, o: directory([(0x100, 3, 1, short(4)), (0x101, 3, 1, short(4)), (0x102, 3, 1, short(8)), (0x103, 3, 1, short(1)),
+                             (0x106, 3, 1, short(1)), (0x111, 4, 2, long(o[1], o[2])), (0x115, 3, 1, short(1)), (0x116, 3, 1, short(2)),
+                             (0x117, 4, 2, long(8, 8)), (0x11A, 5, 1, long(72, 1)), (0x11B, 5, 1, long(72, 1)), (0x128, 3, 1, short(2)),
+                             (0x14A, 4, 1, long(o[3]))], at),
+    lambda at, o: bytes(range(8)),
+    lambda at, o: bytes(range(100, 108)),
+    lambda at, o: directory([(0xFE, 4, 1, long(1)), (0x100, 3, 1, short(16)), (0x101, 3, 1, short(16)), (0x102, 3, 1, short(8)),
+                             (0x103, 3, 1, short(1)), (0x106, 3, 1, short(1)), (0x115, 3, 1, short(1)), (0x142, 3, 1, short(16)),
+                             (0x143, 3, 1, short(16)), (0x144, 4, 1, long(o[4])), (0x145, 4, 1, long(256))], at),
+    lambda at, o: bytes(range(256)))
+open(sys.argv[3], "wb").write(picture)
+RICH
+check "exiftool reads the notes of the rich picture" test "$(exiftool -s3 -CanonImageType work/rich.jpg)" = "Canon PowerShot S30"
+check "and its second picture" sh -c 'exiftool -b -MPImage2 work/rich.jpg | cmp - files/plain.jpg'
+
+long="A text that is much longer than what stood there before it was set"
+for file in work/all.jpg work/noted.jpg work/rich.jpg work/rich.tif files/whole.jpg files/whole.webp files/whole.tif files/big.tif; do
+    for tag in ImageDescription Artist LensMake Copyright; do
+        grows "$file" "$tag" "$long about $tag"
+    done
+done
+grows files/whole.tif GPSDateStamp "2020:02:28"
+
+if has tiffcmp; then
+    "$mexaldor" set work/rich.tif work/new.tif "LensMake=$long" "Copyright=$long"
+    check "tiffcmp finds the same pixels" sh -c 'tiffcmp work/rich.tif work/new.tif'
+fi
+"$mexaldor" set work/rich.jpg work/new.jpg "Artist=$long" "LensMake=$long"
+check "the second picture is the same" sh -c 'exiftool -b -MPImage2 work/new.jpg | cmp - files/plain.jpg'
+if has djpeg; then
+    djpeg work/rich.jpg >old
+    djpeg work/new.jpg >new
+    check "djpeg gives the same pixels" cmp old new
+fi
+
 ends

@@ -35,7 +35,7 @@ number_of status.NoDirectory = 24
 number_of status.FullDirectory = 25
 number_of status.NoAssignment = 32
 number_of status.NotOfItsType = 33
-number_of status.OtherThumbnail = 34
+number_of status.SecondExif = 34
 number_of status.NoDate = 35
 number_of status.InvalidDate = 36
 number_of status.DateOutOfRange = 37
@@ -64,7 +64,7 @@ text_of status.NoDirectory = codes "No directory to put the field into"
 text_of status.FullDirectory = codes "The directory has no space for an entry"
 text_of status.NoAssignment = codes "Expected TAG=VALUE with a known tag"
 text_of status.NotOfItsType = codes "Invalid value for the type of the field"
-text_of status.OtherThumbnail = codes "Rewriting the data would lose the thumbnail"
+text_of status.SecondExif = codes "The file has more than one block of Exif data, and only one would be left"
 text_of status.NoDate = codes "No date to shift"
 text_of status.InvalidDate = codes "Invalid date"
 text_of status.DateOutOfRange = codes "The shifted date is out of range"
@@ -78,7 +78,7 @@ all =
     status.FieldNotFound ∷ status.UnknownType ∷ status.ValueTooLong ∷ status.NamesPlaces ∷
     status.SharedBytes ∷ status.ScatteredData ∷ status.PictureData ∷ status.InvalidHeader ∷
     status.NoDirectory ∷ status.FullDirectory ∷
-    status.NoAssignment ∷ status.NotOfItsType ∷ status.OtherThumbnail ∷ status.NoDate ∷
+    status.NoAssignment ∷ status.NotOfItsType ∷ status.SecondExif ∷ status.NoDate ∷
     status.InvalidDate ∷ status.DateOutOfRange ∷ status.NoThumbnail ∷ []
 
 -- the one of a number
@@ -148,7 +148,7 @@ refusal_status change.UnknownFormat = status.InvalidFormat
 refusal_status change.FieldNotFound = status.FieldNotFound
 refusal_status change.PictureData = status.PictureData
 refusal_status change.NotOfItsType = status.NotOfItsType
-refusal_status change.OtherThumbnail = status.OtherThumbnail
+refusal_status change.SecondExif = status.SecondExif
 refusal_status change.NoDate = status.NoDate
 refusal_status change.InvalidDate = status.InvalidDate
 refusal_status change.DateOutOfRange = status.DateOutOfRange

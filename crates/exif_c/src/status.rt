@@ -54,8 +54,8 @@ pub enum Status {
     NoAssignment,
     /// Invalid value for the type of the field.
     NotOfItsType,
-    /// Rewriting the data would lose the thumbnail.
-    OtherThumbnail,
+    /// The file has more than one block of Exif data, and only one would be left.
+    SecondExif,
     /// There is no date to shift.
     NoDate,
     /// A date is none of the calendar.
@@ -93,7 +93,7 @@ impl Status {
             Status::FullDirectory => 25,
             Status::NoAssignment => 32,
             Status::NotOfItsType => 33,
-            Status::OtherThumbnail => 34,
+            Status::SecondExif => 34,
             Status::NoDate => 35,
             Status::InvalidDate => 36,
             Status::DateOutOfRange => 37,
@@ -127,7 +127,8 @@ impl Status {
             Status::FullDirectory => "The directory has no space for an entry",
             Status::NoAssignment => "Expected TAG=VALUE with a known tag",
             Status::NotOfItsType => "Invalid value for the type of the field",
-            Status::OtherThumbnail => "Rewriting the data would lose the thumbnail",
+            Status::SecondExif =>
+                "The file has more than one block of Exif data, and only one would be left",
             Status::NoDate => "No date to shift",
             Status::InvalidDate => "Invalid date",
             Status::DateOutOfRange => "The shifted date is out of range",
@@ -161,7 +162,7 @@ impl Status {
             Status::FullDirectory,
             Status::NoAssignment,
             Status::NotOfItsType,
-            Status::OtherThumbnail,
+            Status::SecondExif,
             Status::NoDate,
             Status::InvalidDate,
             Status::DateOutOfRange,
@@ -227,7 +228,7 @@ pub fn refusal_status(refusal: &Refusal) -> Status
         Refusal::FieldNotFound => Status::FieldNotFound,
         Refusal::PictureData => Status::PictureData,
         Refusal::NotOfItsType => Status::NotOfItsType,
-        Refusal::OtherThumbnail => Status::OtherThumbnail,
+        Refusal::SecondExif => Status::SecondExif,
         Refusal::NoDate => Status::NoDate,
         Refusal::InvalidDate => Status::InvalidDate,
         Refusal::DateOutOfRange => Status::DateOutOfRange,

@@ -1,10 +1,10 @@
 //! What the program changes of a file, in memory: metadata taken out, values set, dates shifted,
-//! the thumbnail. Each call answers the whole new file, and a refusal is told by its cause.
+//! the thumbnail. Each call answers the whole new file, and a refusal by its cause.
 #![tactic(auto)]
 
 mod assignment;
-mod block;
 mod clock;
+mod growing;
 mod in_place;
 mod new_fields;
 mod reading;
@@ -19,5 +19,5 @@ pub use clock::{ClockShift, Dates, shift};
 pub use reading::{ENTRY_LIMIT, read};
 pub use refusal::Refusal;
 pub use scrubbing::{Removed, scrub};
-pub use setting::{Changed, set, set_here};
+pub use setting::{set, set_here};
 pub use thumbnails::thumbnail;

@@ -1,27 +1,11 @@
 //! Files as they are read before they are changed.
 
-ghost use Rattle.std.specs.Prelude.{false, Some};
-ghost use Rattle.exif_containers.specs.Container.{container_answer};
-ghost use Rattle.exif_reader.specs.Files.{ReadsContainer};
-ghost use Rattle.exif_tiff.specs.Answers.{raw_answer};
-ghost use Rattle.exif_change.specs.Setting.{entry_limit};
-
 use exif::{Counted, Error, Exif, Reader};
 use std::alloc::Global;
 
 /// How many entries of a file are read at most: data of 14 KB that share their children hold
 /// millions.
 pub const ENTRY_LIMIT: u64 = 1_000_000;
-
-/// The fields of a file, or its first fault.
-pub fn read_strictly(alloc: Global, file: &[u8]) -> Result<Exif, Error>
-    ensures { ReadsContainer (raw_answer false (Some entry_limit)) (container_answer file.now)
-        result }
-{
-    let mut reader = Reader::new();
-    reader.limit_entries(ENTRY_LIMIT);
-    reader.read_from_container(alloc, &mut Counted::new(file))
-}
 
 /// The fields of a file; soft faults are passed over.
 pub fn read(alloc: Global, file: &[u8]) -> Result<Exif, Error> {

@@ -14,8 +14,8 @@ pub enum Refusal {
     UnknownFormat,
     /// The metadata of TIFF data can't be taken out: the picture stands in them.
     PictureData,
-    /// The new Exif data would lose a thumbnail that is no JPEG.
-    OtherThumbnail,
+    /// The file has more than one block of Exif data, and only one would be left.
+    SecondExif,
     /// The file has no such field, and the standard's type of it is not known here.
     FieldNotFound,
     /// Invalid value for the type of the field.
@@ -68,10 +68,10 @@ impl fmt::Display for Refusal {
                     "The picture is in the same data (--places-only erases its GPS data)"
                 )
             }
-            Refusal::OtherThumbnail => {
+            Refusal::SecondExif => {
                 write!(
                     f,
-                    "The value does not fit, and rewriting the data would lose the thumbnail"
+                    "The file has more than one block of Exif data, and only one would be left"
                 )
             }
             Refusal::FieldNotFound => write!(f, "No such field, and it cannot be created"),

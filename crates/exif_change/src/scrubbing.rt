@@ -5,7 +5,7 @@ ghost use Rattle.exif_change.specs.Changes.{IsErased, IsScrubbed};
 ghost use Rattle.exif_edit.specs.Erasing.{erase_patches};
 ghost use Rattle.exif_edit_files.specs.InFiles.{clear_file_patches, in_file};
 
-use crate::block::written;
+use crate::growing::written;
 use crate::{Refusal, read};
 use exif_containers::container::{Format, format_of};
 use exif_edit::Error;

@@ -2,48 +2,43 @@
 
 ghost use Rattle.std.specs.Prelude.{◌≡◌, ◌<◌, ◌+◌, ◌++◌, drop, length, map, IfOk, OnOk, OnErr};
 ghost use Rattle.std.specs.List.{All};
-ghost use Rattle.exif_change.specs.Setting.{HoldsFields, IsSet, IsSetHere, IsWrittenAnew, WasThere, assigned_tags, fields_of, is_assigned};
+ghost use Rattle.exif_change.specs.Setting.{IsSet, IsSetHere, WasThere, assigned_tags, is_assigned};
 
-use crate::block::{has_room, of_fields, with_fields, written};
+use crate::growing::{can_grow, with_fields};
 use crate::in_place::set_what_fits;
 use crate::new_fields::type_of_new;
-use crate::reading::read_strictly;
 use crate::value_text::value_of;
 use crate::{Assignment, Refusal, read};
 use exif::{Exif, Field, In, Tag};
 use exif_containers::container::format_of;
 use exif_edit_files::set_value_in_file;
-use exif_rewrite::Remove;
 use std::alloc::Global;
 
-/// A file in which values were set.
-#[derive(Drop)]
-pub struct Changed {
-    /// Its bytes.
-    pub file: Vec<u8>,
-    /// Whether its maker notes have moved, which may count places from the start of the data.
-    pub moved_notes: bool,
-}
-
-/// The file with values set: in place where they fit, else by newly written Exif data, which JPEG
-/// and WebP files have room for. Of two values of one tag the last is set. A field that the file
-/// has keeps its type; one that it lacks has the type of the standard. Data with a fault are not
-/// written anew, since what can't be read of them would be lost.
-pub fn set(alloc: Global, file: Vec<u8>, assignments: &[Assignment<'_>]) -> Result<Changed, Refusal>
-    ensures { IfOk result (λ changed. IsSet assignments.now file.items changed.file.items) }
+/// The file with values set. A value that fits is written over the old one; another one, or a new
+/// field, is appended to the Exif data, in which no old byte moves: maker notes, previews and
+/// thumbnails keep their offsets. JPEG and WebP files that have no Exif data get new ones; those of
+/// HEIF files cannot become longer. Of two values of one tag the last is set. A field that the file
+/// has keeps its type; one that it lacks has the type of the standard.
+///
+/// It takes the memory of the file, of the new one, and of what
+/// [`set_fields`](exif_grow::set_fields) takes.
+pub fn set(alloc: Global, file: Vec<u8>, assignments: &[Assignment<'_>]) -> Result<Vec<u8>, Refusal>
+    ensures { IfOk result (λ new. IsSet assignments.now file.items new.items) }
 {
     let Some(format) = format_of(file.as_slice()) else {
         return Err(Refusal::UnknownFormat);
     };
     let fields = assigned(alloc, &file, assignments)?;
-    let fitted = set_what_fits(alloc, file, fields, has_room(format))?;
+    let fitted = set_what_fits(alloc, file, fields, can_grow(format))?;
     if fitted.left.is_empty() {
-        return Ok(Changed {
-            file: fitted.file,
-            moved_notes: false,
-        });
+        return Ok(fitted.file);
     }
-    moved(alloc, fitted.file.as_slice(), fitted.left.as_slice())
+    with_fields(
+        alloc,
+        format,
+        fitted.file.as_slice(),
+        fitted.left.as_slice(),
+    )
 }
 
 /// Sets one field of the primary image in a file where it stands: the file keeps its length. After a
@@ -137,32 +132,4 @@ fn field_for(
         ifd_num: In::PRIMARY,
         value: value_of(alloc, tag, field_type, assignment.text)?,
     })
-}
-
-// The file with newly written Exif data, in which these fields are set. Data with a fault are
-// refused: what can't be read of them would be lost.
-fn moved(alloc: Global, file: &[u8], fields: &[Field]) -> Result<Changed, Refusal>
-    ensures { IfOk result
-        (λ changed. IsWrittenAnew fields.now file.now changed.file.items) }
-{
-    let old = strictly(alloc, file)?;
-    let block = match &old {
-        Some(exif) => with_fields(alloc, exif, fields)?,
-        None => of_fields(alloc, fields)?,
-    };
-    let file = written(alloc, file, Some(block.as_slice()), Remove::Exif)?;
-    let notes = old
-        .as_ref()
-        .and_then(|exif| exif.get_field(Tag::MakerNote, In::PRIMARY));
-    Ok(Changed {
-        file,
-        moved_notes: notes.is_some(),
-    })
-}
-
-// What a file is read as without a fault, if it holds Exif data.
-fn strictly(alloc: Global, file: &[u8]) -> Result<Option<Exif>, Refusal>
-    ensures { IfOk result (λ found. HoldsFields file.now (fields_of found)) }
-{
-    if_there(read_strictly(alloc, file))
 }

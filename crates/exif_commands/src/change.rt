@@ -5,7 +5,7 @@ use crate::replace::replace;
 use crate::request::{Change, Keeping, Target};
 use exif::{Error, Sink};
 use exif_base::send_all;
-use exif_change::{Changed, Refusal, scrub, set, shift};
+use exif_change::{Refusal, scrub, set, shift};
 use std::alloc::Global;
 use std::{fmt, io};
 
@@ -39,15 +39,6 @@ impl fmt::Display for Trouble {
     }
 }
 
-/// What became of a file.
-#[derive(Clone, Copy)]
-pub enum Done {
-    /// All that was asked for.
-    Whole,
-    /// That, but its maker notes have moved.
-    NotesMoved,
-}
-
 /// Changes a file, and puts the new one where it belongs. A file that stays as it is is not
 /// replaced by itself.
 pub fn change<W: Sink>(
@@ -56,10 +47,10 @@ pub fn change<W: Sink>(
     target: Target<'_>,
     path: &str,
     out: &mut W,
-) -> Result<Done, Trouble> {
+) -> Result<(), Trouble> {
     let old = read_file(rt, path)?;
     let new = changed(rt.alloc(), change, &old)?;
-    let bytes = new.file.as_slice();
+    let bytes = new.as_slice();
     match target {
         Target::Out("-") => send_all(out, bytes)?,
         Target::Out(to) => replace(rt, to, bytes, Keeping::NOTHING)?,
@@ -67,23 +58,15 @@ pub fn change<W: Sink>(
         Target::InPlace(_) if bytes == old.as_slice() => {}
         Target::InPlace(keeping) => replace(rt, path, bytes, keeping)?,
     }
-    Ok(if new.moved_notes {
-        Done::NotesMoved
-    } else {
-        Done::Whole
-    })
+    Ok(())
 }
 
 // The changed file.
-fn changed(alloc: Global, change: &Change<'_>, old: &Vec<u8>) -> Result<Changed, Refusal> {
+fn changed(alloc: Global, change: &Change<'_>, old: &Vec<u8>) -> Result<Vec<u8>, Refusal> {
     let file = Vec::from_slice(alloc, old.as_slice())?;
-    let file = match change {
-        Change::Scrub(removed) => scrub(alloc, file, *removed)?,
-        Change::Shift(by, dates) => shift(alloc, file, *by, *dates)?,
-        Change::Set(values) => return set(alloc, file, values.as_slice()),
-    };
-    Ok(Changed {
-        file,
-        moved_notes: false,
-    })
+    match change {
+        Change::Scrub(removed) => scrub(alloc, file, *removed),
+        Change::Shift(by, dates) => shift(alloc, file, *by, *dates),
+        Change::Set(values) => set(alloc, file, values.as_slice()),
+    }
 }

@@ -1,6 +1,6 @@
 //! Many files in turn: what is wrong with one is told, and the others go on.
 
-use crate::change::{Done, Trouble, change};
+use crate::change::{Trouble, change};
 use crate::inputs::{is_picture, open};
 use crate::json::object_of;
 use crate::pending::{Next, Pending};
@@ -114,7 +114,7 @@ impl<'r, 'a, W: Sink, E: Sink> Turns<'r, 'a, W, E> {
             }
             Task::Thumbnail(to) => {
                 let answer = write_thumbnail(self.rt, path, to, self.out);
-                self.settle(path, answer.map(|()| Done::Whole))
+                self.settle(path, answer)
             }
         }
     }
@@ -136,16 +136,9 @@ impl<'r, 'a, W: Sink, E: Sink> Turns<'r, 'a, W, E> {
     }
 
     // The status of a file that was changed, or was not.
-    fn settle(&mut self, path: &str, answer: Result<Done, Trouble>) -> Result<Status, Error> {
+    fn settle(&mut self, path: &str, answer: Result<(), Trouble>) -> Result<Status, Error> {
         match answer {
-            Ok(Done::Whole) => Ok(Status::Well),
-            Ok(Done::NotesMoved) => {
-                self.say(
-                    path,
-                    &"maker notes were moved; offsets inside them may be wrong",
-                )?;
-                Ok(Status::Well)
-            }
+            Ok(()) => Ok(Status::Well),
             Err(trouble) => self.refuse(path, &trouble),
         }
     }

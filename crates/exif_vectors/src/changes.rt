@@ -3,7 +3,7 @@
 use crate::calls::{end_of, end_of_error, send};
 use exif::{Sink, Source};
 use exif_cases::{Call, Case, CaseError};
-use exif_change::{Assignment, Changed, ClockShift, Dates, Refusal, Removed, read, thumbnail};
+use exif_change::{Assignment, ClockShift, Dates, Refusal, Removed, read, thumbnail};
 use exif_containers::util::read_all;
 use std::alloc::{AllocError, Global};
 use std::fmt::Display;
@@ -78,20 +78,7 @@ fn assigned(alloc: Global, case: &Case, old: Vec<u8>) -> Result<Answer, CaseErro
         };
         assignments.push(assignment)?;
     }
-    file_of(exif_change::set(alloc, old, assignments.as_slice()))
-}
-
-// The file of an answer. No case moves a maker note.
-fn file_of(answer: Result<Changed, Refusal>) -> Result<Answer, CaseError> {
-    match answer {
-        Ok(changed) => {
-            if changed.moved_notes {
-                return Err(CaseError::Line("a maker note has moved"));
-            }
-            Ok(Ok(changed.file))
-        }
-        Err(refusal) => Ok(Err(refusal)),
-    }
+    Ok(exif_change::set(alloc, old, assignments.as_slice()))
 }
 
 fn shifted(alloc: Global, case: &Case, old: Vec<u8>) -> Result<Answer, CaseError> {

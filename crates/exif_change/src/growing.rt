@@ -1,0 +1,122 @@
+//! Files with fields set in their Exif data, which become longer, or in new ones.
+
+ghost use Rattle.std.specs.Prelude.{◌≡◌, ◌<◌, ◌+◌, [], Some, Ok, length, IfOk, OnOk};
+ghost use Rattle.exif_base.specs.Orders.{order_named};
+ghost use Rattle.exif_layout.specs.Image.{image};
+ghost use Rattle.exif_layout.specs.Rewriting.{pushed_all};
+ghost use Rattle.exif_containers.specs.Removing.{payload_of};
+ghost use Rattle.exif_change.specs.Changes.{IsRewritten};
+ghost use Rattle.exif_containers.specs.declared.remove.Remove.TheVariants.{Exif};
+ghost use Rattle.exif_change.specs.Growing.{HasGrown, IsReplacedIn, can_grow, new_data};
+
+use crate::Refusal;
+use exif::experimental::Writer;
+use exif::{Counted, Error, Field};
+use exif_containers::container::Format;
+use exif_containers::exif_attr_of_stream;
+use exif_grow::set_fields;
+use exif_rewrite::{Remove, rewrite};
+use std::alloc::Global;
+
+// No segment or chunk of Exif data has fewer bytes, its header included.
+const SHORTEST_BLOCK: usize = 8;
+
+/// Whether the Exif data of a file of this format can become longer.
+pub fn can_grow(format: Format) -> bool
+    ensures { result ≡ can_grow (Some format) }
+{
+    matches!(format, Format::Tiff | Format::Jpeg | Format::WebP)
+}
+
+/// The file with fields set in its Exif data by [`set_fields`], or in new Exif data if it has none.
+pub fn with_fields(
+    alloc: Global,
+    format: Format,
+    file: &[u8],
+    fields: &[Field],
+) -> Result<Vec<u8>, Refusal>
+    ensures { IfOk result (λ new. HasGrown (Some format) fields.now file.now new.items) }
+{
+    match exif_attr_of_stream(alloc, &mut Counted::new(file)) {
+        Ok(old) => {
+            let data = set_fields(alloc, old.as_slice(), fields)?;
+            replaced(alloc, format, file, old.len(), data)
+        }
+        Err(Error::NotFound(_)) => {
+            let data = new_data(alloc, fields)?;
+            Ok(written(alloc, file, Some(data.as_slice()), Remove::Exif)?)
+        }
+        Err(error) => Err(Refusal::Reading(error)),
+    }
+}
+
+// The file with new Exif data in place of its own, of which there are so many bytes.
+fn replaced(
+    alloc: Global,
+    format: Format,
+    file: &[u8],
+    old_len: usize,
+    data: Vec<u8>,
+) -> Result<Vec<u8>, Refusal>
+    ensures { IfOk result
+        (λ new. IsReplacedIn (Some format) old_len data.items file.now new.items) }
+{
+    match format {
+        Format::Tiff => Ok(data),
+        Format::Jpeg | Format::WebP => put_into(alloc, file, old_len, data.as_slice()),
+        Format::Heif => Err(Refusal::Editing(exif_edit::Error::ValueTooLong)),
+    }
+}
+
+// The JPEG or WebP file with new Exif data in place of its own, unless it has others too, which would
+// be lost.
+fn put_into(alloc: Global, file: &[u8], old_len: usize, data: &[u8]) -> Result<Vec<u8>, Refusal>
+    ensures put { IfOk result
+        (λ new. IsRewritten Exif (Some data.now) file.now new.items) }
+    ensures alone { IfOk result
+        (λ new. length file.now + length data.now < length new.items + old_len + 8) }
+{
+    let new = written(alloc, file, Some(data), Remove::Exif)?;
+    let before = file.len() as u128 + data.len() as u128;
+    let after = new.len() as u128 + old_len as u128;
+    if before >= after + SHORTEST_BLOCK as u128 {
+        return Err(Refusal::SecondExif);
+    }
+    Ok(new)
+}
+
+// New Exif data that hold these fields alone, big endian.
+fn new_data(alloc: Global, fields: &[Field]) -> Result<Vec<u8>, Error>
+    ensures { IfOk result (λ bytes. bytes.items ≡ new_data fields.now) }
+{
+    let mut writer = Writer::new(alloc);
+    push_all(&mut writer, fields)?;
+    let mut out = Counted::new(Vec::new(alloc));
+    writer.write(&mut out, false)?;
+    Ok(out.into_inner())
+}
+
+// Pushes fields.
+fn push_all<'a>(writer: &mut Writer<'a>, fields: &'a [Field]) -> Result<(), Error>
+    ensures { OnOk result (writer.new ≡ pushed_all fields.now writer.old) }
+{
+    for field in fields {
+        writer.push_field(field)?;
+    }
+    Ok(())
+}
+
+/// The JPEG or WebP file with new Exif data in place of its own.
+pub fn written(
+    alloc: Global,
+    file: &[u8],
+    data: Option<&[u8]>,
+    remove: Remove,
+) -> Result<Vec<u8>, Error>
+    ensures { IfOk result
+        (λ new. IsRewritten remove (payload_of data.entry) file.now new.items) }
+{
+    let mut out = Counted::new(Vec::new(alloc));
+    rewrite(alloc, &mut Counted::new(file), &mut out, data, remove)?;
+    Ok(out.into_inner())
+}
