@@ -8,7 +8,7 @@ use Rattle.exif_text.specs.Plain.{zero_filled}
 use Rattle.exif_table.specs.declared.context.Context.TheVariants.{Exif}
 use Rattle.exif_datetime.specs.Dates.{calendar_date, read_date, read_offset, read_subsec, time_of_day, with_offset, with_subsec}
 use Rattle.exif_types.specs.Refusals.{Refusal}
-use Rattle.exif_types.specs.declared.datetime.DateTime.{DateTime}
+use Rattle.exif_datetime.specs.declared.datetime.DateTime.{DateTime}
 use Rattle.exif_types.specs.declared.field.Field.{Field}
 use Rattle.exif_json.specs.Finding.{text_found}
 

@@ -4,7 +4,7 @@ use Rattle.json.specs.Json as J
 use Rattle.json.specs.Json.{Json}
 use Rattle.exif_table.specs.declared.context.Context.TheVariants.{Tiff, Exif}
 use Rattle.exif_types.specs.declared.field.Field.{Field}
-use Rattle.exif_types.specs.declared.datetime.DateTime.{DateTime}
+use Rattle.exif_datetime.specs.declared.datetime.DateTime.{DateTime}
 use Rattle.exif_json.specs.Dates.{date_taken, iso_text}
 use Rattle.exif_json.specs.Finding.{degrees_of, number_of, orientation_of, text_found}
 use Rattle.exif_json.specs.Places.{Degrees, degrees_text, latitude, longitude}
