@@ -56,28 +56,28 @@ fn replaced(
     format: Format,
     file: &[u8],
     old_len: usize,
-    data: Vec<u8>,
+    exif: Vec<u8>,
 ) -> Result<Vec<u8>, Refusal>
     ensures { IfOk result
-        (λ new. IsReplacedIn (Some format) old_len data.items file.now new.items) }
+        (λ new. IsReplacedIn (Some format) old_len exif.items file.now new.items) }
 {
     match format {
-        Format::Tiff => Ok(data),
-        Format::Jpeg | Format::WebP => put_into(alloc, file, old_len, data.as_slice()),
+        Format::Tiff => Ok(exif),
+        Format::Jpeg | Format::WebP => put_into(alloc, file, old_len, exif.as_slice()),
         Format::Heif => Err(Refusal::Editing(exif_edit::Error::ValueTooLong)),
     }
 }
 
 // The JPEG or WebP file with new Exif data in place of its own, unless it has others too, which would
 // be lost.
-fn put_into(alloc: Global, file: &[u8], old_len: usize, data: &[u8]) -> Result<Vec<u8>, Refusal>
+fn put_into(alloc: Global, file: &[u8], old_len: usize, exif: &[u8]) -> Result<Vec<u8>, Refusal>
     ensures put { IfOk result
-        (λ new. IsRewritten Exif (Some data.now) file.now new.items) }
+        (λ new. IsRewritten Exif (Some exif.now) file.now new.items) }
     ensures alone { IfOk result
-        (λ new. length file.now + length data.now < length new.items + old_len + 8) }
+        (λ new. length file.now + length exif.now < length new.items + old_len + 8) }
 {
-    let new = written(alloc, file, Some(data), Remove::Exif)?;
-    let before = file.len() as u128 + data.len() as u128;
+    let new = written(alloc, file, Some(exif), Remove::Exif)?;
+    let before = file.len() as u128 + exif.len() as u128;
     let after = new.len() as u128 + old_len as u128;
     if before >= after + SHORTEST_BLOCK as u128 {
         return Err(Refusal::SecondExif);
@@ -110,13 +110,13 @@ fn push_all<'a>(writer: &mut Writer<'a>, fields: &'a [Field]) -> Result<(), Erro
 pub fn written(
     alloc: Global,
     file: &[u8],
-    data: Option<&[u8]>,
+    exif: Option<&[u8]>,
     remove: Remove,
 ) -> Result<Vec<u8>, Error>
     ensures { IfOk result
-        (λ new. IsRewritten remove (payload_of data.entry) file.now new.items) }
+        (λ new. IsRewritten remove (payload_of exif.entry) file.now new.items) }
 {
     let mut out = Counted::new(Vec::new(alloc));
-    rewrite(alloc, &mut Counted::new(file), &mut out, data, remove)?;
+    rewrite(alloc, &mut Counted::new(file), &mut out, exif, remove)?;
     Ok(out.into_inner())
 }
