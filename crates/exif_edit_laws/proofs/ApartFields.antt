@@ -208,8 +208,8 @@ last_apart tag k bytes order at head last apart =
 
 -- where reading looks at no byte as two things, GPS directories and values stand alone
 pub places_alone : (bytes : List ℕ) → PlacesStandAlone bytes
-places_alone bytes order head apart =
-    places_apart bytes order head (looked_apart bytes order head apart)
+places_alone bytes order head visited apart =
+    places_apart bytes order head visited (looked_apart bytes order head apart)
 
 -- ---- so edits are not refused as shared
 
@@ -221,8 +221,8 @@ set_apart tag k value bytes order at head last apart =
 
 -- where reading looks at no byte as two things, the GPS data are erased
 pub erased_apart : (bytes : List ℕ) → AreErasedApart bytes
-erased_apart bytes order head apart =
-    places_unshared bytes order head (places_alone bytes order head apart)
+erased_apart bytes order head visited apart =
+    places_unshared bytes order head (places_alone bytes order head visited apart)
 
 -- in an image that was written, a value that reads back as it was is set if it fits
 pub set_in_image : (tag : Tag) (k : In) (value : Value) (order : Order) (groups : List Group)
@@ -236,6 +236,6 @@ set_in_image tag k value order groups ranged plain written at last =
 pub erased_in_image : (order : Order) (groups : List Group)
     → AreRanged groups → HavePlainTexts groups → write_fault groups ≡ None
     → AreErasedInImage order groups
-erased_in_image order groups ranged plain written =
-    erased_apart (image order groups) order (image_header order groups written)
+erased_in_image order groups ranged plain written visited =
+    erased_apart (image order groups) order (image_header order groups written) visited
     (image_looks_apart order groups ranged plain written)

@@ -19,10 +19,11 @@ use Rattle.exif_tiff.proofs.ApartLists.{IsApart}
 use Rattle.exif_edit_base.specs.Locations.{directory_places, gps_of, gps_places, located}
 use Rattle.exif_edit_base.specs.Walked.{Finds, Walked}
 use Rattle.exif_edit_base.specs.declared.patch.Span.{Span}
-use Rattle.exif_edit.specs.Erasing.{clipped, directory_spans, gps_spans, nowhere, value_span, within}
+use Rattle.exif_edit.specs.Erasing.{clipped, gps_spans, nowhere, value_span, within}
 use Rattle.exif_edit.specs.PlacesAlone.{all_kept, chain_kept, places_stand_alone}
 use Rattle.exif_edit.specs.Sharing.{meets}
 use Rattle.exif_edit.proofs.WalkedDirectories.{kept_of, places_of, walked_kept, walked_places}
+use Rattle.exif_edit_laws.specs.Apart.{AreGpsDataVisited, visited_directory_spans, visited_spans}
 use Rattle.exif_edit_laws.proofs.ApartCounts.{HaveBytes, Lacks, apart_holders, apart_misses, apart_of, Where, behind, before, has, has_before, has_behind, has_inside, inside, stands, holders, holders-append, holders_more, holders_none}
 use Rattle.exif_edit_laws.proofs.ApartEntries.{all_have, all_looked, looked_has, nothing_met}
 
@@ -168,7 +169,7 @@ module _ (number : Reading) (bytes : List ℕ) where
         rw (a, b) refl
 
     spans_missed : (q : ℕ) → Free (looked_at number bytes q)
-        → list_any (λ s. meets s t) (directory_spans number bytes q) ≡ false
+        → list_any (λ s. meets s t) (visited_directory_spans number bytes q) ≡ false
     spans_missed q h =
         let values = flat_map (value_stretch number bytes) (entry_places number bytes q) in
         let a = clipped_misses q (2 + 12 * whole_entries number bytes q + 4) values (omega arith) h in
@@ -178,19 +179,19 @@ module _ (number : Reading) (bytes : List ℕ) where
 
     -- a stretch of no byte that is looked at of directories meets neither them nor their values
     pub all_missed : (qs : List ℕ) → Free (looked qs)
-        → list_any (λ s. meets s t) (flat_map (directory_spans number bytes) qs) ≡ false
+        → list_any (λ s. meets s t) (flat_map (visited_directory_spans number bytes) qs) ≡ false
     all_missed [] h = refl
     all_missed (q ∷ qs) h =
         let a = spans_missed q (left_free (looked_at number bytes q) (looked qs) h) in
         let b = all_missed qs (right_free (looked_at number bytes q) (looked qs) h) in
-        let c = list_any-append (λ (s : Span). meets s t) (directory_spans number bytes q)
-        (flat_map (directory_spans number bytes) qs) in
+        let c = list_any-append (λ (s : Span). meets s t) (visited_directory_spans number bytes q)
+        (flat_map (visited_directory_spans number bytes) qs) in
         c ∙ rw (a, b) refl
 
   -- of stretches that share no byte with them
   none_any : (qs : List ℕ) (ts : List Stretch) → HaveBytes ts
       → ((i : ℕ) → holders i ts + holders i (looked qs) ≤ 1)
-      → list_any (λ t. list_any (λ s. meets s t) (flat_map (directory_spans number bytes) qs)) ts
+      → list_any (λ t. list_any (λ s. meets s t) (flat_map (visited_directory_spans number bytes) qs)) ts
       ≡ false
   none_any qs [] some h = refl
   none_any qs (t ∷ ts) some h =
@@ -210,11 +211,15 @@ module _ (number : Reading) (bytes : List ℕ) where
 
 -- where no two stretches that are looked at overlap, GPS directories and values stand alone
 pub places_apart : (bytes : List ℕ) (order : Order) → header bytes ≡ Ok order
+    → AreGpsDataVisited (number_of order) bytes
     → are_apart (all_looked (number_of order) bytes) ≡ true
     → places_stand_alone (number_of order) bytes ≡ true
-unfolding gps_spans gps_places walk
-places_apart bytes order head apart =
-    ap not (none_any number bytes (gps_of ds) (all_kept number bytes) have few)
+unfolding visited_spans gps_places walk
+places_apart bytes order head visited apart =
+    ap
+    (λ ss. not (list_any (λ t. list_any (λ (s : Span). meets s t) ss) (all_kept number bytes)))
+    visited
+    ∙ ap not (none_any number bytes (gps_of ds) (all_kept number bytes) have few)
   where
     number : Reading
     number = number_of order

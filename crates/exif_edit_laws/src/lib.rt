@@ -1,6 +1,7 @@
 //! What follows for edits where reading looks at no byte of the data as two things, as in every image
-//! that is written of texts without zero bytes: each field and all places stand alone, so no edit
-//! is refused as shared. The laws hold for all bytes, and speak of the definitions alone.
+//! that is written of texts without zero bytes: each field stands alone, and GPS data do if reading
+//! looks at all of them, so no edit is refused as shared. The laws hold for all bytes, and speak of
+//! the definitions alone.
 #![tactic(auto)]
 
 ghost use Rattle.std.specs.Prelude.{◌≡◌, ℕ, List, None};
@@ -15,16 +16,16 @@ ghost use Rattle.exif_edit_laws.specs.Apart.{AreErasedApart, AreErasedInImage, E
 ghost use Rattle.exif_edit_laws.specs.FieldsApart.{FieldsAreErasedApart};
 
 /// Where reading looks at no byte of the data as two things, each field stands alone, so the last
-/// of each name does, and GPS directories with their values do.
+/// of each name does, and GPS data do, if reading looks at all of them.
 pub fn what_is_looked_at_once_stands_alone()
     ensures each { (bytes : List ℕ) → EachStandsAlone bytes }
     ensures last { (tag : Name) (k : Ifd) (bytes : List ℕ) → LastStandsAlone tag k bytes }
     ensures places { (bytes : List ℕ) → PlacesStandAlone bytes }
 {}
 
-/// So a value is set there if it fits, and places are erased: neither edit is refused as shared.
-/// Nor is it in an image, the bytes that are written of groups, where no pushed text holds a zero
-/// byte. The numbers of the value fit their types, its texts hold no zero byte, and its tag's
+/// So a value is set there if it fits, and GPS data are erased if reading looks at all of them:
+/// neither edit is refused as shared. Nor is it in an image, the bytes that are written of groups,
+/// where no pushed text holds a zero byte. The numbers of the value fit their types, its texts hold no zero byte, and its tag's
 /// number names no child directory.
 pub fn what_is_looked_at_once_is_edited()
     ensures values { (tag : Name) (k : Ifd) (value : Content) (bytes : List ℕ)
