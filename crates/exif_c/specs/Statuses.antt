@@ -149,6 +149,7 @@ refusal_status change.FieldNotFound = status.FieldNotFound
 refusal_status change.PictureData = status.PictureData
 refusal_status change.NotOfItsType = status.NotOfItsType
 refusal_status change.SecondExif = status.SecondExif
+refusal_status (change.TooLong tag) = status.TooBig
 refusal_status change.NoDate = status.NoDate
 refusal_status change.InvalidDate = status.InvalidDate
 refusal_status change.DateOutOfRange = status.DateOutOfRange

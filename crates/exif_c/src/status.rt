@@ -229,6 +229,7 @@ pub fn refusal_status(refusal: &Refusal) -> Status
         Refusal::PictureData => Status::PictureData,
         Refusal::NotOfItsType => Status::NotOfItsType,
         Refusal::SecondExif => Status::SecondExif,
+        Refusal::TooLong(_) => Status::TooBig,
         Refusal::NoDate => Status::NoDate,
         Refusal::InvalidDate => Status::InvalidDate,
         Refusal::DateOutOfRange => Status::DateOutOfRange,

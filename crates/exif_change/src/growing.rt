@@ -11,7 +11,7 @@ ghost use Rattle.exif_change.specs.Growing.{HasGrown, IsReplacedIn, can_grow, ne
 
 use crate::Refusal;
 use exif::experimental::Writer;
-use exif::{Counted, Error, Field};
+use exif::{Counted, Error, Field, Tag};
 use exif_containers::container::Format;
 use exif_containers::exif_attr_of_stream;
 use exif_grow::set_fields;
@@ -40,11 +40,11 @@ pub fn with_fields(
     match exif_attr_of_stream(alloc, &mut Counted::new(file)) {
         Ok(old) => {
             let data = set_fields(alloc, old.as_slice(), fields)?;
-            replaced(alloc, format, file, old.len(), data)
+            replaced(alloc, format, file, old.len(), data, fields)
         }
         Err(Error::NotFound(_)) => {
             let data = new_data(alloc, fields)?;
-            Ok(written(alloc, file, Some(data.as_slice()), Remove::Exif)?)
+            put(alloc, file, data.as_slice(), fields)
         }
         Err(error) => Err(Refusal::Reading(error)),
     }
@@ -57,32 +57,68 @@ fn replaced(
     file: &[u8],
     old_len: usize,
     exif: Vec<u8>,
+    fields: &[Field],
 ) -> Result<Vec<u8>, Refusal>
     ensures { IfOk result
         (λ new. IsReplacedIn (Some format) old_len exif.items file.now new.items) }
 {
     match format {
         Format::Tiff => Ok(exif),
-        Format::Jpeg | Format::WebP => put_into(alloc, file, old_len, exif.as_slice()),
+        Format::Jpeg | Format::WebP => { put_alone(alloc, file, old_len, exif.as_slice(), fields) }
         Format::Heif => Err(Refusal::Editing(exif_edit::Error::ValueTooLong)),
     }
 }
 
 // The JPEG or WebP file with new Exif data in place of its own, unless it has others too, which would
 // be lost.
-fn put_into(alloc: Global, file: &[u8], old_len: usize, exif: &[u8]) -> Result<Vec<u8>, Refusal>
+fn put_alone(
+    alloc: Global,
+    file: &[u8],
+    old_len: usize,
+    exif: &[u8],
+    fields: &[Field],
+) -> Result<Vec<u8>, Refusal>
     ensures put { IfOk result
         (λ new. IsRewritten Exif (Some exif.now) file.now new.items) }
     ensures alone { IfOk result
         (λ new. length file.now + length exif.now < length new.items + old_len + 8) }
 {
-    let new = written(alloc, file, Some(exif), Remove::Exif)?;
+    let new = put(alloc, file, exif, fields)?;
     let before = file.len() as u128 + exif.len() as u128;
     let after = new.len() as u128 + old_len as u128;
     if before >= after + SHORTEST_BLOCK as u128 {
         return Err(Refusal::SecondExif);
     }
     Ok(new)
+}
+
+// The JPEG or WebP file with new Exif data, in which these fields were set. Data that are too long are
+// refused with the name of the longest field.
+fn put(alloc: Global, file: &[u8], exif: &[u8], fields: &[Field]) -> Result<Vec<u8>, Refusal>
+    ensures { IfOk result (λ new. IsRewritten Exif (Some exif.now) file.now new.items) }
+{
+    match written(alloc, file, Some(exif), Remove::Exif) {
+        Ok(new) => Ok(new),
+        Err(Error::TooBig(text)) => match longest(fields) {
+            Some(tag) => Err(Refusal::TooLong(tag)),
+            None => Err(Refusal::Reading(Error::TooBig(text))),
+        },
+        Err(error) => Err(Refusal::Reading(error)),
+    }
+}
+
+// The tag of the first field whose value has the most units.
+fn longest(fields: &[Field]) -> Option<Tag> {
+    let mut found = None;
+    let mut most = 0;
+    for field in fields {
+        let count = field.value.count().unwrap_or(0);
+        if found.is_none() || most < count {
+            found = Some(field.tag);
+            most = count;
+        }
+    }
+    found
 }
 
 // New Exif data that hold these fields alone, big endian.

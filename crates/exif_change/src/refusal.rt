@@ -1,5 +1,6 @@
 //! Why a file is not changed.
 
+use exif::Tag;
 use std::alloc::{AllocError, AllocFailed};
 use std::fmt;
 
@@ -16,6 +17,8 @@ pub enum Refusal {
     PictureData,
     /// The file has more than one block of Exif data, and only one would be left.
     SecondExif,
+    /// The file has no space for Exif data with the value of this tag.
+    TooLong(Tag),
     /// The file has no such field, and the standard's type of it is not known here.
     FieldNotFound,
     /// Invalid value for the type of the field.
@@ -74,6 +77,10 @@ impl fmt::Display for Refusal {
                     "The file has more than one block of Exif data, and only one would be left"
                 )
             }
+            Refusal::TooLong(tag) => write!(
+                f,
+                "{tag} is too long: the Exif data of a JPEG file have at most 65,527 bytes"
+            ),
             Refusal::FieldNotFound => write!(f, "No such field, and it cannot be created"),
             Refusal::NotOfItsType => write!(f, "Invalid value for the type of the field"),
             Refusal::NoDate => write!(f, "No date to shift"),
