@@ -10,7 +10,7 @@ use Rattle.exif_reader.specs.Files.{ReadsContainer}
 use Rattle.exif_json.specs.Answers.{Tells}
 use Rattle.exif_edit_base.specs.Causes.{Cause}
 use Rattle.exif_change.specs.Changes as changes
-use Rattle.exif_change.specs.Setting.{IsSetHere, entry_limit}
+use Rattle.exif_change.specs.Setting.{IsSetHere}
 use Rattle.exif_change.specs.declared.scrubbing.Removed.TheVariants.{Metadata}
 use Rattle.exif_c.specs.Buffers.{Gives, GivesNothing}
 use Rattle.exif_c.specs.Statuses.{cause_status, error_status, number_of}
@@ -22,6 +22,10 @@ use Rattle.exif_c.specs.declared.buffer.Answer.{Answer}
 abbrev pub answer_status : Result ExifContents Failure → Status
 answer_status (Ok exif) = status.Well
 answer_status (Err e) = error_status e
+
+-- how many entries are read of a file at most, where the caller gives no limit
+abbrev pub entry_limit : ℕ
+entry_limit = 1000000
 
 -- the limit that is meant
 abbrev pub meant : ℕ → ℕ
