@@ -1,6 +1,5 @@
--- What a clause reads of a `Seekable`, and what stands behind a place in a stream.
-use Rattle.std.specs.Prelude.{ℕ, List, drop, Option, None, Some}
-use Rattle.std.specs.Option.{option_map}
+-- What a clause reads of a `Seekable`, and of the stream in it.
+use Rattle.std.specs.Prelude.{ℕ, List, Option, None, Some}
 use Rattle.exif_base.specs.declared.seekable.Seekable.{Seekable}
 
 -- the reader inside
@@ -11,7 +10,7 @@ seekable_inner s = s.inner
 abbrev pub seekable_failures : {R : Type 0} → Seekable R → ℕ
 seekable_failures s = s.failures
 
--- the bytes from a place in the stream on, where both are told
-abbrev pub left_behind : Option ℕ → Option (List ℕ) → Option (List ℕ)
-left_behind None bytes = None
-left_behind (Some place) bytes = option_map (drop place) bytes
+-- the bytes of a stream whose position is known
+abbrev pub known_stream : Option ℕ → Option (List ℕ) → Option (List ℕ)
+known_stream None bytes = None
+known_stream (Some position) bytes = bytes

@@ -1,5 +1,6 @@
 -- What reads and writes do to the bytes of a reader or a writer, where those are told.
 use Rattle.std.specs.Prelude.{◌≡◌, ◌≢◌, ℕ, ◌<◌, ◌≤◌, List, ◌++◌, length, drop, ⊤, Option, None, Some}
+use Rattle.std.specs.Option.{option_map}
 use Rattle.std.specs.List.{All}
 use Rattle.std.specs.Io.KnownBytes.{Consumes}
 
@@ -33,3 +34,8 @@ IsFetchedOnto before after old new n = (bytes : List ℕ) × Consumes before aft
 abbrev pub PassesOthers : Option (List ℕ) → Option (List ℕ) → ℕ → ℕ → Type 0
 PassesOthers old new stop n = (bytes : List ℕ) × Consumes old new bytes
     × (length bytes ≡ n) × All (λ b. b ≢ stop) bytes
+
+-- the bytes from an offset of the stream on, where both are known
+abbrev pub left_behind : Option ℕ → Option (List ℕ) → Option (List ℕ)
+left_behind None bytes = None
+left_behind (Some offset) bytes = option_map (drop offset) bytes

@@ -107,6 +107,7 @@ impl<'a, R: Source> Blocks<'a, R> {
             (self.new.at ≡ self.new.end → IsAtEnd (R.left (blocks_source self.new))) }
         ensures counts { Counts R.Source (blocks_source self.old) (blocks_source self.new)
             (is_err result) }
+        ensures stream { R.stream (blocks_source self.new) ≡ R.stream (blocks_source self.old) }
         ensures budget { blocks_budget self.new ≡ blocks_budget self.old }
         ensures same { blocks_name self.new ≡ blocks_name self.old }
     {
@@ -124,6 +125,8 @@ impl<'a, R: Source> Source for Blocks<'a, R> {
     ghost use Rattle.exif_base.specs.Blocks.{at_hand, blocks_name, blocks_source};
 
     ghost left = { λ b. prepend_known (at_hand b) (R.left (blocks_source b)) };
+
+    ghost stream = { λ b. R.stream (blocks_source b) };
 
     ghost failures = { λ b. R.failures (blocks_source b) };
 
@@ -171,6 +174,19 @@ impl<'a, R: Source> Source for Blocks<'a, R> {
         let n = self.others_at_hand(stop, most);
         self.at += n;
         n as u64
+    }
+
+    // Bytes at hand may be others than those of the source.
+    fn offset(&mut self) -> Option<u64> {
+        if self.at < self.end {
+            return None;
+        }
+        self.source.offset()
+    }
+
+    fn go_to(&mut self, offset: u64) -> io::Result<()> {
+        self.at = self.end;
+        self.source.go_to(offset)
     }
 }
 

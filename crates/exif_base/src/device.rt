@@ -1,10 +1,10 @@
 //! Where bytes come from and go to: readers and writers that count their failures.
 
-ghost use Rattle.std.specs.Prelude.{◌≡◌, ◌<◌, ◌≤◌, ℕ, List, [], Option, length, is_err, IfOk, true};
+ghost use Rattle.std.specs.Prelude.{◌≡◌, ◌<◌, ◌≤◌, ℕ, List, [], Option, None, Some, length, is_err, IfOk, IfSome, OnOk, true};
 ghost use Rattle.std.specs.Io.{ReadsAtMost, StartsWith, WritesAtMost};
 ghost use Rattle.std.specs.Io.KnownBytes.{IsAtEnd, Keeps, ReadConsumes, WriteAppends};
 ghost use Rattle.exif_base.specs.Device.{count_after, put_failed};
-ghost use Rattle.exif_base.specs.Told.{IsFetchedOnto, PassesOthers, Skips};
+ghost use Rattle.exif_base.specs.Told.{IsFetchedOnto, PassesOthers, Skips, left_behind};
 ghost use Rattle.exif_base.specs.Counted.{counted_inner, counted_failures};
 
 use std::alloc::AllocError;
@@ -19,7 +19,10 @@ pub trait Source {
     /// The bytes that fetches will give from here on, where they are told.
     ghost left: { Self → Option (List ℕ) };
 
-    /// How many fetches failed, up to 2^64 - 1.
+    /// All bytes of the stream, of which offsets count, where they are known.
+    ghost stream: { Self → Option (List ℕ) } = { λ _. None };
+
+    /// How many fetches, skips and moves failed, up to 2^64 - 1.
     ghost failures: { Self → ℕ };
 
     /// The names of the references that it reads through, the outermost first.
@@ -32,6 +35,7 @@ pub trait Source {
         ensures bound { ReadsAtMost result buf.new }
         ensures bytes { ReadConsumes (left self.old) (left self.new) result buf.new }
         ensures count { failures self.new ≡ count_after (is_err result) (failures self.old) }
+        ensures stream { stream self.new ≡ stream self.old }
         ensures same { through self.new ≡ through self.old };
 
     /// Takes the next `len` bytes and forgets them, without memory. Answers how many: fewer only
@@ -44,6 +48,7 @@ pub trait Source {
         ensures bytes { IfOk result (Skips (left self.old) (left self.new)) }
         ensures end { IfOk result (λ n. n < len → IsAtEnd (left self.new)) }
         ensures count { failures self.new ≡ count_after (is_err result) (failures self.old) }
+        ensures stream { stream self.new ≡ stream self.old }
         ensures same { through self.new ≡ through self.old }
     {
         let mut block = [0u8; BLOCK];
@@ -77,6 +82,7 @@ pub trait Source {
             IsFetchedOnto (left self.old) (left self.new) list.old.items list.new.items n) }
         ensures kept { StartsWith list.new.items list.old.items }
         ensures count { failures self.new ≡ failures self.old }
+        ensures stream { stream self.new ≡ stream self.old }
         ensures same { through self.new ≡ through self.old }
     {
         Ok(0)
@@ -90,10 +96,37 @@ pub trait Source {
         ensures bound { result ≤ most }
         ensures passed { PassesOthers (left self.old) (left self.new) stop result }
         ensures count { failures self.new ≡ failures self.old }
+        ensures stream { stream self.new ≡ stream self.old }
         ensures same { through self.new ≡ through self.old }
     {
         0
     }
+
+    /// The offset of the next byte in the stream, for `go_to`, or none where the source cannot go
+    /// back.
+    ///
+    /// It takes no byte. `None` is always a right answer.
+    fn offset(&mut self) -> Option<u64>
+        ensures found { IfSome result (λ at.
+            left self.new ≡ left_behind (Some at) (stream self.new)) }
+        ensures bytes { Keeps (left self.old) (left self.new) }
+        ensures stream { stream self.new ≡ stream self.old }
+        ensures count { failures self.new ≡ failures self.old }
+        ensures same { through self.new ≡ through self.old }
+    {
+        None
+    }
+
+    /// Moves to an offset of the stream, of which the bytes that follow are the next ones.
+    ///
+    /// A source that cannot go back fails with `Unsupported`. After an error, where it is is left
+    /// open.
+    fn go_to(&mut self, offset: u64) -> io::Result<()>
+        ensures moved { OnOk result
+            (left self.new ≡ left_behind (Some offset) (stream self.new)) }
+        ensures stream { stream self.new ≡ stream self.old }
+        ensures count { failures self.new ≡ count_after (is_err result) (failures self.old) }
+        ensures same { through self.new ≡ through self.old };
 }
 
 /// What takes bytes. `Ok(0)` of some bytes is a failure.
@@ -169,6 +202,11 @@ impl<R: Read> Source for Counted<R> {
             self.count_failure();
         }
         result
+    }
+
+    fn go_to(&mut self, _offset: u64) -> io::Result<()> {
+        self.count_failure();
+        Err(io::Error::from(io::ErrorKind::Unsupported))
     }
 }
 

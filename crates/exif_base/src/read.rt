@@ -50,6 +50,7 @@ pub fn read_front<R: Source>(source: &mut R, buf: &mut [u8]) -> io::Result<usize
     ensures bound { IfOk result (λ n. n ≤ length buf.new) }
     ensures end { IfOk result (λ n. n < length buf.new → IsAtEnd (R.left source.new)) }
     ensures counts { Counts R.Source source.old source.new (is_err result) }
+    ensures stream { R.stream source.new ≡ R.stream source.old }
 {
     let mut at = 0;
     while at < buf.len() {
@@ -70,6 +71,7 @@ pub fn read_exact<R: Source>(source: &mut R, buf: &mut [u8]) -> Result<(), ReadF
     ensures taken { OnOk result (Consumes (R.left source.old) (R.left source.new) buf.new) }
     ensures reads { Reads R.Source source.old source.new (length buf.old) result }
     ensures no_memory { result ≢ Err OutOfMemory }
+    ensures stream { R.stream source.new ≡ R.stream source.old }
 {
     let n = read_front(source, buf)?;
     if n < buf.len() {
@@ -121,6 +123,7 @@ pub fn discard_exact<R: Source>(source: &mut R, len: u64) -> Result<(), ReadFaul
     ensures taken { OnOk result (Skips (R.left source.old) (R.left source.new) len) }
     ensures reads { Reads R.Source source.old source.new len result }
     ensures no_memory { result ≢ Err OutOfMemory }
+    ensures stream { R.stream source.new ≡ R.stream source.old }
 {
     let n = source.skip(len)?;
     if n < len {
@@ -136,6 +139,7 @@ fn take_at_hand<R: Source>(source: &mut R, list: &mut Vec<u8>, most: u64) -> Res
         list.old.items list.new.items n) }
     ensures kept { StartsWith list.new.items list.old.items }
     ensures counts { Counts R.Source source.old source.new false }
+    ensures stream { R.stream source.new ≡ R.stream source.old }
 {
     let mut missing = most;
     while missing > 0 {
@@ -162,6 +166,7 @@ fn read_by_blocks<R: Source>(
     ensures no_end { result ≢ Err End }
     ensures kept { StartsWith list.new.items list.old.items }
     ensures counts { Counts R.Source source.old source.new (is_io_fault result) }
+    ensures stream { R.stream source.new ≡ R.stream source.old }
 {
     let mut block = [0u8; BLOCK];
     let mut missing = most;
@@ -195,6 +200,7 @@ pub fn read_at_most<R: Source>(
     ensures no_end { result ≢ Err End }
     ensures kept { StartsWith list.new.items list.old.items }
     ensures counts { Counts R.Source source.old source.new (is_io_fault result) }
+    ensures stream { R.stream source.new ≡ R.stream source.old }
 {
     let at_hand = take_at_hand(source, list, most)?;
     if at_hand == most {
@@ -216,6 +222,7 @@ pub fn read_exact_len<R: Source>(
         buf.old.items buf.new.items len) }
     ensures reads { Reads R.Source source.old source.new len result }
     ensures kept { StartsWith buf.new.items buf.old.items }
+    ensures stream { R.stream source.new ≡ R.stream source.old }
 {
     let n = read_at_most(source, buf, len)?;
     if n < len {
@@ -233,6 +240,7 @@ pub fn read_to_end<R: Source>(source: &mut R, buf: &mut Vec<u8>) -> Result<(), R
     ensures no_end { result ≢ Err End }
     ensures kept { StartsWith buf.new.items buf.old.items }
     ensures counts { Counts R.Source source.old source.new (is_io_fault result) }
+    ensures stream { R.stream source.new ≡ R.stream source.old }
 {
     read_at_most(source, buf, u64::MAX)?;
     Ok(())

@@ -1,11 +1,12 @@
 //! Sources that seek over what they skip.
 
-ghost use Rattle.std.specs.Prelude.{◌≡◌, ◌<◌, ◌≤◌, ◌++◌, [], IfOk, OnOk, true};
-ghost use Rattle.std.specs.Io.{StartsWith};
-ghost use Rattle.std.specs.Io.KnownBytes.{IsAtEnd};
+ghost use Rattle.std.specs.Prelude.{◌≡◌, ◌<◌, ◌≤◌, ◌++◌, [], Some, IfOk, IfSome, OnOk, true};
+ghost use Rattle.std.specs.Io.{ReadsAtMost, StartsWith};
+ghost use Rattle.std.specs.Io.KnownBytes.{IsAtEnd, Keeps, ReadConsumes};
+ghost use Rattle.std.specs.Io.Seek.{SeekMoves};
 ghost use Rattle.exif_base.specs.Device.{count_after};
-ghost use Rattle.exif_base.specs.Seekable.{left_behind, seekable_failures, seekable_inner};
-ghost use Rattle.exif_base.specs.Told.{IsFetchedOnto, PassesOthers, Skips};
+ghost use Rattle.exif_base.specs.Seekable.{known_stream, seekable_failures, seekable_inner};
+ghost use Rattle.exif_base.specs.Told.{IsFetchedOnto, PassesOthers, Skips, left_behind};
 
 use crate::device::Source;
 use crate::search::others_between;
@@ -29,6 +30,21 @@ pub trait ReadSeek: Read + Seek {
         ensures { Self.remaining self.now
             ≡ left_behind (Self.stream_position self.now) (Self.stream_bytes self.now) };
 
+    /// Reads as `read` does, and keeps the bytes of the stream.
+    fn read_stream(&mut self, buf: &mut [u8]) -> io::Result<usize>
+        ensures bound { ReadsAtMost result buf.new }
+        ensures bytes { ReadConsumes (Self.remaining self.old) (Self.remaining self.new) result
+            buf.new }
+        ensures stream { known_stream (Self.stream_position self.new) (Self.stream_bytes self.new)
+            ≡ known_stream (Self.stream_position self.old) (Self.stream_bytes self.old) };
+
+    /// Seeks as `seek` does, and keeps the bytes of the stream.
+    fn seek_stream(&mut self, to: SeekFrom) -> io::Result<u64>
+        ensures moves { SeekMoves (Self.stream_position self.old) (Self.stream_position self.new)
+            (Self.stream_bytes self.old) to result }
+        ensures stream { known_stream (Self.stream_position self.new) (Self.stream_bytes self.new)
+            ≡ known_stream (Self.stream_position self.old) (Self.stream_bytes self.old) };
+
     /// Whether all bytes that reads will give are in memory.
     ///
     /// It says how to read fast, not what is read: `false` is always a right answer.
@@ -45,6 +61,8 @@ pub trait ReadSeek: Read + Seek {
         ensures bytes { IfOk result (λ n. IsFetchedOnto (Self.remaining self.old)
             (Self.remaining self.new) list.old.items list.new.items n) }
         ensures kept { StartsWith list.new.items list.old.items }
+        ensures stream { known_stream (Self.stream_position self.new) (Self.stream_bytes self.new)
+            ≡ known_stream (Self.stream_position self.old) (Self.stream_bytes self.old) }
     {
         Ok(0)
     }
@@ -55,6 +73,8 @@ pub trait ReadSeek: Read + Seek {
         ensures bound { result ≤ most }
         ensures passed { PassesOthers (Self.remaining self.old) (Self.remaining self.new) stop
             result }
+        ensures stream { known_stream (Self.stream_position self.new) (Self.stream_bytes self.new)
+            ≡ known_stream (Self.stream_position self.old) (Self.stream_bytes self.old) }
     {
         0
     }
@@ -62,14 +82,38 @@ pub trait ReadSeek: Read + Seek {
 
 impl ReadSeek for File {
     fn reads_in_place(&self) {}
+
+    fn read_stream(&mut self, buf: &mut [u8]) -> io::Result<usize> {
+        self.read(buf)
+    }
+
+    fn seek_stream(&mut self, to: SeekFrom) -> io::Result<u64> {
+        self.seek(to)
+    }
 }
 
 impl ReadSeek for &File {
     fn reads_in_place(&self) {}
+
+    fn read_stream(&mut self, buf: &mut [u8]) -> io::Result<usize> {
+        self.read(buf)
+    }
+
+    fn seek_stream(&mut self, to: SeekFrom) -> io::Result<u64> {
+        self.seek(to)
+    }
 }
 
 impl<T: AsBytes> ReadSeek for Cursor<T> {
     fn reads_in_place(&self) {}
+
+    fn read_stream(&mut self, buf: &mut [u8]) -> io::Result<usize> {
+        self.read(buf)
+    }
+
+    fn seek_stream(&mut self, to: SeekFrom) -> io::Result<u64> {
+        self.seek(to)
+    }
 
     fn is_in_memory(&self) -> bool {
         true
@@ -134,12 +178,15 @@ impl<R> Seekable<R> {
 impl<R: ReadSeek> Source for Seekable<R> {
     ghost left = { λ s. R.remaining (seekable_inner s) };
 
+    ghost stream = { λ s. known_stream (R.stream_position (seekable_inner s))
+        (R.stream_bytes (seekable_inner s)) };
+
     ghost failures = { seekable_failures };
 
     ghost through = { λ _. [] };
 
     fn fetch(&mut self, buf: &mut [u8]) -> io::Result<usize> {
-        let result = self.inner.read(buf);
+        let result = self.inner.read_stream(buf);
         if result.is_err() {
             self.count_failure();
         }
@@ -165,6 +212,18 @@ impl<R: ReadSeek> Source for Seekable<R> {
     fn pass_others(&mut self, stop: u8, most: u64) -> u64 {
         self.inner.pass_in_memory(stop, most)
     }
+
+    fn offset(&mut self) -> Option<u64> {
+        offset_in(&mut self.inner)
+    }
+
+    fn go_to(&mut self, offset: u64) -> io::Result<()> {
+        let result = go_in(&mut self.inner, offset);
+        if result.is_err() {
+            self.count_failure();
+        }
+        result
+    }
 }
 
 // Puts the bytes at the end of the list, in pieces that stay in the nearest cache: a long copy at
@@ -188,6 +247,8 @@ fn skip_in<R: ReadSeek>(stream: &mut R, len: u64) -> io::Result<u64>
     ensures bound { IfOk result (λ n. n ≤ len) }
     ensures bytes { IfOk result (Skips (R.remaining stream.old) (R.remaining stream.new)) }
     ensures end { IfOk result (λ n. n < len → IsAtEnd (R.remaining stream.new)) }
+    ensures stream { known_stream (R.stream_position stream.new) (R.stream_bytes stream.new)
+        ≡ known_stream (R.stream_position stream.old) (R.stream_bytes stream.old) }
 {
     let n = seek_over(stream, len)?;
     if n == len {
@@ -203,35 +264,65 @@ fn skip_in<R: ReadSeek>(stream: &mut R, len: u64) -> io::Result<u64>
 fn seek_over<R: ReadSeek>(stream: &mut R, len: u64) -> io::Result<u64>
     ensures bound { IfOk result (λ n. n ≤ len) }
     ensures bytes { IfOk result (Skips (R.remaining stream.old) (R.remaining stream.new)) }
+    ensures stream { known_stream (R.stream_position stream.new) (R.stream_bytes stream.new)
+        ≡ known_stream (R.stream_position stream.old) (R.stream_bytes stream.old) }
 {
     stream.reads_in_place();
-    let place = stream.stream_position()?;
-    let seen = stream.seek(SeekFrom::End(0));
+    let place = stream.seek_stream(SeekFrom::Current(0))?;
+    let seen = stream.seek_stream(SeekFrom::End(0));
     stream.reads_in_place();
     let Ok(end) = seen else {
         return Ok(0);
     };
     let n = end.saturating_sub(place).min(len);
-    stream.seek(SeekFrom::Start(place + n))?;
+    stream.seek_stream(SeekFrom::Start(place + n))?;
     stream.reads_in_place();
     Ok(n)
 }
 
 // Reads the next `len` bytes and forgets them. Answers how many: fewer only where they end.
-fn read_over<R: Read>(reader: &mut R, len: u64) -> io::Result<u64>
+fn read_over<R: ReadSeek>(reader: &mut R, len: u64) -> io::Result<u64>
     ensures bound { IfOk result (λ n. n ≤ len) }
     ensures bytes { IfOk result (Skips (R.remaining reader.old) (R.remaining reader.new)) }
     ensures end { IfOk result (λ n. n < len → IsAtEnd (R.remaining reader.new)) }
+    ensures stream { known_stream (R.stream_position reader.new) (R.stream_bytes reader.new)
+        ≡ known_stream (R.stream_position reader.old) (R.stream_bytes reader.old) }
 {
     let mut block = [0u8; BLOCK];
     let mut rest = len;
     while rest > 0 {
         let room = rest.min(BLOCK as u64) as usize;
-        let n = reader.read(&mut block[..room])?;
+        let n = reader.read_stream(&mut block[..room])?;
         if n == 0 {
             return Ok(len - rest);
         }
         rest -= n as u64;
     }
     Ok(len)
+}
+
+// Where the stream is, where it tells that.
+fn offset_in<R: ReadSeek>(stream: &mut R) -> Option<u64>
+    ensures found { IfSome result (λ at. R.remaining stream.new ≡ left_behind (Some at)
+        (known_stream (R.stream_position stream.new) (R.stream_bytes stream.new))) }
+    ensures bytes { Keeps (R.remaining stream.old) (R.remaining stream.new) }
+    ensures stream { known_stream (R.stream_position stream.new) (R.stream_bytes stream.new)
+        ≡ known_stream (R.stream_position stream.old) (R.stream_bytes stream.old) }
+{
+    stream.reads_in_place();
+    let found = stream.seek_stream(SeekFrom::Current(0)).ok();
+    stream.reads_in_place();
+    found
+}
+
+// Moves to an offset of the stream.
+fn go_in<R: ReadSeek>(stream: &mut R, offset: u64) -> io::Result<()>
+    ensures moved { OnOk result (R.remaining stream.new ≡ left_behind (Some offset)
+        (known_stream (R.stream_position stream.new) (R.stream_bytes stream.new))) }
+    ensures stream { known_stream (R.stream_position stream.new) (R.stream_bytes stream.new)
+        ≡ known_stream (R.stream_position stream.old) (R.stream_bytes stream.old) }
+{
+    stream.seek_stream(SeekFrom::Start(offset))?;
+    stream.reads_in_place();
+    Ok(())
 }

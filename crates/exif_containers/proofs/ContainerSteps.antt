@@ -5,10 +5,12 @@ use Rattle.std.proofs.lemmas.Bool.{cases_lt}
 use Rattle.std.proofs.lemmas.List.{take_at, take_all, take-take, length-take-le}
 use Rattle.std.specs.Cmp.Lexicographic.{pointwise}
 use Rattle.std.specs.Io.KnownBytes.{Consumes, IsAtEnd, prepend_known}
-use Rattle.exif_base.specs.Told.{WhereTold}
+use Rattle.exif_base.specs.Told.{WhereTold, left_behind}
 use Rattle.exif_types.specs.Failures.{Failure}
 use Rattle.exif_types.specs.Refusals.{Refusal, Fails, Gives}
 use Rattle.exif_containers.specs.Answer.{found}
+use Rattle.exif_containers.specs.GoingBack.{BeginsAt}
+use Rattle.exif_containers.proofs.IsobmffFile.{along}
 use Rattle.exif_containers.specs.Jpeg.{jpeg_answer}
 use Rattle.exif_isobmff.proofs.Refusing.{fails_along}
 use Rattle.exif_containers.specs.declared.container.Format.{Format}
@@ -38,10 +40,32 @@ container_holds P n block format (Some xs) (Some ys) left h bound most room end 
     let len : length (take n block) ≡ n = length-take-le n block bound in
     rw (h, head-first (take n block) ys (omega arith) (λ lt. end (omega arith)), ← f) whole
 
+-- the bytes left are those of the stream from its start on, in whatever pieces they come
+pub begins_there : (origin : Option ℕ) (stream after left b : Option (List ℕ)) (xs head : List ℕ) → Consumes (Some xs) b head → left ≡ prepend_known head b → after ≡ stream
+    → BeginsAt origin stream (Some xs) → BeginsAt origin after left
+begins_there None stream after left b xs head h e s k = tt
+begins_there (Some at) stream after left None xs head h e s k = absurd h
+begins_there (Some at) stream after left (Some ys) xs head h e s k = e ∙ ap Some (sym h) ∙ k ∙ ap (left_behind (Some at)) (sym s)
+
+-- the same where the source may go back
+pub container_begins : (P : Result (List ℕ) Refusal → Type 0) (n : ℕ) (block : List ℕ) (format : Option Format) (origin : Option ℕ) (stream after a b left : Option (List ℕ))
+    → Consumes a b (take n block) → n ≤ length block → n ≤ 4096 → 4096 ≤ length block → (n < min 4096 (length block) → IsAtEnd b)
+    → format ≡ format_in (take n block) → left ≡ prepend_known (take n block) b → after ≡ stream
+    → IfSome left (λ bytes. BeginsAt origin after left → P (answer_as format bytes))
+    → IfSome a (λ bytes. BeginsAt origin stream a → P (container_answer bytes))
+container_begins P n block format origin stream after None b left h bound most room end f e s g = tt
+container_begins P n block format origin stream after (Some xs) b left h bound most room end f e s g =
+    λ k. container_holds P n block format (Some xs) b left h bound most room end f e
+    (along left _ _ (λ bytes t. t (begins_there origin stream after left b xs (take n block) h e s k)) g)
+
+-- what needs no start holds with one
+pub with_start : (a : Option (List ℕ)) (P : List ℕ → Type 0) (Q : Type 0) → IfSome a P → IfSome a (λ xs. Q → P xs)
+with_start a P Q h = along a P _ (λ xs k q. k) h
+
 -- an interruption is owed no answer
-pub interrupted : (a : Option (List ℕ)) → IfSome a (λ bytes. ⊤)
-interrupted None = tt
-interrupted (Some xs) = tt
+pub interrupted : (a : Option (List ℕ)) (Q : Type 0) → IfSome a (λ bytes. Q → ⊤)
+interrupted None Q = tt
+interrupted (Some xs) Q = λ q. tt
 
 -- what a call answers is the data of a stream, or its refusal
 stream_gives : {X : Type 0} (items : X → List ℕ) (result : Result X Failure) (a b : Option (List ℕ)) (l : ℕ)

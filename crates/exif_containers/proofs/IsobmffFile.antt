@@ -33,7 +33,7 @@ block_read P a block_of block now e h k =
 
 -- ---- the item
 
-settled : (file meta : List ℕ) → meta_body file ≡ Ok meta → exif_of file ≡ (exif_block file meta >>= after_header)
+pub settled : (file meta : List ℕ) → meta_body file ≡ Ok meta → exif_of file ≡ (exif_block file meta >>= after_header)
 unfolding exif_of
 settled file meta h = ap (λ r. r >>= λ meta. exif_block file meta >>= λ block. after_header block) h
 
@@ -41,7 +41,7 @@ placed : (file meta : List ℕ) (p : ExifPlace) → exif_place meta ≡ Ok p →
 unfolding exif_block
 placed file meta p h = ap (λ r. r >>= λ found. item_bytes file found.idat found.place) h
 
-unplaced : (e : Failure) (file meta : List ℕ) → Fails e (exif_place meta) → Fails e (exif_block file meta)
+pub unplaced : (e : Failure) (file meta : List ℕ) → Fails e (exif_place meta) → Fails e (exif_block file meta)
 unfolding exif_block
 unplaced e file meta h = fails_along e (λ r. r >>= λ found. item_bytes file found.idat found.place) (exif_place meta) (λ r. refl) h
 
@@ -55,11 +55,11 @@ item_fails e a front now meta same h k =
     subst (λ t. IfSome a (λ rest. Fails e (exif_of (t ++ rest)))) same
     (each a _ (λ rest. subst (Fails e) (sym (settled (now ++ rest) meta (h rest))) (fails_along e (λ r. r >>= after_header) (exif_block (now ++ rest) meta) (λ r. refl) (unplaced e (now ++ rest) meta k))))
 
-exif_is : (file meta : List ℕ) (p : ExifPlace) → meta_body file ≡ Ok meta → exif_place meta ≡ Ok p → payload_at file p.idat p.place ≡ exif_of file
+pub exif_is : (file meta : List ℕ) (p : ExifPlace) → meta_body file ≡ Ok meta → exif_place meta ≡ Ok p → payload_at file p.idat p.place ≡ exif_of file
 exif_is file meta p h k = sym (settled file meta h ∙ ap (λ r. r >>= after_header) (placed file meta p k))
 
 -- put together in another way than from the file, an item has the same bytes in each
-other_method : (file other : List ℕ) (idat : Option (List ℕ)) (p : Place) → (p.method ≡ 0 → ⊥) → item_bytes other idat p ≡ item_bytes file idat p
+pub other_method : (file other : List ℕ) (idat : Option (List ℕ)) (p : Place) → (p.method ≡ 0 → ⊥) → item_bytes other idat p ≡ item_bytes file idat p
 unfolding item_bytes
 other_method file other idat p h = by (eqb p.method 0) refl
   where
@@ -68,7 +68,7 @@ other_method file other idat p h = by (eqb p.method 0) refl
     by false e = rw e refl
 
 -- an item in the file has the same bytes whatever stands beside
-no_matter : (file : List ℕ) (idat other : Option (List ℕ)) (p : Place) → p.method ≡ 0 → item_bytes file other p ≡ item_bytes file idat p
+pub no_matter : (file : List ℕ) (idat other : Option (List ℕ)) (p : Place) → p.method ≡ 0 → item_bytes file other p ≡ item_bytes file idat p
 unfolding item_bytes
 no_matter file idat other p h = rw h refl
 

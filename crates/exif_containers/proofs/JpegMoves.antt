@@ -1,16 +1,17 @@
 -- The steps of the JPEG reader, one after another.
 use Rattle.std.proofs.Common.{◌≡◌, ℕ, ◌+◌, ◌-◌, ◌*◌, ◌<◌, ◌≤◌, ◌⊎◌, inl, inr, Bool, true, false, cond, eqb, not, ◌&&◌, List, [], ◌∷◌, ◌++◌, length, take, drop, Option, None, Some, IfSome, MatchOption, Err, unwrap_or, ◌≢◌, ap, sym, ◌∙◌, refl, arith, codes, append_assoc, length-append}
 use Rattle.std.specs.Cmp.Lexicographic.{pointwise}
-use Rattle.std.proofs.lemmas.List.{take_at, drop_at, take-append-drop, take-take, length-take-le}
+use Rattle.std.proofs.lemmas.List.{take_at, drop_at, take-append-drop, take-take, length-take, length-take-le}
 use Rattle.std.proofs.Math.Bool.{and-true}
 use Rattle.exif_base.specs.Told.{WhereTold}
 use Rattle.exif_containers.specs.Within.{Moves}
 use Rattle.std.specs.List.{Contains}
 use Rattle.std.specs.Option.{option_map}
 use Rattle.std.proofs.lemmas.Bool.{eq-eqb, ne_eqb, cases_lt}
+use Rattle.std.proofs.lemmas.Bool.Decides.{nat_tests}
 use Rattle.exif_types.specs.Failures.{Failure}
 use Rattle.exif_types.specs.Refusals.{Refusal, refusal_of, IsInterrupted, Fails}
-use Rattle.exif_containers.specs.Answer.{Answer, found, refused, IsCollected, IsShort}
+use Rattle.exif_containers.specs.Answer.{Answer, found, refused, IsCollected, IsShort, offset_before}
 use Rattle.exif_containers.specs.Jpeg.{jpeg_refusals, answer_at_code, begins_exif, invalid_length, not_jpeg, unexpected_soi, no_exif_in_jpeg, broken_jpeg, JpegUnit, stands_alone, unit_from_code, unit_answer, code_onwards, answer_from, jpeg_answer, exif_payload, first_answer, with_units, units_of}
 use Rattle.exif_containers.proofs.JpegUnits.{unit-segment, unit-alone, unit_answer_segment, answer-at_code, answer-short, answer-no_code, answer_alone}
 use Rattle.exif_containers.proofs.LimitedMoves.{moves_then, moves_then_fact, moves_fact, moves_weaker}
@@ -246,12 +247,23 @@ pub jpeg_holds : (Q : Answer → Type 0) (a b : Option (List ℕ)) (l m : ℕ) �
     → IfSome b (λ ys. Q (answer_from (take m ys))) → IfSome a (λ xs. Q (jpeg_answer (take l xs)))
 jpeg_holds Q a b l m = holds_after Q a b l m (λ xs ys. jpeg_answer xs ≡ answer_from ys) jpeg_answer answer_from (λ x y p. p)
 
+-- bytes of which the first so many count, as many as were taken, and how many of them count
+offset-same : (l n : ℕ) (x z : List ℕ) (k : ℕ) → length x + n ≡ length z + l → n ≤ l
+    → l - n - k ≡ length (take l x) - length (take n z) - k
+offset-same l n x z k e le =
+    let a = length-take l x in let b = length-take n z in grind (arith, nat_tests)
+
 -- the units left answer a payload, and so does the stream
-pub jpeg_found : (payload : List ℕ) (a b c : Option (List ℕ)) (l m n : ℕ)
+pub jpeg_located : (payload : List ℕ) (a b c : Option (List ℕ)) (l m n : ℕ) → n ≤ l
     → Moves a l b m (λ xs ys. jpeg_answer xs ≡ answer_from ys) → Moves b m c n (λ xs ys. answer_from xs ≡ found payload ys)
-    → WhereTold a c (λ xs ys. (rest : List ℕ) × (jpeg_answer (take l xs) ≡ found payload rest) × (ys ≡ rest ++ drop l xs))
-jpeg_found payload None b c l m n h k = tt
-jpeg_found payload (Some x) None c l m n h k = absurd h
-jpeg_found payload (Some x) (Some y) None l m n h k = absurd k
-jpeg_found payload (Some x) (Some y) (Some z) l m n h k =
-    (take n z, h.0 ∙ k.0, sym (take-append-drop n z) ∙ ap (λ t. take n z ++ t) (sym (h.1 ∙ k.1)))
+    → WhereTold a c (λ xs ys. (rest : List ℕ) × (jpeg_answer (take l xs) ≡ found payload rest) × (ys ≡ rest ++ drop l xs)
+    × (l - n - length payload ≡ offset_before (take l xs) payload rest))
+jpeg_located payload None b c l m n le h k = tt
+jpeg_located payload (Some x) None c l m n le h k = absurd h
+jpeg_located payload (Some x) (Some y) None l m n le h k = absurd k
+jpeg_located payload (Some x) (Some y) (Some z) l m n le h k = (
+  take n z,
+  h.0 ∙ k.0,
+  sym (take-append-drop n z) ∙ ap (λ t. take n z ++ t) (sym (h.1 ∙ k.1)),
+  (let p = h.2 in let q = k.2 in offset-same l n x z (length payload) (omega arith) le),
+)

@@ -1,13 +1,16 @@
 pub mod ContainerNames
 pub mod ContainerSteps
+pub mod IsobmffBack
 pub mod IsobmffExtents
 pub mod IsobmffFile
 pub mod IsobmffFront
+pub mod IsobmffMeta
 pub mod IsobmffNames
 pub mod JpegMoves
 pub mod JpegUnits
 pub mod LawsJpeg
 pub mod LawsWebp
 pub mod LimitedMoves
+pub mod LocatedSteps
 pub mod RemovingLemmas
 pub mod WebpChunks

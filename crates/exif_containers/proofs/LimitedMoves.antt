@@ -1,10 +1,10 @@
 -- One step after another on told bytes of which only the first so many count.
-use Rattle.std.proofs.Common.{◌≡◌, ◌≢◌, ℕ, suc, ◌+◌, ◌*◌, cond, List, [], ◌∷◌, ◌++◌, length, take, drop, Option, None, Some, IfSome, ap, sym, ◌∙◌, refl, add_comm, arith}
+use Rattle.std.proofs.Common.{◌≡◌, ◌≢◌, ℕ, suc, ◌+◌, ◌-◌, ◌*◌, cond, List, [], ◌∷◌, ◌++◌, length, take, drop, Option, None, Some, IfSome, ap, sym, ◌∙◌, refl, add_comm, arith}
 use Rattle.std.specs.List.{All}
 use Rattle.std.proofs.Math.Seq.{take-append-add, drop-append-add}
 use Rattle.std.proofs.lemmas.Bool.{ne_eqb}
 use Rattle.std.proofs.lemmas.List.Elements.{All-tail}
-use Rattle.std.proofs.lemmas.List.{length-take-le, take-append-drop, drop-drop}
+use Rattle.std.proofs.lemmas.List.{length-append, length-drop, length-take-le, take-append-drop, drop-drop}
 use Rattle.exif_base.specs.Told.{Skips}
 use Rattle.byteorder.specs.Endian.{ReadsNumber, big_number}
 use Rattle.exif_containers.specs.Jpeg.{from_mark}
@@ -27,6 +27,10 @@ skips_within (Some xs) (Some ys) m n k h e =
             ∙ take-append-add (take k xs) (drop k xs) n ∙ ap (λ t. take k xs ++ take n t) (sym h.1),
       ),
       ap (λ t. drop t xs) sum2 ∙ sym (drop-drop n k xs) ∙ ap (drop n) (sym h.1),
+      (
+          let left : length ys ≡ length xs - k = ap length h.1 ∙ length-drop k xs in
+          let room = h.0 in omega arith
+          ),
     )
 
 -- the number in two bytes
@@ -41,6 +45,7 @@ number_within (Some (p ∷ q ∷ xs)) (Some ys) m n x h e =
     let is : x ≡ 256 * p + q = (let v = h.1 in omega arith) in (
       (p, q, ap (λ t. take t (p ∷ q ∷ xs)) two ∙ ap (λ t. p ∷ q ∷ take n t) (sym h.2), is),
       ap (λ t. drop t (p ∷ q ∷ xs)) two ∙ ap (drop n) (sym h.2),
+      (let left : length ys ≡ length xs = ap length h.2 in omega arith),
     )
 
 -- two steps
@@ -49,7 +54,8 @@ pub moves_then : (a b c : Option (List ℕ)) (l m n : ℕ) (P Q S : List ℕ →
 moves_then None b c l m n P Q S f h k = tt
 moves_then (Some x) None c l m n P Q S f h k = absurd h
 moves_then (Some x) (Some y) None l m n P Q S f h k = absurd k
-moves_then (Some x) (Some y) (Some z) l m n P Q S f h k = (f (take l x) (take m y) (take n z) h.0 k.0, h.1 ∙ k.1)
+moves_then (Some x) (Some y) (Some z) l m n P Q S f h k =
+    (f (take l x) (take m y) (take n z) h.0 k.0, h.1 ∙ k.1, (let p = h.2 in let q = k.2 in omega arith))
 
 -- a step, and then a fact on the bytes that it left
 pub moves_then_fact : (a b : Option (List ℕ)) (l m : ℕ) (P : List ℕ → List ℕ → Type 0) (Q S : List ℕ → Type 0)
@@ -63,7 +69,7 @@ pub moves_weaker : (a b : Option (List ℕ)) (l m : ℕ) (P Q : List ℕ → Lis
     → ((x y : List ℕ) → P x y → Q x y) → Moves a l b m P → Moves a l b m Q
 moves_weaker None b l m P Q f h = tt
 moves_weaker (Some x) None l m P Q f h = absurd h
-moves_weaker (Some x) (Some y) l m P Q f h = (f (take l x) (take m y) h.0, h.1)
+moves_weaker (Some x) (Some y) l m P Q f h = (f (take l x) (take m y) h.0, h.1, h.2)
 
 -- a step, after which a fact holds of the bytes before it
 pub moves_fact : (a b : Option (List ℕ)) (l m : ℕ) (P : List ℕ → List ℕ → Type 0) (S : List ℕ → Type 0)
@@ -87,4 +93,5 @@ passes_marks (Some xs) (Some ys) m n k h e =
       ap (λ t. from_mark (take t xs)) sum ∙ ap (λ t. from_mark (take (length h.0 + n) t)) h.1
           ∙ ap from_mark (take-append-add h.0 ys n) ∙ from_mark-others h.0 (take n ys) h.3,
       ap (λ t. drop t xs) sum ∙ ap (λ t. drop (length h.0 + n) t) h.1 ∙ drop-append-add h.0 ys n,
+      (let all : length xs ≡ length h.0 + length ys = ap length h.1 ∙ length-append h.0 ys in omega arith),
     )

@@ -1,16 +1,16 @@
 -- How the answer of a WebP file follows from its header and its first chunk.
-use Rattle.std.proofs.Common.{◌≡◌, ℕ, zero, suc, ◌-◌, ◌<◌, ◌≤◌, Bool, true, false, cond, eqb, ltb, ◌&&◌, List, ◌++◌, length, take, drop, codes, Option, None, Some, Result, Ok, Err, IfSome, MatchOption, ap, sym, ◌∙◌, refl, subst, arith, length-drop, length-append}
+use Rattle.std.proofs.Common.{◌≡◌, ℕ, zero, suc, ◌+◌, ◌-◌, ◌<◌, ◌≤◌, Bool, true, false, cond, eqb, ltb, ◌&&◌, List, ◌++◌, length, take, drop, codes, Option, None, Some, Result, Ok, Err, IfSome, MatchOption, ap, sym, ◌∙◌, refl, subst, arith, length-drop, length-append}
 use Rattle.std.specs.Cmp.Lexicographic.{pointwise}
 use Rattle.std.proofs.lemmas.Bool.Decides.{nat_tests}
 use Rattle.std.proofs.lemmas.Bool.{ltb-false, lt-ltb, le-ltb}
-use Rattle.std.proofs.lemmas.List.{take-append-le, drop-append-le, take_at, drop_at}
+use Rattle.std.proofs.lemmas.List.{take-append-le, drop-append-le, take-append-drop, take_at, drop_at}
 use Rattle.std.specs.Io.KnownBytes.{Consumes}
 use Rattle.byteorder.specs.Endian.{little_number}
 use Rattle.byteorder.specs.Numbers.{little_from-append}
 use Rattle.exif_base.specs.Told.{WhereTold, Skips}
 use Rattle.exif_types.specs.Failures.{Failure}
 use Rattle.exif_types.specs.Refusals.{Refusal, refusal_of, IsInterrupted, Fails}
-use Rattle.exif_containers.specs.Answer.{Answer, found, refused, IsCollected, IsShort}
+use Rattle.exif_containers.specs.Answer.{Answer, found, refused, IsCollected, IsShort, offset_before}
 use Rattle.exif_isobmff.proofs.Refusing.{fails_along}
 use Rattle.exif_containers.specs.WebpSteps.{IsPayload}
 use Rattle.exif_containers.specs.Webp.{Chunk, exif, other, broken_webp, not_webp, invalid_file_size, overflowing, no_exif_in_webp, padded, exif_chunk, other_chunk, chunk_body, chunk_at, follow, answer_within, body_answer, begins_webp, sized_answer, webp_answer}
@@ -142,6 +142,105 @@ webp_passed None b c room r h k = tt
 webp_passed (Some xs) None c room r h k = absurd h
 webp_passed (Some xs) (Some ys) None room r h k = absurd k
 webp_passed (Some xs) (Some ys) (Some zs) room r h k = h ∙ body-other room ys r zs k
+
+-- a padded payload fits where the payload does
+padded-fits : (size room : ℕ) → size ≤ room → padded size room ≤ room
+padded-fits size room le = grind (arith, nat_tests)
+
+-- a chunk takes as many bytes as it takes of the body
+other-counts : (taken room : ℕ) (bytes : List ℕ) (r : ℕ) (rest : List ℕ) → taken ≤ room
+    → other_chunk taken room bytes ≡ Ok (other r rest) → length bytes + r ≡ length rest + room
+other-counts taken room bytes r rest le e = go (ltb (length bytes) taken) refl e
+  where
+    go : (t : Bool) → ltb (length bytes) taken ≡ t
+        → cond t (Err broken_webp) (Ok (other (room - taken) (drop taken bytes))) ≡ Ok (other r rest)
+        → length bytes + r ≡ length rest + room
+    go true l e = absurd (cc)
+    go false l e =
+        let same : drop taken bytes ≡ rest = cc in
+        let left : room - taken ≡ r = cc in
+        let long : taken ≤ length bytes = ltb-false (length bytes) taken l in
+        let len : length rest ≡ length bytes - taken = ap length (sym same) ∙ length-drop taken bytes in omega arith
+
+body-counts : (s t : Bool) (size room : ℕ) (bytes : List ℕ) (r : ℕ) (rest : List ℕ) → ltb room size ≡ s
+    → cond s (Err overflowing) (cond t (exif_chunk size bytes) (other_chunk (padded size room) room bytes)) ≡ Ok (other r rest)
+    → length bytes + r ≡ length rest + room
+body-counts true t size room bytes r rest l e = absurd (cc)
+body-counts false true size room bytes r rest l e = absurd (exif-no_other (ltb (length bytes) size) _ _ r rest e)
+body-counts false false size room bytes r rest l e =
+    other-counts (padded size room) room bytes r rest (padded-fits size room (ltb-false room size l)) e
+
+at-counts : (s t u : Bool) (room : ℕ) (bytes : List ℕ) (r : ℕ) (rest : List ℕ) → ltb room 8 ≡ t → ltb (length bytes) 8 ≡ u
+    → cond s (Err no_exif_in_webp) (cond t (Err overflowing) (cond u (Err broken_webp) (chunk_body (take 4 bytes) (little_number 4 (drop 4 bytes)) (room - 8) (drop 8 bytes)))) ≡ Ok (other r rest)
+    → length bytes + r ≡ length rest + room
+at-counts true t u room bytes r rest k l e = absurd (cc)
+at-counts false true u room bytes r rest k l e = absurd (cc)
+at-counts false false true room bytes r rest k l e = absurd (cc)
+at-counts false false false room bytes r rest k l e =
+    let size = little_number 4 (drop 4 bytes) in
+    let h = body-counts (ltb (room - 8) size) (pointwise eqb (take 4 bytes) (codes "EXIF")) size (room - 8) (drop 8 bytes) r rest refl e in
+    let long : 8 ≤ length bytes = ltb-false (length bytes) 8 l in
+    let roomy : 8 ≤ room = ltb-false room 8 k in
+    omega (arith, length-drop 8 bytes)
+
+-- a chunk that is passed takes as many bytes of the file as of the body
+pub chunk-counts : (room : ℕ) (bytes : List ℕ) (r : ℕ) (rest : List ℕ) → chunk_at room bytes ≡ Ok (other r rest) → length bytes + r ≡ length rest + room
+chunk-counts room bytes r rest e = at-counts (eqb room 0) (ltb room 8) (ltb (length bytes) 8) room bytes r rest refl refl e
+
+other-no_exif : (t : Bool) (room : ℕ) (left payload rest : List ℕ) → cond t (Err broken_webp) (Ok (other room left)) ≡ Ok (exif payload rest) → ⊥
+other-no_exif true room left payload rest e = cc
+other-no_exif false room left payload rest e = cc
+
+exif-counts : (size : ℕ) (bytes payload rest : List ℕ) → exif_chunk size bytes ≡ Ok (exif payload rest) → length bytes ≡ length payload + length rest
+exif-counts size bytes payload rest e = go (ltb (length bytes) size) e
+  where
+    go : (t : Bool) → cond t (Err broken_webp) (Ok (exif (take size bytes) (drop size bytes))) ≡ Ok (exif payload rest)
+        → length bytes ≡ length payload + length rest
+    go true e = absurd (cc)
+    go false e =
+        let p : take size bytes ≡ payload = cc in
+        let q : drop size bytes ≡ rest = cc in
+        ap length (sym (take-append-drop size bytes)) ∙ length-append (take size bytes) (drop size bytes)
+        ∙ ap (λ t. length t + length (drop size bytes)) p ∙ ap (λ t. length payload + length t) q
+
+at-payload : (s t u v w : Bool) (room : ℕ) (bytes payload rest : List ℕ) → ltb (length bytes) 8 ≡ u
+    → cond s (Err no_exif_in_webp) (cond t (Err overflowing) (cond u (Err broken_webp) (cond v (Err overflowing)
+    (cond w (exif_chunk (little_number 4 (drop 4 bytes)) (drop 8 bytes)) (other_chunk (padded (little_number 4 (drop 4 bytes)) (room - 8)) (room - 8) (drop 8 bytes)))))) ≡ Ok (exif payload rest)
+    → length bytes ≡ 8 + length payload + length rest
+at-payload true t u v w room bytes payload rest l e = absurd (cc)
+at-payload false true u v w room bytes payload rest l e = absurd (cc)
+at-payload false false true v w room bytes payload rest l e = absurd (cc)
+at-payload false false false true w room bytes payload rest l e = absurd (cc)
+at-payload false false false false true room bytes payload rest l e =
+    let h = exif-counts (little_number 4 (drop 4 bytes)) (drop 8 bytes) payload rest e in
+    let long : 8 ≤ length bytes = ltb-false (length bytes) 8 l in omega (arith, length-drop 8 bytes)
+at-payload false false false false false room bytes payload rest l e =
+    absurd (other-no_exif (ltb (length (drop 8 bytes)) (padded (little_number 4 (drop 4 bytes)) (room - 8))) _ _ payload rest e)
+
+-- a chunk of Exif data is its header, the payload and what follows
+pub payload-counts : (room : ℕ) (bytes payload rest : List ℕ) → chunk_at room bytes ≡ Ok (exif payload rest) → length bytes ≡ 8 + length payload + length rest
+payload-counts room bytes payload rest e =
+    at-payload (eqb room 0) (ltb room 8) (ltb (length bytes) 8) (ltb (room - 8) (little_number 4 (drop 4 bytes)))
+    (pointwise eqb (take 4 bytes) (codes "EXIF")) room bytes payload rest refl e
+
+-- the loop counts the bytes that it takes by what is left of the body
+pub webp_counted : (a b c : Option (List ℕ)) (body room r : ℕ) → WhereTold a b (λ xs ys. length xs + room ≡ 12 + body + length ys)
+    → WhereTold b c (λ xs ys. chunk_at room xs ≡ Ok (other r ys)) → WhereTold a c (λ xs ys. length xs + r ≡ 12 + body + length ys)
+webp_counted None b c body room r h k = tt
+webp_counted (Some xs) None c body room r h k = absurd h
+webp_counted (Some xs) (Some ys) None body room r h k = absurd k
+webp_counted (Some xs) (Some ys) (Some zs) body room r h k = let l = chunk-counts room ys r zs k in omega arith
+
+-- the payload, and where it is
+pub webp_located : (payload : List ℕ) (a b c : Option (List ℕ)) (body room : ℕ) → room ≤ body
+    → WhereTold a b (λ xs ys. webp_answer xs ≡ body_answer room ys) → WhereTold a b (λ xs ys. length xs + room ≡ 12 + body + length ys)
+    → WhereTold b c (λ xs ys. chunk_at room xs ≡ Ok (exif payload ys))
+    → WhereTold a c (λ xs ys. (webp_answer xs ≡ found payload ys) × (body - room + 20 ≡ offset_before xs payload ys))
+webp_located payload None b c body room le h p k = tt
+webp_located payload (Some xs) None c body room le h p k = absurd h
+webp_located payload (Some xs) (Some ys) None body room le h p k = absurd k
+webp_located payload (Some xs) (Some ys) (Some zs) body room le h p k =
+    (h ∙ body-exif room ys payload zs k, (let l = payload-counts room ys payload zs k in omega arith))
 
 -- a failure at a chunk is a failure of the file
 fails_body : (e : Failure) (room : ℕ) (ys : List ℕ) → Fails e (chunk_at room ys) → Fails e (body_answer room ys)

@@ -1,5 +1,5 @@
 -- What a container answers, and how errors tell it.
-use Rattle.std.specs.Prelude.{◌≡◌, ℕ, List, Option, Some, IfErr, IfSome, MatchOption, Ok, Err}
+use Rattle.std.specs.Prelude.{◌≡◌, ℕ, ◌-◌, List, length, Option, Some, IfErr, IfSome, MatchOption, Ok, Err}
 use Rattle.std.specs.List.{Contains}
 use Rattle.exif_base.specs.declared.read.ReadFault.{ReadFault}
 use Rattle.exif_base.specs.declared.read.ReadFault.TheVariants as fault
@@ -14,6 +14,10 @@ Answer = Front (List ℕ)
 -- the Exif bytes were found, and these follow them
 abbrev pub found : List ℕ → List ℕ → Answer
 found payload rest = Ok (payload, rest)
+
+-- how many of these bytes come before the payload, which the rest follows
+abbrev pub offset_before : List ℕ → List ℕ → List ℕ → ℕ
+offset_before bytes payload rest = length bytes - length rest - length payload
 
 -- the bytes give no Exif data, for this reason
 abbrev pub refused : Refusal → Answer

@@ -1,8 +1,10 @@
 pub mod Answer
 pub mod Container
+pub mod GoingBack
 pub mod HeifSteps
 pub mod Jpeg
 pub mod JpegGrammar
+pub mod Located
 pub mod Removing
 pub mod Webp
 pub mod WebpGrammar

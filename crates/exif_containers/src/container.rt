@@ -5,6 +5,7 @@ ghost use Rattle.std.specs.Io.KnownBytes.{Consumes, IsAtEnd};
 ghost use Rattle.exif_base.specs.Reads.{Counts};
 ghost use Rattle.exif_types.specs.Refusals.{Gives, is_io};
 ghost use Rattle.exif_containers.specs.Answer.{IsNamed};
+ghost use Rattle.exif_containers.specs.GoingBack.{BeginsAt};
 ghost use Rattle.exif_containers.specs.Container.{answer_as, begins_tiff, container_answer, container_refusals, format_in};
 
 use crate::isobmff::{self, is_heif};
@@ -21,11 +22,11 @@ const TIFF_BE_SIG: [u8; 4] = [0x4d, 0x4d, 0x00, 0x2a];
 
 const TIFF_LE_SIG: [u8; 4] = [0x49, 0x49, 0x2a, 0x00];
 
-// How many bytes choose the container.
-const HEAD: usize = 4096;
+/// How many bytes choose the container.
+pub const HEAD: usize = 4096;
 
-// How many bytes are read at a time behind them.
-const BLOCK: usize = 8192;
+/// How many bytes are read at a time behind them.
+pub const BLOCK: usize = 8192;
 
 /// A container of Exif data.
 #[derive(Clone, Copy, Debug)]
@@ -71,29 +72,32 @@ fn attr_as<R: Source>(
     alloc: Global,
     format: Option<Format>,
     source: &mut R,
+    origin: Option<u64>,
 ) -> Result<Vec<u8>, Error>
-    ensures gives { IfSome (R.left source.old)
-        (λ bytes. Gives (λ v. v.items) result (answer_as format bytes)) }
+    ensures gives { IfSome (R.left source.old) (λ bytes.
+        BeginsAt origin (R.stream source.old) (R.left source.old)
+        → Gives (λ v. v.items) result (answer_as format bytes)) }
     ensures named { IfErr result (IsNamed container_refusals) }
     ensures counts { Counts R.Source source.old source.new (is_io result) }
 {
     match format {
         Some(Format::Tiff) => read_all(alloc, source),
         Some(Format::Jpeg) => jpeg::get_exif_attr(alloc, source),
-        Some(Format::Heif) => isobmff::get_exif_attr(alloc, source),
+        Some(Format::Heif) => isobmff::exif_from(alloc, source, origin),
         Some(Format::WebP) => webp::get_exif_attr(alloc, source),
         None => Err(Error::InvalidFormat("Unknown image format")),
     }
 }
 
-// Fills the front of the block with the head of the stream, or all of it.
-fn read_head<R: Source>(source: &mut R, block: &mut [u8]) -> io::Result<usize>
+/// Fills the front of the block with the head of the stream, or all of it.
+pub fn read_head<R: Source>(source: &mut R, block: &mut [u8]) -> io::Result<usize>
     ensures taken { IfOk result
         (λ n. Consumes (R.left source.old) (R.left source.new) (take n block.new)) }
     ensures bound { IfOk result (λ n. n ≤ length block.new) }
     ensures len { length block.new ≡ length block.old }
     ensures end { IfOk result (λ n. n < min HEAD (length block.new) → IsAtEnd (R.left source.new)) }
     ensures most { IfOk result (λ n. n ≤ HEAD) }
+    ensures stream { R.stream source.new ≡ R.stream source.old }
     ensures counts { Counts R.Source source.old source.new (is_err result) }
 {
     let room = HEAD.min(block.len());
@@ -104,19 +108,40 @@ fn read_head<R: Source>(source: &mut R, block: &mut [u8]) -> io::Result<usize>
 fn attr_through<R: Source>(
     alloc: Global,
     source: &mut R,
+    origin: Option<u64>,
     block: &mut [u8],
 ) -> Result<Vec<u8>, Error>
     requires { HEAD ≤ length block.now }
-    ensures gives { IfSome (R.left source.old)
-        (λ bytes. Gives (λ v. v.items) result (container_answer bytes)) }
+    ensures gives { IfSome (R.left source.old) (λ bytes.
+        BeginsAt origin (R.stream source.old) (R.left source.old)
+        → Gives (λ v. v.items) result (container_answer bytes)) }
     ensures named { IfErr result (IsNamed container_refusals) }
     ensures counts { Counts R.Source source.old source.new (is_io result) }
 {
     let filled = read_head(source, block)?;
     let format = format_of(&block[..filled]);
     let mut blocks = Blocks::new(block, filled, source);
-    let payload = attr_as(alloc, format, &mut blocks)?;
+    let payload = attr_as(alloc, format, &mut blocks, origin)?;
     Ok(payload)
+}
+
+/// The Exif data of a stream, as [`exif_attr_of_stream`] has it, whose first byte is at this offset
+/// of a source that goes back. With none, the source does not go back.
+pub fn exif_attr_from<R: Source>(
+    alloc: Global,
+    source: &mut R,
+    origin: Option<u64>,
+) -> Result<Vec<u8>, Error>
+    ensures gives { IfSome (R.left source.old) (λ bytes.
+        BeginsAt origin (R.stream source.old) (R.left source.old)
+        → Gives (λ v. v.items) result (container_answer bytes)) }
+    ensures named { IfErr result (IsNamed container_refusals) }
+    ensures counts { Counts R.Source source.old source.new (is_io result) }
+{
+    if source.is_at_hand() {
+        return attr_through(alloc, source, origin, &mut [0; HEAD]);
+    }
+    attr_through(alloc, source, origin, &mut [0; BLOCK])
 }
 
 /// The Exif data of a stream: all bytes of TIFF data, or what a JPEG stream, a HEIF file or a
@@ -131,8 +156,7 @@ pub fn exif_attr_of_stream<R: Source>(alloc: Global, source: &mut R) -> Result<V
     ensures named { IfErr result (IsNamed container_refusals) }
     ensures counts { Counts R.Source source.old source.new (is_io result) }
 {
-    if source.is_at_hand() {
-        return attr_through(alloc, source, &mut [0; HEAD]);
-    }
-    attr_through(alloc, source, &mut [0; BLOCK])
+    let origin = source.offset();
+    let payload = exif_attr_from(alloc, source, origin)?;
+    Ok(payload)
 }

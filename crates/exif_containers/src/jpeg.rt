@@ -6,7 +6,7 @@ ghost use Rattle.exif_base.specs.Reads.{Counts};
 ghost use Rattle.exif_base.specs.Told.{WhereTold};
 ghost use Rattle.exif_types.specs.Refusals.{Fails, is_io};
 ghost use Rattle.exif_types.specs.declared.error.Error.TheVariants.{OutOfMemory};
-ghost use Rattle.exif_containers.specs.Answer.{IsCollected, IsNamed, IsShort, found};
+ghost use Rattle.exif_containers.specs.Answer.{IsCollected, IsNamed, IsShort, found, offset_before};
 ghost use Rattle.exif_containers.specs.Within.{Moves};
 ghost use Rattle.exif_containers.specs.Jpeg.{JpegUnit, answer_at_code, answer_from, begins_exif, begins_jpeg, broken_jpeg, exif_payload as payload_of, jpeg_answer, jpeg_refusals, stands_alone, unit_answer, unit_from_code};
 
@@ -148,6 +148,34 @@ fn next_unit<R: Source>(
     }
 }
 
+/// The Exif bytes of a JPEG stream, and their offset: how many bytes of the source precede them.
+///
+/// The answers are those of [`get_exif_attr`].
+pub fn locate<R: Source>(alloc: Global, source: &mut R) -> Result<(Vec<u8>, u64), Error>
+    ensures found { IfOk result (λ v. WhereTold (R.left source.old) (R.left source.new)
+        (λ xs ys. (rest : List ℕ) × (jpeg_answer (take LIMIT xs) ≡ found v.0.items rest)
+        × (ys ≡ rest ++ drop LIMIT xs) × (v.1 ≡ offset_before (take LIMIT xs) v.0.items rest))) }
+    ensures refused { IfErr result (λ e. IfSome (R.left source.old)
+        (λ xs. Fails e (jpeg_answer (take LIMIT xs)))) }
+    ensures named { IfErr result (IsNamed jpeg_refusals) }
+    ensures memory { IfErr result (λ e. e ≡ OutOfMemory → IfSome (R.left source.old)
+        (λ xs. IsCollected broken_jpeg (jpeg_answer (take LIMIT xs)))) }
+    ensures counts { Counts R.Source source.old source.new (is_io result) }
+{
+    let mut budget = LIMIT;
+    let mut signature = [0u8; 2];
+    fill_within(source, &mut budget, &mut signature)?;
+    if signature != SIGNATURE {
+        return Err(Error::InvalidFormat("Not a JPEG file"));
+    }
+    loop {
+        if let Some(payload) = next_unit(alloc, source, &mut budget)? {
+            let offset = (LIMIT - budget).saturating_sub(payload.len() as u64);
+            return Ok((payload, offset));
+        }
+    }
+}
+
 /// The Exif bytes of a JPEG stream, taken from a source that may hold bytes at hand.
 ///
 /// What follows their segment is left in the source. Refusals: `Not a JPEG file`, `Unexpected SOI`,
@@ -166,17 +194,8 @@ pub fn get_exif_attr<R: Source>(alloc: Global, source: &mut R) -> Result<Vec<u8>
         (λ xs. IsCollected broken_jpeg (jpeg_answer (take LIMIT xs)))) }
     ensures counts { Counts R.Source source.old source.new (is_io result) }
 {
-    let mut budget = LIMIT;
-    let mut signature = [0u8; 2];
-    fill_within(source, &mut budget, &mut signature)?;
-    if signature != SIGNATURE {
-        return Err(Error::InvalidFormat("Not a JPEG file"));
-    }
-    loop {
-        if let Some(payload) = next_unit(alloc, source, &mut budget)? {
-            return Ok(payload);
-        }
-    }
+    let (payload, _offset) = locate(alloc, source)?;
+    Ok(payload)
 }
 
 /// The Exif bytes of a JPEG stream: TIFF data, without the six bytes of the identifier (Exif 2.32,

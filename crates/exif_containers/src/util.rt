@@ -54,6 +54,7 @@ pub fn pass_over<R: Source>(source: &mut R, len: u64) -> Result<bool, Error>
     ensures end { IfOk result (λ whole. whole ≡ false → HasFewer (R.left source.old) len) }
     ensures interrupted { IfErr result IsInterrupted }
     ensures counts { Counts R.Source source.old source.new (is_io result) }
+    ensures stream { R.stream source.new ≡ R.stream source.old }
 {
     match discard_exact(source, len) {
         Ok(()) => Ok(true),
@@ -92,6 +93,7 @@ pub fn read_at_most<R: Source>(source: &mut R, list: &mut Vec<u8>, most: u64) ->
     ensures end { IfOk result (λ n. n < most → IsAtEnd (R.left source.new)) }
     ensures interrupted { IfErr result IsInterrupted }
     ensures counts { Counts R.Source source.old source.new (is_io result) }
+    ensures stream { R.stream source.new ≡ R.stream source.old }
 {
     match exif_base::read_at_most(source, list, most) {
         Ok(n) => Ok(n),

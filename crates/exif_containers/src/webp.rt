@@ -1,12 +1,12 @@
 //! The Exif chunk of a WebP file (WebP Container Specification, "RIFF File Format", "Metadata").
 
-ghost use Rattle.std.specs.Prelude.{◌≡◌, ◌≢◌, ◌<◌, ◌≤◌, ◌-◌, length, take, drop, OnOk, IfOk, IfErr, IfSome, Ok, Err};
+ghost use Rattle.std.specs.Prelude.{◌≡◌, ◌≢◌, ◌<◌, ◌≤◌, ◌+◌, ◌-◌, ◌^◌, length, take, drop, OnOk, IfOk, IfErr, IfSome, Ok, Err};
 ghost use Rattle.byteorder.specs.Endian.{little_number};
 ghost use Rattle.exif_base.specs.Reads.{Counts};
 ghost use Rattle.exif_base.specs.Told.{WhereTold};
 ghost use Rattle.exif_types.specs.Refusals.{Fails, is_io};
 ghost use Rattle.exif_types.specs.declared.error.Error.TheVariants.{OutOfMemory};
-ghost use Rattle.exif_containers.specs.Answer.{IsCollected, IsNamed, IsShort, found};
+ghost use Rattle.exif_containers.specs.Answer.{IsCollected, IsNamed, IsShort, found, offset_before};
 ghost use Rattle.exif_containers.specs.Webp.{begins_webp, body_answer, broken_webp, chunk_at, chunk_body, padded, webp_answer, webp_refusals};
 ghost use Rattle.exif_containers.specs.WebpSteps.{IsPayload, LeavesAtMost, chunk_of};
 
@@ -97,6 +97,9 @@ pub fn is_webp(bytes: &[u8]) -> bool
 fn room_of_body<R: Source>(source: &mut R) -> Result<u64, Error>
     ensures room { IfOk result (λ room. WhereTold (R.left source.old) (R.left source.new)
         (λ xs ys. webp_answer xs ≡ body_answer room ys)) }
+    ensures header { OnOk result (WhereTold (R.left source.old) (R.left source.new)
+        (λ xs ys. length xs ≡ 12 + length ys)) }
+    ensures small { IfOk result (λ room. room < 2 ^ 32) }
     ensures refused { IfErr result
         (λ e. IfSome (R.left source.old) (λ xs. Fails e (webp_answer xs))) }
     ensures named { IfErr result (IsNamed webp_refusals) }
@@ -136,6 +139,31 @@ fn next_chunk<R: Source>(alloc: Global, source: &mut R, room: u64) -> Result<Ste
     body(alloc, source, name, size, room - 8)
 }
 
+/// The payload of the first chunk named `EXIF`, and its offset in the file.
+///
+/// The answers are those of [`get_exif_attr`].
+pub fn locate<R: Source>(alloc: Global, source: &mut R) -> Result<(Vec<u8>, u64), Error>
+    ensures found { IfOk result (λ v. WhereTold (R.left source.old) (R.left source.new)
+        (λ xs ys. (webp_answer xs ≡ found v.0.items ys)
+        × (v.1 ≡ offset_before xs v.0.items ys))) }
+    ensures refused { IfErr result
+        (λ e. IfSome (R.left source.old) (λ xs. Fails e (webp_answer xs))) }
+    ensures named { IfErr result (IsNamed webp_refusals) }
+    ensures memory { IfErr result (λ e. e ≡ OutOfMemory → IfSome (R.left source.old)
+        (λ xs. IsCollected broken_webp (webp_answer xs))) }
+    ensures counts { Counts R.Source source.old source.new (is_io result) }
+{
+    let body = room_of_body(source)?;
+    let mut room = body;
+    while room > 0 {
+        match next_chunk(alloc, source, room)? {
+            Step::Exif(payload) => return Ok((payload, body - room + 20)),
+            Step::Other(rest) => room = rest,
+        }
+    }
+    Err(Error::NotFound("WebP"))
+}
+
 /// The payload of the first chunk named `EXIF`. What follows it is left in the source.
 ///
 /// Refusals: `Not a WebP file`, `Invalid header file size`, `Chunk overflowing parent`, NotFound
@@ -152,12 +180,6 @@ pub fn get_exif_attr<R: Source>(alloc: Global, source: &mut R) -> Result<Vec<u8>
         (λ xs. IsCollected broken_webp (webp_answer xs))) }
     ensures counts { Counts R.Source source.old source.new (is_io result) }
 {
-    let mut room = room_of_body(source)?;
-    while room > 0 {
-        match next_chunk(alloc, source, room)? {
-            Step::Exif(payload) => return Ok(payload),
-            Step::Other(rest) => room = rest,
-        }
-    }
-    Err(Error::NotFound("WebP"))
+    let (payload, _offset) = locate(alloc, source)?;
+    Ok(payload)
 }

@@ -1,5 +1,6 @@
 pub mod Changing
 pub mod Clearing
+pub mod Edits
 pub mod Erasing
 pub mod Examples
 pub mod PlacesAlone

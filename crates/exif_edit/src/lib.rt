@@ -10,6 +10,7 @@
 
 mod alone;
 mod clear;
+mod edits;
 mod erase;
 pub mod laws;
 mod plan;
@@ -18,6 +19,7 @@ pub mod set;
 pub mod spell;
 
 pub use clear::{erase_all, erase_all_patches};
+pub use edits::{Edit, apply, patches_of};
 pub use erase::{erase_places, erase_places_patches};
 pub use exif_edit_base::{Error, Patch, Unerased, leftovers};
 pub use remove::{erase_field, erase_field_patches};

@@ -4,6 +4,7 @@ pub mod FindSteps
 pub mod Found
 pub mod LawsLocated
 pub mod LeftSteps
+pub mod LimitSteps
 pub mod LocatedEntries
 pub mod OffsetSteps
 pub mod PatchSteps

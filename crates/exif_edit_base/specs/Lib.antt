@@ -1,4 +1,5 @@
 pub mod Causes
+pub mod EntryLimit
 pub mod Finding
 pub mod GpsOffsets
 pub mod Locations

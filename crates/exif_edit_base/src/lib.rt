@@ -5,6 +5,7 @@
 pub mod error;
 pub mod find;
 pub mod laws;
+pub mod limit;
 pub mod offsets;
 pub mod patch;
 pub mod read;

@@ -1,5 +1,5 @@
 -- Whole boxes in front of more bytes.
-use Rattle.std.proofs.Common.{◌≡◌, ℕ, ◌-◌, ◌<◌, ◌≤◌, Bool, true, false, cond, not, eqb, leb, ltb, List, ◌++◌, length, take, drop, Result, Ok, Err, refl, sym, ap, ◌∙◌, arith, length-append, length-drop}
+use Rattle.std.proofs.Common.{◌≡◌, ℕ, ◌-◌, ◌<◌, ◌≤◌, Bool, true, false, cond, not, eqb, leb, ltb, List, [], ◌∷◌, ◌++◌, length, take, drop, Result, Ok, Err, refl, sym, ap, ◌∙◌, arith, length-append, length-drop}
 use Rattle.std.proofs.lemmas.Bool.{leb-true, ltb-false, and_parts, not-true}
 use Rattle.std.proofs.lemmas.Bool.Decides.{nat_tests}
 use Rattle.std.proofs.lemmas.List.{take-append-le, drop-append-le, length-take-le}
@@ -7,13 +7,15 @@ use Rattle.byteorder.specs.Endian.{big_number}
 use Rattle.byteorder.specs.Numbers.{big_from-append}
 use Rattle.exif_types.specs.Refusals.{Refusal, ◌>>=◌, Front}
 use Rattle.exif_isobmff.specs.declared.kind.Kind.{Kind}
-use Rattle.exif_isobmff.specs.declared.kind.Kind.TheVariants.{Meta}
+use Rattle.exif_isobmff.specs.declared.kind.Kind.TheVariants.{FileType, Meta, ItemData, ItemInfo, ItemInfoEntry, ItemLocation, Other}
 use Rattle.exif_isobmff.specs.declared.splitter.Header.{Header}
 use Rattle.exif_isobmff.specs.HeifRefusals.{too_small, broken_file, invalid_size, meta_before_ftyp}
-use Rattle.exif_isobmff.specs.Kinds.{kind_of}
+use Rattle.exif_isobmff.specs.Kinds.{kind_of, same_kind}
+use Rattle.exif_isobmff.specs.Extents.{behind_meta, behind_this}
+use Rattle.exif_isobmff.proofs.BehindMeta.{behind_more}
 use Rattle.exif_isobmff.specs.Boxes.{Part, whole_part, sizes_itself, box_size, header_len, header_at, box_at}
 use Rattle.exif_isobmff.specs.HeifFile.{file_box_at, meta_in, passed, whole}
-use Rattle.exif_isobmff.proofs.SplitterBoxes.{bind_ok, when_ok, ok_same}
+use Rattle.exif_isobmff.proofs.SplitterBoxes.{bind_ok, when_ok, ok_same, eight}
 use Rattle.exif_isobmff.proofs.FileBoxes.{box_of, file_went_on, file_found}
 use Rattle.exif_isobmff.proofs.LawsBoxes.{head_of, head-read, box-headed, with_body, after_head}
 use Rattle.exif_isobmff.proofs.LawsFiles.{file-read}
@@ -110,6 +112,33 @@ still_read text more body after kind s e =
     with_more : Part × List ℕ → Front Part
     with_more y = Ok (y.0, y.1 ++ more)
 
+-- a header that says its size is that of a box whatever follows
+pub headed_by : (text rest more : List ℕ) (h : Header) → header_len text ≤ length text → sizes_itself text ≡ true → header_at text ≡ Ok (h, rest) → length rest ≡ 0
+    → file_box_at (text ++ more) ≡ Ok (box_of h.kind h.len (take h.len more), drop h.len more)
+headed_by text rest more h head s e z =
+    let t = and_parts (leb 4 (length text)) (not (eqb (big_number 4 text) 0)) s in
+    let four : 4 ≤ length text = leb-true _ _ t.0 in
+    let fits : header_len text ≤ box_size text = header_fits text (h, rest) e in
+    let same : head_of text ≡ (h, rest) = ok_same (sym (head-read text fits) ∙ e) in
+    let size : box_size (text ++ more) ≡ box_size text = size_same text more four (not-true _ t.1) head in
+    let long : header_len (text ++ more) ≡ header_len text = head_same text more four in
+    let n : ℕ = box_size text - header_len text in
+    let total = length-append text more in
+    let behind : drop (header_len text) (text ++ more) ≡ more =
+    drop-append-le (header_len text) text more head ∙ ap (λ (y : Header × List ℕ). y.1 ++ more) same ∙ ap (λ t. t ++ more) (none_of rest z) in
+    let left : box_size (text ++ more) - header_len (text ++ more) ≡ n = ap (λ m. m - header_len (text ++ more)) size ∙ ap (λ m. box_size text - m) long in
+    file-read (text ++ more) more (kind_of (take 4 (drop 4 text))) n (omega arith) (omega arith)
+    (ap (λ m. drop m (text ++ more)) long ∙ behind)
+    (ap (λ m. kind_of (take 4 m)) (drop-append-le 4 text more four) ∙ ap kind_of (take-append-le 4 (drop 4 text) more (omega (arith, length-drop 4 text, eight (eqb (big_number 4 text) 1))))) left
+    ∙ ap (λ (y : Header × List ℕ). read_as y.0) same
+  where
+    none_of : (rest : List ℕ) → length rest ≡ 0 → rest ≡ []
+    none_of [] z = refl
+    none_of (b ∷ rest) z = absurd (omega arith)
+
+    read_as : Header → Front Part
+    read_as h = Ok (box_of h.kind h.len (take h.len more), drop h.len more)
+
 -- ---- the boxes up to `meta`, whatever follows
 
 some_more : (text more : List ℕ) → sizes_itself text ≡ true → 0 < length (text ++ more)
@@ -137,3 +166,26 @@ settled_by seen text body after kind total s e is_meta was h more =
   where
     same_length : (n : ℕ) → ltb n n ≡ false
     same_length n = grind (arith, nat_tests)
+
+-- what follows the `meta` is that behind a later box
+pub behind_on : (text body after : List ℕ) (kind : Kind) (total : List ℕ → List ℕ) → sizes_itself text ≡ true → box_at text ≡ Ok (whole_part kind body, after)
+    → (kind ≡ Meta → ⊥) → ((more : List ℕ) → behind_meta (text ++ more) ≡ total more) → (more : List ℕ) → behind_meta (after ++ more) ≡ total more
+behind_on text body after kind total s e not_meta h more =
+    sym (behind_more (text ++ more) (some_more text more s) ∙ ap (λ r. behind_this r behind_meta) (still_read text more body after kind s e)
+    ∙ ap (λ t. cond t (after ++ more) (behind_meta (after ++ more))) (other kind not_meta)) ∙ h more
+  where
+    other : (kind : Kind) → (kind ≡ Meta → ⊥) → same_kind Meta kind ≡ false
+    other Meta n = absurd (n refl)
+    other FileType n = refl
+    other ItemData n = refl
+    other ItemInfo n = refl
+    other ItemInfoEntry n = refl
+    other ItemLocation n = refl
+    other Other n = refl
+
+-- what follows the `meta` is what follows this box
+pub behind_by : (text body after : List ℕ) (kind : Kind) (total : List ℕ → List ℕ) → sizes_itself text ≡ true → box_at text ≡ Ok (whole_part kind body, after)
+    → kind ≡ Meta → ((more : List ℕ) → behind_meta (text ++ more) ≡ total more) → (more : List ℕ) → total more ≡ after ++ more
+behind_by text body after kind total s e is h more =
+    sym (h more) ∙ behind_more (text ++ more) (some_more text more s) ∙ ap (λ r. behind_this r behind_meta) (still_read text more body after kind s e)
+    ∙ ap (λ k. cond (same_kind Meta k) (after ++ more) (behind_meta (after ++ more))) is

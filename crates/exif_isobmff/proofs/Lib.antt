@@ -1,6 +1,11 @@
+pub mod BehindIdat
+pub mod BehindMeta
 pub mod ExifNames
+pub mod ExtentRanges
 pub mod FileBoxes
 pub mod FrontBoxes
+pub mod IdatAt
+pub mod ItemRanges
 pub mod ItemsBoxes
 pub mod LawsBoxes
 pub mod LawsBrands

@@ -1,9 +1,10 @@
 -- The boxes of a file (ISO/IEC 14496-12:2015, 4.2, 4.3, 8.11.1; ISO/IEC 23008-12:2017, B.4).
-use Rattle.std.specs.Prelude.{ℕ, ◌^◌, ◌||◌, Bool, false, nat_lt, nat_le, if◌then◌else◌, List, [], ◌∷◌, length, take, drop, Some, None, unwrap_or, Result, Ok, Err, codes}
+use Rattle.std.specs.Prelude.{◌≡◌, ℕ, ◌++◌, ◌^◌, ◌||◌, Bool, false, nat_lt, nat_le, if◌then◌else◌, List, [], ◌∷◌, length, take, drop, Some, None, unwrap_or, Result, Ok, Err, codes}
 use Rattle.std.specs.Str.{bytes_eq}
 use Rattle.std.specs.List.{find, list_any}
 use Rattle.exif_isobmff.specs.declared.kind.Kind.{Kind}
 use Rattle.exif_isobmff.specs.declared.kind.Kind.TheVariants.{FileType, Meta}
+use Rattle.exif_isobmff.specs.declared.splitter.Header.{Header}
 use Rattle.exif_isobmff.specs.Kinds.{same_kind}
 use Rattle.exif_types.specs.Refusals.{Refusal, ◌>>=◌, all_pass, or_refuse, Front}
 use Rattle.exif_isobmff.specs.HeifRefusals.{broken_file, seek_too_large, no_brand, too_small, meta_before_ftyp, no_exif}
@@ -92,3 +93,8 @@ begins_heif bytes = elim (find is_ftyp (children bytes).whole) [
 -- whether a box of the file passed, and an `ftyp` was seen
 abbrev pub passed : Bool → Kind → ℕ → List ℕ → Result Bool Refusal
 passed seen kind len body = checked kind len body >>= λ u. Ok (same_kind FileType kind || seen)
+
+-- these bytes are the header of a box of a file, whatever follows
+abbrev pub IsHeaderOf : Header → List ℕ → Type 0
+IsHeaderOf h bytes = (more : List ℕ) → file_box_at (bytes ++ more)
+    ≡ Ok (record { kind = h.kind; len = h.len; body = take h.len more }, drop h.len more)

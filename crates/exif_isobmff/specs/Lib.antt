@@ -1,5 +1,6 @@
 pub mod BoxGrammar
 pub mod Boxes
+pub mod Extents
 pub mod FileBoxView
 pub mod FileGrammar
 pub mod Heif
@@ -9,6 +10,7 @@ pub mod ItemGrammar
 pub mod ItemView
 pub mod Items
 pub mod Kinds
+pub mod LocatedView
 pub mod PlaceGrammar
 pub mod Places
 pub mod TablesView

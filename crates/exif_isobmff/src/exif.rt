@@ -7,7 +7,7 @@ ghost use Rattle.exif_isobmff.specs.ItemView.{item_view};
 
 use crate::BoxSplitter;
 use crate::extents::{after_header, item_bytes};
-use crate::file::meta_body;
+use crate::file::meta_of;
 use crate::locations::{Location, item_location};
 use crate::tables::{Tables, meta_tables};
 use exif_types::Error;
@@ -58,7 +58,7 @@ pub fn exif_of_file(alloc: Global, file: &[u8]) -> Result<Vec<u8>, Error>
     ensures gives { Gives (λ v. v.items) result (exif_of file.now) }
     ensures no_io { is_io result ≡ false }
 {
-    let meta = meta_body(file)?;
-    let block = exif_block(alloc, file, meta)?;
+    let meta = meta_of(file)?;
+    let block = exif_block(alloc, file, meta.body)?;
     after_header(alloc, &block)
 }

@@ -1,9 +1,10 @@
 //! The boxes of a file.
 
-ghost use Rattle.std.specs.Prelude.{◌≡◌, Ok};
+ghost use Rattle.std.specs.Prelude.{◌≡◌, IfOk, Ok};
 ghost use Rattle.std.specs.List.{list_any};
 ghost use Rattle.exif_types.specs.Refusals.{Answers, Takes};
 ghost use Rattle.exif_isobmff.specs.HeifFile.{file_box_at, fours, is_heif_brand, has_heif_brand, brand_checked, whole, passed, meta_body, begins_heif};
+ghost use Rattle.exif_isobmff.specs.Extents.{behind_meta};
 ghost use Rattle.exif_isobmff.specs.FileBoxView.{file_box_view};
 
 use crate::{BoxSplitter, Kind};
@@ -100,9 +101,19 @@ pub fn pass(kind: Kind, len: u64, body: &[u8], seen: bool) -> Result<bool, Error
     Ok(seen)
 }
 
-/// The body of the first `meta` box, which stands behind an `ftyp` with a brand of HEIF.
-pub fn meta_body(file: &[u8]) -> Result<&[u8], Error>
-    ensures { Answers (λ b. b.now) result (meta_body file.now) }
+/// The first `meta` of a file.
+#[derive(Clone, Copy)]
+pub struct Meta<'a> {
+    /// Its body.
+    pub body: &'a [u8],
+    /// What follows it.
+    pub behind: &'a [u8],
+}
+
+/// The first `meta` box, which follows an `ftyp` with a brand of HEIF.
+pub fn meta_of(file: &[u8]) -> Result<Meta, Error>
+    ensures body { Answers (λ m. m.body.now) result (meta_body file.now) }
+    ensures behind { IfOk result (λ m. m.behind.now ≡ behind_meta file.now) }
 {
     let mut boxes = BoxSplitter::new(file);
     let mut seen = false;
@@ -112,7 +123,9 @@ pub fn meta_body(file: &[u8]) -> Result<&[u8], Error>
             if !seen {
                 return Err(Error::InvalidFormat("MetaBox found before FileTypeBox"));
             }
-            return whole(part.len, part.body);
+            let body = whole(part.len, part.body)?;
+            let behind = boxes.rest();
+            return Ok(Meta { body, behind });
         }
         seen = pass(part.kind, part.len, part.body, seen)?;
     }

@@ -5,6 +5,7 @@ ghost use Rattle.exif_isobmff.specs.declared.extents.Within.{Within};
 ghost use Rattle.exif_isobmff.specs.declared.locations.Extent.{Extent};
 ghost use Rattle.exif_isobmff.specs.BoxGrammar.{BoxIsRead, BoxTree, CountIsRead, Counted, CountedAreRead, IsABox, IsACount, IsAParent, Parent, ParentIsRead};
 ghost use Rattle.exif_isobmff.specs.Boxes.{Part};
+ghost use Rattle.exif_isobmff.specs.Extents.{ExifIsLocated};
 ghost use Rattle.exif_isobmff.specs.FileGrammar.{BrandsAreChecked, BrandsTree, FileBoxesAreRead, FrontTree, IsABrands, IsAFront, MetaIsFound};
 ghost use Rattle.exif_isobmff.specs.ItemGrammar.{BlockIsRead, BlockTree, EntryIsRead, EntryTree, InfoIsRead, InfoTree, IsABlock, IsAnEntry, IsAnInfo};
 ghost use Rattle.exif_isobmff.specs.PlaceGrammar.{ExtentBytes, IsAPlaces, IsAText, IsAnItem, ItemIsJoined, PlacesAreRead, PlacesTree, TextIsRead};
@@ -92,4 +93,10 @@ pub fn items_are_joined()
         → ItemIsJoined bytes_of es texts }
     ensures only { (bytes_of : ExtentBytes) (es : List Extent) (item : List ℕ)
         → IsAnItem bytes_of es item }
+{}
+
+/// The Exif data of a file of fewer than 2^64 bytes are in the ranges that are answered, each of which
+/// is whole.
+pub fn exif_data_are_located()
+    ensures located { (file : List ℕ) → ExifIsLocated file }
 {}

@@ -37,6 +37,13 @@ impl<'a> BoxSplitter<'a> {
         self.rest.is_empty()
     }
 
+    /// All bytes that are left, which stay.
+    pub fn rest(&self) -> &'a [u8]
+        ensures { result.now ≡ self.now }
+    {
+        self.rest
+    }
+
     /// All bytes that are left.
     pub fn into_rest(self) -> &'a [u8]
         ensures { result.now ≡ self.entry }

@@ -7,9 +7,9 @@ use Rattle.std.proofs.lemmas.Slice.Eq.{bytes_eq-Decides}
 use Rattle.std.specs.Prelude.{IfSome, codes, ◌||◌}
 use Rattle.std.specs.Str.{bytes_eq}
 use Rattle.std.specs.Borrow.{Bor}
-use Rattle.std.specs.Io.KnownBytes.{Consumes, prepend_known}
+use Rattle.std.specs.Io.KnownBytes.{Consumes, Keeps, prepend_known}
 use Rattle.exif_base.specs.Orders.{order_named}
-use Rattle.exif_base.specs.Told.{TakesAll}
+use Rattle.exif_base.specs.Told.{TakesAll, left_behind}
 use Rattle.exif_types.specs.Contents.{ExifContents}
 use Rattle.exif_types.specs.Failures.{Failure}
 use Rattle.exif_types.specs.Refusals.{Refusal, too_big, IsInterrupted}
@@ -21,6 +21,9 @@ use Rattle.exif_tiff.specs.Faults.{text_of}
 use Rattle.exif_tiff.specs.Fronts.{FrontHasHeader, FrontSaysAll, TooLargeIsRefused}
 use Rattle.exif_tiff.specs.Trace.{header}
 use Rattle.exif_containers.specs.Container.{TiffIsWhole, begins_tiff, container_answer}
+use Rattle.exif_containers.specs.GoingBack.{BeginsAt}
+use Rattle.exif_containers.proofs.IsobmffFile.{along}
+use Rattle.exif_containers.proofs.ContainerSteps.{begins_there}
 use Rattle.exif_reader.specs.Files.{AnswersOwnData, ReadsByNeed, ReadsContainer}
 use Rattle.exif_reader.specs.Readings.{HoldsData, HoldsFront, ReadsAs, ReadsHeld}
 
@@ -101,6 +104,27 @@ told_container answer (Some xs) (Some ys) left front result h e k =
     let R : Option (List ℕ) → Type 0 =
     λ l. IfSome l (λ bytes. ReadsContainer answer (container_answer bytes) result) in
     subst P (sym h) (container_all answer (container_answer (front ++ ys)) result (subst R e k))
+
+-- what holds where a source says its offset holds before
+pub kept_some : (a b : Option (List ℕ)) (P : List ℕ → Type 0) → Keeps a b → IfSome b P → IfSome a P
+kept_some None b P h k = tt
+kept_some (Some xs) None P h k = absurd h
+kept_some (Some xs) (Some ys) P h k = subst P h k
+
+-- a source begins where it says that it is
+pub begins_found : (origin : Option ℕ) (stream left : Option (List ℕ)) → IfSome origin (λ at. left ≡ left_behind (Some at) stream) → BeginsAt origin stream left
+begins_found None stream left h = tt
+begins_found (Some at) stream left h = h
+
+-- what is read of a container by a front at hand and what follows it, where the source may go back
+pub told_container_from : (answer : List ℕ → Answer) (origin : Option ℕ) (stream after first old new left : Option (List ℕ)) (front : List ℕ)
+    (result : Result ExifContents Failure) → Keeps first old → IfSome origin (λ at. old ≡ left_behind (Some at) stream) → Consumes old new front → left ≡ prepend_known front new → after ≡ stream
+    → IfSome left (λ bytes. BeginsAt origin after left → ReadsContainer answer (container_answer bytes) result)
+    → IfSome first (λ bytes. ReadsByNeed answer (container_answer bytes) result)
+told_container_from answer origin stream after first None new left front result h b t e s k = kept_some first None _ h tt
+told_container_from answer origin stream after first (Some xs) new left front result h b t e s k =
+    let begins : BeginsAt origin after left = begins_there origin stream after left new xs front t e s (begins_found origin stream (Some xs) b) in
+    kept_some first (Some xs) _ h (told_container answer (Some xs) new left front result t e (along left _ _ (λ bytes f. f begins) k))
 
 -- and of TIFF data
 pub told_tiff : (answer : List ℕ → Answer) (old new left : Option (List ℕ)) (front : List ℕ)

@@ -46,3 +46,11 @@ container_reads answer None bytes result h k = tt
 container_reads answer (Some file) bytes result h k =
     let P : Result (List ℕ) Refusal → Type 0 = λ container. ReadsContainer answer container result in
     subst P (sym h) (interrupted (answer bytes) bytes result k)
+
+-- the same where the source may go back
+pub container_reads_from : (answer : List ℕ → Answer) (left : Option (List ℕ)) (bytes : List ℕ)
+    (result : Result ExifContents Failure) (Q : Type 0) → IfSome left (λ file. Q → container_answer file ≡ Ok bytes)
+    → ReadsAs (answer bytes) bytes result
+    → IfSome left (λ file. Q → ReadsContainer answer (container_answer file) result)
+container_reads_from answer None bytes result Q h k = tt
+container_reads_from answer (Some file) bytes result Q h k = λ q. container_reads answer (Some file) bytes result (h q) k

@@ -9,6 +9,7 @@ ghost use Rattle.exif_tiff.specs.Faults.{text_of};
 ghost use Rattle.exif_tiff.specs.Answers.{Whole, raw_answer};
 ghost use Rattle.exif_tiff.specs.Trace.{header};
 ghost use Rattle.exif_containers.specs.Container.{container_answer};
+ghost use Rattle.exif_containers.specs.GoingBack.{BeginsAt};
 ghost use Rattle.exif_reader.specs.Bounds.{ReportsAtMost};
 ghost use Rattle.exif_reader.specs.Files.{AnswersOwnData, ReadsByNeed, ReadsContainer};
 ghost use Rattle.exif_reader.specs.Readings.{HoldsFront, ReadsAs, ReadsHeld};
@@ -18,7 +19,7 @@ use crate::bytes::show_bytes;
 use crate::tiff::{self, Parsed};
 use exif_base::{Blocks, Source, read_front};
 use exif_containers::container::is_tiff;
-use exif_containers::exif_attr_of_stream;
+use exif_containers::exif_attr_from;
 use exif_containers::laws::tiff_data_stand_alone;
 use exif_containers::util::{read_at_most, read_rest};
 use exif_tiff::Fault;
@@ -151,7 +152,28 @@ impl Reader {
         ensures bounded { ReportsAtMost self.now.limit result }
         ensures counts { Counts R.Source source.old source.new (is_io result) }
     {
-        let bytes = exif_attr_of_stream(alloc, source)?;
+        let origin = source.offset();
+        let exif = self.read_from(alloc, source, origin)?;
+        Ok(exif)
+    }
+
+    // What `read_from_container` reads, where the first byte is at this offset of a source that
+    // goes back. With none, the source does not go back.
+    fn read_from<R: Source>(
+        &self,
+        alloc: Global,
+        source: &mut R,
+        origin: Option<u64>,
+    ) -> Result<Exif, Error>
+        ensures reads { IfSome (R.left source.old) (λ bytes.
+            BeginsAt origin (R.stream source.old) (R.left source.old)
+            → ReadsContainer (raw_answer self.now.lenient self.now.limit)
+            (container_answer bytes) result) }
+        ensures own { AnswersOwnData (raw_answer self.now.lenient self.now.limit) result }
+        ensures bounded { ReportsAtMost self.now.limit result }
+        ensures counts { Counts R.Source source.old source.new (is_io result) }
+    {
+        let bytes = exif_attr_from(alloc, source, origin)?;
         let exif = self.read_raw(alloc, bytes)?;
         Ok(exif)
     }
@@ -175,6 +197,7 @@ impl Reader {
         ensures bounded { ReportsAtMost self.now.limit result }
         ensures counts { Counts R.Source source.old source.new (is_io result) }
     {
+        let origin = source.offset();
         let mut block = [0u8; HEAD];
         let filled = read_front(source, &mut block)?;
         let begins_tiff = is_tiff(&block[..filled]);
@@ -184,7 +207,7 @@ impl Reader {
             let exif = self.read_tiff(alloc, &mut blocks)?;
             return Ok(exif);
         }
-        let exif = self.read_from_container(alloc, &mut blocks)?;
+        let exif = self.read_from(alloc, &mut blocks, origin)?;
         Ok(exif)
     }
 

@@ -9,6 +9,7 @@ mod counted;
 mod devices;
 mod faults;
 mod fractions;
+mod going_back;
 mod items;
 mod lists;
 mod printing;

@@ -1,12 +1,13 @@
 //! The bytes of the Exif item, which are read from the file as far as its extents need.
 
-ghost use Rattle.std.specs.Prelude.{◌≡◌, ◌≤◌, ◌++◌, length, drop, None, IfOk, IfErr, IfSome, true, false};
+ghost use Rattle.std.specs.Prelude.{◌≡◌, ◌≤◌, ◌-◌, ◌++◌, ℕ, List, length, drop, None, IfOk, IfErr, IfSome, true, false};
 ghost use Rattle.exif_base.specs.Reads.{Counts};
 ghost use Rattle.exif_base.specs.Told.{HasFewer, Skips};
 ghost use Rattle.exif_types.specs.Refusals.{Gives, IsInterrupted, is_io};
 ghost use Rattle.exif_isobmff.specs.Places.{item_bytes, location_view};
 ghost use Rattle.exif_isobmff.specs.HeifRefusals.{heif_refusals};
 ghost use Rattle.exif_containers.specs.Answer.{IsNamed};
+ghost use Rattle.exif_containers.specs.GoingBack.{HasRead, IsReached};
 ghost use Rattle.exif_containers.specs.HeifSteps.{PlaceIsReached, one_part};
 
 use super::front::read_whole;
@@ -106,4 +107,50 @@ pub fn bytes_in_file<R: Source>(
         return Err(Error::InvalidFormat("Invalid offset"));
     };
     one_extent(alloc, source, front, place, extent.len)
+}
+
+// Moves a source, of which a file was read from `origin` up to `at`, to an offset of the file.
+// Answers whether the file goes on so far.
+fn move_to<R: Source>(source: &mut R, origin: u64, at: u64, offset: u64) -> Result<bool, Error>
+    requires { origin ≤ at }
+    ensures reached { IfOk result (λ goes_on. (file : List ℕ)
+        → HasRead origin (at - origin) file (R.stream source.old) (R.left source.old)
+        → IsReached offset goes_on file (R.left source.new)) }
+    ensures interrupted { IfErr result IsInterrupted }
+    ensures counts { Counts R.Source source.old source.new (is_io result) }
+{
+    let read = at - origin;
+    if read <= offset {
+        return pass_over(source, offset - read);
+    }
+    source.go_to(origin + offset)?;
+    Ok(true)
+}
+
+/// The bytes of an item of one extent in the file, whose source goes back to its start at `origin`
+/// and was read up to `at`.
+pub fn bytes_from<R: Source>(
+    alloc: Global,
+    source: &mut R,
+    origin: u64,
+    at: u64,
+    location: &Location,
+) -> Result<Vec<u8>, Error>
+    requires method { location.now.method ≡ 0 }
+    requires one { length location.now.extents.items ≡ 1 }
+    requires order { origin ≤ at }
+    ensures gives { (file : List ℕ)
+        → HasRead origin (at - origin) file (R.stream source.old) (R.left source.old)
+        → Gives (λ v. v.items) result (item_bytes file None (location_view location.now)) }
+    ensures named { IfErr result (IsNamed heif_refusals) }
+    ensures counts { Counts R.Source source.old source.new (is_io result) }
+{
+    let extent = location.extents[0];
+    let Some(offset) = location.base.checked_add(extent.offset) else {
+        return Err(Error::InvalidFormat("Invalid offset"));
+    };
+    if !move_to(source, origin, at, offset)? {
+        return part_of(alloc, extent.len, &[]);
+    }
+    one_extent(alloc, source, Vec::new(alloc), 0, extent.len)
 }

@@ -2,6 +2,7 @@
 //! stay as they were where memory runs out.
 
 mod growth;
+mod left;
 mod memory;
 mod patches;
 mod texts;

@@ -144,6 +144,14 @@ impl Seek for Stream<'_> {
 
 impl ReadSeek for Stream<'_> {
     fn reads_in_place(&self) {}
+
+    fn read_stream(&mut self, buf: &mut [u8]) -> io::Result<usize> {
+        self.read(buf)
+    }
+
+    fn seek_stream(&mut self, to: SeekFrom) -> io::Result<u64> {
+        self.seek(to)
+    }
 }
 
 /// A reader that seeks, with so many good calls.

@@ -7,6 +7,7 @@ loop-missing-init g c = record {
   in_range = omega arith;
   taken = fetched_count _ _ _ _ 0 _ (nothing_fetched _ _) (omega arith);
   count = refl;
+  stream = refl;
   same = refl;
 }
 
@@ -41,6 +42,7 @@ loop-missing-preserved g c =
           c.loop-missing.invariant.taken read.bytes.0 read.bound.0
           c.in_ok-extend_from_slice.ensures.items (omega arith);
       count = read.count ∙ c.loop-missing.invariant.count;
+      stream = read.stream ∙ c.loop-missing.invariant.stream;
       same = read.same ∙ c.loop-missing.invariant.same;
     }
 

@@ -7,6 +7,7 @@ invariant-loop-missing g l = record {
   in_range : l.missing ≤ l.most;
   taken : IsFetchedOnto (g.R.Source.left l.initial.source) (g.R.Source.left l.source) l.fn.list.items l.list.items (l.most - l.missing);
   count : g.R.Source.failures l.source ≡ g.R.Source.failures l.initial.source;
+  stream : g.R.Source.stream l.source ≡ g.R.Source.stream l.initial.source;
   same : g.R.Source.through l.source ≡ g.R.Source.through l.initial.source;
 }
 

@@ -9,6 +9,7 @@ loop-at-preserved g c = record {
   taken = rw (take_filled c.loop-at.at (length c.loop-at.buf - c.loop-at.at) c.in_ok-n.n c.loop-at.buf c.fetch.new.buf c.loop-at.invariant.in_range c.in_ok-n.ensures.bound.0)
       (consumes_append _ _ _ _ _ c.loop-at.invariant.taken c.in_ok-n.ensures.bytes.0);
   count = search rules;
+  stream = search rules;
   same = search rules;
 }
 

@@ -7,6 +7,7 @@ invariant-loop-at g l = record {
   in_range : l.at ≤ length l.buf;
   taken : Consumes (g.R.Source.left l.initial.source) (g.R.Source.left l.source) (take l.at l.buf);
   count : g.R.Source.failures l.source ≡ g.R.Source.failures l.initial.source;
+  stream : g.R.Source.stream l.source ≡ g.R.Source.stream l.initial.source;
   same : g.R.Source.through l.source ≡ g.R.Source.through l.initial.source;
 }
 

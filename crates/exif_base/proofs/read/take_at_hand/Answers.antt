@@ -7,6 +7,7 @@ loop-missing-init g c = record {
   in_range = omega arith;
   taken = fetched_count _ _ _ _ 0 _ (nothing_fetched _ _) (omega arith);
   count = refl;
+  stream = refl;
   same = refl;
 }
 
@@ -41,6 +42,7 @@ loop-missing-preserved g c = record {
   taken = fetched_more _ _ _ _ _ _ (c.args.most - c.loop-missing.missing) c.in_ok-n.n _
       c.loop-missing.invariant.taken c.in_ok-n.ensures.bytes (omega (arith, c.in_ok-n.ensures.bound));
   count = c.take_at_hand.ensures.count ∙ c.loop-missing.invariant.count;
+  stream = c.take_at_hand.ensures.stream ∙ c.loop-missing.invariant.stream;
   same = c.take_at_hand.ensures.same ∙ c.loop-missing.invariant.same;
 }
 

@@ -8,5 +8,6 @@ loop-rest-preserved g c =
     let read = c.in_ok-n.ensures in
     let within : c.in_ok-n.n ≤ c.min-room.result = search rules in record {
       in_range = search rules;
-      taken = skips_more _ _ _ _ _ _ c.loop-rest.invariant.taken read.bytes.0 (omega (arith, length-take-le c.in_ok-n.n c.read.new.buf read.bound.0));
+      stream = search rules;
+      taken = skips_more _ _ _ _ _ _ c.loop-rest.invariant.taken read.bytes.0 (omega (arith, length-take-le c.in_ok-n.n c.read_stream.new.buf read.bound.0));
     }

@@ -10,5 +10,6 @@ loop-rest-preserved g c =
       in_range = search rules;
       taken = skips_more _ _ _ _ _ _ c.loop-rest.invariant.taken read.bytes.0 (omega (arith, length-take-le c.in_ok-n.n c.fetch.new.buf read.bound.0));
       count = search rules;
+      stream = search rules;
       same = search rules;
     }

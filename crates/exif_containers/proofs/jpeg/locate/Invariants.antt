@@ -1,12 +1,13 @@
-use Rattle.std.proofs.Common.{◌≡◌}
+use Rattle.std.proofs.Common.{◌≡◌, ◌≤◌}
 use Rattle.exif_containers.specs.Within.{Moves}
 use Rattle.exif_containers.specs.Jpeg.{answer_from, jpeg_answer}
 use Rattle.exif_containers.specs.declared.jpeg.TheConstants.{LIMIT}
-use Rattle.exif_containers.proofs.jpeg.get_exif_attr.Given as goal
+use Rattle.exif_containers.proofs.jpeg.locate.Given as goal
 
 abbrev pub invariant-loop-payload : goal.invariant-loop-payload
 invariant-loop-payload g l = record {
   passed : Moves (g.R.Source.left l.fn.source) LIMIT (g.R.Source.left l.source) l.budget (λ xs ys. jpeg_answer xs ≡ answer_from ys);
+  most : l.budget ≤ LIMIT;
   count : g.R.Source.failures l.source ≡ g.R.Source.failures l.fn.source;
   same : g.R.Source.through l.source ≡ g.R.Source.through l.fn.source;
 }

@@ -1,10 +1,10 @@
-use Rattle.std.proofs.Common.{rules, arith, refl}
+use Rattle.std.proofs.Common.{◌≡◌, ◌-◌, length, ap, ◌∙◌, rules, arith, refl}
 use Rattle.std.proofs.lemmas.Result.{err_from_is_err_and}
 use Rattle.exif_containers.specs.Answer.{IsCollected}
 use Rattle.exif_containers.specs.Jpeg.{broken_jpeg}
 use Rattle.exif_containers.specs.declared.jpeg.TheConstants.{LIMIT}
-use Rattle.exif_containers.proofs.JpegMoves.{jpeg_short, jpeg_other, jpeg_found, jpeg_holds}
-use Rattle.exif_containers.proofs.jpeg.get_exif_attr.Goals as goal
+use Rattle.exif_containers.proofs.JpegMoves.{jpeg_short, jpeg_other, jpeg_located, jpeg_holds}
+use Rattle.exif_containers.proofs.jpeg.locate.Goals as goal
 
 pub returns-in_err-fill_within-clause-refused : goal.returns-in_err-fill_within-clause-refused
 returns-in_err-fill_within-clause-refused g c =
@@ -17,8 +17,13 @@ returns-then-ne-clause-refused g c =
 
 pub returns-in-Some-clause-found : goal.returns-in-Some-clause-found
 returns-in-Some-clause-found g c =
-    jpeg_found c.in-Some.payload.items (g.R.Source.left c.args.source.now) (g.R.Source.left c.loop-payload.source) (g.R.Source.left c.next_unit.new.source) LIMIT c.loop-payload.budget c.next_unit.new.budget
-    c.loop-payload.invariant.passed (rw c.in-Some.is at c.in_ok-payload.ensures.taken)
+    let len : c.len.result ≡ length c.in-Some.payload.items = search rules in
+    let offset : c.saturating_sub-offset.result ≡ LIMIT - c.next_unit.new.budget - length c.in-Some.payload.items =
+    c.saturating_sub-offset.ensures ∙ ap (λ t. LIMIT - c.next_unit.new.budget - t) len in
+    let most = c.loop-payload.invariant.most in
+    let spent = c.in_ok-payload.ensures.spent in
+    rw offset (jpeg_located c.in-Some.payload.items (g.R.Source.left c.args.source.now) (g.R.Source.left c.loop-payload.source) (g.R.Source.left c.next_unit.new.source) LIMIT c.loop-payload.budget c.next_unit.new.budget
+    (omega arith) c.loop-payload.invariant.passed (rw c.in-Some.is at c.in_ok-payload.ensures.taken))
 
 pub returns-then-ne-clause-named : goal.returns-then-ne-clause-named
 returns-then-ne-clause-named g c = (1, omega arith, refl)

@@ -1,0 +1,174 @@
+-- The first `meta` of a file, box by box, and its Exif item, where the source goes back.
+use Rattle.std.proofs.Common.{◌≡◌, ◌⊎◌, inl, inr, ℕ, ◌+◌, ◌-◌, ◌^◌, ◌<◌, ◌≤◌, Bool, true, false, cond, List, [], ◌∷◌, ◌++◌, length, take, drop, Option, None, Some, IfSome, Result, Ok, Err, refl, sym, ap, ◌∙◌, subst, arith, append-nil, length-append}
+use Rattle.std.proofs.lemmas.Bool.{cases_lt, le-ltb, le-leb, lt-leb}
+use Rattle.std.proofs.lemmas.List.{take_at, drop_at, take_all, drop_all, take-append-le, length-take-le, drop-drop}
+use borrow.Rule.Slice.PartMut.{put_mid}
+use Rattle.std.specs.Io.KnownBytes.{Consumes, IsAtEnd}
+use Rattle.exif_base.specs.Told.{WhereTold, IsFetchedOnto, Skips}
+use Rattle.exif_base.proofs.ReadSteps.{consumes_append, take_filled}
+use Rattle.exif_types.specs.Refusals.{Refusal}
+use Rattle.exif_isobmff.specs.HeifRefusals.{broken_file, invalid_offset, meta_before_ftyp}
+use Rattle.exif_isobmff.specs.declared.kind.Kind.{Kind}
+use Rattle.exif_isobmff.specs.declared.kind.Kind.TheVariants.{FileType, Meta, ItemData, ItemInfo, ItemInfoEntry, ItemLocation, Other}
+use Rattle.exif_isobmff.specs.declared.splitter.Header.{Header}
+use Rattle.exif_isobmff.specs.declared.locations.Extent.{Extent}
+use Rattle.exif_isobmff.specs.HeifFile.{file_box_at, IsHeaderOf, meta_body, meta_in, passed, whole}
+use Rattle.exif_isobmff.specs.Places.{Place, item_bytes}
+use Rattle.exif_isobmff.proofs.FileBoxes.{box_of, file_went_on, file_found}
+use Rattle.exif_containers.specs.declared.isobmff.meta.Found.{Found}
+use Rattle.exif_containers.specs.HeifSteps.{one_part}
+use Rattle.exif_containers.specs.GoingBack.{TakesBody, PassesBody, FindsMeta}
+use Rattle.exif_containers.proofs.IsobmffExtents.{one_of}
+
+-- ---- reads
+
+-- a header of 8 bytes and 8 more
+pub header_taken : (a b c : Option (List ℕ)) (n more : ℕ) (first rest second : List ℕ) → n ≡ 8 → n ≤ length first → more ≤ length second
+    → Consumes a b (take n first) → Consumes b c (take more second) → Consumes a c (take (n + more) (put_mid 8 8 (first ++ rest) second))
+header_taken a b c n more first rest second e some others h k =
+    let long : 8 ≤ length (first ++ rest) = omega (arith, length-append first rest) in
+    let front : take 8 (first ++ rest) ≡ take n first = take-append-le 8 first rest (omega arith) ∙ ap (λ m. take m first) (sym e) in
+    let same : take (n + more) (put_mid 8 8 (first ++ rest) second) ≡ take n first ++ take more second =
+    ap (λ m. take (m + more) (put_mid 8 8 (first ++ rest) second)) e ∙ take_filled 8 8 more (first ++ rest) second long others ∙ ap (λ t. t ++ take more second) front in
+    subst (Consumes a c) (sym same) (consumes_append a b c (take n first) (take more second) h k)
+
+-- a body was read, as far as it is there
+pub body_taken : (a b : Option (List ℕ)) (old new : List ℕ) (n len : ℕ) → old ≡ [] → IsFetchedOnto a b old new n → n ≤ len → (n < len → IsAtEnd b) → TakesBody len new a b
+body_taken None b old new n len z h most end = tt
+body_taken (Some xs) None old new n len z h most end = absurd h.1
+body_taken (Some xs) (Some ys) old new n len z h most end = by (cases_lt n len)
+  where
+    bytes : List ℕ
+    bytes = h.0
+
+    put : new ≡ bytes
+    put = h.3 ∙ ap (λ t. t ++ bytes) z
+
+    by : (n < len) ⊎ (len ≤ n) → (new ≡ take len xs) × (ys ≡ drop len xs)
+    by (inl lt) =
+        let none : ys ≡ [] = end lt in
+        let all : xs ≡ bytes = h.1 ∙ ap (λ t. bytes ++ t) none ∙ append-nil bytes in
+        let room : length bytes ≤ len = omega (arith, h.2) in
+        (put ∙ sym (ap (take len) all ∙ take_all len bytes room), none ∙ sym (ap (drop len) all ∙ drop_all len bytes room))
+    by (inr le) =
+        let same : length bytes ≡ len = omega (arith, h.2) in
+        (put ∙ sym (ap (take len) h.1 ∙ take_at bytes ys len same), sym (ap (drop len) h.1 ∙ drop_at bytes ys len same))
+
+-- ---- boxes before `meta`
+
+-- a body that was read is passed over
+pub taken_passed : (h : Header) (seen now : Bool) (body : List ℕ) (a b : Option (List ℕ)) → TakesBody h.len body a b → passed seen h.kind h.len body ≡ Ok now → PassesBody h seen now a b
+taken_passed h seen now body None b t p = tt
+taken_passed h seen now body (Some xs) None t p = absurd t
+taken_passed h seen now body (Some xs) (Some ys) t p = (subst (λ bytes. passed seen h.kind h.len bytes ≡ Ok now) t.0 p, t.1)
+
+-- what is no `ftyp` is passed over whatever its body is
+other_body : (kind : Kind) (seen now : Bool) (len : ℕ) (body : List ℕ) → (kind ≡ FileType → ⊥) → passed seen kind len [] ≡ Ok now → passed seen kind len body ≡ Ok now
+other_body FileType seen now len body n p = absurd (n refl)
+other_body Meta seen now len body n p = p
+other_body ItemData seen now len body n p = p
+other_body ItemInfo seen now len body n p = p
+other_body ItemInfoEntry seen now len body n p = p
+other_body ItemLocation seen now len body n p = p
+other_body Other seen now len body n p = p
+
+-- a body that was skipped is passed over
+pub skipped_passed : (h : Header) (seen now : Bool) (a b : Option (List ℕ)) → (h.kind ≡ FileType → ⊥) → passed seen h.kind h.len [] ≡ Ok now → Skips a b h.len → PassesBody h seen now a b
+skipped_passed h seen now None b n p s = tt
+skipped_passed h seen now (Some xs) None n p s = absurd s
+skipped_passed h seen now (Some xs) (Some ys) n p s = (other_body h.kind seen now h.len (take h.len xs) n p, s.1)
+
+-- ---- from box to box
+
+-- a file was read as far as its first n bytes, and what its `meta` is follows from the rest
+abbrev pub WalksTo : Bool → ℕ → Option (List ℕ) → Option (List ℕ) → Type 0
+WalksTo seen n old new = WhereTold old new (λ file rest. (meta_in seen rest ≡ meta_body file) × (rest ≡ drop n file))
+
+pub walks_from : (n : ℕ) (a : Option (List ℕ)) → n ≡ 0 → WalksTo false n a a
+unfolding meta_body
+walks_from n None z = tt
+walks_from n (Some xs) z = (refl, ap (λ m. drop m xs) (sym z))
+
+-- the next box of a file
+record IsNext (h : Header) (head xs ys : List ℕ) : Type 0 where
+  some : 0 < length xs
+  box : file_box_at xs ≡ Ok (box_of h.kind h.len (take h.len ys), drop h.len ys)
+  behind : ys ≡ drop (length head) xs
+
+next_box : (h : Header) (head xs ys : List ℕ) → IsHeaderOf h head → 8 ≤ length head → xs ≡ head ++ ys → IsNext h head xs ys
+next_box h head xs ys is long e = record {
+  some = omega (arith, ap (λ (t : List ℕ). length t) e, length-append head ys);
+  box = ap file_box_at e ∙ is ys;
+  behind = sym (ap (drop (length head)) e ∙ drop_at head ys (length head) refl);
+}
+
+-- so many bytes further
+further : (n k len next : ℕ) (file xs ys zs : List ℕ) → xs ≡ drop n file → ys ≡ drop k xs → zs ≡ drop len ys → next ≡ n + k + len → zs ≡ drop next file
+further n k len next file xs ys zs e f g s =
+    g ∙ ap (drop len) (f ∙ ap (drop k) e ∙ drop-drop k n file) ∙ drop-drop len (n + k) file ∙ ap (λ m. drop m file) (sym s)
+
+-- the loop goes on behind a box that is passed over
+pub walks_on : (seen now : Bool) (n next k : ℕ) (h : Header) (buf : List ℕ) (a b c d : Option (List ℕ)) → WalksTo seen n a b → Consumes b c (take k buf) → k ≤ length buf
+    → IsHeaderOf h (take k buf) → 8 ≤ length (take k buf) → (h.kind ≡ Meta → ⊥) → PassesBody h seen now c d → next ≡ n + k + h.len → WalksTo now next a d
+walks_on seen now n next k h buf None b c d w t bound is long not_meta p s = tt
+walks_on seen now n next k h buf (Some file) None c d w t bound is long not_meta p s = absurd w
+walks_on seen now n next k h buf (Some file) (Some xs) None d w t bound is long not_meta p s = absurd t
+walks_on seen now n next k h buf (Some file) (Some xs) (Some ys) None w t bound is long not_meta p s = absurd p
+walks_on seen now n next k h buf (Some file) (Some xs) (Some ys) (Some zs) w t bound is long not_meta p s =
+    let one = next_box h (take k buf) xs ys is long t in
+    let len : length (take k buf) ≡ k = length-take-le k buf bound in (
+      ap (meta_in now) p.1 ∙ file_went_on seen now (box_of h.kind h.len (take h.len ys)) xs (drop h.len ys) (meta_body file) one.some one.box not_meta p.0 w.0,
+      further n k h.len next file xs ys zs w.1 (one.behind ∙ ap (λ m. drop m xs) len) p.1 s,
+    )
+
+whole_body : (len : ℕ) (body : List ℕ) → len ≤ length body → whole len body ≡ Ok body
+whole_body len body h = ap (λ b. cond b (Err broken_file) (Ok body)) (le-ltb (length body) len h)
+
+-- a `meta` that is whole is the answer
+pub finds_meta : (seen : Bool) (n next k : ℕ) (h : Header) (buf body : List ℕ) (a b c d : Option (List ℕ)) → WalksTo seen n a b → Consumes b c (take k buf) → k ≤ length buf
+    → IsHeaderOf h (take k buf) → 8 ≤ length (take k buf) → h.kind ≡ Meta → seen ≡ true → TakesBody h.len body c d → h.len ≤ length body → next ≡ n + k + h.len → FindsMeta body next a d
+finds_meta seen n next k h buf body None b c d w t bound is long is_meta was p all s = tt
+finds_meta seen n next k h buf body (Some file) None c d w t bound is long is_meta was p all s = absurd w
+finds_meta seen n next k h buf body (Some file) (Some xs) None d w t bound is long is_meta was p all s = absurd t
+finds_meta seen n next k h buf body (Some file) (Some xs) (Some ys) None w t bound is long is_meta was p all s = absurd p
+finds_meta seen n next k h buf body (Some file) (Some xs) (Some ys) (Some zs) w t bound is long is_meta was p all s =
+    let one = next_box h (take k buf) xs ys is long t in
+    let len : length (take k buf) ≡ k = length-take-le k buf bound in (
+      sym w.0 ∙ file_found seen (box_of h.kind h.len (take h.len ys)) xs (drop h.len ys) one.some one.box is_meta
+          ∙ ap (λ b. cond b (whole h.len (take h.len ys)) (Err meta_before_ftyp)) was ∙ ap (whole h.len) (sym p.0) ∙ whole_body h.len body all,
+      further n k h.len next file xs ys zs w.1 (one.behind ∙ ap (λ m. drop m xs) len) p.1 s,
+    )
+
+-- a `meta` that was read is the answer where it is whole
+pub finds_whole : (found : Option Found) (seen : Bool) (n next end origin k : ℕ) (h : Header) (buf : List ℕ) (a b c d : Option (List ℕ)) → WalksTo seen n a b → Consumes b c (take k buf) → k ≤ length buf
+    → IsHeaderOf h (take k buf) → 8 ≤ length (take k buf) → h.kind ≡ Meta → seen ≡ true → IfSome found (λ m. TakesBody h.len m.body.items c d) → IfSome found (λ m. h.len ≤ length m.body.items)
+    → IfSome found (λ m. m.end ≡ end) → next ≡ n + k + h.len → end - origin ≡ next → IfSome found (λ m. FindsMeta m.body.items (m.end - origin) a d)
+finds_whole None seen n next end origin k h buf a b c d w t bound is long is_meta was p all e s l = tt
+finds_whole (Some m) seen n next end origin k h buf a b c d w t bound is long is_meta was p all e s l =
+    subst (λ i. FindsMeta m.body.items i a d) (sym (ap (λ i. i - origin) e ∙ l)) (finds_meta seen n next k h buf m.body.items a b c d w t bound is long is_meta was p all s)
+
+-- ---- the item
+
+one_from : (file : List ℕ) (p : Place) (e : Extent) (offset : ℕ) → p.method ≡ 0 → p.extents ≡ e ∷ [] → p.base + e.offset < 2 ^ 64 → offset ≡ p.base + e.offset
+    → item_bytes file None p ≡ one_part e.len (drop offset file)
+one_from file p e offset m es h same =
+    one_of file None p e m es ∙ ap (λ b. cond b (Err invalid_offset) (one_part e.len (drop (p.base + e.offset) file))) (lt-leb (2 ^ 64) (p.base + e.offset) h)
+    ∙ ap (λ n. one_part e.len (drop n file)) (sym same)
+
+-- an offset that is too large
+pub too_large : (file : List ℕ) (p : Place) (e : Extent) → p.method ≡ 0 → p.extents ≡ e ∷ [] → 2 ^ 64 ≤ p.base + e.offset → item_bytes file None p ≡ Err invalid_offset
+too_large file p e m es h =
+    one_of file None p e m es ∙ ap (λ b. cond b (Err invalid_offset) (one_part e.len (drop (p.base + e.offset) file))) (le-leb (2 ^ 64) (p.base + e.offset) h)
+
+-- nothing of the file is behind its offset
+pub none_there : (P : Result (List ℕ) Refusal → Type 0) (file none : List ℕ) (p : Place) (e : Extent) (offset : ℕ) → p.method ≡ 0 → p.extents ≡ e ∷ [] → p.base + e.offset < 2 ^ 64
+    → offset ≡ p.base + e.offset → none ≡ [] → drop offset file ≡ [] → P (one_part e.len none) → P (item_bytes file None p)
+none_there P file none p e offset m es h same z end t =
+    subst P (ap (one_part e.len) (z ∙ sym end) ∙ sym (one_from file p e offset m es h same)) t
+
+-- what is read from its offset on
+pub read_there : (P : Result (List ℕ) Refusal → Type 0) (left : Option (List ℕ)) (file front : List ℕ) (p : Place) (e : Extent) (offset : ℕ) → p.method ≡ 0 → p.extents ≡ e ∷ [] → p.base + e.offset < 2 ^ 64
+    → offset ≡ p.base + e.offset → front ≡ [] → left ≡ Some (drop offset file) → IfSome left (λ rest. P (one_part e.len (drop 0 (front ++ rest)))) → P (item_bytes file None p)
+read_there P left file front p e offset m es h same z at t =
+    let there : IfSome (Some (drop offset file)) (λ rest. P (one_part e.len (drop 0 (front ++ rest)))) = subst (λ o. IfSome o (λ rest. P (one_part e.len (drop 0 (front ++ rest))))) at t in
+    subst P (ap (λ t. one_part e.len (t ++ drop offset file)) z ∙ sym (one_from file p e offset m es h same)) there

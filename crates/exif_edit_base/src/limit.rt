@@ -1,0 +1,58 @@
+//! A limit on the entries of data that are edited.
+
+ghost use Rattle.std.specs.Prelude.{◌≡◌, IfOk};
+ghost use Rattle.std.specs.List.{list_any};
+ghost use Rattle.exif_edit_base.specs.Causes.{Makes};
+ghost use Rattle.exif_edit_base.specs.EntryLimit.{has_more, is_limit_fault, within_limit};
+
+use crate::error::Error;
+use exif_reader::stop::Stop;
+use exif_reader::tiff::parse;
+use exif_tiff::Fault;
+use std::alloc::{AllocError, Global};
+
+// Whether a fault is that of a limit.
+fn is_limit_fault(fault: &Fault) -> bool
+    ensures { result ≡ is_limit_fault fault.now }
+{
+    matches!(fault, Fault::TooManyEntries)
+}
+
+// Whether one of faults is.
+fn has_limit_fault(faults: &[Fault]) -> bool
+    ensures { result ≡ list_any is_limit_fault faults.now }
+{
+    for fault in faults {
+        if is_limit_fault(fault) {
+            return true;
+        }
+    }
+    false
+}
+
+// Whether reading visits more entries than so many.
+fn has_more(alloc: Global, bytes: &[u8], limit: u64) -> Result<bool, AllocError>
+    ensures { IfOk result (λ more. more ≡ has_more limit bytes.now) }
+{
+    match parse(alloc, bytes, true, Some(limit)) {
+        Ok(parsed) => Ok(has_limit_fault(parsed.faults.as_slice())),
+        Err(Stop::Fault(_)) => Ok(false),
+        Err(Stop::OutOfMemory) => Err(AllocError),
+    }
+}
+
+/// Refuses data with more entries than a limit, if there is one, as a reader does: directories can
+/// share their children, so that 14 KB have millions of entries. It reads the data once, and takes
+/// the memory of so many entries. The refusal is `Header(TooManyEntries)`; data with a wrong header
+/// have no entries.
+pub fn check_limit(alloc: Global, bytes: &[u8], limit: Option<u64>) -> Result<(), Error>
+    ensures { Makes (λ (u : Unit {0}). u) result (within_limit limit bytes.now) }
+{
+    let Some(limit) = limit else {
+        return Ok(());
+    };
+    if has_more(alloc, bytes, limit)? {
+        return Err(Error::Header(Fault::TooManyEntries));
+    }
+    Ok(())
+}

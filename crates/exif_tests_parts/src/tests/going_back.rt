@@ -1,0 +1,137 @@
+//! Sources that go back, and HEIF files whose media come first.
+
+use crate::tests::devices::seeking;
+use exif_base::{Blocks, Counted, Seekable, Source, discard_exact, read8};
+use exif_containers::{exif_attr_of_stream, isobmff};
+use exif_types::Error;
+use std::alloc::{AllocError, Global};
+use std::io::{Cursor, ErrorKind};
+use std::process::Abort;
+use std::test::Fail;
+
+const DIGITS: &[u8] = b"0123456789";
+
+/// The `ftyp` of a HEIF file.
+const FTYP: &[u8] = b"\0\0\0\x14ftypmif1\0\0\0\0mif1";
+
+/// An Exif item, which is stored at offset 28.
+const ITEM: &[u8] = b"\0\0\0\x01xabcd";
+
+/// The `meta` of a file with this item.
+const META: &[u8] =
+    b"\0\0\0\x4cmeta\0\0\0\0\0\0\0\x1eiloc\0\0\0\0\x44\0\0\x01\x1e\x1d\0\0\0\x01\0\0\0\x1c\0\0\0\x09\0\0\0\x22iinf\0\0\0\0\0\x01\0\0\0\x14infe\x02\0\0\0\x1e\x1d\0\0Exif\0";
+
+/// A HEIF file whose media come before `meta`: the item, and as many bytes more.
+fn media_first(alloc: Global, more: u32) -> Result<Vec<u8>, AllocError> {
+    let mut file = Vec::from_slice(alloc, FTYP)?;
+    let size = more.saturating_add(17);
+    file.extend_from_slice(&size.to_be_bytes())?;
+    file.extend_from_slice(b"mdat")?;
+    file.extend_from_slice(ITEM)?;
+    for _ in 0..more {
+        file.push(7)?;
+    }
+    file.extend_from_slice(META)?;
+    Ok(file)
+}
+
+/// Reads this digit.
+fn reads<R: Source>(rt: &impl Abort, source: &mut R, digit: u8) {
+    let read = read8(source).expect(rt, "a digit");
+    assert!(rt; read == digit);
+}
+
+#[test]
+fn a_source_that_seeks_goes_back(rt: HostRuntime) {
+    let mut source = Seekable::new(Cursor::new(DIGITS));
+    discard_exact(&mut source, 3).expect(&rt, "three digits");
+    assert!(rt; source.offset() == Some(3));
+    source.go_to(1).expect(&rt, "the second digit");
+    reads(&rt, &mut source, b'1');
+    assert!(rt; source.offset() == Some(2));
+}
+
+#[test]
+fn a_source_that_only_reads_does_not(rt: HostRuntime) {
+    let mut source = Counted::new(DIGITS);
+    assert!(rt; source.offset().is_none());
+    let kind = source.go_to(0).err().map(|e| e.kind());
+    assert!(rt; kind == Some(ErrorKind::Unsupported));
+    reads(&rt, &mut source, b'0');
+}
+
+#[test]
+fn blocks_go_back_through_their_source(rt: HostRuntime) {
+    let mut block = *b"xy......";
+    let mut source = Seekable::new(Cursor::new(DIGITS));
+    let mut blocks = Blocks::new(&mut block, 2, &mut source);
+    assert!(rt; blocks.offset().is_none());
+    reads(&rt, &mut blocks, b'x');
+    blocks.go_to(7).expect(&rt, "the eighth digit");
+    assert!(rt; blocks.offset() == Some(7));
+    reads(&rt, &mut blocks, b'7');
+}
+
+#[test]
+fn an_item_before_meta_is_read(rt: HostRuntime) -> Result<(), Fail> {
+    let file = media_first(rt.alloc(), 30_000)?;
+    let mut source = Seekable::new(Cursor::new(file.as_slice()));
+    let payload = exif_attr_of_stream(rt.alloc(), &mut source)?;
+    assert!(rt; payload.as_slice() == b"abcd".as_slice());
+    let payload = exif_attr_of_stream(rt.alloc(), &mut Counted::new(file.as_slice()))?;
+    assert!(rt; payload.as_slice() == b"abcd".as_slice());
+    Ok(())
+}
+
+#[test]
+fn offsets_count_from_where_the_source_was(rt: HostRuntime) -> Result<(), Fail> {
+    let mut stream = Vec::from_slice(rt.alloc(), b"...")?;
+    stream.extend_from_slice(media_first(rt.alloc(), 5)?.as_slice())?;
+    let mut source = Seekable::new(Cursor::new(stream.as_slice()));
+    discard_exact(&mut source, 3)?;
+    let payload = isobmff::get_exif_attr(rt.alloc(), &mut source)?;
+    assert!(rt; payload.as_slice() == b"abcd".as_slice());
+    Ok(())
+}
+
+/// Whether two answers are the same data or the same refusal.
+fn is_same(one: Result<Vec<u8>, Error>, other: Result<Vec<u8>, Error>) -> bool {
+    match (one, other) {
+        (Ok(one), Ok(other)) => one.as_slice() == other.as_slice(),
+        (Err(Error::InvalidFormat(one)), Err(Error::InvalidFormat(other))) => one == other,
+        (Err(Error::NotFound(one)), Err(Error::NotFound(other))) => one == other,
+        _ => false,
+    }
+}
+
+#[test]
+fn cut_files_are_refused_alike(rt: HostRuntime) -> Result<(), Fail> {
+    let file = media_first(rt.alloc(), 5)?;
+    for len in 0..=file.len() {
+        let cut = &file[..len];
+        let kept = isobmff::get_exif_attr(rt.alloc(), &mut Counted::new(cut));
+        let mut source = Seekable::new(Cursor::new(cut));
+        let gone_back = isobmff::get_exif_attr(rt.alloc(), &mut source);
+        assert!(rt; is_same(kept, gone_back), "{len}");
+    }
+    Ok(())
+}
+
+#[test]
+fn media_are_not_read(rt: HostRuntime) -> Result<(), Fail> {
+    let file = media_first(rt.alloc(), 300_000)?;
+    let kind = ErrorKind::Interrupted;
+    for good_calls in 0..24 {
+        let mut source = seeking(file.as_slice(), good_calls, kind);
+        match exif_attr_of_stream(rt.alloc(), &mut source) {
+            Ok(payload) => {
+                assert!(rt; payload.as_slice() == b"abcd".as_slice());
+                return Ok(());
+            }
+            Err(Error::Io(cause)) => assert!(rt; cause.kind() == kind),
+            Err(_) => assert!(rt; false, "an error of the device"),
+        }
+    }
+    assert!(rt; false, "more calls than the front and the item need");
+    Ok(())
+}
