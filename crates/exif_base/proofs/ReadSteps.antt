@@ -81,14 +81,14 @@ skipped_short (Some p) (Some q) n len h k e =
     let none : length p - n ≡ 0 = sym (length-drop n p) ∙ ap length (sym k.1 ∙ e) in
     omega arith
 
--- after a read of n bytes into the part from place `at` on
+-- after a read of n bytes into the part from offset `at` on
 pub take_filled : (at k n : ℕ) (old new : List ℕ) → at ≤ length old → n ≤ length new → take (at + n) (put_mid at k old new) ≡ take at old ++ take n new
 take_filled at k n old new h f =
     ap (λ m. take (m + n) (put_mid at k old new)) (sym (length-take-le at old h))
     ∙ take-append-add (take at old) (new ++ post_of at k old) n
     ∙ ap (λ t. take at old ++ t) (take-append-le n new (post_of at k old) f)
 
--- after a copy of the bytes from place `at` up to `end`
+-- after a copy of the bytes from offset `at` up to `end`
 pub copied_more : (at end : ℕ) (bytes old before after : List ℕ) → at ≤ end → before ≡ old ++ take at bytes
     → after ≡ before ++ take (end - at) (drop at bytes) → after ≡ old ++ take end bytes
 copied_more at end bytes old before after h e f =

@@ -38,7 +38,7 @@ front_taken (Some p) None c n xs h k = absurd h
 front_taken (Some p) (Some q) None n xs h k = absurd k
 front_taken (Some p) (Some q) (Some r) n xs h k = (take n xs, drop n xs, sym (take-append-drop n xs), k ∙ h)
 
--- the next n bytes from place `at` on
+-- the next n bytes from offset `at` on
 pub appends_next : (a b c : Option (List ℕ)) (at n k : ℕ) (xs : List ℕ) → at + k ≡ length xs → n ≤ k → Appends a b (take at xs) → Appends b c (take n (take k (drop at xs))) → Appends a c (take (at + n) xs)
 appends_next a b c at n k xs e small h g = rw split (appends_more a b c (take at xs) (take n (take k (drop at xs))) h g)
   where

@@ -23,7 +23,7 @@ const PIECE: usize = 4096;
 
 /// A reader that seeks in what it reads.
 pub trait ReadSeek: Read + Seek {
-    /// What reads will give is what stands behind the place in the stream, where these are told.
+    /// What reads will give is what stands behind the offset in the stream, where these are told.
     ///
     /// A law: its body is empty.
     fn reads_in_place(&self)
@@ -120,21 +120,21 @@ impl<T: AsBytes> ReadSeek for Cursor<T> {
     }
 
     fn take_in_memory(&mut self, list: &mut Vec<u8>, most: u64) -> Result<u64, AllocError> {
-        let place = self.position();
+        let offset = self.position();
         let all = self.get_ref().as_byte_slice();
-        let start = place.min(all.len() as u64) as usize;
+        let start = offset.min(all.len() as u64) as usize;
         let n = most.min((all.len() - start) as u64);
         copy_in_pieces(&all[start..start + n as usize], list)?;
-        self.set_position(place + n);
+        self.set_position(offset + n);
         Ok(n)
     }
 
     fn pass_in_memory(&mut self, stop: u8, most: u64) -> u64 {
-        let place = self.position();
+        let offset = self.position();
         let all = self.get_ref().as_byte_slice();
-        let start = place.min(all.len() as u64) as usize;
+        let start = offset.min(all.len() as u64) as usize;
         let n = others_between(all, start, all.len(), stop, most) as u64;
-        self.set_position(place + n);
+        self.set_position(offset + n);
         n
     }
 }
@@ -259,7 +259,7 @@ fn skip_in<R: ReadSeek>(stream: &mut R, len: u64) -> io::Result<u64>
     Ok(n + behind)
 }
 
-// Moves the place on by `len` bytes, or to the end where there are fewer. Answers by how many: by
+// Moves the offset on by `len` bytes, or to the end where there are fewer. Answers by how many: by
 // none where the stream does not tell its end.
 fn seek_over<R: ReadSeek>(stream: &mut R, len: u64) -> io::Result<u64>
     ensures bound { IfOk result (λ n. n ≤ len) }
@@ -268,14 +268,14 @@ fn seek_over<R: ReadSeek>(stream: &mut R, len: u64) -> io::Result<u64>
         ≡ known_stream (R.stream_position stream.old) (R.stream_bytes stream.old) }
 {
     stream.reads_in_place();
-    let place = stream.seek_stream(SeekFrom::Current(0))?;
+    let offset = stream.seek_stream(SeekFrom::Current(0))?;
     let seen = stream.seek_stream(SeekFrom::End(0));
     stream.reads_in_place();
     let Ok(end) = seen else {
         return Ok(0);
     };
-    let n = end.saturating_sub(place).min(len);
-    stream.seek_stream(SeekFrom::Start(place + n))?;
+    let n = end.saturating_sub(offset).min(len);
+    stream.seek_stream(SeekFrom::Start(offset + n))?;
     stream.reads_in_place();
     Ok(n)
 }

@@ -4,7 +4,7 @@ use Rattle.exif_types.specs.Failures.{Failure}
 use Rattle.exif_types.specs.Refusals as refusals
 use Rattle.exif_types.specs.Refusals.{invalid_format, not_found, blank_value, too_big, not_supported, unexpected_value}
 use Rattle.exif_types.specs.declared.error.Error.TheVariants as error
-use Rattle.exif_edit_base.specs.Causes.{Cause, no_field, no_directory, full_directory, unknown_type, too_long, place_named, shared, scattered, picture, wrong_header, no_data}
+use Rattle.exif_edit_base.specs.Causes.{Cause, no_field, no_directory, full_directory, unknown_type, too_long, offset_named, shared, scattered, picture, wrong_header, no_data}
 use Rattle.exif_edit_base.specs.declared.error.Error.{Error}
 use Rattle.exif_edit_base.specs.declared.error.Error.TheVariants as edit
 use Rattle.exif_change.specs.declared.refusal.Refusal.{Refusal}
@@ -26,7 +26,7 @@ number_of status.OutOfMemory = 8
 number_of status.FieldNotFound = 16
 number_of status.UnknownType = 17
 number_of status.ValueTooLong = 18
-number_of status.NamesPlaces = 19
+number_of status.NamesOffsets = 19
 number_of status.SharedBytes = 20
 number_of status.ScatteredData = 21
 number_of status.PictureData = 22
@@ -55,7 +55,7 @@ text_of status.OutOfMemory = codes "Out of memory"
 text_of status.FieldNotFound = codes "No such field, and it cannot be created"
 text_of status.UnknownType = codes "Cannot write unknown field types"
 text_of status.ValueTooLong = codes "The value is too long for its space"
-text_of status.NamesPlaces = codes "The field holds offsets of other data"
+text_of status.NamesOffsets = codes "The field holds offsets of other data"
 text_of status.SharedBytes = codes "The bytes are shared with other data"
 text_of status.ScatteredData = codes "The Exif data are not contiguous"
 text_of status.PictureData = codes "The picture is in the same data"
@@ -75,7 +75,7 @@ abbrev pub all : List Status
 all =
     status.Well ∷ status.Faults ∷ status.InvalidFormat ∷ status.NotFound ∷ status.BlankValue ∷
     status.TooBig ∷ status.NotSupported ∷ status.UnexpectedValue ∷ status.OutOfMemory ∷
-    status.FieldNotFound ∷ status.UnknownType ∷ status.ValueTooLong ∷ status.NamesPlaces ∷
+    status.FieldNotFound ∷ status.UnknownType ∷ status.ValueTooLong ∷ status.NamesOffsets ∷
     status.SharedBytes ∷ status.ScatteredData ∷ status.PictureData ∷ status.InvalidHeader ∷
     status.NoDirectory ∷ status.FullDirectory ∷
     status.NoAssignment ∷ status.NotOfItsType ∷ status.SecondExif ∷ status.NoDate ∷
@@ -118,7 +118,7 @@ cause_status no_directory = status.NoDirectory
 cause_status full_directory = status.FullDirectory
 cause_status unknown_type = status.UnknownType
 cause_status too_long = status.ValueTooLong
-cause_status place_named = status.NamesPlaces
+cause_status offset_named = status.NamesOffsets
 cause_status shared = status.SharedBytes
 cause_status scattered = status.ScatteredData
 cause_status picture = status.PictureData
@@ -132,7 +132,7 @@ edit_status edit.NoDirectory = status.NoDirectory
 edit_status edit.FullDirectory = status.FullDirectory
 edit_status edit.UnknownType = status.UnknownType
 edit_status edit.ValueTooLong = status.ValueTooLong
-edit_status edit.NamesPlaces = status.NamesPlaces
+edit_status edit.NamesOffsets = status.NamesOffsets
 edit_status edit.SharedBytes = status.SharedBytes
 edit_status edit.ScatteredData = status.ScatteredData
 edit_status edit.PictureData = status.PictureData

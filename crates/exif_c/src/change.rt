@@ -7,16 +7,16 @@ ghost use Rattle.exif_c.specs.Calls.{Ends, IsScrubbed, SetsHere};
 use crate::buffer::{Answer, given, nothing};
 use crate::status::{Status, edit_status, refusal_status};
 use exif_change::{Assignment, Removed, scrub, set_here};
-use exif_edit_files::erase_places_in_file;
+use exif_edit_files::erase_gps_in_file;
 use std::alloc::Global;
 
-/// Erases the places in the Exif data of a file, in the caller's buffer: its length stays. After a
+/// Erases the offsets in the Exif data of a file, in the caller's buffer: its length stays. After a
 /// refusal the buffer is as it was.
 #[unsafe(no_mangle)]
-pub extern "C" fn mexaldor_erase_places(alloc: Global, file: &mut [u8]) -> u32
+pub extern "C" fn mexaldor_erase_gps(alloc: Global, file: &mut [u8]) -> u32
     ensures { Ends result file.old file.new (edited_file (in_file erase_patches) file.old) }
 {
-    match erase_places_in_file(alloc, file) {
+    match erase_gps_in_file(alloc, file) {
         Ok(()) => Status::Well.number(),
         Err(error) => edit_status(&error).number(),
     }

@@ -10,6 +10,6 @@ mod read;
 mod status;
 
 pub use buffer::Answer;
-pub use change::{mexaldor_erase_places, mexaldor_scrub, mexaldor_set};
+pub use change::{mexaldor_erase_gps, mexaldor_scrub, mexaldor_set};
 pub use read::mexaldor_read;
 pub use status::mexaldor_error;

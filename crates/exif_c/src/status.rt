@@ -37,7 +37,7 @@ pub enum Status {
     /// The new value takes more bytes than the old one's room.
     ValueTooLong,
     /// The field holds offsets of other data.
-    NamesPlaces,
+    NamesOffsets,
     /// The bytes are those of something else too.
     SharedBytes,
     /// The Exif data are not contiguous.
@@ -84,7 +84,7 @@ impl Status {
             Status::FieldNotFound => 16,
             Status::UnknownType => 17,
             Status::ValueTooLong => 18,
-            Status::NamesPlaces => 19,
+            Status::NamesOffsets => 19,
             Status::SharedBytes => 20,
             Status::ScatteredData => 21,
             Status::PictureData => 22,
@@ -118,7 +118,7 @@ impl Status {
             Status::FieldNotFound => "No such field, and it cannot be created",
             Status::UnknownType => "Cannot write unknown field types",
             Status::ValueTooLong => "The value is too long for its space",
-            Status::NamesPlaces => "The field holds offsets of other data",
+            Status::NamesOffsets => "The field holds offsets of other data",
             Status::SharedBytes => "The bytes are shared with other data",
             Status::ScatteredData => "The Exif data are not contiguous",
             Status::PictureData => "The picture is in the same data",
@@ -153,7 +153,7 @@ impl Status {
             Status::FieldNotFound,
             Status::UnknownType,
             Status::ValueTooLong,
-            Status::NamesPlaces,
+            Status::NamesOffsets,
             Status::SharedBytes,
             Status::ScatteredData,
             Status::PictureData,
@@ -207,7 +207,7 @@ pub fn edit_status(error: &exif_edit::Error) -> Status
         exif_edit::Error::FullDirectory => Status::FullDirectory,
         exif_edit::Error::UnknownType => Status::UnknownType,
         exif_edit::Error::ValueTooLong => Status::ValueTooLong,
-        exif_edit::Error::NamesPlaces => Status::NamesPlaces,
+        exif_edit::Error::NamesOffsets => Status::NamesOffsets,
         exif_edit::Error::SharedBytes => Status::SharedBytes,
         exif_edit::Error::ScatteredData => Status::ScatteredData,
         exif_edit::Error::PictureData => Status::PictureData,

@@ -6,15 +6,15 @@ use Rattle.exif_types.specs.declared.tag.Tag.{Tag}
 use Rattle.exif_change.specs.Setting.{assigned_tags, is_assigned}
 use Rattle.exif_change.specs.declared.assignment.Assignment.{Assignment}
 
--- those from a place on
-from_place : (all : List Assignment) (i : ℕ) (d : Assignment) → i < length all
+-- those from an index on
+from_index : (all : List Assignment) (i : ℕ) (d : Assignment) → i < length all
     → assigned_tags (drop i all)
     ≡ (if is_assigned (drop (i + 1) all) (get_or all i d).tag then assigned_tags (drop (i + 1) all) else (get_or all i d).tag ∷ assigned_tags (drop (i + 1) all))
-from_place all i d h =
+from_index all i d h =
     let next : i + 1 ≡ suc i = omega arith in
     rw next (ap assigned_tags (drop-cons all i d h))
 
--- all behind a place, as a slice
+-- all behind an index, as a slice
 behind : (all : List Assignment) (i : ℕ) → take (length all - (i + 1)) (drop (i + 1) all) ≡ drop (i + 1) all
 behind all i =
     let l = length-drop (i + 1) all in
@@ -28,7 +28,7 @@ later_one all i d h e =
     let rest = assigned_tags (drop (i + 1) all) in
     let one = (get_or all i d).tag in
     let yes : is_assigned (drop (i + 1) all) one ≡ true = subst (λ those. is_assigned those one ≡ true) (behind all i) e in
-    sym (from_place all i d h ∙ ap (λ b. if b then rest else one ∷ rest) yes)
+    sym (from_index all i d h ∙ ap (λ b. if b then rest else one ∷ rest) yes)
 
 -- the tags of fields, and of one more
 tags_and_one : (fs : List Field) (f : Field) (rest : List Tag)
@@ -45,6 +45,6 @@ set_one all i d fields new field h e named made =
     let rest = assigned_tags (drop (i + 1) all) in
     let one = (get_or all i d).tag in
     let no : is_assigned (drop (i + 1) all) one ≡ false = subst (λ those. is_assigned those one ≡ false) (behind all i) e in
-    let tail : assigned_tags (drop i all) ≡ one ∷ rest = from_place all i d h ∙ ap (λ b. if b then rest else one ∷ rest) no in
+    let tail : assigned_tags (drop i all) ≡ one ∷ rest = from_index all i d h ∙ ap (λ b. if b then rest else one ∷ rest) no in
     ap (λ fs. map (λ (f : Field). f.tag) fs ++ rest) made ∙ tags_and_one fields field rest
     ∙ (ap (λ t. map (λ (f : Field). f.tag) fields ++ t ∷ rest) named ∙ ap (λ ts. map (λ (f : Field). f.tag) fields ++ ts) (sym tail))

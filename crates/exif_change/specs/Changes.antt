@@ -35,7 +35,7 @@ IsEmptied None put old new = ⊥
 -- a file without what is taken out; where the orientation is kept, data that hold nothing else may
 -- stand in it
 abbrev pub IsScrubbed : Removed → List ℕ → List ℕ → Type 0
-IsScrubbed removed.Places old new = IsErased (in_file erase_patches) old new
+IsScrubbed removed.Gps old new = IsErased (in_file erase_patches) old new
 IsScrubbed removed.Metadata old new = IsEmptied (format_in old) None old new
 IsScrubbed removed.AllButOrientation old new =
     (put : Option (List ℕ)) × IsEmptied (format_in old) put old new

@@ -9,7 +9,7 @@ use crate::growing::written;
 use crate::{Refusal, read};
 use exif_containers::container::{Format, format_of};
 use exif_edit::Error;
-use exif_edit_files::{erase_all_in_file, erase_places_in_file};
+use exif_edit_files::{erase_all_in_file, erase_gps_in_file};
 use exif_rewrite::{Remove, UPRIGHT, scrubbed_exif};
 use std::alloc::Global;
 
@@ -21,11 +21,11 @@ pub enum Removed {
     /// All metadata but for the picture's orientation.
     AllButOrientation,
     /// What says where the picture was taken, in its Exif data.
-    Places,
+    Gps,
 }
 
 /// The file without its metadata. JPEG and WebP lose them; in HEIF files the fields of the Exif
-/// data are erased where they stand; TIFF data are refused, but for their places. A file that has
+/// data are erased where they stand; TIFF data are refused, but for their indexes. A file that has
 /// no Exif data stays as it is where only those would change. It takes the memory of the file and
 /// of the new one.
 pub fn scrub(alloc: Global, file: Vec<u8>, removed: Removed) -> Result<Vec<u8>, Refusal>
@@ -33,7 +33,7 @@ pub fn scrub(alloc: Global, file: Vec<u8>, removed: Removed) -> Result<Vec<u8>, 
 {
     match (removed, format_of(file.as_slice())) {
         (_, None) => Err(Refusal::UnknownFormat),
-        (Removed::Places, Some(_)) => without_places(alloc, file),
+        (Removed::Gps, Some(_)) => without_locations(alloc, file),
         (_, Some(Format::Tiff)) => Err(Refusal::PictureData),
         (_, Some(Format::Heif)) => without_fields(alloc, file),
         (Removed::Metadata, Some(Format::Jpeg | Format::WebP)) => {
@@ -46,12 +46,12 @@ pub fn scrub(alloc: Global, file: Vec<u8>, removed: Removed) -> Result<Vec<u8>, 
     }
 }
 
-// The file with its places erased, or as it is where it has no Exif data.
-fn without_places(alloc: Global, mut file: Vec<u8>) -> Result<Vec<u8>, Refusal>
+// The file with its indexes erased, or as it is where it has no Exif data.
+fn without_locations(alloc: Global, mut file: Vec<u8>) -> Result<Vec<u8>, Refusal>
     ensures { IfOk result
         (λ new. IsErased (in_file erase_patches) file.items new.items) }
 {
-    match erase_places_in_file(alloc, file.as_mut_slice()) {
+    match erase_gps_in_file(alloc, file.as_mut_slice()) {
         Ok(()) | Err(Error::Container(exif::Error::NotFound(_))) => Ok(file),
         Err(error) => Err(Refusal::Editing(error)),
     }

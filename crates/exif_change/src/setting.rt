@@ -64,8 +64,8 @@ fn assigned(
 {
     let exif = if_there(read(alloc, file))?;
     let mut fields = Vec::new(alloc);
-    for place in 0..assignments.len() {
-        add_assigned(alloc, exif.as_ref(), assignments, place, &mut fields)?;
+    for index in 0..assignments.len() {
+        add_assigned(alloc, exif.as_ref(), assignments, index, &mut fields)?;
     }
     Ok(fields)
 }
@@ -75,18 +75,18 @@ fn add_assigned(
     alloc: Global,
     exif: Option<&Exif>,
     assignments: &[Assignment<'_>],
-    place: usize,
+    index: usize,
     fields: &mut Vec<Field>,
 ) -> Result<(), Refusal>
-    requires { place < length assignments.now }
+    requires { index < length assignments.now }
     ensures named { OnOk result
-        (map (λ f. f.tag) fields.new.items ++ assigned_tags (drop (place + 1) assignments.now)
-        ≡ map (λ f. f.tag) fields.old.items ++ assigned_tags (drop place assignments.now)) }
+        (map (λ f. f.tag) fields.new.items ++ assigned_tags (drop (index + 1) assignments.now)
+        ≡ map (λ f. f.tag) fields.old.items ++ assigned_tags (drop index assignments.now)) }
     ensures primary { OnOk result (All (λ f. f.ifd_num.0 ≡ 0) fields.old.items
         → All (λ f. f.ifd_num.0 ≡ 0) fields.new.items) }
 {
-    let assignment = &assignments[place];
-    if is_assigned(&assignments[place + 1..], assignment.tag) {
+    let assignment = &assignments[index];
+    if is_assigned(&assignments[index + 1..], assignment.tag) {
         return Ok(());
     }
     let field = field_for(alloc, exif, assignment)?;

@@ -5,9 +5,9 @@ use exif::{Exif, In, Tag};
 /// The JPEG stream of the thumbnail (Exif 2.32, section 4.5.8): the bytes of the data that the two
 /// fields of the second directory name, if they stand there.
 pub fn thumbnail(exif: &Exif) -> Option<&[u8]> {
-    let place = number_of(exif, Tag::JPEGInterchangeFormat)?;
+    let offset = number_of(exif, Tag::JPEGInterchangeFormat)?;
     let len = number_of(exif, Tag::JPEGInterchangeFormatLength)?;
-    let rest = exif.buf().get(place..)?;
+    let rest = exif.buf().get(offset..)?;
     rest.get(..len)
 }
 

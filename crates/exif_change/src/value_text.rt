@@ -52,11 +52,11 @@ fn as_exif_date(text: &mut [u8]) -> Result<(), Refusal> {
     if text.len() != 19 {
         return Err(Refusal::NotOfItsType);
     }
-    for (place, separator) in [(4, b':'), (7, b':'), (10, b' ')] {
-        if !b"-:T ".contains(&text[place]) {
+    for (index, separator) in [(4, b':'), (7, b':'), (10, b' ')] {
+        if !b"-:T ".contains(&text[index]) {
             return Err(Refusal::NotOfItsType);
         }
-        text[place] = separator;
+        text[index] = separator;
     }
     match DateTime::from_ascii(text) {
         Ok(_date) => Ok(()),

@@ -4,7 +4,7 @@ use Rattle.exif_base.specs.Told.{left_behind}
 use Rattle.exif_types.specs.Failures.{Failure}
 use Rattle.exif_types.specs.Refusals.{Refusal, ◌>>=◌, Fails}
 use Rattle.exif_isobmff.specs.HeifFile.{meta_body}
-use Rattle.exif_isobmff.specs.Heif.{ExifPlace, exif_place, exif_block, after_header, exif_of}
+use Rattle.exif_isobmff.specs.Heif.{FoundItem, exif_item, exif_block, after_header, exif_of}
 use Rattle.exif_isobmff.proofs.Refusing.{fails_along}
 use Rattle.exif_containers.specs.HeifSteps.{payload_at}
 use Rattle.exif_containers.specs.GoingBack.{FindsMeta, HasRead}
@@ -23,24 +23,24 @@ is_found : (body : List ℕ) (n origin : ℕ) (file : List ℕ) (stream a b : Op
 is_found body n origin file stream a b h r = found_in body n file b (subst (λ t. FindsMeta body n t b) r.0 h)
 
 -- an item that is not found
-pub back_fails : (e : Failure) (body now : List ℕ) (n origin : ℕ) (stream a b : Option (List ℕ)) → FindsMeta body n a b → now ≡ body → Fails e (exif_place now)
+pub back_fails : (e : Failure) (body now : List ℕ) (n origin : ℕ) (stream a b : Option (List ℕ)) → FindsMeta body n a b → now ≡ body → Fails e (exif_item now)
     → (file : List ℕ) → HasRead origin 0 file stream a → Fails e (exif_of file)
 back_fails e body now n origin stream a b h same k file r =
     let f = is_found body n origin file stream a b h r in
     subst (Fails e) (sym (settled file body f.meta))
-    (fails_along e (λ r. r >>= after_header) (exif_block file body) (λ r. refl) (unplaced e file body (subst (λ t. Fails e (exif_place t)) same k)))
+    (fails_along e (λ r. r >>= after_header) (exif_block file body) (λ r. refl) (unplaced e file body (subst (λ t. Fails e (exif_item t)) same k)))
 
 -- an item that is put together in another way than from the file
-pub back_beside : (P : Result (List ℕ) Refusal → Type 0) (body now : List ℕ) (n origin : ℕ) (stream a b : Option (List ℕ)) (p : ExifPlace) → FindsMeta body n a b → now ≡ body → exif_place now ≡ Ok p
-    → (p.place.method ≡ 0 → ⊥) → P (payload_at [] p.idat p.place) → (file : List ℕ) → HasRead origin 0 file stream a → P (exif_of file)
+pub back_beside : (P : Result (List ℕ) Refusal → Type 0) (body now : List ℕ) (n origin : ℕ) (stream a b : Option (List ℕ)) (p : FoundItem) → FindsMeta body n a b → now ≡ body → exif_item now ≡ Ok p
+    → (p.location.method ≡ 0 → ⊥) → P (payload_at [] p.idat p.location) → (file : List ℕ) → HasRead origin 0 file stream a → P (exif_of file)
 back_beside P body now n origin stream a b p h same k m t file r =
     let f = is_found body n origin file stream a b h r in
-    subst P (ap (λ r. r >>= after_header) (other_method file [] p.idat p.place m) ∙ exif_is file body p f.meta (ap exif_place (sym same) ∙ k)) t
+    subst P (ap (λ r. r >>= after_header) (other_method file [] p.idat p.location m) ∙ exif_is file body p f.meta (ap exif_item (sym same) ∙ k)) t
 
 -- an item in the file
-pub back_gives : (P : Result (List ℕ) Refusal → Type 0) (body now : List ℕ) (n origin : ℕ) (stream after a b : Option (List ℕ)) (p : ExifPlace) → FindsMeta body n a b → now ≡ body → exif_place now ≡ Ok p
-    → p.place.method ≡ 0 → after ≡ stream → ((file : List ℕ) → HasRead origin n file after b → P (payload_at file None p.place)) → (file : List ℕ) → HasRead origin 0 file stream a → P (exif_of file)
+pub back_gives : (P : Result (List ℕ) Refusal → Type 0) (body now : List ℕ) (n origin : ℕ) (stream after a b : Option (List ℕ)) (p : FoundItem) → FindsMeta body n a b → now ≡ body → exif_item now ≡ Ok p
+    → p.location.method ≡ 0 → after ≡ stream → ((file : List ℕ) → HasRead origin n file after b → P (payload_at file None p.location)) → (file : List ℕ) → HasRead origin 0 file stream a → P (exif_of file)
 back_gives P body now n origin stream after a b p h same k m s t file r =
     let f = is_found body n origin file stream a b h r in
-    subst P (ap (λ r. r >>= after_header) (no_matter file p.idat None p.place m) ∙ exif_is file body p f.meta (ap exif_place (sym same) ∙ k))
+    subst P (ap (λ r. r >>= after_header) (no_matter file p.idat None p.location m) ∙ exif_is file body p f.meta (ap exif_item (sym same) ∙ k))
     (t file (f.behind, subst (λ t. Some file ≡ left_behind (Some origin) t) (sym s) r.1))

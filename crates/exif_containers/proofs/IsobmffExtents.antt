@@ -9,9 +9,9 @@ use Rattle.exif_types.specs.Refusals.{Refusal, ◌>>=◌}
 use Rattle.exif_isobmff.specs.HeifRefusals.{broken_file, data_too_large, invalid_offset}
 use Rattle.exif_isobmff.specs.declared.locations.Extent.{Extent}
 use Rattle.exif_isobmff.specs.declared.extents.Within.TheVariants.{File}
-use Rattle.exif_isobmff.specs.Places.{Place, extent_front, file_extent, extent_bytes, gathered, item_bytes}
+use Rattle.exif_isobmff.specs.ItemLocations.{ItemExtents, extent_front, file_extent, extent_bytes, gathered, item_bytes}
 use Rattle.exif_containers.proofs.IsobmffFile.{each, along}
-use Rattle.exif_containers.specs.HeifSteps.{GoesOn, PlaceIsReached, one_part}
+use Rattle.exif_containers.specs.HeifSteps.{GoesOn, OffsetIsReached, one_part}
 
 abbrev limited : List ℕ → Result (List ℕ) Refusal
 limited part = cond (ltb 65535 (length part)) (Err data_too_large) (Ok part)
@@ -32,12 +32,12 @@ one_long : (len : ℕ) (bytes : List ℕ) → 65535 < len → len ≤ length byt
 one_long len bytes h k = enough len bytes (omega arith) k ∙ too_many (take len bytes) (let l = length-take-le len bytes k in omega arith)
 
 -- an extent that is too long is passed over
-pub long_part : (a b c : Option (List ℕ)) (place start len n : ℕ) (old new : List ℕ) → PlaceIsReached place (Some start) a b old new → 65535 < len
-    → len ≤ n + (length new - start) → Skips b c n → IfSome a (λ xs. one_part len (drop place (old ++ xs)) ≡ Err data_too_large)
-long_part None b c place start len n old new h big e s = tt
-long_part (Some xs) None c place start len n old new h big e s = absurd h
-long_part (Some xs) (Some ys) None place start len n old new h big e s = absurd s
-long_part (Some xs) (Some ys) (Some zs) place start len n old new h big e s =
+pub long_part : (a b c : Option (List ℕ)) (offset start len n : ℕ) (old new : List ℕ) → OffsetIsReached offset (Some start) a b old new → 65535 < len
+    → len ≤ n + (length new - start) → Skips b c n → IfSome a (λ xs. one_part len (drop offset (old ++ xs)) ≡ Err data_too_large)
+long_part None b c offset start len n old new h big e s = tt
+long_part (Some xs) None c offset start len n old new h big e s = absurd h
+long_part (Some xs) (Some ys) None offset start len n old new h big e s = absurd s
+long_part (Some xs) (Some ys) (Some zs) offset start len n old new h big e s =
     let total = length-append (drop start new) ys in
     let front = length-drop start new in
     let more : n ≤ length ys = s.0 in
@@ -64,14 +64,14 @@ tail_same : (start : ℕ) (mid new ys zs : List ℕ) → start ≤ length mid �
 tail_same start mid new ys zs h k e = sym (drop-append-le start new zs k) ∙ ap (drop start) e ∙ drop-append-le start mid ys h
 
 -- what was read of an extent is all that counts of it
-pub part_read : (P : Result (List ℕ) Refusal → Type 0) (a b c : Option (List ℕ)) (place start len wanted n : ℕ) (whole : Bool) (old mid new now : List ℕ)
-    → PlaceIsReached place (Some start) a b old mid → start ≤ length mid → wanted ≡ cond (eqb len 0) 65536 len → wanted ≤ n + (length mid - start)
+pub part_read : (P : Result (List ℕ) Refusal → Type 0) (a b c : Option (List ℕ)) (offset start len wanted n : ℕ) (whole : Bool) (old mid new now : List ℕ)
+    → OffsetIsReached offset (Some start) a b old mid → start ≤ length mid → wanted ≡ cond (eqb len 0) 65536 len → wanted ≤ n + (length mid - start)
     → GoesOn b c mid new → length mid ≤ length new → (whole ≡ true → length mid + n ≤ length new) → (whole ≡ false → IsAtEnd c) → now ≡ drop start new
-    → P (one_part len now) → IfSome a (λ xs. P (one_part len (drop place (old ++ xs))))
-part_read P None b c place start len wanted n whole old mid new now h s w e g l m f d p = tt
-part_read P (Some xs) None c place start len wanted n whole old mid new now h s w e g l m f d p = absurd h
-part_read P (Some xs) (Some ys) None place start len wanted n whole old mid new now h s w e g l m f d p = absurd g
-part_read P (Some xs) (Some ys) (Some zs) place start len wanted n whole old mid new now h s w e g l m f d p =
+    → P (one_part len now) → IfSome a (λ xs. P (one_part len (drop offset (old ++ xs))))
+part_read P None b c offset start len wanted n whole old mid new now h s w e g l m f d p = tt
+part_read P (Some xs) None c offset start len wanted n whole old mid new now h s w e g l m f d p = absurd h
+part_read P (Some xs) (Some ys) None offset start len wanted n whole old mid new now h s w e g l m f d p = absurd g
+part_read P (Some xs) (Some ys) (Some zs) offset start len wanted n whole old mid new now h s w e g l m f d p =
     subst P (ap (one_part len) d ∙ by whole m f ∙ ap (one_part len) (tail_same start mid new ys zs s (omega arith) g ∙ h)) p
   where
     by : (whole : Bool) → (whole ≡ true → length mid + n ≤ length new) → (whole ≡ false → zs ≡ []) → one_part len (drop start new) ≡ one_part len (drop start new ++ zs)
@@ -83,7 +83,7 @@ part_read P (Some xs) (Some ys) (Some zs) place start len wanted n whole old mid
 tests_agree : (l from len : ℕ) → (len ≡ 0 → ⊥) → ltb l (from + len) ≡ ltb (l - from) len
 tests_agree l from len h = grind (arith, nat_tests)
 
--- an extent of the file, by the bytes from its place on
+-- an extent of the file, by the bytes from its offset on
 extent_is : (file : List ℕ) (base : ℕ) (e : Extent) → file_extent file base e ≡ cond (leb (2 ^ 64) (base + e.offset)) (Err invalid_offset) (extent_front e.len (drop (base + e.offset) file))
 unfolding file_extent
 extent_is file base e = ap (cond (leb (2 ^ 64) (base + e.offset)) (Err invalid_offset)) (by (eqb e.len 0) refl)
@@ -100,7 +100,7 @@ if_zero : (n : ℕ) (x y : Result (List ℕ) Refusal) → n ≡ 0 → cond (eqb 
 if_zero n x y h = ap (λ m. cond (eqb m 0) x y) h
 
 -- an item of one extent in the file
-pub one_of : (file : List ℕ) (idat : Option (List ℕ)) (p : Place) (e : Extent) → p.method ≡ 0 → p.extents ≡ e ∷ []
+pub one_of : (file : List ℕ) (idat : Option (List ℕ)) (p : ItemExtents) (e : Extent) → p.method ≡ 0 → p.extents ≡ e ∷ []
     → item_bytes file idat p ≡ cond (leb (2 ^ 64) (p.base + e.offset)) (Err invalid_offset) (one_part e.len (drop (p.base + e.offset) file))
 unfolding item_bytes
 one_of file idat p e m es =
@@ -119,20 +119,20 @@ only_one [] d h = absurd (omega arith)
 only_one (x ∷ []) d h = refl
 only_one (x ∷ y ∷ xs) d h = absurd (omega arith)
 
--- what stands from a place on
+-- what stands from an offset on
 pub rest_of : (start : ℕ) (now new : List ℕ) → now ≡ new → take (length now - start) (drop start now) ≡ drop start new
 rest_of start now new e = take_all (length now - start) (drop start now) (omega (arith, length-drop start now)) ∙ ap (drop start) e
 
--- a place that is too large
-pub overflows : (a : Option (List ℕ)) (front : List ℕ) (p : Place) (e : Extent) → p.method ≡ 0 → p.extents ≡ e ∷ [] → 2 ^ 64 ≤ p.base + e.offset
+-- an offset that is too large
+pub overflows : (a : Option (List ℕ)) (front : List ℕ) (p : ItemExtents) (e : Extent) → p.method ≡ 0 → p.extents ≡ e ∷ [] → 2 ^ 64 ≤ p.base + e.offset
     → IfSome a (λ rest. item_bytes (front ++ rest) None p ≡ Err invalid_offset)
 overflows a front p e m es h =
     each a _ (λ rest. one_of (front ++ rest) None p e m es ∙ ap (λ b. cond b (Err invalid_offset) (one_part e.len (drop (p.base + e.offset) (front ++ rest)))) (le-leb (2 ^ 64) (p.base + e.offset) h))
 
--- what is read from the place on
-pub one_gives : (P : Result (List ℕ) Refusal → Type 0) (a : Option (List ℕ)) (front : List ℕ) (p : Place) (e : Extent) (place : ℕ) → p.method ≡ 0 → p.extents ≡ e ∷ [] → p.base + e.offset < 2 ^ 64
-    → place ≡ p.base + e.offset → IfSome a (λ rest. P (one_part e.len (drop place (front ++ rest)))) → IfSome a (λ rest. P (item_bytes (front ++ rest) None p))
-one_gives P a front p e place m es h same t =
+-- what is read from the offset on
+pub one_gives : (P : Result (List ℕ) Refusal → Type 0) (a : Option (List ℕ)) (front : List ℕ) (p : ItemExtents) (e : Extent) (offset : ℕ) → p.method ≡ 0 → p.extents ≡ e ∷ [] → p.base + e.offset < 2 ^ 64
+    → offset ≡ p.base + e.offset → IfSome a (λ rest. P (one_part e.len (drop offset (front ++ rest)))) → IfSome a (λ rest. P (item_bytes (front ++ rest) None p))
+one_gives P a front p e offset m es h same t =
     along a _ _ (λ rest k. subst P
     (ap (λ n. one_part e.len (drop n (front ++ rest))) same
     ∙ sym (one_of (front ++ rest) None p e m es ∙ ap (λ b. cond b (Err invalid_offset) (one_part e.len (drop (p.base + e.offset) (front ++ rest)))) (lt-leb (2 ^ 64) (p.base + e.offset) h))) k) t

@@ -13,7 +13,7 @@ use Rattle.exif_isobmff.specs.declared.kind.Kind.TheVariants.{FileType, Meta, It
 use Rattle.exif_isobmff.specs.declared.splitter.Header.{Header}
 use Rattle.exif_isobmff.specs.declared.locations.Extent.{Extent}
 use Rattle.exif_isobmff.specs.HeifFile.{file_box_at, IsHeaderOf, meta_body, meta_in, passed, whole}
-use Rattle.exif_isobmff.specs.Places.{Place, item_bytes}
+use Rattle.exif_isobmff.specs.ItemLocations.{ItemExtents, item_bytes}
 use Rattle.exif_isobmff.proofs.FileBoxes.{box_of, file_went_on, file_found}
 use Rattle.exif_containers.specs.declared.isobmff.meta.Found.{Found}
 use Rattle.exif_containers.specs.HeifSteps.{one_part}
@@ -149,25 +149,25 @@ finds_whole (Some m) seen n next end origin k h buf a b c d w t bound is long is
 
 -- ---- the item
 
-one_from : (file : List ℕ) (p : Place) (e : Extent) (offset : ℕ) → p.method ≡ 0 → p.extents ≡ e ∷ [] → p.base + e.offset < 2 ^ 64 → offset ≡ p.base + e.offset
+one_from : (file : List ℕ) (p : ItemExtents) (e : Extent) (offset : ℕ) → p.method ≡ 0 → p.extents ≡ e ∷ [] → p.base + e.offset < 2 ^ 64 → offset ≡ p.base + e.offset
     → item_bytes file None p ≡ one_part e.len (drop offset file)
 one_from file p e offset m es h same =
     one_of file None p e m es ∙ ap (λ b. cond b (Err invalid_offset) (one_part e.len (drop (p.base + e.offset) file))) (lt-leb (2 ^ 64) (p.base + e.offset) h)
     ∙ ap (λ n. one_part e.len (drop n file)) (sym same)
 
 -- an offset that is too large
-pub too_large : (file : List ℕ) (p : Place) (e : Extent) → p.method ≡ 0 → p.extents ≡ e ∷ [] → 2 ^ 64 ≤ p.base + e.offset → item_bytes file None p ≡ Err invalid_offset
+pub too_large : (file : List ℕ) (p : ItemExtents) (e : Extent) → p.method ≡ 0 → p.extents ≡ e ∷ [] → 2 ^ 64 ≤ p.base + e.offset → item_bytes file None p ≡ Err invalid_offset
 too_large file p e m es h =
     one_of file None p e m es ∙ ap (λ b. cond b (Err invalid_offset) (one_part e.len (drop (p.base + e.offset) file))) (le-leb (2 ^ 64) (p.base + e.offset) h)
 
 -- nothing of the file is behind its offset
-pub none_there : (P : Result (List ℕ) Refusal → Type 0) (file none : List ℕ) (p : Place) (e : Extent) (offset : ℕ) → p.method ≡ 0 → p.extents ≡ e ∷ [] → p.base + e.offset < 2 ^ 64
+pub none_there : (P : Result (List ℕ) Refusal → Type 0) (file none : List ℕ) (p : ItemExtents) (e : Extent) (offset : ℕ) → p.method ≡ 0 → p.extents ≡ e ∷ [] → p.base + e.offset < 2 ^ 64
     → offset ≡ p.base + e.offset → none ≡ [] → drop offset file ≡ [] → P (one_part e.len none) → P (item_bytes file None p)
 none_there P file none p e offset m es h same z end t =
     subst P (ap (one_part e.len) (z ∙ sym end) ∙ sym (one_from file p e offset m es h same)) t
 
 -- what is read from its offset on
-pub read_there : (P : Result (List ℕ) Refusal → Type 0) (left : Option (List ℕ)) (file front : List ℕ) (p : Place) (e : Extent) (offset : ℕ) → p.method ≡ 0 → p.extents ≡ e ∷ [] → p.base + e.offset < 2 ^ 64
+pub read_there : (P : Result (List ℕ) Refusal → Type 0) (left : Option (List ℕ)) (file front : List ℕ) (p : ItemExtents) (e : Extent) (offset : ℕ) → p.method ≡ 0 → p.extents ≡ e ∷ [] → p.base + e.offset < 2 ^ 64
     → offset ≡ p.base + e.offset → front ≡ [] → left ≡ Some (drop offset file) → IfSome left (λ rest. P (one_part e.len (drop 0 (front ++ rest)))) → P (item_bytes file None p)
 read_there P left file front p e offset m es h same z at t =
     let there : IfSome (Some (drop offset file)) (λ rest. P (one_part e.len (drop 0 (front ++ rest)))) = subst (λ o. IfSome o (λ rest. P (one_part e.len (drop 0 (front ++ rest))))) at t in

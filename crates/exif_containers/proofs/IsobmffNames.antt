@@ -5,7 +5,7 @@ use Rattle.exif_types.specs.Failures.{Failure}
 use Rattle.exif_types.specs.Refusals.{Refusal, refusal_of, IsInterrupted, Fails, Gives}
 use Rattle.exif_isobmff.specs.HeifRefusals.{heif_refusals, broken_file}
 use Rattle.exif_isobmff.proofs.ExifNames.{Only, only_then, only_if}
-use Rattle.exif_isobmff.specs.Places.{extent_front}
+use Rattle.exif_isobmff.specs.ItemLocations.{extent_front}
 use Rattle.exif_containers.specs.HeifSteps.{one_part}
 use Rattle.exif_containers.specs.Answer.{IsNamed, IsShort}
 

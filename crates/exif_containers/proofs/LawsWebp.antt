@@ -13,7 +13,7 @@ use Rattle.exif_containers.specs.WebpGrammar.{ChunkTree, print_chunk, chunk_len,
 use Rattle.exif_containers.proofs.WebpChunks.{webp-twelve, webp-header, begins_webp-append, body-other, body-exif, body-refused}
 use Rattle.exif_isobmff.proofs.LawsBoxes.{eight-split}
 
--- ---- what the definition makes of a place
+-- ---- what the definition makes of an offset
 
 padded-len : (size room : ℕ) → size ≤ room → padded size room ≡ size + pad_len size (room - size)
 padded-len size room h = by (eqb (size % 2) 1)
@@ -227,9 +227,9 @@ record Passed (room : ℕ) (bytes : List ℕ) : Type 0 where
 abbrev chunk_of : List ℕ → List ℕ → List ℕ → List ℕ → ChunkTree
 chunk_of name size payload pad = record { name = name; size = size; payload = payload; pad = pad }
 
-exif-place : (room : ℕ) (name size more : List ℕ) → IsHeader room name size → little_number 4 size ≤ room - 8 → little_number 4 size ≤ length more
+exif-offset : (room : ℕ) (name size more : List ℕ) → IsHeader room name size → little_number 4 size ≤ room - 8 → little_number 4 size ≤ length more
     → name ≡ codes "EXIF" → Ended room (name ++ (size ++ more))
-exif-place room name size more h fits there e =
+exif-offset room name size more h fits there e =
     let n = little_number 4 size in
     let len : length (take n more) ≡ n = length-take-le n more there in
     let c = chunk_of name size (take n more) [] in
@@ -239,10 +239,10 @@ exif-place room name size more h fits there e =
       whole = print-chunk c (drop n more) ∙ ap (λ t. name ++ (size ++ (t ++ drop n more))) (append-nil (take n more)) ∙ ap (λ t. name ++ (size ++ t)) (take-append-drop n more);
     }
 
-other-place : (room : ℕ) (name size more : List ℕ) → IsHeader room name size → (fits : little_number 4 size ≤ room - 8)
+other-offset : (room : ℕ) (name size more : List ℕ) → IsHeader room name size → (fits : little_number 4 size ≤ room - 8)
     → little_number 4 size + pad_len (little_number 4 size) (room - 8 - little_number 4 size) ≤ length more
     → name ≢ codes "EXIF" → Passed room (name ++ (size ++ more))
-other-place room name size more h fits there e =
+other-offset room name size more h fits there e =
     let n = little_number 4 size in
     let p = pad_len n (room - 8 - n) in
     let payload : List ℕ = take n more in
@@ -261,35 +261,35 @@ other-place room name size more h fits there e =
       fewer = omega (arith, length-drop n more, length-drop p (drop n more));
     }
 
-payload-place : (room : ℕ) (name size more : List ℕ) → IsHeader room name size → little_number 4 size ≤ room - 8
+payload-offset : (room : ℕ) (name size more : List ℕ) → IsHeader room name size → little_number 4 size ≤ room - 8
     → Ended room (name ++ (size ++ more)) ⊎ Passed room (name ++ (size ++ more))
-payload-place room name size more h fits = by (ltb (length more) (wanted name (little_number 4 size) (room - 8))) refl
+payload-offset room name size more h fits = by (ltb (length more) (wanted name (little_number 4 size) (room - 8))) refl
   where
     there : (t : Bool) → bytes_eq name (codes "EXIF") ≡ t → cond t (little_number 4 size) (little_number 4 size + pad_len (little_number 4 size) (room - 8 - little_number 4 size)) ≤ length more
         → Ended room (name ++ (size ++ more)) ⊎ Passed room (name ++ (size ++ more))
-    there true e k = inl (exif-place room name size more h fits k ((bytes_eq-Decides name (codes "EXIF")).0 e))
-    there false e k = inr (other-place room name size more h fits k (λ is. absurd (let k : true ≡ false = sym (is-exif name is) ∙ e in cc)))
+    there true e k = inl (exif-offset room name size more h fits k ((bytes_eq-Decides name (codes "EXIF")).0 e))
+    there false e k = inr (other-offset room name size more h fits k (λ is. absurd (let k : true ≡ false = sym (is-exif name is) ∙ e in cc)))
 
     by : (t : Bool) → ltb (length more) (wanted name (little_number 4 size) (room - 8)) ≡ t → Ended room (name ++ (size ++ more)) ⊎ Passed room (name ++ (size ++ more))
     by true e = inl (record { end = cut_payload name size more; is = (h, fits, ltb-true (length more) (wanted name (little_number 4 size) (room - 8)) e); whole = refl })
     by false e = there (bytes_eq name (codes "EXIF")) refl (ltb-false (length more) (wanted name (little_number 4 size) (room - 8)) e)
 
-header-place : (room : ℕ) (name size more : List ℕ) → IsHeader room name size → Ended room (name ++ (size ++ more)) ⊎ Passed room (name ++ (size ++ more))
-header-place room name size more h = by (ltb (room - 8) (little_number 4 size)) refl
+header-offset : (room : ℕ) (name size more : List ℕ) → IsHeader room name size → Ended room (name ++ (size ++ more)) ⊎ Passed room (name ++ (size ++ more))
+header-offset room name size more h = by (ltb (room - 8) (little_number 4 size)) refl
   where
     by : (t : Bool) → ltb (room - 8) (little_number 4 size) ≡ t → Ended room (name ++ (size ++ more)) ⊎ Passed room (name ++ (size ++ more))
     by true e = inl (record { end = too_long name size more; is = (h, ltb-true (room - 8) (little_number 4 size) e); whole = refl })
-    by false e = payload-place room name size more h (ltb-false (room - 8) (little_number 4 size) e)
+    by false e = payload-offset room name size more h (ltb-false (room - 8) (little_number 4 size) e)
 
-place : (room : ℕ) (bytes : List ℕ) → Ended room bytes ⊎ Passed room bytes
-place room bytes = by-room (eqb room 0) refl
+offset : (room : ℕ) (bytes : List ℕ) → Ended room bytes ⊎ Passed room bytes
+offset room bytes = by-room (eqb room 0) refl
   where
     by-len : (t : Bool) → ltb (length bytes) 8 ≡ t → 8 ≤ room → Ended room bytes ⊎ Passed room bytes
     by-len true e h = inl (record { end = cut_header bytes; is = (h, ltb-true (length bytes) 8 e); whole = refl })
     by-len false e h =
         let long = ltb-false (length bytes) 8 e in
         let P : List ℕ → Type 0 = λ t. Ended room t ⊎ Passed room t in
-        subst P (eight-split bytes) (header-place room (take 4 bytes) (take 4 (drop 4 bytes)) (drop 8 bytes) (record {
+        subst P (eight-split bytes) (header-offset room (take 4 bytes) (take 4 (drop 4 bytes)) (drop 8 bytes) (record {
           room_is = h;
           name_len = length-take-le 4 bytes (omega arith);
           size_len = length-take-le 4 (drop 4 bytes) (omega (arith, length-drop 4 bytes));
@@ -324,7 +324,7 @@ chunks-passed room bytes p c = record {
 
 chunks-within : (n room : ℕ) (bytes : List ℕ) → length bytes < n → Chunks room bytes
 chunks-within zero room bytes h = absurd (omega arith)
-chunks-within (suc n) room bytes h = first n room bytes h (place room bytes) (chunks-within n)
+chunks-within (suc n) room bytes h = first n room bytes h (offset room bytes) (chunks-within n)
   where
     first : (n room : ℕ) (bytes : List ℕ) → length bytes < suc n → Ended room bytes ⊎ Passed room bytes → ((r : ℕ) (rest : List ℕ) → length rest < n → Chunks r rest) → Chunks room bytes
     first n room bytes h (inl e) ih = chunks-ended room bytes e

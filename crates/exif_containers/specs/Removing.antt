@@ -5,7 +5,7 @@ use Rattle.exif_types.specs.Refusals.{Refusal, too_big}
 use Rattle.exif_containers.specs.declared.remove.Remove.{Remove}
 use Rattle.exif_containers.specs.declared.remove.Remove.TheVariants.{Exif, Metadata}
 
--- new Exif data that do not fit into their place
+-- new Exif data that do not fit into their segment or chunk
 abbrev pub too_large : Refusal
 too_large = too_big (codes "Exif data too large")
 

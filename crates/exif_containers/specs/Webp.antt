@@ -30,7 +30,7 @@ no_exif_in_webp = not_found (codes "WebP")
 abbrev pub webp_refusals : List Refusal
 webp_refusals = broken_webp ∷ not_webp ∷ invalid_file_size ∷ overflowing ∷ no_exif_in_webp ∷ []
 
--- a chunk at a place of the body: the payload of `EXIF` and all that follows, or another one, with
+-- a chunk at an offset of the body: the payload of `EXIF` and all that follows, or another one, with
 -- the room that is left behind it and the bytes there
 pub data Chunk : Type 0 where
   exif : List ℕ → List ℕ → Chunk
@@ -59,7 +59,7 @@ chunk_body name size room bytes =
     if bytes_eq name (codes "EXIF") then exif_chunk size bytes else
     other_chunk (padded size room) room bytes
 
--- the chunk at a place with so much room
+-- the chunk at an offset with so much room
 abbrev pub chunk_at : ℕ → List ℕ → Result Chunk Refusal
 chunk_at room bytes =
     if room == 0 then Err no_exif_in_webp else

@@ -8,7 +8,7 @@ ghost use Rattle.std.specs.Option.{option_map};
 ghost use Rattle.exif_isobmff.specs.Extents.{located_exif};
 ghost use Rattle.exif_isobmff.specs.Heif.{exif_of};
 ghost use Rattle.exif_isobmff.specs.LocatedView.{located_view};
-ghost use Rattle.exif_isobmff.specs.Places.{location_view};
+ghost use Rattle.exif_isobmff.specs.ItemLocations.{location_view};
 ghost use Rattle.exif_isobmff.specs.HeifRefusals.{heif_refusals};
 ghost use Rattle.exif_containers.specs.Answer.{IsNamed};
 ghost use Rattle.exif_containers.specs.GoingBack.{BeginsAt, HasRead};

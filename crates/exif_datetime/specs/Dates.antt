@@ -10,7 +10,7 @@ use Rattle.exif_text.specs.Subsec.{parse_subsec}
 use Rattle.exif_types.specs.Refusals.{Refusal, blank_value, invalid_format}
 use Rattle.exif_datetime.specs.declared.datetime.DateTime.{DateTime}
 
--- the refusal that a fault is: blank where there are only spaces, and colons at their places
+-- the refusal that a fault is: blank where there are only spaces, and colons at their offsets
 abbrev pub refusal_for : DateFault → Refusal
 refusal_for BlankDate = blank_value (message_of BlankDate)
 refusal_for BlankOffset = blank_value (message_of BlankOffset)

@@ -21,8 +21,8 @@ use Rattle.exif_layout.specs.Ranged.{IsRanged}
 use Rattle.exif_layout.specs.Refused.{is_unknown}
 use Rattle.exif_edit_base.specs.Locations.{Located, located}
 use Rattle.exif_edit_base.specs.Walked.{Finds, Walked, entry_of}
-use Rattle.exif_tiff.specs.declared.place.DirectoryPlace.{DirectoryPlace}
-use Rattle.exif_tiff.specs.declared.place.EntryPlace.{EntryPlace}
+use Rattle.exif_tiff.specs.declared.offset.DirectoryOffset.{DirectoryOffset}
+use Rattle.exif_tiff.specs.declared.offset.EntryOffset.{EntryOffset}
 use Rattle.exif_edit_base.specs.Causes.{shared, too_long, unless, ◌>>=◌}
 use Rattle.exif_edit_base.specs.Finding.{find_answer}
 use Rattle.exif_edit_base.specs.Patches.{zeros_over}
@@ -31,17 +31,17 @@ use Rattle.exif_edit_base.specs.declared.patch.Patch.{Patch}
 use Rattle.exif_edit_base.specs.declared.patch.Span.{Span}
 use Rattle.exif_edit_base.proofs.CauseSteps.{passed}
 use Rattle.exif_edit_base.proofs.FindSteps.{header_named}
-use Rattle.exif_edit.specs.Changing.{ChangeEntry, ChangePlaces, changes, covers}
+use Rattle.exif_edit.specs.Changing.{ChangeEntry, ChangeOffsets, changes, covers}
 use Rattle.exif_edit.specs.Erasing.{erase_patches, gps_spans, is_gps}
-use Rattle.exif_edit.specs.PlacesAlone.{all_kept, places_stand_alone}
-use Rattle.exif_edit.specs.Setting.{answer_in, checked_patches, entry_text, names_places, room_of, room_text, set_patches, value_answer, value_patches, value_room}
+use Rattle.exif_edit.specs.GpsAlone.{all_kept, gps_stands_alone}
+use Rattle.exif_edit.specs.Setting.{answer_in, checked_patches, entry_text, names_offsets, room_of, room_text, set_patches, value_answer, value_patches, value_room}
 use Rattle.exif_edit.specs.Sharing.{all_beside, beside, changed_entry, fit_answer, meets, names_child, stands_alone, standing_at}
 use Rattle.exif_edit.proofs.AloneSteps.{any_flat, any_kept, any_same}
-use Rattle.exif_edit.proofs.PlacesUnshared.{places_unshared}
+use Rattle.exif_edit.proofs.GpsUnshared.{gps_unshared}
 use Rattle.exif_edit.proofs.SetSound.{Fits, edit_fits_in, value_lengths, was_found}
 use Rattle.exif_edit.proofs.SetSteps.{set_known}
 use Rattle.exif_edit.proofs.Unshared.{set_unshared}
-use Rattle.exif_edit.proofs.WalkedDirectories.{kept_of, walked_kept, walked_places}
+use Rattle.exif_edit.proofs.WalkedDirectories.{kept_of, walked_kept, walked_offsets}
 
 -- ---- what the patches change
 
@@ -52,17 +52,17 @@ or_turned false true = refl
 or_turned false false = refl
 
 abbrev room_by : ℕ → ℕ → Bool → Span
-room_by place size b =
-    if b then record { place = 0; len = 0 } else record { place = place; len = size }
+room_by offset size b =
+    if b then record { offset = 0; len = 0 } else record { offset = offset; len = size }
 
 -- a room of no bytes is nowhere, and meets nothing
-no_room : (place size : ℕ) (t : Stretch) → ((room_of place size).len == 0) ≡ true
-    → meets (room_of place size) t ≡ false
-no_room place size t h = by_test (nat_le size 4) refl h
+no_room : (offset size : ℕ) (t : Stretch) → ((room_of offset size).len == 0) ≡ true
+    → meets (room_of offset size) t ≡ false
+no_room offset size t h = by_test (nat_le size 4) refl h
   where
-    by_test : (b : Bool) → nat_le size 4 ≡ b → ((room_by place size b).len == 0) ≡ true
-        → meets (room_by place size b) t ≡ false
-    by_test true e h = let z : nat_lt t.place 0 ≡ false = grind (arith, nat_tests) in rw z refl
+    by_test : (b : Bool) → nat_le size 4 ≡ b → ((room_by offset size b).len == 0) ≡ true
+        → meets (room_by offset size b) t ≡ false
+    by_test true e h = let z : nat_lt t.offset 0 ≡ false = grind (arith, nat_tests) in rw z refl
     by_test false e h = absurd (grind (arith, nat_tests))
 
 module _ (order : Order) (value : Value) (e : ℕ) (bytes : List ℕ) (ps : List Patch)
@@ -74,18 +74,18 @@ module _ (order : Order) (value : Value) (e : ℕ) (bytes : List ℕ) (ps : List
   text = encode order value
 
   abbrev entry : Patch
-  entry = record { place = e + 2; text = entry_text order value room.place text }
+  entry = record { offset = e + 2; bytes = entry_text order value room.offset text }
 
   abbrev filled : Patch
-  filled = record { place = room.place; text = room_text room.len text }
+  filled = record { offset = room.offset; bytes = room_text room.len text }
 
   entry_covers : covers t entry ≡ meets (changed_entry e) t
   entry_covers =
-      ap (λ n. meets (record { place = e + 2; len = n }) t) (value_lengths order value room f.text).1
+      ap (λ n. meets (record { offset = e + 2; len = n }) t) (value_lengths order value room f.text).1
 
   room_covers : covers t filled ≡ meets room t
   room_covers =
-      ap (λ n. meets (record { place = room.place; len = n }) t)
+      ap (λ n. meets (record { offset = room.offset; len = n }) t)
       (value_lengths order value room f.text).0
 
   by_test : (b : Bool) → (room.len == 0) ≡ b
@@ -116,74 +116,74 @@ zeros_change : (ss : List Span) (t : Stretch)
 zeros_change [] t = refl
 zeros_change (s ∷ ss) t =
     let n : length (replicate {A = ℕ} s.len 0) ≡ s.len = length-replicate s.len 0 in
-    ap (λ x. meets (record { place = s.place; len = x }) t || changes (map zeros_over ss) t) n
+    ap (λ x. meets (record { offset = s.offset; len = x }) t || changes (map zeros_over ss) t) n
     ∙ ap (λ b. meets s t || b) (zeros_change ss t)
 
 -- zeros over GPS directories and their values change bytes of these, and no others
-pub places_change : (number : Reading) (bytes : List ℕ) (ps : List Patch)
-    → ps ≡ map zeros_over (gps_spans number bytes) → ChangePlaces number bytes ps
-places_change number bytes ps e t =
+pub offsets_change : (number : Reading) (bytes : List ℕ) (ps : List Patch)
+    → ps ≡ map zeros_over (gps_spans number bytes) → ChangeOffsets number bytes ps
+offsets_change number bytes ps e t =
     ap (λ qs. changes qs t) e ∙ zeros_change (gps_spans number bytes) t
 
 -- ---- what was asked
 
 -- of the fields at an entry, without the fields
 once_same : (e : ℕ) (ls : List Located)
-    → length (filter (λ (p : EntryPlace). p.entry == e) (map entry_of ls))
+    → length (filter (λ (p : EntryOffset). p.entry == e) (map entry_of ls))
     ≡ length (standing_at e ls)
 once_same e [] = refl
 once_same e (l ∷ ls) = by_test (l.entry == e) (once_same e ls)
   where
     by_test : (b : Bool)
-        → length (filter (λ (p : EntryPlace). p.entry == e) (map entry_of ls))
+        → length (filter (λ (p : EntryOffset). p.entry == e) (map entry_of ls))
         ≡ length (standing_at e ls)
-        → length (if b then entry_of l ∷ filter (λ (p : EntryPlace). p.entry == e) (map entry_of ls)
-        else filter (λ (p : EntryPlace). p.entry == e) (map entry_of ls))
+        → length (if b then entry_of l ∷ filter (λ (p : EntryOffset). p.entry == e) (map entry_of ls)
+        else filter (λ (p : EntryOffset). p.entry == e) (map entry_of ls))
         ≡ length (if b then l ∷ standing_at e ls else standing_at e ls)
     by_test true h = ap (λ n. suc n) h
     by_test false h = h
 
 -- whether one field stands at an entry is told by the entries that a walk has found
 pub once_found : (bytes : List ℕ) (w : Walked) (e : ℕ) → Finds bytes w
-    → (length (filter (λ (p : EntryPlace). p.entry == e) w.entries) == 1)
+    → (length (filter (λ (p : EntryOffset). p.entry == e) w.entries) == 1)
     ≡ (length (standing_at e (located bytes)) == 1)
 once_found bytes w e f =
-    ap (λ es. length (filter (λ (p : EntryPlace). p.entry == e) es) == 1) f.entries
+    ap (λ es. length (filter (λ (p : EntryOffset). p.entry == e) es) == 1) f.entries
     ∙ ap (λ n. n == 1) (once_same e (located bytes))
 
 -- the header, and all directories, but for the entry
 pub beside_found : (bytes : List ℕ) (order : Order) (ps : List Patch) (e : ℕ) (w : Walked)
     → header bytes ≡ Ok order → Finds bytes w → ChangeEntry (number_of order) bytes e ps
-    → (changes ps (record { place = 0; len = 8 })
-    || list_any (λ (d : DirectoryPlace). list_any (changes ps)
-    (beside (number_of order) bytes e d.place)) w.directories)
+    → (changes ps (record { offset = 0; len = 8 })
+    || list_any (λ (d : DirectoryOffset). list_any (changes ps)
+    (beside (number_of order) bytes e d.offset)) w.directories)
     ≡ list_any
     (λ t. meets (changed_entry e) t || meets (value_room (number_of order) bytes e) t)
     (all_beside (number_of order) bytes e)
 beside_found bytes order ps e w h f c =
-    ap (λ b. changes ps (record { place = 0; len = 8 }) || b)
-    (any_flat (changes ps) (λ (d : DirectoryPlace). d.place) (beside (number_of order) bytes e)
+    ap (λ b. changes ps (record { offset = 0; len = 8 }) || b)
+    (any_flat (changes ps) (λ (d : DirectoryOffset). d.offset) (beside (number_of order) bytes e)
     w.directories
     ∙ ap (λ qs. list_any (changes ps) (flat_map (beside (number_of order) bytes e) qs))
-    (walked_places bytes order w h f))
+    (walked_offsets bytes order w h f))
     ∙ any_same (changes ps)
     (λ t. meets (changed_entry e) t || meets (value_room (number_of order) bytes e) t)
     (all_beside (number_of order) bytes e) c
 
--- the same of what is kept where places are erased
+-- the same of what is kept where GPS data are erased
 pub kept_found : (bytes : List ℕ) (order : Order) (ps : List Patch) (w : Walked)
-    → header bytes ≡ Ok order → Finds bytes w → ChangePlaces (number_of order) bytes ps
-    → (changes ps (record { place = 0; len = 8 })
-    || list_any (λ (d : DirectoryPlace). not (is_gps d.context)
-    && list_any (changes ps) (looked_at (number_of order) bytes d.place)) w.directories)
+    → header bytes ≡ Ok order → Finds bytes w → ChangeOffsets (number_of order) bytes ps
+    → (changes ps (record { offset = 0; len = 8 })
+    || list_any (λ (d : DirectoryOffset). not (is_gps d.context)
+    && list_any (changes ps) (looked_at (number_of order) bytes d.offset)) w.directories)
     ≡ list_any (λ t. list_any (λ s. meets s t) (gps_spans (number_of order) bytes))
     (all_kept (number_of order) bytes)
 kept_found bytes order ps w h f c =
-    ap (λ b. changes ps (record { place = 0; len = 8 }) || b)
-    (any_kept (λ (d : DirectoryPlace). not (is_gps d.context))
-    (λ (d : DirectoryPlace). list_any (changes ps) (looked_at (number_of order) bytes d.place))
+    ap (λ b. changes ps (record { offset = 0; len = 8 }) || b)
+    (any_kept (λ (d : DirectoryOffset). not (is_gps d.context))
+    (λ (d : DirectoryOffset). list_any (changes ps) (looked_at (number_of order) bytes d.offset))
     w.directories
-    ∙ (any_flat (changes ps) (λ (d : DirectoryPlace). d.place) (looked_at (number_of order) bytes)
+    ∙ (any_flat (changes ps) (λ (d : DirectoryOffset). d.offset) (looked_at (number_of order) bytes)
     (kept_of w.directories)
     ∙ ap (λ qs. list_any (changes ps) (flat_map (looked_at (number_of order) bytes) qs))
     (walked_kept bytes order w h f)))
@@ -194,16 +194,16 @@ kept_found bytes order ps w h f c =
 pub alone_parts : (bytes : List ℕ) (order : Order) (ps : List Patch) (e : ℕ) (w : Walked)
     → header bytes ≡ Ok order → Finds bytes w → ChangeEntry (number_of order) bytes e ps
     → (not
-    (changes ps (record { place = 0; len = 8 })
-    || list_any (λ (d : DirectoryPlace). list_any (changes ps)
-    (beside (number_of order) bytes e d.place)) w.directories)
-    && (not (meets (value_room (number_of order) bytes e) (record { place = e; len = 12 }))
-    && (length (filter (λ (p : EntryPlace). p.entry == e) w.entries) == 1)))
+    (changes ps (record { offset = 0; len = 8 })
+    || list_any (λ (d : DirectoryOffset). list_any (changes ps)
+    (beside (number_of order) bytes e d.offset)) w.directories)
+    && (not (meets (value_room (number_of order) bytes e) (record { offset = e; len = 12 }))
+    && (length (filter (λ (p : EntryOffset). p.entry == e) w.entries) == 1)))
     ≡ stands_alone (number_of order) bytes e
 alone_parts bytes order ps e w h f c =
-    let near = meets (value_room (number_of order) bytes e) (record { place = e; len = 12 }) in
+    let near = meets (value_room (number_of order) bytes e) (record { offset = e; len = 12 }) in
     ap (λ b. not b
-    && (not near && (length (filter (λ (p : EntryPlace). p.entry == e) w.entries) == 1)))
+    && (not near && (length (filter (λ (p : EntryOffset). p.entry == e) w.entries) == 1)))
     (beside_found bytes order ps e w h f c)
     ∙ ap (λ b. not
     (list_any (λ t. meets (changed_entry e) t || meets (value_room (number_of order) bytes e) t)
@@ -228,16 +228,16 @@ pub none_met : (a b m o x : Bool) → a ≡ false → b ≡ false → m ≡ fals
 none_met a b m o x p q r e = rw (p, q, r) at e
 
 -- neither the header nor a kept directory
-pub places_parts : (bytes : List ℕ) (order : Order) (ps : List Patch) (w : Walked)
-    → header bytes ≡ Ok order → Finds bytes w → ChangePlaces (number_of order) bytes ps
-    → changes ps (record { place = 0; len = 8 }) ≡ false
-    → list_any (λ (d : DirectoryPlace). not (is_gps d.context)
-    && list_any (changes ps) (looked_at (number_of order) bytes d.place)) w.directories ≡ false
-    → places_stand_alone (number_of order) bytes ≡ true
-places_parts bytes order ps w h f c p q =
+pub offsets_parts : (bytes : List ℕ) (order : Order) (ps : List Patch) (w : Walked)
+    → header bytes ≡ Ok order → Finds bytes w → ChangeOffsets (number_of order) bytes ps
+    → changes ps (record { offset = 0; len = 8 }) ≡ false
+    → list_any (λ (d : DirectoryOffset). not (is_gps d.context)
+    && list_any (changes ps) (looked_at (number_of order) bytes d.offset)) w.directories ≡ false
+    → gps_stands_alone (number_of order) bytes ≡ true
+offsets_parts bytes order ps w h f c p q =
     ap not (sym (kept_found bytes order ps w h f c)
-    ∙ (ap (λ b. b || list_any (λ (d : DirectoryPlace). not (is_gps d.context)
-    && list_any (changes ps) (looked_at (number_of order) bytes d.place)) w.directories) p ∙ q))
+    ∙ (ap (λ b. b || list_any (λ (d : DirectoryOffset). not (is_gps d.context)
+    && list_any (changes ps) (looked_at (number_of order) bytes d.offset)) w.directories) p ∙ q))
 
 -- ---- the answers
 
@@ -256,14 +256,14 @@ few_told order value e bytes ps h =
     let long = nat_lt (max 4 s.len) (length (encode order value)) in
     let a = passed (nat_lt (length bytes) (e + 12)) shared
     (λ u. answer_in order value e s (length bytes)) ps h in
-    let b = passed (nat_lt (length bytes) (s.place + s.len)) shared
+    let b = passed (nat_lt (length bytes) (s.offset + s.len)) shared
     (λ u. unless (nat_lt (2 ^ 32 - 1) (count_of value)) too_long >>= λ v. unless long too_long
     >>= λ w. Ok (value_patches order value e s)) ps a.1 in
     (passed (nat_lt (2 ^ 32 - 1) (count_of value)) too_long
     (λ v. unless long too_long >>= λ w. Ok (value_patches order value e s)) ps b.1).0
 
 fit_told : (order : Order) (tag : Tag) (value : Value) (e : ℕ) (bytes : List ℕ) (ps : List Patch)
-    → value_answer order value e bytes ≡ Ok ps → names_places tag ≡ false
+    → value_answer order value e bytes ≡ Ok ps → names_offsets tag ≡ false
     → is_unknown value ≡ false
     → fit_answer order tag value e (value_room (number_of order) bytes e) ≡ Ok ps
 fit_told order tag value e bytes ps h n u =
@@ -278,7 +278,7 @@ fit_told order tag value e bytes ps h n u =
 pub set_alone : (bytes : List ℕ) (tag : Tag) (k : In) (value : Value) (read : Read) (e : ℕ)
     (order : Order) (ps : List Patch)
     → find_answer bytes tag k ≡ Ok (read, e) → order ≡ order_named read.little
-    → value_answer order value e bytes ≡ Ok ps → names_places tag ≡ false
+    → value_answer order value e bytes ≡ Ok ps → names_offsets tag ≡ false
     → is_unknown value ≡ false → names_child tag.1 ≡ false → IsRanged value → HasPlainTexts value
     → stands_alone (number_of order) bytes e ≡ true → checked_patches bytes tag k value ≡ Ok ps
 set_alone bytes tag k value read e order ps h o v n u childless ranged plain alone =
@@ -294,9 +294,9 @@ set_alone bytes tag k value read e order ps h o v n u childless ranged plain alo
     ≡ fit_answer order tag value x (value_room (number_of order) bytes x)) w.entry law in
     set_known bytes tag k value n u ∙ (law_at ∙ fit_told order tag value e bytes ps v n u)
 
--- places that stand alone are erased
+-- GPS data that stand alone are erased
 pub erase_alone : (bytes : List ℕ) (order : Order) (ps : List Patch) → header bytes ≡ Ok order
     → ps ≡ map zeros_over (gps_spans (number_of order) bytes)
-    → places_stand_alone (number_of order) bytes ≡ true → erase_patches bytes ≡ Ok ps
+    → gps_stands_alone (number_of order) bytes ≡ true → erase_patches bytes ≡ Ok ps
 erase_alone bytes order ps h z alone =
-    places_unshared bytes order h alone ∙ ap (λ qs. Ok qs) (sym z)
+    gps_unshared bytes order h alone ∙ ap (λ qs. Ok qs) (sym z)

@@ -46,34 +46,34 @@ entry_met T f at' n i b all h e hit inv =
 -- ---- the value of an entry
 
 -- no patch has a byte of nothing at 0
-none_of_nothing : (ps : List Patch) → changes ps (record { place = 0; len = 0 }) ≡ false
+none_of_nothing : (ps : List Patch) → changes ps (record { offset = 0; len = 0 }) ≡ false
 none_of_nothing [] = refl
 none_of_nothing (p ∷ ps) =
-    let a : nat_lt p.place 0 ≡ false = grind (arith, nat_tests) in
-    let b : covers (record { place = 0; len = 0 }) p ≡ false =
-    ap (λ x. nat_lt 0 (p.place + length p.text) && x) a ∙ and-false _ in
-    ap (λ x. x || changes ps (record { place = 0; len = 0 })) b ∙ none_of_nothing ps
+    let a : nat_lt p.offset 0 ≡ false = grind (arith, nat_tests) in
+    let b : covers (record { offset = 0; len = 0 }) p ≡ false =
+    ap (λ x. nat_lt 0 (p.offset + length p.bytes) && x) a ∙ and-false _ in
+    ap (λ x. x || changes ps (record { offset = 0; len = 0 })) b ∙ none_of_nothing ps
 
 -- a span as a stretch
 abbrev pub stretch_of : Span → Stretch
-stretch_of s = record { place = s.place; len = s.len }
+stretch_of s = record { offset = s.offset; len = s.len }
 
 module _ (ps : List Patch) (number : Reading) (bytes : List ℕ) (e : ℕ) where
   abbrev size : ℕ
   size =
       known_length (type_of (number_at number 2 bytes (e + 2))) * number_at number 4 bytes (e + 4)
 
-  abbrev place : ℕ
-  place = number_at number 4 bytes (e + 8)
+  abbrev offset : ℕ
+  offset = number_at number 4 bytes (e + 8)
 
   abbrev span_by : Bool → Span
-  span_by b = if b then nowhere else record { place = place; len = size }
+  span_by b = if b then nowhere else record { offset = offset; len = size }
 
   by_tests : (a b c : Bool) → nat_lt 4 size ≡ a → nat_le size 4 ≡ b
-      → nat_le (place + size) (length bytes) ≡ c
+      → nat_le (offset + size) (length bytes) ≡ c
       → changes ps (stretch_of (within (length bytes) (span_by b)))
       ≡ list_any (changes ps)
-      (if a && c then record { place = place; len = size } ∷ [] else [])
+      (if a && c then record { offset = offset; len = size } ∷ [] else [])
   by_tests true true c p q r = absurd (grind (arith, nat_tests))
   by_tests false false c p q r = absurd (grind (arith, nat_tests))
   by_tests false true c p q r =
@@ -86,17 +86,17 @@ module _ (ps : List Patch) (number : Reading) (bytes : List ℕ) (e : ℕ) where
   pub value_same : changes ps (stretch_of (value_span number bytes e))
       ≡ list_any (changes ps) (value_stretch number bytes e)
   value_same =
-      by_tests (nat_lt 4 size) (nat_le size 4) (nat_le (place + size) (length bytes)) refl refl refl
+      by_tests (nat_lt 4 size) (nat_le size 4) (nat_le (offset + size) (length bytes)) refl refl refl
 
 -- it lies in the data
 pub value_near : (number : Reading) (bytes : List ℕ) (e : ℕ)
-    → (value_span number bytes e).place + (value_span number bytes e).len ≤ length bytes
+    → (value_span number bytes e).offset + (value_span number bytes e).len ≤ length bytes
 value_near number bytes e =
-    by_test (value_room number bytes e) (nat_le ((value_room number bytes e).place +
+    by_test (value_room number bytes e) (nat_le ((value_room number bytes e).offset +
     (value_room number bytes e).len) (length bytes)) refl
   where
-    by_test : (s : Span) (b : Bool) → nat_le (s.place + s.len) (length bytes) ≡ b
-        → (if b then s else nowhere).place + (if b then s else nowhere).len ≤ length bytes
+    by_test : (s : Span) (b : Bool) → nat_le (s.offset + s.len) (length bytes) ≡ b
+        → (if b then s else nowhere).offset + (if b then s else nowhere).len ≤ length bytes
     by_test s true h = grind (arith, nat_tests)
     by_test s false h = omega arith
 

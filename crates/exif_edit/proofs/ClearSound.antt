@@ -13,7 +13,7 @@ use Rattle.exif_base.specs.Orders.{number_of}
 use Rattle.exif_base.specs.declared.endian.Order.{Order}
 use Rattle.exif_base.specs.declared.endian.Order.TheVariants.{Big, Little}
 use Rattle.exif_tiff.specs.Answers.{Whole, answer_of}
-use Rattle.exif_tiff.specs.Trace.{Node, opened, directory_nodes, entry_nodes, chain_after, chain_nodes, content_of, directory_end, entry_places, header, order_of, ordered_trace, whole_entries}
+use Rattle.exif_tiff.specs.Trace.{Node, opened, directory_nodes, entry_nodes, chain_after, chain_nodes, content_of, directory_end, entry_offsets, header, order_of, ordered_trace, whole_entries}
 use Rattle.exif_tiff.specs.declared.fault.Fault.{Fault}
 use Rattle.exif_tiff.specs.declared.fault.Fault.TheVariants.{DataTooLarge, TruncatedHeader, InvalidByteOrder, InvalidFortyTwo}
 use Rattle.exif_table.specs.declared.context.Context.TheVariants.{Tiff}
@@ -25,7 +25,7 @@ use Rattle.exif_edit_base.specs.declared.patch.Patch.{Patch}
 use Rattle.exif_edit_base.proofs.CauseSteps.{bound, data_read, ok_same}
 use Rattle.exif_edit_base.proofs.PatchSteps.{length-put_at, put_before, put_on, put_zero}
 use Rattle.exif_edit_base.proofs.ReadSteps.{header_room}
-use Rattle.exif_edit.specs.Clearing.{IsCleared, clear_patches, clearing, empty_place}
+use Rattle.exif_edit.specs.Clearing.{IsCleared, clear_patches, clearing, empty_offset}
 use Rattle.exif_reader.proofs.TiffAnswers.{raw_right}
 
 -- ---- numbers by their bytes
@@ -146,11 +146,11 @@ chain_at_8 : (order : Order) (xs : List ℕ) → 14 ≤ length xs → ((i : ℕ)
     → content_of (chain_nodes 8 (number_of order) xs 0 8) ≡ content_of []
 chain_at_8 order xs l z =
     no_nodes (entry_nodes (directory_nodes 2 (number_of order) xs 0) (number_of order) xs Tiff 0 8)
-    (chain_nodes 7 (number_of order) xs (0 + 1)) (entry_places (number_of order) xs 8)
-    (directory_end (number_of order) xs 8) places (end_at_8 order xs l z) refl
+    (chain_nodes 7 (number_of order) xs (0 + 1)) (entry_offsets (number_of order) xs 8)
+    (directory_end (number_of order) xs 8) offsets (end_at_8 order xs l z) refl
   where
-    places : entry_places (number_of order) xs 8 ≡ []
-    places =
+    offsets : entry_offsets (number_of order) xs 8 ≡ []
+    offsets =
         let c : number_at (number_of order) 2 xs 8 ≡ 0 =
         number_zero order 2 (drop 8 xs) (λ k. at_behind xs 8 k ∙ z (8 + k) (omega arith)) in
         let w : whole_entries (number_of order) xs 8 ≡ 0 =
@@ -166,11 +166,11 @@ behind_all xs i h = grind (arith, common_steps)
 record Made (order : Order) (xs new : List ℕ) : Type 0 where
   as_long : length new ≡ length xs
   front : (k : ℕ) → k < 4 → get_or new k 0 ≡ get_or xs k 0
-  first : number_at (number_of order) 4 new 4 ≡ empty_place (length xs)
+  first : number_at (number_of order) 4 new 4 ≡ empty_offset (length xs)
   zeros : (i : ℕ) → 8 ≤ i → get_or new i 0 ≡ 0
 
-small_place : (n : ℕ) → empty_place n < 256 ^ 4
-small_place n = by_test (nat_lt n 14)
+small_offset : (n : ℕ) → empty_offset n < 256 ^ 4
+small_offset n = by_test (nat_lt n 14)
   where
     by_test : (b : Bool) → (if b then 0 else 8) < 256 ^ 4
     by_test true = omega arith
@@ -179,9 +179,9 @@ small_place n = by_test (nat_lt n 14)
 made : (order : Order) (xs : List ℕ) → 8 ≤ length xs
     → Made order xs (patched (clearing order (length xs)) xs)
 made order xs h =
-    let text = spelled order 4 (empty_place (length xs)) in
+    let text = spelled order 4 (empty_offset (length xs)) in
     let zs : List ℕ = replicate (length xs - 8) 0 in
-    let ls : length text ≡ 4 = length_spelled order 4 (empty_place (length xs)) in
+    let ls : length text ≡ 4 = length_spelled order 4 (empty_offset (length xs)) in
     let lz : length zs ≡ length xs - 8 = length-replicate (length xs - 8) 0 in
     let a = put_at 4 text xs in
     let fa : 4 + length text ≤ length xs = omega arith in
@@ -198,7 +198,7 @@ made order xs h =
           ∙ (put_before 8 zs a (4 + k) fz (omega arith)
           ∙ (put_on 4 text xs (4 + k) fa (omega arith) (omega arith)
           ∙ ap (λ j. get_or text j 0) (less_four k))))
-          ∙ number_back order 4 (empty_place (length xs)) (small_place (length xs));
+          ∙ number_back order 4 (empty_offset (length xs)) (small_offset (length xs));
       zeros = λ i l. by_test i l (nat_lt i (length xs)) refl a la fn ln;
     }
   where
@@ -231,7 +231,7 @@ nothing_shown : (lenient : Bool) → answer_of lenient (content_of []) ≡ Whole
 nothing_shown true = refl
 nothing_shown false = refl
 
--- with a good header all fields are erased by a new first place and zeros behind the header
+-- with a good header all fields are erased by a new first offset and zeros behind the header
 pub clear_is : (bytes : List ℕ) (order : Order) → header bytes ≡ Ok order
     → clear_patches bytes ≡ Ok (clearing order (length bytes))
 unfolding clear_patches
@@ -262,11 +262,11 @@ clear_sound old order h =
 -- the patches lie in the data
 clearing_fits : (order : Order) (n : ℕ) → 8 ≤ n → All (FitsIn n) (clearing order n)
 clearing_fits order n h =
-    let text = spelled order 4 (empty_place n) in
-    let zs = zeros_over (record { place = 8; len = n - 8 }) in
-    let ls : length text ≡ 4 = length_spelled order 4 (empty_place n) in
-    let lz : length zs.text ≡ n - 8 = length-replicate (n - 8) 0 in
-    All-cons (FitsIn n) (record { place = 4; text = text }) (zs ∷ []) (omega arith)
+    let text = spelled order 4 (empty_offset n) in
+    let zs = zeros_over (record { offset = 8; len = n - 8 }) in
+    let ls : length text ≡ 4 = length_spelled order 4 (empty_offset n) in
+    let lz : length zs.bytes ≡ n - 8 = length-replicate (n - 8) 0 in
+    All-cons (FitsIn n) (record { offset = 4; bytes = text }) (zs ∷ []) (omega arith)
     (All-cons (FitsIn n) zs [] (omega arith) (All-nil (FitsIn n)))
 
 -- what answered patches are
@@ -286,7 +286,7 @@ clear_fits bytes ps e =
     (clearing_fits w.0 (length bytes) (header_room bytes w.0 w.1).0)
 
 -- what the two steps in place make
-pub cleared_bytes : (order : Order) (xs a new : List ℕ) (p : ℕ) → p ≡ empty_place (length xs)
+pub cleared_bytes : (order : Order) (xs a new : List ℕ) (p : ℕ) → p ≡ empty_offset (length xs)
     → a ≡ put_at 4 (spelled order 4 p) xs → length a ≡ length xs
     → new ≡ put_at 8 (replicate (length a - 8) 0) a → new ≡ patched (clearing order (length xs)) xs
 cleared_bytes order xs a new p e f l g =

@@ -12,7 +12,7 @@ use Rattle.std.proofs.lemmas.List.Elements.{All-nil, All-cons}
 use Rattle.exif_base.specs.Bytes.{Reading}
 use Rattle.exif_base.specs.Orders.{number_of, order_named}
 use Rattle.exif_types.specs.FieldEq.{field_eq, field_Decides}
-use Rattle.exif_tiff.specs.Trace.{trace, fields_of, faults_of, whole_entries, entry_places}
+use Rattle.exif_tiff.specs.Trace.{trace, fields_of, faults_of, whole_entries, entry_offsets}
 use Rattle.exif_tiff.specs.declared.fault.Fault.{Fault}
 use Rattle.exif_edit_base.specs.Causes.{of_data, shared}
 use Rattle.exif_edit_base.specs.Patches.{FitsIn, patched, zeros_over}
@@ -36,22 +36,22 @@ pub within-append : (n : ℕ) (xs ys : List Span) → AllWithin n xs → AllWith
 within-append n [] ys h k = k
 within-append n (x ∷ xs) ys h k = (h.0, within-append n xs ys h.1 k)
 
-clipped_within : (total : ℕ) (s : Span) → (clipped total s).place + (clipped total s).len ≤ total
-clipped_within total s = by_test (nat_le s.place total) refl
+clipped_within : (total : ℕ) (s : Span) → (clipped total s).offset + (clipped total s).len ≤ total
+clipped_within total s = by_test (nat_le s.offset total) refl
   where
-    by_test : (b : Bool) → nat_le s.place total ≡ b
-        → (if b then record { place = s.place; len = min s.len (total - s.place) } else
-        nowhere).place +
-        (if b then record { place = s.place; len = min s.len (total - s.place) } else nowhere).len ≤
+    by_test : (b : Bool) → nat_le s.offset total ≡ b
+        → (if b then record { offset = s.offset; len = min s.len (total - s.offset) } else
+        nowhere).offset +
+        (if b then record { offset = s.offset; len = min s.len (total - s.offset) } else nowhere).len ≤
         total
-    by_test true e = let h : s.place ≤ total = grind (arith, nat_tests) in omega arith
+    by_test true e = let h : s.offset ≤ total = grind (arith, nat_tests) in omega arith
     by_test false e = omega arith
 
-within_within : (total : ℕ) (s : Span) → (within total s).place + (within total s).len ≤ total
-within_within total s = by_test (nat_le (s.place + s.len) total) refl
+within_within : (total : ℕ) (s : Span) → (within total s).offset + (within total s).len ≤ total
+within_within total s = by_test (nat_le (s.offset + s.len) total) refl
   where
-    by_test : (b : Bool) → nat_le (s.place + s.len) total ≡ b
-        → (if b then s else nowhere).place + (if b then s else nowhere).len ≤ total
+    by_test : (b : Bool) → nat_le (s.offset + s.len) total ≡ b
+        → (if b then s else nowhere).offset + (if b then s else nowhere).len ≤ total
     by_test true e = grind (arith, nat_tests)
     by_test false e = omega arith
 
@@ -76,9 +76,9 @@ directories_within number bytes (q ∷ qs) =
     within-append (length bytes) (directory_spans number bytes q)
     (flat_map (directory_spans number bytes) qs) (
       clipped_within (length bytes)
-          (record { place = q; len = 2 + 12 * whole_entries number bytes q + 4 }),
+          (record { offset = q; len = 2 + 12 * whole_entries number bytes q + 4 }),
       gps_values_within
-          number bytes (entry_places number bytes q),
+          number bytes (entry_offsets number bytes q),
     )
     (directories_within number bytes qs)
 

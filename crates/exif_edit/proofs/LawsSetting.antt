@@ -27,11 +27,11 @@ use Rattle.exif_edit.specs.Setting.{entry_text, room_text, set_answer, set_patch
 use Rattle.exif_edit.proofs.SetSound.{Fits, WasSet, both, value_fits, value_lengths, was_set}
 
 -- whether a patch touches the byte at i
-touched : (p : Patch) (i : ℕ) → Misses i p ⊎ ((p.place ≤ i) × (i < p.place + length p.text))
-touched p i = by_test (nat_lt i p.place) (nat_lt i (p.place + length p.text)) refl refl
+touched : (p : Patch) (i : ℕ) → Misses i p ⊎ ((p.offset ≤ i) × (i < p.offset + length p.bytes))
+touched p i = by_test (nat_lt i p.offset) (nat_lt i (p.offset + length p.bytes)) refl refl
   where
-    by_test : (a b : Bool) → nat_lt i p.place ≡ a → nat_lt i (p.place + length p.text) ≡ b
-        → Misses i p ⊎ ((p.place ≤ i) × (i < p.place + length p.text))
+    by_test : (a b : Bool) → nat_lt i p.offset ≡ a → nat_lt i (p.offset + length p.bytes) ≡ b
+        → Misses i p ⊎ ((p.offset ≤ i) × (i < p.offset + length p.bytes))
     by_test true b e f = inl (inl (grind (arith, nat_tests)))
     by_test false true e f = inr (grind (arith, nat_tests), grind (arith, nat_tests))
     by_test false false e f = inl (inr (grind (arith, nat_tests)))
@@ -46,23 +46,23 @@ same_at (q ∷ qs) xs ys i l f k =
     let fx = All-head (FitsIn (length xs)) q qs f in
     let g = fit_in (length xs) (length ys) (q ∷ qs) l f in
     let fy = All-head (FitsIn (length ys)) q qs g in
-    let m : length (put_at q.place q.text xs) ≡ length (put_at q.place q.text ys) =
+    let m : length (put_at q.offset q.bytes xs) ≡ length (put_at q.offset q.bytes ys) =
     grind (arith, common_steps) in
-    same_at qs (put_at q.place q.text xs) (put_at q.place q.text ys) i m (fit_behind q qs xs f)
+    same_at qs (put_at q.offset q.bytes xs) (put_at q.offset q.bytes ys) i m (fit_behind q qs xs f)
     (by_touch (touched q i) fx fy)
   where
-    by_touch : Misses i q ⊎ ((q.place ≤ i) × (i < q.place + length q.text))
-        → q.place + length q.text ≤ length xs → q.place + length q.text ≤ length ys
+    by_touch : Misses i q ⊎ ((q.offset ≤ i) × (i < q.offset + length q.bytes))
+        → q.offset + length q.bytes ≤ length xs → q.offset + length q.bytes ≤ length ys
         → All (Misses i) qs
-        → get_or (put_at q.place q.text xs) i 0 ≡ get_or (put_at q.place q.text ys) i 0
+        → get_or (put_at q.offset q.bytes xs) i 0 ≡ get_or (put_at q.offset q.bytes ys) i 0
     by_touch (inl (inl a)) fx fy m =
-        put_before q.place q.text xs i fx a
-        ∙ (k (All-cons (Misses i) q qs (inl a) m) ∙ sym (put_before q.place q.text ys i fy a))
+        put_before q.offset q.bytes xs i fx a
+        ∙ (k (All-cons (Misses i) q qs (inl a) m) ∙ sym (put_before q.offset q.bytes ys i fy a))
     by_touch (inl (inr a)) fx fy m =
-        put_behind q.place q.text xs i fx a
-        ∙ (k (All-cons (Misses i) q qs (inr a) m) ∙ sym (put_behind q.place q.text ys i fy a))
+        put_behind q.offset q.bytes xs i fx a
+        ∙ (k (All-cons (Misses i) q qs (inr a) m) ∙ sym (put_behind q.offset q.bytes ys i fy a))
     by_touch (inr a) fx fy m =
-        put_on q.place q.text xs i fx a.0 a.1 ∙ sym (put_on q.place q.text ys i fy a.0 a.1)
+        put_on q.offset q.bytes xs i fx a.0 a.1 ∙ sym (put_on q.offset q.bytes ys i fy a.0 a.1)
 
 -- ---- patches of one room and one entry
 
@@ -70,12 +70,12 @@ same_at (q ∷ qs) xs ys i l f k =
 parts : (P : Patch → Type 0) (order : Order) (value : Value) (e : ℕ) (s : Span)
     → All P (value_patches order value e s)
     → ((s.len == 0) ≡ false
-    → P (record { place = s.place; text = room_text s.len (encode order value) }))
-    × P (record { place = e + 2; text = entry_text order value s.place (encode order value) })
+    → P (record { offset = s.offset; bytes = room_text s.len (encode order value) }))
+    × P (record { offset = e + 2; bytes = entry_text order value s.offset (encode order value) })
 parts P order value e s h =
     by_test (s.len == 0) refl
-    (record { place = s.place; text = room_text s.len (encode order value) })
-    (record { place = e + 2; text = entry_text order value s.place (encode order value) }) h
+    (record { offset = s.offset; bytes = room_text s.len (encode order value) })
+    (record { offset = e + 2; bytes = entry_text order value s.offset (encode order value) }) h
   where
     by_test : (z : Bool) → (s.len == 0) ≡ z → (room entry : Patch)
         → All P ((if z then [] else room ∷ []) ++ entry ∷ [])
@@ -88,14 +88,14 @@ parts P order value e s h =
 misses_too : (order : Order) (first value : Value) (e : ℕ) (s : Span) (i : ℕ)
     → length (room_text s.len (encode order first)) ≡ s.len
     → length (room_text s.len (encode order value)) ≡ s.len
-    → length (entry_text order first s.place (encode order first)) ≡ 10
-    → length (entry_text order value s.place (encode order value)) ≡ 10
+    → length (entry_text order first s.offset (encode order first)) ≡ 10
+    → length (entry_text order value s.offset (encode order value)) ≡ 10
     → All (Misses i) (value_patches order first e s)
     → All (Misses i) (value_patches order value e s)
 misses_too order first value e s i a b c d h =
     let p = parts (Misses i) order first e s h in
     both (Misses i) order value e s
-    (λ f. subst (λ n. (i < s.place) ⊎ (s.place + n ≤ i)) (a ∙ sym b) (p.0 f))
+    (λ f. subst (λ n. (i < s.offset) ⊎ (s.offset + n ≤ i)) (a ∙ sym b) (p.0 f))
     (subst (λ n. (i < e + 2) ⊎ (e + 2 + n ≤ i)) (c ∙ sym d) p.1)
 
 -- ---- the law
@@ -151,7 +151,7 @@ overwritten order first value e old ps rs f g =
     (misses_too order first value e s i a.0 b.0 a.1 b.1
     (subst (λ qs. All (Misses i) qs) f.is m)))))
 
--- the old value, set again after another, gives the bytes from before if the field keeps its place
+-- the old value, set again after another, gives the bytes from before if the field keeps its offset
 pub set_back : (old : List ℕ) (tag : Tag) (k : In) (value first : Value)
     → SetsBack tag k value first old
 set_back old tag k value first new back h0 h1 keep h2 =

@@ -6,8 +6,8 @@ pub mod EraseSteps
 pub mod HeaderMarks
 pub mod LawsSetting
 pub mod NewEntry
-pub mod PlacesKept
-pub mod PlacesUnshared
+pub mod GpsKept
+pub mod GpsUnshared
 pub mod PlanSteps
 pub mod ReadSound
 pub mod RemoveSound

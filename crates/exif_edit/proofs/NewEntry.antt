@@ -13,7 +13,7 @@ use Rattle.exif_tiff.specs.Trace.{entry_value}
 use Rattle.exif_tiff.proofs.Agreement.{bytes_same}
 use Rattle.exif_layout.specs.Encoding.{encode, moved_to, spelled, value_len}
 use Rattle.exif_layout.specs.Layout.{Stands}
-use Rattle.exif_layout.specs.Places.{Written}
+use Rattle.exif_layout.specs.Offsets.{Written}
 use Rattle.exif_layout.specs.Slots.{Known}
 use Rattle.exif_layout.proofs.Images.Entries.{counted, fits_known, value_is}
 use Rattle.exif_layout.proofs.Images.Standing.{number_read, stands_left, stands_of, stands_right, length_spelled}
@@ -23,33 +23,33 @@ use Rattle.exif_edit_base.specs.Patches.{padded, patched, put_at}
 use Rattle.exif_edit_base.specs.declared.patch.Patch.{Patch}
 use Rattle.exif_edit_base.specs.declared.patch.Span.{Span}
 use Rattle.exif_edit_base.proofs.PatchSteps.{length-put_at, put_before, put_behind}
-use Rattle.exif_edit.specs.Setting.{element_text, entry_text, is_small, room_patches, room_text, set_place, value_room}
+use Rattle.exif_edit.specs.Setting.{element_text, entry_text, is_small, room_patches, room_text, set_offset, value_room}
 use Rattle.exif_edit.proofs.SetSound.{Fits, value_lengths}
 
 -- what was put stands
-put_stands : (place : ℕ) (text bytes : List ℕ) → place + length text ≤ length bytes
-    → Stands (put_at place text bytes) place text
-put_stands place text bytes h =
-    stands_of (put_at place text bytes) (take place bytes) text (drop (place + length text) bytes)
-    place refl (length-take-le place bytes (omega arith))
+put_stands : (offset : ℕ) (text bytes : List ℕ) → offset + length text ≤ length bytes
+    → Stands (put_at offset text bytes) offset text
+put_stands offset text bytes h =
+    stands_of (put_at offset text bytes) (take offset bytes) text (drop (offset + length text) bytes)
+    offset refl (length-take-le offset bytes (omega arith))
 
 -- what stands elsewhere stands on
-stands_on : (place : ℕ) (text bytes : List ℕ) (q : ℕ) (other : List ℕ)
-    → place + length text ≤ length bytes → (q + length other ≤ place) ⊎ (place + length text ≤ q)
-    → Stands bytes q other → Stands (put_at place text bytes) q other
-stands_on place text bytes q other h apart s =
-    let len = length-put_at place text bytes h in
+stands_on : (offset : ℕ) (text bytes : List ℕ) (q : ℕ) (other : List ℕ)
+    → offset + length text ≤ length bytes → (q + length other ≤ offset) ⊎ (offset + length text ≤ q)
+    → Stands bytes q other → Stands (put_at offset text bytes) q other
+stands_on offset text bytes q other h apart s =
+    let len = length-put_at offset text bytes h in
     let within = s.within in
     record {
       within = omega (arith, len);
-      there = bytes_same (put_at place text bytes) bytes q (length other) len by_place ∙ s.there;
+      there = bytes_same (put_at offset text bytes) bytes q (length other) len by_offset ∙ s.there;
     }
   where
-    by_place : (i : ℕ) → q ≤ i → i < q + length other
-        → slice_index (put_at place text bytes) i ≡ slice_index bytes i
-    by_place i low high = elim apart [
-      | inl a ↦ put_before place text bytes i h (omega arith)
-      | inr a ↦ put_behind place text bytes i h (omega arith)
+    by_offset : (i : ℕ) → q ≤ i → i < q + length other
+        → slice_index (put_at offset text bytes) i ≡ slice_index bytes i
+    by_offset i low high = elim apart [
+      | inl a ↦ put_before offset text bytes i h (omega arith)
+      | inr a ↦ put_behind offset text bytes i h (omega arith)
     ]
 
 -- ---- both patches
@@ -57,8 +57,8 @@ stands_on place text bytes q other h apart s =
 module _ (order : Order) (value : Value) (e : ℕ) (bytes : List ℕ) (ps : List Patch)
     (f : Fits order value e bytes ps)
     (apart : ((value_room (number_of order) bytes e).len ≡ 0)
-    ⊎ (((value_room (number_of order) bytes e).place + (value_room (number_of order) bytes e).len ≤ e)
-    ⊎ (e + 12 ≤ (value_room (number_of order) bytes e).place))) where
+    ⊎ (((value_room (number_of order) bytes e).offset + (value_room (number_of order) bytes e).len ≤ e)
+    ⊎ (e + 12 ≤ (value_room (number_of order) bytes e).offset))) where
   abbrev text : List ℕ
   text = encode order value
 
@@ -69,7 +69,7 @@ module _ (order : Order) (value : Value) (e : ℕ) (bytes : List ℕ) (ps : List
   out = patched ps bytes
 
   abbrev entry : List ℕ
-  entry = entry_text order value room.place text
+  entry = entry_text order value room.offset text
 
   -- the bytes with what goes into the room
   abbrev roomed : List ℕ
@@ -77,25 +77,25 @@ module _ (order : Order) (value : Value) (e : ℕ) (bytes : List ℕ) (ps : List
 
   put_in_room : (z : Bool) → (room.len == 0) ≡ z
       → ((length roomed ≡ length bytes)
-      × (z ≡ false → Stands roomed room.place (room_text room.len text)))
+      × (z ≡ false → Stands roomed room.offset (room_text room.len text)))
   put_in_room true z = (rw z refl, λ no. absurd (false≢true (sym no)))
   put_in_room false z =
       let lens = value_lengths order value room f.text in
       let len = lens.0 in
       let far = f.far in
-      let fits : room.place + length (room_text room.len text) ≤ length bytes = omega (arith, len) in (
-        rw z (length-put_at room.place (room_text room.len text) bytes fits),
-        λ no. rw z (put_stands room.place (room_text room.len text) bytes fits),
+      let fits : room.offset + length (room_text room.len text) ≤ length bytes = omega (arith, len) in (
+        rw z (length-put_at room.offset (room_text room.len text) bytes fits),
+        λ no. rw z (put_stands room.offset (room_text room.len text) bytes fits),
       )
 
   out_is : out ≡ put_at (e + 2) entry roomed
   out_is = ap (λ qs. patched qs bytes) f.is ∙ by_room (room.len == 0)
     where
       by_room : (z : Bool)
-          → patched ((if z then [] else record { place = room.place; text = room_text room.len text }
-          ∷ []) ++ record { place = e + 2; text = entry } ∷ []) bytes
+          → patched ((if z then [] else record { offset = room.offset; bytes = room_text room.len text }
+          ∷ []) ++ record { offset = e + 2; bytes = entry } ∷ []) bytes
           ≡ put_at (e + 2) entry
-          (patched (if z then [] else record { place = room.place; text = room_text room.len text }
+          (patched (if z then [] else record { offset = room.offset; bytes = room_text room.len text }
           ∷ []) bytes)
       by_room true = refl
       by_room false = refl
@@ -113,7 +113,7 @@ module _ (order : Order) (value : Value) (e : ℕ) (bytes : List ℕ) (ps : List
   entry_stands = rw out_is (put_stands (e + 2) entry roomed entry_fits)
 
   -- a long value stands in the room
-  room_stands : is_small text ≡ false → Stands out room.place text
+  room_stands : is_small text ≡ false → Stands out room.offset text
   room_stands long =
       let fit = f.text in
       let more : 4 < length text = grind (arith, nat_tests) in
@@ -123,7 +123,7 @@ module _ (order : Order) (value : Value) (e : ℕ) (bytes : List ℕ) (ps : List
       let ten = lens.1 in
       let held = put_in_room (room.len == 0) refl in
       let whole = held.1 some in
-      let here = stands_on (e + 2) entry roomed room.place (room_text room.len text) entry_fits
+      let here = stands_on (e + 2) entry roomed room.offset (room_text room.len text) entry_fits
       (elim apart [
         | inl none ↦ absurd (omega (arith, none))
         | inr (inl a) ↦ inl (omega (arith, len))
@@ -131,17 +131,17 @@ module _ (order : Order) (value : Value) (e : ℕ) (bytes : List ℕ) (ps : List
       ]) whole in
       let spelt : room_text room.len text ≡ text ++ replicate (room.len - length text) 0 =
       rw long refl in
-      stands_left out text (replicate (room.len - length text) 0) room.place
+      stands_left out text (replicate (room.len - length text) 0) room.offset
       (rw (out_is, ← spelt) here)
 
-  -- an entry has the readable value that was put into it, with the place where its bytes now stand
+  -- an entry has the readable value that was put into it, with the offset where its bytes now stand
   pub new_value : IsReadable value → length out < 256 ^ 4 → count_of value < 256 ^ 4
       → entry_value (number_of order) out e
-      ≡ Some (moved_to (set_place room.place e text) value)
+      ≡ Some (moved_to (set_offset room.offset e text) value)
   new_value h small few =
       let type_text : List ℕ = spelled order 2 (type_number value) in
       let count_text : List ℕ = spelled order 4 (count_of value) in
-      let last : List ℕ = element_text order room.place text in
+      let last : List ℕ = element_text order room.offset text in
       let tl : length type_text ≡ 2 = length_spelled order 2 (type_number value) in
       let cl : length count_text ≡ 4 = length_spelled order 4 (count_of value) in
       let s = entry_stands in
@@ -157,14 +157,14 @@ module _ (order : Order) (value : Value) (e : ℕ) (bytes : List ℕ) (ps : List
       by_size (is_small text) refl size type count ls
     where
       written : ℕ → Written
-      written place = record { tag = 0; content = Known value; value = value; place = place }
+      written offset = record { tag = 0; content = Known value; value = value; offset = offset }
 
       by_size : (t : Bool) → is_small text ≡ t → length text ≡ value_len value
           → number_at (number_of order) 2 out (e + 2) ≡ type_number value
           → number_at (number_of order) 4 out (e + 4) ≡ count_of value
-          → Stands out (e + 8) (if t then padded 4 text else spelled order 4 room.place)
+          → Stands out (e + 8) (if t then padded 4 text else spelled order 4 room.offset)
           → entry_value (number_of order) out e
-          ≡ Some (moved_to (if t then e + 8 else room.place) value)
+          ≡ Some (moved_to (if t then e + 8 else room.offset) value)
       by_size true t size type count s =
           let fit : nat_le (value_len value) 4 ≡ true = ap (λ n. nat_le n 4) (sym size) ∙ t in
           value_is order out small (written (e + 8)) e h type count true fit
@@ -172,5 +172,5 @@ module _ (order : Order) (value : Value) (e : ℕ) (bytes : List ℕ) (ps : List
           (λ no. absurd (false≢true (sym no)))
       by_size false t size type count s =
           let fit : nat_le (value_len value) 4 ≡ false = ap (λ n. nat_le n 4) (sym size) ∙ t in
-          value_is order out small (written room.place) e h type count false fit s
+          value_is order out small (written room.offset) e h type count false fit s
           (λ no. absurd (false≢true no)) (λ x. room_stands t)

@@ -17,7 +17,7 @@ use Rattle.exif_types.specs.declared.tag.Tag.{Tag}
 use Rattle.exif_text.specs.declared.ifd.In.{In}
 use Rattle.exif_tiff.specs.Trace.{trace, fields_of, faults_of, whole_entries}
 use Rattle.exif_tiff.specs.declared.fault.Fault.{Fault}
-use Rattle.exif_edit_base.specs.Causes.{Cause, no_field, of_data, place_named, shared}
+use Rattle.exif_edit_base.specs.Causes.{Cause, no_field, of_data, offset_named, shared}
 use Rattle.exif_edit_base.specs.Patches.{FitsIn, inside, patched, zeros_over}
 use Rattle.exif_edit_base.specs.Locations.{located}
 use Rattle.exif_edit_base.specs.Readings.{Read, reading}
@@ -26,11 +26,11 @@ use Rattle.exif_edit_base.specs.declared.patch.Span.{Span}
 use Rattle.exif_edit_base.proofs.CauseSteps.{bound, data_read, passed, tested}
 use Rattle.exif_edit_base.proofs.FindSteps.{field_of, header_named}
 use Rattle.exif_edit_base.specs.Walked.{entry_of}
-use Rattle.exif_edit_base.proofs.PatchSteps.{AllWithin, Misses, length-patched, outside_place, patched_outside, zeroed_at}
+use Rattle.exif_edit_base.proofs.PatchSteps.{AllWithin, Misses, length-patched, outside_offset, patched_outside, zeroed_at}
 use Rattle.exif_edit.specs.Erasing.{directory_span}
 use Rattle.exif_edit.specs.Promises.{IsFieldErased, ReadAs, named_directories, told_by}
 use Rattle.exif_edit.specs.Removing.{directories_with, directory_patches, directory_without, entries_with, field_patches, named_removals, named_spans, named_values, read_without, removals, removals_from, still_reads, taken_spans, untold, without_named}
-use Rattle.exif_edit.specs.Setting.{names_places}
+use Rattle.exif_edit.specs.Setting.{names_offsets}
 use Rattle.exif_edit_base.proofs.LawsLocated.{located_fields}
 use Rattle.exif_edit.proofs.EraseSound.{values_within, within-append, zeros_fit}
 use Rattle.exif_edit.proofs.ReadSound.{reads_are}
@@ -46,7 +46,7 @@ directory_fits order bytes n p =
     by_test (nat_le (p + length (directory_without order bytes n p)) (length bytes)) refl
   where
     q : Patch
-    q = record { place = p; text = directory_without order bytes n p }
+    q = record { offset = p; bytes = directory_without order bytes n p }
 
     by_test : (b : Bool)
         → nat_le (p + length (directory_without order bytes n p)) (length bytes) ≡ b
@@ -100,7 +100,7 @@ directory_misses order bytes n p i h =
     by_test (nat_le (p + length (directory_without order bytes n p)) (length bytes)) refl
   where
     q : Patch
-    q = record { place = p; text = directory_without order bytes n p }
+    q = record { offset = p; bytes = directory_without order bytes n p }
 
     by_test : (b : Bool)
         → nat_le (p + length (directory_without order bytes n p)) (length bytes) ≡ b
@@ -112,14 +112,14 @@ directory_misses order bytes n p i h =
         let m = directory_length order bytes n p in
         let s : inside i
         (record {
-          place = p;
+          offset = p;
           len = min (2 + 12 * whole_entries (number_of order) bytes p + 4)
               (length bytes - p);
         }) ≡ false = rw t at h in
         let o : Misses i q =
-        elim (outside_place i
+        elim (outside_offset i
         (record {
-          place = p;
+          offset = p;
           len = min (2 + 12 * whole_entries (number_of order) bytes p + 4)
               (length bytes - p);
         }) s) as (λ x. Misses i q) [
@@ -217,15 +217,15 @@ pub record WasRemoved (bytes : List ℕ) (tag : Tag) (k : In) (ps : List Patch) 
   pub fields : untold found.fields ≡ untold (without_named tag k read.fields)
   pub fewer : length found.faults ≤ length read.faults
 
-from_places : (bytes : List ℕ) (tag : Tag) (k : In) (read : Read) (qs : List ℕ) (ps : List Patch)
+from_offsets : (bytes : List ℕ) (tag : Tag) (k : In) (read : Read) (qs : List ℕ) (ps : List Patch)
     → removals_from tag k read bytes qs ≡ Ok ps
     → (ps ≡ removals (order_named read.little) bytes tag.1 qs)
     × (still_reads (patched ps bytes) (read_without tag k read) ≡ true)
-from_places bytes tag k read [] ps e = absurd (err_ok e)
+from_offsets bytes tag k read [] ps e = absurd (err_ok e)
   where
     err_ok : ◌≡◌ {A = Result (List Patch) Cause} (Err no_field) (Ok ps) → ⊥
     err_ok e = cc
-from_places bytes tag k read (q ∷ qs) ps e =
+from_offsets bytes tag k read (q ∷ qs) ps e =
     let rs = removals (order_named read.little) bytes tag.1 (q ∷ qs) in
     let t = tested (still_reads (patched rs bytes) (read_without tag k read)) rs ps shared e in
     (sym t.1, subst (λ xs. still_reads (patched xs bytes) (read_without tag k read) ≡ true) t.1 t.0)
@@ -238,7 +238,7 @@ was_removed bytes tag k ps e =
     let a = bound (of_data (reading bytes))
     (λ read. removals_from tag k read bytes
     (directories_with tag k read.fields (map entry_of (located bytes)))) ps e in
-    let f = from_places bytes tag k a.0
+    let f = from_offsets bytes tag k a.0
     (directories_with tag k a.0.fields (map entry_of (located bytes))) ps a.2 in
     let c = read_by (reading (patched ps bytes)) (read_without tag k a.0) f.1 in
     record {
@@ -256,7 +256,7 @@ pub named_of_field : (bytes : List ℕ) (tag : Tag) (k : In) (ps : List Patch)
     → field_patches bytes tag k ≡ Ok ps → named_removals bytes tag k ≡ Ok ps
 unfolding field_patches
 named_of_field bytes tag k ps e =
-    (passed (names_places tag) place_named (λ u. named_removals bytes tag k) ps e).1
+    (passed (names_offsets tag) offset_named (λ u. named_removals bytes tag k) ps e).1
 
 -- the patches that take the entries of a name out lie in the data
 pub named_fits : (bytes : List ℕ) (tag : Tag) (k : In) (ps : List Patch)

@@ -18,7 +18,7 @@ use Rattle.exif_layout.specs.Encoding.{spelled}
 use Rattle.exif_layout.proofs.Images.Standing.{length_spelled}
 use Rattle.exif_reader.specs.declared.stop.Stop.{Stop}
 use Rattle.exif_reader.specs.declared.stop.Stop.TheVariants as stop
-use Rattle.exif_edit_base.specs.Causes.{Becomes, Fails, no_field, place_named}
+use Rattle.exif_edit_base.specs.Causes.{Becomes, Fails, no_field, offset_named}
 use Rattle.exif_edit_base.specs.Locations.{located}
 use Rattle.exif_edit_base.specs.Readings.{Read, ReadsTo, reading}
 use Rattle.exif_edit_base.specs.declared.error.Error.{Error}
@@ -28,9 +28,9 @@ use Rattle.exif_edit_base.specs.Patches.{padded, zeros_over}
 use Rattle.exif_edit_base.specs.declared.patch.Span.{Span}
 use Rattle.exif_edit_base.proofs.FindSteps.{field_of, fields_read}
 use Rattle.exif_edit.specs.Removing.{checked_removals, directories_with, directory_without, entries_text, field_patches, has_tag, named_removals, next_text, read_without, removals, removals_from, without_named}
-use Rattle.exif_edit.specs.Setting.{names_places}
+use Rattle.exif_edit.specs.Setting.{names_offsets}
 use Rattle.exif_edit.proofs.SetSound.{length-padded}
-use Rattle.exif_tiff.specs.declared.place.EntryPlace.{EntryPlace}
+use Rattle.exif_tiff.specs.declared.offset.EntryOffset.{EntryOffset}
 use Rattle.exif_tiff.proofs.VisitBound.{length-spaced}
 use Rattle.exif_reader.proofs.ParserRuns.{spaced_step}
 
@@ -106,34 +106,34 @@ text_fits order bytes t p n count next =
     let y = length-append (spelled order 2 count) (entries_text bytes es ++ next) in
     omega arith
 
--- the count, the entries that are kept and the next place have room in the old directory
-pub whole_fits : (order : Order) (bytes : List ℕ) (number place count kept : ℕ)
+-- the count, the entries that are kept and the next offset have room in the old directory
+pub whole_fits : (order : Order) (bytes : List ℕ) (number offset count kept : ℕ)
     (text next whole : List ℕ)
     → text ≡ entries_text bytes
-    (filter (λ e. not (has_tag (number_of order) bytes number e)) (spaced (place + 2) 12 count))
+    (filter (λ e. not (has_tag (number_of order) bytes number e)) (spaced (offset + 2) 12 count))
     → whole ≡ spelled order 2 kept ++ (text ++ next)
     → length whole ≤ 2 + 12 * count + length next
-whole_fits order bytes number place count kept text next whole t w =
+whole_fits order bytes number offset count kept text next whole t w =
     let test : ℕ → Bool = λ e. not (has_tag (number_of order) bytes number e) in
-    let fits = text_fits order bytes test (place + 2) count kept next in
+    let fits = text_fits order bytes test (offset + 2) count kept next in
     let z : whole ≡ spelled order 2 kept
-    ++ (entries_text bytes (filter test (spaced (place + 2) 12 count)) ++ next) =
+    ++ (entries_text bytes (filter test (spaced (offset + 2) 12 count)) ++ next) =
     w ∙ ap (λ xs. spelled order 2 kept ++ (xs ++ next)) t in
     rw z fits
 
 -- the parts, put together with zeros behind, are the directory without its entries of a tag
-pub directory_made : (order : Order) (bytes : List ℕ) (number place count kept : ℕ)
+pub directory_made : (order : Order) (bytes : List ℕ) (number offset count kept : ℕ)
     (text next whole new : List ℕ)
-    → count ≡ whole_entries (number_of order) bytes place
+    → count ≡ whole_entries (number_of order) bytes offset
     → kept ≡ length
-    (filter (λ e. not (has_tag (number_of order) bytes number e)) (spaced (place + 2) 12 count))
+    (filter (λ e. not (has_tag (number_of order) bytes number e)) (spaced (offset + 2) 12 count))
     → text ≡ entries_text bytes
-    (filter (λ e. not (has_tag (number_of order) bytes number e)) (spaced (place + 2) 12 count))
-    → next ≡ next_text order (directory_end (number_of order) bytes place)
+    (filter (λ e. not (has_tag (number_of order) bytes number e)) (spaced (offset + 2) 12 count))
+    → next ≡ next_text order (directory_end (number_of order) bytes offset)
     → whole ≡ spelled order 2 kept ++ (text ++ next)
     → new ≡ padded (2 + 12 * count + length next) whole
-    → new ≡ directory_without order bytes number place
-directory_made order bytes number place count kept text next whole new c k t n w p =
+    → new ≡ directory_without order bytes number offset
+directory_made order bytes number offset count kept text next whole new c k t n w p =
     p ∙ rw (w, k, t, n, c) refl
 
 next_length : (order : Order) (x : Result ℕ Fault) → length (next_text order x) ≤ 4
@@ -189,17 +189,17 @@ pub named_from : (bytes : List ℕ) (tag : Tag) (k : In) (read : Read) → readi
 unfolding named_removals
 named_from bytes tag k read h = rw h refl
 
--- as many fields as places
-pub as_many : (bytes : List ℕ) (read : Read) (ps : List EntryPlace) → reading bytes ≡ Ok read
+-- as many fields as offsets
+pub as_many : (bytes : List ℕ) (read : Read) (ps : List EntryOffset) → reading bytes ≡ Ok read
     → ps ≡ map entry_of (located bytes) → length read.fields ≡ length ps
 as_many bytes read ps h w =
     ap (λ (xs : List Field). length xs) (sym (fields_read bytes read h))
     ∙ (length-map (located bytes) field_of
     ∙ (sym (length-map (located bytes) entry_of)
-    ∙ ap (λ (xs : List EntryPlace). length xs) (sym w)))
+    ∙ ap (λ (xs : List EntryOffset). length xs) (sym w)))
 
 -- where no directory has such a field
-pub none_named : (bytes : List ℕ) (tag : Tag) (k : In) (read : Read) (ps : List EntryPlace)
+pub none_named : (bytes : List ℕ) (tag : Tag) (k : In) (read : Read) (ps : List EntryOffset)
     (qs : List ℕ) → reading bytes ≡ Ok read → ps ≡ map entry_of (located bytes)
     → qs ≡ directories_with tag k read.fields ps → (length qs == 0) ≡ true
     → named_removals bytes tag k ≡ Err no_field
@@ -214,7 +214,7 @@ none_named bytes tag k read ps [] h w q n =
     named_from bytes tag k read h ∙ ap (removals_from tag k read bytes) d
 
 -- the patches are the answer if the data are read without the fields then
-pub remove_wanted : (bytes : List ℕ) (tag : Tag) (k : In) (read : Read) (es : List EntryPlace)
+pub remove_wanted : (bytes : List ℕ) (tag : Tag) (k : In) (read : Read) (es : List EntryOffset)
     (qs : List ℕ) (ps : List Patch) (fs : List Field) (order : Order)
     → reading bytes ≡ Ok read → es ≡ map entry_of (located bytes)
     → qs ≡ directories_with tag k read.fields es → order ≡ order_named read.little
@@ -234,13 +234,13 @@ remove_wanted bytes tag k read es (p0 ∷ rest) ps fs order h w q o p f z =
     ∙ sym (named_from bytes tag k read h ∙ ap (removals_from tag k read bytes) d))
 
 -- a field whose values say where other bytes stand is not erased
-pub field_named : (bytes : List ℕ) (tag : Tag) (k : In) → names_places tag ≡ true
-    → field_patches bytes tag k ≡ Err place_named
+pub field_named : (bytes : List ℕ) (tag : Tag) (k : In) → names_offsets tag ≡ true
+    → field_patches bytes tag k ≡ Err offset_named
 unfolding field_patches
 field_named bytes tag k h = rw h refl
 
 -- any other field is erased as its name is taken out of directories
-pub field_else : (bytes : List ℕ) (tag : Tag) (k : In) → names_places tag ≡ false
+pub field_else : (bytes : List ℕ) (tag : Tag) (k : In) → names_offsets tag ≡ false
     → field_patches bytes tag k ≡ named_removals bytes tag k
 unfolding field_patches
 field_else bytes tag k h = rw h refl

@@ -14,9 +14,9 @@ use Rattle.exif_table.specs.declared.context.Context.TheVariants.{Tiff}
 use Rattle.exif_tiff.specs.declared.fault.Fault.{Fault}
 use Rattle.exif_tiff.specs.declared.fault.Fault.TheVariants.{TooManyDirectories, UnexpectedNext}
 use Rattle.exif_tiff.specs.Footprint.{Agree, Below, named, pointed, entry_directories, directories, following, chain_directories}
-use Rattle.exif_tiff.specs.Trace.{Node, Opens, Visit, Found, Met, Directory, Located, field_of, located_of, chain_after, chain_nodes, child_end, child_of, depth_of, directory_end, directory_nodes, entry_nodes, entry_places, entry_value, fields_of, faults_of, ordered_trace, pointer_nodes, tagged_nodes, valued_nodes, whole_entries}
+use Rattle.exif_tiff.specs.Trace.{Node, Opens, Visit, Found, Met, Directory, Located, field_of, located_of, chain_after, chain_nodes, child_end, child_of, depth_of, directory_end, directory_nodes, entry_nodes, entry_offsets, entry_value, fields_of, faults_of, ordered_trace, pointer_nodes, tagged_nodes, valued_nodes, whole_entries}
 use Rattle.exif_tiff.proofs.Agreement.{number_same, part_same, same_of}
-use Rattle.exif_tiff.proofs.Footprints.{all_flat, end_by, places_by, value_same}
+use Rattle.exif_tiff.proofs.Footprints.{all_flat, end_by, offsets_by, value_same}
 use Rattle.exif_tiff.proofs.Members.{all_left, all_right}
 use Rattle.exif_tiff.proofs.ReportBound.{faults-append, fields-append}
 use Rattle.exif_edit_base.specs.Finding.{with_value}
@@ -86,8 +86,8 @@ module _ (order : Order) (a b : List ℕ) (as_long : length a ≡ length b) (e :
   abbrev pub Alike : ℕ → Type 0
   Alike p = AllByRecursion (Agree a b) (beside number a e p)
 
-  places_same : (p : ℕ) → Alike p → entry_places number a p ≡ entry_places number b p
-  places_same p h = places_by order a b as_long p (same_of a b p 2 h.0)
+  offsets_same : (p : ℕ) → Alike p → entry_offsets number a p ≡ entry_offsets number b p
+  offsets_same p h = offsets_by order a b as_long p (same_of a b p 2 h.0)
 
   end_same : (p : ℕ) → Alike p → directory_end number a p ≡ directory_end number b p
   end_same p h =
@@ -170,17 +170,17 @@ module _ (order : Order) (a b : List ℕ) (as_long : length a ≡ length b) (e :
       → Told (directory_nodes depth number a k c p) (directory_nodes depth number b k c p)
   directory_told zero k c p h = (refl, refl)
   directory_told (suc depth) k c p h =
-      rw (← places_same p h.0)
+      rw (← offsets_same p h.0)
       (each (entry_nodes (directory_nodes depth number a k) number a c k p)
       (entry_nodes (directory_nodes depth number b k) number b c k p) EntryAlike
       (λ d. AllByRecursion Alike (entry_directories (directories depth number a) number a c d))
-      (entry_places number a p)
+      (entry_offsets number a p)
       (λ d x y. entry_told (directories depth number a) (directory_nodes depth number a k)
       (directory_nodes depth number b k) (directory_told depth k)
       (λ x q z. end_same q (first_alike depth x q z)) c k p d x y)
-      (all_flat (Agree a b) (other_entry number a e) (entry_places number a p) h.0.1.1)
+      (all_flat (Agree a b) (other_entry number a e) (entry_offsets number a p) h.0.1.1)
       (all_flat Alike (entry_directories (directories depth number a) number a c)
-      (entry_places number a p) h.1))
+      (entry_offsets number a p) h.1))
 
   after_told : (rest : ℕ → List ℕ) (f g : ℕ → List Node) (x : Result ℕ Fault)
       → ((q : ℕ) → AllByRecursion Alike (rest q) → Told (f q) (g q))

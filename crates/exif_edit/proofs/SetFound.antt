@@ -189,27 +189,27 @@ shown_fields false fs gs (x ∷ xs) ys e =
     absurd (false≢true (sym (not_refused gs ys) ∙ sym (ap is_refused e)))
 
 -- where the last field of a name is read with a value, a look-up of the name finds it
-pub replaced_read : (old new : List ℕ) (tag : Tag) (k : In) (value : Value) (place : ℕ) (at : Located)
+pub replaced_read : (old new : List ℕ) (tag : Tag) (k : In) (value : Value) (offset : ℕ) (at : Located)
     → last_located tag k (located old) ≡ Some at
-    → ReadAs new (replaced tag k (moved_to place value) (fields_of (trace old)))
+    → ReadAs new (replaced tag k (moved_to offset value) (fields_of (trace old)))
     (faults_of (trace old))
     → FindsValue tag k value new
-replaced_read old new tag k value place at found reads lenient fields faults e =
+replaced_read old new tag k value offset at found reads lenient fields faults e =
     let fs = fields_of (trace old) in
     let any : list_any (is_named tag k) fs ≡ true =
     subst (λ xs. list_any (is_named tag k) xs ≡ true) (located_fields old)
     (located_any tag k (located old) at found) in
-    let same = shown_fields lenient (replaced tag k (moved_to place value) fs) fields
+    let same = shown_fields lenient (replaced tag k (moved_to offset value) fs) fields
     (faults_of (trace old)) faults (sym (reads lenient) ∙ e) in (
-      place,
+      offset,
       ap (λ xs. last_named xs tag k) (sym same)
-          ∙ replaced_found tag k (moved_to place value) fs any,
+          ∙ replaced_found tag k (moved_to offset value) fs any,
     )
 
 -- once a value was set, a look-up of its name finds it
 pub set_found : (old new : List ℕ) (tag : Tag) (k : In) (value : Value) → IsSet old tag k value new
     → FindsValue tag k value new
-set_found old new tag k value s = replaced_read old new tag k value s.place s.at s.found s.reads
+set_found old new tag k value s = replaced_read old new tag k value s.offset s.at s.found s.reads
 
 -- ---- none of a name is left
 

@@ -14,7 +14,7 @@ use Rattle.exif_tiff.specs.Trace.{fields_of, trace}
 use Rattle.exif_layout.specs.Encoding.{encode, moved_to, spelled}
 use Rattle.exif_layout.specs.Refused.{is_unknown}
 use Rattle.exif_layout.proofs.Images.Standing.{length_spelled}
-use Rattle.exif_edit_base.specs.Causes.{Cause, no_field, of_data, or_cause, place_named, shared, too_long, unknown_type, unless, ◌>>=◌}
+use Rattle.exif_edit_base.specs.Causes.{Cause, no_field, of_data, or_cause, offset_named, shared, too_long, unknown_type, unless, ◌>>=◌}
 use Rattle.exif_edit_base.specs.Finding.{find_answer, last_located, replaced}
 use Rattle.exif_edit_base.specs.Locations.{Located, located}
 use Rattle.exif_edit_base.specs.Patches.{FitsIn, inside, padded, patched}
@@ -23,9 +23,9 @@ use Rattle.exif_edit_base.specs.declared.patch.Patch.{Patch}
 use Rattle.exif_edit_base.specs.declared.patch.Span.{Span}
 use Rattle.exif_edit_base.proofs.CauseSteps.{bound, data_read, ok_same, option_told, passed, tested}
 use Rattle.exif_edit_base.proofs.FindSteps.{header_named}
-use Rattle.exif_edit_base.proofs.PatchSteps.{Misses, length-patched, outside_place, patched_outside}
+use Rattle.exif_edit_base.proofs.PatchSteps.{Misses, length-patched, outside_offset, patched_outside}
 use Rattle.exif_edit.specs.Promises.{IsSet, ReadAs}
-use Rattle.exif_edit.specs.Setting.{answer_in, checked, checked_patches, entry_text, expected, is_small, names_places, room_patches, room_text, set_patches, set_place, value_answer, value_patches, value_room}
+use Rattle.exif_edit.specs.Setting.{answer_in, checked, checked_patches, entry_text, expected, is_small, names_offsets, room_patches, room_text, set_patches, set_offset, value_answer, value_patches, value_room}
 use Rattle.exif_edit.proofs.ReadSound.{reads_are, reads_so}
 
 -- ---- the texts of the patches are as long as their rooms
@@ -47,14 +47,14 @@ length-room len text h = by_test (is_small text) refl
     by_test false e =
         length-padded len text (let l : 4 < length text = grind (arith, nat_tests) in omega arith)
 
-length-entry : (order : Order) (value : Value) (place : ℕ) (text : List ℕ)
-    → length (entry_text order value place text) ≡ 10
-length-entry order value place text = by_test (is_small text) refl
+length-entry : (order : Order) (value : Value) (offset : ℕ) (text : List ℕ)
+    → length (entry_text order value offset text) ≡ 10
+length-entry order value offset text = by_test (is_small text) refl
   where
     by_test : (b : Bool) → is_small text ≡ b
         → length (spelled order 2 (type_number value)
         ++ (spelled order 4 (count_of value)
-        ++ (if b then padded 4 text else spelled order 4 place))) ≡ 10
+        ++ (if b then padded 4 text else spelled order 4 offset))) ≡ 10
     by_test true e =
         let s : length text ≤ 4 = grind (arith, nat_tests) in
         let a = length_spelled order 2 (type_number value) in
@@ -67,10 +67,10 @@ length-entry order value place text = by_test (is_small text) refl
     by_test false e =
         let a = length_spelled order 2 (type_number value) in
         let b = length_spelled order 4 (count_of value) in
-        let c = length_spelled order 4 place in
-        let x = length-append (spelled order 4 (count_of value)) (spelled order 4 place) in
+        let c = length_spelled order 4 offset in
+        let x = length-append (spelled order 4 (count_of value)) (spelled order 4 offset) in
         let y = length-append (spelled order 2 (type_number value))
-        (spelled order 4 (count_of value) ++ spelled order 4 place) in
+        (spelled order 4 (count_of value) ++ spelled order 4 offset) in
         omega arith
 
 -- ---- an edit that fits
@@ -79,17 +79,17 @@ length-entry order value place text = by_test (is_small text) refl
 pub record Fits (order : Order) (value : Value) (e : ℕ) (bytes : List ℕ) (ps : List Patch) : Type 0
   where
     pub whole : e + 12 ≤ length bytes
-    pub far : (value_room (number_of order) bytes e).place +
+    pub far : (value_room (number_of order) bytes e).offset +
         (value_room (number_of order) bytes e).len ≤ length bytes
     pub text : length (encode order value) ≤ max 4 (value_room (number_of order) bytes e).len
     pub is : ps ≡ value_patches order value e (value_room (number_of order) bytes e)
 
 fits_in : (order : Order) (value : Value) (e : ℕ) (s : Span) (n : ℕ) (ps : List Patch)
     → answer_in order value e s n ≡ Ok ps
-    → (s.place + s.len ≤ n) × (length (encode order value) ≤ max 4 s.len)
+    → (s.offset + s.len ≤ n) × (length (encode order value) ≤ max 4 s.len)
     × (ps ≡ value_patches order value e s)
 fits_in order value e s n ps h =
-    let a = passed (nat_lt n (s.place + s.len)) shared
+    let a = passed (nat_lt n (s.offset + s.len)) shared
     (λ u. unless (nat_lt (2 ^ 32 - 1) (count_of value)) too_long >>= λ v. unless
     (nat_lt (max 4 s.len) (length (encode order value))) too_long >>= λ w. Ok
     (value_patches order value e s)) ps h in
@@ -120,8 +120,8 @@ edit_fits_in order value e bytes ps h =
 -- what holds of both patches holds of all
 pub both : (P : Patch → Type 0) (order : Order) (value : Value) (e : ℕ) (s : Span)
     → ((s.len == 0) ≡ false
-    → P (record { place = s.place; text = room_text s.len (encode order value) }))
-    → P (record { place = e + 2; text = entry_text order value s.place (encode order value) })
+    → P (record { offset = s.offset; bytes = room_text s.len (encode order value) }))
+    → P (record { offset = e + 2; bytes = entry_text order value s.offset (encode order value) })
     → All P (value_patches order value e s)
 both P order value e s a b =
     All-append P (room_patches s (encode order value)) _ (by_test (s.len == 0) refl)
@@ -129,7 +129,7 @@ both P order value e s a b =
   where
     by_test : (z : Bool) → (s.len == 0) ≡ z
         → All P (if z then [] else record
-        { place = s.place; text = room_text s.len (encode order value) } ∷ [])
+        { offset = s.offset; bytes = room_text s.len (encode order value) } ∷ [])
     by_test true e = All-nil P
     by_test false e = All-cons P _ [] (a e) (All-nil P)
 
@@ -137,10 +137,10 @@ both P order value e s a b =
 pub value_lengths : (order : Order) (value : Value) (s : Span)
     → length (encode order value) ≤ max 4 s.len
     → (length (room_text s.len (encode order value)) ≡ s.len)
-    × (length (entry_text order value s.place (encode order value)) ≡ 10)
+    × (length (entry_text order value s.offset (encode order value)) ≡ 10)
 value_lengths order value s h = (
   length-room s.len (encode order value) h,
-  length-entry order value s.place
+  length-entry order value s.offset
       (encode order value),
 )
 
@@ -150,7 +150,7 @@ pub value_fits : (order : Order) (value : Value) (e : ℕ) (bytes : List ℕ) (p
 value_fits order value e bytes ps f =
     let s = value_room (number_of order) bytes e in
     let lo = length-room s.len (encode order value) f.text in
-    let li = length-entry order value s.place (encode order value) in
+    let li = length-entry order value s.offset (encode order value) in
     let far = f.far in
     let whole = f.whole in
     subst (λ qs. All (FitsIn (length bytes)) qs) (sym f.is)
@@ -159,15 +159,15 @@ value_fits order value e bytes ps f =
 -- the bytes of neither the room nor the entry
 pub value_misses : (order : Order) (value : Value) (e : ℕ) (bytes : List ℕ) (ps : List Patch) (i : ℕ)
     → Fits order value e bytes ps
-    → inside i (record { place = e + 2; len = 10 }) ≡ false
+    → inside i (record { offset = e + 2; len = 10 }) ≡ false
     → inside i (value_room (number_of order) bytes e) ≡ false → All (Misses i) ps
 value_misses order value e bytes ps i f a b =
     let s = value_room (number_of order) bytes e in
     let lo = length-room s.len (encode order value) f.text in
-    let li = length-entry order value s.place (encode order value) in
-    let x = subst (λ n. (i < s.place) ⊎ (s.place + n ≤ i)) (sym lo) (outside_place i s b) in
+    let li = length-entry order value s.offset (encode order value) in
+    let x = subst (λ n. (i < s.offset) ⊎ (s.offset + n ≤ i)) (sym lo) (outside_offset i s b) in
     let y = subst (λ n. (i < e + 2) ⊎ (e + 2 + n ≤ i)) (sym li)
-    (outside_place i (record { place = e + 2; len = 10 }) a) in
+    (outside_offset i (record { offset = e + 2; len = 10 }) a) in
     subst (λ qs. All (Misses i) qs) (sym f.is) (both (Misses i) order value e s (λ z. x) y)
 
 -- ---- the whole
@@ -241,7 +241,7 @@ pub was_set : (bytes : List ℕ) (ps : List Patch) (tag : Tag) (k : In) (value :
     → set_patches bytes tag k value ≡ Ok ps → WasSet bytes tag k value ps
 unfolding set_patches
 was_set bytes ps tag k value h =
-    let a = passed (names_places tag) place_named
+    let a = passed (names_offsets tag) offset_named
     (λ u. unless (is_unknown value) unknown_type >>= λ v. checked_patches bytes tag k value) ps
     h in
     let b = passed (is_unknown value) unknown_type (λ v. checked_patches bytes tag k value) ps
@@ -264,16 +264,16 @@ set_sound old ps tag k value h =
     let fit = value_fits order value w.at.entry old ps w.fits in
     let r = reads_are old w.read w.reads in
     let s = reads_are (patched ps old) (expected tag k value w.at.entry old w.read) w.reads_new in
-    let place = set_place (value_room (number_of order) old w.at.entry).place w.at.entry
+    let offset = set_offset (value_room (number_of order) old w.at.entry).offset w.at.entry
     (encode order value) in
     record {
       order = order;
       header = header_named old w.read w.reads;
-      place = place;
+      offset = offset;
       reads =
           subst (λ xs. ReadAs (patched ps old)
-          (replaced tag k (moved_to place value) (fields_of (trace old))) xs) r.2
-          (subst (λ xs. ReadAs (patched ps old) (replaced tag k (moved_to place value) xs)
+          (replaced tag k (moved_to offset value) (fields_of (trace old))) xs) r.2
+          (subst (λ xs. ReadAs (patched ps old) (replaced tag k (moved_to offset value) xs)
           w.read.faults) r.1 s.0);
       at = w.at;
       found = w.last;

@@ -11,12 +11,12 @@ use Rattle.exif_types.specs.declared.value.Value.{Value}
 use Rattle.exif_types.specs.declared.field.Field.{Field}
 use Rattle.exif_layout.specs.Encoding.{encode, moved_to}
 use Rattle.exif_layout.specs.Refused.{is_unknown}
-use Rattle.exif_edit_base.specs.Causes.{Cause, place_named, shared, too_long, unknown_type}
+use Rattle.exif_edit_base.specs.Causes.{Cause, offset_named, shared, too_long, unknown_type}
 use Rattle.exif_edit_base.specs.Finding.{find_answer, replaced}
 use Rattle.exif_edit_base.specs.Readings.{Read}
 use Rattle.exif_edit_base.specs.declared.patch.Patch.{Patch}
 use Rattle.exif_edit_base.specs.declared.patch.Span.{Span}
-use Rattle.exif_edit.specs.Setting.{answer_in, checked, checked_patches, expected, names_places, set_patches, set_place, value_answer, value_patches, value_room}
+use Rattle.exif_edit.specs.Setting.{answer_in, checked, checked_patches, expected, names_offsets, set_patches, set_offset, value_answer, value_patches, value_room}
 
 -- ---- one edit
 
@@ -39,30 +39,30 @@ edit_inside order value e bytes s l w =
 -- a value is refused as shared where its old room does not lie in the data
 pub edit_far : (order : Order) (value : Value) (e : ℕ) (bytes : List ℕ) (s : Span)
     → e + 12 ≤ length bytes
-    → s ≡ value_room (number_of order) bytes e → length bytes < s.place + s.len
+    → s ≡ value_room (number_of order) bytes e → length bytes < s.offset + s.len
     → value_answer order value e bytes ≡ Err shared
 edit_far order value e bytes s l w f =
-    let t : nat_lt (length bytes) (s.place + s.len) ≡ true = grind (arith, nat_tests) in
+    let t : nat_lt (length bytes) (s.offset + s.len) ≡ true = grind (arith, nat_tests) in
     edit_inside order value e bytes s l w ∙ rw t refl
 
 -- a value of more than 2^32 - 1 items is too long
 pub edit_many : (order : Order) (value : Value) (e : ℕ) (bytes : List ℕ) (s : Span)
     → e + 12 ≤ length bytes
-    → s ≡ value_room (number_of order) bytes e → s.place + s.len ≤ length bytes
+    → s ≡ value_room (number_of order) bytes e → s.offset + s.len ≤ length bytes
     → 4294967295 < count_of value → value_answer order value e bytes ≡ Err too_long
 edit_many order value e bytes s l w f m =
-    let t : nat_lt (length bytes) (s.place + s.len) ≡ false = grind (arith, nat_tests) in
+    let t : nat_lt (length bytes) (s.offset + s.len) ≡ false = grind (arith, nat_tests) in
     let v : nat_lt (2 ^ 32 - 1) (count_of value) ≡ true = grind (arith, nat_tests) in
     edit_inside order value e bytes s l w ∙ rw (t, v) refl
 
 -- a value of more bytes than its old room, and more than four, is too long
 pub edit_long : (order : Order) (value : Value) (e : ℕ) (bytes : List ℕ) (s : Span)
     → e + 12 ≤ length bytes
-    → s ≡ value_room (number_of order) bytes e → s.place + s.len ≤ length bytes
+    → s ≡ value_room (number_of order) bytes e → s.offset + s.len ≤ length bytes
     → count_of value ≤ 4294967295 → max 4 s.len < length (encode order value)
     → value_answer order value e bytes ≡ Err too_long
 edit_long order value e bytes s l w f m g =
-    let t : nat_lt (length bytes) (s.place + s.len) ≡ false = grind (arith, nat_tests) in
+    let t : nat_lt (length bytes) (s.offset + s.len) ≡ false = grind (arith, nat_tests) in
     let v : nat_lt (2 ^ 32 - 1) (count_of value) ≡ false = grind (arith, nat_tests) in
     let u : nat_lt (max 4 s.len) (length (encode order value)) ≡ true = grind (arith, nat_tests) in
     edit_inside order value e bytes s l w ∙ rw (t, v, u) refl
@@ -71,11 +71,11 @@ edit_long order value e bytes s l w f m g =
 pub edit_fits : (order : Order) (value : Value) (e : ℕ) (bytes : List ℕ) (ps : List Patch)
     (s : Span)
     → e + 12 ≤ length bytes → s ≡ value_room (number_of order) bytes e
-    → s.place + s.len ≤ length bytes → count_of value ≤ 4294967295
+    → s.offset + s.len ≤ length bytes → count_of value ≤ 4294967295
     → length (encode order value) ≤ max 4 s.len → ps ≡ value_patches order value e s
     → value_answer order value e bytes ≡ Ok ps
 edit_fits order value e bytes ps s l w f m g d =
-    let t : nat_lt (length bytes) (s.place + s.len) ≡ false = grind (arith, nat_tests) in
+    let t : nat_lt (length bytes) (s.offset + s.len) ≡ false = grind (arith, nat_tests) in
     let v : nat_lt (2 ^ 32 - 1) (count_of value) ≡ false = grind (arith, nat_tests) in
     let u : nat_lt (max 4 s.len) (length (encode order value)) ≡ false = grind (arith, nat_tests) in
     edit_inside order value e bytes s l w ∙ rw (t, v, u) (ap (λ x. Ok x) (sym d))
@@ -83,19 +83,19 @@ edit_fits order value e bytes ps s l w f m g d =
 -- ---- the whole
 
 -- a field whose values say where other bytes stand is not set
-pub set_named : (bytes : List ℕ) (tag : Tag) (k : In) (value : Value) → names_places tag ≡ true
-    → set_patches bytes tag k value ≡ Err place_named
+pub set_named : (bytes : List ℕ) (tag : Tag) (k : In) (value : Value) → names_offsets tag ≡ true
+    → set_patches bytes tag k value ≡ Err offset_named
 unfolding set_patches
 set_named bytes tag k value h = rw h refl
 
 -- a value of an unknown type is not set
-pub set_unknown : (bytes : List ℕ) (tag : Tag) (k : In) (value : Value) → names_places tag ≡ false
+pub set_unknown : (bytes : List ℕ) (tag : Tag) (k : In) (value : Value) → names_offsets tag ≡ false
     → is_unknown value ≡ true → set_patches bytes tag k value ≡ Err unknown_type
 unfolding set_patches
 set_unknown bytes tag k value h u = rw (h, u) refl
 
 -- any other value is set by the patches that pass the check
-pub set_known : (bytes : List ℕ) (tag : Tag) (k : In) (value : Value) → names_places tag ≡ false
+pub set_known : (bytes : List ℕ) (tag : Tag) (k : In) (value : Value) → names_offsets tag ≡ false
     → is_unknown value ≡ false → checked_patches bytes tag k value ≡ set_patches bytes tag k value
 unfolding set_patches
 set_known bytes tag k value h u = rw (h, u) refl
@@ -125,26 +125,26 @@ unfolding checked_patches
 set_checked bytes ps tag k value read e h g = rw (h, g) refl
 
 expected_is : (bytes : List ℕ) (tag : Tag) (k : In) (value moved : Value) (read : Read)
-    (e place : ℕ) (fs : List Field)
-    → fs ≡ replaced tag k moved read.fields → moved ≡ moved_to place value
-    → place ≡ set_place (value_room (number_of (order_named read.little)) bytes e).place e
+    (e offset : ℕ) (fs : List Field)
+    → fs ≡ replaced tag k moved read.fields → moved ≡ moved_to offset value
+    → offset ≡ set_offset (value_room (number_of (order_named read.little)) bytes e).offset e
     (encode (order_named read.little) value)
     → ◌≡◌ {A = Read} (record { little = read.little; fields = fs; faults = read.faults })
     (expected tag k value e bytes read)
-expected_is bytes tag k value moved read e place fs f m p = rw (f, m, p) refl
+expected_is bytes tag k value moved read e offset fs f m p = rw (f, m, p) refl
 
 -- the patches are the answer if the data are read with the value then
 pub set_wanted : (bytes : List ℕ) (ps : List Patch) (tag : Tag) (k : In) (value moved : Value)
-    (read : Read) (e place : ℕ) (fs : List Field) (order : Order)
+    (read : Read) (e offset : ℕ) (fs : List Field) (order : Order)
     → find_answer bytes tag k ≡ Ok (read, e) → order ≡ order_named read.little
     → value_answer order value e bytes ≡ Ok ps
-    → fs ≡ replaced tag k moved read.fields → moved ≡ moved_to place value
-    → place ≡ set_place (value_room (number_of order) bytes e).place e (encode order value)
+    → fs ≡ replaced tag k moved read.fields → moved ≡ moved_to offset value
+    → offset ≡ set_offset (value_room (number_of order) bytes e).offset e (encode order value)
     → checked (record { little = read.little; fields = fs; faults = read.faults }) bytes ps
     ≡ checked_patches bytes tag k value
-set_wanted bytes ps tag k value moved read e place fs order h o g f m p =
+set_wanted bytes ps tag k value moved read e offset fs order h o g f m p =
     let g1 : value_answer (order_named read.little) value e bytes ≡ Ok ps = rw o at g in
-    let p1 : place ≡ set_place (value_room (number_of (order_named read.little)) bytes e).place e
+    let p1 : offset ≡ set_offset (value_room (number_of (order_named read.little)) bytes e).offset e
     (encode (order_named read.little) value) = rw o at p in
-    ap (λ r. checked r bytes ps) (expected_is bytes tag k value moved read e place fs f m p1)
+    ap (λ r. checked r bytes ps) (expected_is bytes tag k value moved read e offset fs f m p1)
     ∙ sym (set_checked bytes ps tag k value read e h g1)

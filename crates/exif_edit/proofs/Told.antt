@@ -23,15 +23,15 @@ use Rattle.exif_edit_base.proofs.PutBack.{length-bytes_at}
 
 -- ---- a value of an entry
 
-same_place : (b : Bool) (xs : List ℕ) (p : ℕ)
+same_offset : (b : Bool) (xs : List ℕ) (p : ℕ)
     → ◌≡◌ {A = Value} (value.Undefined xs (if b then p else p)) (value.Undefined xs p)
-same_place true xs p = refl
-same_place false xs p = refl
+same_offset true xs p = refl
+same_offset false xs p = refl
 
 -- a value of a type, if that is known
 abbrev valued_as : Reading → Option FieldType → ℕ → ℕ → List ℕ → ℕ → Value
-valued_as number o type count bytes place =
-    elim o [ Some t ↦ decode_as number t count bytes place | None ↦ value.Unknown type count place ]
+valued_as number o type count bytes offset =
+    elim o [ Some t ↦ decode_as number t count bytes offset | None ↦ value.Unknown type count offset ]
 
 -- one that stands in the entry
 tells_inside : (number : Reading) (o : Option FieldType) (type count : ℕ) (bytes : List ℕ) (e : ℕ)
@@ -45,7 +45,7 @@ tells_inside number (Some field_type.Long) type count bytes e = refl
 tells_inside number (Some field_type.Rational) type count bytes e = refl
 tells_inside number (Some field_type.SByte) type count bytes e = refl
 tells_inside number (Some field_type.Undefined) type count bytes e =
-    same_place (nat_le (length (bytes_at count bytes (e + 8))) 4) (bytes_at count bytes (e + 8))
+    same_offset (nat_le (length (bytes_at count bytes (e + 8))) 4) (bytes_at count bytes (e + 8))
     (e + 8)
 tells_inside number (Some field_type.SShort) type count bytes e = refl
 tells_inside number (Some field_type.SLong) type count bytes e = refl
@@ -53,36 +53,36 @@ tells_inside number (Some field_type.SRational) type count bytes e = refl
 tells_inside number (Some field_type.Float) type count bytes e = refl
 tells_inside number (Some field_type.Double) type count bytes e = refl
 
-far_place : (count : ℕ) (bytes : List ℕ) (e place : ℕ) → 4 < 1 * count
-    → place + 1 * count ≤ length bytes
+far_offset : (count : ℕ) (bytes : List ℕ) (e offset : ℕ) → 4 < 1 * count
+    → offset + 1 * count ≤ length bytes
     → ◌≡◌ {A = Value}
-    (value.Undefined (bytes_at count bytes place)
-    (if nat_le (length (bytes_at count bytes place)) 4 then e + 8 else place))
-    (value.Undefined (bytes_at count bytes place) place)
-far_place count bytes e place h k =
-    let l = length-bytes_at count place bytes (omega arith) in
-    let t : nat_le (length (bytes_at count bytes place)) 4 ≡ false = grind (arith, nat_tests) in
+    (value.Undefined (bytes_at count bytes offset)
+    (if nat_le (length (bytes_at count bytes offset)) 4 then e + 8 else offset))
+    (value.Undefined (bytes_at count bytes offset) offset)
+far_offset count bytes e offset h k =
+    let l = length-bytes_at count offset bytes (omega arith) in
+    let t : nat_le (length (bytes_at count bytes offset)) 4 ≡ false = grind (arith, nat_tests) in
     rw t refl
 
 -- one that stands outside
 tells_outside : (number : Reading) (o : Option FieldType) (type count : ℕ) (bytes : List ℕ)
-    (e place : ℕ) → 4 < known_length o * count → place + known_length o * count ≤ length bytes
-    → told_in e (valued_as number o type count bytes place)
-    ≡ valued_as number o type count bytes place
-tells_outside number None type count bytes e place a b = absurd (omega arith)
-tells_outside number (Some field_type.Byte) type count bytes e place a b = refl
-tells_outside number (Some field_type.Ascii) type count bytes e place a b = refl
-tells_outside number (Some field_type.Short) type count bytes e place a b = refl
-tells_outside number (Some field_type.Long) type count bytes e place a b = refl
-tells_outside number (Some field_type.Rational) type count bytes e place a b = refl
-tells_outside number (Some field_type.SByte) type count bytes e place a b = refl
-tells_outside number (Some field_type.Undefined) type count bytes e place a b =
-    far_place count bytes e place a b
-tells_outside number (Some field_type.SShort) type count bytes e place a b = refl
-tells_outside number (Some field_type.SLong) type count bytes e place a b = refl
-tells_outside number (Some field_type.SRational) type count bytes e place a b = refl
-tells_outside number (Some field_type.Float) type count bytes e place a b = refl
-tells_outside number (Some field_type.Double) type count bytes e place a b = refl
+    (e offset : ℕ) → 4 < known_length o * count → offset + known_length o * count ≤ length bytes
+    → told_in e (valued_as number o type count bytes offset)
+    ≡ valued_as number o type count bytes offset
+tells_outside number None type count bytes e offset a b = absurd (omega arith)
+tells_outside number (Some field_type.Byte) type count bytes e offset a b = refl
+tells_outside number (Some field_type.Ascii) type count bytes e offset a b = refl
+tells_outside number (Some field_type.Short) type count bytes e offset a b = refl
+tells_outside number (Some field_type.Long) type count bytes e offset a b = refl
+tells_outside number (Some field_type.Rational) type count bytes e offset a b = refl
+tells_outside number (Some field_type.SByte) type count bytes e offset a b = refl
+tells_outside number (Some field_type.Undefined) type count bytes e offset a b =
+    far_offset count bytes e offset a b
+tells_outside number (Some field_type.SShort) type count bytes e offset a b = refl
+tells_outside number (Some field_type.SLong) type count bytes e offset a b = refl
+tells_outside number (Some field_type.SRational) type count bytes e offset a b = refl
+tells_outside number (Some field_type.Float) type count bytes e offset a b = refl
+tells_outside number (Some field_type.Double) type count bytes e offset a b = refl
 
 tells : (number : Reading) (bytes : List ℕ) (e : ℕ) (v : Value)
     → entry_value number bytes e ≡ Some v → told_in e v ≡ v
@@ -97,20 +97,20 @@ tells number bytes e v h = by_size (nat_le size 4) refl h
     size : ℕ
     size = known_length (type_of type) * count
 
-    place : ℕ
-    place = number_at number 4 bytes (e + 8)
+    offset : ℕ
+    offset = number_at number 4 bytes (e + 8)
 
     some_same : (x : Value) → ◌≡◌ {A = Option Value} (Some x) (Some v) → x ≡ v
     some_same x p = cc
 
-    by_room : (b : Bool) → nat_le (place + size) (length bytes) ≡ b → nat_le size 4 ≡ false
-        → (if b then Some (decode number type count bytes place) else None) ≡ Some v
+    by_room : (b : Bool) → nat_le (offset + size) (length bytes) ≡ b → nat_le size 4 ≡ false
+        → (if b then Some (decode number type count bytes offset) else None) ≡ Some v
         → told_in e v ≡ v
     by_room true r s p =
         let a : 4 < size = grind (arith, nat_tests) in
-        let c : place + size ≤ length bytes = grind (arith, nat_tests) in
-        rw (some_same (decode number type count bytes place) p) at
-        (tells_outside number (type_of type) type count bytes e place a c)
+        let c : offset + size ≤ length bytes = grind (arith, nat_tests) in
+        rw (some_same (decode number type count bytes offset) p) at
+        (tells_outside number (type_of type) type count bytes e offset a c)
     by_room false r s p = absurd (none_some p)
       where
         none_some : ◌≡◌ {A = Option Value} None (Some v) → ⊥
@@ -118,12 +118,12 @@ tells number bytes e v h = by_size (nat_le size 4) refl h
 
     by_size : (b : Bool) → nat_le size 4 ≡ b
         → (if b then Some (decode number type count bytes (e + 8)) else
-        (if nat_le (place + size) (length bytes) then Some (decode number type count bytes place)
+        (if nat_le (offset + size) (length bytes) then Some (decode number type count bytes offset)
         else None)) ≡ Some v → told_in e v ≡ v
     by_size true s p =
         rw (some_same (decode number type count bytes (e + 8)) p) at
         (tells_inside number (type_of type) type count bytes e)
-    by_size false s p = by_room (nat_le (place + size) (length bytes)) refl s p
+    by_size false s p = by_room (nat_le (offset + size) (length bytes)) refl s p
 
 -- ---- all that is located
 
@@ -166,14 +166,14 @@ located_tells bytes = by_header (header bytes) bytes
 
 -- what an entry tells anew
 told_twice : (e d : ℕ) (v : Value) → told_in e (told_in d v) ≡ told_in e v
-told_twice e d (value.Undefined xs place) = by_test (nat_le (length xs) 4)
+told_twice e d (value.Undefined xs offset) = by_test (nat_le (length xs) 4)
   where
     by_test : (b : Bool)
-        → ◌≡◌ {A = Value} (value.Undefined xs (if b then e + 8 else (if b then d + 8 else place)))
-        (value.Undefined xs (if b then e + 8 else place))
+        → ◌≡◌ {A = Value} (value.Undefined xs (if b then e + 8 else (if b then d + 8 else offset)))
+        (value.Undefined xs (if b then e + 8 else offset))
     by_test true = refl
     by_test false = refl
-told_twice e d (value.Unknown type count place) = refl
+told_twice e d (value.Unknown type count offset) = refl
 told_twice e d _ = refl
 
 settle_one : (l : Located) (g : Field) → told_at l.entry l.field ≡ l.field

@@ -34,7 +34,7 @@ use Rattle.exif_layout.specs.Refused.{is_unknown}
 use Rattle.exif_layout.proofs.Images.Fitting.{fits_of}
 use Rattle.exif_edit_base.specs.Locations.{Located, located}
 use Rattle.exif_edit_base.proofs.LawsLocated.{ordered_fields}
-use Rattle.exif_edit_base.specs.Causes.{Cause, place_named, shared, too_long, unknown_type, unless, ◌>>=◌}
+use Rattle.exif_edit_base.specs.Causes.{Cause, offset_named, shared, too_long, unknown_type, unless, ◌>>=◌}
 use Rattle.exif_edit_base.specs.Finding.{find_answer, last_located, replaced, with_value}
 use Rattle.exif_edit_base.specs.Patches.{FitsIn, inside, patched}
 use Rattle.exif_edit_base.specs.Readings.{Read, fault_eq, is_little, read_eq, reading, reads_as}
@@ -44,7 +44,7 @@ use Rattle.exif_edit_base.proofs.FindSteps.{any_map, field_of}
 use Rattle.exif_edit_base.proofs.LocatedEntries.{IsSaid, last_said}
 use Rattle.exif_edit_base.proofs.PatchSteps.{length-patched, patched_outside}
 use Rattle.exif_edit_base.proofs.ReadSteps.{header_room, reading_by}
-use Rattle.exif_edit.specs.Setting.{checked, checked_patches, expected, names_places, set_patches, set_place, value_answer, value_patches, value_room}
+use Rattle.exif_edit.specs.Setting.{checked, checked_patches, expected, names_offsets, set_patches, set_offset, value_answer, value_patches, value_room}
 use Rattle.exif_edit.specs.Sharing.{IsSetUnshared, all_beside, changed_entry, meets, names_child, standing_at, stands_alone}
 use Rattle.exif_edit.proofs.NewEntry.{new_value}
 use Rattle.exif_edit.proofs.ReadSound.{fault_Decides}
@@ -54,14 +54,14 @@ use Rattle.exif_edit.proofs.SetSound.{Fits, value_fits, value_misses}
 -- ---- tests that fail
 
 -- bytes of a stretch that is not met are not those of the span
-pub missed : (s : Span) (t : Stretch) (i : ℕ) → meets s t ≡ false → t.place ≤ i → i < t.place + t.len
+pub missed : (s : Span) (t : Stretch) (i : ℕ) → meets s t ≡ false → t.offset ≤ i → i < t.offset + t.len
     → inside i s ≡ false
-missed s t i m low high = by_tests (nat_le s.place i) (nat_lt i (s.place + s.len)) refl refl
+missed s t i m low high = by_tests (nat_le s.offset i) (nat_lt i (s.offset + s.len)) refl refl
   where
-    not_met : nat_lt t.place (s.place + s.len) ≡ true → nat_lt s.place (t.place + t.len) ≡ true → ⊥
+    not_met : nat_lt t.offset (s.offset + s.len) ≡ true → nat_lt s.offset (t.offset + t.len) ≡ true → ⊥
     not_met x y = false≢true (sym m ∙ rw (x, y) refl)
 
-    by_tests : (x y : Bool) → nat_le s.place i ≡ x → nat_lt i (s.place + s.len) ≡ y
+    by_tests : (x y : Bool) → nat_le s.offset i ≡ x → nat_lt i (s.offset + s.len) ≡ y
         → (x && y) ≡ false
     by_tests false y p q = refl
     by_tests true false p q = refl
@@ -230,30 +230,30 @@ named_order Little = refl
 
 -- the room of a value that lies in the data lies there
 abbrev room_by : Bool → ℕ → ℕ → Span
-room_by s place size = if s then record { place = 0; len = 0 } else record { place = place; len = size }
+room_by s offset size = if s then record { offset = 0; len = 0 } else record { offset = offset; len = size }
 
-far_by : (s t : Bool) (place size total : ℕ) (x y v : Value) → nat_le (place + size) total ≡ t
+far_by : (s t : Bool) (offset size total : ℕ) (x y v : Value) → nat_le (offset + size) total ≡ t
     → (if s then Some x else (if t then Some y else None)) ≡ Some v
-    → (room_by s place size).place + (room_by s place size).len ≤ total
-far_by true t place size total x y v n h = omega arith
-far_by false true place size total x y v n h = grind (arith, nat_tests)
-far_by false false place size total x y v n h = absurd (none_some h)
+    → (room_by s offset size).offset + (room_by s offset size).len ≤ total
+far_by true t offset size total x y v n h = omega arith
+far_by false true offset size total x y v n h = grind (arith, nat_tests)
+far_by false false offset size total x y v n h = absurd (none_some h)
   where
     none_some : ◌≡◌ {A = Option Value} None (Some v) → ⊥
     none_some h = cc
 
 room_far : (order : Order) (bytes : List ℕ) (e : ℕ) (v : Value)
     → entry_value (number_of order) bytes e ≡ Some v
-    → (value_room (number_of order) bytes e).place + (value_room (number_of order) bytes e).len
+    → (value_room (number_of order) bytes e).offset + (value_room (number_of order) bytes e).len
     ≤ length bytes
 room_far order bytes e v h =
     let type = number_at (number_of order) 2 bytes (e + 2) in
     let count = number_at (number_of order) 4 bytes (e + 4) in
     let size = known_length (type_of type) * count in
-    let place = number_at (number_of order) 4 bytes (e + 8) in
-    far_by (nat_le size 4) (nat_le (place + size) (length bytes)) place size (length bytes)
+    let offset = number_at (number_of order) 4 bytes (e + 8) in
+    far_by (nat_le size 4) (nat_le (offset + size) (length bytes)) offset size (length bytes)
     (decode (number_of order) type count bytes (e + 8))
-    (decode (number_of order) type count bytes place) v refl h
+    (decode (number_of order) type count bytes offset) v refl h
 
 -- ---- an entry that stands alone
 
@@ -272,7 +272,7 @@ module _ (order : Order) (bytes : List ℕ) (tag : Tag) (k : In) (value : Value)
   touched t = meets (changed_entry e) t || meets room t
 
   abbrev itself : Stretch
-  itself = record { place = e; len = 12 }
+  itself = record { offset = e; len = 12 }
 
   said : IsSaid (number_of order) bytes at.field e × (is_named tag k at.field ≡ true)
   said =
@@ -308,7 +308,7 @@ module _ (order : Order) (bytes : List ℕ) (tag : Tag) (k : In) (value : Value)
     stretch_same : (t : Stretch) → touched t ≡ false → Agree bytes out t
     stretch_same t m =
         let a = or_parts (meets (changed_entry e) t) (meets room t) m in
-        bytes_same bytes out t.place t.len as_long
+        bytes_same bytes out t.offset t.len as_long
         (λ i low high. byte_same i (missed (changed_entry e) t i a.0 low high)
         (missed room t i a.1 low high))
 
@@ -334,17 +334,17 @@ module _ (order : Order) (bytes : List ℕ) (tag : Tag) (k : In) (value : Value)
     head_out : header out ≡ Ok order
     head_out = sym (header_same bytes out as_long (same_of bytes out 0 8 agree.0)) ∙ head
 
-    apart : (room.len ≡ 0) ⊎ ((room.place + room.len ≤ e) ⊎ (e + 12 ≤ room.place))
-    apart = by_tests (nat_lt e (room.place + room.len)) (nat_lt room.place (e + 12)) refl refl alone_by.1.0
+    apart : (room.len ≡ 0) ⊎ ((room.offset + room.len ≤ e) ⊎ (e + 12 ≤ room.offset))
+    apart = by_tests (nat_lt e (room.offset + room.len)) (nat_lt room.offset (e + 12)) refl refl alone_by.1.0
       where
-        by_tests : (x y : Bool) → nat_lt e (room.place + room.len) ≡ x → nat_lt room.place (e + 12) ≡ y
-            → (x && y) ≡ false → (room.len ≡ 0) ⊎ ((room.place + room.len ≤ e) ⊎ (e + 12 ≤ room.place))
+        by_tests : (x y : Bool) → nat_lt e (room.offset + room.len) ≡ x → nat_lt room.offset (e + 12) ≡ y
+            → (x && y) ≡ false → (room.len ≡ 0) ⊎ ((room.offset + room.len ≤ e) ⊎ (e + 12 ≤ room.offset))
         by_tests false y p q h = inr (inl (grind (arith, nat_tests)))
         by_tests true false p q h = inr (inr (grind (arith, nat_tests)))
         by_tests true true p q h = absurd (false≢true (sym h))
 
     abbrev new : Value
-    new = moved_to (set_place room.place e (encode order value)) value
+    new = moved_to (set_offset room.offset e (encode order value)) value
 
     reads_new : (ranged : IsRanged value) (plain : HasPlainTexts value) (known : is_unknown value ≡ false)
         (few : count_of value < 2 ^ 32)
@@ -415,7 +415,7 @@ module _ (tag : Tag) (k : In) (value : Value) (bytes : List ℕ) (order : Order)
       (grind (arith, nat_tests))) in
       ap (λ t. if t then Ok made else Err shared) reads
 
-  -- what is left of the answer where its tests of places pass
+  -- what is left of the answer where its tests of offsets pass
   abbrev fitting : Bool → Bool → Result (List Patch) Cause
   fitting y z = unless y too_long >>= λ c. (unless z too_long >>= λ d. Ok made)
 
@@ -425,11 +425,11 @@ module _ (tag : Tag) (k : In) (value : Value) (bytes : List ℕ) (order : Order)
   unfolding value_answer
   answered =
       by_tests (nat_lt (length bytes) (at.entry + 12))
-      (nat_lt (length bytes) (room_at.place + room_at.len)) (nat_lt (2 ^ 32 - 1) (count_of value))
+      (nat_lt (length bytes) (room_at.offset + room_at.len)) (nat_lt (2 ^ 32 - 1) (count_of value))
       (nat_lt (max 4 room_at.len) (length (encode order value))) refl refl refl refl
     where
       by_tests : (w x y z : Bool) → nat_lt (length bytes) (at.entry + 12) ≡ w
-          → nat_lt (length bytes) (room_at.place + room_at.len) ≡ x
+          → nat_lt (length bytes) (room_at.offset + room_at.len) ≡ x
           → nat_lt (2 ^ 32 - 1) (count_of value) ≡ y
           → nat_lt (max 4 room_at.len) (length (encode order value)) ≡ z
           → ((unless w shared >>= λ a. (unless x shared >>= λ b. fitting y z))
@@ -449,12 +449,12 @@ module _ (tag : Tag) (k : In) (value : Value) (bytes : List ℕ) (order : Order)
 pub set_unshared : (tag : Tag) (k : In) (value : Value) (bytes : List ℕ) → IsSetUnshared tag k value bytes
 unfolding set_patches
 set_unshared tag k value bytes order at head last alone childless ranged plain =
-    by_tests (names_places tag) (is_unknown value) refl
+    by_tests (names_offsets tag) (is_unknown value) refl
   where
     by_tests : (n u : Bool) → is_unknown value ≡ u
-        → (unless n place_named >>= λ a. (unless u unknown_type
+        → (unless n offset_named >>= λ a. (unless u unknown_type
         >>= λ b. checked_patches bytes tag k value))
-        ≡ (unless n place_named >>= λ a. (unless u unknown_type >>= λ b.
+        ≡ (unless n offset_named >>= λ a. (unless u unknown_type >>= λ b.
         (unless (nat_lt (2 ^ 32 - 1) (count_of value)) too_long >>= λ c.
         (unless
         (nat_lt (max 4 (value_room (number_of order) bytes at.entry).len) (length (encode order value)))

@@ -14,28 +14,28 @@ use Rattle.exif_table.specs.declared.context.Context.{Context}
 use Rattle.exif_table.specs.declared.context.Context.TheVariants.{Tiff, Exif, Gps, Interop}
 use Rattle.exif_tiff.specs.declared.fault.Fault.{Fault}
 use Rattle.exif_tiff.specs.declared.fault.Fault.TheVariants.{TooManyDirectories, UnexpectedNext}
-use Rattle.exif_tiff.specs.declared.place.DirectoryPlace.{DirectoryPlace}
+use Rattle.exif_tiff.specs.declared.offset.DirectoryOffset.{DirectoryOffset}
 use Rattle.exif_tiff.specs.Footprint.{Below, chain_directories, entry_directories, following, named, pointed}
-use Rattle.exif_tiff.specs.Trace.{Directory, Found, Met, Node, Opens, Visit, chain_after, chain_nodes, child_end, child_of, depth_of, directories_of, directory_end, directory_nodes, entry_nodes, entry_places, entry_value, header, ordered_trace, pointer_nodes, tagged_nodes, trace, valued_nodes}
+use Rattle.exif_tiff.specs.Trace.{Directory, Found, Met, Node, Opens, Visit, chain_after, chain_nodes, child_end, child_of, depth_of, directories_of, directory_end, directory_nodes, entry_nodes, entry_offsets, entry_value, header, ordered_trace, pointer_nodes, tagged_nodes, trace, valued_nodes}
 use Rattle.exif_tiff.proofs.Visited.{visited}
-use Rattle.exif_edit_base.specs.Locations.{directory_places}
+use Rattle.exif_edit_base.specs.Locations.{directory_offsets}
 use Rattle.exif_edit_base.specs.Walked.{Finds, Walked}
 use Rattle.exif_edit.specs.Erasing.{is_gps}
-use Rattle.exif_edit.specs.PlacesAlone.{below_kept, chain_kept, directories_kept}
+use Rattle.exif_edit.specs.GpsAlone.{below_kept, chain_kept, directories_kept}
 
 -- where directories stand
-abbrev pub places_of : List DirectoryPlace → List ℕ
-places_of ds = map (λ (d : DirectoryPlace). d.place) ds
+abbrev pub offsets_of : List DirectoryOffset → List ℕ
+offsets_of ds = map (λ (d : DirectoryOffset). d.offset) ds
 
 -- those but of GPS data
-abbrev pub kept_of : List DirectoryPlace → List DirectoryPlace
-kept_of ds = filter (λ (d : DirectoryPlace). not (is_gps d.context)) ds
+abbrev pub kept_of : List DirectoryOffset → List DirectoryOffset
+kept_of ds = filter (λ (d : DirectoryOffset). not (is_gps d.context)) ds
 
 -- ---- without those of GPS data
 
 -- where the directories of nodes stand
 abbrev kept_in : List Node → List ℕ
-kept_in nodes = places_of (kept_of (directories_of nodes))
+kept_in nodes = offsets_of (kept_of (directories_of nodes))
 
 directories_join : (xs ys : List Node) → directories_of (xs ++ ys) ≡ directories_of xs ++ directories_of ys
 directories_join [] ys = refl
@@ -46,9 +46,9 @@ directories_join (Met fault ∷ xs) ys = directories_join xs ys
 
 kept_join : (xs ys : List Node) → kept_in (xs ++ ys) ≡ kept_in xs ++ kept_in ys
 kept_join xs ys =
-    ap (λ ds. places_of (kept_of ds)) (directories_join xs ys)
-    ∙ (ap places_of (filter-append (λ (d : DirectoryPlace). not (is_gps d.context)) (directories_of xs) (directories_of ys))
-    ∙ map-append (λ (d : DirectoryPlace). d.place) (kept_of (directories_of xs)) (kept_of (directories_of ys)))
+    ap (λ ds. offsets_of (kept_of ds)) (directories_join xs ys)
+    ∙ (ap offsets_of (filter-append (λ (d : DirectoryOffset). not (is_gps d.context)) (directories_of xs) (directories_of ys))
+    ∙ map-append (λ (d : DirectoryOffset). d.offset) (kept_of (directories_of xs)) (kept_of (directories_of ys)))
 
 joined : (xs ys : List Node) (ps qs : List ℕ) → kept_in xs ≡ ps → kept_in ys ≡ qs
     → kept_in (xs ++ ys) ≡ ps ++ qs
@@ -77,9 +77,9 @@ gps_left_out : (depth : ℕ) (number : Reading) (bytes : List ℕ) (k p : ℕ)
 gps_left_out zero number bytes k p = refl
 gps_left_out (suc depth) number bytes k p =
     each (entry_nodes (directory_nodes depth number bytes k) number bytes Gps k p) (λ e. [])
-    (entry_places number bytes p)
+    (entry_offsets number bytes p)
     (λ e. by_value (number_at number 2 bytes e) e (entry_value number bytes e))
-    ∙ flat_none (entry_places number bytes p)
+    ∙ flat_none (entry_offsets number bytes p)
   where
     by_value : (n e : ℕ) (o : Option Value)
         → kept_in (valued_nodes (directory_nodes depth number bytes k) number bytes Gps k p n e o) ≡ []
@@ -131,7 +131,7 @@ kept_below (suc depth) number bytes k c p kept =
     rw kept
     (ap (λ ps. p ∷ ps)
     (each (entry_nodes child number bytes c k p)
-    (entry_directories (below_kept under) number bytes c) (entry_places number bytes p)
+    (entry_directories (below_kept under) number bytes c) (entry_offsets number bytes p)
     (λ e. valued number bytes child under (kept_below depth number bytes k)
     (gps_left_out depth number bytes k) c k p (number_at number 2 bytes e) e
     (entry_value number bytes e))))
@@ -163,24 +163,24 @@ kept_chain (suc left) number bytes k p =
 
 found_directories : (bytes : List ℕ) (order : Order) (w : Walked) → header bytes ≡ Ok order
     → Finds bytes w → w.directories ≡ directories_of (ordered_trace (number_of order) bytes)
-unfolding directory_places trace
+unfolding directory_offsets trace
 found_directories bytes order w h f =
     f.directories
     ∙ ap (λ (x : Result Order Fault). directories_of (elim x as (λ _. List Node)
     [ Ok o ↦ ordered_trace (number_of o) bytes | Err fault ↦ [] ])) h
 
 -- the directories that a walk has found are those that are looked at, in their order
-pub walked_places : (bytes : List ℕ) (order : Order) (w : Walked) → header bytes ≡ Ok order
-    → Finds bytes w → places_of w.directories
+pub walked_offsets : (bytes : List ℕ) (order : Order) (w : Walked) → header bytes ≡ Ok order
+    → Finds bytes w → offsets_of w.directories
     ≡ chain_directories 8 (number_of order) bytes (number_at (number_of order) 4 bytes 4)
-walked_places bytes order w h f =
-    ap places_of (found_directories bytes order w h f) ∙ visited (number_of order) bytes
+walked_offsets bytes order w h f =
+    ap offsets_of (found_directories bytes order w h f) ∙ visited (number_of order) bytes
 
 -- the directories that a walk has found, but those of GPS data, are those that are kept
 pub walked_kept : (bytes : List ℕ) (order : Order) (w : Walked) → header bytes ≡ Ok order
-    → Finds bytes w → places_of (kept_of w.directories)
+    → Finds bytes w → offsets_of (kept_of w.directories)
     ≡ chain_kept 8 (number_of order) bytes (number_at (number_of order) 4 bytes 4)
 unfolding ordered_trace
 walked_kept bytes order w h f =
-    ap (λ ds. places_of (kept_of ds)) (found_directories bytes order w h f)
+    ap (λ ds. offsets_of (kept_of ds)) (found_directories bytes order w h f)
     ∙ kept_chain 8 (number_of order) bytes 0 (number_at (number_of order) 4 bytes 4)

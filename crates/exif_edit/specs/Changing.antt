@@ -10,7 +10,7 @@ use Rattle.exif_edit.specs.Sharing.{changed_entry, meets}
 
 -- whether a patch has a byte of a stretch
 abbrev pub covers : Stretch → Patch → Bool
-covers t p = meets (record { place = p.place; len = length p.text }) t
+covers t p = meets (record { offset = p.offset; len = length p.bytes }) t
 
 -- whether one of patches has
 abbrev pub changes : List Patch → Stretch → Bool
@@ -23,6 +23,6 @@ ChangeEntry number bytes e ps =
     → changes ps t ≡ (meets (changed_entry e) t || meets (value_room number bytes e) t)
 
 -- patches change bytes of GPS directories and of their values, and no others
-abbrev pub ChangePlaces : Reading → List ℕ → List Patch → Type 0
-ChangePlaces number bytes ps =
+abbrev pub ChangeOffsets : Reading → List ℕ → List Patch → Type 0
+ChangeOffsets number bytes ps =
     (t : Stretch) → changes ps t ≡ list_any (λ s. meets s t) (gps_spans number bytes)

@@ -9,15 +9,15 @@ use Rattle.exif_edit_base.specs.Patches.{patched, zeros_over}
 use Rattle.exif_edit_base.specs.declared.patch.Patch.{Patch}
 
 -- where the directory of the chain stands then: behind the header, or nowhere where there is no room
--- for its count and its next place
-abbrev pub empty_place : ℕ → ℕ
-empty_place total = if nat_lt total 14 then 0 else 8
+-- for its count and its next offset
+abbrev pub empty_offset : ℕ → ℕ
+empty_offset total = if nat_lt total 14 then 0 else 8
 
--- the place of the first directory, and zeros behind the header
+-- the offset of the first directory, and zeros behind the header
 abbrev pub clearing : Order → ℕ → List Patch
 clearing order total =
-    record { place = 4; text = spelled order 4 (empty_place total) }
-    ∷ zeros_over (record { place = 8; len = total - 8 }) ∷ []
+    record { offset = 4; bytes = spelled order 4 (empty_offset total) }
+    ∷ zeros_over (record { offset = 8; len = total - 8 }) ∷ []
 
 -- what erases all fields, or the fault of the header
 unfoldable pub clear_patches : List ℕ → Result (List Patch) Cause

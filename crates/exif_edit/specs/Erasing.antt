@@ -1,4 +1,4 @@
--- Places erased: GPS directories and their values become zero bytes.
+-- Offsets erased: GPS directories and their values become zero bytes.
 use Rattle.std.specs.Prelude.{ℕ, ◌+◌, ◌-◌, ◌*◌, ◌==◌, ◌&&◌, nat_le, min, Bool, true, false, not, List, ◌∷◌, length, map, Result, Ok, Err, if◌then◌else◌}
 use Rattle.std.specs.Bool.{beq}
 use Rattle.std.specs.List.{flat_map, filter}
@@ -10,7 +10,7 @@ use Rattle.exif_table.specs.declared.context.Context.TheVariants.{Tiff, Exif, Gp
 use Rattle.exif_text.specs.FieldTypes.{type_of, known_length}
 use Rattle.exif_types.specs.FieldEq.{field_eq}
 use Rattle.exif_types.specs.declared.field.Field.{Field}
-use Rattle.exif_tiff.specs.Trace.{whole_entries, entry_places}
+use Rattle.exif_tiff.specs.Trace.{whole_entries, entry_offsets}
 use Rattle.exif_edit_base.specs.Causes.{Cause, of_data, shared, ◌>>=◌}
 use Rattle.exif_edit_base.specs.GpsOffsets.{gps_offsets}
 use Rattle.exif_edit_base.specs.Patches.{patched, zeros_over}
@@ -21,26 +21,26 @@ use Rattle.exif_edit.specs.Setting.{room_of, value_room}
 
 -- no span
 abbrev pub nowhere : Span
-nowhere = record { place = 0; len = 0 }
+nowhere = record { offset = 0; len = 0 }
 
 -- what of a span lies in data of a length
 abbrev pub clipped : ℕ → Span → Span
 clipped total s =
-    if nat_le s.place total then record { place = s.place; len = min s.len (total - s.place) }
+    if nat_le s.offset total then record { offset = s.offset; len = min s.len (total - s.offset) }
     else nowhere
 
 -- a span that lies in data of a length; else none
 abbrev pub within : ℕ → Span → Span
-within total s = if nat_le (s.place + s.len) total then s else nowhere
+within total s = if nat_le (s.offset + s.len) total then s else nowhere
 
 -- where the value of the entry at e stands outside of it, if it lies in the data
 abbrev pub value_span : Reading → List ℕ → ℕ → Span
 value_span number bytes e = within (length bytes) (value_room number bytes e)
 
--- the directory at q: its count, entries and next place
+-- the directory at q: its count, entries and next offset
 abbrev pub directory_span : Reading → List ℕ → ℕ → Span
 directory_span number bytes q =
-    clipped (length bytes) (record { place = q; len = 2 + 12 * whole_entries number bytes q + 4 })
+    clipped (length bytes) (record { offset = q; len = 2 + 12 * whole_entries number bytes q + 4 })
 
 -- how many bytes an item of a type takes: also of those that reading does not know, UTF-8 text (Exif
 -- 3.0, 4.6.2) and offsets of directories (TIFF Technical Note 1, "TIFF Trees")
@@ -61,7 +61,7 @@ gps_value_span number bytes e = clipped (length bytes) (gps_room number bytes e)
 abbrev pub directory_spans : Reading → List ℕ → ℕ → List Span
 directory_spans number bytes q =
     directory_span number bytes q
-    ∷ map (gps_value_span number bytes) (entry_places number bytes q)
+    ∷ map (gps_value_span number bytes) (entry_offsets number bytes q)
 
 -- the GPS directories of data, whether or not reading visits them, and the values of their entries
 unfoldable pub gps_spans : Reading → List ℕ → List Span

@@ -5,13 +5,13 @@ use Rattle.exif_base.specs.declared.endian.Order.TheVariants.{Big}
 use Rattle.exif_table.specs.declared.context.Context.TheVariants.{Tiff}
 use Rattle.exif_types.specs.declared.value.Value.TheVariants as value
 use Rattle.exif_tiff.specs.Trace.{trace, ordered_trace}
-use Rattle.exif_edit_base.specs.Causes.{no_field, place_named, too_long}
+use Rattle.exif_edit_base.specs.Causes.{no_field, offset_named, too_long}
 use Rattle.exif_edit_base.specs.Finding.{find_answer}
 use Rattle.exif_edit_base.specs.GpsOffsets.{all_directories, chain_from, children_from, gps_offsets, gps_pointers, pointers}
 use Rattle.exif_edit_base.specs.Readings.{reading}
-use Rattle.exif_edit_base.specs.Locations.{directory_places, gps_places, located}
+use Rattle.exif_edit_base.specs.Locations.{directory_offsets, visited_gps, located}
 use Rattle.exif_edit.specs.Erasing.{erase_answer, erase_patches, gps_spans}
-use Rattle.exif_edit.specs.PlacesAlone.{places_stand_alone}
+use Rattle.exif_edit.specs.GpsAlone.{gps_stands_alone}
 use Rattle.exif_edit.specs.Sharing.{stands_alone}
 use Rattle.exif_edit.specs.Setting.{checked_patches, set_answer, set_patches, value_answer}
 
@@ -24,7 +24,7 @@ described =
     ∷ 0 ∷ 0 ∷ 0 ∷ 0
     ∷ 83 ∷ 97 ∷ 109 ∷ 112 ∷ 108 ∷ 101 ∷ 0 ∷ []
 
--- a shorter one: 5 bytes at the old place, and zeros behind them
+-- a shorter one: 5 bytes at the old offset, and zeros behind them
 shorter : set_answer described (record { 0 = Tiff; 1 = 0x10e }) (record { 0 = 0 })
     (value.Ascii (codes "Blue" ∷ []))
     ≡ Ok (77 ∷ 77 ∷ 0 ∷ 42 ∷ 0 ∷ 0 ∷ 0 ∷ 8
@@ -78,7 +78,7 @@ absent = refl
 
 -- strips may not be moved
 strips : set_answer described (record { 0 = Tiff; 1 = 0x111 }) (record { 0 = 0 })
-    (value.Long (26 ∷ [])) ≡ Err place_named
+    (value.Long (26 ∷ [])) ≡ Err offset_named
 unfolding set_patches
 strips = refl
 
@@ -97,12 +97,12 @@ placed =
     ∷ 9 ∷ []
 
 -- nothing else is looked at there
-places_alone : places_stand_alone (number_of Big) placed ≡ true
-unfolding gps_places gps_spans gps_offsets gps_pointers all_directories children_from chain_from pointers directory_places trace ordered_trace
-places_alone = refl
+gps_alone : gps_stands_alone (number_of Big) placed ≡ true
+unfolding visited_gps gps_spans gps_offsets gps_pointers all_directories children_from chain_from pointers directory_offsets trace ordered_trace
+gps_alone = refl
 
 -- the directory and its value are zeros, and the byte behind them stays
-without_place : erase_answer placed
+without_location : erase_answer placed
     ≡ Ok (77 ∷ 77 ∷ 0 ∷ 42 ∷ 0 ∷ 0 ∷ 0 ∷ 8
     ∷ 0 ∷ 2
     ∷ 1 ∷ 0 ∷ 0 ∷ 3 ∷ 0 ∷ 0 ∷ 0 ∷ 1 ∷ 0 ∷ 20 ∷ 0 ∷ 0
@@ -113,8 +113,8 @@ without_place : erase_answer placed
     ∷ 0 ∷ 0 ∷ 0 ∷ 0
     ∷ 0 ∷ 0 ∷ 0 ∷ 0 ∷ 0 ∷ 0 ∷ 0
     ∷ 9 ∷ [])
-unfolding erase_patches reading gps_places gps_spans gps_offsets gps_pointers all_directories children_from chain_from pointers directory_places trace ordered_trace
-without_place = refl
+unfolding erase_patches reading visited_gps gps_spans gps_offsets gps_pointers all_directories children_from chain_from pointers directory_offsets trace ordered_trace
+without_location = refl
 
 -- a pointer of type IFD in a SubIFD, to which reading does not go: the GPS directory is at 44
 abbrev hidden : List ℕ
@@ -144,5 +144,5 @@ without_hidden : erase_answer hidden
     ∷ 0 ∷ 0 ∷ 0 ∷ 0 ∷ 0 ∷ 0 ∷ 0 ∷ 0 ∷ 0 ∷ 0 ∷ 0 ∷ 0
     ∷ 0 ∷ 0 ∷ 0 ∷ 0
     ∷ 0 ∷ 0 ∷ 0 ∷ 0 ∷ 0 ∷ [])
-unfolding erase_patches reading gps_places gps_spans gps_offsets gps_pointers all_directories children_from chain_from pointers directory_places trace ordered_trace
+unfolding erase_patches reading visited_gps gps_spans gps_offsets gps_pointers all_directories children_from chain_from pointers directory_offsets trace ordered_trace
 without_hidden = refl

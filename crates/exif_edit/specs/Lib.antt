@@ -3,7 +3,7 @@ pub mod Clearing
 pub mod Edits
 pub mod Erasing
 pub mod Examples
-pub mod PlacesAlone
+pub mod GpsAlone
 pub mod Plans
 pub mod Promises
 pub mod Removing

@@ -31,13 +31,13 @@ ReadAs bytes fields faults =
 pub record IsSet (old : List ℕ) (tag : Tag) (k : In) (value : Value) (new : List ℕ) : Type 0 where
   pub order : Order
   pub header : header old ≡ Ok order
-  pub place : ℕ
-  pub reads : ReadAs new (replaced tag k (moved_to place value) (fields_of (trace old)))
+  pub offset : ℕ
+  pub reads : ReadAs new (replaced tag k (moved_to offset value) (fields_of (trace old)))
       (faults_of (trace old))
   pub at : Located
   pub found : last_located tag k (located old) ≡ Some at
   pub as_long : length new ≡ length old
-  pub outside : (i : ℕ) → inside i (record { place = at.entry + 2; len = 10 }) ≡ false
+  pub outside : (i : ℕ) → inside i (record { offset = at.entry + 2; len = 10 }) ≡ false
       → inside i (value_room (number_of order) old at.entry) ≡ false
       → slice_index new i ≡ slice_index old i
 
@@ -46,8 +46,8 @@ abbrev pub FindsValue : Tag → In → Value → List ℕ → Type 0
 FindsValue tag k value bytes =
     (lenient : Bool) (fields : List Field) (faults : List Fault)
     → raw_answer lenient None bytes ≡ shown fields faults
-    → (place : ℕ) × (last_named fields tag k
-    ≡ Some (record { tag = tag; ifd_num = k; value = moved_to place value }))
+    → (offset : ℕ) × (last_named fields tag k
+    ≡ Some (record { tag = tag; ifd_num = k; value = moved_to offset value }))
 
 -- the GPS directories and their values are zero bytes, and all else is as it was
 pub record IsErased (old new : List ℕ) : Type 0 where
@@ -96,7 +96,7 @@ FindsNone tag k bytes =
 -- ---- laws
 
 -- the last field of a name stands where it stood, and its value has the same room
-pub record KeepsPlace (tag : Tag) (k : In) (old new : List ℕ) : Type 0 where
+pub record KeepsOffset (tag : Tag) (k : In) (old new : List ℕ) : Type 0 where
   pub order : Order
   pub before : header old ≡ Ok order
   pub after : header new ≡ Ok order
@@ -111,4 +111,4 @@ pub record KeepsPlace (tag : Tag) (k : In) (old new : List ℕ) : Type 0 where
 abbrev pub SetsBack : Tag → In → Value → Value → List ℕ → Type 0
 SetsBack tag k value first old =
     (new back : List ℕ) → set_answer old tag k first ≡ Ok old → set_answer old tag k value ≡ Ok new
-    → KeepsPlace tag k old new → set_answer new tag k first ≡ Ok back → back ≡ old
+    → KeepsOffset tag k old new → set_answer new tag k first ≡ Ok back → back ≡ old

@@ -13,10 +13,10 @@ use Rattle.exif_text.specs.declared.ifd.In.{In}
 use Rattle.exif_types.specs.declared.value.Value.{Value}
 use Rattle.exif_types.specs.declared.value.Value.TheVariants.{Undefined, Unknown}
 use Rattle.exif_types.specs.declared.field.Field.{Field}
-use Rattle.exif_tiff.specs.Trace.{directory_end, entry_places, whole_entries}
+use Rattle.exif_tiff.specs.Trace.{directory_end, entry_offsets, whole_entries}
 use Rattle.exif_tiff.specs.declared.fault.Fault.{Fault}
 use Rattle.exif_layout.specs.Encoding.{spelled}
-use Rattle.exif_edit_base.specs.Causes.{Cause, no_field, of_data, place_named, shared, unless, ◌>>=◌}
+use Rattle.exif_edit_base.specs.Causes.{Cause, no_field, of_data, offset_named, shared, unless, ◌>>=◌}
 use Rattle.exif_edit_base.specs.Finding.{with_value}
 use Rattle.exif_edit_base.specs.Patches.{padded, patched, zeros_over}
 use Rattle.exif_edit_base.specs.Locations.{located}
@@ -25,8 +25,8 @@ use Rattle.exif_edit_base.specs.declared.patch.Patch.{Patch}
 use Rattle.exif_edit_base.specs.declared.patch.Span.{Span}
 use Rattle.exif_edit_base.specs.Walked.{entry_of}
 use Rattle.exif_edit.specs.Erasing.{directory_span, value_span}
-use Rattle.exif_edit.specs.Setting.{names_places}
-use Rattle.exif_tiff.specs.declared.place.EntryPlace.{EntryPlace}
+use Rattle.exif_edit.specs.Setting.{names_offsets}
+use Rattle.exif_tiff.specs.declared.offset.EntryOffset.{EntryOffset}
 
 -- ---- a directory without its entries of a tag (TIFF 6.0, section 2, "Image File Directory")
 
@@ -36,23 +36,23 @@ has_tag number bytes n e = number_at number 2 bytes e == n
 
 -- the entries of the directory at p that have the tag, and those that have another one
 abbrev pub entries_with : Reading → List ℕ → ℕ → ℕ → List ℕ
-entries_with number bytes n p = filter (has_tag number bytes n) (entry_places number bytes p)
+entries_with number bytes n p = filter (has_tag number bytes n) (entry_offsets number bytes p)
 
 -- the entries of the directory at p that have another tag
 abbrev pub entries_without : Reading → List ℕ → ℕ → ℕ → List ℕ
 entries_without number bytes n p =
-    filter (λ e. not (has_tag number bytes n e)) (entry_places number bytes p)
+    filter (λ e. not (has_tag number bytes n e)) (entry_offsets number bytes p)
 
 -- the bytes of entries
 abbrev pub entries_text : List ℕ → List ℕ → List ℕ
 entries_text bytes entries = flat_map (bytes_at 12 bytes) entries
 
--- the place of the next directory, where there is one to be told
+-- the offset of the next directory, where there is one to be told
 abbrev pub next_text : Order → Result ℕ Fault → List ℕ
 next_text order (Ok next) = spelled order 4 next
 next_text order (Err fault) = []
 
--- the directory with these entries: how many they are, the entries and the next place, and zeros up
+-- the directory with these entries: how many they are, the entries and the next offset, and zeros up
 -- to a length
 abbrev pub directory_text : Order → List ℕ → ℕ → List ℕ → List ℕ → List ℕ
 directory_text order bytes count entries next =
@@ -68,12 +68,12 @@ directory_without order bytes n p =
 
 -- a patch that lies in data of a length; else none
 abbrev pub if_within : ℕ → Patch → List Patch
-if_within total p = if nat_le (p.place + length p.text) total then p ∷ [] else []
+if_within total p = if nat_le (p.offset + length p.bytes) total then p ∷ [] else []
 
 -- what puts the directory at p without its entries of a tag over it
 abbrev pub directory_patches : Order → List ℕ → ℕ → ℕ → List Patch
 directory_patches order bytes n p =
-    if_within (length bytes) (record { place = p; text = directory_without order bytes n p })
+    if_within (length bytes) (record { offset = p; bytes = directory_without order bytes n p })
 
 -- where the values of these entries stand outside of them
 abbrev pub taken_spans : Reading → List ℕ → ℕ → ℕ → List Span
@@ -81,28 +81,28 @@ taken_spans number bytes n p = map (value_span number bytes) (entries_with numbe
 
 -- the values of the entries of the tag n in directories
 abbrev pub named_values : Reading → List ℕ → ℕ → List ℕ → List Span
-named_values number bytes n places = flat_map (taken_spans number bytes n) places
+named_values number bytes n offsets = flat_map (taken_spans number bytes n) offsets
 
 -- the directories, and these values
 abbrev pub named_spans : Reading → List ℕ → ℕ → List ℕ → List Span
-named_spans number bytes n places =
-    map (directory_span number bytes) places ++ named_values number bytes n places
+named_spans number bytes n offsets =
+    map (directory_span number bytes) offsets ++ named_values number bytes n offsets
 
 -- what takes the entries of the tag n out of directories: these without them, and zeros over their
 -- values
 abbrev pub removals : Order → List ℕ → ℕ → List ℕ → List Patch
-removals order bytes n places =
-    flat_map (directory_patches order bytes n) places
-    ++ map zeros_over (named_values (number_of order) bytes n places)
+removals order bytes n offsets =
+    flat_map (directory_patches order bytes n) offsets
+    ++ map zeros_over (named_values (number_of order) bytes n offsets)
 
 -- ---- the directories that have fields of a name
 
--- a place among others, each of them once
+-- an offset among others, each of them once
 abbrev pub noted : List ℕ → ℕ → List ℕ
-noted places p = if list_any (λ q. q == p) places then places else places ++ p ∷ []
+noted offsets p = if list_any (λ q. q == p) offsets then offsets else offsets ++ p ∷ []
 
--- fields beside the places of their entries
-abbrev pub directories_with : Tag → In → List Field → List EntryPlace → List ℕ
+-- fields beside the offsets of their entries
+abbrev pub directories_with : Tag → In → List Field → List EntryOffset → List ℕ
 directories_with tag k (f ∷ fs) (p ∷ ps) =
     if is_named tag k f then noted (directories_with tag k fs ps) p.directory
     else directories_with tag k fs ps
@@ -114,10 +114,10 @@ directories_with tag k _ _ = []
 abbrev pub without_named : Tag → In → List Field → List Field
 without_named tag k fields = filter (λ f. not (is_named tag k f)) fields
 
--- a value as the entry at e tells it: one that stands in its entry tells the entry's place
+-- a value as the entry at e tells it: one that stands in its entry tells the entry's offset
 abbrev pub told_in : ℕ → Value → Value
-told_in e (Undefined xs place) = Undefined xs (if nat_le (length xs) 4 then e + 8 else place)
-told_in e (Unknown type count place) = Unknown type count (e + 8)
+told_in e (Undefined xs offset) = Undefined xs (if nat_le (length xs) 4 then e + 8 else offset)
+told_in e (Unknown type count offset) = Unknown type count (e + 8)
 told_in e value = value
 
 -- a field with its value as the entry at e tells it
@@ -169,7 +169,7 @@ named_removals bytes tag k = do
 -- what erases the fields of a name, or why that is refused
 unfoldable pub field_patches : List ℕ → Tag → In → Result (List Patch) Cause
 field_patches bytes tag k = do
-  a ← unless (names_places tag) place_named
+  a ← unless (names_offsets tag) offset_named
   named_removals bytes tag k
 
 -- the data without them

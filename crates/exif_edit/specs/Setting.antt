@@ -12,7 +12,7 @@ use Rattle.exif_types.specs.declared.tag.Tag.{Tag}
 use Rattle.exif_types.specs.declared.value.Value.{Value}
 use Rattle.exif_layout.specs.Encoding.{encode, moved_to, spelled}
 use Rattle.exif_layout.specs.Refused.{is_unknown}
-use Rattle.exif_edit_base.specs.Causes.{Cause, place_named, shared, too_long, unless, unknown_type, ◌>>=◌}
+use Rattle.exif_edit_base.specs.Causes.{Cause, offset_named, shared, too_long, unless, unknown_type, ◌>>=◌}
 use Rattle.exif_edit_base.specs.Finding.{find_answer, replaced}
 use Rattle.exif_edit_base.specs.Patches.{padded, patched}
 use Rattle.exif_edit_base.specs.Readings.{Read, reads_as}
@@ -22,24 +22,24 @@ use Rattle.exif_edit_base.specs.declared.patch.Span.{Span}
 -- the tags of context Tiff whose values say where other bytes stand, or how many: strips, free
 -- bytes, tiles, child directories, thumbnails and their tables (TIFF 6.0, sections 8, 15, 22 and its
 -- index of tags; TIFF/EP, SubIFDs; Exif 2.32, 4.6.3)
-abbrev pub place_tags : List ℕ
-place_tags =
+abbrev pub offset_tags : List ℕ
+offset_tags =
     0x111 ∷ 0x117 ∷ 0x120 ∷ 0x121 ∷ 0x144 ∷ 0x145 ∷ 0x14a ∷ 0x201 ∷ 0x202 ∷ 0x207 ∷ 0x208 ∷ 0x209
     ∷ 0x8769 ∷ 0x8825 ∷ []
 
 -- whether the values of a tag say where other bytes stand, or how many
-abbrev pub names_places : Tag → Bool
-names_places tag = elim tag.0 [
-  | Tiff ↦ list_any (λ n. tag.1 == n) place_tags
+abbrev pub names_offsets : Tag → Bool
+names_offsets tag = elim tag.0 [
+  | Tiff ↦ list_any (λ n. tag.1 == n) offset_tags
   | Exif ↦ tag.1 == 0xa005
   | Gps ↦ false
   | Interop ↦ false
 ]
 
--- the room of a value of this size at a place: nothing where the value stands in its entry
+-- the room of a value of this size at an offset: nothing where the value stands in its entry
 abbrev pub room_of : ℕ → ℕ → Span
-room_of place size =
-    if nat_le size 4 then record { place = 0; len = 0 } else record { place = place; len = size }
+room_of offset size =
+    if nat_le size 4 then record { offset = 0; len = 0 } else record { offset = offset; len = size }
 
 -- where the value of the entry at e stands outside of it
 abbrev pub value_room : Reading → List ℕ → ℕ → Span
@@ -52,18 +52,18 @@ abbrev pub is_small : List ℕ → Bool
 is_small text = nat_le (length text) 4
 
 -- where it stands then
-abbrev pub set_place : ℕ → ℕ → List ℕ → ℕ
-set_place old e text = if is_small text then e + 8 else old
+abbrev pub set_offset : ℕ → ℕ → List ℕ → ℕ
+set_offset old e text = if is_small text then e + 8 else old
 
--- the last four bytes of an entry: those of its value, or the place where they stand
+-- the last four bytes of an entry: those of its value, or the offset where they stand
 abbrev pub element_text : Order → ℕ → List ℕ → List ℕ
-element_text order place text = if is_small text then padded 4 text else spelled order 4 place
+element_text order offset text = if is_small text then padded 4 text else spelled order 4 offset
 
 -- the 10 bytes behind the tag of an entry
 abbrev pub entry_text : Order → Value → ℕ → List ℕ → List ℕ
-entry_text order value place text =
+entry_text order value offset text =
     spelled order 2 (type_number value)
-    ++ (spelled order 4 (count_of value) ++ element_text order place text)
+    ++ (spelled order 4 (count_of value) ++ element_text order offset text)
 
 -- the bytes in the old room
 abbrev pub room_text : ℕ → List ℕ → List ℕ
@@ -73,19 +73,19 @@ room_text len text = padded len (if is_small text then [] else text)
 abbrev pub room_patches : Span → List ℕ → List Patch
 room_patches room text =
     if room.len == 0 then []
-    else record { place = room.place; text = room_text room.len text } ∷ []
+    else record { offset = room.offset; bytes = room_text room.len text } ∷ []
 
 -- what puts a value over that of the entry at e, which has this room
 abbrev pub value_patches : Order → Value → ℕ → Span → List Patch
 value_patches order value e room =
     let text = encode order value in
     room_patches room text
-    ++ record { place = e + 2; text = entry_text order value room.place text } ∷ []
+    ++ record { offset = e + 2; bytes = entry_text order value room.offset text } ∷ []
 
 -- the same, if the value fits there
 abbrev pub answer_in : Order → Value → ℕ → Span → ℕ → Result (List Patch) Cause
 answer_in order value e room total = do
-  a ← unless (nat_lt total (room.place + room.len)) shared
+  a ← unless (nat_lt total (room.offset + room.len)) shared
   b ← unless (nat_lt (2 ^ 32 - 1) (count_of value)) too_long
   c ← unless (nat_lt (max 4 room.len) (length (encode order value))) too_long
   Ok (value_patches order value e room)
@@ -104,7 +104,7 @@ expected tag k value e bytes read =
     record {
       little = read.little;
       fields =
-          replaced tag k (moved_to (set_place room.place e (encode order value)) value) read.fields;
+          replaced tag k (moved_to (set_offset room.offset e (encode order value)) value) read.fields;
       faults = read.faults;
     }
 
@@ -123,7 +123,7 @@ checked_patches bytes tag k value = do
 -- what sets the last value of a name, or why that is refused
 unfoldable pub set_patches : List ℕ → Tag → In → Value → Result (List Patch) Cause
 set_patches bytes tag k value = do
-  a ← unless (names_places tag) place_named
+  a ← unless (names_offsets tag) offset_named
   b ← unless (is_unknown value) unknown_type
   checked_patches bytes tag k value
 

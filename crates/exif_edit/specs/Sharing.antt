@@ -10,42 +10,42 @@ use Rattle.exif_types.specs.ValueTypes.{count_of}
 use Rattle.exif_types.specs.declared.tag.Tag.{Tag}
 use Rattle.exif_types.specs.declared.value.Value.{Value}
 use Rattle.exif_tiff.specs.Footprint.{Stretch, chain_directories, value_stretch}
-use Rattle.exif_tiff.specs.Trace.{entry_places, header, whole_entries}
+use Rattle.exif_tiff.specs.Trace.{entry_offsets, header, whole_entries}
 use Rattle.exif_layout.specs.Encoding.{encode}
 use Rattle.exif_layout.specs.Ranged.{IsRanged}
 use Rattle.exif_layout.specs.Refused.{is_unknown}
 use Rattle.exif_edit_base.specs.Locations.{Located, located}
-use Rattle.exif_edit_base.specs.Causes.{Cause, place_named, too_long, unknown_type, unless, ◌>>=◌}
+use Rattle.exif_edit_base.specs.Causes.{Cause, offset_named, too_long, unknown_type, unless, ◌>>=◌}
 use Rattle.exif_edit_base.specs.Finding.{last_located}
 use Rattle.exif_edit_base.specs.declared.patch.Patch.{Patch}
 use Rattle.exif_edit_base.specs.declared.patch.Span.{Span}
-use Rattle.exif_edit.specs.Setting.{names_places, set_patches, value_patches, value_room}
+use Rattle.exif_edit.specs.Setting.{names_offsets, set_patches, value_patches, value_room}
 
 -- whether a stretch has a byte of a span
 abbrev pub meets : Span → Stretch → Bool
-meets s t = nat_lt t.place (s.place + s.len) && nat_lt s.place (t.place + t.len)
+meets s t = nat_lt t.offset (s.offset + s.len) && nat_lt s.offset (t.offset + t.len)
 
 -- the bytes of the entry at e that a new value changes
 abbrev pub changed_entry : ℕ → Span
-changed_entry e = record { place = e + 2; len = 10 }
+changed_entry e = record { offset = e + 2; len = 10 }
 
 -- what reading looks at of an entry at d, unless it is the one at e
 abbrev pub other_entry : Reading → List ℕ → ℕ → ℕ → List Stretch
 other_entry number bytes e d =
-    if d == e then [] else record { place = d; len = 12 } ∷ value_stretch number bytes d
+    if d == e then [] else record { offset = d; len = 12 } ∷ value_stretch number bytes d
 
--- what it looks at of the directory at p but for the entry at e: the count, the next place, the
+-- what it looks at of the directory at p but for the entry at e: the count, the next offset, the
 -- other entries and their values
 abbrev pub beside : Reading → List ℕ → ℕ → ℕ → List Stretch
 beside number bytes e p =
-    record { place = p; len = 2 }
-    ∷ (record { place = p + 2 + 12 * whole_entries number bytes p; len = 4 }
-    ∷ flat_map (other_entry number bytes e) (entry_places number bytes p))
+    record { offset = p; len = 2 }
+    ∷ (record { offset = p + 2 + 12 * whole_entries number bytes p; len = 4 }
+    ∷ flat_map (other_entry number bytes e) (entry_offsets number bytes p))
 
 -- what it looks at of the data but for the entry at e
 abbrev pub all_beside : Reading → List ℕ → ℕ → List Stretch
 all_beside number bytes e =
-    record { place = 0; len = 8 }
+    record { offset = 0; len = 8 }
     ∷ flat_map (beside number bytes e)
     (chain_directories 8 number bytes (number_at number 4 bytes 4))
 
@@ -60,7 +60,7 @@ stands_alone number bytes e =
     not
     (list_any (λ t. meets (changed_entry e) t || meets (value_room number bytes e) t)
     (all_beside number bytes e))
-    && (not (meets (value_room number bytes e) (record { place = e; len = 12 }))
+    && (not (meets (value_room number bytes e) (record { offset = e; len = 12 }))
     && (length (standing_at e (located bytes)) == 1))
 
 -- whether a tag number is that of a child directory
@@ -70,7 +70,7 @@ names_child n = (n == 0x8769) || ((n == 0x8825) || (n == 0xa005))
 -- what puts a value over that of an entry which has this room, if only it fits there
 abbrev pub fit_answer : Order → Tag → Value → ℕ → Span → Result (List Patch) Cause
 fit_answer order tag value e room = do
-  a ← unless (names_places tag) place_named
+  a ← unless (names_offsets tag) offset_named
   b ← unless (is_unknown value) unknown_type
   c ← unless (nat_lt (2 ^ 32 - 1) (count_of value)) too_long
   d ← unless (nat_lt (max 4 room.len) (length (encode order value))) too_long

@@ -1,16 +1,16 @@
-//! Whether what an edit changes is looked at as anything else. This is asked of the places that the
+//! Whether what an edit changes is looked at as anything else. This is asked of the bytes that the
 //! walk has found, without memory.
 
 ghost use Rattle.std.specs.Prelude.{◌≡◌, ◌≤◌, ◌<◌, ◌+◌, ◌*◌, ◌^◌, ◌==◌, ◌&&◌, nat_lt, not, true, All, Ok, length};
 ghost use Rattle.std.specs.List.{filter, flat_map, list_any};
 ghost use Rattle.exif_base.specs.Orders.{number_of};
 ghost use Rattle.exif_tiff.specs.Footprint.{looked_at, value_stretch};
-ghost use Rattle.exif_tiff.specs.Trace.{entry_places, header};
+ghost use Rattle.exif_tiff.specs.Trace.{entry_offsets, header};
 ghost use Rattle.exif_edit_base.specs.Walked.{Finds};
 ghost use Rattle.exif_edit_base.specs.Patches.{FitsIn};
-ghost use Rattle.exif_edit.specs.Changing.{ChangeEntry, ChangePlaces, changes, covers};
+ghost use Rattle.exif_edit.specs.Changing.{ChangeEntry, ChangeOffsets, changes, covers};
 ghost use Rattle.exif_edit.specs.Erasing.{is_gps};
-ghost use Rattle.exif_edit.specs.PlacesAlone.{places_stand_alone};
+ghost use Rattle.exif_edit.specs.GpsAlone.{gps_stands_alone};
 ghost use Rattle.exif_edit.specs.Sharing.{beside, other_entry, stands_alone};
 
 use crate::erase::value_span;
@@ -18,37 +18,37 @@ use crate::set::value_room;
 use exif_base::Order;
 use exif_edit_base::offsets::whole_entries;
 use exif_edit_base::patch::Patch;
-use exif_edit_base::{DirectoryPlace, EntryPlace, Walk};
+use exif_edit_base::{DirectoryOffset, EntryOffset, Walk};
 use exif_types::Context;
 
-// So many pairs of a patch and a stretch are asked at most. Where places make more of them, a second
+// So many pairs of a patch and a stretch are asked at most. Where offsets make more of them, a second
 // reading takes no longer.
 const MAX_PAIRS: usize = 100_000;
 
 // Whether two stretches have a byte in common.
-fn meets(start: usize, count: usize, place: usize, len: usize) -> bool
+fn meets(start: usize, count: usize, offset: usize, len: usize) -> bool
     requires first { start + count < 2 ^ 40 }
-    requires second { place + len < 2 ^ 40 }
-    ensures { result ≡ (nat_lt place (start + count) && nat_lt start (place + len)) }
+    requires second { offset + len < 2 ^ 40 }
+    ensures { result ≡ (nat_lt offset (start + count) && nat_lt start (offset + len)) }
 {
-    place < start + count && start < place + len
+    offset < start + count && start < offset + len
 }
 
 // Whether patches have a byte of a stretch.
-fn changes(patches: &[Patch], place: usize, len: usize) -> bool
+fn changes(patches: &[Patch], offset: usize, len: usize) -> bool
     requires patches { All (FitsIn (2 ^ 32)) patches.now }
-    requires stretch { place + len < 2 ^ 40 }
-    ensures { result ≡ changes patches.now (record { place = place; len = len }) }
+    requires stretch { offset + len < 2 ^ 40 }
+    ensures { result ≡ changes patches.now (record { offset = offset; len = len }) }
 {
     for patch in patches {
-        if meets(patch.place as usize, patch.text.len(), place, len) {
+        if meets(patch.offset as usize, patch.bytes.len(), offset, len) {
             return true;
         }
     }
     false
 }
 
-// Whether they have one of the value of the entry at a place, where that stands outside of it.
+// Whether they have one of the value of the entry at an offset, where that stands outside of it.
 fn changes_value(order: Order, bytes: &[u8], patches: &[Patch], at: usize) -> bool
     requires patches { All (FitsIn (2 ^ 32)) patches.now }
     requires whole { at + 12 ≤ length bytes.now }
@@ -57,19 +57,19 @@ fn changes_value(order: Order, bytes: &[u8], patches: &[Patch], at: usize) -> bo
         ≡ list_any (changes patches.now) (value_stretch (number_of order) bytes.now at) }
 {
     let value = value_span(order, bytes, at as u32);
-    changes(patches, value.place as usize, value.len)
+    changes(patches, value.offset as usize, value.len)
 }
 
-// Whether they have one of the values of the directory at a place.
-fn changes_values(order: Order, bytes: &[u8], patches: &[Patch], place: u32) -> bool
+// Whether they have one of the values of the directory at an offset.
+fn changes_values(order: Order, bytes: &[u8], patches: &[Patch], offset: u32) -> bool
     requires patches { All (FitsIn (2 ^ 32)) patches.now }
     requires small { length bytes.now < 2 ^ 32 }
     ensures { result ≡ list_any (changes patches.now) (flat_map
         (value_stretch (number_of order) bytes.now)
-        (entry_places (number_of order) bytes.now place)) }
+        (entry_offsets (number_of order) bytes.now offset)) }
 {
-    let mut at = place as usize + 2;
-    for _ in 0..whole_entries(order, bytes, place) {
+    let mut at = offset as usize + 2;
+    for _ in 0..whole_entries(order, bytes, offset) {
         if changes_value(order, bytes, patches, at) {
             return true;
         }
@@ -91,16 +91,16 @@ fn changes_other(order: Order, bytes: &[u8], patches: &[Patch], entry: u32, at: 
     at != entry as usize && (changes(patches, at, 12) || changes_value(order, bytes, patches, at))
 }
 
-// Whether they have one of the other entries of the directory at a place, or of their values.
-fn changes_others(order: Order, bytes: &[u8], patches: &[Patch], entry: u32, place: u32) -> bool
+// Whether they have one of the other entries of the directory at an offset, or of their values.
+fn changes_others(order: Order, bytes: &[u8], patches: &[Patch], entry: u32, offset: u32) -> bool
     requires patches { All (FitsIn (2 ^ 32)) patches.now }
     requires small { length bytes.now < 2 ^ 32 }
     ensures { result ≡ list_any (changes patches.now) (flat_map
         (other_entry (number_of order) bytes.now entry)
-        (entry_places (number_of order) bytes.now place)) }
+        (entry_offsets (number_of order) bytes.now offset)) }
 {
-    let mut at = place as usize + 2;
-    for _ in 0..whole_entries(order, bytes, place) {
+    let mut at = offset as usize + 2;
+    for _ in 0..whole_entries(order, bytes, offset) {
         if changes_other(order, bytes, patches, entry, at) {
             return true;
         }
@@ -109,17 +109,17 @@ fn changes_others(order: Order, bytes: &[u8], patches: &[Patch], entry: u32, pla
     false
 }
 
-// Whether they have one of what the directory at a place is, but for the entry that is set.
-fn changes_beside(order: Order, bytes: &[u8], patches: &[Patch], entry: u32, place: u32) -> bool
+// Whether they have one of what the directory at an offset is, but for the entry that is set.
+fn changes_beside(order: Order, bytes: &[u8], patches: &[Patch], entry: u32, offset: u32) -> bool
     requires patches { All (FitsIn (2 ^ 32)) patches.now }
     requires small { length bytes.now < 2 ^ 32 }
     ensures { result
-        ≡ list_any (changes patches.now) (beside (number_of order) bytes.now entry place) }
+        ≡ list_any (changes patches.now) (beside (number_of order) bytes.now entry offset) }
 {
-    let next = place as usize + 2 + 12 * whole_entries(order, bytes, place);
-    changes(patches, place as usize, 2)
+    let next = offset as usize + 2 + 12 * whole_entries(order, bytes, offset);
+    changes(patches, offset as usize, 2)
         || changes(patches, next, 4)
-        || changes_others(order, bytes, patches, entry, place)
+        || changes_others(order, bytes, patches, entry, offset)
 }
 
 // The same of directories.
@@ -128,35 +128,35 @@ fn changes_any_beside(
     bytes: &[u8],
     patches: &[Patch],
     entry: u32,
-    directories: &[DirectoryPlace],
+    directories: &[DirectoryOffset],
 ) -> bool
     requires patches { All (FitsIn (2 ^ 32)) patches.now }
     requires small { length bytes.now < 2 ^ 32 }
     ensures { result ≡ list_any (λ d. list_any (changes patches.now)
-        (beside (number_of order) bytes.now entry d.place)) directories.now }
+        (beside (number_of order) bytes.now entry d.offset)) directories.now }
 {
     for directory in directories {
-        if changes_beside(order, bytes, patches, entry, directory.place) {
+        if changes_beside(order, bytes, patches, entry, directory.offset) {
             return true;
         }
     }
     false
 }
 
-// Whether one field stands in the entry at a place.
-fn stands_once(entries: &[EntryPlace], entry: u32) -> bool
+// Whether one field stands in the entry at an offset.
+fn stands_once(entries: &[EntryOffset], entry: u32) -> bool
     ensures { result ≡ (length (filter (λ p. p.entry == entry) entries.now) == 1) }
 {
     let mut count: usize = 0;
-    for place in entries {
-        if place.entry == entry {
+    for offset in entries {
+        if offset.entry == entry {
             count += 1;
         }
     }
     count == 1
 }
 
-/// Whether the entry at a place holds one field, and the patches that set its value change nothing
+/// Whether the entry at an offset holds one field, and the patches that set its value change nothing
 /// that is looked at as anything else.
 pub fn stands_alone(order: Order, bytes: &[u8], patches: &[Patch], entry: u32, walk: &Walk) -> bool
     requires header { header bytes.now ≡ Ok order }
@@ -174,27 +174,27 @@ pub fn stands_alone(order: Order, bytes: &[u8], patches: &[Patch], entry: u32, w
         return false;
     }
     let room = value_room(order, bytes, entry);
-    if meets(room.place as usize, room.len, entry as usize, 12) {
+    if meets(room.offset as usize, room.len, entry as usize, 12) {
         return false;
     }
     stands_once(walk.entries(), entry)
 }
 
-// ---- places erased
+// ---- GPS data erased
 
-// Whether patches have a byte of the directory at a place, or of its values.
-fn changes_directory(order: Order, bytes: &[u8], patches: &[Patch], place: u32) -> bool
+// Whether patches have a byte of the directory at an offset, or of its values.
+fn changes_directory(order: Order, bytes: &[u8], patches: &[Patch], offset: u32) -> bool
     requires patches { All (FitsIn (2 ^ 32)) patches.now }
     requires small { length bytes.now < 2 ^ 32 }
     ensures { result
-        ≡ list_any (changes patches.now) (looked_at (number_of order) bytes.now place) }
+        ≡ list_any (changes patches.now) (looked_at (number_of order) bytes.now offset) }
 {
-    let len = 2 + 12 * whole_entries(order, bytes, place) + 4;
-    changes(patches, place as usize, len) || changes_values(order, bytes, patches, place)
+    let len = 2 + 12 * whole_entries(order, bytes, offset) + 4;
+    changes(patches, offset as usize, len) || changes_values(order, bytes, patches, offset)
 }
 
 // Whether a directory is none of GPS data.
-fn is_kept(directory: &DirectoryPlace) -> bool
+fn is_kept(directory: &DirectoryOffset) -> bool
     ensures { result ≡ not (is_gps directory.now.context) }
 {
     !matches!(directory.context, Context::Gps)
@@ -205,15 +205,15 @@ fn changes_kept(
     order: Order,
     bytes: &[u8],
     patches: &[Patch],
-    directories: &[DirectoryPlace],
+    directories: &[DirectoryOffset],
 ) -> bool
     requires patches { All (FitsIn (2 ^ 32)) patches.now }
     requires small { length bytes.now < 2 ^ 32 }
     ensures { result ≡ list_any (λ d. not (is_gps d.context) && list_any (changes patches.now)
-        (looked_at (number_of order) bytes.now d.place)) directories.now }
+        (looked_at (number_of order) bytes.now d.offset)) directories.now }
 {
     for directory in directories {
-        if is_kept(directory) && changes_directory(order, bytes, patches, directory.place) {
+        if is_kept(directory) && changes_directory(order, bytes, patches, directory.offset) {
             return true;
         }
     }
@@ -221,10 +221,10 @@ fn changes_kept(
 }
 
 // Whether there are few pairs of a patch and a stretch.
-fn are_few(order: Order, bytes: &[u8], patches: &[Patch], directories: &[DirectoryPlace]) -> bool {
+fn are_few(order: Order, bytes: &[u8], patches: &[Patch], directories: &[DirectoryOffset]) -> bool {
     let mut left = MAX_PAIRS / patches.len().max(1);
     for directory in directories {
-        let stretches = whole_entries(order, bytes, directory.place) + 1;
+        let stretches = whole_entries(order, bytes, directory.offset) + 1;
         if left < stretches {
             return false;
         }
@@ -233,15 +233,15 @@ fn are_few(order: Order, bytes: &[u8], patches: &[Patch], directories: &[Directo
     true
 }
 
-/// Whether the patches that erase places change nothing that is looked at as anything else. Where
+/// Whether the patches that erase GPS data change nothing that is looked at as anything else. Where
 /// that would take long to tell, the answer is no.
-pub fn places_stand_alone(order: Order, bytes: &[u8], patches: &[Patch], walk: &Walk) -> bool
+pub fn gps_stands_alone(order: Order, bytes: &[u8], patches: &[Patch], walk: &Walk) -> bool
     requires header { header bytes.now ≡ Ok order }
     requires small { length bytes.now < 2 ^ 32 }
     requires found { Finds bytes.now walk.now }
     requires patches { All (FitsIn (2 ^ 32)) patches.now }
-    requires erased { ChangePlaces (number_of order) bytes.now patches.now }
-    ensures { result ≡ true → places_stand_alone (number_of order) bytes.now ≡ true }
+    requires erased { ChangeOffsets (number_of order) bytes.now patches.now }
+    ensures { result ≡ true → gps_stands_alone (number_of order) bytes.now ≡ true }
 {
     if !are_few(order, bytes, patches, walk.directories()) {
         return false;

@@ -4,7 +4,7 @@ ghost use Rattle.std.specs.Prelude.{◌≡◌, ◌≤◌, ◌-◌, ◌<◌, ◌^
 ghost use Rattle.exif_layout.specs.Encoding.{spelled};
 ghost use Rattle.exif_edit_base.specs.Causes.{Edits, Makes};
 ghost use Rattle.exif_edit_base.specs.Patches.{FitsIn, put_at};
-ghost use Rattle.exif_edit.specs.Clearing.{IsCleared, clear_answer, clear_patches, clearing, empty_place};
+ghost use Rattle.exif_edit.specs.Clearing.{IsCleared, clear_answer, clear_patches, clearing, empty_offset};
 
 use exif_base::{BigEndian, Endian, Items, LittleEndian, Order};
 use exif_edit_base::Error;
@@ -14,22 +14,22 @@ use exif_reader::tiff::header;
 use std::alloc::{AllocError, Global};
 
 // Where the directory of the chain stands in data of a length: behind the header, if there is
-// room for its count and its next place.
-fn empty_place(total: usize) -> u32
-    ensures { result ≡ empty_place total }
+// room for its count and its next offset.
+fn empty_offset(total: usize) -> u32
+    ensures { result ≡ empty_offset total }
 {
     if total < 14 { 0 } else { 8 }
 }
 
-// Puts the place of the first directory into the header.
-fn put_first(order: Order, bytes: &mut [u8], place: u32)
+// Puts the offset of the first directory into the header.
+fn put_first(order: Order, bytes: &mut [u8], offset: u32)
     requires { 8 ≤ length bytes.old }
-    ensures value { bytes.new ≡ put_at 4 (spelled order 4 place) bytes.old }
+    ensures value { bytes.new ≡ put_at 4 (spelled order 4 offset) bytes.old }
     ensures len { length bytes.new ≡ length bytes.old }
 {
     match order {
-        Order::Big => BigEndian::writeu32(bytes, 4, place),
-        Order::Little => LittleEndian::writeu32(bytes, 4, place),
+        Order::Big => BigEndian::writeu32(bytes, 4, offset),
+        Order::Little => LittleEndian::writeu32(bytes, 4, offset),
     }
 }
 
@@ -46,14 +46,14 @@ fn zero_behind(bytes: &mut [u8])
 fn clearing(alloc: Global, order: Order, total: usize) -> Result<Vec<Patch>, AllocError>
     ensures { IfOk result (λ ps. ps.items ≡ clearing order total) }
 {
-    let text = Vec::from_slice(alloc, &spelled_u32(order, empty_place(total)))?;
+    let text = Vec::from_slice(alloc, &spelled_u32(order, empty_offset(total)))?;
     let mut patches = Vec::with_capacity(alloc, 2)?;
     patches.push(Patch {
-        place: 4,
-        text: Items::from_vec(text),
+        offset: 4,
+        bytes: Items::from_vec(text),
     })?;
     let behind = Span {
-        place: 8,
+        offset: 8,
         len: total.saturating_sub(8),
     };
     let patch = zeros(alloc, behind)?;
@@ -75,14 +75,14 @@ pub fn erase_all_patches(alloc: Global, bytes: &[u8]) -> Result<Vec<Patch>, Erro
 }
 
 /// Erases all fields: the byte order and the number 42 stay, and all behind them becomes zero, but
-/// for the place of an empty directory. It takes no memory.
+/// for the offset of an empty directory. It takes no memory.
 pub fn erase_all(bytes: &mut [u8]) -> Result<(), Error>
     ensures answer { Edits result bytes.old bytes.new (clear_answer bytes.old) }
     ensures cleared { OnOk result (IsCleared bytes.old bytes.new) }
 {
     match header(bytes) {
         Ok(order) => {
-            put_first(order, bytes, empty_place(bytes.len()));
+            put_first(order, bytes, empty_offset(bytes.len()));
             zero_behind(bytes);
             Ok(())
         }

@@ -6,7 +6,7 @@ ghost use Rattle.exif_edit_base.specs.Patches.{FitsIn};
 ghost use Rattle.exif_edit.specs.Edits.{IsEdited, allowed, edit_patches, edited, limited_edit, limited_patches};
 
 use crate::clear::{erase_all, erase_all_patches};
-use crate::erase::{erase_places, erase_places_patches};
+use crate::erase::{erase_gps, erase_gps_patches};
 use crate::remove::{erase_field, erase_field_patches};
 use crate::set::{set_value, set_value_patches};
 use exif_edit_base::Error;
@@ -27,7 +27,7 @@ pub enum Edit {
         /// The new value.
         value: Value,
     },
-    /// Erases all GPS data, as [`erase_places`](crate::erase_places) does.
+    /// Erases all GPS data, as [`erase_gps`](crate::erase_gps) does.
     EraseGps,
     /// Erases all fields of a name, as [`erase_field`](crate::erase_field) does.
     EraseField {
@@ -63,7 +63,7 @@ fn carry_out(alloc: Global, edit: &Edit, bytes: &mut [u8]) -> Result<(), Error>
             ifd_num,
             value,
         } => set_value(alloc, bytes, *tag, *ifd_num, value),
-        Edit::EraseGps => erase_places(alloc, bytes),
+        Edit::EraseGps => erase_gps(alloc, bytes),
         Edit::EraseField { tag, ifd_num } => erase_field(alloc, bytes, *tag, *ifd_num),
         Edit::EraseAll => erase_all(bytes),
     }
@@ -80,7 +80,7 @@ fn all_patches(alloc: Global, edit: &Edit, bytes: &[u8]) -> Result<Vec<Patch>, E
             ifd_num,
             value,
         } => set_value_patches(alloc, bytes, *tag, *ifd_num, value),
-        Edit::EraseGps => erase_places_patches(alloc, bytes),
+        Edit::EraseGps => erase_gps_patches(alloc, bytes),
         Edit::EraseField { tag, ifd_num } => erase_field_patches(alloc, bytes, *tag, *ifd_num),
         Edit::EraseAll => erase_all_patches(alloc, bytes),
     }

@@ -1,18 +1,18 @@
-//! Places erased: GPS directories and their values become zero bytes.
+//! Offsets erased: GPS directories and their values become zero bytes.
 
 ghost use Rattle.std.specs.Prelude.{◌≡◌, ◌≤◌, ◌<◌, ◌+◌, ◌*◌, ◌^◌, ◌++◌, All, length, map, not, IfOk, OnOk};
 ghost use Rattle.std.specs.List.{flat_map};
 ghost use Rattle.exif_base.specs.Bytes.{spaced};
 ghost use Rattle.exif_base.specs.Orders.{number_of};
 ghost use Rattle.exif_edit_base.specs.Causes.{Edits, Makes};
-ghost use Rattle.exif_edit_base.specs.Locations.{gps_places};
+ghost use Rattle.exif_edit_base.specs.Locations.{visited_gps};
 ghost use Rattle.exif_edit_base.specs.Patches.{FitsIn, zeros_over};
 ghost use Rattle.exif_edit_base.specs.Readings.{read_of};
 ghost use Rattle.exif_edit.specs.Erasing.{clears, clipped, directory_spans, erase_answer, erase_patches, gps_room, gps_spans, gps_value_span, is_gps, item_len, value_span, without_gps};
 ghost use Rattle.exif_edit.specs.Plans.{Plans};
 ghost use Rattle.exif_edit.specs.Promises.{IsErased};
 
-use crate::alone::places_stand_alone;
+use crate::alone::gps_stands_alone;
 use crate::plan::{Plan, Wanted, carry_out, try_on_copy};
 use crate::set::value_room;
 use exif_base::Order;
@@ -30,27 +30,27 @@ fn clipped(total: usize, span: Span) -> Span
     requires { span.len < 2 ^ 40 }
     ensures { result ≡ clipped total span }
 {
-    let place = span.place as usize;
-    if place <= total {
+    let offset = span.offset as usize;
+    if offset <= total {
         Span {
-            place: span.place,
-            len: span.len.min(total - place),
+            offset: span.offset,
+            len: span.len.min(total - offset),
         }
     } else {
-        Span { place: 0, len: 0 }
+        Span { offset: 0, len: 0 }
     }
 }
 
-/// Where the value of the entry at a place stands outside of it, if it lies in the data.
+/// Where the value of the entry at an offset stands outside of it, if it lies in the data.
 pub fn value_span(order: Order, bytes: &[u8], entry: u32) -> Span
     requires { entry + 12 ≤ length bytes.now }
     ensures { result ≡ value_span (number_of order) bytes.now entry }
 {
     let room = value_room(order, bytes, entry);
-    if room.place as usize + room.len <= bytes.len() {
+    if room.offset as usize + room.len <= bytes.len() {
         room
     } else {
-        Span { place: 0, len: 0 }
+        Span { offset: 0, len: 0 }
     }
 }
 
@@ -77,12 +77,12 @@ fn gps_room(order: Order, bytes: &[u8], entry: u32) -> Span
 {
     let at = entry as usize;
     let count = number32(order, bytes, at + 4) as usize;
-    let place = number32(order, bytes, at + 8);
+    let offset = number32(order, bytes, at + 8);
     let len = item_len(number16(order, bytes, at + 2)) * count;
     if len <= 4 {
-        Span { place: 0, len: 0 }
+        Span { offset: 0, len: 0 }
     } else {
-        Span { place, len }
+        Span { offset, len }
     }
 }
 
@@ -119,24 +119,24 @@ fn add_values(
     Ok(())
 }
 
-// Adds zeros over the directory at a place and over its values.
+// Adds zeros over the directory at an offset and over its values.
 fn add_directory(
     alloc: Global,
     order: Order,
     bytes: &[u8],
-    place: u32,
+    offset: u32,
     patches: &mut Vec<Patch>,
 ) -> Result<(), AllocError>
     requires { length bytes.now < 2 ^ 32 }
     ensures { OnOk result (patches.new.items ≡ patches.old.items ++ map zeros_over
-        (directory_spans (number_of order) bytes.now place)) }
+        (directory_spans (number_of order) bytes.now offset)) }
 {
-    let count = whole_entries(order, bytes, place);
+    let count = whole_entries(order, bytes, offset);
     let len = 2 + 12 * count + 4;
-    let span = clipped(bytes.len(), Span { place, len });
+    let span = clipped(bytes.len(), Span { offset, len });
     let patch = zeros(alloc, span)?;
     patches.push(patch)?;
-    add_values(alloc, order, bytes, place as usize + 2, count, patches)
+    add_values(alloc, order, bytes, offset as usize + 2, count, patches)
 }
 
 // Zeros over directories and over their values.
@@ -151,8 +151,8 @@ fn zeroed(
         (flat_map (directory_spans (number_of order) bytes.now) directories.now)) }
 {
     let mut patches = Vec::new(alloc);
-    for place in directories {
-        add_directory(alloc, order, bytes, *place, &mut patches)?;
+    for offset in directories {
+        add_directory(alloc, order, bytes, *offset, &mut patches)?;
     }
     Ok(patches)
 }
@@ -167,7 +167,7 @@ fn zeros_over_gps(
 ) -> Result<Vec<Patch>, AllocError>
     requires room { 8 ≤ length bytes.now }
     requires small { length bytes.now < 2 ^ 32 }
-    requires visited { visited.now ≡ gps_places bytes.now }
+    requires visited { visited.now ≡ visited_gps bytes.now }
     ensures { IfOk result (λ ps. ps.items
         ≡ map zeros_over (gps_spans (number_of order) bytes.now)) }
 {
@@ -205,7 +205,7 @@ pub fn clears(alloc: Global, bytes: &[u8], wanted: &Parsed) -> Result<bool, Allo
     }
 }
 
-// What erases places, and how the data must be read then: as anything where the places stand alone.
+// What erases GPS data, and how the data must be read then: as anything where they stand alone.
 fn plan(alloc: Global, bytes: &[u8]) -> Result<Plan, Error>
     ensures answer { Plans result bytes.now (erase_patches bytes.now) }
     ensures within { IfOk result (λ p. All (FitsIn (length bytes.now)) p.patches.items) }
@@ -213,7 +213,7 @@ fn plan(alloc: Global, bytes: &[u8]) -> Result<Plan, Error>
     let Located { mut parsed, walk } = locate(alloc, bytes)?;
     let order = order_named(parsed.little_endian);
     let patches = zeros_over_gps(alloc, order, bytes, walk.gps())?;
-    if places_stand_alone(order, bytes, patches.as_slice(), &walk) {
+    if gps_stands_alone(order, bytes, patches.as_slice(), &walk) {
         return Ok(Plan {
             patches,
             wanted: Wanted::Anything,
@@ -226,10 +226,10 @@ fn plan(alloc: Global, bytes: &[u8]) -> Result<Plan, Error>
     })
 }
 
-/// What [`erase_places`] puts over the data, as data: zeros over each GPS directory, and over each
+/// What [`erase_gps`] puts over the data, as data: zeros over each GPS directory, and over each
 /// of its values. The data stay as they are. Where bytes are shared, it takes the memory of a copy,
 /// too.
-pub fn erase_places_patches(alloc: Global, bytes: &[u8]) -> Result<Vec<Patch>, Error>
+pub fn erase_gps_patches(alloc: Global, bytes: &[u8]) -> Result<Vec<Patch>, Error>
     ensures answer { Makes (λ ps. ps.items) result (erase_patches bytes.now) }
     ensures within { IfOk result (λ ps. All (FitsIn (length bytes.now)) ps.items) }
 {
@@ -244,10 +244,10 @@ pub fn erase_places_patches(alloc: Global, bytes: &[u8]) -> Result<Vec<Patch>, E
 /// empty directories. Locations in XMP, in maker notes and in bytes that nothing points to stay
 /// too; [`leftovers`](exif_edit_base::leftovers) says where GPS pointers lead that are not followed.
 ///
-/// Refusals are `Header` and `SharedBytes`, which places that stand alone never get (see
+/// Refusals are `Header` and `SharedBytes`, which GPS data that stand alone never get (see
 /// [`laws`](crate::laws)). It takes the memory of one reading and of the zeros; and where bytes are
 /// shared, of a second reading and no copy.
-pub fn erase_places(alloc: Global, bytes: &mut [u8]) -> Result<(), Error>
+pub fn erase_gps(alloc: Global, bytes: &mut [u8]) -> Result<(), Error>
     ensures answer { Edits result bytes.old bytes.new (erase_answer bytes.old) }
     ensures erased { OnOk result (IsErased bytes.old bytes.new) }
 {

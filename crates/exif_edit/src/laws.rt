@@ -4,7 +4,7 @@ ghost use Rattle.std.specs.Prelude.{ℕ, List};
 ghost use Rattle.exif_text.specs.declared.ifd.In.{In as Ifd};
 ghost use Rattle.exif_types.specs.declared.tag.Tag.{Tag as Name};
 ghost use Rattle.exif_types.specs.declared.value.Value.{Value as Content};
-ghost use Rattle.exif_edit.specs.PlacesAlone.{AreErasedUnshared};
+ghost use Rattle.exif_edit.specs.GpsAlone.{AreErasedUnshared};
 ghost use Rattle.exif_edit.specs.Promises.{SetsBack};
 ghost use Rattle.exif_edit.specs.Sharing.{IsSetUnshared};
 
@@ -23,8 +23,8 @@ pub fn a_value_that_stands_alone_is_set()
         → IsSetUnshared tag k value bytes }
 {}
 
-/// Where reading looks at no byte of GPS directories and their values as anything else, places are
+/// Where reading looks at no byte of GPS directories and their values as anything else, they are
 /// erased, and never refused as shared.
-pub fn places_that_stand_alone_are_erased()
+pub fn gps_that_stands_alone_is_erased()
     ensures { (bytes : List ℕ) → AreErasedUnshared bytes }
 {}

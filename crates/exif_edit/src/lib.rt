@@ -1,10 +1,10 @@
-//! Exif data edited where they stand: a value set, fields of a name, places or all fields erased, and
-//! not one other byte changed.
+//! Exif data edited in place: an [`Edit`] sets a value, or erases fields of a name, GPS data or all
+//! fields, and changes no other byte.
 //!
-//! Each edit comes in two forms: over data in memory, and as patches, for a program that writes into
-//! a file by a seek; `exif_edit_files` has them over files. An error leaves all bytes as they were.
-//! Where bytes that an edit changes are shared with something else, what it makes is read again
-//! before it is answered; data that read otherwise are refused, and what stood there is put back.
+//! [`apply`] edits data in memory; [`patches_of`] answers what to put over them, for a program that
+//! writes by a seek. `exif_edit_files` edits files. An error leaves all bytes as they were. Where
+//! bytes that an edit changes are shared with something else, the edited data are read again before
+//! they are answered; data that read otherwise are refused, and the old bytes are put back.
 //! docs/CALLING.md has examples over files.
 #![tactic(auto)]
 
@@ -18,9 +18,5 @@ pub mod remove;
 pub mod set;
 pub mod spell;
 
-pub use clear::{erase_all, erase_all_patches};
 pub use edits::{Edit, apply, patches_of};
-pub use erase::{erase_places, erase_places_patches};
 pub use exif_edit_base::{Error, Patch, Unerased, leftovers};
-pub use remove::{erase_field, erase_field_patches};
-pub use set::{set_value, set_value_patches};

@@ -18,13 +18,13 @@ ghost use Rattle.exif_edit.specs.declared.remove.Kept.{Kept};
 
 use crate::erase::value_span;
 use crate::plan::{Plan, Wanted, carry_out, try_on_copy};
-use crate::set::names_places;
+use crate::set::names_offsets;
 use exif_base::{BigEndian, Items, LittleEndian, Order};
 use exif_edit_base::find::is_named;
 use exif_edit_base::offsets::whole_entries;
 use exif_edit_base::patch::{Patch, padded, zeros};
 use exif_edit_base::read::{locate, number16, order_named, read};
-use exif_edit_base::{EntryPlace, Error, Located};
+use exif_edit_base::{EntryOffset, Error, Located};
 use exif_layout::item::{spelled_u16, spelled_u32};
 use exif_reader::directory::directory_end;
 use exif_reader::stop::Stop;
@@ -39,12 +39,12 @@ struct Kept {
     text: Vec<u8>,
 }
 
-// Notes a place, once.
-fn note(places: &mut Vec<u32>, place: u32) -> Result<(), AllocError>
-    ensures { OnOk result (places.new.items ≡ noted places.old.items place) }
+// Notes an offset, once.
+fn note(offsets: &mut Vec<u32>, offset: u32) -> Result<(), AllocError>
+    ensures { OnOk result (offsets.new.items ≡ noted offsets.old.items offset) }
 {
-    if !places.as_slice().contains(&place) {
-        places.push(place)?;
+    if !offsets.as_slice().contains(&offset) {
+        offsets.push(offset)?;
     }
     Ok(())
 }
@@ -52,16 +52,16 @@ fn note(places: &mut Vec<u32>, place: u32) -> Result<(), AllocError>
 // Notes the directory of a field, if it has the name.
 fn note_named(
     field: &Field,
-    entry: EntryPlace,
+    entry: EntryOffset,
     tag: Tag,
     ifd_num: In,
-    places: &mut Vec<u32>,
+    offsets: &mut Vec<u32>,
 ) -> Result<(), AllocError>
-    ensures { OnOk result (places.new.items ≡ (if is_named tag ifd_num field.now
-        then noted places.old.items entry.directory else places.old.items)) }
+    ensures { OnOk result (offsets.new.items ≡ (if is_named tag ifd_num field.now
+        then noted offsets.old.items entry.directory else offsets.old.items)) }
 {
     if is_named(field, tag, ifd_num) {
-        note(places, entry.directory)?;
+        note(offsets, entry.directory)?;
     }
     Ok(())
 }
@@ -70,23 +70,23 @@ fn note_named(
 fn directories_with(
     alloc: Global,
     fields: &[Field],
-    entries: &[EntryPlace],
+    entries: &[EntryOffset],
     tag: Tag,
     ifd_num: In,
 ) -> Result<Vec<u32>, AllocError>
     requires { length fields.now ≡ length entries.now }
     ensures { IfOk result (λ v. v.items ≡ directories_with tag ifd_num fields.now entries.now) }
 {
-    let mut places = Vec::new(alloc);
+    let mut offsets = Vec::new(alloc);
     let mut i = fields.len();
     while i > 0 {
         i -= 1;
-        note_named(&fields[i], entries[i], tag, ifd_num, &mut places)?;
+        note_named(&fields[i], entries[i], tag, ifd_num, &mut offsets)?;
     }
-    Ok(places)
+    Ok(offsets)
 }
 
-// Keeps the entry at a place, if it has another tag.
+// Keeps the entry at an offset, if it has another tag.
 fn keep(
     order: Order,
     bytes: &[u8],
@@ -139,14 +139,14 @@ fn entries_without(
     Ok(kept)
 }
 
-// The place of the next directory, where there is one to be told.
-fn next_text(alloc: Global, order: Order, bytes: &[u8], place: u32) -> Result<Vec<u8>, AllocError>
+// The offset of the next directory, where there is one to be told.
+fn next_text(alloc: Global, order: Order, bytes: &[u8], offset: u32) -> Result<Vec<u8>, AllocError>
     ensures { IfOk result (λ v. v.items
-        ≡ next_text order (directory_end (number_of order) bytes.now place)) }
+        ≡ next_text order (directory_end (number_of order) bytes.now offset)) }
 {
     let end = match order {
-        Order::Big => directory_end::<BigEndian>(bytes, place),
-        Order::Little => directory_end::<LittleEndian>(bytes, place),
+        Order::Big => directory_end::<BigEndian>(bytes, offset),
+        Order::Little => directory_end::<LittleEndian>(bytes, offset),
     };
     match end {
         Ok(next) => Vec::from_slice(alloc, &spelled_u32(order, next)),
@@ -154,7 +154,7 @@ fn next_text(alloc: Global, order: Order, bytes: &[u8], place: u32) -> Result<Ve
     }
 }
 
-// A count, the bytes of so many entries, and the next place.
+// A count, the bytes of so many entries, and the next offset.
 fn joined(alloc: Global, order: Order, kept: &Kept, next: &[u8]) -> Result<Vec<u8>, AllocError>
     requires { kept.now.count < 65536 }
     ensures { IfOk result (λ v. v.items
@@ -166,49 +166,49 @@ fn joined(alloc: Global, order: Order, kept: &Kept, next: &[u8]) -> Result<Vec<u
     Ok(text)
 }
 
-// The directory at a place without its entries of a tag.
+// The directory at an offset without its entries of a tag.
 fn directory_without(
     alloc: Global,
     order: Order,
     bytes: &[u8],
     number: u16,
-    place: u32,
+    offset: u32,
 ) -> Result<Vec<u8>, AllocError>
-    ensures { IfOk result (λ v. v.items ≡ directory_without order bytes.now number place) }
+    ensures { IfOk result (λ v. v.items ≡ directory_without order bytes.now number offset) }
 {
-    let count = whole_entries(order, bytes, place);
-    let kept = entries_without(alloc, order, bytes, number, place as usize + 2, count)?;
-    let next = next_text(alloc, order, bytes, place)?;
+    let count = whole_entries(order, bytes, offset);
+    let kept = entries_without(alloc, order, bytes, number, offset as usize + 2, count)?;
+    let next = next_text(alloc, order, bytes, offset)?;
     let next = next.as_slice();
     let text = joined(alloc, order, &kept, next)?;
     let directory = padded(alloc, 2 + 12 * count + next.len(), text.as_slice())?;
     Ok(directory)
 }
 
-// Adds what puts the directory at a place without its entries of a tag over it.
+// Adds what puts the directory at an offset without its entries of a tag over it.
 fn add_directory(
     alloc: Global,
     order: Order,
     bytes: &[u8],
     number: u16,
-    place: u32,
+    offset: u32,
     patches: &mut Vec<Patch>,
 ) -> Result<(), AllocError>
     requires { length bytes.now < 2 ^ 32 }
     ensures { OnOk result (patches.new.items
-        ≡ patches.old.items ++ directory_patches order bytes.now number place) }
+        ≡ patches.old.items ++ directory_patches order bytes.now number offset) }
 {
-    let text = directory_without(alloc, order, bytes, number, place)?;
-    if text.len() <= bytes.len() && place as usize <= bytes.len() - text.len() {
+    let text = directory_without(alloc, order, bytes, number, offset)?;
+    if text.len() <= bytes.len() && offset as usize <= bytes.len() - text.len() {
         patches.push(Patch {
-            place: place as u64,
-            text: Items::from_vec(text),
+            offset: offset as u64,
+            bytes: Items::from_vec(text),
         })?;
     }
     Ok(())
 }
 
-// Adds zeros over the value of the entry at a place, if it has the tag.
+// Adds zeros over the value of the entry at an offset, if it has the tag.
 fn add_value(
     alloc: Global,
     order: Order,
@@ -230,21 +230,21 @@ fn add_value(
     Ok(())
 }
 
-// Adds zeros over the values of the entries of a tag in the directory at a place.
+// Adds zeros over the values of the entries of a tag in the directory at an offset.
 fn add_values(
     alloc: Global,
     order: Order,
     bytes: &[u8],
     number: u16,
-    place: u32,
+    offset: u32,
     patches: &mut Vec<Patch>,
 ) -> Result<(), AllocError>
     requires { length bytes.now < 2 ^ 32 }
     ensures { OnOk result (patches.new.items ≡ patches.old.items
-        ++ map zeros_over (taken_spans (number_of order) bytes.now number place)) }
+        ++ map zeros_over (taken_spans (number_of order) bytes.now number offset)) }
 {
-    let count = whole_entries(order, bytes, place);
-    let mut at = place as usize + 2;
+    let count = whole_entries(order, bytes, offset);
+    let mut at = offset as usize + 2;
     for _ in 0..count {
         add_value(alloc, order, bytes, number, at, patches)?;
         at += 12;
@@ -258,17 +258,17 @@ fn removals(
     order: Order,
     bytes: &[u8],
     number: u16,
-    places: &[u32],
+    offsets: &[u32],
 ) -> Result<Vec<Patch>, AllocError>
     requires { length bytes.now < 2 ^ 32 }
-    ensures { IfOk result (λ ps. ps.items ≡ removals order bytes.now number places.now) }
+    ensures { IfOk result (λ ps. ps.items ≡ removals order bytes.now number offsets.now) }
 {
     let mut patches = Vec::new(alloc);
-    for place in places {
-        add_directory(alloc, order, bytes, number, *place, &mut patches)?;
+    for offset in offsets {
+        add_directory(alloc, order, bytes, number, *offset, &mut patches)?;
     }
-    for place in places {
-        add_values(alloc, order, bytes, number, *place, &mut patches)?;
+    for offset in offsets {
+        add_values(alloc, order, bytes, number, *offset, &mut patches)?;
     }
     Ok(patches)
 }
@@ -287,17 +287,17 @@ pub fn drop_named(fields: &mut Vec<Field>, tag: Tag, ifd_num: In)
     fields.retain(|field| is_other(field, tag, ifd_num));
 }
 
-// The field as an entry at place 0 would tell it.
+// The field as an entry at offset 0 would tell it.
 fn untell_one(field: &mut Field)
     ensures { field.new ≡ told_at 0 field.old }
 {
     match &mut field.value {
-        Value::Undefined(bytes, place) => {
+        Value::Undefined(bytes, offset) => {
             if bytes.len() <= 4 {
-                *place = 8;
+                *offset = 8;
             }
         }
-        Value::Unknown(_, _, place) => *place = 8,
+        Value::Unknown(_, _, offset) => *offset = 8,
         _ => {}
     }
 }
@@ -336,19 +336,19 @@ fn plan_removals(alloc: Global, bytes: &[u8], tag: Tag, ifd_num: In) -> Result<P
     ensures within { IfOk result (λ p. All (FitsIn (length bytes.now)) p.patches.items) }
 {
     let Located { mut parsed, walk } = locate(alloc, bytes)?;
-    let places = directories_with(
+    let offsets = directories_with(
         alloc,
         parsed.fields.as_slice(),
         walk.entries(),
         tag,
         ifd_num,
     )?;
-    let places = places.as_slice();
-    if places.is_empty() {
+    let offsets = offsets.as_slice();
+    if offsets.is_empty() {
         return Err(Error::FieldNotFound);
     }
     let order = order_named(parsed.little_endian);
-    let patches = removals(alloc, order, bytes, tag.1, places)?;
+    let patches = removals(alloc, order, bytes, tag.1, offsets)?;
     drop_named(&mut parsed.fields, tag, ifd_num);
     Ok(Plan {
         patches,
@@ -361,8 +361,8 @@ fn plan(alloc: Global, bytes: &[u8], tag: Tag, ifd_num: In) -> Result<Plan, Erro
     ensures answer { Plans result bytes.now (field_patches bytes.now tag ifd_num) }
     ensures within { IfOk result (λ p. All (FitsIn (length bytes.now)) p.patches.items) }
 {
-    if names_places(tag) {
-        return Err(Error::NamesPlaces);
+    if names_offsets(tag) {
+        return Err(Error::NamesOffsets);
     }
     plan_removals(alloc, bytes, tag, ifd_num)
 }
@@ -382,11 +382,11 @@ pub fn erase_field_patches(
     try_on_copy(alloc, bytes, plan)
 }
 
-/// Takes all fields of a name out of their directories. The entries behind them and the place of
+/// Takes all fields of a name out of their directories. The entries behind them and the offset of
 /// the next directory move up; the end of the directory and the bytes of the values become zero.
-/// A directory that was cut ends with no next place then.
+/// A directory that was cut ends with no next offset then.
 ///
-/// Refusals are `NamesPlaces`, `Header`, `FieldNotFound` and `SharedBytes`. It takes the memory of
+/// Refusals are `NamesOffsets`, `Header`, `FieldNotFound` and `SharedBytes`. It takes the memory of
 /// two readings and of the directories, and no copy.
 pub fn erase_field(alloc: Global, bytes: &mut [u8], tag: Tag, ifd_num: In) -> Result<(), Error>
     ensures answer { Edits result bytes.old bytes.new (field_answer bytes.old tag ifd_num) }

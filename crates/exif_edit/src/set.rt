@@ -15,7 +15,7 @@ ghost use Rattle.exif_edit_base.specs.Finding.{IsLastAt, replaced};
 ghost use Rattle.exif_edit_base.specs.Patches.{FitsIn};
 ghost use Rattle.exif_edit.specs.Plans.{Plans};
 ghost use Rattle.exif_edit.specs.Promises.{FindsValue, IsSet};
-ghost use Rattle.exif_edit.specs.Setting.{checked_patches, names_places, room_patches, set_answer, set_patches, set_place, value_answer, value_patches, value_room};
+ghost use Rattle.exif_edit.specs.Setting.{checked_patches, names_offsets, room_patches, set_answer, set_patches, set_offset, value_answer, value_patches, value_room};
 ghost use Rattle.exif_edit.specs.Sharing.{names_child, stands_alone};
 ghost use Rattle.exif_edit.specs.declared.set.Edit.{Edit};
 
@@ -35,12 +35,12 @@ use std::alloc::{AllocError, Global};
 #[derive(Drop)]
 struct Edit {
     patches: Vec<Patch>,
-    place: u32,
+    offset: u32,
 }
 
 /// Whether the values of a tag say where other bytes stand, or how many.
-pub fn names_places(tag: Tag) -> bool
-    ensures { result ≡ names_places tag }
+pub fn names_offsets(tag: Tag) -> bool
+    ensures { result ≡ names_offsets tag }
 {
     match tag.0 {
         Context::Tiff => matches!(
@@ -65,24 +65,24 @@ pub fn names_places(tag: Tag) -> bool
     }
 }
 
-/// Where the value of the entry at a place stands outside of it.
+/// Where the value of the entry at an offset stands outside of it.
 pub fn value_room(order: Order, bytes: &[u8], entry: u32) -> Span
     requires { entry + 12 ≤ length bytes.now }
     ensures value { result ≡ value_room (number_of order) bytes.now entry }
-    ensures near { result.place < 2 ^ 32 }
+    ensures near { result.offset < 2 ^ 32 }
     ensures bound { result.len < 2 ^ 36 }
 {
     let at = entry as usize;
     let count = number32(order, bytes, at + 4);
-    let place = number32(order, bytes, at + 8);
+    let offset = number32(order, bytes, at + 8);
     let size = match FieldType::of(number16(order, bytes, at + 2)) {
         None => 0,
         Some(field_type) => field_type.unit_length() as usize * count as usize,
     };
     if size <= 4 {
-        Span { place: 0, len: 0 }
+        Span { offset: 0, len: 0 }
     } else {
-        Span { place, len: size }
+        Span { offset, len: size }
     }
 }
 
@@ -98,8 +98,8 @@ fn room_patches(alloc: Global, room: Span, text: &[u8]) -> Result<Vec<Patch>, Al
     let none: &[u8] = &[];
     let text = padded(alloc, room.len, if text.len() <= 4 { none } else { text })?;
     patches.push(Patch {
-        place: room.place as u64,
-        text: Items::from_vec(text),
+        offset: room.offset as u64,
+        bytes: Items::from_vec(text),
     })?;
     Ok(patches)
 }
@@ -120,10 +120,10 @@ fn value_patches(
     ensures { IfOk result (λ ps. ps.items ≡ value_patches order value.now entry room) }
 {
     let mut patches = room_patches(alloc, room, text)?;
-    let text = entry_text(alloc, order, value, count, room.place, text)?;
+    let text = entry_text(alloc, order, value, count, room.offset, text)?;
     patches.push(Patch {
-        place: entry as u64 + 2,
-        text: Items::from_vec(text),
+        offset: entry as u64 + 2,
+        bytes: Items::from_vec(text),
     })?;
     Ok(patches)
 }
@@ -140,15 +140,15 @@ fn make_edit(
     ensures answer { Makes (λ (e : Edit). e.patches.items) result
         (value_answer order value.now entry bytes.now) }
     ensures within { IfOk result (λ e. All (FitsIn (length bytes.now)) e.patches.items) }
-    ensures place { IfOk result (λ e. e.place
-        ≡ set_place (value_room (number_of order) bytes.now entry).place entry
+    ensures offset { IfOk result (λ e. e.offset
+        ≡ set_offset (value_room (number_of order) bytes.now entry).offset entry
         (encode order value.now)) }
 {
     if bytes.len() < entry as usize + 12 {
         return Err(Error::SharedBytes);
     }
     let room = value_room(order, bytes, entry);
-    if bytes.len() < room.place as usize + room.len {
+    if bytes.len() < room.offset as usize + room.len {
         return Err(Error::SharedBytes);
     }
     let Some(count) = value.count() else {
@@ -158,22 +158,22 @@ fn make_edit(
     if room.len.max(4) < text.len() {
         return Err(Error::ValueTooLong);
     }
-    let place = if text.len() <= 4 {
+    let offset = if text.len() <= 4 {
         entry + 8
     } else {
-        room.place
+        room.offset
     };
     let patches = value_patches(alloc, order, value, count, entry, room, text.as_slice())?;
-    Ok(Edit { patches, place })
+    Ok(Edit { patches, offset })
 }
 
 /// A copy of the value, stored at this offset.
-pub fn moved(alloc: Global, value: &Value, place: u32) -> Result<Value, Error>
-    ensures answer { IfOk result (λ v. v ≡ moved_to place value.now) }
+pub fn moved(alloc: Global, value: &Value, offset: u32) -> Result<Value, Error>
+    ensures answer { IfOk result (λ v. v ≡ moved_to offset value.now) }
     ensures memory { IfErr result (λ e. e ≡ Error.OutOfMemory) }
 {
     match value.clone(alloc) {
-        Ok(Value::Undefined(bytes, _)) => Ok(Value::Undefined(bytes, place)),
+        Ok(Value::Undefined(bytes, _)) => Ok(Value::Undefined(bytes, offset)),
         Ok(other) => Ok(other),
         Err(_) => Err(Error::OutOfMemory),
     }
@@ -228,7 +228,7 @@ fn reads_back(tag: Tag, value: &Value) -> bool
 fn is_alone(order: Order, bytes: &[u8], tag: Tag, value: &Value, found: &Found, edit: &Edit) -> bool
     requires header { header bytes.now ≡ Ok order }
     requires small { length bytes.now < 2 ^ 32 }
-    requires places { Finds bytes.now found.now.walk }
+    requires offsets { Finds bytes.now found.now.walk }
     requires edit { value_answer order value.now found.now.entry bytes.now
         ≡ Ok edit.now.patches.items }
     ensures alone { result ≡ true
@@ -254,8 +254,8 @@ fn plan(alloc: Global, bytes: &[u8], tag: Tag, ifd_num: In, value: &Value) -> Re
     ensures answer { Plans result bytes.now (set_patches bytes.now tag ifd_num value.now) }
     ensures within { IfOk result (λ p. All (FitsIn (length bytes.now)) p.patches.items) }
 {
-    if names_places(tag) {
-        return Err(Error::NamesPlaces);
+    if names_offsets(tag) {
+        return Err(Error::NamesOffsets);
     }
     if is_unknown(value) {
         return Err(Error::UnknownType);
@@ -271,7 +271,7 @@ fn plan_known(
     ifd_num: In,
     value: &Value,
 ) -> Result<Plan, Error>
-    requires movable { names_places tag ≡ false }
+    requires movable { names_offsets tag ≡ false }
     requires known { is_unknown value.now ≡ false }
     ensures answer { Plans result bytes.now (checked_patches bytes.now tag ifd_num value.now) }
     ensures within { IfOk result (λ p. All (FitsIn (length bytes.now)) p.patches.items) }
@@ -285,7 +285,7 @@ fn plan_known(
             wanted: Wanted::Anything,
         });
     }
-    let moved = moved(alloc, value, edit.place)?;
+    let moved = moved(alloc, value, edit.offset)?;
     set_field(&mut found.parsed.fields, found.index, moved, tag, ifd_num);
     Ok(Plan {
         patches: edit.patches,
@@ -311,10 +311,10 @@ pub fn set_value_patches(
 }
 
 /// Puts a value in the place of the last one of a name: into its entry where it takes at most four
-/// bytes, else where the old one stands. The type, the count and the place of the entry follow, and
+/// bytes, else where the old one stands. The type, the count and the offset of the entry follow, and
 /// spare bytes become zero.
 ///
-/// Refusals are `NamesPlaces`, `UnknownType`, `Header`, `FieldNotFound`, `ValueTooLong` and
+/// Refusals are `NamesOffsets`, `UnknownType`, `Header`, `FieldNotFound`, `ValueTooLong` and
 /// `SharedBytes`, which a value whose entry stands alone never gets (see [`laws`](crate::laws)). It
 /// takes the memory of one reading; and where bytes are shared, of a second reading and no copy.
 pub fn set_value(

@@ -24,17 +24,17 @@ pub fn encode(alloc: Global, order: Order, value: &Value) -> Result<Vec<u8>, All
 }
 
 /// The 10 bytes behind the tag of an entry: the type of the value, how many items it has, and the
-/// bytes of the value, or the place where they stand.
+/// bytes of the value, or the offset where they stand.
 pub fn entry_text(
     alloc: Global,
     order: Order,
     value: &Value,
     count: u32,
-    place: u32,
+    offset: u32,
     text: &[u8],
 ) -> Result<Vec<u8>, AllocError>
     requires { count ≡ count_of value.now }
-    ensures { IfOk result (λ v. v.items ≡ entry_text order value.now place text.now) }
+    ensures { IfOk result (λ v. v.items ≡ entry_text order value.now offset text.now) }
 {
     let mut out = Vec::with_capacity(alloc, 10)?;
     out.extend_from_slice(&spelled_u16(order, value.type_number()))?;
@@ -42,7 +42,7 @@ pub fn entry_text(
     if text.len() <= 4 {
         out.extend_from_slice(padded(alloc, 4, text)?.as_slice())?;
     } else {
-        out.extend_from_slice(&spelled_u32(order, place))?;
+        out.extend_from_slice(&spelled_u32(order, offset))?;
     }
     Ok(out)
 }

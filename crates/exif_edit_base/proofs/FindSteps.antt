@@ -1,4 +1,4 @@
--- Finding the last field of a name and the place of its entry.
+-- Finding the last field of a name and the offset of its entry.
 use Rattle.std.proofs.Common.{◌≡◌, ◌<◌, ◌+◌, ℕ, zero, suc, Bool, true, false, List, [], ◌∷◌, length, map, drop, All, set, Option, Some, None, Result, Ok, Err, refl, sym, ap, subst, ◌∙◌, arith}
 use Rattle.std.specs.Prelude.{slice_get, ◌||◌}
 use Rattle.std.specs.List.{list_any}
@@ -14,7 +14,7 @@ use Rattle.exif_types.specs.declared.tag.Tag.{Tag}
 use Rattle.exif_text.specs.declared.ifd.In.{In}
 use Rattle.exif_types.specs.declared.field.Field.{Field}
 use Rattle.exif_tiff.specs.Trace.{Node, entry_of, header, ordered_trace, trace, fields_of, faults_of, located_of}
-use Rattle.exif_tiff.specs.declared.place.EntryPlace.{EntryPlace}
+use Rattle.exif_tiff.specs.declared.offset.EntryOffset.{EntryOffset}
 use Rattle.exif_tiff.specs.declared.fault.Fault.{Fault}
 use Rattle.exif_reader.specs.declared.stop.Stop.{Stop}
 use Rattle.exif_reader.specs.declared.stop.Stop.TheVariants as stop
@@ -26,13 +26,13 @@ use Rattle.exif_edit_base.specs.declared.error.Error.{Error}
 use Rattle.exif_edit_base.proofs.LawsLocated.{ordered_fields}
 use Rattle.exif_edit_base.proofs.ReadSteps.{reading_by}
 
--- the field of a located one, without its places
+-- the field of a located one, without its offsets
 abbrev pub field_of : Located → Field
 field_of l = l.field
 
 -- ---- the last field of a name
 
--- whether some field has a name is the same with and without the places of the fields
+-- whether some field has a name is the same with and without the offsets of the fields
 pub any_map : (tag : Tag) (k : In) (ls : List Located)
     → list_any (λ (m : Located). is_named tag k m.field) ls
     ≡ list_any (is_named tag k) (map field_of ls)
@@ -129,7 +129,7 @@ fields_by (Ok order) bytes read e =
     ok_same : (a : Read) → ◌≡◌ {A = Result Read Fault} (Ok a) (Ok read) → a ≡ read
     ok_same a e = cc
 
--- the located fields without their places are those that were read
+-- the located fields without their offsets are those that were read
 pub fields_read : (bytes : List ℕ) (read : Read) → reading bytes ≡ Ok read
     → map field_of (located bytes) ≡ read.fields
 unfolding reading located trace
@@ -151,26 +151,26 @@ find_missing bytes tag k read e h =
     (subst (λ fs. All (Unnamed tag k) fs) (sym (fields_read bytes read e)) h) in
     rw (e, n) refl
 
--- the last field of a name is found with the entry at its index among the places
-pub find_found : (bytes : List ℕ) (tag : Tag) (k : In) (read : Read) (i : ℕ) (place : EntryPlace)
-    (entries : List EntryPlace) → reading bytes ≡ Ok read → IsLastAt tag k read.fields i
-    → entries ≡ map entry_of (located bytes) → slice_get entries i ≡ Some place
-    → find_answer bytes tag k ≡ Ok (read, place.entry)
+-- the last field of a name is found with the entry at its index among the offsets
+pub find_found : (bytes : List ℕ) (tag : Tag) (k : In) (read : Read) (i : ℕ) (offset : EntryOffset)
+    (entries : List EntryOffset) → reading bytes ≡ Ok read → IsLastAt tag k read.fields i
+    → entries ≡ map entry_of (located bytes) → slice_get entries i ≡ Some offset
+    → find_answer bytes tag k ≡ Ok (read, offset.entry)
 unfolding find_answer
-find_found bytes tag k read i place entries e h w g =
+find_found bytes tag k read i offset entries e h w g =
     let p = last_found tag k (located bytes) i
     (subst (λ fs. IsLastAt tag k fs i) (sym (fields_read bytes read e)) h) in
     let same = some_same (entry_of p.0) (sym p.2 ∙ (ap (λ es. slice_get es i) (sym w) ∙ g)) in
-    let n : p.0.entry ≡ place.entry = ap (λ (x : EntryPlace). x.entry) same in
+    let n : p.0.entry ≡ offset.entry = ap (λ (x : EntryOffset). x.entry) same in
     let last = p.1 in
     rw (e, last, n) refl
   where
-    some_same : (x : EntryPlace) → ◌≡◌ {A = Option EntryPlace} (Some x) (Some place) → x ≡ place
+    some_same : (x : EntryOffset) → ◌≡◌ {A = Option EntryOffset} (Some x) (Some offset) → x ≡ offset
     some_same x e = cc
 
--- the index of the last field of a name is below the number of places, too
+-- the index of the last field of a name is below the number of offsets, too
 pub entry_below : (bytes : List ℕ) (tag : Tag) (k : In) (read : Read) (i : ℕ)
-    (entries : List EntryPlace) → reading bytes ≡ Ok read → IsLastAt tag k read.fields i
+    (entries : List EntryOffset) → reading bytes ≡ Ok read → IsLastAt tag k read.fields i
     → entries ≡ map entry_of (located bytes) → i < length entries
 entry_below bytes tag k read i entries e h w =
     let a = index_below tag k read.fields i h in

@@ -1,15 +1,15 @@
--- The places that were told are found.
+-- The offsets that were told are found.
 use Rattle.std.proofs.Common.{◌≡◌, ℕ, List, ap, ◌∙◌}
 use Rattle.exif_tiff.specs.Trace.{trace}
-use Rattle.exif_reader.specs.Noted.{Noted, TellsPlaces}
-use Rattle.exif_edit_base.specs.Locations.{directory_places, gps_of, gps_places, located}
+use Rattle.exif_reader.specs.Noted.{Noted, TellsOffsets}
+use Rattle.exif_edit_base.specs.Locations.{directory_offsets, gps_of, visited_gps, located}
 use Rattle.exif_edit_base.specs.Walked.{Finds}
 
--- the places told of a trace, and the GPS ones among them, are those that the data have
-pub found : (bytes : List ℕ) (p : Noted) (gps : List ℕ) → TellsPlaces (trace bytes) p
+-- the offsets told of a trace, and the GPS ones among them, are those that the data have
+pub found : (bytes : List ℕ) (p : Noted) (gps : List ℕ) → TellsOffsets (trace bytes) p
     → gps ≡ gps_of p.directories
     → Finds bytes (record { entries = p.entries; gps = gps; directories = p.directories })
-unfolding located directory_places gps_places
+unfolding located directory_offsets visited_gps
 found bytes p gps t g = record {
   entries = t.entries;
   gps = g ∙ ap gps_of t.directories;

@@ -1,4 +1,4 @@
--- Without their places, the located fields are those of the trace.
+-- Without their offsets, the located fields are those of the trace.
 use Rattle.std.proofs.Common.{◌≡◌, ◌==◌, ℕ, Bool, true, false, if◌then◌else◌, List, [], ◌∷◌, map, Result, Ok, Err, refl, ap}
 use Rattle.exif_base.specs.Bytes.{Reading}
 use Rattle.exif_tiff.specs.declared.fault.Fault.{Fault}
@@ -24,7 +24,7 @@ end_has_none (Ok next) = by_zero (next == 0)
     by_zero true = refl
     by_zero false = refl
 
--- however numbers are read, the located fields without places are those of the trace
+-- however numbers are read, the located fields without offsets are those of the trace
 pub ordered_fields : (number : Reading) (bytes : List ℕ)
     → map (λ (l : Located). l.field) (located_of (ordered_trace number bytes))
     ≡ fields_of (ordered_trace number bytes)

@@ -10,7 +10,7 @@ use Rattle.exif_types.specs.Numbers.{number_in}
 use Rattle.exif_types.specs.declared.field.Field.{Field}
 use Rattle.exif_types.specs.declared.tag.Tag.{Tag}
 use Rattle.exif_types.specs.declared.value.Value.{Value}
-use Rattle.exif_tiff.specs.Trace.{Directory, Found, Located, Met, Node, Opens, Visit, chain_after, chain_nodes, child_end, child_of, depth_of, directory_end, directory_nodes, entry_nodes, entry_places, entry_value, located_of, ordered_trace, pointer_nodes, tagged_nodes, valued_nodes, whole_entries}
+use Rattle.exif_tiff.specs.Trace.{Directory, Found, Located, Met, Node, Opens, Visit, chain_after, chain_nodes, child_end, child_of, depth_of, directory_end, directory_nodes, entry_nodes, entry_offsets, entry_value, located_of, ordered_trace, pointer_nodes, tagged_nodes, valued_nodes, whole_entries}
 use Rattle.exif_tiff.specs.declared.fault.Fault.{Fault}
 use Rattle.exif_tiff.specs.declared.fault.Fault.TheVariants.{TooManyDirectories, UnexpectedNext}
 use Rattle.exif_edit_base.specs.Finding.{last_located}
@@ -56,8 +56,8 @@ module _ (number : Reading) (bytes : List ℕ) where
   spaced_whole q (suc w) h = (omega arith, spaced_whole (q + 12) w (omega arith))
 
   -- each whole entry of the directory at p has all of its 12 bytes in the data
-  pub places_whole : (p : ℕ) → AllByRecursion (λ e. e + 12 ≤ length bytes) (entry_places number bytes p)
-  places_whole p = by_count (whole_entries number bytes p) (omega arith)
+  pub offsets_whole : (p : ℕ) → AllByRecursion (λ e. e + 12 ≤ length bytes) (entry_offsets number bytes p)
+  offsets_whole p = by_count (whole_entries number bytes p) (omega arith)
     where
       by_count : (w : ℕ) → w ≤ (length bytes - p - 2) / 12
           → AllByRecursion (λ e. e + 12 ≤ length bytes) (spaced (p + 2) 12 w)
@@ -90,9 +90,9 @@ module _ (number : Reading) (bytes : List ℕ) where
   directory zero k c p = tt
   directory (suc depth) k c p =
       each (entry_nodes (directory_nodes depth number bytes k) number bytes c k p)
-      (entry_places number bytes p)
+      (entry_offsets number bytes p)
       (λ e w. valued (directory_nodes depth number bytes k) c k p (number_at number 2 bytes e) e
-      (entry_value number bytes e) w refl refl (directory depth k)) (places_whole p)
+      (entry_value number bytes e) w refl refl (directory depth k)) (offsets_whole p)
 
   after : (rest : ℕ → List Node) (x : Result ℕ Fault) → ((p : ℕ) → AreSaid (rest p))
       → AreSaid (chain_after rest x)

@@ -64,7 +64,7 @@ offsets_behind t n i l at' h k = by_test (t == 3) k
     by_test true k = omega arith
     by_test false k = omega arith
 
--- no places are left
+-- no offsets are left
 pub none_left : (n i at' len : ℕ) → n ≤ i → spaced at' len (n - i) ≡ []
 none_left n i at' len h = let z : n - i ≡ 0 = omega arith in rw z refl
 

@@ -11,57 +11,57 @@ use Rattle.exif_edit_base.proofs.PatchSteps.{fit_behind, fit_in, length-put_at}
 
 -- ---- one patch
 
--- as many bytes are taken from a place as are asked for, if they lie in the data
-pub length-bytes_at : (n place : ℕ) (bytes : List ℕ) → place + n ≤ length bytes
-    → length (bytes_at n bytes place) ≡ n
-length-bytes_at n place bytes h = grind (arith, common_steps)
+-- as many bytes are taken from an offset as are asked for, if they lie in the data
+pub length-bytes_at : (n offset : ℕ) (bytes : List ℕ) → offset + n ≤ length bytes
+    → length (bytes_at n bytes offset) ≡ n
+length-bytes_at n offset bytes h = grind (arith, common_steps)
 
 -- a text in the place of one as long
-pub put_over : (front text rest new : List ℕ) (place : ℕ) → length front ≡ place
+pub put_over : (front text rest new : List ℕ) (offset : ℕ) → length front ≡ offset
     → length new ≡ length text
-    → put_at place new (front ++ (text ++ rest)) ≡ front ++ (new ++ rest)
-put_over front text rest new place f e =
-    let l : length (front ++ text) ≡ place + length new =
+    → put_at offset new (front ++ (text ++ rest)) ≡ front ++ (new ++ rest)
+put_over front text rest new offset f e =
+    let l : length (front ++ text) ≡ offset + length new =
     omega (arith, length-append front text) in
-    let t : take place (front ++ (text ++ rest)) ≡ front = take_at front (text ++ rest) place f in
-    let d : drop (place + length new) (front ++ (text ++ rest)) ≡ rest =
-    ap (λ xs. drop (place + length new) xs) (sym (append_assoc front text rest))
-    ∙ drop_at (front ++ text) rest (place + length new) l in
-    ap (λ xs. xs ++ (new ++ drop (place + length new) (front ++ (text ++ rest)))) t
+    let t : take offset (front ++ (text ++ rest)) ≡ front = take_at front (text ++ rest) offset f in
+    let d : drop (offset + length new) (front ++ (text ++ rest)) ≡ rest =
+    ap (λ xs. drop (offset + length new) xs) (sym (append_assoc front text rest))
+    ∙ drop_at (front ++ text) rest (offset + length new) l in
+    ap (λ xs. xs ++ (new ++ drop (offset + length new) (front ++ (text ++ rest)))) t
     ∙ ap (λ xs. front ++ (new ++ xs)) d
 
 -- the bytes before, in and behind a stretch
-pub in_three : (place n : ℕ) (bytes : List ℕ)
-    → take place bytes ++ (bytes_at n bytes place ++ drop (place + n) bytes) ≡ bytes
-in_three place n bytes =
-    ap (λ xs. take place bytes ++ (bytes_at n bytes place ++ xs)) (sym (drop-drop n place bytes))
-    ∙ (ap (λ xs. take place bytes ++ xs) (take-append-drop n (drop place bytes))
-    ∙ take-append-drop place bytes)
+pub in_three : (offset n : ℕ) (bytes : List ℕ)
+    → take offset bytes ++ (bytes_at n bytes offset ++ drop (offset + n) bytes) ≡ bytes
+in_three offset n bytes =
+    ap (λ xs. take offset bytes ++ (bytes_at n bytes offset ++ xs)) (sym (drop-drop n offset bytes))
+    ∙ (ap (λ xs. take offset bytes ++ xs) (take-append-drop n (drop offset bytes))
+    ∙ take-append-drop offset bytes)
 
 -- the old bytes put over the new ones are there again
-pub put_twice : (place : ℕ) (text bytes : List ℕ) → place + length text ≤ length bytes
-    → put_at place (bytes_at (length text) bytes place) (put_at place text bytes) ≡ bytes
-put_twice place text bytes h =
-    let l = length-bytes_at (length text) place bytes h in
-    let f : length (take place bytes) ≡ place = grind (arith, common_steps) in
-    put_over (take place bytes) text (drop (place + length text) bytes)
-    (bytes_at (length text) bytes place) place f l
-    ∙ in_three place (length text) bytes
+pub put_twice : (offset : ℕ) (text bytes : List ℕ) → offset + length text ≤ length bytes
+    → put_at offset (bytes_at (length text) bytes offset) (put_at offset text bytes) ≡ bytes
+put_twice offset text bytes h =
+    let l = length-bytes_at (length text) offset bytes h in
+    let f : length (take offset bytes) ≡ offset = grind (arith, common_steps) in
+    put_over (take offset bytes) text (drop (offset + length text) bytes)
+    (bytes_at (length text) bytes offset) offset f l
+    ∙ in_three offset (length text) bytes
 
 -- and what they take the place of is the text
-pub text_there : (place : ℕ) (text bytes : List ℕ) → place + length text ≤ length bytes
-    → bytes_at (length text) (put_at place text bytes) place ≡ text
-text_there place text bytes h = grind (arith, common_steps)
+pub text_there : (offset : ℕ) (text bytes : List ℕ) → offset + length text ≤ length bytes
+    → bytes_at (length text) (put_at offset text bytes) offset ≡ text
+text_there offset text bytes h = grind (arith, common_steps)
 
 taken_twice : (p : Patch) (bytes : List ℕ) → FitsIn (length bytes) p
-    → taken (put_at p.place p.text bytes) (taken bytes p) ≡ p
+    → taken (put_at p.offset p.bytes bytes) (taken bytes p) ≡ p
 taken_twice p bytes h =
-    rw (length-bytes_at (length p.text) p.place bytes h, text_there p.place p.text bytes h) refl
+    rw (length-bytes_at (length p.bytes) p.offset bytes h, text_there p.offset p.bytes bytes h) refl
 
 taken_fits : (n : ℕ) (p : Patch) (bytes : List ℕ) → n ≡ length bytes → FitsIn n p
     → FitsIn n (taken bytes p)
 taken_fits n p bytes e h =
-    let l = length-bytes_at (length p.text) p.place bytes (omega arith) in omega arith
+    let l = length-bytes_at (length p.bytes) p.offset bytes (omega arith) in omega arith
 
 -- ---- all of them, there and back
 
@@ -71,10 +71,10 @@ pub swapped_fit : (ps : List Patch) (bytes : List ℕ) → All (FitsIn (length b
 swapped_fit [] bytes h = All-nil (FitsIn (length bytes))
 swapped_fit (p ∷ ps) bytes h =
     let fits = All-head (FitsIn (length bytes)) p ps h in
-    let new = put_at p.place p.text bytes in
+    let new = put_at p.offset p.bytes bytes in
     All-cons (FitsIn (length bytes)) (taken bytes p) (swapped ps new)
     (taken_fits (length bytes) p bytes refl fits)
-    (fit_in (length new) (length bytes) (swapped ps new) (length-put_at p.place p.text bytes fits)
+    (fit_in (length new) (length bytes) (swapped ps new) (length-put_at p.offset p.bytes bytes fits)
     (swapped_fit ps new (fit_behind p ps bytes h)))
 
 -- patches that were exchanged and are put back give the bytes from before
@@ -82,16 +82,16 @@ pub bytes_put_back : (ps : List Patch) (bytes : List ℕ) → All (FitsIn (lengt
     → put_back (swapped ps bytes) (patched ps bytes) ≡ bytes
 bytes_put_back [] bytes h = refl
 bytes_put_back (p ∷ ps) bytes h =
-    ap (λ xs. put_at p.place (bytes_at (length p.text) bytes p.place) xs)
-    (bytes_put_back ps (put_at p.place p.text bytes) (fit_behind p ps bytes h))
-    ∙ put_twice p.place p.text bytes (All-head (FitsIn (length bytes)) p ps h)
+    ap (λ xs. put_at p.offset (bytes_at (length p.bytes) bytes p.offset) xs)
+    (bytes_put_back ps (put_at p.offset p.bytes bytes) (fit_behind p ps bytes h))
+    ∙ put_twice p.offset p.bytes bytes (All-head (FitsIn (length bytes)) p ps h)
 
 -- patches that are exchanged, and exchanged back, are as they were
 pub patches_put_back : (ps : List Patch) (bytes : List ℕ) → All (FitsIn (length bytes)) ps
     → swapped_back (swapped ps bytes) (patched ps bytes) ≡ ps
 patches_put_back [] bytes h = refl
 patches_put_back (p ∷ ps) bytes h =
-    let new = put_at p.place p.text bytes in
+    let new = put_at p.offset p.bytes bytes in
     let behind = fit_behind p ps bytes h in
     ap (λ xs. taken xs (taken bytes p) ∷ swapped_back (swapped ps new) (patched ps new))
     (bytes_put_back ps new behind)
@@ -116,14 +116,14 @@ exchanged_fit xs ys i x y bytes new h e v l k =
 
 -- one of them is put
 put_there : (xs : List Patch) (i : ℕ) (x : Patch) (bytes new : List ℕ) → x ≡ get_or xs i x
-    → new ≡ put_at (get_or xs i x).place (get_or xs i x).text bytes
-    → new ≡ put_at x.place x.text bytes
-put_there xs i x bytes new g f = f ∙ ap (λ q. put_at q.place q.text bytes) (sym g)
+    → new ≡ put_at (get_or xs i x).offset (get_or xs i x).bytes bytes
+    → new ≡ put_at x.offset x.bytes bytes
+put_there xs i x bytes new g f = f ∙ ap (λ q. put_at q.offset q.bytes bytes) (sym g)
 
 -- with one patch put, those that are left still make the same bytes
 pub patched_on : (xs ys : List Patch) (i : ℕ) (x y : Patch) (bytes new all : List ℕ)
     → i < length xs → x ≡ get_or xs i x → ys ≡ set xs i y
-    → new ≡ put_at (get_or xs i x).place (get_or xs i x).text bytes
+    → new ≡ put_at (get_or xs i x).offset (get_or xs i x).bytes bytes
     → patched (drop i xs) bytes ≡ all → patched (drop (i + 1) ys) new ≡ all
 patched_on xs ys i x y bytes new all h g e f k =
     let r : drop (i + 1) (set xs i y) ≡ drop (i + 1) xs =
@@ -135,7 +135,7 @@ patched_on xs ys i x y bytes new all h g e f k =
 pub swapped_on : (xs ys : List Patch) (i : ℕ) (x y : Patch) (bytes new : List ℕ)
     (all : List Patch)
     → i < length xs → x ≡ get_or xs i x → ys ≡ set xs i y → y ≡ taken bytes (get_or xs i x)
-    → new ≡ put_at (get_or xs i x).place (get_or xs i x).text bytes
+    → new ≡ put_at (get_or xs i x).offset (get_or xs i x).bytes bytes
     → take i xs ++ swapped (drop i xs) bytes ≡ all
     → take (i + 1) ys ++ swapped (drop (i + 1) ys) new ≡ all
 swapped_on xs ys i x y bytes new all h g e v f k =
@@ -144,7 +144,7 @@ swapped_on xs ys i x y bytes new all h g e v f k =
     let t : take (i + 1) (set xs i y) ≡ take i xs ++ y ∷ [] = take_more_set xs i y h in
     let n = put_there xs i x bytes new g f in
     let w : y ≡ taken bytes x = v ∙ ap (λ q. taken bytes q) (sym g) in
-    let rest = swapped (drop (i + 1) xs) (put_at x.place x.text bytes) in
+    let rest = swapped (drop (i + 1) xs) (put_at x.offset x.bytes bytes) in
     rw (e, t, r, n, w)
     (append_assoc (take i xs) (taken bytes x ∷ []) rest
     ∙ (sym (ap (λ ps. take i xs ++ swapped ps bytes) (left_step xs i x h g)) ∙ k))
@@ -156,23 +156,23 @@ front_on : (xs : List Patch) (i : ℕ) (x : Patch) → i < length xs → x ≡ g
 front_on xs i x h g = take_more xs i x h ∙ ap (λ q. take i xs ++ q ∷ []) (sym g)
 
 back_last : (ps : List Patch) (x : Patch) (bytes : List ℕ)
-    → put_back (ps ++ x ∷ []) bytes ≡ put_back ps (put_at x.place x.text bytes)
+    → put_back (ps ++ x ∷ []) bytes ≡ put_back ps (put_at x.offset x.bytes bytes)
 back_last [] x bytes = refl
-back_last (p ∷ ps) x bytes = ap (λ xs. put_at p.place p.text xs) (back_last ps x bytes)
+back_last (p ∷ ps) x bytes = ap (λ xs. put_at p.offset p.bytes xs) (back_last ps x bytes)
 
 swapped_last : (ps : List Patch) (x : Patch) (bytes : List ℕ)
     → swapped_back (ps ++ x ∷ []) bytes
-    ≡ swapped_back ps (put_at x.place x.text bytes) ++ taken bytes x ∷ []
+    ≡ swapped_back ps (put_at x.offset x.bytes bytes) ++ taken bytes x ∷ []
 swapped_last [] x bytes = refl
 swapped_last (p ∷ ps) x bytes =
-    let new = put_at x.place x.text bytes in
+    let new = put_at x.offset x.bytes bytes in
     ap (λ xs. taken xs p ∷ swapped_back (ps ++ x ∷ []) bytes) (back_last ps x bytes)
     ∙ ap (λ qs. taken (put_back ps new) p ∷ qs) (swapped_last ps x bytes)
 
 -- with one patch put back, those in front of it still give the same bytes
 pub back_on : (xs ys : List Patch) (i : ℕ) (x y : Patch) (bytes new all : List ℕ) → i < length xs
     → x ≡ get_or xs i x → ys ≡ set xs i y
-    → new ≡ put_at (get_or xs i x).place (get_or xs i x).text bytes
+    → new ≡ put_at (get_or xs i x).offset (get_or xs i x).bytes bytes
     → put_back (take (i + 1) xs) bytes ≡ all → put_back (take i ys) new ≡ all
 back_on xs ys i x y bytes new all h g e f k =
     let n = put_there xs i x bytes new g f in
@@ -184,13 +184,13 @@ back_on xs ys i x y bytes new all h g e f k =
 pub swapped_back_on : (xs ys : List Patch) (i : ℕ) (x y : Patch) (bytes new : List ℕ)
     (all : List Patch) → i < length xs
     → x ≡ get_or xs i x → ys ≡ set xs i y → y ≡ taken bytes (get_or xs i x)
-    → new ≡ put_at (get_or xs i x).place (get_or xs i x).text bytes
+    → new ≡ put_at (get_or xs i x).offset (get_or xs i x).bytes bytes
     → swapped_back (take (i + 1) xs) bytes ++ drop (i + 1) xs ≡ all
     → swapped_back (take i ys) new ++ drop i ys ≡ all
 swapped_back_on xs ys i x y bytes new all h g e v f k =
     let n = put_there xs i x bytes new g f in
     let w : y ≡ taken bytes x = v ∙ ap (λ q. taken bytes q) (sym g) in
-    let front = swapped_back (take i xs) (put_at x.place x.text bytes) in
+    let front = swapped_back (take i xs) (put_at x.offset x.bytes bytes) in
     rw (e, take-set xs i y, drop-set xs i y h, n, w)
     (sym (append_assoc front (taken bytes x ∷ []) (drop (i + 1) xs))
     ∙ (sym (ap (λ qs. qs ++ drop (i + 1) xs) (swapped_last (take i xs) x bytes))

@@ -18,7 +18,7 @@ pub data Cause : Type 0 where
   full_directory : Cause
   unknown_type : Cause
   too_long : Cause
-  place_named : Cause
+  offset_named : Cause
   shared : Cause
   scattered : Cause
   picture : Cause
@@ -36,7 +36,7 @@ cause_of error.NoDirectory = Some no_directory
 cause_of error.FullDirectory = Some full_directory
 cause_of error.UnknownType = Some unknown_type
 cause_of error.ValueTooLong = Some too_long
-cause_of error.NamesPlaces = Some place_named
+cause_of error.NamesOffsets = Some offset_named
 cause_of error.SharedBytes = Some shared
 cause_of error.ScatteredData = Some scattered
 cause_of error.PictureData = Some picture
@@ -51,7 +51,7 @@ error_text error.NoDirectory = Some (codes "No directory to put the field into")
 error_text error.FullDirectory = Some (codes "The directory has no space for an entry")
 error_text error.UnknownType = Some (codes "Cannot write unknown field types")
 error_text error.ValueTooLong = Some (codes "The value is too long for its space")
-error_text error.NamesPlaces = Some (codes "The field holds offsets of other data")
+error_text error.NamesOffsets = Some (codes "The field holds offsets of other data")
 error_text error.SharedBytes = Some (codes "The bytes are shared with other data")
 error_text error.ScatteredData = Some (codes "The Exif data are not contiguous")
 error_text error.PictureData = Some (codes "The picture is in the same data")

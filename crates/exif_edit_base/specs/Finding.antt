@@ -10,7 +10,7 @@ use Rattle.exif_edit_base.specs.Causes.{Cause, no_field, of_data, or_cause, ◌>
 use Rattle.exif_edit_base.specs.Locations.{Located, located}
 use Rattle.exif_edit_base.specs.Readings.{Read, reading}
 
--- the last field of a name, with its place
+-- the last field of a name, with its offset
 abbrev pub last_located : Tag → In → List Located → Option Located
 last_located tag k [] = None
 last_located tag k (l ∷ ls) =

@@ -4,10 +4,10 @@ use Rattle.std.specs.Prelude.{ℕ, zero, suc, ◌+◌, ◌-◌, ◌*◌, ◌/◌
 use Rattle.std.specs.List.{filter, flat_map, list_any}
 use Rattle.exif_base.specs.Bytes.{Reading, items_at, number_at}
 use Rattle.exif_base.specs.Orders.{number_of, order_named}
-use Rattle.exif_tiff.specs.Trace.{directory_end, entry_places}
+use Rattle.exif_tiff.specs.Trace.{directory_end, entry_offsets}
 use Rattle.exif_tiff.specs.declared.fault.Fault.{Fault}
 use Rattle.exif_edit_base.specs.Causes.{Cause, of_data, ◌>>=◌}
-use Rattle.exif_edit_base.specs.Locations.{gps_places}
+use Rattle.exif_edit_base.specs.Locations.{visited_gps}
 use Rattle.exif_edit_base.specs.Readings.{Read, reading}
 use Rattle.exif_edit_base.specs.declared.offsets.Target.{Target}
 use Rattle.exif_edit_base.specs.declared.offsets.Target.TheVariants.{Gps, Child}
@@ -71,7 +71,7 @@ pointers_in target number bytes e =
 -- the first pointers of the directory at p to such directories
 unfoldable pub pointers : Target → Reading → List ℕ → ℕ → List ℕ
 pointers target number bytes p =
-    take max_pointers (flat_map (pointers_in target number bytes) (entry_places number bytes p))
+    take max_pointers (flat_map (pointers_in target number bytes) (entry_offsets number bytes p))
 
 -- ---- the directories
 
@@ -134,7 +134,7 @@ gps_pointers number bytes =
 
 -- the GPS directories that reading visits, and then the others
 unfoldable pub gps_offsets : Reading → List ℕ → List ℕ
-gps_offsets number bytes = all_noted bytes (gps_places bytes) (gps_pointers number bytes)
+gps_offsets number bytes = all_noted bytes (visited_gps bytes) (gps_pointers number bytes)
 
 -- ---- what is left over
 

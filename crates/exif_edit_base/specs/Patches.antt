@@ -6,43 +6,43 @@ use Rattle.exif_edit_base.specs.declared.patch.Span.{Span}
 
 -- the bytes with a text in the place of those that stand there
 abbrev pub put_at : ℕ → List ℕ → List ℕ → List ℕ
-put_at place text bytes = take place bytes ++ (text ++ drop (place + length text) bytes)
+put_at offset text bytes = take offset bytes ++ (text ++ drop (offset + length text) bytes)
 
 -- the bytes with patches put over them, one after another
 abbrev pub patched : List Patch → List ℕ → List ℕ
 patched [] bytes = bytes
-patched (p ∷ ps) bytes = patched ps (put_at p.place p.text bytes)
+patched (p ∷ ps) bytes = patched ps (put_at p.offset p.bytes bytes)
 
--- a patch that holds what stands in its place
+-- a patch that holds the bytes at its offset
 abbrev pub taken : List ℕ → Patch → Patch
-taken bytes p = record { place = p.place; text = bytes_at (length p.text) bytes p.place }
+taken bytes p = record { offset = p.offset; bytes = bytes_at (length p.bytes) bytes p.offset }
 
--- the patches, each with what stood in its place as they were put over the bytes
+-- the patches, each with the bytes at its offset as they were put over the bytes
 abbrev pub swapped : List Patch → List ℕ → List Patch
 swapped [] bytes = []
-swapped (p ∷ ps) bytes = taken bytes p ∷ swapped ps (put_at p.place p.text bytes)
+swapped (p ∷ ps) bytes = taken bytes p ∷ swapped ps (put_at p.offset p.bytes bytes)
 
 -- the bytes with patches put over them, from the last to the first
 abbrev pub put_back : List Patch → List ℕ → List ℕ
 put_back [] bytes = bytes
-put_back (p ∷ ps) bytes = put_at p.place p.text (put_back ps bytes)
+put_back (p ∷ ps) bytes = put_at p.offset p.bytes (put_back ps bytes)
 
--- the patches, each with what stood in its place then
+-- the patches, each with the bytes at its offset then
 abbrev pub swapped_back : List Patch → List ℕ → List Patch
 swapped_back [] bytes = []
 swapped_back (p ∷ ps) bytes = taken (put_back ps bytes) p ∷ swapped_back ps bytes
 
 -- a patch lies in data of a length
 abbrev pub FitsIn : ℕ → Patch → Type 0
-FitsIn total p = p.place + length p.text ≤ total
+FitsIn total p = p.offset + length p.bytes ≤ total
 
--- whether a place is one of a span
+-- whether an offset is one of a span
 abbrev pub inside : ℕ → Span → Bool
-inside i s = nat_le s.place i && nat_lt i (s.place + s.len)
+inside i s = nat_le s.offset i && nat_lt i (s.offset + s.len)
 
 -- zeros over a span
 abbrev pub zeros_over : Span → Patch
-zeros_over s = record { place = s.place; text = replicate s.len 0 }
+zeros_over s = record { offset = s.offset; bytes = replicate s.len 0 }
 
 -- a text, and zeros behind it up to a length
 abbrev pub padded : ℕ → List ℕ → List ℕ

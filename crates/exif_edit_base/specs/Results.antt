@@ -4,7 +4,7 @@ use Rattle.exif_reader.specs.declared.stop.Stop.{Stop}
 use Rattle.exif_reader.specs.declared.tiff.Parsed.{Parsed}
 use Rattle.exif_edit_base.specs.declared.walk.Located.{Located}
 
--- what was read, without its places
+-- what was read, without its offsets
 abbrev pub parsed_of : Result Located Stop → Result Parsed Stop
 parsed_of (Ok located) = Ok located.parsed
 parsed_of (Err stop) = Err stop

@@ -1,18 +1,18 @@
 -- What a walk has found.
 use Rattle.std.specs.Prelude.{◌≡◌, ℕ, List, map}
-use Rattle.exif_tiff.specs.declared.place.DirectoryPlace.{DirectoryPlace}
-use Rattle.exif_tiff.specs.declared.place.EntryPlace.{EntryPlace}
-use Rattle.exif_edit_base.specs.Locations.{directory_places, gps_places, located}
+use Rattle.exif_tiff.specs.declared.offset.DirectoryOffset.{DirectoryOffset}
+use Rattle.exif_tiff.specs.declared.offset.EntryOffset.{EntryOffset}
+use Rattle.exif_edit_base.specs.Locations.{directory_offsets, visited_gps, located}
 pub use Rattle.exif_tiff.specs.Trace.{entry_of}
 
--- the places of entries, of GPS directories, and of all directories
+-- the offsets of entries, of GPS directories, and of all directories
 pub record Walked : Type 0 where
-  pub entries : List EntryPlace
+  pub entries : List EntryOffset
   pub gps : List ℕ
-  pub directories : List DirectoryPlace
+  pub directories : List DirectoryOffset
 
--- a walk has found the places of the data
+-- a walk has found the offsets of the data
 pub record Finds (bytes : List ℕ) (w : Walked) : Type 0 where
   pub entries : w.entries ≡ map entry_of (located bytes)
-  pub gps : w.gps ≡ gps_places bytes
-  pub directories : w.directories ≡ directory_places bytes
+  pub gps : w.gps ≡ visited_gps bytes
+  pub directories : w.directories ≡ directory_offsets bytes

@@ -23,7 +23,7 @@ pub enum Error {
     ValueTooLong,
     /// The field holds offsets of other data, or how many: strips, tiles, thumbnails, child
     /// directories.
-    NamesPlaces,
+    NamesOffsets,
     /// Bytes of the field are those of something else too, which would change with it.
     SharedBytes,
     /// The Exif data don't stand in the file in one piece.
@@ -92,7 +92,7 @@ impl fmt::Display for Error {
             Error::FullDirectory => write!(f, "The directory has no space for an entry"),
             Error::UnknownType => write!(f, "Cannot write unknown field types"),
             Error::ValueTooLong => write!(f, "The value is too long for its space"),
-            Error::NamesPlaces => write!(f, "The field holds offsets of other data"),
+            Error::NamesOffsets => write!(f, "The field holds offsets of other data"),
             Error::SharedBytes => write!(f, "The bytes are shared with other data"),
             Error::ScatteredData => write!(f, "The Exif data are not contiguous"),
             Error::PictureData => write!(f, "The picture is in the same data"),

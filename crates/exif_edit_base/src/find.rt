@@ -12,11 +12,11 @@ use crate::error::Error;
 use crate::read::locate;
 use crate::walk::{Located, Walk};
 use exif_reader::tiff::Parsed;
-use exif_tiff::EntryPlace;
+use exif_tiff::EntryOffset;
 use exif_types::{Field, In, Tag};
 use std::alloc::Global;
 
-/// What was read, and where a field stands in it, with all places.
+/// What was read, and where a field stands in it, with all offsets.
 #[derive(Drop)]
 pub struct Found {
     pub parsed: Parsed,
@@ -49,7 +49,7 @@ fn last_index(fields: &[Field], tag: Tag, ifd_num: In) -> Option<usize>
 }
 
 // The entry at an index.
-fn at(entries: &[EntryPlace], index: usize) -> EntryPlace
+fn at(entries: &[EntryOffset], index: usize) -> EntryOffset
     requires { index < length entries.now }
     ensures { slice_get entries.now index ≡ Some result }
 {
@@ -61,18 +61,18 @@ pub fn find(alloc: Global, bytes: &[u8], tag: Tag, ifd_num: In) -> Result<Found,
     ensures answer { Makes (λ (f : Found). (read_of f.parsed, f.entry)) result
         (find_answer bytes.now tag ifd_num) }
     ensures last { IfOk result (λ f. IsLastAt tag ifd_num f.parsed.fields.items f.index) }
-    ensures places { IfOk result (λ f. Finds bytes.now f.walk) }
+    ensures offsets { IfOk result (λ f. Finds bytes.now f.walk) }
     ensures small { OnOk result (length bytes.now < 2 ^ 32) }
 {
     let Located { parsed, walk } = locate(alloc, bytes)?;
     match last_index(parsed.fields.as_slice(), tag, ifd_num) {
         None => Err(Error::FieldNotFound),
         Some(index) => {
-            let place = at(walk.entries(), index);
+            let offset = at(walk.entries(), index);
             Ok(Found {
                 parsed,
                 index,
-                entry: place.entry,
+                entry: offset.entry,
                 walk,
             })
         }

@@ -1,4 +1,4 @@
-//! Laws of places. They hold for all bytes, and speak of the definitions alone.
+//! Laws of offsets. They hold for all bytes, and speak of the definitions alone.
 
 ghost use Rattle.std.specs.Prelude.{ℕ, List};
 ghost use Rattle.exif_edit_base.specs.Locations.{LocatesWhatIsRead};

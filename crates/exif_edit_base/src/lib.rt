@@ -13,7 +13,7 @@ pub mod unerased;
 mod walk;
 
 pub use error::Error;
-pub use exif_tiff::{DirectoryPlace, EntryPlace};
+pub use exif_tiff::{DirectoryOffset, EntryOffset};
 pub use patch::Patch;
 pub use unerased::{Unerased, leftovers};
 pub use walk::{Located, Walk, read_located};

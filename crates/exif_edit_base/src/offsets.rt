@@ -6,7 +6,7 @@ ghost use Rattle.std.specs.List.{flat_map};
 ghost use Rattle.exif_base.specs.Bytes.{number_at};
 ghost use Rattle.exif_base.specs.Orders.{number_of};
 ghost use Rattle.exif_tiff.specs.Trace.{whole_entries};
-ghost use Rattle.exif_edit_base.specs.Locations.{gps_places};
+ghost use Rattle.exif_edit_base.specs.Locations.{visited_gps};
 ghost use Rattle.exif_edit_base.specs.GpsOffsets.{all_directories, all_noted, chain_from, gps_offsets, is_new, is_offset_type, is_usable, max_directories, max_pointers, next_offset, noted_new, offset_len, offsets_in, pointers, pointers_in, points_to, values_count, values_offset};
 
 use crate::read::{number16, number32};
@@ -29,14 +29,14 @@ pub enum Target {
 }
 
 /// How many entries of the directory at an offset are whole.
-pub fn whole_entries(order: Order, bytes: &[u8], place: u32) -> usize
-    ensures value { result ≡ whole_entries (number_of order) bytes.now place }
-    ensures room { 0 < result → place + 2 + 12 * result ≤ length bytes.now }
+pub fn whole_entries(order: Order, bytes: &[u8], offset: u32) -> usize
+    ensures value { result ≡ whole_entries (number_of order) bytes.now offset }
+    ensures room { 0 < result → offset + 2 + 12 * result ≤ length bytes.now }
     ensures small { result < 65536 }
 {
     match order {
-        Order::Big => directory::whole_entries::<BigEndian>(bytes, place),
-        Order::Little => directory::whole_entries::<LittleEndian>(bytes, place),
+        Order::Big => directory::whole_entries::<BigEndian>(bytes, offset),
+        Order::Little => directory::whole_entries::<LittleEndian>(bytes, offset),
     }
 }
 
@@ -67,7 +67,7 @@ fn offset_len(field_type: u16) -> usize
     if field_type == 3 { 2 } else { 4 }
 }
 
-// The offset of a type at a place.
+// The offset of a type at an offset.
 fn offset_at(order: Order, bytes: &[u8], field_type: u16, at: usize) -> u32
     requires { at + offset_len field_type ≤ length bytes.now }
     ensures { result ≡ number_at (number_of order) (offset_len field_type) bytes.now at }
@@ -308,7 +308,7 @@ pub fn gps_offsets(
 ) -> Result<Vec<u32>, AllocError>
     requires room { 8 ≤ length bytes.now }
     requires small { length bytes.now < 2 ^ 32 }
-    requires visited { visited.now ≡ gps_places bytes.now }
+    requires visited { visited.now ≡ visited_gps bytes.now }
     ensures { IfOk result (λ v. v.items ≡ gps_offsets (number_of order) bytes.now) }
 {
     let directories = all_directories(alloc, order, bytes)?;

@@ -10,7 +10,7 @@ use std::mem;
 /// A stretch of the data.
 #[derive(Clone, Copy, Debug)]
 pub struct Span {
-    pub place: u32,
+    pub offset: u32,
     pub len: usize,
 }
 
@@ -18,18 +18,18 @@ pub struct Span {
 #[derive(Debug, Drop)]
 pub struct Patch {
     /// Where they begin, counted from the first byte of the data or of the file.
-    pub place: u64,
+    pub offset: u64,
     /// The bytes.
-    pub text: Items<u8>,
+    pub bytes: Items<u8>,
 }
 
-/// Puts a text over the bytes at a place.
-pub fn put(bytes: &mut [u8], place: usize, text: &[u8])
-    requires { place + length text.now ≤ length bytes.old }
-    ensures value { bytes.new ≡ put_at place text.now bytes.old }
+/// Puts a text over the bytes at an offset.
+pub fn put(bytes: &mut [u8], offset: usize, text: &[u8])
+    requires { offset + length text.now ≤ length bytes.old }
+    ensures value { bytes.new ≡ put_at offset text.now bytes.old }
     ensures len { length bytes.new ≡ length bytes.old }
 {
-    bytes[place..place + text.len()].copy_from_slice(text);
+    bytes[offset..offset + text.len()].copy_from_slice(text);
 }
 
 /// Puts patches over the bytes, one after another.
@@ -39,21 +39,21 @@ pub fn apply(patches: &[Patch], bytes: &mut [u8])
     ensures len { length bytes.new ≡ length bytes.old }
 {
     for patch in patches {
-        put(bytes, patch.place as usize, patch.text.as_slice());
+        put(bytes, patch.offset as usize, patch.bytes.as_slice());
     }
 }
 
 // Puts a patch over the bytes, and what stood there into the patch.
 fn exchange_one(alloc: Global, bytes: &mut [u8], patch: &mut Patch)
     requires { FitsIn (length bytes.old) patch.old }
-    ensures value { bytes.new ≡ put_at patch.old.place patch.old.text bytes.old }
+    ensures value { bytes.new ≡ put_at patch.old.offset patch.old.bytes bytes.old }
     ensures len { length bytes.new ≡ length bytes.old }
     ensures taken { patch.new ≡ taken bytes.old patch.old }
 {
-    let mut text = mem::replace(&mut patch.text, Items::from_vec(Vec::new(alloc))).into_vec();
-    let place = patch.place as usize;
-    bytes[place..place + text.len()].swap_with_slice(text.as_mut_slice());
-    patch.text = Items::from_vec(text);
+    let mut text = mem::replace(&mut patch.bytes, Items::from_vec(Vec::new(alloc))).into_vec();
+    let offset = patch.offset as usize;
+    bytes[offset..offset + text.len()].swap_with_slice(text.as_mut_slice());
+    patch.bytes = Items::from_vec(text);
 }
 
 /// Puts patches over the bytes, one after another, and what stood there into the patches. It takes
@@ -112,7 +112,7 @@ pub fn zeros(alloc: Global, span: Span) -> Result<Patch, AllocError>
 {
     let text = vec![in alloc; 0u8; span.len]?;
     Ok(Patch {
-        place: span.place as u64,
-        text: Items::from_vec(text),
+        offset: span.offset as u64,
+        bytes: Items::from_vec(text),
     })
 }

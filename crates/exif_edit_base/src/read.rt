@@ -27,7 +27,7 @@ pub fn read(alloc: Global, bytes: &[u8]) -> Result<Parsed, Stop>
 /// Reads data leniently, and tells where what is read stands.
 pub fn locate(alloc: Global, bytes: &[u8]) -> Result<Located, Stop>
     ensures reads { ReadsTo (parsed_of result) (reading bytes.now) }
-    ensures places { IfOk result (λ located. Finds bytes.now located.walk) }
+    ensures offsets { IfOk result (λ located. Finds bytes.now located.walk) }
     ensures room { OnOk result (8 ≤ length bytes.now) }
     ensures small { OnOk result (length bytes.now < 2 ^ 32) }
 {
@@ -67,7 +67,7 @@ pub fn order_named(little_endian: bool) -> Order
     }
 }
 
-/// The 16-bit number at a place.
+/// The 16-bit number at an offset.
 pub fn number16(order: Order, bytes: &[u8], at: usize) -> u16
     requires { at + 2 ≤ length bytes.now }
     ensures { result ≡ number_at (number_of order) 2 bytes.now at }
@@ -78,7 +78,7 @@ pub fn number16(order: Order, bytes: &[u8], at: usize) -> u16
     }
 }
 
-/// The 32-bit number at a place.
+/// The 32-bit number at an offset.
 pub fn number32(order: Order, bytes: &[u8], at: usize) -> u32
     requires { at + 4 ≤ length bytes.now }
     ensures { result ≡ number_at (number_of order) 4 bytes.now at }

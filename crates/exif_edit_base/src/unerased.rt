@@ -67,8 +67,8 @@ fn is_full(alloc: Global, order: Order, bytes: &[u8], offset: u32) -> Result<boo
     ensures { IfOk result (λ full. full ≡ is_full (number_of order) bytes.now offset) }
 {
     let children = pointers(alloc, order, bytes, Target::Child, offset)?;
-    let places = pointers(alloc, order, bytes, Target::Gps, offset)?;
-    Ok(children.len() == MAX_POINTERS || places.len() == MAX_POINTERS)
+    let offsets = pointers(alloc, order, bytes, Target::Gps, offset)?;
+    Ok(children.len() == MAX_POINTERS || offsets.len() == MAX_POINTERS)
 }
 
 // Whether one of directories has.

@@ -3,22 +3,22 @@
 ghost use Rattle.std.specs.Prelude.{◌≡◌, ◌++◌, None, true, IfOk, OnOk};
 ghost use Rattle.exif_tiff.specs.Answers.{raw_answer};
 ghost use Rattle.exif_reader.specs.Results.{AsksMemory, Says, SaysOrder};
-ghost use Rattle.exif_edit_base.specs.Locations.{gps_of, gps_place};
+ghost use Rattle.exif_edit_base.specs.Locations.{gps_of, gps_offset};
 ghost use Rattle.exif_edit_base.specs.Results.{parsed_of};
 ghost use Rattle.exif_edit_base.specs.Walked.{Finds};
 
-use exif_reader::places::Places;
+use exif_reader::offsets::Offsets;
 use exif_reader::stop::Stop;
 use exif_reader::tiff::{Parsed, parse_located};
-use exif_tiff::{DirectoryPlace, EntryPlace};
+use exif_tiff::{DirectoryOffset, EntryOffset};
 use exif_types::Context;
 use std::alloc::{AllocError, Global};
 use std::marker::Model;
 
-/// The places of the entries of fields and of directories, and those of GPS directories.
+/// The offsets of the entries of fields and of directories, and those of GPS directories.
 #[derive(Drop)]
 pub struct Walk {
-    places: Places,
+    offsets: Offsets,
     gps: Vec<u32>,
 }
 
@@ -28,9 +28,9 @@ impl Model for Walk {
     ghost Value = { Walked };
 
     ghost view = { λ w. record {
-      entries = w.places.entries;
+      entries = w.offsets.entries;
       gps = w.gps.items;
-      directories = w.places.directories;
+      directories = w.offsets.directories;
     } };
 }
 
@@ -42,14 +42,14 @@ pub struct Located {
 }
 
 impl Walk {
-    /// The places of entries, in the order of the fields.
-    pub fn entries(&self) -> &[EntryPlace]
+    /// The offsets of entries, in the order of the fields.
+    pub fn entries(&self) -> &[EntryOffset]
         ensures { result.now ≡ self.now.entries }
     {
-        self.places.entries()
+        self.offsets.entries()
     }
 
-    /// The places of GPS directories.
+    /// The offsets of GPS directories.
     pub fn gps(&self) -> &[u32]
         ensures { result.now ≡ self.now.gps }
     {
@@ -57,34 +57,34 @@ impl Walk {
     }
 
     /// The directories, in the order in which reading visits them.
-    pub fn directories(&self) -> &[DirectoryPlace]
+    pub fn directories(&self) -> &[DirectoryOffset]
         ensures { result.now ≡ self.now.directories }
     {
-        self.places.directories()
+        self.offsets.directories()
     }
 }
 
-// Adds the place of a directory, if it is one of GPS data.
-fn add_gps(directory: DirectoryPlace, places: &mut Vec<u32>) -> Result<(), AllocError>
-    ensures { OnOk result (places.new.items
-        ≡ places.old.items ++ gps_place directory.context directory.place) }
+// Adds the offset of a directory, if it is one of GPS data.
+fn add_gps(directory: DirectoryOffset, offsets: &mut Vec<u32>) -> Result<(), AllocError>
+    ensures { OnOk result (offsets.new.items
+        ≡ offsets.old.items ++ gps_offset directory.context directory.offset) }
 {
     match directory.context {
-        Context::Gps => places.push(directory.place)?,
+        Context::Gps => offsets.push(directory.offset)?,
         Context::Tiff | Context::Exif | Context::Interop => {}
     }
     Ok(())
 }
 
-// The places of the GPS directories among directories.
-fn gps_of(alloc: Global, directories: &[DirectoryPlace]) -> Result<Vec<u32>, AllocError>
+// The offsets of the GPS directories among directories.
+fn gps_of(alloc: Global, directories: &[DirectoryOffset]) -> Result<Vec<u32>, AllocError>
     ensures { IfOk result (λ v. v.items ≡ gps_of directories.now) }
 {
-    let mut places = Vec::new(alloc);
+    let mut offsets = Vec::new(alloc);
     for directory in directories {
-        add_gps(*directory, &mut places)?;
+        add_gps(*directory, &mut offsets)?;
     }
-    Ok(places)
+    Ok(offsets)
 }
 
 /// Reads TIFF data leniently, and tells where what is read stands.
@@ -92,12 +92,12 @@ pub fn read_located(alloc: Global, bytes: &[u8]) -> Result<Located, Stop>
     ensures says { Says (parsed_of result) (raw_answer true None bytes.now) }
     ensures order { SaysOrder (parsed_of result) bytes.now }
     ensures memory { AsksMemory (parsed_of result) bytes.now }
-    ensures places { IfOk result (λ located. Finds bytes.now located.walk) }
+    ensures offsets { IfOk result (λ located. Finds bytes.now located.walk) }
 {
     let placed = parse_located(alloc, bytes)?;
-    let gps = gps_of(alloc, placed.places.directories())?;
+    let gps = gps_of(alloc, placed.offsets.directories())?;
     let walk = Walk {
-        places: placed.places,
+        offsets: placed.offsets,
         gps,
     };
     Ok(Located {

@@ -8,7 +8,7 @@ use Rattle.exif_base.specs.Bytes.{Reading, number_at, spaced}
 use Rattle.exif_text.specs.FieldTypes.{type_of, known_length}
 use Rattle.exif_tiff.specs.Apart.{are_apart}
 use Rattle.exif_tiff.specs.Footprint.{Stretch, chain_directories, looked_at, ordered_footprint, value_stretch}
-use Rattle.exif_tiff.specs.Trace.{entry_places, whole_entries}
+use Rattle.exif_tiff.specs.Trace.{entry_offsets, whole_entries}
 use Rattle.exif_tiff.proofs.ApartLists.{IsApart}
 use Rattle.exif_tiff.proofs.Members.{all_append}
 use Rattle.exif_edit_base.specs.declared.patch.Span.{Span}
@@ -96,21 +96,21 @@ times_once n e (d ∷ ds) h = by_test (d == e) refl (times_once n e ds)
 module _ (number : Reading) (bytes : List ℕ) where
   value_has : (d : ℕ) → HaveBytes (value_stretch number bytes d)
   value_has d =
-      by_tests (nat_lt 4 size) (nat_le (place + size) (length bytes)) refl
+      by_tests (nat_lt 4 size) (nat_le (offset + size) (length bytes)) refl
     where
       size : ℕ
       size = known_length (type_of (number_at number 2 bytes (d + 2))) * number_at number 4 bytes (d + 4)
 
-      place : ℕ
-      place = number_at number 4 bytes (d + 8)
+      offset : ℕ
+      offset = number_at number 4 bytes (d + 8)
 
       by_tests : (a b : Bool) → nat_lt 4 size ≡ a
-          → HaveBytes (if a && b then record { place = place; len = size } ∷ [] else [])
+          → HaveBytes (if a && b then record { offset = offset; len = size } ∷ [] else [])
       by_tests false b p = tt
       by_tests true false p = tt
       by_tests true true p = (grind (arith, nat_tests), tt)
 
-  -- all stretches that some places give have bytes, where those of each place do
+  -- all stretches that some offsets give have bytes, where those of each offset do
   pub all_have : (f : ℕ → List Stretch) (ds : List ℕ) → ((d : ℕ) → HaveBytes (f d))
       → HaveBytes (flat_map f ds)
   all_have f [] h = tt
@@ -120,13 +120,13 @@ module _ (number : Reading) (bytes : List ℕ) where
   -- the directory at p and its values that are looked at have bytes
   pub looked_has : (p : ℕ) → HaveBytes (looked_at number bytes p)
   looked_has p =
-      (omega arith, all_have (value_stretch number bytes) (entry_places number bytes p) value_has)
+      (omega arith, all_have (value_stretch number bytes) (entry_offsets number bytes p) value_has)
 
   other_has : (e d : ℕ) → HaveBytes (other_entry number bytes e d)
   other_has e d = by_test (d == e)
     where
       by_test : (t : Bool) → HaveBytes
-          (if t then [] else record { place = d; len = 12 } ∷ value_stretch number bytes d)
+          (if t then [] else record { offset = d; len = 12 } ∷ value_stretch number bytes d)
       by_test true = tt
       by_test false = (omega arith, value_has d)
 
@@ -135,7 +135,7 @@ module _ (number : Reading) (bytes : List ℕ) where
     omega arith,
     (
       omega arith,
-      all_have (other_entry number bytes e) (entry_places number bytes p) (other_has e),
+      all_have (other_entry number bytes e) (entry_offsets number bytes p) (other_has e),
     ),
   )
 
@@ -150,7 +150,7 @@ module _ (number : Reading) (bytes : List ℕ) where
 
   -- what is looked at of the entry at d
   abbrev pub whole : ℕ → List Stretch
-  whole d = record { place = d; len = 12 } ∷ value_stretch number bytes d
+  whole d = record { offset = d; len = 12 } ∷ value_stretch number bytes d
 
   -- how many of it have the byte at i
   abbrev pub own : ℕ → ℕ → ℕ
@@ -190,52 +190,52 @@ module _ (number : Reading) (bytes : List ℕ) where
   -- entries side by side
   spaced_held : (i q n : ℕ)
       → holders i (flat_map whole (spaced q 12 n))
-      ≡ has i (record { place = q; len = 12 * n })
+      ≡ has i (record { offset = q; len = 12 * n })
       + holders i (flat_map (value_stretch number bytes) (spaced q 12 n))
   spaced_held i q zero =
       let none = no_bytes i q in
       let a = holders_none i in
       omega arith
     where
-      no_bytes : (i q : ℕ) → has i (record { place = q; len = 12 * 0 }) ≡ 0
+      no_bytes : (i q : ℕ) → has i (record { offset = q; len = 12 * 0 }) ≡ 0
       no_bytes i q =
           let a = has_parts i q 0 0 in
-          let b : has i (record { place = q + 0; len = 0 }) ≡ has i (record { place = q; len = 0 }) =
-          ap (λ p. has i (record { place = p; len = 0 })) (omega arith) in
+          let b : has i (record { offset = q + 0; len = 0 }) ≡ has i (record { offset = q; len = 0 }) =
+          ap (λ p. has i (record { offset = p; len = 0 })) (omega arith) in
           omega arith
   spaced_held i q (suc n) =
       let rest = spaced_held i (q + 12) n in
       let len : 12 * suc n ≡ 12 + 12 * n = omega arith in
-      let both = ap (λ m. has i (record { place = q; len = m })) len ∙ has_parts i q 12 (12 * n) in
+      let both = ap (λ m. has i (record { offset = q; len = m })) len ∙ has_parts i q 12 (12 * n) in
       let a = holders-append i (whole q) (flat_map whole (spaced (q + 12) 12 n)) in
       let b = holders-append i (value_stretch number bytes q)
       (flat_map (value_stretch number bytes) (spaced (q + 12) 12 n)) in
-      let c = holders_more i (record { place = q; len = 12 }) (value_stretch number bytes q) in
+      let c = holders_more i (record { offset = q; len = 12 }) (value_stretch number bytes q) in
       omega arith
 
   -- a directory
   directory_held : (i e p : ℕ)
-      → holders i (beside number bytes e p) + times (own i e) e (entry_places number bytes p)
+      → holders i (beside number bytes e p) + times (own i e) e (entry_offsets number bytes p)
       ≡ holders i (looked_at number bytes p)
   directory_held i e p =
       let w = whole_entries number bytes p in
-      let others = flat_map (other_entry number bytes e) (entry_places number bytes p) in
-      let next : Stretch = record { place = p + 2 + 12 * w; len = 4 } in
-      let a = entries_held i e (entry_places number bytes p) in
+      let others = flat_map (other_entry number bytes e) (entry_offsets number bytes p) in
+      let next : Stretch = record { offset = p + 2 + 12 * w; len = 4 } in
+      let a = entries_held i e (entry_offsets number bytes p) in
       let b = spaced_held i (p + 2) w in
       let c = has_parts i p (2 + 12 * w) 4 in
       let d = has_parts i p 2 (12 * w) in
-      let here : has i (record { place = p + (2 + 12 * w); len = 4 }) ≡ has i next =
-      ap (λ q. has i (record { place = q; len = 4 })) (omega arith) in
-      let f = holders_more i (record { place = p; len = 2 }) (next ∷ others) in
+      let here : has i (record { offset = p + (2 + 12 * w); len = 4 }) ≡ has i next =
+      ap (λ q. has i (record { offset = q; len = 4 })) (omega arith) in
+      let f = holders_more i (record { offset = p; len = 2 }) (next ∷ others) in
       let g = holders_more i next others in
-      let h = holders_more i (record { place = p; len = 2 + 12 * w + 4 })
-      (flat_map (value_stretch number bytes) (entry_places number bytes p)) in
+      let h = holders_more i (record { offset = p; len = 2 + 12 * w + 4 })
+      (flat_map (value_stretch number bytes) (entry_offsets number bytes p)) in
       omega arith
 
   directories_held : (i e : ℕ) (ps : List ℕ)
       → holders i (flat_map (beside number bytes e) ps)
-      + times (own i e) e (flat_map (entry_places number bytes) ps)
+      + times (own i e) e (flat_map (entry_offsets number bytes) ps)
       ≡ holders i (flat_map (looked_at number bytes) ps)
   directories_held i e [] = let a = times_none (own i e) e in omega arith
   directories_held i e (p ∷ ps) =
@@ -243,27 +243,27 @@ module _ (number : Reading) (bytes : List ℕ) where
       let rest = directories_held i e ps in
       let a = holders-append i (beside number bytes e p) (flat_map (beside number bytes e) ps) in
       let b = holders-append i (looked_at number bytes p) (flat_map (looked_at number bytes) ps) in
-      let c = times-append (own i e) e (entry_places number bytes p)
-      (flat_map (entry_places number bytes) ps) in
+      let c = times-append (own i e) e (entry_offsets number bytes p)
+      (flat_map (entry_offsets number bytes) ps) in
       omega arith
 
   -- all of the data
   abbrev pub all_entries : List ℕ
   all_entries =
-      flat_map (entry_places number bytes)
+      flat_map (entry_offsets number bytes)
       (chain_directories 8 number bytes (number_at number 4 bytes 4))
 
   -- all that reading looks at: the header, and the directories with their values
   abbrev pub all_looked : List Stretch
-  all_looked = record { place = 0; len = 8 } ∷ ordered_footprint number bytes
+  all_looked = record { offset = 0; len = 8 } ∷ ordered_footprint number bytes
 
   all_held : (i e : ℕ)
       → holders i (all_beside number bytes e) + times (own i e) e all_entries ≡ holders i all_looked
   all_held i e =
       let ps = chain_directories 8 number bytes (number_at number 4 bytes 4) in
       let a = directories_held i e ps in
-      let b = holders_more i (record { place = 0; len = 8 }) (flat_map (beside number bytes e) ps) in
-      let c = holders_more i (record { place = 0; len = 8 }) (ordered_footprint number bytes) in
+      let b = holders_more i (record { offset = 0; len = 8 }) (flat_map (beside number bytes e) ps) in
+      let c = holders_more i (record { offset = 0; len = 8 }) (ordered_footprint number bytes) in
       omega arith
 
   -- ---- an entry, where no byte is looked at twice
@@ -271,8 +271,8 @@ module _ (number : Reading) (bytes : List ℕ) where
   module _ (e : ℕ) (apart : are_apart all_looked ≡ true) where
     own_some : 1 ≤ own e e
     own_some =
-        let a = holders_more e (record { place = e; len = 12 }) (value_stretch number bytes e) in
-        let b = has_inside e (record { place = e; len = 12 }) (omega arith) (omega arith) in
+        let a = holders_more e (record { offset = e; len = 12 }) (value_stretch number bytes e) in
+        let b = has_inside e (record { offset = e; len = 12 }) (omega arith) (omega arith) in
         omega arith
 
     -- it is there once
@@ -292,12 +292,12 @@ module _ (number : Reading) (bytes : List ℕ) where
           omega arith
 
       abbrev itself : Stretch
-      itself = record { place = e; len = 12 }
+      itself = record { offset = e; len = 12 }
 
       own_parts : (i : ℕ) → own i e ≡ has i itself + holders i (value_stretch number bytes e)
       own_parts i = holders_more i itself (value_stretch number bytes e)
 
-      entry_lacks : Lacks (record { place = e + 2; len = 10 }) (all_beside number bytes e)
+      entry_lacks : Lacks (record { offset = e + 2; len = 10 }) (all_beside number bytes e)
       entry_lacks i low high =
           let a = lone i in
           let b = own_parts i in
@@ -306,15 +306,15 @@ module _ (number : Reading) (bytes : List ℕ) where
 
       -- what a new value changes of an entry is apart from all that is looked at but for the entry
       pub entry_apart :
-          AllByRecursion (IsApart (record { place = e + 2; len = 10 })) (all_beside number bytes e)
+          AllByRecursion (IsApart (record { offset = e + 2; len = 10 })) (all_beside number bytes e)
       entry_apart =
-          all_apart (record { place = e + 2; len = 10 }) (all_beside number bytes e) (omega arith)
+          all_apart (record { offset = e + 2; len = 10 }) (all_beside number bytes e) (omega arith)
           (all_beside_has e) entry_lacks
 
       -- its value, where that stands outside of it
       module _ (room : Stretch) (some : 0 < room.len)
           (is : value_stretch number bytes e ≡ room ∷ []) where
-        room_has : (i : ℕ) → room.place ≤ i → i < room.place + room.len
+        room_has : (i : ℕ) → room.offset ≤ i → i < room.offset + room.len
             → holders i (value_stretch number bytes e) ≡ 1
         room_has i low high =
             let a = ap (holders i) is in
@@ -349,7 +349,7 @@ module _ (number : Reading) (bytes : List ℕ) where
 
 -- a span that meets none of some
 pub none_met : (s : Span) (ts : List Stretch)
-    → AllByRecursion (IsApart (record { place = s.place; len = s.len })) ts
+    → AllByRecursion (IsApart (record { offset = s.offset; len = s.len })) ts
     → list_any (meets s) ts ≡ false
 none_met s [] h = refl
 none_met s (t ∷ ts) h = rw (apart_misses s t h.0, none_met s ts h.1) refl
@@ -369,5 +369,5 @@ neither_any S T (x ∷ xs) h k =
     by_tests false true c d h k r = cc
 
 -- no span of nothing at 0 meets anything
-pub nothing_met : (t : Stretch) → meets (record { place = 0; len = 0 }) t ≡ false
-nothing_met t = let a : nat_lt t.place 0 ≡ false = grind (arith, nat_tests) in rw a refl
+pub nothing_met : (t : Stretch) → meets (record { offset = 0; len = 0 }) t ≡ false
+nothing_met t = let a : nat_lt t.offset 0 ≡ false = grind (arith, nat_tests) in rw a refl

@@ -29,25 +29,25 @@ use Rattle.exif_edit_base.specs.declared.patch.Span.{Span}
 use Rattle.exif_edit_base.proofs.LocatedEntries.{AreSaid, IsSaid, last_said, ordered_said}
 use Rattle.exif_edit.specs.Setting.{value_room}
 use Rattle.exif_edit.specs.Sharing.{all_beside, changed_entry, meets, standing_at, stands_alone}
-use Rattle.exif_edit.proofs.PlacesUnshared.{places_unshared}
+use Rattle.exif_edit.proofs.GpsUnshared.{gps_unshared}
 use Rattle.exif_edit.proofs.Unshared.{last_stands, located_in, set_unshared}
-use Rattle.exif_edit_laws.specs.Apart.{AreErasedApart, AreErasedInImage, EachStandsAlone, IsSetApart, IsSetInImage, LastStandsAlone, PlacesStandAlone}
+use Rattle.exif_edit_laws.specs.Apart.{AreErasedApart, AreErasedInImage, EachStandsAlone, IsSetApart, IsSetInImage, LastStandsAlone, GpsStandsAlone}
 use Rattle.exif_edit_laws.proofs.ApartCounts.{apart_misses}
 use Rattle.exif_edit_laws.proofs.ApartEntries.{all_entries, all_looked, entry_apart, neither_any, none_met, nothing_met, once, room_apart, room_beside, times}
 use Rattle.exif_edit_laws.proofs.ApartLocated.{located_times, one_more}
-use Rattle.exif_edit_laws.proofs.ApartPlaces.{places_apart}
+use Rattle.exif_edit_laws.proofs.ApartOffsets.{offsets_apart}
 
 -- of data with a right header, the stretches that are looked at
 looked_apart : (bytes : List ℕ) (order : Order) → header bytes ≡ Ok order
     → looks_apart bytes ≡ true → are_apart (all_looked (number_of order) bytes) ≡ true
 looked_apart bytes order head apart =
-    sym (ap (λ (x : Result Order Fault). are_apart (record { place = 0; len = 8 }
+    sym (ap (λ (x : Result Order Fault). are_apart (record { offset = 0; len = 8 }
     ∷ elim x as (λ _. List Stretch) [
       | Ok o ↦ ordered_footprint (number_of o) bytes
       | Err fault ↦ []
     ])) head) ∙ apart
 
-none_of_nothing : (ts : List Stretch) → list_any (meets (record { place = 0; len = 0 })) ts ≡ false
+none_of_nothing : (ts : List Stretch) → list_any (meets (record { offset = 0; len = 0 })) ts ≡ false
 none_of_nothing [] = refl
 none_of_nothing (t ∷ ts) = rw (nothing_met t, none_of_nothing ts) refl
 
@@ -57,23 +57,23 @@ module _ (number : Reading) (bytes : List ℕ) (e : ℕ)
   -- a room that is looked at as nothing else
   record IsFree (room : Span) : Type 0 where
     beside : list_any (meets room) (all_beside number bytes e) ≡ false
-    entry : meets room (record { place = e; len = 12 }) ≡ false
+    entry : meets room (record { offset = e; len = 12 }) ≡ false
 
-  nothing_free : IsFree (record { place = 0; len = 0 })
+  nothing_free : IsFree (record { offset = 0; len = 0 })
   nothing_free = record {
     beside = none_of_nothing (all_beside number bytes e);
-    entry = nothing_met (record { place = e; len = 12 });
+    entry = nothing_met (record { offset = e; len = 12 });
   }
 
   outside_free : (room : Span) → 0 < room.len
-      → value_stretch number bytes e ≡ record { place = room.place; len = room.len } ∷ []
+      → value_stretch number bytes e ≡ record { offset = room.offset; len = room.len } ∷ []
       → IsFree room
   outside_free room some is =
-      let stretch : Stretch = record { place = room.place; len = room.len } in
+      let stretch : Stretch = record { offset = room.offset; len = room.len } in
       record {
         beside = none_met room (all_beside number bytes e)
             (room_apart number bytes e apart there stretch some is);
-        entry = apart_misses room (record { place = e; len = 12 })
+        entry = apart_misses room (record { offset = e; len = 12 })
             (room_beside number bytes e apart there stretch some is);
       }
 
@@ -81,7 +81,7 @@ module _ (number : Reading) (bytes : List ℕ) (e : ℕ)
   room_free : (v : Value) → entry_value number bytes e ≡ Some v
       → IsFree (value_room number bytes e)
   room_free v lies =
-      by_tests (nat_le size 4) (nat_lt 4 size) (nat_le (place + size) (length bytes)) refl refl refl
+      by_tests (nat_le size 4) (nat_lt 4 size) (nat_le (offset + size) (length bytes)) refl refl refl
       lies
     where
       type : ℕ
@@ -93,22 +93,22 @@ module _ (number : Reading) (bytes : List ℕ) (e : ℕ)
       size : ℕ
       size = known_length (type_of type) * count
 
-      place : ℕ
-      place = number_at number 4 bytes (e + 8)
+      offset : ℕ
+      offset = number_at number 4 bytes (e + 8)
 
       none_some : ◌≡◌ {A = Option Value} None (Some v) → ⊥
       none_some h = cc
 
       by_tests : (a b c : Bool) → nat_le size 4 ≡ a → nat_lt 4 size ≡ b
-          → nat_le (place + size) (length bytes) ≡ c
+          → nat_le (offset + size) (length bytes) ≡ c
           → (if a then Some (decode number type count bytes (e + 8)) else
-          (if c then Some (decode number type count bytes place) else None)) ≡ Some v
-          → IsFree (if a then record { place = 0; len = 0 } else record { place = place; len = size })
+          (if c then Some (decode number type count bytes offset) else None)) ≡ Some v
+          → IsFree (if a then record { offset = 0; len = 0 } else record { offset = offset; len = size })
       by_tests true b c p q r h = nothing_free
       by_tests false false c p q r h = absurd (grind (arith, nat_tests))
       by_tests false true false p q r h = absurd (none_some h)
       by_tests false true true p q r h =
-          outside_free (record { place = place; len = size }) (grind (arith, nat_tests))
+          outside_free (record { offset = offset; len = size }) (grind (arith, nat_tests))
           (rw (q, r) refl)
 
   abbrev touched : Stretch → Bool
@@ -122,7 +122,7 @@ module _ (number : Reading) (bytes : List ℕ) (e : ℕ)
       let b = neither_any (meets (changed_entry e)) (meets (value_room number bytes e))
       (all_beside number bytes e) a free.beside in
       by_parts (list_any touched (all_beside number bytes e))
-      (meets (value_room number bytes e) (record { place = e; len = 12 }))
+      (meets (value_room number bytes e) (record { offset = e; len = 12 }))
       (length (standing_at e (located bytes))) b free.entry one
     where
       by_parts : (x y : Bool) (n : ℕ) → x ≡ false → y ≡ false → n ≡ 1
@@ -207,9 +207,9 @@ last_apart tag k bytes order at head last apart =
     one_alone bytes order head apart at said (last_stands tag k (located bytes) at last)
 
 -- where reading looks at no byte as two things, GPS directories and values stand alone
-pub places_alone : (bytes : List ℕ) → PlacesStandAlone bytes
-places_alone bytes order head visited apart =
-    places_apart bytes order head visited (looked_apart bytes order head apart)
+pub gps_alone : (bytes : List ℕ) → GpsStandsAlone bytes
+gps_alone bytes order head visited apart =
+    offsets_apart bytes order head visited (looked_apart bytes order head apart)
 
 -- ---- so edits are not refused as shared
 
@@ -222,7 +222,7 @@ set_apart tag k value bytes order at head last apart =
 -- where reading looks at no byte as two things, the GPS data are erased
 pub erased_apart : (bytes : List ℕ) → AreErasedApart bytes
 erased_apart bytes order head visited apart =
-    places_unshared bytes order head (places_alone bytes order head visited apart)
+    gps_unshared bytes order head (gps_alone bytes order head visited apart)
 
 -- in an image that was written, a value that reads back as it was is set if it fits
 pub set_in_image : (tag : Tag) (k : In) (value : Value) (order : Order) (groups : List Group)

@@ -10,7 +10,7 @@ use Rattle.exif_table.specs.declared.context.Context.TheVariants.{Tiff}
 use Rattle.exif_tiff.specs.declared.fault.Fault.{Fault}
 use Rattle.exif_tiff.specs.declared.fault.Fault.TheVariants.{UnexpectedNext, TooManyDirectories}
 use Rattle.exif_tiff.specs.Footprint.{Below, chain_directories, directories, entry_directories, following, named, pointed}
-use Rattle.exif_tiff.specs.Trace.{Directory, Found, Located, Met, Node, Opens, Visit, chain_after, chain_nodes, child_end, child_of, depth_of, directory_end, directory_nodes, entry_nodes, entry_places, entry_value, field_of, located_of, opened, ordered_trace, pointer_nodes, tagged_nodes, valued_nodes}
+use Rattle.exif_tiff.specs.Trace.{Directory, Found, Located, Met, Node, Opens, Visit, chain_after, chain_nodes, child_end, child_of, depth_of, directory_end, directory_nodes, entry_nodes, entry_offsets, entry_value, field_of, located_of, opened, ordered_trace, pointer_nodes, tagged_nodes, valued_nodes}
 use Rattle.exif_edit.specs.Sharing.{standing_at}
 use Rattle.exif_edit_laws.proofs.ApartEntries.{all_entries, times, times-append, times_more, times_none}
 
@@ -65,17 +65,17 @@ module _ (e : ℕ) where
   module _ (number : Reading) (bytes : List ℕ) where
     -- how often the entry at e is among those of directories
     entered : List ℕ → ℕ
-    entered ps = times 1 e (flat_map (entry_places number bytes) ps)
+    entered ps = times 1 e (flat_map (entry_offsets number bytes) ps)
 
     entered_none : entered [] ≡ 0
     unfolding entered
     entered_none = times_none 1 e
 
     entered_more : (p : ℕ) (ps : List ℕ)
-        → entered (p ∷ ps) ≡ times 1 e (entry_places number bytes p) + entered ps
+        → entered (p ∷ ps) ≡ times 1 e (entry_offsets number bytes p) + entered ps
     unfolding entered
     entered_more p ps =
-        times-append 1 e (entry_places number bytes p) (flat_map (entry_places number bytes) ps)
+        times-append 1 e (entry_offsets number bytes p) (flat_map (entry_offsets number bytes) ps)
 
     entered-append : (ps qs : List ℕ) → entered (ps ++ qs) ≡ entered ps + entered qs
     entered-append [] qs = omega (arith, entered_none)
@@ -156,11 +156,11 @@ module _ (e : ℕ) where
     directory (suc depth) k c p =
         let child : Directory = directory_nodes depth number bytes k in
         let below : Below = directories depth number bytes in
-        let a = entries child below (directory depth k) c k p (entry_places number bytes p) in
+        let a = entries child below (directory depth k) c k p (entry_offsets number bytes p) in
         let b = entered_more p
-        (flat_map (entry_directories below number bytes c) (entry_places number bytes p)) in
+        (flat_map (entry_directories below number bytes c) (entry_offsets number bytes p)) in
         let d = opened_same c p
-        (flat_map (entry_nodes child number bytes c k p) (entry_places number bytes p)) in
+        (flat_map (entry_nodes child number bytes c k p) (entry_offsets number bytes p)) in
         omega arith
 
     after : (nodes : ℕ → List Node) (rest : ℕ → List ℕ) (x : Result ℕ Fault)

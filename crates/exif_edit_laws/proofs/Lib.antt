@@ -2,7 +2,7 @@ mod ApartCounts
 mod ApartEntries
 mod ApartFields
 mod ApartLocated
-mod ApartPlaces
+mod ApartOffsets
 mod RemovedBytes
 mod RemovedDirectories
 mod RemovedLists

@@ -10,7 +10,7 @@ use Rattle.exif_base.specs.Orders.{number_of}
 use Rattle.exif_base.specs.declared.endian.Order.{Order}
 use Rattle.exif_text.specs.FieldTypes.{type_of, known_length}
 use Rattle.exif_tiff.specs.Footprint.{Agree, Stretch, directory_stretch, looked_at, value_stretch}
-use Rattle.exif_tiff.specs.Trace.{entry_places, whole_entries}
+use Rattle.exif_tiff.specs.Trace.{entry_offsets, whole_entries}
 use Rattle.exif_tiff.proofs.Agreement.{bytes_same}
 use Rattle.exif_tiff.proofs.ApartLists.{AreApart, EachApart, IsApart, all_weaker}
 use Rattle.exif_tiff.proofs.Footprints.{all_flat}
@@ -25,7 +25,7 @@ use Rattle.exif_edit_laws.proofs.RemovedLists.{all_members, each_flat, each_turn
 
 -- a byte of a stretch
 abbrev pub IsIn : ℕ → Stretch → Type 0
-IsIn i t = (t.place ≤ i) × (i < t.place + t.len)
+IsIn i t = (t.offset ≤ i) × (i < t.offset + t.len)
 
 nothing_inside : (i : ℕ) → inside i nowhere ≡ false
 nothing_inside i =
@@ -34,14 +34,14 @@ nothing_inside i =
     rw (none, low) refl
 
 -- what lies apart from a stretch is not inside it
-not_inside : (place len more i : ℕ) (t : Stretch) → len ≤ more → IsIn i t
-    → IsApart t (record { place = place; len = more })
-    → inside i (record { place = place; len = len }) ≡ false
-not_inside place len more i t h in' apart =
-    by_tests (nat_le place i) (nat_lt i (place + len)) refl refl in'.0 in'.1 apart
+not_inside : (offset len more i : ℕ) (t : Stretch) → len ≤ more → IsIn i t
+    → IsApart t (record { offset = offset; len = more })
+    → inside i (record { offset = offset; len = len }) ≡ false
+not_inside offset len more i t h in' apart =
+    by_tests (nat_le offset i) (nat_lt i (offset + len)) refl refl in'.0 in'.1 apart
   where
-    by_tests : (x y : Bool) → nat_le place i ≡ x → nat_lt i (place + len) ≡ y → t.place ≤ i
-        → i < t.place + t.len → IsApart t (record { place = place; len = more }) → (x && y) ≡ false
+    by_tests : (x y : Bool) → nat_le offset i ≡ x → nat_lt i (offset + len) ≡ y → t.offset ≤ i
+        → i < t.offset + t.len → IsApart t (record { offset = offset; len = more }) → (x && y) ≡ false
     by_tests false y p q low high a = refl
     by_tests true false p q low high a = refl
     by_tests true true p q low high (inl a) = absurd (grind (arith, nat_tests))
@@ -57,7 +57,7 @@ module _ (number : Reading) (a : List ℕ) where
       long = 2 + 12 * whole_entries number a q + 4
 
       by_test : (b : Bool)
-          → inside i (if b then record { place = q; len = min long (length a - q) } else nowhere)
+          → inside i (if b then record { offset = q; len = min long (length a - q) } else nowhere)
           ≡ false
       by_test true = not_inside q (min long (length a - q)) long i t (omega arith) in' apart
       by_test false = nothing_inside i
@@ -66,28 +66,28 @@ module _ (number : Reading) (a : List ℕ) where
       → AllByRecursion (IsApart t) (value_stretch number a e)
       → inside i (value_span number a e) ≡ false
   outside_value e i t in' apart =
-      by_tests (nat_le size 4) (nat_lt 4 size) (nat_le (place + size) (length a)) refl refl refl apart
+      by_tests (nat_le size 4) (nat_lt 4 size) (nat_le (offset + size) (length a)) refl refl refl apart
     where
       size : ℕ
       size = known_length (type_of (number_at number 2 a (e + 2))) * number_at number 4 a (e + 4)
 
-      place : ℕ
-      place = number_at number 4 a (e + 8)
+      offset : ℕ
+      offset = number_at number 4 a (e + 8)
 
-      small : (b : Bool) → inside i (if b then record { place = 0; len = 0 } else nowhere) ≡ false
+      small : (b : Bool) → inside i (if b then record { offset = 0; len = 0 } else nowhere) ≡ false
       small true = nothing_inside i
       small false = nothing_inside i
 
       by_tests : (s l r : Bool) → nat_le size 4 ≡ s → nat_lt 4 size ≡ l
-          → nat_le (place + size) (length a) ≡ r
+          → nat_le (offset + size) (length a) ≡ r
           → AllByRecursion (IsApart t)
-          (if l && r then record { place = place; len = size } ∷ [] else [])
+          (if l && r then record { offset = offset; len = size } ∷ [] else [])
           → inside i (within (length a)
-          (if s then record { place = 0; len = 0 } else record { place = place; len = size })) ≡ false
+          (if s then record { offset = 0; len = 0 } else record { offset = offset; len = size })) ≡ false
       by_tests true l r p q u apart = small (nat_le (0 + 0) (length a))
       by_tests false false r p q u apart = absurd (grind (arith, nat_tests))
       by_tests false true false p q u apart = rw u (nothing_inside i)
-      by_tests false true true p q u apart = rw u (not_inside place size size i t (omega arith) in' apart.0)
+      by_tests false true true p q u apart = rw u (not_inside offset size size i t (omega arith) in' apart.0)
 
   -- the directory at q, and the values of its entries that have a tag
   abbrev pub changed : ℕ → ℕ → List Stretch
@@ -176,7 +176,7 @@ module _ (order : Order) (a : List ℕ) (n : ℕ) (ps : List ℕ) where
       → AllByRecursion (Agree a made) ts
   stays [] h = tt
   stays (t ∷ ts) h = (
-    bytes_same a made t.place t.len as_long
+    bytes_same a made t.offset t.len as_long
         (λ i low high. sym (stays_outside order a n ps i
         (all_missed number a n i t ps (low, high) h.0))),
     stays ts h.1,
@@ -193,7 +193,7 @@ module _ (order : Order) (a : List ℕ) (n : ℕ) (ps : List ℕ) where
         (λ t k. (
           k.0,
           filter_all (IsApart t) (value_stretch number a) (has_tag number a n)
-              (entry_places number a q) k.1,
+              (entry_offsets number a q) k.1,
         )) ts h
 
     -- what is looked at of one directory is apart from what is changed of another one
@@ -215,23 +215,23 @@ module _ (order : Order) (a : List ℕ) (n : ℕ) (ps : List ℕ) where
         unlike q l e = false≢true (sym out ∙ (ap (has ps) e ∙ l))
 
     -- the value of an entry
-    value_row : (e p : ℕ) → has (entry_places number a p) e ≡ true → (ts : List Stretch)
+    value_row : (e p : ℕ) → has (entry_offsets number a p) e ≡ true → (ts : List Stretch)
         → EachApart (looked_at number a p) ts → EachApart (value_stretch number a e) ts
     value_row e p m ts h =
-        member_all (λ x. EachApart (value_stretch number a x) ts) (entry_places number a p) e
-        (all_flat (λ s. AllByRecursion (IsApart s) ts) (value_stretch number a) (entry_places number a p)
+        member_all (λ x. EachApart (value_stretch number a x) ts) (entry_offsets number a p) e
+        (all_flat (λ s. AllByRecursion (IsApart s) ts) (value_stretch number a) (entry_offsets number a p)
         h.1) m
 
-    own_value : (e p : ℕ) → has ds p ≡ true → has (entry_places number a p) e ≡ true
+    own_value : (e p : ℕ) → has ds p ≡ true → has (entry_offsets number a p) e ≡ true
         → has_tag number a n e ≡ false
         → EachApart (value_stretch number a e) (changed number a n p)
     own_value e p m l other' =
         let mine = piece (looked_at number a) ds p apart m in
         let here = all_flat (IsApart (directory_stretch number a p)) (value_stretch number a)
-        (entry_places number a p) mine.0 in
+        (entry_offsets number a p) mine.0 in
         let dir : EachApart (directory_stretch number a p ∷ []) (value_stretch number a e) = (
           member_all (λ x. AllByRecursion (IsApart (directory_stretch number a p)) (value_stretch number a x))
-              (entry_places number a p) e here l,
+              (entry_offsets number a p) e here l,
           tt,
         ) in
         beside (value_stretch number a e)
@@ -241,11 +241,11 @@ module _ (order : Order) (a : List ℕ) (n : ℕ) (ps : List ℕ) where
         (entries_with number a n p) (λ x k. single x k mine.1)))
       where
         single : (x : ℕ) → has (entries_with number a n p) x ≡ true
-            → AreApart (flat_map (value_stretch number a) (entry_places number a p))
+            → AreApart (flat_map (value_stretch number a) (entry_offsets number a p))
             → EachApart (value_stretch number a e) (value_stretch number a x)
         single x k h =
-            let f = filter_member (has_tag number a n) (entry_places number a p) x k in
-            pieces (value_stretch number a) (entry_places number a p) e x h l f.0
+            let f = filter_member (has_tag number a n) (entry_offsets number a p) x k in
+            pieces (value_stretch number a) (entry_offsets number a p) e x h l f.0
             (λ s. false≢true (sym other' ∙ (ap (has_tag number a n) s ∙ f.1)))
 
         beside : (ss : List Stretch) → EachApart ss (directory_stretch number a p ∷ [])
@@ -255,7 +255,7 @@ module _ (order : Order) (a : List ℕ) (n : ℕ) (ps : List ℕ) where
         beside (s ∷ ss) x y = ((x.0.0, y.0), beside ss x.1 y.1)
 
     -- the value of an entry that is not taken out stays as it was
-    pub value_stays : (e p : ℕ) → has ds p ≡ true → has (entry_places number a p) e ≡ true
+    pub value_stays : (e p : ℕ) → has ds p ≡ true → has (entry_offsets number a p) e ≡ true
         → (has ps p && has_tag number a n e) ≡ false
         → AllByRecursion (Agree a made) (value_stretch number a e)
     value_stays e p m l left =

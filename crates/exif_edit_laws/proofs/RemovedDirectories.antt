@@ -15,17 +15,17 @@ use Rattle.exif_types.specs.declared.tag.Tag.{Tag}
 use Rattle.exif_tiff.specs.declared.fault.Fault.{Fault}
 use Rattle.exif_tiff.specs.declared.fault.Fault.TheVariants.{TruncatedCount, TruncatedDirectory, TruncatedNextOffset}
 use Rattle.exif_tiff.specs.Footprint.{Agree, looked_at, value_stretch}
-use Rattle.exif_tiff.specs.Trace.{child_of, directory_end, entry_places, whole_entries}
+use Rattle.exif_tiff.specs.Trace.{child_of, directory_end, entry_offsets, whole_entries}
 use Rattle.exif_tiff.specs.Visits.{AreBytes}
 use Rattle.exif_tiff.proofs.Agreement.{Same, bytes_same}
 use Rattle.exif_tiff.proofs.ApartLists.{AreApart}
-use Rattle.exif_tiff.proofs.Footprints.{end_same, entries_same, places_same}
+use Rattle.exif_tiff.proofs.Footprints.{end_same, entries_same, offsets_same}
 use Rattle.exif_tiff.proofs.VisitBound.{length-spaced}
 use Rattle.exif_tiff.proofs.Members.{all_passed}
 use Rattle.exif_layout.specs.Encoding.{spelled}
 use Rattle.exif_layout.specs.Layout.{Stands}
 use Rattle.exif_layout.proofs.Images.Standing.{number_read, stands_left, stands_right, length_spelled}
-use Rattle.exif_edit_base.proofs.LocatedEntries.{places_whole}
+use Rattle.exif_edit_base.proofs.LocatedEntries.{offsets_whole}
 use Rattle.exif_edit.specs.Removing.{entries_text, entries_without, has_tag, next_text}
 use Rattle.exif_edit.proofs.SetSound.{length-padded}
 use Rattle.exif_edit_base.proofs.PutBack.{length-bytes_at}
@@ -61,11 +61,11 @@ module _ (number : Reading) (bytes : List ℕ) (p : ℕ) where
   abbrev count : ℕ
   count = number_at number 2 bytes p
 
-  -- with a next place its entries are all whole, and the place is there
+  -- with a next offset its entries are all whole, and the offset is there
   pub record EndsAt (next : ℕ) : Type 0 where
     pub whole : whole_entries number bytes p ≡ count
     pub within : p + 2 + 12 * count + 4 ≤ length bytes
-    pub place : next ≡ number_at number 4 bytes (p + 2 + 12 * count)
+    pub offset : next ≡ number_at number 4 bytes (p + 2 + 12 * count)
 
   ends_at : (next : ℕ) → directory_end number bytes p ≡ Ok next → EndsAt next
   ends_at next e =
@@ -91,10 +91,10 @@ module _ (number : Reading) (bytes : List ℕ) (p : ℕ) where
           record {
             whole = omega arith;
             within = grind (arith, nat_tests);
-            place = ok_same (number_at number 4 bytes (p + 2 + 12 * count)) e;
+            offset = ok_same (number_at number 4 bytes (p + 2 + 12 * count)) e;
           }
 
-  -- so it ends where this many entries and a next place lie in the data
+  -- so it ends where this many entries and a next offset lie in the data
   ends_there : (m : ℕ) → count ≡ m → p + 2 + 12 * m + 4 ≤ length bytes
       → directory_end number bytes p ≡ Ok (number_at number 4 bytes (p + 2 + 12 * m))
   ends_there m e h =
@@ -137,16 +137,16 @@ module _ (order : Order) (a : List ℕ) (tag : Tag) (k : In) (ps ds : List ℕ)
   follow_spaced (suc w) q s v =
       ((bytes_same a b q 12 long s.0, v.0), follow_spaced w (q + 12) s.1 v.1)
 
-  all_left : (p : ℕ) → has ps p ≡ false → those_left p ≡ entry_places number a p
+  all_left : (p : ℕ) → has ps p ≡ false → those_left p ≡ entry_offsets number a p
   all_left p out =
-      ap (λ t. filter (λ e. not (t && has_tag number a tag.1 e)) (entry_places number a p)) out
-      ∙ all_pass (entry_places number a p)
+      ap (λ t. filter (λ e. not (t && has_tag number a tag.1 e)) (entry_offsets number a p)) out
+      ∙ all_pass (entry_offsets number a p)
 
   values_alike : (p : ℕ) → has ds p ≡ true → AllByRecursion ValueAlike (those_left p)
   values_alike p m =
       all_members ValueAlike (those_left p)
       (λ e l. let f = filter_member (λ x. not (has ps p && has_tag number a tag.1 x))
-      (entry_places number a p) e l in
+      (entry_offsets number a p) e l in
       value_stays order a tag.1 ps ds apart known e p m f.0
       (not-true (has ps p && has_tag number a tag.1 e) f.1))
 
@@ -157,10 +157,10 @@ module _ (order : Order) (a : List ℕ) (tag : Tag) (k : In) (ps ds : List ℕ)
       let all = all_left p out in
       let w = whole_entries number a p in
       let l = length-spaced (p + 2) 12 w in
-      let places = places_same order a b long p alike in
+      let offsets = offsets_same order a b long p alike in
       let values = subst (λ es. AllByRecursion ValueAlike es) all (values_alike p m) in
       record {
-        places = sym places ∙ ap (spaced (p + 2) 12) (sym (ap (λ es. length es) all ∙ l));
+        offsets = sym offsets ∙ ap (spaced (p + 2) 12) (sym (ap (λ es. length es) all ∙ l));
         entries = subst (λ es. AreFollowing es (p + 2)) (sym all)
             (follow_spaced w (p + 2) (entries_same order a b long p alike) values);
         end = inl (end_same order a b long p alike);
@@ -190,7 +190,7 @@ module _ (order : Order) (a : List ℕ) (tag : Tag) (k : In) (ps ds : List ℕ)
       omega (arith, l, more, rest)
 
   module _ (p : ℕ) (m : has ds p ≡ true) (mine : has ps p ≡ true) (e : ℕ)
-      (there : has (entry_places number a p) e ≡ true) (gone : has_tag number a tag.1 e ≡ true) where
+      (there : has (entry_offsets number a p) e ≡ true) (gone : has_tag number a tag.1 e ≡ true) where
     abbrev whole : ℕ
     whole = whole_entries number a p
 
@@ -202,7 +202,7 @@ module _ (order : Order) (a : List ℕ) (tag : Tag) (k : In) (ps ds : List ℕ)
 
     few : length es < whole
     few =
-        let f = fewer_left (has_tag number a tag.1) (entry_places number a p) e there gone in
+        let f = fewer_left (has_tag number a tag.1) (entry_offsets number a p) e there gone in
         let l = length-spaced (p + 2) 12 whole in
         omega (arith, f, l)
 
@@ -216,16 +216,16 @@ module _ (order : Order) (a : List ℕ) (tag : Tag) (k : In) (ps ds : List ℕ)
     are_whole : AllByRecursion (λ x. x + 12 ≤ length a) es
     are_whole =
         all_passed (λ x. x + 12 ≤ length a) (λ x. not (has_tag number a tag.1 x))
-        (entry_places number a p) (places_whole number a p)
+        (entry_offsets number a p) (offsets_whole number a p)
 
     are_left : those_left p ≡ es
     are_left =
-        ap (λ t. filter (λ x. not (t && has_tag number a tag.1 x)) (entry_places number a p)) mine
+        ap (λ t. filter (λ x. not (t && has_tag number a tag.1 x)) (entry_offsets number a p)) mine
 
     values : AllByRecursion ValueAlike es
     values = subst (λ xs. AllByRecursion ValueAlike xs) are_left (values_alike p m)
 
-    -- what stands there: the count, the entries, the next place and zeros
+    -- what stands there: the count, the entries, the next offset and zeros
     abbrev front : List ℕ
     front = spelled order 2 (length es) ++ (entries_text a es ++ next)
 
@@ -240,7 +240,7 @@ module _ (order : Order) (a : List ℕ) (tag : Tag) (k : In) (ps ds : List ℕ)
         let y = length-append (spelled order 2 (length es)) (entries_text a es ++ next) in
         omega (arith, s, t, x, y)
 
-    -- in the new data stand the count of the entries left, these, the next place and zeros
+    -- in the new data stand the count of the entries left, these, the next offset and zeros
     pub record Standing : Type 0 where
       pub count : number_at number 2 b p ≡ length es
       pub entries : Stands b (p + 2) (entries_text a es)
@@ -278,7 +278,7 @@ module _ (order : Order) (a : List ℕ) (tag : Tag) (k : In) (ps ds : List ℕ)
         let count = s.count in
         let w : whole_entries number b p ≡ length es = omega (arith, f, r, same, count) in
         record {
-          places = ap (spaced (p + 2) 12) (w ∙ sym (ap (λ xs. length xs) are_left));
+          offsets = ap (spaced (p + 2) 12) (w ∙ sym (ap (λ xs. length xs) are_left));
           entries = subst (λ xs. AreFollowing xs (p + 2)) (sym are_left)
               (follow_text es (p + 2) s.entries are_whole values);
           end = ends;
@@ -294,17 +294,17 @@ module _ (order : Order) (a : List ℕ) (tag : Tag) (k : In) (ps ds : List ℕ)
     ended : Standing → directory_end number b p ≡ Ok (number_at number 4 b (p + 2 + 12 * length es))
     ended s = ends_there number b p (length es) s.count near
 
-    with_next : (place : ℕ) → directory_end number a p ≡ Ok place → AreLacking p
-    with_next place e =
-        let at' = ends_at number a p place e in
+    with_next : (offset : ℕ) → directory_end number a p ≡ Ok offset → AreLacking p
+    with_next offset e =
+        let at' = ends_at number a p offset e in
         let whole_is = at'.whole in
         let within = at'.within in
-        let text : next ≡ spelled order 4 place = ap (next_text order) e in
-        let four : length next ≡ 4 = ap (λ xs. length xs) text ∙ length_spelled order 4 place in
+        let text : next ≡ spelled order 4 offset = ap (next_text order) e in
+        let four : length next ≡ 4 = ap (λ xs. length xs) text ∙ length_spelled order 4 offset in
         let s = stands (omega (arith, whole_is, within, four)) in
-        let fits = subst (λ x. x < 256 ^ 4) (sym at'.place)
+        let fits = subst (λ x. x < 256 ^ 4) (sym at'.offset)
         (number_fits order 4 a (p + 2 + 12 * number_at number 2 a p) are_bytes) in
-        let read = number_read order 4 place (p + 2 + 12 * length es) b fits
+        let read = number_read order 4 offset (p + 2 + 12 * length es) b fits
         (subst (λ xs. Stands b (p + 2 + 12 * length es) xs) text s.next) in
         lacking s (inl (e ∙ sym (ended s ∙ ap (λ x. Ok x) read)))
 
@@ -332,5 +332,5 @@ module _ (order : Order) (a : List ℕ) (tag : Tag) (k : In) (ps ds : List ℕ)
     lacks_some = by_end (directory_end number a p) refl
       where
         by_end : (x : Result ℕ Fault) → directory_end number a p ≡ x → AreLacking p
-        by_end (Ok place) e = with_next place e
+        by_end (Ok offset) e = with_next offset e
         by_end (Err fault) e = with_fault fault e

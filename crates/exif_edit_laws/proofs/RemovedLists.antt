@@ -104,10 +104,10 @@ fewer_left t (x ∷ xs) e m h =
 
 apart_pair : (s t : Stretch) → overlap s t ≡ false → IsApart s t
 apart_pair s t h =
-    by_tests (nat_lt t.place (s.place + s.len)) (nat_lt s.place (t.place + t.len)) refl refl h
+    by_tests (nat_lt t.offset (s.offset + s.len)) (nat_lt s.offset (t.offset + t.len)) refl refl h
   where
-    by_tests : (a b : Bool) → nat_lt t.place (s.place + s.len) ≡ a
-        → nat_lt s.place (t.place + t.len) ≡ b → (a && b) ≡ false → IsApart s t
+    by_tests : (a b : Bool) → nat_lt t.offset (s.offset + s.len) ≡ a
+        → nat_lt s.offset (t.offset + t.len) ≡ b → (a && b) ≡ false → IsApart s t
     by_tests false b p q h = inl (grind (arith, nat_tests))
     by_tests true false p q h = inr (grind (arith, nat_tests))
     by_tests true true p q h = absurd (false≢true (sym h))

@@ -8,7 +8,7 @@ use Rattle.exif_base.specs.Bytes.{Reading, bytes_at}
 use Rattle.exif_base.specs.Orders.{number_of}
 use Rattle.exif_base.specs.declared.endian.Order.{Order}
 use Rattle.exif_tiff.specs.Footprint.{Stretch, directory_stretch, looked_at, value_stretch}
-use Rattle.exif_tiff.specs.Trace.{entry_places}
+use Rattle.exif_tiff.specs.Trace.{entry_offsets}
 use Rattle.exif_tiff.proofs.ApartLists.{AreApart, EachApart, IsApart}
 use Rattle.exif_layout.specs.Layout.{Stands}
 use Rattle.exif_edit_base.specs.Patches.{FitsIn, patched}
@@ -50,7 +50,7 @@ module _ (order : Order) (a : List ℕ) (n : ℕ) (ps ds : List ℕ)
   own_put i low bytes l = by_fit (nat_le (p + length text) (length a)) refl
     where
       patch : Patch
-      patch = record { place = p; text = text }
+      patch = record { offset = p; bytes = text }
 
       by_fit : (b : Bool) → nat_le (p + length text) (length a) ≡ b
           → get_or (patched (if b then patch ∷ [] else []) bytes) (p + i) 0 ≡ get_or text i 0
@@ -116,7 +116,7 @@ module _ (order : Order) (a : List ℕ) (n : ℕ) (ps ds : List ℕ)
           let same : p ≡ q = grind (arith, nat_tests) in
           subst (λ x. EachApart (here ∷ []) (flat_map (value_stretch number a) (entries_with number a n x)))
           same (
-            filter_all (IsApart here) (value_stretch number a) (has_tag number a n) (entry_places number a p)
+            filter_all (IsApart here) (value_stretch number a) (has_tag number a n) (entry_offsets number a p)
                 (piece (looked_at number a) ds p apart m).0,
             tt,
           )

@@ -21,7 +21,7 @@ use Rattle.exif_types.specs.declared.tag.Tag.{Tag}
 use Rattle.exif_tiff.specs.declared.fault.Fault.{Fault}
 use Rattle.exif_tiff.specs.Apart.{looks_apart}
 use Rattle.exif_tiff.specs.Footprint.{Stretch, chain_directories, footprint, looked_at, ordered_footprint}
-use Rattle.exif_tiff.specs.Trace.{Found, Located, Met, Node, Opens, Visit, child_of, entry_of, entry_places, fields_of, header, located_of, ordered_trace, trace}
+use Rattle.exif_tiff.specs.Trace.{Found, Located, Met, Node, Opens, Visit, child_of, entry_of, entry_offsets, fields_of, header, located_of, ordered_trace, trace}
 use Rattle.exif_tiff.specs.Visits.{AreBytes}
 use Rattle.exif_tiff.proofs.Agreement.{Same, number_same, part_same, same_of}
 use Rattle.exif_tiff.proofs.ApartLists.{AreApart, EachApart, IsApart}
@@ -35,23 +35,23 @@ use Rattle.exif_edit_base.specs.Patches.{patched}
 use Rattle.exif_edit_base.specs.Readings.{Read, reading}
 use Rattle.exif_edit.specs.Promises.{named_directories}
 use Rattle.exif_edit.specs.Removing.{checked_removals, directories_with, field_patches, has_tag, noted, read_without, removals, removals_from, still_reads, untold}
-use Rattle.exif_edit.specs.Setting.{names_places}
+use Rattle.exif_edit.specs.Setting.{names_offsets}
 use Rattle.exif_edit.proofs.RemoveSteps.{field_else, named_from}
 use Rattle.exif_edit.proofs.Unshared.{located_in, named_order, read_in, reading_in}
 use Rattle.exif_edit_laws.specs.FieldsApart.{FieldsAreErasedApart, some_removals}
 use Rattle.exif_edit_laws.proofs.RemovedBytes.{as_long, changed, made, narrowed, stays}
 use Rattle.exif_edit_laws.proofs.RemovedDirectories.{lacks_none, lacks_some}
 use Rattle.exif_edit_laws.proofs.RemovedLists.{all_members, apart_told, each_flat, has, has_first, member_all}
-use Rattle.exif_edit_laws.proofs.RemovedVisits.{Among, AreDistinct, Comes, Visited, among_has, looked_once, ordered_walks, places_in, visited_of, visited_once}
+use Rattle.exif_edit_laws.proofs.RemovedVisits.{Among, AreDistinct, Comes, Visited, among_has, looked_once, ordered_walks, offsets_in, visited_of, visited_once}
 use Rattle.exif_edit_laws.proofs.ShrunkNodes.{Fine, Lacks, Shrinks, ordered_shrinks}
 
--- a tag whose values say no places has no child
-childless : (c : Context) (n : ℕ) → names_places (record { 0 = c; 1 = n }) ≡ false → child_of c n ≡ None
+-- a tag whose values say no offsets has no child
+childless : (c : Context) (n : ℕ) → names_offsets (record { 0 = c; 1 = n }) ≡ false → child_of c n ≡ None
 childless Tiff n h = by_tests (n == 0x8769) (n == 0x8825) refl refl
   where
-    no_tag : (m : ℕ) → n ≡ m → names_places (record { 0 = Tiff; 1 = m }) ≡ true → ⊥
+    no_tag : (m : ℕ) → n ≡ m → names_offsets (record { 0 = Tiff; 1 = m }) ≡ true → ⊥
     no_tag m e t =
-        false≢true (sym h ∙ (ap (λ x. names_places (record { 0 = Tiff; 1 = x })) e ∙ t))
+        false≢true (sym h ∙ (ap (λ x. names_offsets (record { 0 = Tiff; 1 = x })) e ∙ t))
 
     by_tests : (s t : Bool) → (n == 0x8769) ≡ s → (n == 0x8825) ≡ t
         → ◌≡◌ {A = Option Context} (child_of Tiff n) None
@@ -162,7 +162,7 @@ still_by : (x : Result Read Fault) (found want : Read) → x ≡ Ok found
 still_by x found want e l f g = rw (e, l, f, g) refl
 
 module _ (tag : Tag) (k : In) (order : Order) (a : List ℕ) (head : header a ≡ Ok order)
-    (are_bytes : AreBytes a) (alone : looks_apart a ≡ true) (names : names_places tag ≡ false) where
+    (are_bytes : AreBytes a) (alone : looks_apart a ≡ true) (names : names_offsets tag ≡ false) where
   abbrev number : Reading
   number = number_of order
 
@@ -178,10 +178,10 @@ module _ (tag : Tag) (k : In) (order : Order) (a : List ℕ) (head : header a �
   none_below : child_of tag.0 tag.1 ≡ None
   none_below = childless tag.0 tag.1 names
 
-  apart : AllByRecursion (IsApart (record { place = 0; len = 8 })) (flat_map (looked_at number a) ds)
+  apart : AllByRecursion (IsApart (record { offset = 0; len = 8 })) (flat_map (looked_at number a) ds)
       × AreApart (flat_map (looked_at number a) ds)
   apart =
-      subst (λ (x : Result Order Fault). AreApart (record { place = 0; len = 8 } ∷ elim x as (λ _. List Stretch) [
+      subst (λ (x : Result Order Fault). AreApart (record { offset = 0; len = 8 } ∷ elim x as (λ _. List Stretch) [
         | Ok o ↦ ordered_footprint (number_of o) a
         | Err fault ↦ []
       ])) head (apart_told (footprint a) alone)
@@ -192,22 +192,22 @@ module _ (tag : Tag) (k : In) (order : Order) (a : List ℕ) (head : header a �
   come : AllByRecursion (Comes number a vs) nodes
   come = (ordered_walks number a).come
 
-  visits_are : places_in vs ≡ ds
-  visits_are = (ordered_walks number a).places ∙ visited number a
+  visits_are : offsets_in vs ≡ ds
+  visits_are = (ordered_walks number a).offsets ∙ visited number a
 
-  once : (t u : Visited) → Among t vs → Among u vs → t.place ≡ u.place → t ≡ u
+  once : (t u : Visited) → Among t vs → Among u vs → t.offset ≡ u.offset → t ≡ u
   once t u =
       visited_once vs t u
       (subst (λ xs. AreDistinct xs) (sym visits_are) (looked_once number a ds apart.1))
 
-  is_visited : (t : Visited) → Among t vs → has ds t.place ≡ true
-  is_visited t h = ap (λ xs. has xs t.place) (sym visits_are) ∙ among_has t vs h
+  is_visited : (t : Visited) → Among t vs → has ds t.offset ≡ true
+  is_visited t h = ap (λ xs. has xs t.offset) (sym visits_are) ∙ among_has t vs h
 
   -- a directory of the name is visited as such, and has an entry of its tag
   pub record IsOfName (p : ℕ) : Type 0 where
-    pub visit : Among (record { place = p; context = tag.0; number = k.0 }) vs
+    pub visit : Among (record { offset = p; context = tag.0; number = k.0 }) vs
     pub entry : ℕ
-    pub there : has (entry_places number a p) entry ≡ true
+    pub there : has (entry_offsets number a p) entry ≡ true
     pub tagged : has_tag number a tag.1 entry ≡ true
 
   of_name : (l : Located) → Comes number a vs (Found l) → is_named tag k l.field ≡ true
@@ -219,9 +219,9 @@ module _ (tag : Tag) (k : In) (order : Order) (a : List ℕ) (head : header a �
       let n : number_at number 2 a l.entry ≡ tag.1 = h.2 ∙ ap (λ (x : Tag). x.1) t in
       record {
         visit = subst
-            (λ (x : Tag). Among (record { place = l.directory; context = x.0; number = k.0 }) vs) t
+            (λ (x : Tag). Among (record { offset = l.directory; context = x.0; number = k.0 }) vs) t
             (subst (λ (x : In). Among
-            (record { place = l.directory; context = l.field.tag.0; number = x.0 }) vs) i h.0);
+            (record { offset = l.directory; context = l.field.tag.0; number = x.0 }) vs) i h.0);
         entry = l.entry;
         there = h.1;
         tagged = eq-eqb (number_at number 2 a l.entry) tag.1 n;
@@ -246,7 +246,7 @@ module _ (tag : Tag) (k : In) (order : Order) (a : List ℕ) (head : header a �
   known : AllByRecursion (λ q. has ds q ≡ true) ps
   known =
       all_members (λ q. has ds q ≡ true) ps
-      (λ q h. is_visited (record { place = q; context = tag.0; number = k.0 }) (mine q h).visit)
+      (λ q h. is_visited (record { offset = q; context = tag.0; number = k.0 }) (mine q h).visit)
 
   abbrev b : List ℕ
   b = made order a tag.1 ps
@@ -277,7 +277,7 @@ module _ (tag : Tag) (k : In) (order : Order) (a : List ℕ) (head : header a �
       by_test : (t : Bool) → has ps l.directory ≡ t
           → is_named tag k l.field ≡ (t && (l.field.tag.1 == tag.1))
       by_test true e =
-          let v : Visited = record { place = l.directory; context = tag.0; number = k.0 } in
+          let v : Visited = record { offset = l.directory; context = tag.0; number = k.0 } in
           let same : visited_of l ≡ v = once (visited_of l) v h.0 (mine l.directory e).visit refl in
           let c : context_eq l.field.tag.0 tag.0 ≡ true =
           (context_Decides l.field.tag.0 tag.0).1 (ap (λ (x : Visited). x.context) same) in
@@ -291,10 +291,10 @@ module _ (tag : Tag) (k : In) (order : Order) (a : List ℕ) (head : header a �
   all_fine [] h g = tt
   all_fine (Opens d ∷ ns) h g = (
     (
-      lacks d.place (is_visited (record { place = d.place; context = d.context; number = h.0.0 }) h.0.1),
+      lacks d.offset (is_visited (record { offset = d.offset; context = d.context; number = h.0.0 }) h.0.1),
       λ e. ap (λ (x : Visited). x.context)
-          (once (record { place = d.place; context = d.context; number = h.0.0 })
-          (record { place = d.place; context = tag.0; number = k.0 }) h.0.1 (mine d.place e).visit refl),
+          (once (record { offset = d.offset; context = d.context; number = h.0.0 })
+          (record { offset = d.offset; context = tag.0; number = k.0 }) h.0.1 (mine d.offset e).visit refl),
     ),
     all_fine ns h.1 g,
   )
@@ -306,7 +306,7 @@ module _ (tag : Tag) (k : In) (order : Order) (a : List ℕ) (head : header a �
 
   head_same : Same a b 0 8
   head_same =
-      let start : Stretch = record { place = 0; len = 8 } in
+      let start : Stretch = record { offset = 0; len = 8 } in
       let far : EachApart (start ∷ []) (flat_map (changed number a tag.1) ps) =
       each_flat (start ∷ []) (changed number a tag.1) ps
       (all_members (λ q. EachApart (start ∷ []) (changed number a tag.1 q)) ps
@@ -356,8 +356,8 @@ module _ (tag : Tag) (k : In) (order : Order) (a : List ℕ) (head : header a �
       ap (λ (x : Result Order Fault). fields_of (elim x as (λ _. List Node)
       [ Ok o ↦ ordered_trace (number_of o) a | Err fault ↦ [] ])) head
 
-  places_are : directories_with tag k (fields_of nodes) (map entry_of (located a)) ≡ ps
-  places_are =
+  offsets_are : directories_with tag k (fields_of nodes) (map entry_of (located a)) ≡ ps
+  offsets_are =
       ap (λ fs. directories_with tag k fs (map entry_of (located a))) (sym (ordered_fields number a))
       ∙ ap (λ ls. directories_with tag k (map (λ (l : Located). l.field) (located_of nodes)) (map entry_of ls))
       (located_in a order head)
@@ -367,12 +367,12 @@ module _ (tag : Tag) (k : In) (order : Order) (a : List ℕ) (head : header a �
   erased =
       field_else a tag k names
       ∙ (named_from a tag k (read_in order a) (reading_in a order head)
-      ∙ (ap (removals_from tag k (read_in order a) a) places_are
+      ∙ (ap (removals_from tag k (read_in order a) a) offsets_are
       ∙ (answered ps reads
       ∙ ap (some_removals order a tag.1)
-      (sym places_are ∙ ap (λ fs. directories_with tag k fs (map entry_of (located a))) (sym trace_is)))))
+      (sym offsets_are ∙ ap (λ fs. directories_with tag k fs (map entry_of (located a))) (sym trace_is)))))
 
--- where no byte is looked at as two things, the fields of a name that says no places are erased
+-- where no byte is looked at as two things, the fields of a name that says no offsets are erased
 pub erased_apart : (tag : Tag) (k : In) (bytes : List ℕ) → FieldsAreErasedApart tag k bytes
 erased_apart tag k bytes order head are_bytes alone names =
     erased tag k order bytes head are_bytes alone names

@@ -21,7 +21,7 @@ use Rattle.exif_table.specs.declared.context.Context.TheVariants.{Tiff}
 use Rattle.exif_tiff.specs.declared.fault.Fault.{Fault}
 use Rattle.exif_tiff.specs.declared.fault.Fault.TheVariants.{TooManyDirectories, UnexpectedNext}
 use Rattle.exif_tiff.specs.Footprint.{Agree, value_stretch}
-use Rattle.exif_tiff.specs.Trace.{Node, Opens, Visit, Found, Met, Directory, field_of, chain_after, chain_nodes, child_end, child_of, depth_of, directory_end, directory_nodes, entry_nodes, entry_places, entry_value, fields_of, faults_of, ordered_trace, pointer_nodes, tagged_nodes, valued_nodes}
+use Rattle.exif_tiff.specs.Trace.{Node, Opens, Visit, Found, Met, Directory, field_of, chain_after, chain_nodes, child_end, child_of, depth_of, directory_end, directory_nodes, entry_nodes, entry_offsets, entry_value, fields_of, faults_of, ordered_trace, pointer_nodes, tagged_nodes, valued_nodes}
 use Rattle.exif_tiff.proofs.Members.{all_left, all_right}
 use Rattle.exif_tiff.proofs.ReportBound.{faults-append, fields-append}
 use Rattle.exif_edit.specs.Removing.{has_tag, told_at, told_in, untold, without_named}
@@ -82,7 +82,7 @@ module _ (order : Order) (a b : List ℕ) (as_long : length a ≡ length b) (tag
 
   -- the entries that are left
   abbrev pub left : ℕ → List ℕ
-  left p = filter (λ e. not (taken p e)) (entry_places number a p)
+  left p = filter (λ e. not (taken p e)) (entry_offsets number a p)
 
   abbrev ValueAlike : ℕ → Type 0
   ValueAlike e = AllByRecursion (Agree a b) (value_stretch number a e)
@@ -94,13 +94,13 @@ module _ (order : Order) (a b : List ℕ) (as_long : length a ≡ length b) (tag
 
   -- a directory lacks these entries
   pub record Lacks (p : ℕ) : Type 0 where
-    pub places : entry_places number b p ≡ spaced (p + 2) 12 (length (left p))
+    pub offsets : entry_offsets number b p ≡ spaced (p + 2) 12 (length (left p))
     pub entries : Follow (left p) (p + 2)
     pub end : EndsBetter (directory_end number a p) (directory_end number b p)
 
   -- what is asked of old nodes: directories lack what is taken out, that is the fields of the name
   abbrev pub Fine : Node → Type 0
-  Fine (Opens d) = Lacks d.place × (has ps d.place ≡ true → d.context ≡ tag.0)
+  Fine (Opens d) = Lacks d.offset × (has ps d.offset ≡ true → d.context ≡ tag.0)
   Fine Visit = Unit {0}
   Fine (Found l) = is_named tag k l.field ≡ (has ps l.directory && (l.field.tag.1 == tag.1))
   Fine (Met fault) = Unit {0}
@@ -251,11 +251,11 @@ module _ (order : Order) (a b : List ℕ) (as_long : length a ≡ length b) (tag
   directory_shrinks zero j c p h = (refl, omega arith)
   directory_shrinks (suc depth) j c p h =
       let lacks = h.0.0 in
-      let places = lacks.places in
-      rw places
+      let offsets = lacks.offsets in
+      rw offsets
       (entries_shrink (directory_nodes depth number a j) (directory_nodes depth number b j)
       (directory_shrinks depth j) (λ d q x. (first_fine depth j d q x).end) c j p h.0.1
-      (entry_places number a p) (p + 2) lacks.entries h.1)
+      (entry_offsets number a p) (p + 2) lacks.entries h.1)
 
   -- ---- the chain
 
@@ -321,7 +321,7 @@ module _ (order : Order) (a b : List ℕ) (as_long : length a ≡ length b) (tag
       ++ chain_after (chain_nodes more number b (j + 1)) (directory_end number b p))
       (linked_shrinks more j p (chain_shrinks more (j + 1))) h
 
-  -- with the same first place and fine old nodes, only the name's fields go, and no faults come
+  -- with the same first offset and fine old nodes, only the name's fields go, and no faults come
   pub ordered_shrinks : number_at number 4 a 4 ≡ number_at number 4 b 4
       → AllByRecursion Fine (ordered_trace number a)
       → Shrinks tag k (ordered_trace number a) (ordered_trace number b)

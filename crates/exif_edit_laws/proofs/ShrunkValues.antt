@@ -114,11 +114,11 @@ srational_shifted order a b p q h =
         let s = h (4 + i) (omega arith) in
         rw (x, y) at s
 
--- a short value tells the place of its entry alone
-short_place : (count : ℕ) (bytes : List ℕ) (p q : ℕ) → count ≤ 4
+-- a short value tells the offset of its entry alone
+short_offset : (count : ℕ) (bytes : List ℕ) (p q : ℕ) → count ≤ 4
     → told_in 0 (value.Undefined (bytes_at count bytes p) q)
     ≡ value.Undefined (bytes_at count bytes p) 8
-short_place count bytes p q h =
+short_offset count bytes p q h =
     let t : nat_le (length (bytes_at count bytes p)) 4 ≡ true = grind (arith, common_steps, nat_tests) in
     rw t refl
 
@@ -151,9 +151,9 @@ type_moved order field_type.SByte count a b e q m h =
         let r = s 0 (omega arith) in
         rw (k, l) at r
 type_moved order field_type.Undefined count a b e q m h =
-    short_place count a (e + 8) (e + 8) (omega arith)
+    short_offset count a (e + 8) (e + 8) (omega arith)
     ∙ (ap (λ xs. value.Undefined xs 8) (bytes_moved a b e q count (omega arith) m)
-    ∙ sym (short_place count b (q + 8) (q + 8) (omega arith)))
+    ∙ sym (short_offset count b (q + 8) (q + 8) (omega arith)))
 type_moved order field_type.SShort count a b e q m h =
     ap value.SShort (items_shifted (λ p. cast_signed w16 (number_at (number_of order) 2 a p))
     (λ p. cast_signed w16 (number_at (number_of order) 2 b p)) a b 2
@@ -185,7 +185,7 @@ known_moved order (Some t) type count a b e q m h = type_moved order t count a b
 
 -- ---- values, wherever they stand
 
--- both are one value but for the place of its entry, or none
+-- both are one value but for the offset of its entry, or none
 abbrev pub AreTold : Option Value → Option Value → Type 0
 AreTold (Some v) (Some w) = told_in 0 v ≡ told_in 0 w
 AreTold None None = Unit {0}
@@ -199,38 +199,38 @@ told_by_tests true t v w x y h k = h refl
 told_by_tests false true v w x y h k = ap (told_in 0) (k refl refl)
 told_by_tests false false v w x y h k = tt
 
-outside_same : (a b : List ℕ) (s t : Bool) (place size : ℕ) → s ≡ true → t ≡ true
-    → AllByRecursion (Agree a b) (if s && t then record { place = place; len = size } ∷ [] else [])
-    → Same a b place size
-outside_same a b true true place size e f h = same_of a b place size h.0
-outside_same a b true false place size e f h = absurd (false≢true f)
-outside_same a b false t place size e f h = absurd (false≢true e)
+outside_same : (a b : List ℕ) (s t : Bool) (offset size : ℕ) → s ≡ true → t ≡ true
+    → AllByRecursion (Agree a b) (if s && t then record { offset = offset; len = size } ∷ [] else [])
+    → Same a b offset size
+outside_same a b true true offset size e f h = same_of a b offset size h.0
+outside_same a b true false offset size e f h = absurd (false≢true f)
+outside_same a b false t offset size e f h = absurd (false≢true e)
 
--- a moved entry has the same value but for its place, if its bytes elsewhere have stayed
+-- a moved entry has the same value but for its offset, if its bytes elsewhere have stayed
 pub value_moved : (order : Order) (a b : List ℕ) (e q : ℕ) → length a ≡ length b → IsMoved a b e q
     → AllByRecursion (Agree a b) (value_stretch (number_of order) a e)
     → AreTold (entry_value (number_of order) a e) (entry_value (number_of order) b q)
 value_moved order a b e q as_long m v =
     let type = number_at (number_of order) 2 a (e + 2) in
     let count = number_at (number_of order) 4 a (e + 4) in
-    let place = number_at (number_of order) 4 a (e + 8) in
+    let offset = number_at (number_of order) 4 a (e + 8) in
     let size = known_length (type_of type) * count in
     let types = number_moved order 2 a b e q 2 (omega arith) m in
     let counts = number_moved order 4 a b e q 4 (omega arith) m in
-    let places = number_moved order 4 a b e q 8 (omega arith) m in
-    rw (← types, ← counts, ← places, ← as_long)
-    (told_by_tests (nat_le size 4) (nat_le (place + size) (length a))
+    let offsets = number_moved order 4 a b e q 8 (omega arith) m in
+    rw (← types, ← counts, ← offsets, ← as_long)
+    (told_by_tests (nat_le size 4) (nat_le (offset + size) (length a))
     (decode (number_of order) type count a (e + 8)) (decode (number_of order) type count b (q + 8))
-    (decode (number_of order) type count a place) (decode (number_of order) type count b place)
+    (decode (number_of order) type count a offset) (decode (number_of order) type count b offset)
     (λ s. known_moved order (type_of type) type count a b e q m (grind (arith, nat_tests)))
-    (λ s t. decode_same order type count a b place as_long
-    (outside_same a b (nat_lt 4 size) (nat_le (place + size) (length a)) place size
+    (λ s t. decode_same order type count a b offset as_long
+    (outside_same a b (nat_lt 4 size) (nat_le (offset + size) (length a)) offset size
     (grind (arith, nat_tests)) t v)))
 
 -- the number in it is the same
 number_told : (v : Value) → number_in (told_in 0 v) 0 ≡ number_in v 0
-number_told (value.Undefined xs place) = refl
-number_told (value.Unknown type count place) = refl
+number_told (value.Undefined xs offset) = refl
+number_told (value.Unknown type count offset) = refl
 number_told _ = refl
 
 -- values that differ only in the place of their entries have the same first number

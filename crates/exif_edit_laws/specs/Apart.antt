@@ -9,27 +9,27 @@ use Rattle.exif_types.specs.Sound.{HasPlainTexts}
 use Rattle.exif_types.specs.declared.tag.Tag.{Tag}
 use Rattle.exif_types.specs.declared.value.Value.{Value}
 use Rattle.exif_tiff.specs.Apart.{looks_apart}
-use Rattle.exif_tiff.specs.Trace.{entry_places, header}
+use Rattle.exif_tiff.specs.Trace.{entry_offsets, header}
 use Rattle.exif_layout.specs.Groups.{Group}
 use Rattle.exif_layout.specs.Image.{image}
 use Rattle.exif_layout.specs.Ranged.{IsRanged}
-use Rattle.exif_edit_base.specs.Locations.{Located, gps_places, located}
+use Rattle.exif_edit_base.specs.Locations.{Located, visited_gps, located}
 use Rattle.exif_edit_base.specs.Finding.{last_located}
 use Rattle.exif_edit_base.specs.Patches.{zeros_over}
 use Rattle.exif_edit_base.specs.declared.patch.Span.{Span}
 use Rattle.exif_edit.specs.Erasing.{directory_span, erase_patches, gps_spans, value_span}
-use Rattle.exif_edit.specs.PlacesAlone.{places_stand_alone}
+use Rattle.exif_edit.specs.GpsAlone.{gps_stands_alone}
 use Rattle.exif_edit.specs.Setting.{set_patches, value_room}
 use Rattle.exif_edit.specs.Sharing.{fit_answer, names_child, stands_alone}
 
 -- the directory at q, and the values of its entries at which reading looks
 abbrev pub visited_directory_spans : Reading → List ℕ → ℕ → List Span
 visited_directory_spans number bytes q =
-    directory_span number bytes q ∷ map (value_span number bytes) (entry_places number bytes q)
+    directory_span number bytes q ∷ map (value_span number bytes) (entry_offsets number bytes q)
 
 -- the GPS directories that reading visits, with these values
 unfoldable pub visited_spans : Reading → List ℕ → List Span
-visited_spans number bytes = flat_map (visited_directory_spans number bytes) (gps_places bytes)
+visited_spans number bytes = flat_map (visited_directory_spans number bytes) (visited_gps bytes)
 
 -- the GPS data that are erased are those at which reading looks: data point to no GPS directory that
 -- reading does not visit, and none of the values is cut off or of a type that reading does not know
@@ -51,10 +51,10 @@ LastStandsAlone tag k bytes =
     → looks_apart bytes ≡ true → stands_alone (number_of order) bytes at.entry ≡ true
 
 -- and GPS data do, if reading looks at all of them
-abbrev pub PlacesStandAlone : List ℕ → Type 0
-PlacesStandAlone bytes =
+abbrev pub GpsStandsAlone : List ℕ → Type 0
+GpsStandsAlone bytes =
     (order : Order) → header bytes ≡ Ok order → AreGpsDataVisited (number_of order) bytes
-    → looks_apart bytes ≡ true → places_stand_alone (number_of order) bytes ≡ true
+    → looks_apart bytes ≡ true → gps_stands_alone (number_of order) bytes ≡ true
 
 -- a value that reads back as it was is set if only it fits
 abbrev pub IsSetApart : Tag → In → Value → List ℕ → Type 0

@@ -10,7 +10,7 @@ use Rattle.exif_edit_base.specs.Causes.{Cause, no_field}
 use Rattle.exif_edit_base.specs.declared.patch.Patch.{Patch}
 use Rattle.exif_edit.specs.Promises.{named_directories}
 use Rattle.exif_edit.specs.Removing.{field_patches, removals}
-use Rattle.exif_edit.specs.Setting.{names_places}
+use Rattle.exif_edit.specs.Setting.{names_offsets}
 
 -- what takes the entries of the tag n out of directories, if there are some
 abbrev pub some_removals : Order → List ℕ → ℕ → List ℕ → Result (List Patch) Cause
@@ -21,5 +21,5 @@ some_removals order bytes n (p ∷ ps) = Ok (removals order bytes n (p ∷ ps))
 abbrev pub FieldsAreErasedApart : Tag → In → List ℕ → Type 0
 FieldsAreErasedApart tag k bytes =
     (order : Order) → header bytes ≡ Ok order → AreBytes bytes → looks_apart bytes ≡ true
-    → names_places tag ≡ false
+    → names_offsets tag ≡ false
     → field_patches bytes tag k ≡ some_removals order bytes tag.1 (named_directories bytes tag k)

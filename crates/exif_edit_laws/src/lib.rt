@@ -12,7 +12,7 @@ ghost use Rattle.exif_types.specs.declared.value.Value.{Value as Content};
 ghost use Rattle.exif_layout.specs.Groups.{Group};
 ghost use Rattle.exif_layout.specs.Ranged.{AreRanged, HavePlainTexts};
 ghost use Rattle.exif_layout.specs.Refused.{write_fault};
-ghost use Rattle.exif_edit_laws.specs.Apart.{AreErasedApart, AreErasedInImage, EachStandsAlone, IsSetApart, IsSetInImage, LastStandsAlone, PlacesStandAlone};
+ghost use Rattle.exif_edit_laws.specs.Apart.{AreErasedApart, AreErasedInImage, EachStandsAlone, IsSetApart, IsSetInImage, LastStandsAlone, GpsStandsAlone};
 ghost use Rattle.exif_edit_laws.specs.FieldsApart.{FieldsAreErasedApart};
 
 /// Where reading looks at no byte of the data as two things, each field stands alone, so the last
@@ -20,7 +20,7 @@ ghost use Rattle.exif_edit_laws.specs.FieldsApart.{FieldsAreErasedApart};
 pub fn what_is_looked_at_once_stands_alone()
     ensures each { (bytes : List ℕ) → EachStandsAlone bytes }
     ensures last { (tag : Name) (k : Ifd) (bytes : List ℕ) → LastStandsAlone tag k bytes }
-    ensures places { (bytes : List ℕ) → PlacesStandAlone bytes }
+    ensures offsets { (bytes : List ℕ) → GpsStandsAlone bytes }
 {}
 
 /// So a value is set there if it fits, and GPS data are erased if reading looks at all of them:
@@ -30,12 +30,12 @@ pub fn what_is_looked_at_once_stands_alone()
 pub fn what_is_looked_at_once_is_edited()
     ensures values { (tag : Name) (k : Ifd) (value : Content) (bytes : List ℕ)
         → IsSetApart tag k value bytes }
-    ensures places { (bytes : List ℕ) → AreErasedApart bytes }
+    ensures offsets { (bytes : List ℕ) → AreErasedApart bytes }
     ensures values_in_images { (tag : Name) (k : Ifd) (value : Content) (order : Endian)
         (groups : List Group)
         → AreRanged groups → HavePlainTexts groups → write_fault groups ≡ None
         → IsSetInImage tag k value order groups }
-    ensures places_in_images { (order : Endian) (groups : List Group)
+    ensures offsets_in_images { (order : Endian) (groups : List Group)
         → AreRanged groups → HavePlainTexts groups → write_fault groups ≡ None
         → AreErasedInImage order groups }
 {}

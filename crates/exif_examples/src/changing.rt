@@ -12,7 +12,7 @@ ghost use Rattle.exif_layout.specs.Scrubbing.{scrubbed};
 ghost use Rattle.exif_examples.specs.Fields.{orientation_patches};
 
 use exif::{Counted, Exif, In, Items, Tag, Value};
-use exif_edit_files::{erase_places_in_file, set_value_in_file};
+use exif_edit_files::{erase_gps_in_file, set_value_in_file};
 use exif_rewrite::{Remove, rewrite};
 use std::alloc::Global;
 
@@ -32,11 +32,11 @@ pub fn set_orientation(
 
 /// Erases the GPS data of a picture in memory: their bytes become zero, and no other byte changes.
 /// After an error its bytes are unchanged.
-pub fn erase_place(alloc: Global, picture: &mut [u8]) -> Result<(), exif_edit::Error>
+pub fn erase_location(alloc: Global, picture: &mut [u8]) -> Result<(), exif_edit::Error>
     ensures erased { OnOk result (IsEditedIn erase_patches picture.old picture.new) }
     ensures kept { OnErr result (picture.new ≡ picture.old) }
 {
-    erase_places_in_file(alloc, picture)
+    erase_gps_in_file(alloc, picture)
 }
 
 /// A JPEG or WebP picture without its metadata.
@@ -56,7 +56,7 @@ pub fn without_metadata(alloc: Global, picture: &[u8]) -> Result<Vec<u8>, exif::
 }
 
 /// The Exif data of a picture without its location, to be put into a file.
-pub fn without_place(alloc: Global, exif: &Exif) -> Result<Vec<u8>, exif::Error>
+pub fn without_location(alloc: Global, exif: &Exif) -> Result<Vec<u8>, exif::Error>
     ensures data { IfOk result (λ written. written.items
         ≡ image (order_named exif.now.little_endian) (scrubbed exif.now.fields)) }
 {

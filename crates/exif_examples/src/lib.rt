@@ -3,7 +3,7 @@
 
 pub mod changing;
 pub mod dates;
-pub mod places;
+pub mod locations;
 pub mod reading;
 pub mod values;
 pub mod writing;

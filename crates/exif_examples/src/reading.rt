@@ -102,8 +102,8 @@ pub fn field_lines(alloc: Global, exif: &Exif) -> Result<String, Error>
 
 /// The JPEG stream of the thumbnail.
 pub fn thumbnail(exif: &Exif) -> Option<&[u8]> {
-    let place = exif.get_field(Tag::JPEGInterchangeFormat, In::THUMBNAIL)?;
+    let offset = exif.get_field(Tag::JPEGInterchangeFormat, In::THUMBNAIL)?;
     let length = exif.get_field(Tag::JPEGInterchangeFormatLength, In::THUMBNAIL)?;
-    let rest = exif.buf().get(place.value.get_uint(0)? as usize..)?;
+    let rest = exif.buf().get(offset.value.get_uint(0)? as usize..)?;
     rest.get(..length.value.get_uint(0)? as usize)
 }

@@ -12,9 +12,9 @@ use Rattle.exif_text.specs.declared.ifd.In.{In}
 use Rattle.exif_types.specs.declared.value.Value.{Value}
 use Rattle.exif_tiff.specs.Trace.{fields_of, trace}
 use Rattle.exif_layout.specs.Encoding.{encode, moved_to}
-use Rattle.exif_layout.specs.Places.{even}
+use Rattle.exif_layout.specs.Offsets.{even}
 use Rattle.exif_layout.specs.Refused.{is_unknown}
-use Rattle.exif_edit_base.specs.Causes.{place_named, shared, too_long, unknown_type, unless, ◌>>=◌}
+use Rattle.exif_edit_base.specs.Causes.{offset_named, shared, too_long, unknown_type, unless, ◌>>=◌}
 use Rattle.exif_edit_base.specs.Finding.{find_answer, last_located, replaced}
 use Rattle.exif_edit_base.specs.Locations.{Located, located}
 use Rattle.exif_edit_base.specs.Patches.{FitsIn, inside, patched, zeros_over}
@@ -23,9 +23,9 @@ use Rattle.exif_edit_base.specs.declared.patch.Patch.{Patch}
 use Rattle.exif_edit_base.specs.declared.patch.Span.{Span}
 use Rattle.exif_edit_base.proofs.CauseSteps.{bound, passed}
 use Rattle.exif_edit_base.proofs.FindSteps.{header_named}
-use Rattle.exif_edit_base.proofs.PatchSteps.{Misses, length-patched, outside_place}
+use Rattle.exif_edit_base.proofs.PatchSteps.{Misses, length-patched, outside_offset}
 use Rattle.exif_edit.specs.Promises.{ReadAs}
-use Rattle.exif_edit.specs.Setting.{entry_text, is_small, names_places, value_room}
+use Rattle.exif_edit.specs.Setting.{entry_text, is_small, names_offsets, value_room}
 use Rattle.exif_edit.proofs.ReadSound.{reads_are, reads_so}
 use Rattle.exif_edit.proofs.SetSound.{value_lengths, was_found}
 use Rattle.exif_grow.specs.Appending.{append_answer, append_fault, appended, appended_at, appended_offset, entry_patch, expected_appended, span_cleared, value_added, value_tail}
@@ -38,17 +38,17 @@ use Rattle.exif_grow.proofs.GrowthSteps.{first_parts, grown_outside}
 -- the entry at e and its span lie in data of a length, and the value fits aligned them
 pub record FitsAppended (order : Order) (value : Value) (e : ℕ) (span : Span) (n : ℕ) : Type 0 where
   pub whole : e + 12 ≤ n
-  pub far : span.place + span.len ≤ n
+  pub far : span.offset + span.len ≤ n
   pub small : even n + length (encode order value) < 2 ^ 32
 
 pub fits_appended : (order : Order) (value : Value) (e : ℕ) (span : Span) (n : ℕ)
     → append_fault order value e span n ≡ Ok tt → FitsAppended order value e span n
 fits_appended order value e span n h =
     let a = passed (nat_lt n (e + 12)) shared
-    (λ t. unless (nat_lt n (span.place + span.len)) shared >>= λ u. unless
+    (λ t. unless (nat_lt n (span.offset + span.len)) shared >>= λ u. unless
     (nat_lt (2 ^ 32 - 1) (count_of value)) too_long >>= λ v. unless
     (nat_lt (2 ^ 32 - 1) (even n + length (encode order value))) too_long) tt h in
-    let b = passed (nat_lt n (span.place + span.len)) shared
+    let b = passed (nat_lt n (span.offset + span.len)) shared
     (λ u. unless (nat_lt (2 ^ 32 - 1) (count_of value)) too_long >>= λ v. unless
     (nat_lt (2 ^ 32 - 1) (even n + length (encode order value))) too_long) tt a.1 in
     let d = passed (nat_lt (2 ^ 32 - 1) (count_of value)) too_long
@@ -69,7 +69,7 @@ fits_appended order value e span n h =
 length-entry : (order : Order) (value : Value) (offset : ℕ)
     → length (entry_text order value offset (encode order value)) ≡ 10
 length-entry order value offset =
-    (value_lengths order value (record { place = offset; len = length (encode order value) })
+    (value_lengths order value (record { offset = offset; len = length (encode order value) })
     (omega arith)).1
 
 -- what holds of both patches holds of all
@@ -95,14 +95,14 @@ added_fits clear order value e span n f =
     both (FitsIn n) clear order value e n span (omega arith) (omega arith)
 
 added_misses : (clear : Bool) (order : Order) (value : Value) (e : ℕ) (span : Span) (n i : ℕ)
-    → inside i (record { place = e + 2; len = 10 }) ≡ false → inside i span ≡ false
+    → inside i (record { offset = e + 2; len = 10 }) ≡ false → inside i span ≡ false
     → All (Misses i) (value_added clear order value e span n).patches
 added_misses clear order value e span n i a b =
     let l = length-entry order value (even n) in
     let z : length (replicate {A = ℕ} span.len 0) ≡ span.len = length-replicate span.len 0 in
-    let x = subst (λ m. (i < span.place) ⊎ (span.place + m ≤ i)) (sym z) (outside_place i span b) in
+    let x = subst (λ m. (i < span.offset) ⊎ (span.offset + m ≤ i)) (sym z) (outside_offset i span b) in
     let y = subst (λ m. (i < e + 2) ⊎ (e + 2 + m ≤ i)) (sym l)
-    (outside_place i (record { place = e + 2; len = 10 }) a) in
+    (outside_offset i (record { offset = e + 2; len = 10 }) a) in
     both (Misses i) clear order value e n span x y
 
 -- the grown data are small enough
@@ -187,7 +187,7 @@ pub was_appended : (bytes : List ℕ) (a : Added) (tag : Tag) (k : In) (value : 
     → append_answer bytes tag k value ≡ Ok a → WasAppended bytes tag k value a
 unfolding append_answer
 was_appended bytes a tag k value h =
-    let x = passed (names_places tag) place_named
+    let x = passed (names_offsets tag) offset_named
     (λ u. unless (is_unknown value) unknown_type >>= λ v. appended bytes tag k value) a h in
     let y = passed (is_unknown value) unknown_type (λ v. appended bytes tag k value) a x.1 in
     was_found_so bytes a tag k value y.1

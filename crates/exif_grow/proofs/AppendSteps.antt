@@ -9,13 +9,13 @@ use Rattle.exif_types.specs.declared.tag.Tag.{Tag}
 use Rattle.exif_types.specs.declared.value.Value.{Value}
 use Rattle.exif_types.specs.declared.field.Field.{Field}
 use Rattle.exif_layout.specs.Encoding.{encode, moved_to}
-use Rattle.exif_layout.specs.Places.{even}
+use Rattle.exif_layout.specs.Offsets.{even}
 use Rattle.exif_layout.specs.Refused.{is_unknown}
-use Rattle.exif_edit_base.specs.Causes.{Cause, place_named, shared, unknown_type, ◌>>=◌}
+use Rattle.exif_edit_base.specs.Causes.{Cause, offset_named, shared, unknown_type, ◌>>=◌}
 use Rattle.exif_edit_base.specs.Finding.{find_answer, replaced}
 use Rattle.exif_edit_base.specs.Readings.{Read}
 use Rattle.exif_edit_base.specs.declared.patch.Span.{Span}
-use Rattle.exif_edit.specs.Setting.{names_places, set_place, value_room}
+use Rattle.exif_edit.specs.Setting.{names_offsets, set_offset, value_room}
 use Rattle.exif_grow.specs.Appending.{append_answer, append_fault, appended, appended_at, expected_appended, value_added}
 use Rattle.exif_grow.specs.Growing.{Added, first_read}
 
@@ -44,7 +44,7 @@ append_refused tag k value e bytes read order span c o r h =
 expected_is : (tag : Tag) (k : In) (value moved : Value) (e : ℕ) (bytes : List ℕ) (read : Read)
     (offset : ℕ) (fs : List Field)
     → fs ≡ replaced tag k moved read.fields → moved ≡ moved_to offset value
-    → offset ≡ set_place (even (length bytes)) e (encode (order_named read.little) value)
+    → offset ≡ set_offset (even (length bytes)) e (encode (order_named read.little) value)
     → ◌≡◌ {A = Read} (record { little = read.little; fields = fs; faults = read.faults })
     (expected_appended tag k value e bytes read)
 expected_is tag k value moved e bytes read offset fs f m p = rw (f, m, p) refl
@@ -57,7 +57,7 @@ pub append_passed : (tag : Tag) (k : In) (value moved : Value) (e : ℕ) (bytes 
     → a ≡ value_added true order value e span (length bytes)
     → b ≡ value_added false order value e span (length bytes)
     → fs ≡ replaced tag k moved read.fields → moved ≡ moved_to offset value
-    → offset ≡ set_place (even (length bytes)) e (encode order value)
+    → offset ≡ set_offset (even (length bytes)) e (encode order value)
     → first_read (record { little = read.little; fields = fs; faults = read.faults }) bytes a b
     ≡ appended_at tag k value e bytes read
 unfolding appended_at
@@ -68,8 +68,8 @@ append_passed tag k value moved e bytes read order span offset fs a b o r h x y 
     let first = value_added true order' value e span' n in
     let second = value_added false order' value e span' n in
     let wanted = expected_appended tag k value e bytes read in
-    let p1 : offset ≡ set_place (even n) e (encode order' value) =
-    p ∙ ap (λ w. set_place (even n) e (encode w value)) o in
+    let p1 : offset ≡ set_offset (even n) e (encode order' value) =
+    p ∙ ap (λ w. set_offset (even n) e (encode w value)) o in
     let g : append_fault order' value e span' n ≡ Ok tt =
     sym (ap (λ y. append_fault order value e y n) r
     ∙ ap (λ w. append_fault w value e (value_room (number_of w) bytes e) n) o) ∙ h in
@@ -88,21 +88,21 @@ append_passed tag k value moved e bytes read order span offset fs a b o r h x y 
 -- ---- the whole
 
 -- a field whose values say where other bytes stand is not appended
-pub append_named : (bytes : List ℕ) (tag : Tag) (k : In) (value : Value) → names_places tag ≡ true
-    → append_answer bytes tag k value ≡ Err place_named
+pub append_named : (bytes : List ℕ) (tag : Tag) (k : In) (value : Value) → names_offsets tag ≡ true
+    → append_answer bytes tag k value ≡ Err offset_named
 unfolding append_answer
 append_named bytes tag k value h = rw h refl
 
 -- a value of an unknown type is not appended
 pub append_unknown : (bytes : List ℕ) (tag : Tag) (k : In) (value : Value)
-    → names_places tag ≡ false
+    → names_offsets tag ≡ false
     → is_unknown value ≡ true → append_answer bytes tag k value ≡ Err unknown_type
 unfolding append_answer
 append_unknown bytes tag k value h u = rw (h, u) refl
 
 -- any other is where it is found
 pub append_known : (bytes : List ℕ) (tag : Tag) (k : In) (value : Value)
-    → names_places tag ≡ false
+    → names_offsets tag ≡ false
     → is_unknown value ≡ false → append_answer bytes tag k value ≡ appended bytes tag k value
 unfolding append_answer
 append_known bytes tag k value h u = rw (h, u) refl

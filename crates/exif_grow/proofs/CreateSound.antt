@@ -9,10 +9,10 @@ use Rattle.exif_types.specs.declared.tag.Tag.{Tag}
 use Rattle.exif_text.specs.declared.ifd.In.{In}
 use Rattle.exif_types.specs.declared.value.Value.{Value}
 use Rattle.exif_tiff.specs.Trace.{fields_of, trace}
-use Rattle.exif_layout.specs.Places.{even}
+use Rattle.exif_layout.specs.Offsets.{even}
 use Rattle.exif_layout.specs.Refused.{is_unknown}
 use Rattle.exif_layout.proofs.Images.Standing.{length_spelled}
-use Rattle.exif_edit_base.specs.Causes.{no_directory, of_data, or_cause, place_named, unknown_type, unless, ◌>>=◌}
+use Rattle.exif_edit_base.specs.Causes.{no_directory, of_data, or_cause, offset_named, unknown_type, unless, ◌>>=◌}
 use Rattle.exif_edit_base.specs.Patches.{FitsIn, inside}
 use Rattle.exif_edit_base.specs.declared.patch.Patch.{Patch}
 use Rattle.exif_edit_base.specs.declared.patch.Span.{Span}
@@ -20,10 +20,10 @@ use Rattle.exif_grow.specs.Appending.{span_cleared}
 use Rattle.exif_edit_base.specs.Readings.{Read, reading}
 use Rattle.exif_edit_base.proofs.CauseSteps.{bound, data_read, option_told, passed}
 use Rattle.exif_edit_base.proofs.FindSteps.{header_named}
-use Rattle.exif_edit_base.proofs.PatchSteps.{Misses, outside_place}
+use Rattle.exif_edit_base.proofs.PatchSteps.{Misses, outside_offset}
 use Rattle.exif_edit.specs.Promises.{ReadAs}
 use Rattle.exif_edit.specs.Removing.{untold, without_named}
-use Rattle.exif_edit.specs.Setting.{names_places}
+use Rattle.exif_edit.specs.Setting.{names_offsets}
 use Rattle.exif_edit.proofs.ReadSound.{reads_are}
 use Rattle.exif_grow.specs.Growing.{Added, grown}
 use Rattle.exif_grow.specs.Creating.{child_added, child_field, child_value_offset, create_answer, created, created_in, created_under, parent_of}
@@ -67,16 +67,16 @@ patches_within clear order d total span p ps e r q slot whole =
 
 added_misses : (clear : Bool) (order : Order) (p n : ℕ) (value : Value) (bytes : List ℕ)
     (d : Directory) (i : ℕ)
-    → inside i (record { place = d.slot; len = 4 }) ≡ false → inside i (span_of d) ≡ false
+    → inside i (record { offset = d.slot; len = 4 }) ≡ false → inside i (span_of d) ≡ false
     → All (Misses i) (child_added clear order p n value bytes d).patches
 added_misses clear order p n value bytes d i a b =
     let l = length_spelled order 4 (even (length bytes)) in
     let z : length (replicate {A = ℕ} (12 * d.count + 6) 0) ≡ 12 * d.count + 6 =
     length-replicate (12 * d.count + 6) 0 in
     let x = subst (λ m. (i < d.offset) ⊎ (d.offset + m ≤ i)) (sym z)
-    (outside_place i (span_of d) b) in
+    (outside_offset i (span_of d) b) in
     let y = subst (λ m. (i < d.slot) ⊎ (d.slot + m ≤ i)) (sym l)
-    (outside_place i (record { place = d.slot; len = 4 }) a) in
+    (outside_offset i (record { offset = d.slot; len = 4 }) a) in
     both_patches (Misses i) clear (span_of d) (slot_patch order d (length bytes)) x y
 
 -- ---- the whole
@@ -175,7 +175,7 @@ pub was_created : (bytes : List ℕ) (a : Added) (tag : Tag) (k : In) (value : V
     → create_answer bytes tag k value ≡ Ok a → WasCreated bytes tag k value a
 unfolding create_answer
 was_created bytes a tag k value h =
-    let x = passed (names_places tag) place_named
+    let x = passed (names_offsets tag) offset_named
     (λ u. unless (is_unknown value) unknown_type >>= λ v. created bytes tag k value) a h in
     let y = passed (is_unknown value) unknown_type (λ v. created bytes tag k value) a x.1 in
     was_created_there bytes a tag k value y.1

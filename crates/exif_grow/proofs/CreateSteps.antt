@@ -9,10 +9,10 @@ use Rattle.exif_types.specs.declared.field.Field.{Field}
 use Rattle.exif_layout.specs.Refused.{is_unknown}
 use Rattle.exif_reader.specs.declared.stop.Stop.{Stop}
 use Rattle.exif_reader.specs.declared.stop.Stop.TheVariants as stop
-use Rattle.exif_edit_base.specs.Causes.{Becomes, Cause, Fails, no_directory, place_named, unknown_type, ◌>>=◌}
+use Rattle.exif_edit_base.specs.Causes.{Becomes, Cause, Fails, no_directory, offset_named, unknown_type, ◌>>=◌}
 use Rattle.exif_edit_base.specs.Readings.{Read, ReadsTo, reading}
 use Rattle.exif_edit_base.specs.declared.error.Error.{Error}
-use Rattle.exif_edit.specs.Setting.{names_places}
+use Rattle.exif_edit.specs.Setting.{names_offsets}
 use Rattle.exif_grow.specs.Growing.{Added}
 use Rattle.exif_grow.specs.Creating.{child_added, child_field, child_value_offset, create_answer, created, created_in, created_under, parent_of}
 use Rattle.exif_grow.specs.Directories.{directory_named}
@@ -111,21 +111,21 @@ create_there bytes tag k value read order parent d o h =
     rw g refl
 
 -- a field whose values say where other bytes stand is not put into a directory
-pub create_named : (bytes : List ℕ) (tag : Tag) (k : In) (value : Value) → names_places tag ≡ true
-    → create_answer bytes tag k value ≡ Err place_named
+pub create_named : (bytes : List ℕ) (tag : Tag) (k : In) (value : Value) → names_offsets tag ≡ true
+    → create_answer bytes tag k value ≡ Err offset_named
 unfolding create_answer
 create_named bytes tag k value h = rw h refl
 
 -- nor is a value of an unknown type
 pub create_unknown : (bytes : List ℕ) (tag : Tag) (k : In) (value : Value)
-    → names_places tag ≡ false
+    → names_offsets tag ≡ false
     → is_unknown value ≡ true → create_answer bytes tag k value ≡ Err unknown_type
 unfolding create_answer
 create_unknown bytes tag k value h u = rw (h, u) refl
 
 -- any other is
 pub create_known : (bytes : List ℕ) (tag : Tag) (k : In) (value : Value)
-    → names_places tag ≡ false
+    → names_offsets tag ≡ false
     → is_unknown value ≡ false → create_answer bytes tag k value ≡ created bytes tag k value
 unfolding create_answer
 create_known bytes tag k value h u = rw (h, u) refl

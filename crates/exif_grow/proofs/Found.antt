@@ -15,7 +15,7 @@ use Rattle.exif_grow.specs.Appending.{appended_offset}
 use Rattle.exif_grow.specs.Creating.{child_value_offset}
 use Rattle.exif_grow.specs.Directories.{leading_in}
 use Rattle.exif_grow.specs.Inserting.{entry_offset, value_offset}
-use Rattle.exif_edit.specs.Setting.{set_place}
+use Rattle.exif_edit.specs.Setting.{set_offset}
 use Rattle.exif_grow.specs.Promises.{IsAppended, IsCreated, IsInserted}
 
 -- none passes where nothing is left of a filter
@@ -95,7 +95,7 @@ pub inserted_found : (old new : List ℕ) (tag : Tag) (k : In) (value : Value)
     → IsInserted old tag k value new → FindsValue tag k value new
 inserted_found old new tag k value s =
     only_read new tag k value
-    (set_place (value_offset s.at (length old))
+    (set_offset (value_offset s.at (length old))
     (entry_offset (leading_in (number_of s.order) old tag.1 s.at) (length old))
     (encode s.order value)) old s.reads s.only
 
@@ -104,5 +104,5 @@ pub created_found : (old new : List ℕ) (tag : Tag) (k : In) (value : Value)
     → IsCreated old tag k value new → FindsValue tag k value new
 created_found old new tag k value s =
     only_read new tag k value
-    (set_place (child_value_offset s.at (length old)) (value_offset s.at (length old) + 2)
+    (set_offset (child_value_offset s.at (length old)) (value_offset s.at (length old) + 2)
     (encode s.order value)) old s.reads s.only

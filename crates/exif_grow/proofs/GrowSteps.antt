@@ -7,14 +7,14 @@ use Rattle.exif_text.specs.declared.ifd.In.{In}
 use Rattle.exif_types.specs.declared.value.Value.{Value}
 use Rattle.exif_tiff.specs.Trace.{fields_of, trace}
 use Rattle.exif_layout.specs.Encoding.{encode, moved_to}
-use Rattle.exif_edit_base.specs.Causes.{Cause, full_directory, no_data, no_directory, no_field, picture, place_named, scattered, shared, too_long, unknown_type, wrong_header}
+use Rattle.exif_edit_base.specs.Causes.{Cause, full_directory, no_data, no_directory, no_field, picture, offset_named, scattered, shared, too_long, unknown_type, wrong_header}
 use Rattle.exif_edit_base.proofs.CauseSteps.{ok_same}
 use Rattle.exif_edit_base.specs.Finding.{replaced}
 use Rattle.exif_edit_base.specs.Patches.{FitsIn, patched}
 use Rattle.exif_edit_base.specs.declared.patch.Patch.{Patch}
 use Rattle.exif_edit_base.proofs.FindSteps.{header_named}
 use Rattle.exif_edit.specs.Promises.{FindsValue, ReadAs}
-use Rattle.exif_edit.specs.Setting.{expected, set_patches, set_place, value_room}
+use Rattle.exif_edit.specs.Setting.{expected, set_patches, set_offset, value_room}
 use Rattle.exif_edit.proofs.ReadSound.{reads_are}
 use Rattle.exif_edit.proofs.SetFound.{set_found}
 use Rattle.exif_edit.proofs.SetSound.{set_fits, set_sound, was_set}
@@ -52,7 +52,7 @@ set_promised old ps tag k value h =
     let wanted = expected tag k value w.at.entry old w.read in
     let r = reads_are old w.read w.reads in
     let s = reads_are new wanted w.reads_new in
-    let offset = set_place (value_room (number_of order) old w.at.entry).place w.at.entry
+    let offset = set_offset (value_room (number_of order) old w.at.entry).offset w.at.entry
     (encode order value) in
     let g : IsGrown old tag k value new = record {
       reads =
@@ -102,7 +102,7 @@ insert_promised old a tag k value h =
       promise = record {
         reads = s.reads;
         fields = inr (record {
-          offset = set_place (value_offset s.at (length old))
+          offset = set_offset (value_offset s.at (length old))
               (entry_offset (leading_in (number_of s.order) old tag.1 s.at) (length old))
               (encode s.order value);
           only = s.only;
@@ -123,7 +123,7 @@ create_promised old a tag k value h =
       promise = record {
         reads = s.reads;
         fields = inr (record {
-          offset = set_place (child_value_offset s.at (length old))
+          offset = set_offset (child_value_offset s.at (length old))
               (value_offset s.at (length old) + 2) (encode s.order value);
           only = s.only;
           others = s.others;
@@ -151,7 +151,7 @@ created_promised old a tag k value (Err no_field) e h = refused no_field a h
 created_promised old a tag k value (Err full_directory) e h = refused full_directory a h
 created_promised old a tag k value (Err unknown_type) e h = refused unknown_type a h
 created_promised old a tag k value (Err too_long) e h = refused too_long a h
-created_promised old a tag k value (Err place_named) e h = refused place_named a h
+created_promised old a tag k value (Err offset_named) e h = refused offset_named a h
 created_promised old a tag k value (Err shared) e h = refused shared a h
 created_promised old a tag k value (Err scattered) e h = refused scattered a h
 created_promised old a tag k value (Err picture) e h = refused picture a h
@@ -172,7 +172,7 @@ grown_promised old a tag k value (Err no_field) e h =
 grown_promised old a tag k value (Err no_directory) e h = refused no_directory a h
 grown_promised old a tag k value (Err full_directory) e h = refused full_directory a h
 grown_promised old a tag k value (Err unknown_type) e h = refused unknown_type a h
-grown_promised old a tag k value (Err place_named) e h = refused place_named a h
+grown_promised old a tag k value (Err offset_named) e h = refused offset_named a h
 grown_promised old a tag k value (Err scattered) e h = refused scattered a h
 grown_promised old a tag k value (Err picture) e h = refused picture a h
 grown_promised old a tag k value (Err (wrong_header fault)) e h = refused (wrong_header fault) a h

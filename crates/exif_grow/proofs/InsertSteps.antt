@@ -12,11 +12,11 @@ use Rattle.exif_types.specs.declared.field.Field.{Field}
 use Rattle.exif_layout.specs.Refused.{is_unknown}
 use Rattle.exif_reader.specs.declared.stop.Stop.{Stop}
 use Rattle.exif_reader.specs.declared.stop.Stop.TheVariants as stop
-use Rattle.exif_edit_base.specs.Causes.{Becomes, Cause, Fails, no_directory, place_named, unknown_type, ◌>>=◌}
+use Rattle.exif_edit_base.specs.Causes.{Becomes, Cause, Fails, no_directory, offset_named, unknown_type, ◌>>=◌}
 use Rattle.exif_edit_base.specs.Readings.{Read, ReadsTo, reading}
 use Rattle.exif_edit_base.specs.declared.error.Error.{Error}
 use Rattle.exif_edit_base.proofs.ChangeSteps.{left_step}
-use Rattle.exif_edit.specs.Setting.{names_places}
+use Rattle.exif_edit.specs.Setting.{names_offsets}
 use Rattle.exif_grow.specs.Growing.{Added}
 use Rattle.exif_grow.specs.Directories.{directory_named, leading_in}
 use Rattle.exif_grow.specs.Inserting.{field_added, first_with, insert_answer, directory_fault, inserted, inserted_in, is_only, new_field, read_without_offsets, value_offset}
@@ -130,21 +130,21 @@ insert_there bytes tag k value read order d r o h =
     rw (r, g) refl
 
 -- a field whose values say where other bytes stand is not put into a directory
-pub insert_named : (bytes : List ℕ) (tag : Tag) (k : In) (value : Value) → names_places tag ≡ true
-    → insert_answer bytes tag k value ≡ Err place_named
+pub insert_named : (bytes : List ℕ) (tag : Tag) (k : In) (value : Value) → names_offsets tag ≡ true
+    → insert_answer bytes tag k value ≡ Err offset_named
 unfolding insert_answer
 insert_named bytes tag k value h = rw h refl
 
 -- nor is a value of an unknown type
 pub insert_unknown : (bytes : List ℕ) (tag : Tag) (k : In) (value : Value)
-    → names_places tag ≡ false
+    → names_offsets tag ≡ false
     → is_unknown value ≡ true → insert_answer bytes tag k value ≡ Err unknown_type
 unfolding insert_answer
 insert_unknown bytes tag k value h u = rw (h, u) refl
 
 -- any other is
 pub insert_known : (bytes : List ℕ) (tag : Tag) (k : In) (value : Value)
-    → names_places tag ≡ false
+    → names_offsets tag ≡ false
     → is_unknown value ≡ false → insert_answer bytes tag k value ≡ inserted bytes tag k value
 unfolding insert_answer
 insert_known bytes tag k value h u = rw (h, u) refl

@@ -2,7 +2,7 @@
 use Rattle.std.proofs.Common.{ℕ, List, length, All, arith, length-append}
 use Rattle.std.proofs.lemmas.List.Elements.{All-weaker}
 use Rattle.exif_edit_base.specs.Patches.{FitsIn, patched}
-use Rattle.exif_edit_base.proofs.PatchSteps.{Misses, length-patched, outside_place}
+use Rattle.exif_edit_base.proofs.PatchSteps.{Misses, length-patched, outside_offset}
 use Rattle.exif_grow.specs.Growing.{Added}
 use Rattle.exif_grow.specs.Promises.{KeepsOld, Spares}
 use Rattle.exif_grow.proofs.GrowthSteps.{grown_outside}
@@ -17,5 +17,5 @@ keeps_old a bytes fit = record {
       omega arith;
   outside = λ i h s. grown_outside a bytes i fit h
       (All-weaker (Spares i) (Misses i)
-      (λ p e. outside_place i (record { place = p.place; len = length p.text }) e) a.patches s);
+      (λ p e. outside_offset i (record { offset = p.offset; len = length p.bytes }) e) a.patches s);
 }

@@ -7,21 +7,21 @@ use Rattle.exif_types.specs.ValueTypes.{count_of}
 use Rattle.exif_types.specs.declared.tag.Tag.{Tag}
 use Rattle.exif_types.specs.declared.value.Value.{Value}
 use Rattle.exif_layout.specs.Encoding.{encode, moved_to}
-use Rattle.exif_layout.specs.Places.{even}
+use Rattle.exif_layout.specs.Offsets.{even}
 use Rattle.exif_layout.specs.Refused.{is_unknown}
-use Rattle.exif_edit_base.specs.Causes.{Cause, place_named, shared, too_long, unknown_type, unless, ◌>>=◌}
+use Rattle.exif_edit_base.specs.Causes.{Cause, offset_named, shared, too_long, unknown_type, unless, ◌>>=◌}
 use Rattle.exif_edit_base.specs.Finding.{find_answer, replaced}
 use Rattle.exif_edit_base.specs.Patches.{zeros_over}
 use Rattle.exif_edit_base.specs.Readings.{Read}
 use Rattle.exif_edit_base.specs.declared.patch.Patch.{Patch}
 use Rattle.exif_edit_base.specs.declared.patch.Span.{Span}
-use Rattle.exif_edit.specs.Setting.{entry_text, is_small, names_places, set_place, value_room}
+use Rattle.exif_edit.specs.Setting.{entry_text, is_small, names_offsets, set_offset, value_room}
 use Rattle.exif_grow.specs.Growing.{Added, aligned, first_read}
 
 -- what puts a value, whose bytes are at an offset, into the entry at e
 abbrev pub entry_patch : Order → Value → ℕ → ℕ → Patch
 entry_patch order value e offset =
-    record { place = e + 2; text = entry_text order value offset (encode order value) }
+    record { offset = e + 2; bytes = entry_text order value offset (encode order value) }
 
 -- what follows data of a length: the bytes of a value, unless its entry holds them
 abbrev pub value_tail : ℕ → List ℕ → List ℕ
@@ -43,13 +43,13 @@ value_added clear order value e span n = record {
 abbrev pub append_fault : Order → Value → ℕ → Span → ℕ → Result (Unit {0}) Cause
 append_fault order value e span n = do
   a ← unless (nat_lt n (e + 12)) shared
-  b ← unless (nat_lt n (span.place + span.len)) shared
+  b ← unless (nat_lt n (span.offset + span.len)) shared
   c ← unless (nat_lt (2 ^ 32 - 1) (count_of value)) too_long
   unless (nat_lt (2 ^ 32 - 1) (even n + length (encode order value))) too_long
 
 -- where the value of the entry at e is stored then: in the entry, or at the end of the old data
 abbrev pub appended_offset : Order → Value → ℕ → ℕ → ℕ
-appended_offset order value e n = set_place (even n) e (encode order value)
+appended_offset order value e n = set_offset (even n) e (encode order value)
 
 -- what reading the new data must give
 abbrev pub expected_appended : Tag → In → Value → ℕ → List ℕ → Read → Read
@@ -80,6 +80,6 @@ appended bytes tag k value = do
 -- the same, or why it is refused
 unfoldable pub append_answer : List ℕ → Tag → In → Value → Result Added Cause
 append_answer bytes tag k value = do
-  a ← unless (names_places tag) place_named
+  a ← unless (names_offsets tag) offset_named
   b ← unless (is_unknown value) unknown_type
   appended bytes tag k value

@@ -11,9 +11,9 @@ use Rattle.exif_types.specs.declared.value.Value.{Value}
 use Rattle.exif_types.specs.declared.field.Field.{Field}
 use Rattle.exif_layout.specs.Encoding.{encode, moved_to, spelled}
 use Rattle.exif_layout.specs.Refused.{is_unknown}
-use Rattle.exif_edit_base.specs.Causes.{Cause, no_directory, of_data, or_cause, place_named, unknown_type, unless, ◌>>=◌}
+use Rattle.exif_edit_base.specs.Causes.{Cause, no_directory, of_data, or_cause, offset_named, unknown_type, unless, ◌>>=◌}
 use Rattle.exif_edit_base.specs.Readings.{Read, reading}
-use Rattle.exif_edit.specs.Setting.{names_places, set_place}
+use Rattle.exif_edit.specs.Setting.{names_offsets, set_offset}
 use Rattle.exif_grow.specs.Appending.{span_cleared}
 use Rattle.exif_grow.specs.Directories.{directory_named, leading_in}
 use Rattle.exif_grow.specs.Growing.{Added, aligned}
@@ -60,7 +60,7 @@ child_field order tag k value d n = record {
   tag = tag;
   ifd_num = k;
   value = moved_to
-      (set_place (child_value_offset d n) (value_offset d n + 2) (encode order value)) value;
+      (set_offset (child_value_offset d n) (value_offset d n + 2) (encode order value)) value;
 }
 
 -- what puts a field into a new directory, to which the tag p of this one is to point
@@ -91,6 +91,6 @@ created bytes tag k value = do
 -- the same, or why it is refused
 unfoldable pub create_answer : List ℕ → Tag → In → Value → Result Added Cause
 create_answer bytes tag k value = do
-  a ← unless (names_places tag) place_named
+  a ← unless (names_offsets tag) offset_named
   b ← unless (is_unknown value) unknown_type
   created bytes tag k value

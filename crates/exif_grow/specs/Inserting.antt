@@ -14,14 +14,14 @@ use Rattle.exif_types.specs.declared.tag.Tag.{Tag}
 use Rattle.exif_types.specs.declared.value.Value.{Value}
 use Rattle.exif_types.specs.declared.field.Field.{Field}
 use Rattle.exif_layout.specs.Encoding.{encode, moved_to, spelled}
-use Rattle.exif_layout.specs.Places.{even}
+use Rattle.exif_layout.specs.Offsets.{even}
 use Rattle.exif_layout.specs.Refused.{is_unknown}
-use Rattle.exif_edit_base.specs.Causes.{Cause, full_directory, no_directory, of_data, or_cause, place_named, shared, too_long, unknown_type, unless, ◌>>=◌}
+use Rattle.exif_edit_base.specs.Causes.{Cause, full_directory, no_directory, of_data, or_cause, offset_named, shared, too_long, unknown_type, unless, ◌>>=◌}
 use Rattle.exif_edit_base.specs.Readings.{Read, fault_eq, reading}
 use Rattle.exif_edit_base.specs.declared.patch.Patch.{Patch}
 use Rattle.exif_edit_base.specs.declared.patch.Span.{Span}
 use Rattle.exif_edit.specs.Removing.{untold, without_named}
-use Rattle.exif_edit.specs.Setting.{entry_text, is_small, names_places, set_place}
+use Rattle.exif_edit.specs.Setting.{entry_text, is_small, names_offsets, set_offset}
 use Rattle.exif_grow.specs.Appending.{span_cleared}
 use Rattle.exif_grow.specs.Directories.{directory_named, leading_in}
 use Rattle.exif_grow.specs.Growing.{Added, aligned, grown}
@@ -51,11 +51,11 @@ entry_offset j n = even n + 2 + 12 * j
 
 -- the bytes of a directory
 abbrev pub span_of : Directory → Span
-span_of d = record { place = d.offset; len = 12 * d.count + 6 }
+span_of d = record { offset = d.offset; len = 12 * d.count + 6 }
 
 -- the offset of a directory becomes that of one that is appended to data of a length
 abbrev pub slot_patch : Order → Directory → ℕ → Patch
-slot_patch order d n = record { place = d.slot; text = spelled order 4 (even n) }
+slot_patch order d n = record { offset = d.slot; bytes = spelled order 4 (even n) }
 
 -- the bytes of a value, unless its entry holds them
 abbrev pub outer_bytes : List ℕ → List ℕ
@@ -129,7 +129,7 @@ new_field order tag k value d j n = record {
   tag = tag;
   ifd_num = k;
   value = moved_to
-      (set_place (value_offset d n) (entry_offset j n) (encode order value)) value;
+      (set_offset (value_offset d n) (entry_offset j n) (encode order value)) value;
 }
 
 -- what puts a field into a directory, once the data are read
@@ -153,6 +153,6 @@ inserted bytes tag k value = do
 -- the same, or why it is refused
 unfoldable pub insert_answer : List ℕ → Tag → In → Value → Result Added Cause
 insert_answer bytes tag k value = do
-  a ← unless (names_places tag) place_named
+  a ← unless (names_offsets tag) offset_named
   b ← unless (is_unknown value) unknown_type
   inserted bytes tag k value

@@ -40,7 +40,7 @@ pub record IsAppended (old : List ℕ) (tag : Tag) (k : In) (value : Value) (new
         (faults_of (trace old))
     pub small : length new < 2 ^ 32
     pub outside : (i : ℕ) → i < length old
-        → inside i (record { place = at.entry + 2; len = 10 }) ≡ false
+        → inside i (record { offset = at.entry + 2; len = 10 }) ≡ false
         → inside i (value_room (number_of order) old at.entry) ≡ false
         → slice_index new i ≡ slice_index old i
 
@@ -61,7 +61,7 @@ pub record IsInserted (old : List ℕ) (tag : Tag) (k : In) (value : Value) (new
         ∷ []
     pub small : length new < 2 ^ 32
     pub outside : (i : ℕ) → i < length old
-        → inside i (record { place = at.slot; len = 4 }) ≡ false
+        → inside i (record { offset = at.slot; len = 4 }) ≡ false
         → inside i (span_of at) ≡ false
         → slice_index new i ≡ slice_index old i
 
@@ -84,7 +84,7 @@ pub record IsCreated (old : List ℕ) (tag : Tag) (k : In) (value : Value) (new 
         ≡ child_field order tag k value at (length old) ∷ []
     pub small : length new < 2 ^ 32
     pub outside : (i : ℕ) → i < length old
-        → inside i (record { place = at.slot; len = 4 }) ≡ false
+        → inside i (record { offset = at.slot; len = 4 }) ≡ false
         → inside i (span_of at) ≡ false
         → slice_index new i ≡ slice_index old i
 
@@ -115,7 +115,7 @@ pub record IsGrown (old : List ℕ) (tag : Tag) (k : In) (value : Value) (new : 
 
 -- no byte of a patch is at an offset
 abbrev pub Spares : ℕ → Patch → Type 0
-Spares i p = inside i (record { place = p.place; len = length p.text }) ≡ false
+Spares i p = inside i (record { offset = p.offset; len = length p.bytes }) ≡ false
 
 -- the new data begin with the old ones, but for what the patches cover
 pub record KeepsOld (a : Added) (bytes : List ℕ) : Type 0 where

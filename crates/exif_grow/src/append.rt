@@ -4,21 +4,21 @@ ghost use Rattle.std.specs.Prelude.{◌≡◌, ◌≤◌, ◌<◌, ◌+◌, ◌^
 ghost use Rattle.exif_base.specs.Orders.{number_of};
 ghost use Rattle.exif_types.specs.ValueTypes.{count_of};
 ghost use Rattle.exif_layout.specs.Encoding.{encode};
-ghost use Rattle.exif_layout.specs.Places.{even};
+ghost use Rattle.exif_layout.specs.Offsets.{even};
 ghost use Rattle.exif_layout.specs.Refused.{is_unknown};
 ghost use Rattle.exif_edit.specs.Promises.{FindsValue};
 ghost use Rattle.exif_edit_base.specs.Causes.{Makes};
 ghost use Rattle.exif_edit_base.specs.Patches.{FitsIn};
 ghost use Rattle.exif_edit_base.specs.Finding.{IsLastAt};
 ghost use Rattle.exif_edit_base.specs.Readings.{read_of};
-ghost use Rattle.exif_edit.specs.Setting.{is_small, names_places, set_place, value_room};
+ghost use Rattle.exif_edit.specs.Setting.{is_small, names_offsets, set_offset, value_room};
 ghost use Rattle.exif_grow.specs.Appending.{append_answer, append_fault, appended, appended_at, entry_patch, span_cleared, value_added, value_tail};
 ghost use Rattle.exif_grow.specs.Growing.{added_of, grown};
 ghost use Rattle.exif_grow.specs.Promises.{IsAppended};
 
 use crate::growth::{Growth, aligned, even, first_read};
 use exif_base::{Items, Order};
-use exif_edit::set::{moved, names_places, set_field, value_room};
+use exif_edit::set::{moved, names_offsets, set_field, value_room};
 use exif_edit::spell::{encode, entry_text, is_unknown};
 use exif_edit_base::Error;
 use exif_edit_base::find::{Found, find};
@@ -54,8 +54,8 @@ fn entry_patch(
 {
     let text = entry_text(alloc, order, value, count, offset, encoded)?;
     Ok(Patch {
-        place: entry as u64 + 2,
-        text: Items::from_vec(text),
+        offset: entry as u64 + 2,
+        bytes: Items::from_vec(text),
     })
 }
 
@@ -92,7 +92,7 @@ fn encoded_for(
     span: Span,
     len: usize,
 ) -> Result<Encoded, Error>
-    requires near { span.place < 2 ^ 32 }
+    requires near { span.offset < 2 ^ 32 }
     requires bound { span.len < 2 ^ 36 }
     requires small { len < 2 ^ 32 }
     requires within { entry + 12 ≤ len }
@@ -100,10 +100,10 @@ fn encoded_for(
         (append_fault order value.now entry span len) }
     ensures bytes { IfOk result (λ e. e.bytes.items ≡ encode order value.now) }
     ensures count { IfOk result (λ e. e.count ≡ count_of value.now) }
-    ensures far { OnOk result (span.place + span.len ≤ len) }
+    ensures far { OnOk result (span.offset + span.len ≤ len) }
     ensures fits { IfOk result (λ e. even len + length e.bytes.items < 2 ^ 32) }
 {
-    if len < span.place as usize + span.len {
+    if len < span.offset as usize + span.len {
         return Err(Error::SharedBytes);
     }
     let Some(count) = value.count() else {
@@ -130,7 +130,7 @@ fn growth(
     requires bytes { encoded.now.bytes.items ≡ encode order value.now }
     requires count { encoded.now.count ≡ count_of value.now }
     requires within { entry + 12 ≤ len }
-    requires far { span.place + span.len ≤ len }
+    requires far { span.offset + span.len ≤ len }
     requires small { even len + length encoded.now.bytes.items < 2 ^ 32 }
     ensures added { IfOk result
         (λ g. added_of g ≡ value_added clear order value.now entry span len) }
@@ -149,7 +149,7 @@ fn growth(
 fn offset_of(entry: u32, len: usize, encoded: &[u8]) -> u32
     requires entry { entry + 12 ≤ len }
     requires small { even len + length encoded.now < 2 ^ 32 }
-    ensures { result ≡ set_place (even len) entry encoded.now }
+    ensures { result ≡ set_offset (even len) entry encoded.now }
 {
     if encoded.len() <= 4 {
         entry + 8
@@ -196,7 +196,7 @@ fn append_at(
 /// even offset, or are in the entry if they are at most four. The old value becomes zeros, unless the
 /// data would be read otherwise then.
 ///
-/// Refusals are `NamesPlaces`, `UnknownType`, `Header`, `FieldNotFound`, `ValueTooLong` (the new data
+/// Refusals are `NamesOffsets`, `UnknownType`, `Header`, `FieldNotFound`, `ValueTooLong` (the new data
 /// would have 2^32 bytes or more) and `SharedBytes`. It takes the memory of two readings, and three
 /// times that of the new data.
 pub fn append_value(
@@ -213,8 +213,8 @@ pub fn append_value(
     ensures found { IfOk result
         (λ g. FindsValue tag ifd_num value.now (grown (added_of g) bytes.now)) }
 {
-    if names_places(tag) {
-        return Err(Error::NamesPlaces);
+    if names_offsets(tag) {
+        return Err(Error::NamesOffsets);
     }
     if is_unknown(value) {
         return Err(Error::UnknownType);

@@ -11,7 +11,7 @@ ghost use Rattle.exif_edit_base.specs.declared.error.Error.TheVariants as Failur
 ghost use Rattle.exif_edit_base.specs.Patches.{FitsIn};
 ghost use Rattle.exif_edit_base.specs.Readings.{read_of};
 ghost use Rattle.exif_edit.specs.Promises.{FindsValue};
-ghost use Rattle.exif_edit.specs.Setting.{names_places};
+ghost use Rattle.exif_edit.specs.Setting.{names_offsets};
 ghost use Rattle.exif_grow.specs.Creating.{child_added, child_bytes, child_field, child_value_offset, create_answer, created, created_in, created_under, parent_of, pointer_entry};
 ghost use Rattle.exif_grow.specs.Directories.{leading_in};
 ghost use Rattle.exif_grow.specs.Growing.{added_of, aligned, grown};
@@ -26,7 +26,7 @@ use crate::insert::{
 };
 use crate::reread::{first_with, without_offsets};
 use exif_base::Order;
-use exif_edit::set::{moved, names_places};
+use exif_edit::set::{moved, names_offsets};
 use exif_edit::spell::is_unknown;
 use exif_edit_base::Error;
 use exif_edit_base::read::{order_named, read};
@@ -286,7 +286,7 @@ fn create(
 /// the new directory, and the value if it has more than four bytes. The old directory becomes zeros,
 /// unless the data would be read otherwise then.
 ///
-/// Refusals are `NamesPlaces`, `UnknownType`, `Header`, `NoDirectory` (there is none that would point
+/// Refusals are `NamesOffsets`, `UnknownType`, `Header`, `NoDirectory` (there is none that would point
 /// at it), `FullDirectory`, `ValueTooLong` (the new data would have 2^32 bytes or more) and
 /// `SharedBytes`. It takes the memory of two readings, and three times that of the new data.
 pub fn create_value(
@@ -303,8 +303,8 @@ pub fn create_value(
     ensures found { IfOk result
         (λ g. FindsValue tag ifd_num value.now (grown (added_of g) bytes.now)) }
 {
-    if names_places(tag) {
-        return Err(Error::NamesPlaces);
+    if names_offsets(tag) {
+        return Err(Error::NamesOffsets);
     }
     if is_unknown(value) {
         return Err(Error::UnknownType);

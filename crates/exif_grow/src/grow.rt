@@ -13,7 +13,7 @@ use crate::append::append_value;
 use crate::create::create_value;
 use crate::growth::Growth;
 use crate::insert::insert_value;
-use exif_edit::set_value_patches;
+use exif_edit::set::set_value_patches;
 use exif_edit_base::Error;
 use exif_types::{In, Tag, Value};
 use std::alloc::Global;
@@ -58,7 +58,7 @@ fn grow(alloc: Global, bytes: &[u8], tag: Tag, ifd_num: In, value: &Value) -> Re
 /// [`create_value`](crate::create_value). What the edit no longer needs becomes zeros, unless the data
 /// would be read otherwise then.
 ///
-/// Refusals are `NamesPlaces`, `UnknownType`, `Header`, `NoDirectory`, `FullDirectory`,
+/// Refusals are `NamesOffsets`, `UnknownType`, `Header`, `NoDirectory`, `FullDirectory`,
 /// `ValueTooLong` (the new data would have 2^32 bytes or more) and `SharedBytes`. It takes the memory
 /// of two readings, and three times that of the new data.
 pub fn grow_value(

@@ -1,7 +1,7 @@
 //! Data that grow: patches over their bytes, and new bytes after them.
 
 ghost use Rattle.std.specs.Prelude.{◌≡◌, ◌<◌, ◌^◌, ◌%◌, ◌++◌, All, length, replicate, IfOk};
-ghost use Rattle.exif_layout.specs.Places.{even};
+ghost use Rattle.exif_layout.specs.Offsets.{even};
 ghost use Rattle.exif_edit_base.specs.Causes.{Makes};
 ghost use Rattle.exif_edit_base.specs.Patches.{FitsIn};
 ghost use Rattle.exif_edit_base.specs.Readings.{read_of, reads_as};

@@ -4,14 +4,14 @@ ghost use Rattle.std.specs.Prelude.{◌≡◌, ◌≤◌, ◌<◌, ◌+◌, ◌-
 ghost use Rattle.exif_base.specs.Orders.{number_of};
 ghost use Rattle.exif_types.specs.ValueTypes.{count_of};
 ghost use Rattle.exif_layout.specs.Encoding.{encode, spelled};
-ghost use Rattle.exif_layout.specs.Places.{even};
+ghost use Rattle.exif_layout.specs.Offsets.{even};
 ghost use Rattle.exif_layout.specs.Refused.{is_unknown};
 ghost use Rattle.exif_edit_base.specs.Causes.{Makes};
 ghost use Rattle.exif_edit_base.specs.declared.error.Error.TheVariants as Failure;
 ghost use Rattle.exif_edit_base.specs.Patches.{FitsIn};
 ghost use Rattle.exif_edit_base.specs.Readings.{read_of};
 ghost use Rattle.exif_edit.specs.Promises.{FindsValue};
-ghost use Rattle.exif_edit.specs.Setting.{names_places};
+ghost use Rattle.exif_edit.specs.Setting.{names_offsets};
 ghost use Rattle.exif_grow.specs.Directories.{leading_in};
 ghost use Rattle.exif_grow.specs.Growing.{added_of, aligned, grown};
 ghost use Rattle.exif_grow.specs.Inserting.{directory_bytes, directory_fault, entry_offset, field_added, first_with, insert_answer, inserted, inserted_in, new_entry, new_field, outer_bytes, read_without_offsets, slot_patch, span_of, value_offset};
@@ -22,7 +22,7 @@ use crate::directories::{Directory, directory_named, leading};
 use crate::growth::{Growth, aligned, even};
 use crate::reread::{first_with, without_offsets};
 use exif_base::{Items, Order};
-use exif_edit::set::{moved, names_places};
+use exif_edit::set::{moved, names_offsets};
 use exif_edit::spell::{encode, entry_text, is_unknown};
 use exif_edit_base::Error;
 use exif_edit_base::patch::{Patch, Span};
@@ -128,8 +128,8 @@ pub fn slot_patch(
 {
     let text = Vec::from_slice(alloc, &spelled_u32(order, even(len) as u32))?;
     Ok(Patch {
-        place: directory.slot as u64,
-        text: Items::from_vec(text),
+        offset: directory.slot as u64,
+        bytes: Items::from_vec(text),
     })
 }
 
@@ -147,7 +147,7 @@ pub fn span_of(directory: Directory) -> Span
     ensures { result ≡ span_of directory }
 {
     Span {
-        place: directory.offset,
+        offset: directory.offset,
         len: 12 * directory.count as usize + 6,
     }
 }
@@ -317,7 +317,7 @@ fn insert(
 /// if it has more than four bytes. The old directory becomes zeros, unless the data would be read
 /// otherwise then.
 ///
-/// Refusals are `NamesPlaces`, `UnknownType`, `Header`, `NoDirectory`, `FullDirectory`,
+/// Refusals are `NamesOffsets`, `UnknownType`, `Header`, `NoDirectory`, `FullDirectory`,
 /// `ValueTooLong` (the new data would have 2^32 bytes or more) and `SharedBytes`, which a field that
 /// is there already gets too. It takes the memory of two readings, and three times that of the new
 /// data.
@@ -335,8 +335,8 @@ pub fn insert_value(
     ensures found { IfOk result
         (λ g. FindsValue tag ifd_num value.now (grown (added_of g) bytes.now)) }
 {
-    if names_places(tag) {
-        return Err(Error::NamesPlaces);
+    if names_offsets(tag) {
+        return Err(Error::NamesOffsets);
     }
     if is_unknown(value) {
         return Err(Error::UnknownType);

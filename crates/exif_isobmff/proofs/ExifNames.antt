@@ -14,9 +14,9 @@ use Rattle.exif_isobmff.specs.declared.locations.Extent.{Extent}
 use Rattle.exif_isobmff.specs.declared.locations.Sizes.{Sizes}
 use Rattle.exif_isobmff.specs.Boxes.{Part, Parts, and_then, bytes_at, pass_at, number_at, version_at, times, header_len, box_size, header_at, box_at, boxes, filling, all_boxes, children, bodies, read_each}
 use Rattle.exif_isobmff.specs.Items.{entry_width, exif_number, exif_numbers}
-use Rattle.exif_isobmff.specs.Places.{Place, sized_at, extent_at, method_at, item_width, item_head_at, location_at, locations, sizes, file_extent, idat_extent, extent_bytes, gathered, item_bytes}
+use Rattle.exif_isobmff.specs.ItemLocations.{ItemExtents, sized_at, extent_at, method_at, item_width, item_head_at, location_at, locations, sizes, file_extent, idat_extent, extent_bytes, gathered, item_bytes}
 use Rattle.exif_isobmff.specs.HeifFile.{file_box_at, file_boxes, has_heif_brand, whole, checked, before_meta, is_meta, is_ftyp, meta_body}
-use Rattle.exif_isobmff.specs.Heif.{tables_of, meta_tables, after_header, exif_place, exif_block, exif_of}
+use Rattle.exif_isobmff.specs.Heif.{tables_of, meta_tables, after_header, exif_item, exif_block, exif_of}
 
 -- an answer that is refused by a named refusal only
 abbrev pub Only : {A : Type 0} → Result A Refusal → Type 0
@@ -133,7 +133,7 @@ exif_numbers_only body =
     only_then (number_at (cond (eqb v.0 0) 2 4) v.1) _ (number_only (cond (eqb v.0 0) 2 4) v.1) (λ n.
     read_each_only ItemInfoEntry exif_number exif_number_only (boxes n.0 n.1) (boxes_end n.0 n.1)))
 
--- ---- places
+-- ---- offsets
 
 sized_only : (r : Refusal) → Contains heif_refusals r → (size : ℕ) (text : List ℕ) → Only (sized_at r size text)
 sized_only r h size text = only_if (eqb size 0 || eqb size 4 || eqb size 8) _ _ (number_only size text) h
@@ -198,7 +198,7 @@ gathered_only bytes_of h front (e ∷ es) =
     only_then (bytes_of e) _ (h e) (λ bytes. only_if (ltb 65535 (length (front ++ bytes))) _ _ (23, omega arith, refl) (gathered_only bytes_of h (front ++ bytes) es))
 
 -- an item's bytes, by whichever construction method, are refused only by the list
-pub item_bytes_only : (file : List ℕ) (idat : Option (List ℕ)) (p : Place) → Only (item_bytes file idat p)
+pub item_bytes_only : (file : List ℕ) (idat : Option (List ℕ)) (p : ItemExtents) → Only (item_bytes file idat p)
 unfolding item_bytes
 item_bytes_only file idat p =
     only_if (eqb p.method 0) _ _ (gathered_only (extent_bytes File file p.base) (extent_bytes_only File file p.base) [] p.extents)
@@ -248,18 +248,18 @@ after_header_only block =
     only_if (ltb (length block) 4) _ _ (24, omega arith, refl) (only_if (ltb (length block - 4) (big_number 4 block)) _ _ (25, omega arith, refl) tt)
 
 -- where the Exif item is, is refused by a refusal of the list
-pub exif_place_only : (meta : List ℕ) → Only (exif_place meta)
-unfolding exif_place
-exif_place_only meta =
+pub exif_item_only : (meta : List ℕ) → Only (exif_item meta)
+unfolding exif_item
+exif_item_only meta =
     only_then (meta_tables meta) _ (meta_tables_only meta) (λ t.
     only_then (or_refuse t.item _) _ (or_only t.item _ (16, omega arith, refl)) (λ item.
     only_then (or_refuse t.iloc _) _ (or_only t.iloc _ (15, omega arith, refl)) (λ iloc.
     only_then (last_read None (locations item iloc)) _ (last_only None (locations item iloc) (locations_only item iloc)) (λ found.
-    only_then (or_refuse found _) _ (or_only found _ (14, omega arith, refl)) (λ place. tt)))))
+    only_then (or_refuse found _) _ (or_only found _ (14, omega arith, refl)) (λ x. tt)))))
 
 exif_block_only : (file meta : List ℕ) → Only (exif_block file meta)
 unfolding exif_block
-exif_block_only file meta = only_then (exif_place meta) _ (exif_place_only meta) (λ found. item_bytes_only file found.idat found.place)
+exif_block_only file meta = only_then (exif_item meta) _ (exif_item_only meta) (λ found. item_bytes_only file found.idat found.location)
 
 -- the Exif data of a file are refused by a refusal of the list
 pub exif_of_only : (file : List ℕ) → Only (exif_of file)

@@ -11,7 +11,7 @@ use Rattle.std.proofs.lemmas.List.Elements.{All-cons, All-head, All-nil, All-tai
 use Rattle.exif_base.specs.Bytes.{bytes_at}
 use Rattle.exif_types.specs.Refusals.{Refusal, ◌>>=◌}
 use Rattle.exif_isobmff.specs.HeifRefusals.{broken_file, data_too_large, invalid_length, invalid_offset, out_of_idat}
-use Rattle.exif_isobmff.specs.Places.{extent_bytes, file_extent, gathered, idat_extent}
+use Rattle.exif_isobmff.specs.ItemLocations.{extent_bytes, file_extent, gathered, idat_extent}
 use Rattle.exif_isobmff.specs.declared.extents.Within.{Within}
 use Rattle.exif_isobmff.specs.declared.extents.Within.TheVariants.{File, ItemDataBox}
 use Rattle.exif_isobmff.proofs.SplitterBoxes.{bind_ok}

@@ -16,10 +16,10 @@ use Rattle.exif_isobmff.specs.HeifRefusals.{block_too_small, by_item_offset, inv
 use Rattle.exif_isobmff.specs.Boxes.{bodies, children, read_each, version_at}
 use Rattle.exif_isobmff.specs.Items.{exif_numbers}
 use Rattle.exif_isobmff.specs.HeifFile.{meta_body}
-use Rattle.exif_isobmff.specs.Places.{Place, extent_bytes, gathered, item_bytes, locations}
-use Rattle.exif_isobmff.specs.Heif.{ExifPlace, Tables, after_header, exif_block, exif_of, exif_place, meta_tables, tables_of}
+use Rattle.exif_isobmff.specs.ItemLocations.{ItemExtents, extent_bytes, gathered, item_bytes, locations}
+use Rattle.exif_isobmff.specs.Heif.{FoundItem, Tables, after_header, exif_block, exif_of, exif_item, meta_tables, tables_of}
 use Rattle.exif_isobmff.specs.Extents.{ExifIsLocated, IsLocated, IsWhole, Located, behind_idat, behind_meta, idat_offset, item_ranges, joined_bytes, located_exif, located_in, meta_end, moved_by, range_beside, range_bytes, range_of, ranges_with, without_first}
-use Rattle.exif_isobmff.proofs.ExifNames.{Only, after_header_only, exif_place_only, item_bytes_only, meta_body_only, only_then}
+use Rattle.exif_isobmff.proofs.ExifNames.{Only, after_header_only, exif_item_only, item_bytes_only, meta_body_only, only_then}
 use Rattle.exif_isobmff.proofs.SplitterBoxes.{bind_ok, ok_same}
 use Rattle.exif_isobmff.proofs.BehindMeta.{IsAt, meta_is_at}
 use Rattle.exif_isobmff.proofs.IdatAt.{MayBeAt, idat_is_at}
@@ -84,21 +84,21 @@ tables-idat meta t e =
     let item = bind_ok (last_read None (read_each ItemInfo exif_numbers (children v.0.1))) _ t parts in
     sym (ap (λ u. u.idat) (ok_same item.2)) ∙ ap (λ text. last_or None (bodies ItemData (children text))) (version-rest meta v.0 v.1)
 
-place-idat : (meta : List ℕ) (found : ExifPlace) → exif_place meta ≡ Ok found → found.idat ≡ last_or None (bodies ItemData (children (drop 4 meta)))
-unfolding exif_place
-place-idat meta found e =
+item-idat : (meta : List ℕ) (found : FoundItem) → exif_item meta ≡ Ok found → found.idat ≡ last_or None (bodies ItemData (children (drop 4 meta)))
+unfolding exif_item
+item-idat meta found e =
     let t = bind_ok (meta_tables meta) _ found e in
     let item = bind_ok (or_refuse t.0.item no_exif) _ found t.2 in
     let iloc = bind_ok (or_refuse t.0.iloc no_iloc) _ found item.2 in
     let all = bind_ok (last_read None (locations item.0 iloc.0)) _ found iloc.2 in
-    let place = bind_ok (or_refuse all.0 no_matching_item) _ found all.2 in
-    sym (ap (λ f. f.idat) (ok_same place.2)) ∙ tables-idat meta t.0 t.1
+    let matched = bind_ok (or_refuse all.0 no_matching_item) _ found all.2 in
+    sym (ap (λ f. f.idat) (ok_same matched.2)) ∙ tables-idat meta t.0 t.1
 
-idat-in : (meta idat : List ℕ) (found : ExifPlace) → exif_place meta ≡ Ok found → found.idat ≡ Some idat → IsAt meta idat (behind_idat [] (drop 4 meta))
+idat-in : (meta idat : List ℕ) (found : FoundItem) → exif_item meta ≡ Ok found → found.idat ≡ Some idat → IsAt meta idat (behind_idat [] (drop 4 meta))
 idat-in meta idat found e some =
     let all : take 4 meta ++ drop 4 meta ≡ meta = take-append-drop 4 meta in
     let at = idat_is_at meta (take 4 meta) (drop 4 meta) (sym all) in
-    rw (sym (place-idat meta found e) ∙ some) at at
+    rw (sym (item-idat meta found e) ∙ some) at at
 
 -- the body of an `idat` in the file
 record IsInFile (file meta idat : List ℕ) : Type 0 where
@@ -107,7 +107,7 @@ record IsInFile (file meta idat : List ℕ) : Type 0 where
   whole : file ≡ front ++ (idat ++ rest)
   offset : idat_offset (meta_end file) meta idat ≡ length front
 
-idat-in-file : (file meta idat : List ℕ) (found : ExifPlace) → meta_body file ≡ Ok meta → exif_place meta ≡ Ok found → found.idat ≡ Some idat → IsInFile file meta idat
+idat-in-file : (file meta idat : List ℕ) (found : FoundItem) → meta_body file ≡ Ok meta → exif_item meta ≡ Ok found → found.idat ≡ Some idat → IsInFile file meta idat
 idat-in-file file meta idat found m e some =
     let a = meta_is_at file meta m in
     let b = idat-in meta idat found e some in
@@ -144,33 +144,33 @@ some-of : (o : Option (List ℕ)) (r : Refusal) (x : List ℕ) → or_refuse o r
 some-of None r x e = absurd (cc)
 some-of (Some y) r x e = ap Some (ok_same e)
 
-item-beside : (file meta block : List ℕ) (found : ExifPlace) → length file < 2 ^ 64 → meta_body file ≡ Ok meta → exif_place meta ≡ Ok found
-    → (or_refuse found.idat no_idat >>= λ beside. gathered (extent_bytes ItemDataBox beside found.place.base) [] found.place.extents) ≡ Ok block
-    → AreRanges file [] block (map (range_beside (idat_offset (meta_end file) meta (unwrap_or found.idat [])) (unwrap_or found.idat []) found.place.base) found.place.extents)
+item-beside : (file meta block : List ℕ) (found : FoundItem) → length file < 2 ^ 64 → meta_body file ≡ Ok meta → exif_item meta ≡ Ok found
+    → (or_refuse found.idat no_idat >>= λ beside. gathered (extent_bytes ItemDataBox beside found.location.base) [] found.location.extents) ≡ Ok block
+    → AreRanges file [] block (map (range_beside (idat_offset (meta_end file) meta (unwrap_or found.idat [])) (unwrap_or found.idat []) found.location.base) found.location.extents)
 item-beside file meta block found short m e h =
     let b = bind_ok (or_refuse found.idat no_idat) _ block h in
     let some : found.idat ≡ Some b.0 = some-of found.idat no_idat b.0 b.1 in
     rw some
-    (beside-item file meta b.0 block found.place.base found.place.extents short (idat-in-file file meta b.0 found m e some)
-    (gathered_ranges ItemDataBox b.0 [] block found.place.base found.place.extents b.2))
+    (beside-item file meta b.0 block found.location.base found.location.extents short (idat-in-file file meta b.0 found m e some)
+    (gathered_ranges ItemDataBox b.0 [] block found.location.base found.location.extents b.2))
 
-pub item_is_ranges : (file meta block : List ℕ) (found : ExifPlace) → length file < 2 ^ 64 → meta_body file ≡ Ok meta → exif_place meta ≡ Ok found
-    → item_bytes file found.idat found.place ≡ Ok block → AreRanges file [] block (item_ranges file meta found)
+pub item_is_ranges : (file meta block : List ℕ) (found : FoundItem) → length file < 2 ^ 64 → meta_body file ≡ Ok meta → exif_item meta ≡ Ok found
+    → item_bytes file found.idat found.location ≡ Ok block → AreRanges file [] block (item_ranges file meta found)
 unfolding item_bytes
-item_is_ranges file meta block found short m e h = by (eqb found.place.method 0) refl h
+item_is_ranges file meta block found short m e h = by (eqb found.location.method 0) refl h
   where
-    other : (b c : Bool) → cond b (or_refuse found.idat no_idat >>= λ beside. gathered (extent_bytes ItemDataBox beside found.place.base) [] found.place.extents) (cond c (Err by_item_offset) (Err invalid_method)) ≡ Ok block
-        → AreRanges file [] block (map (range_beside (idat_offset (meta_end file) meta (unwrap_or found.idat [])) (unwrap_or found.idat []) found.place.base) found.place.extents)
+    other : (b c : Bool) → cond b (or_refuse found.idat no_idat >>= λ beside. gathered (extent_bytes ItemDataBox beside found.location.base) [] found.location.extents) (cond c (Err by_item_offset) (Err invalid_method)) ≡ Ok block
+        → AreRanges file [] block (map (range_beside (idat_offset (meta_end file) meta (unwrap_or found.idat [])) (unwrap_or found.idat []) found.location.base) found.location.extents)
     other true c h = item-beside file meta block found short m e h
     other false true h = absurd (cc)
     other false false h = absurd (cc)
 
-    by : (b : Bool) → eqb found.place.method 0 ≡ b
-        → cond b (gathered (extent_bytes File file found.place.base) [] found.place.extents)
-        (cond (eqb found.place.method 1) (or_refuse found.idat no_idat >>= λ beside. gathered (extent_bytes ItemDataBox beside found.place.base) [] found.place.extents) (cond (eqb found.place.method 2) (Err by_item_offset) (Err invalid_method)))
+    by : (b : Bool) → eqb found.location.method 0 ≡ b
+        → cond b (gathered (extent_bytes File file found.location.base) [] found.location.extents)
+        (cond (eqb found.location.method 1) (or_refuse found.idat no_idat >>= λ beside. gathered (extent_bytes ItemDataBox beside found.location.base) [] found.location.extents) (cond (eqb found.location.method 2) (Err by_item_offset) (Err invalid_method)))
         ≡ Ok block → AreRanges file [] block (item_ranges file meta found)
-    by true z h = rw z (gathered_ranges File file [] block found.place.base found.place.extents h)
-    by false z h = rw z (other (eqb found.place.method 1) (eqb found.place.method 2) h)
+    by true z h = rw z (gathered_ranges File file [] block found.location.base found.location.extents h)
+    by false z h = rw z (other (eqb found.location.method 1) (eqb found.location.method 2) h)
 
 -- ---- the data behind the header
 
@@ -190,7 +190,7 @@ header-gone block data' e = by (ltb (length block) 4) (ltb (length block - 4) (b
         let n : length block - length data' ≡ 4 + big_number 4 block = omega arith in
         ap (λ n. drop n block) n ∙ same
 
-answered : (file meta block data' : List ℕ) (found : ExifPlace) → meta_body file ≡ Ok meta → exif_place meta ≡ Ok found → item_bytes file found.idat found.place ≡ Ok block
+answered : (file meta block data' : List ℕ) (found : FoundItem) → meta_body file ≡ Ok meta → exif_item meta ≡ Ok found → item_bytes file found.idat found.location ≡ Ok block
     → after_header block ≡ Ok data' → exif_of file ≡ Ok data'
 unfolding exif_of exif_block
 answered file meta block data' found m e i a = rw (m, e, i) a
@@ -200,8 +200,8 @@ pub exif_is_located : (file : List ℕ) → ExifIsLocated file
 unfolding located_exif located_in
 exif_is_located file found short h =
     let m = bind_ok (meta_body file) _ found h in
-    let p = bind_ok (exif_place m.0) _ found m.2 in
-    let b = bind_ok (item_bytes file p.0.idat p.0.place) _ found p.2 in
+    let p = bind_ok (exif_item m.0) _ found m.2 in
+    let b = bind_ok (item_bytes file p.0.idat p.0.location) _ found p.2 in
     let d = bind_ok (after_header b.0) _ found b.2 in
     let same = ok_same d.2 in
     let r = item_is_ranges file m.0 b.0 p.0 short m.1 p.1 b.1 in
@@ -222,6 +222,6 @@ pub located_exif_only : (file : List ℕ) → Only (located_exif file)
 unfolding located_exif
 located_exif_only file =
     only_then (meta_body file) _ (meta_body_only file) (λ meta.
-    only_then (exif_place meta) _ (exif_place_only meta) (λ found.
-    only_then (item_bytes file found.idat found.place) _ (item_bytes_only file found.idat found.place) (λ block.
+    only_then (exif_item meta) _ (exif_item_only meta) (λ found.
+    only_then (item_bytes file found.idat found.location) _ (item_bytes_only file found.idat found.location) (λ block.
     located-in-only (item_ranges file meta found) block)))

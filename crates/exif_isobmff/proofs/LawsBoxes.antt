@@ -312,8 +312,8 @@ at-header head more is = by-least (ltb (said_size head (length (print_header hea
     by-least false e = by-most (ltb (length (print_header head ++ more)) (said_size head (length (print_header head ++ more)))) refl (ltb-false (said_size head (length (print_header head ++ more))) (length (print_header head)) e)
 
 -- bytes begin a box or none
-pub place : (text : List ℕ) → 0 < length text → Unboxed text ⊎ Boxed text
-place text some = by-eight (ltb (length text) 8) refl
+pub boxed_or_not : (text : List ℕ) → 0 < length text → Unboxed text ⊎ Boxed text
+boxed_or_not text some = by-eight (ltb (length text) 8) refl
   where
     cut-header : (t : Bool) → eqb (big_number 4 text) 1 ≡ t → 8 ≤ length text → length text < cond t 16 8 → Unboxed text
     cut-header true e long h = record {
@@ -354,7 +354,7 @@ pair-same p q xs ys h = let same = ok_same h in (ap part_of same, ap after same)
 -- what is read is a box
 pub is_a_box : (text : List ℕ) (p : Part) (rest : List ℕ) → IsABox text p rest
 is_a_box [] p rest e = absurd (empty-no_box p rest e)
-is_a_box (b ∷ text) p rest e = of (place (b ∷ text) (omega arith))
+is_a_box (b ∷ text) p rest e = of (boxed_or_not (b ∷ text) (omega arith))
   where
     boxed : (t : Boxed (b ∷ text)) → (box_part t.tree ≡ p) × (t.rest ≡ rest) → (c : BoxTree) × IsBox c rest × (box_part c ≡ p) × (b ∷ text ≡ print_box c ++ rest)
     boxed t same = (t.tree, subst (λ r. IsBox t.tree r) same.1 t.is, same.0, sym t.whole ∙ ap (λ r. print_box t.tree ++ r) same.1)
@@ -437,7 +437,7 @@ boxed-shorter text b =
 parent-within : (n : ℕ) (text : List ℕ) → length text < n → IsAParent text
 parent-within zero text h = absurd (omega arith)
 parent-within (suc n) [] h = (filled [], tt, refl)
-parent-within (suc n) (b ∷ text) h = first n (b ∷ text) h (place (b ∷ text) (omega arith)) (parent-within n)
+parent-within (suc n) (b ∷ text) h = first n (b ∷ text) h (boxed_or_not (b ∷ text) (omega arith)) (parent-within n)
   where
     first : (n : ℕ) (text : List ℕ) → length text < suc n → Unboxed text ⊎ Boxed text → ((rest : List ℕ) → length rest < n → IsAParent rest) → IsAParent text
     first n text h (inl u) ih = (broken [] u.end, (tt, u.is), u.whole)

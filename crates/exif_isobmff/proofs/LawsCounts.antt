@@ -5,7 +5,7 @@ use Rattle.exif_types.specs.Refusals.{Refusal}
 use Rattle.exif_isobmff.specs.HeifRefusals.{too_small}
 use Rattle.exif_isobmff.specs.Boxes.{before, and_then, box_at, boxes}
 use Rattle.exif_isobmff.specs.BoxGrammar.{BoxTree, print_box, IsBox, box_part, AreBoxes, print_no_box, no_box_refusal, Counted, all, cut_off, too_few, CountIsRead, IsACount}
-use Rattle.exif_isobmff.proofs.LawsBoxes.{box_is_read, no_box_is_refused, box-cut, counted_more, Boxed, Unboxed, place}
+use Rattle.exif_isobmff.proofs.LawsBoxes.{box_is_read, no_box_is_refused, box-cut, counted_more, Boxed, Unboxed, boxed_or_not}
 
 counted-boxes : (bs : List BoxTree) (rest : List ℕ) (fault : Option Refusal) (n k : ℕ) → n ≡ length bs + k → AreBoxes bs rest
     → boxes k rest ≡ record { whole = []; fault = fault } → boxes n (flat_map print_box bs ++ rest) ≡ record { whole = map box_part bs; fault = fault }
@@ -55,7 +55,7 @@ count-boxed n text b (too_few bs, is, whole) = (
 pub is_a_count : (n : ℕ) (bytes : List ℕ) → IsACount n bytes
 is_a_count zero bytes = (all [] bytes, (refl, tt), refl)
 is_a_count (suc n) [] = (too_few [], (omega arith, tt), refl)
-is_a_count (suc n) (b ∷ bytes) = first (place (b ∷ bytes) (omega arith)) (is_a_count n)
+is_a_count (suc n) (b ∷ bytes) = first (boxed_or_not (b ∷ bytes) (omega arith)) (is_a_count n)
   where
     first : Unboxed (b ∷ bytes) ⊎ Boxed (b ∷ bytes) → ((rest : List ℕ) → IsACount n rest) → IsACount (suc n) (b ∷ bytes)
     first (inl u) ih = (cut_off [] u.end, (omega arith, tt, u.is), u.whole)

@@ -1,4 +1,4 @@
--- An extent is read as the text that stands at its place, and what is read stands there.
+-- An extent is read as the text that stands at its offset, and what is read stands there.
 use Rattle.std.proofs.Common.{◌≡◌, ◌⊎◌, inl, inr, ℕ, ◌+◌, ◌<◌, ◌≤◌, ◌^◌, Bool, true, false, cond, eqb, ltb, leb, List, [], ◌++◌, length, take, drop, Result, Ok, Err, ap, sym, ◌∙◌, refl, arith, length-append, length-drop}
 use Rattle.std.proofs.lemmas.Bool.{cases_lt, eq-eqb, ne_eqb, eqb-true, eqb-false, le-ltb, ltb-false, lt-leb, leb-false}
 use Rattle.std.proofs.lemmas.List.{take_at, drop_at, drop_all, take-append-drop, length-take-le}
@@ -7,8 +7,8 @@ use Rattle.exif_isobmff.specs.declared.extents.Within.{Within}
 use Rattle.exif_isobmff.specs.declared.extents.Within.TheVariants.{File, ItemDataBox}
 use Rattle.exif_isobmff.specs.declared.locations.Extent.{Extent}
 use Rattle.exif_isobmff.specs.HeifRefusals.{invalid_offset, invalid_length, broken_file, out_of_idat}
-use Rattle.exif_isobmff.specs.Places.{file_extent, idat_extent}
-use Rattle.exif_isobmff.specs.PlaceGrammar.{StandsAt, RunsToEnd, IsFileText, IsIdatText, TextIsRead, IsAText}
+use Rattle.exif_isobmff.specs.ItemLocations.{file_extent, idat_extent}
+use Rattle.exif_isobmff.specs.LocationGrammar.{StandsAt, RunsToEnd, IsFileText, IsIdatText, TextIsRead, IsAText}
 use Rattle.exif_isobmff.proofs.SplitterBoxes.{ok_same}
 use Rattle.exif_isobmff.proofs.LawsSteps.{unless-ok}
 
@@ -16,8 +16,8 @@ use Rattle.exif_isobmff.proofs.LawsSteps.{unless-ok}
 stands-read : (bytes : List ℕ) (from len : ℕ) (text : List ℕ) → length text ≡ len → StandsAt bytes from text → (from + len ≤ length bytes) × (take len (drop from bytes) ≡ text)
 stands-read bytes from len text e s = (
   (let total : length (s.front ++ (text ++ s.behind)) ≡ length bytes = ap (λ (t : List ℕ). length t) s.whole in
-      omega (arith, s.place, length-append s.front (text ++ s.behind), length-append text s.behind)),
-  ap (λ t. take len (drop from t)) (sym s.whole) ∙ ap (take len) (drop_at s.front (text ++ s.behind) from s.place) ∙ take_at text s.behind len e,
+      omega (arith, s.begins, length-append s.front (text ++ s.behind), length-append text s.behind)),
+  ap (λ t. take len (drop from t)) (sym s.whole) ∙ ap (take len) (drop_at s.front (text ++ s.behind) from s.begins) ∙ take_at text s.behind len e,
 )
 
 stands-only : (bytes : List ℕ) (from len : ℕ) (text : List ℕ) → from + len ≤ length bytes → take len (drop from bytes) ≡ text → (length text ≡ len) × StandsAt bytes from text
@@ -26,7 +26,7 @@ stands-only bytes from len text room e = (
   record {
     front = take from bytes;
     behind = drop len (drop from bytes);
-    place = length-take-le from bytes (omega arith);
+    begins = length-take-le from bytes (omega arith);
     whole = ap (λ t. take from bytes ++ (t ++ drop len (drop from bytes))) (sym e) ∙ ap (λ t. take from bytes ++ t) (take-append-drop len (drop from bytes)) ∙ take-append-drop from bytes;
   },
 )
@@ -34,14 +34,14 @@ stands-only bytes from len text room e = (
 -- a text that runs to the end
 end-read : (bytes : List ℕ) (from : ℕ) (text : List ℕ) → RunsToEnd bytes from text → (from ≤ length bytes) × (drop from bytes ≡ text)
 end-read bytes from text s = (
-  (let total : length (s.front ++ text) ≡ length bytes = ap (λ (t : List ℕ). length t) s.whole in omega (arith, s.place, length-append s.front text)),
-  ap (drop from) (sym s.whole) ∙ drop_at s.front text from s.place,
+  (let total : length (s.front ++ text) ≡ length bytes = ap (λ (t : List ℕ). length t) s.whole in omega (arith, s.begins, length-append s.front text)),
+  ap (drop from) (sym s.whole) ∙ drop_at s.front text from s.begins,
 )
 
 end-only : (bytes : List ℕ) (from : ℕ) (text : List ℕ) → from ≤ length bytes → drop from bytes ≡ text → RunsToEnd bytes from text
 end-only bytes from text room e = record {
   front = take from bytes;
-  place = length-take-le from bytes room;
+  begins = length-take-le from bytes room;
   whole = ap (λ t. take from bytes ++ t) (sym e) ∙ take-append-drop from bytes;
 }
 

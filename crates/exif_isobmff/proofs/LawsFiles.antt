@@ -19,7 +19,7 @@ use Rattle.exif_isobmff.specs.BoxGrammar.{BoxHeader, print_header, type_of, said
 use Rattle.exif_isobmff.specs.FileGrammar.{said_len, end_parts, FileBoxesAreRead, IsMeta, IsFtyp, IsOther, Passed, ftyp, other, passed_box, IsPassed, is_ftyp, print_passed, ArePassed, FrontTree, FileEnd, meta, wrong_ftyp, large, cut_meta, cut_ftyp, cut_other, no_header, no_meta, print_file_end, IsHeadless, headless_refusal, IsFileEnd, end_says, MetaIsFound, IsAFront}
 use Rattle.exif_isobmff.proofs.SplitterBoxes.{all_boxes_end, all_boxes_more}
 use Rattle.exif_isobmff.proofs.FileBoxes.{box_of, file_box_shorter, file_more, file_found, file_done}
-use Rattle.exif_isobmff.proofs.LawsBoxes.{head_of, head-read, header-reads, header-some, no_box-some, Boxed, Unboxed, boxed-shorter, place, two-number}
+use Rattle.exif_isobmff.proofs.LawsBoxes.{head_of, head-read, header-reads, header-some, no_box-some, Boxed, Unboxed, boxed-shorter, boxed_or_not, two-number}
 use Rattle.exif_isobmff.proofs.LawsBrands.{is-not, said-checked, checked-said}
 
 -- ---- one box
@@ -347,7 +347,7 @@ front-boxed text b f = by (bytes_eq (type_of b.tree.header) (codes "ftyp")) (byt
 front-within : (n : ℕ) (text : List ℕ) → length text < n → IsAFront text
 front-within zero text h = absurd (omega arith)
 front-within (suc n) [] h = front-end [] no_meta tt refl
-front-within (suc n) (b ∷ text) h = first n (b ∷ text) h (place (b ∷ text) (omega arith)) (front-within n)
+front-within (suc n) (b ∷ text) h = first n (b ∷ text) h (boxed_or_not (b ∷ text) (omega arith)) (front-within n)
   where
     first : (n : ℕ) (text : List ℕ) → length text < suc n → Unboxed text ⊎ Boxed text → ((rest : List ℕ) → length rest < n → IsAFront rest) → IsAFront text
     first n text h (inl u) ih = front-unboxed text u.end u.is u.whole

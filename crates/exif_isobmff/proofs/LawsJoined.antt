@@ -4,8 +4,8 @@ use Rattle.std.proofs.lemmas.Bool.{le-ltb, ltb-false}
 use Rattle.exif_types.specs.Refusals.{Refusal}
 use Rattle.exif_isobmff.specs.HeifRefusals.{data_too_large}
 use Rattle.exif_isobmff.specs.declared.locations.Extent.{Extent}
-use Rattle.exif_isobmff.specs.Places.{gathered}
-use Rattle.exif_isobmff.specs.PlaceGrammar.{AreTexts, joined_texts, ItemIsJoined, IsAnItem}
+use Rattle.exif_isobmff.specs.ItemLocations.{gathered}
+use Rattle.exif_isobmff.specs.LocationGrammar.{AreTexts, joined_texts, ItemIsJoined, IsAnItem}
 use Rattle.exif_isobmff.proofs.SplitterBoxes.{bind_ok, ok_same}
 use Rattle.exif_isobmff.proofs.LawsSteps.{then_ok, unless-ok}
 

@@ -11,8 +11,8 @@ use Rattle.exif_isobmff.specs.ItemGrammar.{FullHead, print_full, IsFull}
 use Rattle.exif_isobmff.proofs.LawsBoxes.{bytes-there}
 use Rattle.std.specs.List.{All, flat_map}
 use Rattle.std.proofs.lemmas.List.Elements.{All-nil, All-cons, All-head, All-tail}
-use Rattle.exif_isobmff.specs.Places.{sized_at}
-use Rattle.exif_isobmff.specs.PlaceGrammar.{IsSize}
+use Rattle.exif_isobmff.specs.ItemLocations.{sized_at}
+use Rattle.exif_isobmff.specs.LocationGrammar.{IsSize}
 use Rattle.exif_isobmff.proofs.SplitterBoxes.{bind_ok, ok_same}
 
 -- ---- steps

@@ -15,7 +15,7 @@ pub mod LawsFiles
 pub mod LawsItems
 pub mod LawsJoined
 pub mod LawsLocations
-pub mod LawsPlaces
+pub mod LawsItemLocations
 pub mod LawsSteps
 pub mod LocationsTimes
 pub mod Refusing

@@ -11,8 +11,8 @@ use Rattle.exif_isobmff.specs.declared.kind.Kind.TheVariants.{ItemData}
 use Rattle.exif_isobmff.specs.Boxes.{Part, box_at}
 use Rattle.exif_isobmff.specs.Kinds.{same_kind}
 use Rattle.exif_isobmff.specs.HeifFile.{file_box_at, is_meta, meta_body}
-use Rattle.exif_isobmff.specs.Heif.{ExifPlace, after_header, exif_of, exif_place}
-use Rattle.exif_isobmff.specs.Places.{Place, item_bytes}
+use Rattle.exif_isobmff.specs.Heif.{FoundItem, after_header, exif_of, exif_item}
+use Rattle.exif_isobmff.specs.ItemLocations.{ItemExtents, item_bytes}
 
 -- the bytes of a range
 abbrev pub range_bytes : List ℕ → Extent → List ℕ
@@ -99,15 +99,15 @@ range_beside offset idat base e = moved_by offset (range_of idat base e)
 
 -- the ranges that hold an item, by how the item is put together, in a file of so many bytes whose
 -- `meta` ends at an offset
-abbrev pub ranges_with : ℕ → ℕ → List ℕ → List ℕ → Place → List Extent
+abbrev pub ranges_with : ℕ → ℕ → List ℕ → List ℕ → ItemExtents → List Extent
 ranges_with total end meta idat p =
     if p.method == 0 then map (range_in total p.base) p.extents else
     map (range_beside (idat_offset end meta idat) idat p.base) p.extents
 
 -- the ranges of the file that hold the Exif item
-abbrev pub item_ranges : List ℕ → List ℕ → ExifPlace → List Extent
+abbrev pub item_ranges : List ℕ → List ℕ → FoundItem → List Extent
 item_ranges file meta found =
-    ranges_with (length file) (meta_end file) meta (unwrap_or found.idat []) found.place
+    ranges_with (length file) (meta_end file) meta (unwrap_or found.idat []) found.location
 
 -- Exif data, and the ranges of the file that hold them
 pub record Located : Type 0 where
@@ -124,8 +124,8 @@ located_in ranges block = do
 unfoldable pub located_exif : List ℕ → Result Located Refusal
 located_exif file = do
   meta ← meta_body file
-  found ← exif_place meta
-  block ← item_bytes file found.idat found.place
+  found ← exif_item meta
+  block ← item_bytes file found.idat found.location
   located_in (item_ranges file meta found) block
 
 -- what is located is what the file is answered with, and is in its ranges; each range is whole

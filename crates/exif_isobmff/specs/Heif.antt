@@ -7,7 +7,7 @@ use Rattle.exif_types.specs.Refusals.{Refusal, ◌>>=◌, last_read, or_refuse}
 use Rattle.exif_isobmff.specs.HeifRefusals.{no_exif, no_iloc, no_matching_item, unsupported_meta, block_too_small, invalid_header_offset}
 use Rattle.exif_isobmff.specs.Boxes.{Parts, version_at, children, bodies, read_each}
 use Rattle.exif_isobmff.specs.Items.{exif_numbers}
-use Rattle.exif_isobmff.specs.Places.{Place, locations, item_bytes}
+use Rattle.exif_isobmff.specs.ItemLocations.{ItemExtents, locations, item_bytes}
 use Rattle.exif_isobmff.specs.HeifFile.{meta_body}
 
 -- what counts among the children of `meta`: the last Exif item over all `iinf`, the last `iloc` and
@@ -41,23 +41,23 @@ after_header block =
     Ok (drop (4 + big_number 4 block) block))
 
 -- where the Exif item is, and the data beside the items
-pub record ExifPlace : Type 0 where
-  pub place : Place
+pub record FoundItem : Type 0 where
+  pub location : ItemExtents
   pub idat : Option (List ℕ)
 
 -- where the Exif item is, as `meta` says
-unfoldable pub exif_place : List ℕ → Result ExifPlace Refusal
-exif_place meta = do
+unfoldable pub exif_item : List ℕ → Result FoundItem Refusal
+exif_item meta = do
   tables ← meta_tables meta
   item ← or_refuse tables.item no_exif
   iloc ← or_refuse tables.iloc no_iloc
   found ← last_read None (locations item iloc)
-  place ← or_refuse found no_matching_item
-  Ok (record { place = place; idat = tables.idat })
+  location ← or_refuse found no_matching_item
+  Ok (record { location = location; idat = tables.idat })
 
 -- the bytes of the Exif item
 unfoldable pub exif_block : List ℕ → List ℕ → Result (List ℕ) Refusal
-exif_block file meta = exif_place meta >>= λ found. item_bytes file found.idat found.place
+exif_block file meta = exif_item meta >>= λ found. item_bytes file found.idat found.location
 
 -- the Exif data of a file, or why there are none
 unfoldable pub exif_of : List ℕ → Result (List ℕ) Refusal

@@ -11,6 +11,6 @@ pub mod ItemView
 pub mod Items
 pub mod Kinds
 pub mod LocatedView
-pub mod PlaceGrammar
-pub mod Places
+pub mod LocationGrammar
+pub mod ItemLocations
 pub mod TablesView

@@ -2,7 +2,7 @@
 
 ghost use Rattle.std.specs.Prelude.{◌≡◌, false};
 ghost use Rattle.exif_types.specs.Refusals.{Gives, is_io};
-ghost use Rattle.exif_isobmff.specs.Heif.{exif_block, exif_of, exif_place};
+ghost use Rattle.exif_isobmff.specs.Heif.{exif_block, exif_of, exif_item};
 ghost use Rattle.exif_isobmff.specs.ItemView.{item_view};
 
 use crate::BoxSplitter;
@@ -23,9 +23,9 @@ pub struct ExifItem<'a> {
 }
 
 /// The Exif item of the body of a `meta`.
-#[tactic(auto, unfolding(crate::specs::Heif::exif_place))]
+#[tactic(auto, unfolding(crate::specs::Heif::exif_item))]
 pub fn find_exif(alloc: Global, meta: &[u8]) -> Result<ExifItem, Error>
-    ensures gives { Gives item_view result (exif_place meta.now) }
+    ensures gives { Gives item_view result (exif_item meta.now) }
     ensures no_io { is_io result ≡ false }
 {
     let Tables { item, iloc, idat } = meta_tables(BoxSplitter::new(meta))?;

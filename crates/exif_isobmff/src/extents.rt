@@ -3,7 +3,7 @@
 ghost use Rattle.std.specs.Prelude.{◌≡◌, false, []};
 ghost use Rattle.std.specs.Option.{option_map};
 ghost use Rattle.exif_types.specs.Refusals.{Answers, Gives, is_io};
-ghost use Rattle.exif_isobmff.specs.Places.{location_view, extent_front, file_extent, idat_extent, extent_bytes, gathered, item_bytes};
+ghost use Rattle.exif_isobmff.specs.ItemLocations.{location_view, extent_front, file_extent, idat_extent, extent_bytes, gathered, item_bytes};
 ghost use Rattle.exif_isobmff.specs.Heif.{after_header};
 
 use crate::locations::{Extent, Location};
@@ -23,7 +23,7 @@ pub enum Within {
 /// The most bytes that an item may have.
 pub const MAX_EXIF_SIZE: usize = 65535;
 
-/// What an extent of this length has of the bytes from its place on; length 0 runs to their end.
+/// What an extent of this length has of the bytes from its offset on; length 0 runs to their end.
 pub fn extent_front(len: u64, bytes: &[u8]) -> Result<&[u8], Error>
     ensures { Answers (λ b. b.now) result (extent_front len bytes.now) }
 {
@@ -37,7 +37,7 @@ pub fn extent_front(len: u64, bytes: &[u8]) -> Result<&[u8], Error>
 }
 
 // The bytes of an extent of the file.
-#[tactic(auto, unfolding(crate::specs::Places::file_extent))]
+#[tactic(auto, unfolding(crate::specs::ItemLocations::file_extent))]
 fn file_extent(file: &[u8], base: u64, extent: Extent) -> Result<&[u8], Error>
     ensures { Answers (λ b. b.now) result (file_extent file.now base extent) }
 {
@@ -48,7 +48,7 @@ fn file_extent(file: &[u8], base: u64, extent: Extent) -> Result<&[u8], Error>
 }
 
 // The bytes of an extent of the item data box.
-#[tactic(auto, unfolding(crate::specs::Places::idat_extent))]
+#[tactic(auto, unfolding(crate::specs::ItemLocations::idat_extent))]
 fn idat_extent(idat: &[u8], base: u64, extent: Extent) -> Result<&[u8], Error>
     ensures { Answers (λ b. b.now) result (idat_extent idat.now base extent) }
 {
@@ -100,7 +100,7 @@ fn gather(
 }
 
 /// The bytes at a location.
-#[tactic(auto, unfolding(crate::specs::Places::item_bytes))]
+#[tactic(auto, unfolding(crate::specs::ItemLocations::item_bytes))]
 pub fn item_bytes(
     alloc: Global,
     file: &[u8],

@@ -8,8 +8,8 @@ ghost use Rattle.exif_isobmff.specs.Boxes.{Part};
 ghost use Rattle.exif_isobmff.specs.Extents.{ExifIsLocated};
 ghost use Rattle.exif_isobmff.specs.FileGrammar.{BrandsAreChecked, BrandsTree, FileBoxesAreRead, FrontTree, IsABrands, IsAFront, MetaIsFound};
 ghost use Rattle.exif_isobmff.specs.ItemGrammar.{BlockIsRead, BlockTree, EntryIsRead, EntryTree, InfoIsRead, InfoTree, IsABlock, IsAnEntry, IsAnInfo};
-ghost use Rattle.exif_isobmff.specs.PlaceGrammar.{ExtentBytes, IsAPlaces, IsAText, IsAnItem, ItemIsJoined, PlacesAreRead, PlacesTree, TextIsRead};
-ghost use Rattle.exif_isobmff.specs.Places.{Place};
+ghost use Rattle.exif_isobmff.specs.LocationGrammar.{ExtentBytes, IsAnIloc, IsAText, IsAnItem, ItemIsJoined, LocationsAreRead, LocationsTree, TextIsRead};
+ghost use Rattle.exif_isobmff.specs.ItemLocations.{ItemExtents};
 
 /// A box is read as its tree says, whatever follows it, and what is read as a box is that of a
 /// tree. As many boxes as are counted are read so.
@@ -69,15 +69,15 @@ pub fn files_up_to_meta()
     ensures every { (bytes : List ℕ) → IsAFront bytes }
 {}
 
-/// An `iloc` gives the places of the wanted item that the tree of its items and extents says, and
+/// An `iloc` gives the locations of the wanted item that the tree of its items and extents says, and
 /// one that is read is that of such a tree.
 pub fn item_locations_are_read()
-    ensures read { (wanted : ℕ) (t : PlacesTree) → PlacesAreRead wanted t }
-    ensures only { (wanted : ℕ) (body : List ℕ) (places : List Place)
-        → IsAPlaces wanted body places }
+    ensures read { (wanted : ℕ) (t : LocationsTree) → LocationsAreRead wanted t }
+    ensures only { (wanted : ℕ) (body : List ℕ) (listed : List ItemExtents)
+        → IsAnIloc wanted body listed }
 {}
 
-/// An extent is read as the text that stands at its place, in the file or beside the items, and
+/// An extent is read as the text that stands at its location, in the file or beside the items, and
 /// what is read of it stands there.
 pub fn extents_are_texts()
     ensures read { (within : Within) (bytes : List ℕ) (base : ℕ) (e : Extent) (text : List ℕ)

@@ -4,7 +4,7 @@ ghost use Rattle.std.specs.Prelude.{◌≡◌, false, ◌+◌, ◌*◌, Option, 
 ghost use Rattle.std.specs.Option.{option_map};
 ghost use Rattle.exif_types.specs.Refusals.{Gives, Takes, TakesIfRoom, is_io, last_read};
 ghost use Rattle.exif_isobmff.specs.Boxes.{number_at, pass_at, times, times_joined};
-ghost use Rattle.exif_isobmff.specs.Places.{location_view, location_list, sizes, item_width, method_at, extent_at, item_head_at, location_at, locations};
+ghost use Rattle.exif_isobmff.specs.ItemLocations.{location_view, location_list, sizes, item_width, method_at, extent_at, item_head_at, location_at, locations};
 
 use crate::BoxSplitter;
 use exif_types::Error;
@@ -26,7 +26,7 @@ pub struct Sizes {
 /// A part of an item.
 #[derive(Clone, Copy)]
 pub struct Extent {
-    /// Its place behind the base, in bytes.
+    /// Its offset behind the base, in bytes.
     pub offset: u64,
     /// Its length in bytes; 0 runs to the end.
     pub len: u64,
@@ -81,7 +81,7 @@ fn method(body: &mut BoxSplitter, version: u8) -> Result<u8, Error>
     Ok(bytes[1] & 0xf)
 }
 
-#[tactic(auto, unfolding(crate::specs::Places::extent_at))]
+#[tactic(auto, unfolding(crate::specs::ItemLocations::extent_at))]
 fn next_extent(body: &mut BoxSplitter, sizes: Sizes) -> Result<Extent, Error>
     ensures { Takes (λ e. e) result body.new (extent_at sizes body.old) }
 {
@@ -128,7 +128,7 @@ struct ItemHead {
     count: u16,
 }
 
-#[tactic(auto, unfolding(crate::specs::Places::item_head_at))]
+#[tactic(auto, unfolding(crate::specs::ItemLocations::item_head_at))]
 fn item_head(body: &mut BoxSplitter, version: u8, sizes: Sizes) -> Result<ItemHead, Error>
     ensures { Takes (λ h. h) result body.new (item_head_at version sizes body.old) }
 {
@@ -149,7 +149,7 @@ fn item_head(body: &mut BoxSplitter, version: u8, sizes: Sizes) -> Result<ItemHe
 }
 
 // The next item, where it is the wanted one.
-#[tactic(auto, unfolding(crate::specs::Places::location_at))]
+#[tactic(auto, unfolding(crate::specs::ItemLocations::location_at))]
 fn next_location(
     alloc: Global,
     body: &mut BoxSplitter,
@@ -196,7 +196,7 @@ fn last_location(
 }
 
 /// The last location of the wanted item in an `iloc` box.
-#[tactic(auto, unfolding(crate::specs::Places::locations))]
+#[tactic(auto, unfolding(crate::specs::ItemLocations::locations))]
 pub fn item_location(
     alloc: Global,
     mut body: BoxSplitter,

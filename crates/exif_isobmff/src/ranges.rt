@@ -3,7 +3,7 @@
 ghost use Rattle.std.specs.Prelude.{◌≡◌, [], unwrap_or, map, IfOk};
 ghost use Rattle.std.specs.Option.{option_map};
 ghost use Rattle.exif_isobmff.specs.Extents.{behind_idat, idat_offset, range_beside, range_in, ranges_with, without_first, without_front};
-ghost use Rattle.exif_isobmff.specs.Places.{location_view};
+ghost use Rattle.exif_isobmff.specs.ItemLocations.{location_view};
 
 use crate::exif::ExifItem;
 use crate::locations::Extent;

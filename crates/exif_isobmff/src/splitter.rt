@@ -3,7 +3,7 @@
 ghost use Rattle.std.specs.Prelude.{nat_le, take, drop, ◌≡◌, ◌==◌, ◌<◌, ◌≤◌, ℕ, List, length};
 ghost use Rattle.exif_types.specs.Refusals.{invalid_format, Takes};
 ghost use Rattle.exif_isobmff.specs.Boxes.{bytes_at, number_at, version_at, header_len, box_size, header_at, box_at, whole_part};
-ghost use Rattle.exif_isobmff.specs.Places.{sized_at};
+ghost use Rattle.exif_isobmff.specs.ItemLocations.{sized_at};
 
 use crate::Kind;
 use byteorder::{BigEndian, ByteOrder};

@@ -18,8 +18,8 @@ use Rattle.exif_json.specs.Prints.{Prints}
 use Rattle.exif_containers.specs.declared.container.Format.{Format}
 use Rattle.exif_json.specs.Fields.{count_json, field_json}
 use Rattle.exif_json.specs.Files.{answer_json, fault_json, refusal_json}
-use Rattle.exif_json.specs.Places.{Degrees}
-use Rattle.exif_json.specs.Summaries.{camera_members, date_json, degrees_json, maybe, place_members, size_members, standing_members, summary_json}
+use Rattle.exif_json.specs.Coordinates.{Degrees}
+use Rattle.exif_json.specs.Summaries.{camera_members, date_json, degrees_json, maybe, location_members, size_members, standing_members, summary_json}
 use Rattle.exif_json.specs.Texts.{latin1_json, text_json}
 use Rattle.exif_json.specs.Trees.{items_of, members_of, signed, unsigned}
 use Rattle.exif_json.specs.Values.{bits_json, rational_json, srational_json, value_json}
@@ -63,13 +63,13 @@ value_shallow (V.Short xs) = omega (arith, items_shallow unsigned 0 (λ x. omega
 value_shallow (V.Long xs) = omega (arith, items_shallow unsigned 0 (λ x. omega arith) xs)
 value_shallow (V.Rational xs) = omega (arith, items_shallow rational_json 1 (λ x. omega arith) xs)
 value_shallow (V.SByte xs) = omega (arith, items_shallow signed 0 (λ x. omega arith) xs)
-value_shallow (V.Undefined xs place) = omega arith
+value_shallow (V.Undefined xs offset) = omega arith
 value_shallow (V.SShort xs) = omega (arith, items_shallow signed 0 (λ x. omega arith) xs)
 value_shallow (V.SLong xs) = omega (arith, items_shallow signed 0 (λ x. omega arith) xs)
 value_shallow (V.SRational xs) = omega (arith, items_shallow srational_json 1 (λ x. omega arith) xs)
 value_shallow (V.Float xs) = omega (arith, items_shallow (bits_json 8) 0 (λ x. omega arith) xs)
 value_shallow (V.Double xs) = omega (arith, items_shallow (bits_json 16) 0 (λ x. omega arith) xs)
-value_shallow (V.Unknown type count place) = omega arith
+value_shallow (V.Unknown type count offset) = omega arith
 
 field_shallow : (fields : List Field) (f : Field) → depth (field_json fields f) ≤ 3
 unfolding field_json
@@ -101,10 +101,10 @@ texts_shallow name o = maybe_shallow 1 name text_json o text_shallow
 summary_shallow : (fields : List Field) → depth (summary_json fields) ≤ 2
 summary_shallow fields =
     let standing : AreShallow 1 (standing_members fields) = both_shallow 1 _ _ (number_shallow _ _) (maybe_shallow 1 _ date_json _ (λ x. omega arith)) in
-    let place : AreShallow 1 (place_members fields) = both_shallow 1 _ _ (degrees_shallow _ _) (degrees_shallow _ _) in
+    let offset : AreShallow 1 (location_members fields) = both_shallow 1 _ _ (degrees_shallow _ _) (degrees_shallow _ _) in
     let camera : AreShallow 1 (camera_members fields) = both_shallow 1 _ _ (texts_shallow _ _) (texts_shallow _ _) in
     let size : AreShallow 1 (size_members fields) = both_shallow 1 _ _ (number_shallow _ _) (number_shallow _ _) in
-    let all = both_shallow 1 _ _ standing (both_shallow 1 _ _ place (both_shallow 1 _ _ camera size)) in
+    let all = both_shallow 1 _ _ standing (both_shallow 1 _ _ offset (both_shallow 1 _ _ camera size)) in
     omega (arith, all.within)
 
 -- the JSON of an answer nests no deeper than JSON that is read may

@@ -7,7 +7,7 @@ use Rattle.exif_types.specs.declared.value.Value.{Value}
 use Rattle.exif_types.specs.declared.value.Value.TheVariants.{Ascii}
 use Rattle.exif_types.specs.Lookup.{last_named}
 use Rattle.exif_types.specs.Numbers.{number_in}
-use Rattle.exif_json.specs.Places.{Axis, Degrees, degrees_in}
+use Rattle.exif_json.specs.Coordinates.{Axis, Degrees, degrees_in}
 
 -- what a tag of the first image says, if it is there
 abbrev pub found : List Field → Context → ℕ → Option Value
@@ -32,7 +32,7 @@ first_text _ = None
 abbrev pub text_found : List Field → Context → ℕ → Option (List ℕ)
 text_found fields context number = option_and_then first_text (found fields context number)
 
--- a coordinate of the place
+-- a coordinate of the location
 abbrev pub degrees_of : List Field → Axis → Option Degrees
 degrees_of fields axis =
     option_and_then (λ value. option_and_then (degrees_in axis value) (found fields Gps axis.reference))

@@ -8,6 +8,6 @@ pub mod Dates
 pub mod Fields
 pub mod Files
 pub mod Finding
-pub mod Places
+pub mod Coordinates
 pub mod Told
 pub mod Answers

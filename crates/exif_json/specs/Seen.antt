@@ -1,5 +1,5 @@
 -- The code's angles as the definitions have them.
-use Rattle.exif_json.specs.Places as P
+use Rattle.exif_json.specs.Coordinates as P
 use Rattle.exif_json.specs.declared.summary.angles.Angle.{Angle}
 use Rattle.exif_json.specs.declared.summary.angles.Axis.{Axis}
 use Rattle.exif_json.specs.declared.summary.angles.Degrees.{Degrees}

@@ -7,7 +7,7 @@ use Rattle.exif_types.specs.declared.field.Field.{Field}
 use Rattle.exif_datetime.specs.declared.datetime.DateTime.{DateTime}
 use Rattle.exif_json.specs.Dates.{date_taken, iso_text}
 use Rattle.exif_json.specs.Finding.{degrees_of, number_of, orientation_of, text_found}
-use Rattle.exif_json.specs.Places.{Degrees, degrees_text, latitude, longitude}
+use Rattle.exif_json.specs.Coordinates.{Degrees, degrees_text, latitude, longitude}
 use Rattle.exif_json.specs.Texts.{text_json}
 use Rattle.exif_json.specs.Trees.{object, unsigned}
 
@@ -36,8 +36,8 @@ standing_members fields =
     ++ maybe (codes "date_taken") date_json (date_taken fields)
 
 -- where it was taken
-abbrev pub place_members : List Field → List (List ℕ × Json)
-place_members fields =
+abbrev pub location_members : List Field → List (List ℕ × Json)
+location_members fields =
     maybe (codes "latitude") degrees_json (degrees_of fields latitude)
     ++ maybe (codes "longitude") degrees_json (degrees_of fields longitude)
 
@@ -58,4 +58,4 @@ size_members fields =
 -- how a picture stands, when, where and by which camera it was taken, and its size, in one object
 abbrev pub summary_json : List Field → Json
 summary_json fields = object (standing_members fields
-    ++ (place_members fields ++ (camera_members fields ++ size_members fields)))
+    ++ (location_members fields ++ (camera_members fields ++ size_members fields)))

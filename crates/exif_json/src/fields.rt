@@ -12,7 +12,7 @@ use exif::{Exif, Field, Value};
 use exif_types::fields_left;
 use std::alloc::AllocError;
 
-/// Writes the members that tell the field's place: its context, its tag and its directory.
+/// Writes the members that say where the field is: its context, its tag and its directory.
 fn write_name(printer: &mut Printer, field: &Field) -> Result<(), AllocError>
     ensures { Prints result printer.old.out printer.new.out
         (parts_tokens (name_members field.now)) }

@@ -17,7 +17,7 @@ pub fn values_are_told()
     ensures longs { Tells (IsBelow 64) value.Long }
     ensures fractions { Tells IsFraction value.Rational }
     ensures signed_bytes { Tells IsSigned value.SByte }
-    ensures any_bytes { (place : ℕ) → Tells (IsBelow 8) (λ xs. value.Undefined xs place) }
+    ensures any_bytes { (offset : ℕ) → Tells (IsBelow 8) (λ xs. value.Undefined xs offset) }
     ensures signed_shorts { Tells IsSigned value.SShort }
     ensures signed_longs { Tells IsSigned value.SLong }
     ensures signed_fractions { Tells IsSignedFraction value.SRational }

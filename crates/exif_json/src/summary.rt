@@ -4,10 +4,10 @@
 ghost use Rattle.std.specs.Prelude.{◌≡◌, codes, option_map};
 ghost use Rattle.json.specs.Json as J;
 ghost use Rattle.exif_json.specs.Finding.{number_of};
-ghost use Rattle.exif_json.specs.Places.{latitude, longitude};
+ghost use Rattle.exif_json.specs.Coordinates.{latitude, longitude};
 ghost use Rattle.exif_json.specs.Prints.{Prints};
 ghost use Rattle.exif_json.specs.Seen.{degrees_view};
-ghost use Rattle.exif_json.specs.Summaries.{camera_members, date_json, degrees_json, either_number, maybe, place_members, size_members, standing_members, summary_json};
+ghost use Rattle.exif_json.specs.Summaries.{camera_members, date_json, degrees_json, either_number, maybe, location_members, size_members, standing_members, summary_json};
 ghost use Rattle.exif_json.specs.Texts.{text_json};
 ghost use Rattle.exif_json.specs.Trees.{parts_tokens, unsigned};
 ghost use Rattle.json.specs.Tree.{json_tokens};
@@ -99,9 +99,9 @@ fn write_standing(printer: &mut Printer, exif: &Exif) -> Result<(), AllocError>
 }
 
 /// Writes where it was taken.
-fn write_place(printer: &mut Printer, exif: &Exif) -> Result<(), AllocError>
+fn write_location(printer: &mut Printer, exif: &Exif) -> Result<(), AllocError>
     ensures { Prints result printer.old.out printer.new.out
-        (parts_tokens (place_members exif.now.fields)) }
+        (parts_tokens (location_members exif.now.fields)) }
 {
     write_degrees(printer, "latitude", find_degrees(exif, &LATITUDE))?;
     write_degrees(printer, "longitude", find_degrees(exif, &LONGITUDE))
@@ -134,7 +134,7 @@ pub(crate) fn write_summary(printer: &mut Printer, exif: &Exif) -> Result<(), Al
 {
     printer.out.begin_object()?;
     write_standing(printer, exif)?;
-    write_place(printer, exif)?;
+    write_location(printer, exif)?;
     write_camera(printer, exif)?;
     write_size(printer, exif)?;
     printer.out.end_object()

@@ -2,7 +2,7 @@
 pub mod Words
 pub mod Standing
 pub mod Values
-pub mod Places
+pub mod Offsets
 pub mod Slots
 pub mod Whole
 pub mod Entries

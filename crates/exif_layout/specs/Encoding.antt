@@ -24,7 +24,7 @@ encode order (Short xs) = flat_map (spelled order 2) xs
 encode order (Long xs) = flat_map (spelled order 4) xs
 encode order (Rational xs) = flat_map (λ x. spelled order 4 x.num ++ spelled order 4 x.denom) xs
 encode order (SByte xs) = flat_map (λ x. cast_unsigned w8 x ∷ []) xs
-encode order (Undefined xs place) = xs
+encode order (Undefined xs offset) = xs
 encode order (SShort xs) = flat_map (λ x. spelled order 2 (cast_unsigned w16 x)) xs
 encode order (SLong xs) = flat_map (λ x. spelled order 4 (cast_unsigned w32 x)) xs
 encode order (SRational xs) =
@@ -33,13 +33,13 @@ encode order (SRational xs) =
     xs
 encode order (Float xs) = flat_map (spelled order 4) xs
 encode order (Double xs) = flat_map (spelled order 8) xs
-encode order (Unknown type count place) = []
+encode order (Unknown type count offset) = []
 
 -- how many bytes a value takes
 abbrev pub value_len : Value → ℕ
 value_len value = unit (type_number value) * count_of value
 
--- the value with the place where its bytes stand now
+-- the value with the offset where its bytes stand now
 abbrev pub moved_to : ℕ → Value → Value
-moved_to place (Undefined xs old) = Undefined xs place
-moved_to place value = value
+moved_to offset (Undefined xs old) = Undefined xs offset
+moved_to offset value = value

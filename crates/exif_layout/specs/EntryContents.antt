@@ -4,7 +4,7 @@ use Rattle.std.specs.Prelude.{ℕ, ◌≡◌, ◌*◌, false, List, [], ◌∷�
 use denote.Ref.{Bor}
 use Rattle.exif_layout.specs.Slots as format
 use Rattle.exif_layout.specs.declared.content.Content.{Content}
-use Rattle.exif_layout.specs.declared.content.Content.TheVariants.{Known, OneShort, OneLong, PlacesOf, LengthsOf, PlaceOf}
+use Rattle.exif_layout.specs.declared.content.Content.TheVariants.{Known, OneShort, OneLong, OffsetsOf, LengthsOf, OffsetOf}
 use Rattle.exif_types.specs.declared.value.Value.TheVariants.{Short, Long}
 use Rattle.exif_layout.specs.Encoding.{moved_to}
 use Rattle.exif_types.specs.ValueTypes.{type_number, count_of}
@@ -21,27 +21,27 @@ abbrev pub symbol_of : Content → format.Content
 symbol_of (Known value) = format.Known (moved_to 0 value)
 symbol_of (OneShort x) = format.Known (Short (x ∷ []))
 symbol_of (OneLong x) = format.Known (Long (x ∷ []))
-symbol_of (PlacesOf kind blocks) = format.PlacesOf kind (lens blocks.now)
+symbol_of (OffsetsOf kind blocks) = format.OffsetsOf kind (lens blocks.now)
 symbol_of (LengthsOf kind blocks) = format.LengthsOf kind (lens blocks.now)
-symbol_of (PlaceOf context) = format.PlaceOf context
+symbol_of (OffsetOf context) = format.OffsetOf context
 
 -- the number of the value's type
 abbrev pub content_type : Content → ℕ
 content_type (Known value) = type_number value
 content_type (OneShort x) = 3
 content_type (OneLong x) = 4
-content_type (PlacesOf kind blocks) = 4
+content_type (OffsetsOf kind blocks) = 4
 content_type (LengthsOf kind blocks) = 4
-content_type (PlaceOf context) = 4
+content_type (OffsetOf context) = 4
 
 -- how many members the value has, which is the count of its entry
 abbrev pub content_count : Content → ℕ
 content_count (Known value) = count_of value
 content_count (OneShort x) = 1
 content_count (OneLong x) = 1
-content_count (PlacesOf kind blocks) = length blocks.now
+content_count (OffsetsOf kind blocks) = length blocks.now
 content_count (LengthsOf kind blocks) = length blocks.now
-content_count (PlaceOf context) = 1
+content_count (OffsetOf context) = 1
 
 -- how many bytes the value has: those of one member, times how many there are
 abbrev pub content_size : Content → ℕ
@@ -52,6 +52,6 @@ abbrev pub IsKnownContent : Content → Type 0
 IsKnownContent (Known value) = is_unknown value ≡ false
 IsKnownContent (OneShort x) = ⊤
 IsKnownContent (OneLong x) = ⊤
-IsKnownContent (PlacesOf kind blocks) = ⊤
+IsKnownContent (OffsetsOf kind blocks) = ⊤
 IsKnownContent (LengthsOf kind blocks) = ⊤
-IsKnownContent (PlaceOf context) = ⊤
+IsKnownContent (OffsetOf context) = ⊤

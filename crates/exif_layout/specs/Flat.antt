@@ -9,20 +9,20 @@ use Rattle.exif_types.specs.declared.field.Field.{Field}
 use Rattle.exif_tiff.specs.Trace.{depth_of}
 use Rattle.exif_layout.specs.Groups.{Group}
 use Rattle.exif_layout.specs.Encoding.{moved_to}
-use Rattle.exif_layout.specs.Slots.{Draft, draft_of, PlaceOf}
-use Rattle.exif_layout.specs.Places.{Written, entries_of, draft_end}
+use Rattle.exif_layout.specs.Slots.{Draft, draft_of, OffsetOf}
+use Rattle.exif_layout.specs.Offsets.{Written, entries_of, draft_end}
 
 -- the field with a value that a directory has under a tag
 abbrev pub field_of : Context → ℕ → ℕ → Value → Field
 field_of context tag ifd value =
     record { tag = record { 0 = context; 1 = tag }; ifd_num = record { 0 = ifd }; value = value }
 
--- the fields of an entry; an undefined value has the place where its bytes stand
+-- the fields of an entry; an undefined value has the offset where its bytes stand
 abbrev pub entry_fields : (Context → List Field) → Context → ℕ → Written → List Field
 entry_fields inner context ifd entry =
     elim entry.content [
-      | PlaceOf child ↦ inner child
-      | _ ↦ field_of context entry.tag ifd (moved_to entry.place entry.value) ∷ []
+      | OffsetOf child ↦ inner child
+      | _ ↦ field_of context entry.tag ifd (moved_to entry.offset entry.value) ∷ []
     ]
 
 -- the fields of a directory, with its children down to a depth
@@ -32,7 +32,7 @@ directory_fields draft start ifd (suc depth) context =
     flat_map (entry_fields (directory_fields draft start ifd depth) context ifd)
     (entries_of draft start context)
 
--- the fields of drafts from a place on, of which the first has the number ifd
+-- the fields of drafts from an offset on, of which the first has the number ifd
 abbrev pub flat_from : ℕ → ℕ → List Draft → List Field
 flat_from ifd start [] = []
 flat_from ifd start (draft ∷ drafts) =

@@ -55,11 +55,11 @@ blocks_in group Strips = group.strips
 blocks_in group Tiles = group.tiles
 blocks_in group Jpeg = single group.jpeg
 
--- the tag of the field that gives the places of the blocks of a kind
-abbrev pub places_tag : BlockKind → ℕ
-places_tag Strips = 0x111
-places_tag Tiles = 0x144
-places_tag Jpeg = 0x201
+-- the tag of the field that gives the offsets of the blocks of a kind
+abbrev pub offsets_tag : BlockKind → ℕ
+offsets_tag Strips = 0x111
+offsets_tag Tiles = 0x144
+offsets_tag Jpeg = 0x201
 
 -- the tag of the field that gives the lengths of the blocks of a kind
 abbrev pub lengths_tag : BlockKind → ℕ

@@ -10,11 +10,11 @@ use Rattle.exif_layout.specs.Groups.{Group}
 use Rattle.exif_layout.specs.Encoding.{spelled, encode, value_len}
 use Rattle.exif_types.specs.ValueTypes.{type_number, count_of}
 use Rattle.exif_layout.specs.Slots.{Draft, draft_of}
-use Rattle.exif_layout.specs.Places.{Written, entries_of, tiff_place, exif_place, gps_place, interop_place, strips_place, tiles_place, jpeg_place, draft_end, next_place}
+use Rattle.exif_layout.specs.Offsets.{Written, entries_of, tiff_offset, exif_offset, gps_offset, interop_offset, strips_offset, tiles_offset, jpeg_offset, draft_end, next_offset}
 
--- a part of an image: its place and its bytes
+-- a part of an image: its offset and its bytes
 pub record Part : Type 0 where
-  pub place : ℕ
+  pub offset : ℕ
   pub text : List ℕ
 
 -- the 12 bytes of an entry
@@ -25,9 +25,9 @@ entry_text order entry =
     ++ (spelled order 4 (count_of entry.value)
     ++ (if nat_le (value_len entry.value) 4
     then encode order entry.value ++ replicate (4 - value_len entry.value) 0
-    else spelled order 4 entry.place)))
+    else spelled order 4 entry.offset)))
 
--- a directory: the count, the entries, and the place of the next one
+-- a directory: the count, the entries, and the offset of the next one
 abbrev pub directory_text : Order → ℕ → List Written → List ℕ
 directory_text order next entries =
     spelled order 2 (length entries)
@@ -35,44 +35,44 @@ directory_text order next entries =
 
 -- a directory with no entries isn't there
 abbrev pub directory_part : Order → ℕ → ℕ → List Written → List Part
-directory_part order place next [] = []
-directory_part order place next (entry ∷ entries) =
-    record { place = place; text = directory_text order next (entry ∷ entries) } ∷ []
+directory_part order offset next [] = []
+directory_part order offset next (entry ∷ entries) =
+    record { offset = offset; text = directory_text order next (entry ∷ entries) } ∷ []
 
 -- the values that don't fit into their entries
 abbrev pub value_parts : Order → List Written → List Part
 value_parts order [] = []
 value_parts order (entry ∷ entries) =
     if nat_le (value_len entry.value) 4 then value_parts order entries
-    else record { place = entry.place; text = encode order entry.value } ∷ value_parts order entries
+    else record { offset = entry.offset; text = encode order entry.value } ∷ value_parts order entries
 
--- each block as a part, one right behind the other from a place on
+-- each block as a part, one right behind the other from an offset on
 abbrev pub block_parts : ℕ → List (List ℕ) → List Part
-block_parts place [] = []
-block_parts place (text ∷ texts) =
-    record { place = place; text = text } ∷ block_parts (place + length text) texts
+block_parts offset [] = []
+block_parts offset (text ∷ texts) =
+    record { offset = offset; text = text } ∷ block_parts (offset + length text) texts
 
--- the parts of a draft that begins at `start`, `next` being the place of the next directory of the
+-- the parts of a draft that begins at `start`, `next` being the offset of the next directory of the
 -- chain
 unfoldable pub draft_parts : Order → Draft → ℕ → ℕ → List Part
 draft_parts order draft start next =
-    directory_part order (tiff_place draft start) next (entries_of draft start Tiff)
-    ++ (directory_part order (exif_place draft start) 0 (entries_of draft start Exif)
-    ++ (directory_part order (gps_place draft start) 0 (entries_of draft start Gps)
-    ++ (directory_part order (interop_place draft start) 0 (entries_of draft start Interop)
+    directory_part order (tiff_offset draft start) next (entries_of draft start Tiff)
+    ++ (directory_part order (exif_offset draft start) 0 (entries_of draft start Exif)
+    ++ (directory_part order (gps_offset draft start) 0 (entries_of draft start Gps)
+    ++ (directory_part order (interop_offset draft start) 0 (entries_of draft start Interop)
     ++ (value_parts order (entries_of draft start Tiff)
     ++ (value_parts order (entries_of draft start Exif)
     ++ (value_parts order (entries_of draft start Gps)
     ++ (value_parts order (entries_of draft start Interop)
-    ++ (block_parts (strips_place draft start) (draft.blocks Strips)
-    ++ (block_parts (tiles_place draft start) (draft.blocks Tiles)
-    ++ block_parts (jpeg_place draft start) (draft.blocks Jpeg))))))))))
+    ++ (block_parts (strips_offset draft start) (draft.blocks Strips)
+    ++ (block_parts (tiles_offset draft start) (draft.blocks Tiles)
+    ++ block_parts (jpeg_offset draft start) (draft.blocks Jpeg))))))))))
 
 -- the parts of drafts, one draft behind the other, where the first one begins at `start`
 abbrev pub parts_from : Order → ℕ → List Draft → List Part
 parts_from order start [] = []
 parts_from order start (draft ∷ drafts) =
-    draft_parts order draft start (next_place (draft_end draft start) drafts)
+    draft_parts order draft start (next_offset (draft_end draft start) drafts)
     ++ parts_from order (draft_end draft start) drafts
 
 -- the two bytes that name the byte order: MM for big-endian, II for little-endian
@@ -80,19 +80,19 @@ abbrev pub order_mark : Order → List ℕ
 order_mark Big = 0x4d ∷ 0x4d ∷ []
 order_mark Little = 0x49 ∷ 0x49 ∷ []
 
--- byte order, the number 42, the place of the first directory
+-- byte order, the number 42, the offset of the first directory
 abbrev pub header_text : Order → List ℕ
 header_text order = order_mark order ++ (spelled order 2 42 ++ spelled order 4 8)
 
 -- all parts of an image: the header, and behind it those of the drafts
 abbrev pub parts : Order → List Draft → List Part
-parts order drafts = record { place = 0; text = header_text order } ∷ parts_from order 8 drafts
+parts order drafts = record { offset = 0; text = header_text order } ∷ parts_from order 8 drafts
 
--- the bytes from `place` on that have each part's text at its place, and zero elsewhere
+-- the bytes from `offset` on that have each part's text at its offset, and zero elsewhere
 abbrev pub laid : ℕ → List Part → List ℕ
-laid place [] = []
-laid place (part ∷ parts) =
-    replicate (part.place - place) 0 ++ (part.text ++ laid (part.place + length part.text) parts)
+laid offset [] = []
+laid offset (part ∷ parts) =
+    replicate (part.offset - offset) 0 ++ (part.text ++ laid (part.offset + length part.text) parts)
 
 -- the bytes that groups are written as, in an order
 unfoldable pub image : Order → List Group → List ℕ

@@ -8,37 +8,37 @@ use Rattle.exif_table.specs.declared.context.Context.{Context}
 use Rattle.exif_table.specs.declared.context.Context.TheVariants.{Tiff, Exif, Gps, Interop}
 use Rattle.exif_types.specs.declared.field.Field.{Field}
 use Rattle.exif_layout.specs.declared.block_kind.BlockKind.{BlockKind}
-use Rattle.exif_layout.specs.Groups.{Group, empty_group, blocks_in, places_tag, lengths_tag}
+use Rattle.exif_layout.specs.Groups.{Group, empty_group, blocks_in, offsets_tag, lengths_tag}
 use Rattle.exif_layout.specs.Slots.{draft_of}
-use Rattle.exif_layout.specs.Places.{drafts_end}
+use Rattle.exif_layout.specs.Offsets.{drafts_end}
 use Rattle.exif_layout.specs.Image.{Part, parts, image}
 use Rattle.exif_layout.specs.Flat.{field_of, flat}
 
--- the text is what the bytes have at the place
-pub record Stands (bytes : List ℕ) (place : ℕ) (text : List ℕ) : Type 0 where
-  pub within : place + length text ≤ length bytes
-  pub there : bytes_at (length text) bytes place ≡ text
+-- the text is what the bytes have at the offset
+pub record Stands (bytes : List ℕ) (offset : ℕ) (text : List ℕ) : Type 0 where
+  pub within : offset + length text ≤ length bytes
+  pub there : bytes_at (length text) bytes offset ≡ text
 
 -- from start to end each part begins where the one before it ends, or one byte later
 abbrev pub Spans : ℕ → List Part → ℕ → Type 0
 Spans start [] end = start ≡ end
 Spans start (part ∷ parts) end =
-    (start ≤ part.place) × (part.place ≤ start + 1)
-    × Spans (part.place + length part.text) parts end
+    (start ≤ part.offset) × (part.offset ≤ start + 1)
+    × Spans (part.offset + length part.text) parts end
 
--- a place that no byte of the part stands at
+-- an offset that no byte of the part stands at
 abbrev pub IsOutside : ℕ → Part → Type 0
-IsOutside place part = (place < part.place) ⊎ (part.place + length part.text ≤ place)
+IsOutside offset part = (offset < part.offset) ⊎ (part.offset + length part.text ≤ offset)
 
 -- the parts stand side by side from the first byte to the last, but for single bytes between them,
 -- which are zero
 pub record LaidOut (order : Order) (groups : List Group) : Type 0 where
   pub span : Spans 0 (parts order (map draft_of groups)) (length (image order groups))
-  pub stand : All (λ part. Stands (image order groups) part.place part.text)
+  pub stand : All (λ part. Stands (image order groups) part.offset part.text)
       (parts order (map draft_of groups))
-  pub pads : (place : ℕ) → place < length (image order groups)
-      → All (IsOutside place) (parts order (map draft_of groups))
-      → slice_index (image order groups) place ≡ 0
+  pub pads : (offset : ℕ) → offset < length (image order groups)
+      → All (IsOutside offset) (parts order (map draft_of groups))
+      → slice_index (image order groups) offset ≡ 0
 
 -- an image is as long as the refusal of a too long one asks, and not too long
 pub record LengthIsEnd (order : Order) (groups : List Group) : Type 0 where
@@ -57,16 +57,16 @@ abbrev pub fields_under : ℕ → ℕ → List Field → List Field
 fields_under tag ifd all =
     filter (λ field. is_tiff field.tag.0 && (field.tag.1 == tag) && (field.ifd_num.0 == ifd)) all
 
--- blocks that the fields of a directory name: one field has their places and one their lengths, and
--- each stands whole at its place
+-- blocks that the fields of a directory name: one field has their offsets and one their lengths, and
+-- each stands whole at its offset
 pub record BlocksNamed (bytes : List ℕ) (all : List Field) (ifd : ℕ) (kind : BlockKind)
     (texts : List (List ℕ)) : Type 0 where
-  pub places : List ℕ
-  pub places_named : fields_under (places_tag kind) ifd all
-      ≡ field_of Tiff (places_tag kind) ifd (Long places) ∷ []
+  pub offsets : List ℕ
+  pub offsets_named : fields_under (offsets_tag kind) ifd all
+      ≡ field_of Tiff (offsets_tag kind) ifd (Long offsets) ∷ []
   pub lengths_named : fields_under (lengths_tag kind) ifd all
       ≡ field_of Tiff (lengths_tag kind) ifd (Long (map length texts)) ∷ []
-  pub stand : AllZip (λ place text. Stands bytes place text) places texts
+  pub stand : AllZip (λ offset text. Stands bytes offset text) offsets texts
 
 -- each block of an image stands where its two fields say
 abbrev pub BlocksStand : Order → List Group → Type 0

@@ -9,7 +9,7 @@ pub mod ImageExamples
 pub mod Layout
 pub mod Measuring
 pub mod Noting
-pub mod Places
+pub mod Offsets
 pub mod Pushing
 pub mod Ranged
 pub mod ReadBack

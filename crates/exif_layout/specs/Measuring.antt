@@ -1,7 +1,7 @@
 -- The length of values, measured over entries in any order of tags.
 use Rattle.std.specs.Prelude.{SomeIff, ◌<◌, ◌^◌, ℕ, ◌+◌, ◌-◌, ◌%◌, nat_le, nat_lt, List, [], ◌∷◌, Bool, Option, Some, None, if◌then◌else◌}
 use Rattle.exif_layout.specs.Slots.{Slot, content_len}
-use Rattle.exif_layout.specs.Places.{even}
+use Rattle.exif_layout.specs.Offsets.{even}
 
 -- a number is answered where 32 bits hold it
 abbrev pub MeasuredAs : Option ℕ → ℕ → Type 0
@@ -26,8 +26,8 @@ abbrev pub last_out : List Slot → Option Slot
 last_out [] = None
 last_out (slot ∷ slots) = if fits slot then last_out slots else later slot (last_out slots)
 
--- where values end that begin at a place and take so many bytes, each made even but for the last
+-- where values end that begin at an offset and take so many bytes, each made even but for the last
 -- one's own length
 abbrev pub end_from : ℕ → ℕ → Option Slot → ℕ
-end_from place bytes None = place
-end_from place bytes (Some last) = even place + bytes - content_len last.content % 2
+end_from offset bytes None = offset
+end_from offset bytes (Some last) = even offset + bytes - content_len last.content % 2

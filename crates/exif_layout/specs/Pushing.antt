@@ -10,7 +10,7 @@ use Rattle.exif_layout.specs.declared.block_kind.BlockKind.{BlockKind}
 use Rattle.exif_layout.specs.Calls.{entries_into}
 use Rattle.exif_layout.specs.Encoding.{moved_to}
 use Rattle.exif_layout.specs.Flat.{field_of, flat}
-use Rattle.exif_layout.specs.Groups.{Group, Entry, empty_group, blocks_in, pushed_in, places_tag, lengths_tag}
+use Rattle.exif_layout.specs.Groups.{Group, Entry, empty_group, blocks_in, pushed_in, offsets_tag, lengths_tag}
 use Rattle.exif_layout.specs.Ranged.{IsRanged, AreRanged, HavePlainTexts}
 use Rattle.exif_layout.specs.Rewriting.{pushed_all, all_blocks_set}
 use Rattle.exif_layout.specs.Slots.{Slot, known, in_tag_order}
@@ -49,13 +49,13 @@ PushesNoBlocks fields groups = HaveNoBlocks groups → HaveNoBlocks (pushed_all 
 abbrev pub SetsNothing : List Group → List Group → Type 0
 SetsNothing from groups = HaveNoBlocks from → all_blocks_set 0 from groups ≡ groups
 
--- the field holds a pushed entry of its directory, an undefined value with the place where it
+-- the field holds a pushed entry of its directory, an undefined value with the offset where it
 -- stands now
 pub record IsPushed (groups : List Group) (field : Field) : Type 0 where
   pub entry : Entry
-  pub place : ℕ
+  pub offset : ℕ
   pub pushed : Contains (pushed_in (get_or groups field.ifd_num.0 empty_group) field.tag.0) entry
-  pub moved : field ≡ field_of field.tag.0 entry.tag field.ifd_num.0 (moved_to place entry.value)
+  pub moved : field ≡ field_of field.tag.0 entry.tag field.ifd_num.0 (moved_to offset entry.value)
 
 -- the field is one of the two that name blocks of its directory
 pub record NamesBlocks (groups : List Group) (field : Field) : Type 0 where
@@ -63,7 +63,7 @@ pub record NamesBlocks (groups : List Group) (field : Field) : Type 0 where
   pub texts : List (List ℕ)
   pub numbers : List ℕ
   pub set : blocks_in (get_or groups field.ifd_num.0 empty_group) kind ≡ Some texts
-  pub names : (field ≡ field_of Tiff (places_tag kind) field.ifd_num.0 (Long numbers))
+  pub names : (field ≡ field_of Tiff (offsets_tag kind) field.ifd_num.0 (Long numbers))
       ⊎ (field ≡ field_of Tiff (lengths_tag kind) field.ifd_num.0 (Long numbers))
 
 -- an image has no other fields
@@ -71,18 +71,18 @@ abbrev pub HasPushedAndBlocks : List Group → Type 0
 HasPushedAndBlocks groups =
     All (λ field. IsPushed groups field ⊎ NamesBlocks groups field) (flat groups)
 
--- the field is one of a list, an undefined value with another place
+-- the field is one of a list, an undefined value with another offset
 pub record IsMoved (fields : List Field) (field : Field) : Type 0 where
   pub from : Field
-  pub place : ℕ
+  pub offset : ℕ
   pub given : Contains fields from
-  pub moved : field ≡ record from { value = moved_to place from.value }
+  pub moved : field ≡ record from { value = moved_to offset from.value }
 
 -- the image of pushed fields has no others
 abbrev pub HasPushedAlone : List Field → Type 0
 HasPushedAlone fields = All (IsMoved fields) (flat (pushed_all fields []))
 
--- what fields push into a directory, as it is written in their order: an old place of an undefined
+-- what fields push into a directory, as it is written in their order: an old offset of an undefined
 -- value says nothing
 abbrev pub slots_into : ℕ → Context → List Field → List Slot
 slots_into ifd context fields = map known (entries_into ifd context fields)

@@ -1,4 +1,4 @@
--- For which groups nothing is written (TIFF 6.0, section 2: counts of 16 bits, places of 32).
+-- For which groups nothing is written (TIFF 6.0, section 2: counts of 16 bits, offsets of 32).
 use Rattle.std.specs.Prelude.{◌==◌, nat_lt, Bool, true, false, List, [], ◌∷◌, length, map, Option, Some, None, if◌then◌else◌}
 use Rattle.std.specs.List.{list_any}
 use Rattle.exif_types.specs.declared.value.Value.{Value}
@@ -9,7 +9,7 @@ use Rattle.exif_layout.specs.declared.write_fault.WriteFault.{WriteFault}
 use Rattle.exif_layout.specs.declared.write_fault.WriteFault.TheVariants.{NoDirectory, EmptyDirectory, TooManyFields, UnknownType, OffsetTooLarge}
 use Rattle.exif_layout.specs.Groups.{Group, Entry, pushed_in}
 use Rattle.exif_layout.specs.Slots.{draft_of, slots_of, tiff_slots}
-use Rattle.exif_layout.specs.Places.{drafts_end}
+use Rattle.exif_layout.specs.Offsets.{drafts_end}
 
 -- all contexts, one for each directory of a group
 abbrev pub contexts : List Context
@@ -17,7 +17,7 @@ contexts = Tiff ∷ Exif ∷ Gps ∷ Interop ∷ []
 
 -- whether a value is of an unknown type
 abbrev pub is_unknown : Value → Bool
-is_unknown (Unknown type count place) = true
+is_unknown (Unknown type count offset) = true
 is_unknown value = false
 
 -- whether some entry has a value of an unknown type

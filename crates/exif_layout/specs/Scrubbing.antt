@@ -1,4 +1,4 @@
--- Scrubbing: fields written again without the place where a picture was taken and without values of
+-- Scrubbing: fields written again without the location where a picture was taken and without values of
 -- unknown types.
 use Rattle.std.specs.Prelude.{◌≡◌, ◌&&◌, ◌≤◌, not, Bool, true, false, List, [], length, None}
 use Rattle.std.specs.List.{All, filter}

@@ -1,4 +1,4 @@
--- The entries of directories in the order in which they are written, before any place is settled
+-- The entries of directories in the order in which they are written, before any offset is settled
 -- (TIFF 6.0, section 2, "Sort Order"; Exif 2.32, 4.6.3).
 use Rattle.std.specs.Prelude.{ℕ, ◌*◌, nat_le, List, [], ◌∷◌, ◌++◌, length, map, Option, Some, None, if◌then◌else◌}
 use Rattle.exif_types.specs.declared.value.Value.{Value}
@@ -6,23 +6,23 @@ use Rattle.exif_table.specs.declared.context.Context.{Context}
 use Rattle.exif_table.specs.declared.context.Context.TheVariants.{Tiff, Exif, Gps, Interop}
 use Rattle.exif_layout.specs.declared.block_kind.BlockKind.{BlockKind}
 use Rattle.exif_layout.specs.declared.block_kind.BlockKind.TheVariants.{Strips, Tiles, Jpeg}
-use Rattle.exif_layout.specs.Groups.{Group, Entry, blocks_in, places_tag, lengths_tag}
+use Rattle.exif_layout.specs.Groups.{Group, Entry, blocks_in, offsets_tag, lengths_tag}
 use Rattle.exif_layout.specs.Encoding.{value_len, moved_to}
 
--- where an entry's value comes from: it is known, or the places or the lengths of blocks of these
--- lengths, or the place of a child directory
+-- where an entry's value comes from: it is known, or the offsets or the lengths of blocks of these
+-- lengths, or the offset of a child directory
 pub data Content : Type 0 where
   Known : Value → Content
-  PlacesOf : BlockKind → List ℕ → Content
+  OffsetsOf : BlockKind → List ℕ → Content
   LengthsOf : BlockKind → List ℕ → Content
-  PlaceOf : Context → Content
+  OffsetOf : Context → Content
 
 -- an entry of a directory
 pub record Slot : Type 0 where
   pub tag : ℕ
   pub content : Content
 
--- a pushed entry; the place that an undefined value was read at says nothing
+-- a pushed entry; the offset that an undefined value was read at says nothing
 abbrev pub known : Entry → Slot
 known entry = record { tag = entry.tag; content = Known (moved_to 0 entry.value) }
 
@@ -41,7 +41,7 @@ in_tag_order (slot ∷ slots) = inserted slot (in_tag_order slots)
 abbrev pub set_slots : BlockKind → Option (List (List ℕ)) → List Slot
 set_slots kind None = []
 set_slots kind (Some texts) =
-    record { tag = places_tag kind; content = PlacesOf kind (map length texts) }
+    record { tag = offsets_tag kind; content = OffsetsOf kind (map length texts) }
     ∷ record { tag = lengths_tag kind; content = LengthsOf kind (map length texts) } ∷ []
 
 -- the two entries of a group's blocks of a kind, none where they are not set
@@ -51,7 +51,7 @@ block_slots group kind = set_slots kind (blocks_in group kind)
 -- the pointer to a child directory that has entries
 abbrev pub pointer_slots : ℕ → Context → List Slot → List Slot
 pointer_slots tag child [] = []
-pointer_slots tag child (slot ∷ slots) = record { tag = tag; content = PlaceOf child } ∷ []
+pointer_slots tag child (slot ∷ slots) = record { tag = tag; content = OffsetOf child } ∷ []
 
 -- the entries of the Interop directory as they are written: pushed ones alone
 unfoldable pub interop_slots : Group → List Slot
@@ -115,6 +115,6 @@ draft_of group =
 -- how many bytes the value of an entry takes
 abbrev pub content_len : Content → ℕ
 content_len (Known value) = value_len value
-content_len (PlacesOf kind lengths) = 4 * length lengths
+content_len (OffsetsOf kind lengths) = 4 * length lengths
 content_len (LengthsOf kind lengths) = 4 * length lengths
-content_len (PlaceOf context) = 4
+content_len (OffsetOf context) = 4

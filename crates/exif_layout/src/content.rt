@@ -85,12 +85,12 @@ pub enum Content<'a> {
     OneShort(u16),
     /// One of 32 bits.
     OneLong(u32),
-    /// The places of these blocks.
-    PlacesOf(BlockKind, &'a [&'a [u8]]),
+    /// The offsets of these blocks.
+    OffsetsOf(BlockKind, &'a [&'a [u8]]),
     /// Their lengths.
     LengthsOf(BlockKind, &'a [&'a [u8]]),
-    /// The place of a child directory.
-    PlaceOf(Context),
+    /// The offset of a child directory.
+    OffsetOf(Context),
 }
 
 impl<'a> Content<'a> {
@@ -119,9 +119,9 @@ impl<'a> Content<'a> {
             Content::Known(noted) => noted.type_number(),
             Content::OneShort(_) => FieldType::Short.number(),
             Content::OneLong(_)
-            | Content::PlacesOf(_, _)
+            | Content::OffsetsOf(_, _)
             | Content::LengthsOf(_, _)
-            | Content::PlaceOf(_) => FieldType::Long.number(),
+            | Content::OffsetOf(_) => FieldType::Long.number(),
         }
     }
 
@@ -132,8 +132,8 @@ impl<'a> Content<'a> {
     {
         match self {
             Content::Known(noted) => noted.count(),
-            Content::PlacesOf(_, blocks) | Content::LengthsOf(_, blocks) => blocks.len() as u32,
-            Content::OneShort(_) | Content::OneLong(_) | Content::PlaceOf(_) => 1,
+            Content::OffsetsOf(_, blocks) | Content::LengthsOf(_, blocks) => blocks.len() as u32,
+            Content::OneShort(_) | Content::OneLong(_) | Content::OffsetOf(_) => 1,
         }
     }
 
@@ -146,8 +146,8 @@ impl<'a> Content<'a> {
         match self {
             Content::Known(noted) => noted.size(),
             Content::OneShort(_) => 2,
-            Content::PlacesOf(_, blocks) | Content::LengthsOf(_, blocks) => 4 * blocks.len() as u32,
-            Content::OneLong(_) | Content::PlaceOf(_) => 4,
+            Content::OffsetsOf(_, blocks) | Content::LengthsOf(_, blocks) => 4 * blocks.len() as u32,
+            Content::OneLong(_) | Content::OffsetOf(_) => 4,
         }
     }
 }

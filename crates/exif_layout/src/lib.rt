@@ -1,5 +1,5 @@
 //! What a TIFF image is made of, and what it holds: the definition of images, the laws of reading
-//! and writing them, and the parts of a directory that are there before any place is settled.
+//! and writing them, and the parts of a directory that are there before any offset is settled.
 #![tactic(auto)]
 
 mod block_kind;

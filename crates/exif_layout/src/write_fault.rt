@@ -16,7 +16,7 @@ pub enum WriteFault {
     TooManyFields,
     /// A value's type is not known.
     UnknownType,
-    /// The image is longer than 32-bit places reach.
+    /// The image is longer than 32-bit offsets reach.
     OffsetTooLarge,
 }
 

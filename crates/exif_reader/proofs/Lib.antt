@@ -2,7 +2,7 @@ pub mod LawsFiles
 pub mod ParserFollows
 pub mod ParserRuns
 pub mod ParserTurns
-pub mod PlacesTold
+pub mod OffsetsTold
 pub mod ReaderBounds
 pub mod ReaderFronts
 pub mod ReaderOwnData

@@ -23,7 +23,7 @@ follows_stop (stop.Fault fault) new xs ys p all w h = run_stop xs ys p new fault
 pub follows_last : (r : Result (Unit {0}) Stop) (new : Progress) (xs ys : List Node) (p q : Progress) → run xs p ≡ (q, None) → Follows r new (run ys q) → Follows r new (run (xs ++ ys) p)
 follows_last r new xs ys p q e h = rw (run-append xs ys p, e) h
 
--- a loop over what stands at spaced places: one step that ended
+-- a loop over what stands at spaced offsets: one step that ended
 pub loop_on : (entry : ℕ → List Node) (unit at' n i : ℕ) (p q : Progress) (all : Progress × Option Fault) → i < n → run (entry at') p ≡ (q, None) → run (flat_map entry (spaced at' unit (n - i))) p ≡ all → run (flat_map entry (spaced (at' + unit) unit (n - (i + 1)))) q ≡ all
 loop_on entry unit at' n i p q all h e w =
     run_on (entry at') (flat_map entry (spaced (at' + unit) unit (n - (i + 1)))) p q all e
@@ -36,13 +36,13 @@ loop_stop entry unit at' n i e p q all h w f =
     (rw (spaced_step n i at' unit h) at w) f
 
 -- a child that stops
-pub pointer_stop : (child : Directory) (number : Reading) (bytes : List ℕ) (c : Context) (place : Option ℕ) (q : ℕ) (e : Stop) (p new : Progress) → place ≡ Some q → Follows (Err e) new (run (child c q) p) → Follows (Err e) new (run (pointer_nodes child number bytes c place) p)
-pointer_stop child number bytes c place q e p new is f =
+pub pointer_stop : (child : Directory) (number : Reading) (bytes : List ℕ) (c : Context) (offset : Option ℕ) (q : ℕ) (e : Stop) (p new : Progress) → offset ≡ Some q → Follows (Err e) new (run (child c q) p) → Follows (Err e) new (run (pointer_nodes child number bytes c offset) p)
+pointer_stop child number bytes c offset q e p new is f =
     rw is (follows_stop e new (child c q) (child_end (directory_end number bytes q)) p (run (child c q ++ child_end (directory_end number bytes q)) p) refl f)
 
 -- a child that ended, and a fault after it
-pub pointer_fault : (child : Directory) (number : Reading) (bytes : List ℕ) (c : Context) (place : Option ℕ) (q : ℕ) (fault : Fault) (r : Result (Unit {0}) Stop) (p mid new : Progress) → place ≡ Some q → run (child c q) p ≡ (mid, None) → child_end (directory_end number bytes q) ≡ Met fault ∷ [] → Follows r new (on_met mid fault) → Follows r new (run (pointer_nodes child number bytes c place) p)
-pointer_fault child number bytes c place q fault r p mid new is e w f =
+pub pointer_fault : (child : Directory) (number : Reading) (bytes : List ℕ) (c : Context) (offset : Option ℕ) (q : ℕ) (fault : Fault) (r : Result (Unit {0}) Stop) (p mid new : Progress) → offset ≡ Some q → run (child c q) p ≡ (mid, None) → child_end (directory_end number bytes q) ≡ Met fault ∷ [] → Follows r new (on_met mid fault) → Follows r new (run (pointer_nodes child number bytes c offset) p)
+pointer_fault child number bytes c offset q fault r p mid new is e w f =
     rw (is, w) (follows_last r new (child c q) (Met fault ∷ []) p mid e (rw (run_one (Met fault) mid) f))
 
 -- how a child may end
@@ -53,16 +53,16 @@ end_next x n e h = rw e (grind (arith, nat_tests))
 pub end_fault : (x : Result ℕ Fault) (fault : Fault) → x ≡ Err fault → child_end x ≡ Met fault ∷ []
 end_fault x fault e = rw e refl
 
--- a chain that goes on, at a place that is not 0
+-- a chain that goes on, at an offset that is not 0
 chain_one : (left i : ℕ) (number : Reading) (bytes : List ℕ) (p : ℕ) → p ≢ 0 → chain_nodes (suc left) number bytes i p ≡ directory_nodes 3 number bytes i Tiff p ++ chain_after (chain_nodes left number bytes (i + 1)) (directory_end number bytes p)
 chain_one left i number bytes p z = let e : (p == 0) ≡ false = grind (arith, nat_tests) in rw (e, chain_nodes) refl
 
--- a place in the chain that is not 0 has a directory
+-- an offset in the chain that is not 0 has a directory
 pub chain_step : (n i : ℕ) (number : Reading) (bytes : List ℕ) (p : ℕ) → i < n → p ≢ 0 → chain_nodes (n - i) number bytes i p ≡ directory_nodes 3 number bytes i Tiff p ++ chain_after (chain_nodes (n - (i + 1)) number bytes (i + 1)) (directory_end number bytes p)
 chain_step n i number bytes p h z =
     let e : n - i ≡ suc (n - (i + 1)) = omega arith in rw e (chain_one (n - (i + 1)) i number bytes p z)
 
--- the chain from there on, where the directory ended with a next place
+-- the chain from there on, where the directory ended with a next offset
 pub chain_on : (n i : ℕ) (number : Reading) (bytes : List ℕ) (p next : ℕ) (s q : Progress) (all : Progress × Option Fault) → i < n → p ≢ 0 → directory_end number bytes p ≡ Ok next → run (directory_nodes 3 number bytes i Tiff p) s ≡ (q, None) → run (chain_nodes (n - i) number bytes i p) s ≡ all → run (chain_nodes (n - (i + 1)) number bytes (i + 1) next) q ≡ all
 chain_on n i number bytes p next s q all h z e d w =
     let f : chain_nodes (n - i) number bytes i p ≡ directory_nodes 3 number bytes i Tiff p ++ chain_nodes (n - (i + 1)) number bytes (i + 1) next =

@@ -2,7 +2,7 @@
 use Rattle.std.proofs.Common.{◌≡◌, ◌<◌, ◌+◌, ◌-◌, ℕ, suc, List, [], ◌∷◌, ◌++◌, Option, Some, None, refl, sym, ap, ◌∙◌, arith}
 use Rattle.std.specs.List.{flat_map}
 use Rattle.exif_base.specs.Bytes.{spaced, Reading}
-use Rattle.exif_tiff.specs.Trace.{Node, opened, depth_of, directory_nodes, entry_nodes, entry_places}
+use Rattle.exif_tiff.specs.Trace.{Node, opened, depth_of, directory_nodes, entry_nodes, entry_offsets}
 use Rattle.exif_reader.specs.Running.{Progress, and_then, on_node, run}
 use Rattle.exif_tiff.specs.declared.fault.Fault.{Fault}
 use Rattle.exif_table.specs.declared.context.Context.{Context}
@@ -33,12 +33,12 @@ run_on xs ys p q all e w = sym (ap (λ x. and_then x (run ys)) e) ∙ (sym (run-
 pub run_stop : (xs ys : List Node) (p q : Progress) (fault : Fault) (all : Progress × Option Fault) → run xs p ≡ (q, Some fault) → run (xs ++ ys) p ≡ all → all ≡ (q, Some fault)
 run_stop xs ys p q fault all e w = sym w ∙ (run-append xs ys p ∙ ap (λ x. and_then x (run ys)) e)
 
--- the places that are left begin with the one at hand
+-- the offsets that are left begin with the one at hand
 pub spaced_step : (n i p unit : ℕ) → i < n → spaced p unit (n - i) ≡ p ∷ spaced (p + unit) unit (n - (i + 1))
 spaced_step n i p unit h = let e : n - i ≡ suc (n - (i + 1)) = omega arith in rw e refl
 
 -- a directory is opened, and then its nodes are those of its entries
-pub directory_unfold : (number : Reading) (bytes : List ℕ) (k : ℕ) (c : Context) (p : ℕ) → opened c p (flat_map (entry_nodes (directory_nodes (depth_of c - 1) number bytes k) number bytes c k p) (entry_places number bytes p)) ≡ directory_nodes (depth_of c) number bytes k c p
+pub directory_unfold : (number : Reading) (bytes : List ℕ) (k : ℕ) (c : Context) (p : ℕ) → opened c p (flat_map (entry_nodes (directory_nodes (depth_of c - 1) number bytes k) number bytes c k p) (entry_offsets number bytes p)) ≡ directory_nodes (depth_of c) number bytes k c p
 directory_unfold number bytes k Tiff p = refl
 directory_unfold number bytes k Exif p = refl
 directory_unfold number bytes k Gps p = refl

@@ -11,7 +11,7 @@ use Rattle.exif_reader.specs.declared.stop.Stop.{Stop}
 use Rattle.exif_reader.specs.declared.stop.Stop.TheVariants as stop
 
 abbrev at_work : Bool → ℕ → List Field → List Fault → Noted → Progress
-at_work lenient left fields faults places = record { lenient = lenient; left = left; fields = fields; faults = faults; places = places }
+at_work lenient left fields faults offsets = record { lenient = lenient; left = left; fields = fields; faults = faults; offsets = offsets }
 
 -- what was walked of a trace when a run ended or stopped
 record Walked (nodes : List Node) (left : ℕ) (x : Progress × Option Fault) : Type 0 where
@@ -29,23 +29,23 @@ one_more node nodes left more x k w = record { walked = node ∷ w.walked; rest 
 none_walked : (nodes : List Node) (p : Progress) (fault : Fault) → Walked nodes p.left (p, Some fault)
 none_walked nodes p fault = record { walked = []; rest = nodes; front = refl; turns = omega arith; whole = λ e. cc }
 
-walked_run : (nodes : List Node) (lenient : Bool) (left : ℕ) (fields : List Field) (faults : List Fault) (places : Noted) → Walked nodes left (run nodes (at_work lenient left fields faults places))
-walked_run [] lenient left fields faults places = record { walked = []; rest = []; front = refl; turns = omega arith; whole = λ e. refl }
-walked_run (Opens directory ∷ nodes) lenient left fields faults places =
-    let more = directory_noted places directory in
+walked_run : (nodes : List Node) (lenient : Bool) (left : ℕ) (fields : List Field) (faults : List Fault) (offsets : Noted) → Walked nodes left (run nodes (at_work lenient left fields faults offsets))
+walked_run [] lenient left fields faults offsets = record { walked = []; rest = []; front = refl; turns = omega arith; whole = λ e. refl }
+walked_run (Opens directory ∷ nodes) lenient left fields faults offsets =
+    let more = directory_noted offsets directory in
     one_more (Opens directory) nodes left left (run nodes (at_work lenient left fields faults more)) (λ walked e. e) (walked_run nodes lenient left fields faults more)
-walked_run (Visit ∷ nodes) lenient zero fields faults places = none_walked (Visit ∷ nodes) (at_work lenient zero fields faults places) _
-walked_run (Visit ∷ nodes) lenient (suc n) fields faults places =
-    one_more Visit nodes n (suc n) (run nodes (at_work lenient n fields faults places)) (λ walked e. omega arith) (walked_run nodes lenient n fields faults places)
-walked_run (Found l ∷ nodes) lenient left fields faults places =
-    let more = entry_noted places (entry_of l) in
+walked_run (Visit ∷ nodes) lenient zero fields faults offsets = none_walked (Visit ∷ nodes) (at_work lenient zero fields faults offsets) _
+walked_run (Visit ∷ nodes) lenient (suc n) fields faults offsets =
+    one_more Visit nodes n (suc n) (run nodes (at_work lenient n fields faults offsets)) (λ walked e. omega arith) (walked_run nodes lenient n fields faults offsets)
+walked_run (Found l ∷ nodes) lenient left fields faults offsets =
+    let more = entry_noted offsets (entry_of l) in
     one_more (Found l) nodes left left (run nodes (at_work lenient left (fields ++ l.field ∷ []) faults more)) (λ walked e. e) (walked_run nodes lenient left (fields ++ l.field ∷ []) faults more)
-walked_run (Met fault ∷ nodes) true left fields faults places =
-    one_more (Met fault) nodes left left (run nodes (at_work true left fields (faults ++ fault ∷ []) places)) (λ walked e. e) (walked_run nodes true left fields (faults ++ fault ∷ []) places)
-walked_run (Met fault ∷ nodes) false left fields faults places = none_walked (Met fault ∷ nodes) (at_work false left fields faults places) fault
+walked_run (Met fault ∷ nodes) true left fields faults offsets =
+    one_more (Met fault) nodes left left (run nodes (at_work true left fields (faults ++ fault ∷ []) offsets)) (λ walked e. e) (walked_run nodes true left fields (faults ++ fault ∷ []) offsets)
+walked_run (Met fault ∷ nodes) false left fields faults offsets = none_walked (Met fault ∷ nodes) (at_work false left fields faults offsets) fault
 
 walked_at : (nodes : List Node) (old : Progress) (x : Progress × Option Fault) → run nodes old ≡ x → Walked nodes old.left x
-walked_at nodes old x e = subst (λ y. Walked nodes old.left y) e (walked_run nodes old.lenient old.left old.fields old.faults old.places)
+walked_at nodes old x e = subst (λ y. Walked nodes old.left y) e (walked_run nodes old.lenient old.left old.fields old.faults old.offsets)
 
 all_walked : (nodes : List Node) (left : ℕ) (new : Progress) → Walked nodes left (new, None) → new.left + visits_of nodes ≡ left
 all_walked nodes left new w = ap (λ ns. new.left + visits_of ns) (w.front ∙ (ap (λ rest. w.walked ++ rest) (w.whole refl) ∙ append-nil w.walked)) ∙ w.turns

@@ -25,10 +25,10 @@ unfolding trace
 trace_right bytes order e = rw (e, trace) refl
 
 -- what running the chain comes to is the answer
-pub answered : (number : Reading) (bytes : List ℕ) (lenient : Bool) (most : ℕ) (places : Noted) (start : Progress) (x : Progress × Option Fault) → start ≡ at_work lenient most [] [] places → run (chain_nodes 8 number bytes 0 (number_at number 4 bytes 4)) start ≡ x → answer_of lenient (content_of (cut most (ordered_trace number bytes))) ≡ outcome x
+pub answered : (number : Reading) (bytes : List ℕ) (lenient : Bool) (most : ℕ) (offsets : Noted) (start : Progress) (x : Progress × Option Fault) → start ≡ at_work lenient most [] [] offsets → run (chain_nodes 8 number bytes 0 (number_at number 4 bytes 4)) start ≡ x → answer_of lenient (content_of (cut most (ordered_trace number bytes))) ≡ outcome x
 unfolding ordered_trace
-answered number bytes lenient most places start x s e =
-    sym (outcome_run (chain_nodes 8 number bytes 0 (number_at number 4 bytes 4)) lenient most places)
+answered number bytes lenient most offsets start x s e =
+    sym (outcome_run (chain_nodes 8 number bytes 0 (number_at number 4 bytes 4)) lenient most offsets)
     ∙ (ap (λ (p : Progress). outcome (run (chain_nodes 8 number bytes 0 (number_at number 4 bytes 4)) p)) (sym s) ∙ ap (λ (y : Progress × Option Fault). outcome y) e)
 
 -- where noting a fault stops, it is a refusal

@@ -10,7 +10,7 @@ use Rattle.exif_tiff.specs.declared.fault.Fault.{Fault}
 
 -- a parser with what it has read
 abbrev pub at_work : Bool → ℕ → List Field → List Fault → Noted → Progress
-at_work lenient left fields faults places = record { lenient = lenient; left = left; fields = fields; faults = faults; places = places }
+at_work lenient left fields faults offsets = record { lenient = lenient; left = left; fields = fields; faults = faults; offsets = offsets }
 
 -- what was read before a trace, and what the trace adds
 abbrev added : Bool → List Field → List Fault → List Node → Answer
@@ -23,27 +23,27 @@ added_met : (lenient : Bool) (fields : List Field) (faults : List Fault) (fault 
 added_met lenient fields faults fault nodes = rw append_assoc refl
 
 -- lenient running answers what was read before, and then the trace up to its limit
-pub outcome_lenient : (nodes : List Node) (left : ℕ) (fields : List Field) (faults : List Fault) (places : Noted) → outcome (run nodes (at_work true left fields faults places)) ≡ added true fields faults (cut left nodes)
-outcome_lenient [] left fields faults places = rw (append-nil, append-nil) refl
-outcome_lenient (Opens directory ∷ nodes) left fields faults places = outcome_lenient nodes left fields faults (directory_noted places directory)
-outcome_lenient (Visit ∷ nodes) zero fields faults places = rw append-nil refl
-outcome_lenient (Visit ∷ nodes) (suc n) fields faults places = outcome_lenient nodes n fields faults places
-outcome_lenient (Found l ∷ nodes) left fields faults places = outcome_lenient nodes left (fields ++ l.field ∷ []) faults (entry_noted places (entry_of l)) ∙ added_found true fields faults l (cut left nodes)
-outcome_lenient (Met fault ∷ nodes) left fields faults places = outcome_lenient nodes left fields (faults ++ fault ∷ []) places ∙ added_met true fields faults fault (cut left nodes)
+pub outcome_lenient : (nodes : List Node) (left : ℕ) (fields : List Field) (faults : List Fault) (offsets : Noted) → outcome (run nodes (at_work true left fields faults offsets)) ≡ added true fields faults (cut left nodes)
+outcome_lenient [] left fields faults offsets = rw (append-nil, append-nil) refl
+outcome_lenient (Opens directory ∷ nodes) left fields faults offsets = outcome_lenient nodes left fields faults (directory_noted offsets directory)
+outcome_lenient (Visit ∷ nodes) zero fields faults offsets = rw append-nil refl
+outcome_lenient (Visit ∷ nodes) (suc n) fields faults offsets = outcome_lenient nodes n fields faults offsets
+outcome_lenient (Found l ∷ nodes) left fields faults offsets = outcome_lenient nodes left (fields ++ l.field ∷ []) faults (entry_noted offsets (entry_of l)) ∙ added_found true fields faults l (cut left nodes)
+outcome_lenient (Met fault ∷ nodes) left fields faults offsets = outcome_lenient nodes left fields (faults ++ fault ∷ []) offsets ∙ added_met true fields faults fault (cut left nodes)
 
 -- strict running without a fault so far answers the same, or the first fault up to the limit
-pub outcome_strict : (nodes : List Node) (left : ℕ) (fields : List Field) (places : Noted) → outcome (run nodes (at_work false left fields [] places)) ≡ added false fields [] (cut left nodes)
-outcome_strict [] left fields places = rw append-nil refl
-outcome_strict (Opens directory ∷ nodes) left fields places = outcome_strict nodes left fields (directory_noted places directory)
-outcome_strict (Visit ∷ nodes) zero fields places = refl
-outcome_strict (Visit ∷ nodes) (suc n) fields places = outcome_strict nodes n fields places
-outcome_strict (Found l ∷ nodes) left fields places = outcome_strict nodes left (fields ++ l.field ∷ []) (entry_noted places (entry_of l)) ∙ added_found false fields [] l (cut left nodes)
-outcome_strict (Met fault ∷ nodes) left fields places = refl
+pub outcome_strict : (nodes : List Node) (left : ℕ) (fields : List Field) (offsets : Noted) → outcome (run nodes (at_work false left fields [] offsets)) ≡ added false fields [] (cut left nodes)
+outcome_strict [] left fields offsets = rw append-nil refl
+outcome_strict (Opens directory ∷ nodes) left fields offsets = outcome_strict nodes left fields (directory_noted offsets directory)
+outcome_strict (Visit ∷ nodes) zero fields offsets = refl
+outcome_strict (Visit ∷ nodes) (suc n) fields offsets = outcome_strict nodes n fields offsets
+outcome_strict (Found l ∷ nodes) left fields offsets = outcome_strict nodes left (fields ++ l.field ∷ []) (entry_noted offsets (entry_of l)) ∙ added_found false fields [] l (cut left nodes)
+outcome_strict (Met fault ∷ nodes) left fields offsets = refl
 
 -- from a parser that has read nothing, the answer is that of the trace up to its limit
-pub outcome_run : (nodes : List Node) (lenient : Bool) (left : ℕ) (places : Noted) → outcome (run nodes (at_work lenient left [] [] places)) ≡ answer_of lenient (content_of (cut left nodes))
-outcome_run nodes true left places = outcome_lenient nodes left [] [] places
-outcome_run nodes false left places = outcome_strict nodes left [] places
+pub outcome_run : (nodes : List Node) (lenient : Bool) (left : ℕ) (offsets : Noted) → outcome (run nodes (at_work lenient left [] [] offsets)) ≡ answer_of lenient (content_of (cut left nodes))
+outcome_run nodes true left offsets = outcome_lenient nodes left [] [] offsets
+outcome_run nodes false left offsets = outcome_strict nodes left [] offsets
 
 -- a parser that stopped did not go on
 pub stopped : (p q : Progress) (fault : Fault) → ◌≡◌ {A = Progress × Option Fault} (p, Some fault) (q, None) → ⊥
@@ -52,18 +52,18 @@ stopped p q fault e = let k : ◌≡◌ {A = Option Fault} (Some fault) None = a
 same_stop : (p q : Progress) (fault other : Fault) → ◌≡◌ {A = Progress × Option Fault} (p, Some fault) (q, Some other) → fault ≡ other
 same_stop p q fault other e = let k : ◌≡◌ {A = Option Fault} (Some fault) (Some other) = ap (λ (x : Progress × Option Fault). x.1) e in cc
 
-met_cases : (b : Bool) (left : ℕ) (fields : List Field) (faults : List Fault) (places : Noted) (q : Progress) (fault : Fault) → on_met (at_work b left fields faults places) fault ≡ (q, None) → outcome (at_work b left fields faults places, Some fault) ≡ outcome (q, None)
-met_cases true left fields faults places q fault e = ap (λ (x : Progress × Option Fault). outcome x) e
-met_cases false left fields faults places q fault e = absurd (stopped (at_work false left fields faults places) q fault e)
+met_cases : (b : Bool) (left : ℕ) (fields : List Field) (faults : List Fault) (offsets : Noted) (q : Progress) (fault : Fault) → on_met (at_work b left fields faults offsets) fault ≡ (q, None) → outcome (at_work b left fields faults offsets, Some fault) ≡ outcome (q, None)
+met_cases true left fields faults offsets q fault e = ap (λ (x : Progress × Option Fault). outcome x) e
+met_cases false left fields faults offsets q fault e = absurd (stopped (at_work false left fields faults offsets) q fault e)
 
-refused_cases : (b : Bool) (left : ℕ) (fields : List Field) (faults : List Fault) (places : Noted) (q : Progress) (fault other : Fault) → on_met (at_work b left fields faults places) fault ≡ (q, Some other) → outcome (at_work b left fields faults places, Some fault) ≡ Refused other
-refused_cases true left fields faults places q fault other e = absurd (stopped q (at_work true left fields (faults ++ fault ∷ []) places) other (sym e))
-refused_cases false left fields faults places q fault other e = ap (λ f. Refused f) (same_stop (at_work false left fields faults places) q fault other e)
+refused_cases : (b : Bool) (left : ℕ) (fields : List Field) (faults : List Fault) (offsets : Noted) (q : Progress) (fault other : Fault) → on_met (at_work b left fields faults offsets) fault ≡ (q, Some other) → outcome (at_work b left fields faults offsets, Some fault) ≡ Refused other
+refused_cases true left fields faults offsets q fault other e = absurd (stopped q (at_work true left fields (faults ++ fault ∷ []) offsets) other (sym e))
+refused_cases false left fields faults offsets q fault other e = ap (λ f. Refused f) (same_stop (at_work false left fields faults offsets) q fault other e)
 
 -- a fault at which the parser stopped is noted, or refused
 pub met_noted : (p q : Progress) (fault : Fault) → on_met p fault ≡ (q, None) → outcome (p, Some fault) ≡ outcome (q, None)
-met_noted p q fault e = met_cases p.lenient p.left p.fields p.faults p.places q fault e
+met_noted p q fault e = met_cases p.lenient p.left p.fields p.faults p.offsets q fault e
 
 -- a fault that stops the parser is answered as a refusal
 pub met_refused : (p q : Progress) (fault other : Fault) → on_met p fault ≡ (q, Some other) → outcome (p, Some fault) ≡ Refused other
-met_refused p q fault other e = refused_cases p.lenient p.left p.fields p.faults p.places q fault other e
+met_refused p q fault other e = refused_cases p.lenient p.left p.fields p.faults p.offsets q fault other e

@@ -19,7 +19,7 @@ abbrev pub AsksMemory : Result Parsed Stop → List ℕ → Type 0
 AsksMemory (Err stop.OutOfMemory) bytes = IsOk (header bytes)
 AsksMemory _ bytes = Unit {0}
 
--- what was read, without its places
+-- what was read, without its offsets
 abbrev pub parsed_of : Result Placed Stop → Result Parsed Stop
 parsed_of (Ok placed) = Ok placed.parsed
 parsed_of (Err stop) = Err stop

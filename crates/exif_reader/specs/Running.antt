@@ -4,7 +4,7 @@ use Rattle.exif_tiff.specs.Trace.{Located, Node, Opens, Visit, Found, Met, entry
 use Rattle.exif_tiff.specs.Answers.{Answer, Refused, shown}
 use Rattle.exif_types.specs.declared.field.Field.{Field}
 use Rattle.exif_tiff.specs.declared.fault.Fault.{Fault}
-use Rattle.exif_tiff.specs.declared.place.DirectoryPlace.{DirectoryPlace}
+use Rattle.exif_tiff.specs.declared.offset.DirectoryOffset.{DirectoryOffset}
 use Rattle.exif_reader.specs.Noted.{Noted, directory_noted, entry_noted}
 use Rattle.exif_tiff.specs.declared.fault.Fault.TheVariants.{TooManyEntries}
 
@@ -16,21 +16,21 @@ pub record Progress : Type 0 where
   pub left : ℕ
   pub fields : List Field
   pub faults : List Fault
-  pub places : Noted
+  pub offsets : Noted
 
 -- one node, and the fault at which the parser stops there
-abbrev pub on_opens : Progress → DirectoryPlace → Progress × Option Fault
-on_opens p directory = (record p { places = directory_noted p.places directory }, None)
+abbrev pub on_opens : Progress → DirectoryOffset → Progress × Option Fault
+on_opens p directory = (record p { offsets = directory_noted p.offsets directory }, None)
 
 -- a visit takes one of the entries that are left, and stops the parser where none is
 abbrev pub on_visit : Progress → Progress × Option Fault
 on_visit p = elim p.left [ zero ↦ (p, Some TooManyEntries) | suc n ↦ (record p { left = n }, None) ]
 
--- a found field comes behind those read before, and its place is noted if places are asked for
+-- a found field comes behind those read before, and its offset is noted if offsets are asked for
 abbrev pub on_found : Progress → Located → Progress × Option Fault
 on_found p l =
-    let places = entry_noted p.places (entry_of l) in
-    (record p { fields = p.fields ++ l.field ∷ []; places = places }, None)
+    let offsets = entry_noted p.offsets (entry_of l) in
+    (record p { fields = p.fields ++ l.field ∷ []; offsets = offsets }, None)
 
 -- a met fault is noted by a lenient parser, and stops a strict one
 abbrev pub on_met : Progress → Fault → Progress × Option Fault

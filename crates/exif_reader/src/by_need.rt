@@ -20,7 +20,7 @@ use std::alloc::Global;
 /// values, in front of the strips.
 pub const FRONT: u64 = 262144;
 
-// So many bytes are more than places of 32 bits reach.
+// So many bytes are more than offsets of 32 bits reach.
 const TOO_MANY: u64 = 4294967296;
 
 /// What strict reading finds in a front, where it meets no fault there.
@@ -56,15 +56,15 @@ fn holds_first_directory(front: &[u8]) -> bool {
 fn holds_entries<E: Endian>(front: &[u8]) -> bool
     requires { 8 ≤ length front.now }
 {
-    let place = E::loadu32(front, 4) as usize;
-    if place > front.len() - 2 {
+    let offset = E::loadu32(front, 4) as usize;
+    if offset > front.len() - 2 {
         return false;
     }
-    let count = E::loadu16(front, place) as usize;
-    12 * count <= front.len() - 2 - place
+    let count = E::loadu16(front, offset) as usize;
+    12 * count <= front.len() - 2 - offset
 }
 
-/// Passes over what follows a front of so many bytes, and answers whether places of 32 bits reach
+/// Passes over what follows a front of so many bytes, and answers whether offsets of 32 bits reach
 /// all of it.
 pub fn pass_rest<R: Source>(source: &mut R, front: u64) -> Result<bool, Error>
     requires { front ≤ 2 ^ 32 }

@@ -9,7 +9,7 @@ use exif_tiff::{Fault, decode_value};
 use exif_types::{Context, FieldType, Value};
 use std::alloc::{AllocError, Global};
 
-/// The value of the entry at a place, if it lies in the data.
+/// The value of the entry at an offset, if it lies in the data.
 pub fn entry_value<E: Endian>(
     alloc: Global,
     bytes: &[u8],
@@ -25,39 +25,39 @@ pub fn entry_value<E: Endian>(
         return Ok(Some(Value::Unknown(number, count, (at + 8) as u32)));
     };
     let size = field_type.unit_length() as u64 * count as u64;
-    let place = if size <= 4 {
+    let offset = if size <= 4 {
         (at + 8) as u32
     } else {
         E::loadu32(bytes, at + 8)
     };
-    if place as u64 + size > bytes.len() as u64 {
+    if offset as u64 + size > bytes.len() as u64 {
         return Ok(None);
     }
-    Ok(Some(decode_value::<E>(alloc, field_type, count, bytes, place)?))
+    Ok(Some(decode_value::<E>(alloc, field_type, count, bytes, offset)?))
 }
 
-/// How many entries of the directory at a place are whole.
-pub fn whole_entries<E: Endian>(bytes: &[u8], place: u32) -> usize
-    ensures value { result ≡ whole_entries E.number_of bytes.now place }
-    ensures room { 0 < result → place + 2 + 12 * result ≤ length bytes.now }
+/// How many entries of the directory at an offset are whole.
+pub fn whole_entries<E: Endian>(bytes: &[u8], offset: u32) -> usize
+    ensures value { result ≡ whole_entries E.number_of bytes.now offset }
+    ensures room { 0 < result → offset + 2 + 12 * result ≤ length bytes.now }
 {
-    let start = place as usize + 2;
+    let start = offset as usize + 2;
     if bytes.len() < start {
         return 0;
     }
-    let count = E::loadu16(bytes, place as usize) as usize;
+    let count = E::loadu16(bytes, offset as usize) as usize;
     count.min((bytes.len() - start) / 12)
 }
 
-/// How the directory at a place ends: with the place of the next one, or a fault.
-pub fn directory_end<E: Endian>(bytes: &[u8], place: u32) -> Result<u32, Fault>
-    ensures { result ≡ directory_end E.number_of bytes.now place }
+/// How the directory at an offset ends: with the offset of the next one, or a fault.
+pub fn directory_end<E: Endian>(bytes: &[u8], offset: u32) -> Result<u32, Fault>
+    ensures { result ≡ directory_end E.number_of bytes.now offset }
 {
-    let start = place as usize + 2;
+    let start = offset as usize + 2;
     if bytes.len() < start {
         return Err(Fault::TruncatedCount);
     }
-    let count = E::loadu16(bytes, place as usize) as usize;
+    let count = E::loadu16(bytes, offset as usize) as usize;
     if (bytes.len() - start) / 12 < count {
         return Err(Fault::TruncatedDirectory);
     }

@@ -7,7 +7,7 @@ mod bytes;
 pub mod directory;
 pub mod laws;
 mod parser;
-pub mod places;
+pub mod offsets;
 mod reader;
 pub mod stop;
 pub mod tiff;

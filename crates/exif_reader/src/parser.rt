@@ -6,10 +6,10 @@ ghost use Rattle.exif_reader.specs.Running.{run, on_opens, on_visit, on_found, o
 ghost use Rattle.exif_reader.specs.Stops.{Follows, CountsTurns};
 
 use crate::directory::{child_of, directory_end, entry_value, whole_entries};
-use crate::places::Places;
+use crate::offsets::Offsets;
 use crate::stop::Stop;
 use exif_base::Endian;
-use exif_tiff::{DirectoryPlace, EntryPlace, Fault};
+use exif_tiff::{DirectoryOffset, EntryOffset, Fault};
 use exif_types::{Context, Field, In, Tag};
 use std::alloc::{AllocError, Global};
 use std::marker::Model;
@@ -22,7 +22,7 @@ pub struct Parser {
     left: u64,
     fields: Vec<Field>,
     faults: Vec<Fault>,
-    places: Places,
+    offsets: Offsets,
 }
 
 impl Model for Parser {
@@ -35,39 +35,39 @@ impl Model for Parser {
       left = p.left;
       fields = p.fields.items;
       faults = p.faults.items;
-      places = p.places;
+      offsets = p.offsets;
     } };
 }
 
 impl Parser {
     /// A parser that has read nothing.
-    pub fn new(alloc: Global, lenient: bool, left: u64, places: Places) -> Parser
+    pub fn new(alloc: Global, lenient: bool, left: u64, offsets: Offsets) -> Parser
         ensures { result ≡ record
-            { lenient = lenient; left = left; fields = []; faults = []; places = places } }
+            { lenient = lenient; left = left; fields = []; faults = []; offsets = offsets } }
     {
         Parser {
             lenient,
             left,
             fields: Vec::new(alloc),
             faults: Vec::new(alloc),
-            places,
+            offsets,
         }
     }
 
-    /// The fields and the faults, in their order, and the places.
-    pub fn into_parts(self) -> (Vec<Field>, Vec<Fault>, Places)
+    /// The fields and the faults, in their order, and the offsets.
+    pub fn into_parts(self) -> (Vec<Field>, Vec<Fault>, Offsets)
         ensures fields { result.0.items ≡ self.fields }
         ensures faults { result.1.items ≡ self.faults }
-        ensures places { result.2 ≡ self.places }
+        ensures offsets { result.2 ≡ self.offsets }
     {
         let Parser {
             lenient: _,
             left: _,
             fields,
             faults,
-            places,
+            offsets,
         } = self;
-        (fields, faults, places)
+        (fields, faults, offsets)
     }
 
     // Counts an entry.
@@ -92,21 +92,21 @@ impl Parser {
     }
 
     // Notes a directory, where that is asked for.
-    fn opens(&mut self, directory: DirectoryPlace) -> Result<(), Stop>
+    fn opens(&mut self, directory: DirectoryOffset) -> Result<(), Stop>
         ensures { Follows result self.new (on_opens self.old directory) }
     {
-        self.places.directory(directory)?;
+        self.offsets.directory(directory)?;
         Ok(())
     }
 
-    // Keeps a field, with the place of its entry where that is asked for. As a call of its own it
+    // Keeps a field, with the offset of its entry where that is asked for. As a call of its own it
     // took 5 ns of the 71 that a field takes.
     #[inline(always)]
-    fn found(&mut self, field: Field, place: EntryPlace) -> Result<(), Stop>
+    fn found(&mut self, field: Field, offset: EntryOffset) -> Result<(), Stop>
         ensures { Follows result self.new (on_found self.old
-            (record { field = field; entry = place.entry; directory = place.directory })) }
+            (record { field = field; entry = offset.entry; directory = offset.directory })) }
     {
-        self.places.entry(place)?;
+        self.offsets.entry(offset)?;
         self.fields.push(field)?;
         Ok(())
     }
@@ -122,7 +122,7 @@ impl Parser {
         Ok(())
     }
 
-    /// Reads the chain of directories from a place on, each entry in one turn.
+    /// Reads the chain of directories from an offset on, each entry in one turn.
     #[tactic(auto, using(crate::proofs::ParserTurns::counts_turns))]
     pub fn chain<E: Endian>(
         &mut self,
@@ -152,24 +152,24 @@ impl Parser {
         ensures { Follows result self.new
             (run (chain_nodes limit E.number_of bytes.now 0 first) self.old) }
     {
-        let mut place = first;
+        let mut offset = first;
         for number in 0..limit {
-            if place == 0 {
+            if offset == 0 {
                 return Ok(());
             }
-            self.directory::<E>(alloc, bytes, Context::Tiff, In(number), place)?;
-            match directory_end::<E>(bytes, place) {
-                Ok(next) => place = next,
+            self.directory::<E>(alloc, bytes, Context::Tiff, In(number), offset)?;
+            match directory_end::<E>(bytes, offset) {
+                Ok(next) => offset = next,
                 Err(fault) => return self.met(fault),
             }
         }
-        if place == 0 {
+        if offset == 0 {
             return Ok(());
         }
         self.met(Fault::TooManyDirectories)
     }
 
-    // Reads the directory at a place with its children.
+    // Reads the directory at an offset with its children.
     #[cycle(nodes)]
     fn directory<E: Endian>(
         &mut self,
@@ -177,25 +177,25 @@ impl Parser {
         bytes: &[u8],
         context: Context,
         ifd_num: In,
-        place: u32,
+        offset: u32,
     ) -> Result<(), Stop>
         requires { length bytes.now < 2 ^ 32 }
         ensures { Follows result self.new
-            (run (directory_nodes (depth_of context) E.number_of bytes.now ifd_num.0 context place)
+            (run (directory_nodes (depth_of context) E.number_of bytes.now ifd_num.0 context offset)
             self.old) }
     {
-        self.opens(DirectoryPlace { place, context })?;
-        let entries = whole_entries::<E>(bytes, place);
+        self.opens(DirectoryOffset { offset, context })?;
+        let entries = whole_entries::<E>(bytes, offset);
         self.make_room(entries)?;
-        let mut at = place as usize + 2;
+        let mut at = offset as usize + 2;
         for _ in 0..entries {
-            self.entry::<E>(alloc, bytes, context, ifd_num, place, at)?;
+            self.entry::<E>(alloc, bytes, context, ifd_num, offset, at)?;
             at += 12;
         }
         Ok(())
     }
 
-    // Reads the entry at a place, of the directory at another.
+    // Reads the entry at an offset, of the directory at another.
     #[cycle(nodes)]
     fn entry<E: Endian>(
         &mut self,
@@ -226,7 +226,7 @@ impl Parser {
                     ifd_num,
                     value,
                 },
-                EntryPlace {
+                EntryOffset {
                     entry: at as u32,
                     directory,
                 },
@@ -242,18 +242,18 @@ impl Parser {
         bytes: &[u8],
         child: Context,
         ifd_num: In,
-        place: Option<u32>,
+        offset: Option<u32>,
     ) -> Result<(), Stop>
         requires { length bytes.now < 2 ^ 32 }
         ensures { Follows result self.new
             (run (pointer_nodes (directory_nodes (depth_of child) E.number_of bytes.now ifd_num.0)
-            E.number_of bytes.now child place) self.old) }
+            E.number_of bytes.now child offset) self.old) }
     {
-        let Some(place) = place else {
+        let Some(offset) = offset else {
             return self.met(Fault::InvalidPointer);
         };
-        self.directory::<E>(alloc, bytes, child, ifd_num, place)?;
-        match directory_end::<E>(bytes, place) {
+        self.directory::<E>(alloc, bytes, child, ifd_num, offset)?;
+        match directory_end::<E>(bytes, offset) {
             Ok(0) => Ok(()),
             Ok(_) => self.met(Fault::UnexpectedNext),
             Err(fault) => self.met(fault),

@@ -4,13 +4,13 @@ ghost use Rattle.std.specs.Prelude.{◌≡◌, ◌≤◌, ◌<◌, ◌^◌, leng
 ghost use Rattle.exif_tiff.specs.Trace.{header, content_of, cut, ordered_trace, trace};
 ghost use Rattle.exif_tiff.specs.Answers.{answer_of, raw_answer};
 ghost use Rattle.exif_reader.specs.Bounds.{FieldsAtMost};
-ghost use Rattle.exif_reader.specs.Noted.{TellsPlaces};
+ghost use Rattle.exif_reader.specs.Noted.{TellsOffsets};
 ghost use Rattle.exif_reader.specs.Readings.{ParsesAs};
 ghost use Rattle.exif_reader.specs.Results.{Says, AsksMemory, SaysOrder, parsed_of};
 
 use crate::bytes::show_bytes;
 use crate::parser::Parser;
-use crate::places::Places;
+use crate::offsets::Offsets;
 use crate::stop::Stop;
 use exif_base::{BigEndian, Endian, LittleEndian, Order};
 use exif_tiff::Fault;
@@ -30,7 +30,7 @@ pub struct Parsed {
 #[derive(Drop)]
 pub struct Placed {
     pub parsed: Parsed,
-    pub places: Places,
+    pub offsets: Offsets,
 }
 
 /// The order of the data, or what is wrong with their header.
@@ -56,7 +56,7 @@ pub fn header(bytes: &[u8]) -> Result<Order, Fault>
     Ok(order)
 }
 
-// Reads data whose header is right, up to a limit on the visited entries, and with the places
+// Reads data whose header is right, up to a limit on the visited entries, and with the offsets
 // where they are asked for.
 fn parse_in<E: Endian>(
     alloc: Global,
@@ -71,25 +71,25 @@ fn parse_in<E: Endian>(
     ensures says { Says (parsed_of result)
         (answer_of lenient (content_of (cut most (ordered_trace E.number_of bytes.now)))) }
     ensures order { IfOk result (λ placed. placed.parsed.little_endian ≡ little_endian) }
-    ensures places { lenient ≡ true → asked ≡ true → IfOk result
-        (λ placed. TellsPlaces (cut most (ordered_trace E.number_of bytes.now)) placed.places) }
+    ensures offsets { lenient ≡ true → asked ≡ true → IfOk result
+        (λ placed. TellsOffsets (cut most (ordered_trace E.number_of bytes.now)) placed.offsets) }
 {
-    let mut parser = Parser::new(alloc, lenient, most, Places::new(alloc, asked));
+    let mut parser = Parser::new(alloc, lenient, most, Offsets::new(alloc, asked));
     match parser.chain::<E>(alloc, bytes, 8, E::loadu32(bytes, 4)) {
         Ok(()) => {}
         Err(Stop::Fault(fault)) => parser.met(fault)?,
         Err(Stop::OutOfMemory) => return Err(Stop::OutOfMemory),
     }
-    let (fields, faults, places) = parser.into_parts();
+    let (fields, faults, offsets) = parser.into_parts();
     let parsed = Parsed {
         fields,
         faults,
         little_endian,
     };
-    Ok(Placed { parsed, places })
+    Ok(Placed { parsed, offsets })
 }
 
-// Reads TIFF data, up to so many visited entries, and with the places where they are asked for.
+// Reads TIFF data, up to so many visited entries, and with the offsets where they are asked for.
 fn parse_within(
     alloc: Global,
     bytes: &[u8],
@@ -100,8 +100,8 @@ fn parse_within(
     ensures says { Says (parsed_of result) (raw_answer lenient (Some most) bytes.now) }
     ensures order { SaysOrder (parsed_of result) bytes.now }
     ensures memory { AsksMemory (parsed_of result) bytes.now }
-    ensures places { lenient ≡ true → asked ≡ true → IfOk result
-        (λ placed. TellsPlaces (cut most (trace bytes.now)) placed.places) }
+    ensures offsets { lenient ≡ true → asked ≡ true → IfOk result
+        (λ placed. TellsOffsets (cut most (trace bytes.now)) placed.offsets) }
 {
     match header(bytes) {
         Ok(Order::Big) => parse_in::<BigEndian>(alloc, bytes, lenient, most, asked, false),
@@ -124,12 +124,12 @@ pub fn parse(alloc: Global, bytes: &[u8], lenient: bool, limit: Option<u64>) -> 
     Ok(placed.parsed)
 }
 
-/// Reads TIFF data leniently and without a limit, with the places of what it reads.
+/// Reads TIFF data leniently and without a limit, with the offsets of what it reads.
 pub fn parse_located(alloc: Global, bytes: &[u8]) -> Result<Placed, Stop>
     ensures says { Says (parsed_of result) (raw_answer true None bytes.now) }
     ensures order { SaysOrder (parsed_of result) bytes.now }
     ensures memory { AsksMemory (parsed_of result) bytes.now }
-    ensures places { IfOk result (λ placed. TellsPlaces (trace bytes.now) placed.places) }
+    ensures offsets { IfOk result (λ placed. TellsOffsets (trace bytes.now) placed.offsets) }
 {
     show_bytes(bytes);
     reading_is_bounded();

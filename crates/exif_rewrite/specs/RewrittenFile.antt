@@ -11,7 +11,7 @@ use Rattle.exif_rewrite_jpeg.specs.Rewriting.{Rewriting, ends, finished, refused
 use Rattle.exif_rewrite_jpeg.specs.RewrittenJpeg.{jpeg_rewriting}
 use Rattle.exif_rewrite_webp.specs.RewrittenWebp.{webp_rewriting, webp_rewriting_refusals}
 
--- what TIFF data and HEIF files hold is found by its place in the file
+-- what TIFF data and HEIF files hold is found by its offset in the file
 abbrev pub tiff_stays : Refusal
 tiff_stays = not_supported (codes "TIFF data are edited in place")
 

@@ -66,7 +66,7 @@ fn rewrite_as<R: Source, W: Sink>(
 /// stays is said there. The sink is flushed once, at the end.
 ///
 /// Refusals: those of the two; NotSupported `HEIF files are edited in place` and `TIFF data are
-/// edited in place`, since what they hold is found by its place in the file, which has to stay
+/// edited in place`, since what they hold is found by its offset in the file, which has to stay
 /// (`exif_edit` edits them so); and InvalidFormat `Unknown image format`. After an error a beginning
 /// of the new file was sent; none of it where memory ran out, which comes of WebP files alone, nor
 /// after a refusal of any but a JPEG stream. How far the source was read is left open.

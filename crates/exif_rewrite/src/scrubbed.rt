@@ -73,7 +73,7 @@ fn in_memory(error: Error) -> Error
 ///
 /// They are TIFF data, which are read, in both modes and without a fault, as exactly these fields,
 /// in the order of their tags. A field of an unknown type is not kept, nor a tag that the writer
-/// makes itself: the pointers, and the places and lengths of strips, tiles and thumbnails.
+/// makes itself: the pointers, and the offsets and lengths of strips, tiles and thumbnails.
 ///
 /// Refusals are those of `Writer::write` for these fields: more of them than a directory holds, or
 /// data longer than 4,294,967,295 bytes. All else is out of memory.

@@ -1,4 +1,4 @@
-//! What was read, written again without the place where a picture was taken.
+//! What was read, written again without the location where a picture was taken.
 
 ghost use Rattle.std.specs.Prelude.{◌≡◌, ◌⊎◌, None, Some, false, OnOk, OnErr, IfErr, IfSome, IsErrAnd};
 ghost use Rattle.std.specs.Io.KnownBytes.{Appends, Keeps};
@@ -18,7 +18,7 @@ use exif_types::{Context, Error, Exif, Field, Value};
 use exif_writer::Writer;
 use std::alloc::Global;
 
-// Whether a field is written again: its type is known, and it says nothing of the place.
+// Whether a field is written again: its type is known, and it says nothing of the location.
 fn is_kept(field: &Field) -> bool
     ensures { result ≡ is_kept field.now }
 {

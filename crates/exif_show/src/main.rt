@@ -26,12 +26,12 @@ fn main(rt: HostRuntime) -> io::Result<ExitCode> {
     for argument in words.skip(1) {
         arguments.push(argument)?;
     }
-    let Some((lenient, place)) = mode(arguments.as_slice()) else {
+    let Some((lenient, index)) = mode(arguments.as_slice()) else {
         eprintln!(rt; "usage: exif_show [-c] FILE")?;
         return Ok(ExitCode::from(2));
     };
     let mut err = Counted::new(rt.stderr());
-    let file = match File::open(&rt, arguments[place].as_str()) {
+    let file = match File::open(&rt, arguments[index].as_str()) {
         Ok(file) => file,
         Err(cause) => {
             let _ = say(rt.alloc(), &mut err, &Error::Io(cause));

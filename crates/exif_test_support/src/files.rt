@@ -45,7 +45,7 @@ pub const EVERY_DIRECTORY: &[u8] =
     b"MM\0*\0\0\0\x08\0\x03\x01\x0e\0\x02\0\0\0\x07\0\0\0t\x87i\0\x04\0\0\0\x01\0\0\02\x88%\0\x04\0\0\0\x01\0\0\0P\0\0\0|\0\x02\x90\0\0\x07\0\0\0\x040231\xa0\x05\0\x04\0\0\0\x01\0\0\0b\0\0\0\0\0\x01\0\0\0\x01\0\0\0\x04\x02\x03\0\0\0\0\0\0\0\x01\0\x01\0\x02\0\0\0\x04ABC\0\0\0\0\0Sample\0\0\0\x02\x02\x01\0\x04\0\0\0\x01\0\0\0\x9a\x02\x02\0\x04\0\0\0\x01\0\0\0\x04\0\0\0\0JPEG";
 
 /// A GPS version in the first directory, and a description in the second.
-pub const PLACE_BEFORE_DESCRIPTION: &[u8] =
+pub const OFFSET_BEFORE_DESCRIPTION: &[u8] =
     b"MM\0*\0\0\0\x08\0\x01\x88\x25\0\x04\0\0\0\x01\0\0\0\x1a\0\0\0\x2c\0\x01\0\0\0\x01\0\0\0\x04\x02\x03\0\0\0\0\0\0\0\x01\x01\x0e\0\x02\0\0\0\x02p\0\0\0\0\0\0\0";
 
 /// The image description in the first segment of a JPEG stream.

@@ -36,7 +36,7 @@ contents_view (C.SLong xs) = SignedLongs xs.now
 contents_view (C.SRational xs) = SignedRationals xs.now
 contents_view (C.Float xs) = Floats xs.now
 contents_view (C.Double xs) = Doubles xs.now
-contents_view (C.Unknown kind count place) = Unknown kind count place
+contents_view (C.Unknown kind count offset) = Unknown kind count offset
 
 -- the first of the texts
 abbrev pub first_text : Plain → Option (List ℕ)

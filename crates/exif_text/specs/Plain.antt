@@ -11,7 +11,7 @@ abbrev pub listed : {X : Type 0} → (X → List ℕ) → List X → List ℕ
 listed text [] = []
 listed text (x ∷ xs) = text x ++ flat_map (λ y. codes ", " ++ text y) xs
 
--- the digits with zeros before them up to k places
+-- the digits with zeros before them up to k offsets
 unfoldable pub zero_filled : ℕ → List ℕ → List ℕ
 zero_filled k text = replicate (k - length text) 48 ++ text
 
@@ -33,7 +33,7 @@ plain_text (SignedLongs xs) = listed signed_decimal xs
 plain_text (SignedRationals xs) = listed srational_text xs
 plain_text (Floats xs) = listed (bits_text 8) xs
 plain_text (Doubles xs) = listed (bits_text 16) xs
-plain_text (Unknown kind count place) =
+plain_text (Unknown kind count offset) =
     codes "unknown value (type="
     ++ (decimal kind ++ (codes ", count="
-    ++ (decimal count ++ (codes ", offset=0x" ++ (digits 16 false place ++ codes ")")))))
+    ++ (decimal count ++ (codes ", offset=0x" ++ (digits 16 false offset ++ codes ")")))))

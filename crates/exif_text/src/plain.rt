@@ -44,9 +44,9 @@ pub fn write_plain<W: fmt::Write>(f: &mut fmt::Formatter<W>, contents: Contents<
         Contents::SRational(items) => write_list(f, items),
         Contents::Float(items) => write_floats(f, items),
         Contents::Double(items) => write_doubles(f, items),
-        Contents::Unknown(kind, count, place) => write!(
+        Contents::Unknown(kind, count, offset) => write!(
             f,
-            "unknown value (type={kind}, count={count}, offset=0x{place:x})"
+            "unknown value (type={kind}, count={count}, offset=0x{offset:x})"
         ),
     }
 }

@@ -17,7 +17,7 @@ use Rattle.exif_text.specs.declared.field_type.FieldType.TheVariants as field_ty
 use Rattle.exif_types.specs.declared.value.Value.{Value}
 use Rattle.exif_types.specs.declared.value.Value.TheVariants as value
 
--- the same byte stands in both at each place of a stretch
+-- the same byte stands in both at each offset of a stretch
 abbrev pub Same : List ℕ → List ℕ → ℕ → ℕ → Type 0
 Same a b p n = (i : ℕ) → p ≤ i → i < p + n → slice_index a i ≡ slice_index b i
 
@@ -25,11 +25,11 @@ Same a b p n = (i : ℕ) → p ≤ i → i < p + n → slice_index a i ≡ slice
 pub part_same : (a b : List ℕ) (p n q m : ℕ) → p ≤ q → q + m ≤ p + n → Same a b p n → Same a b q m
 part_same a b p n q m low high h i from to = h i (omega arith) (omega arith)
 
--- a byte of a stretch is that of the data at its place
+-- a byte of a stretch is that of the data at its offset
 pub taken : (n : ℕ) (xs : List ℕ) (p i : ℕ) → i < n → slice_index (bytes_at n xs p) i ≡ slice_index xs (p + i)
 taken n xs p i lt = get_or-take n (drop p xs) i 0 lt ∙ get_or-drop p xs i 0
 
--- where the bytes of a stretch are equal, each place of it holds the same byte in both
+-- where the bytes of a stretch are equal, each offset of it holds the same byte in both
 pub same_of : (a b : List ℕ) (p n : ℕ) → bytes_at n a p ≡ bytes_at n b p → Same a b p n
 same_of a b p n e i from to =
     let on : p + (i - p) ≡ i = omega arith in
@@ -47,7 +47,7 @@ front_same (suc n) (x ∷ a) (y ∷ b) e h =
     let rest = front_same n a b (omega (arith, e)) (λ i lt. h (suc i) (omega arith)) in
     rw (one, rest) refl
 
--- in data of one length, a stretch that agrees place by place has equal bytes
+-- in data of one length, a stretch that agrees offset by offset has equal bytes
 pub bytes_same : (a b : List ℕ) (p n : ℕ) → length a ≡ length b → Same a b p n
     → bytes_at n a p ≡ bytes_at n b p
 bytes_same a b p n e h =
@@ -156,7 +156,7 @@ pub decode_alike : (order : Order) (type count : ℕ) (a b : List ℕ) (p : ℕ)
     → decode (number_of order) type count a p ≡ decode (number_of order) type count b p
 decode_alike order type count a b p e = known_alike order (type_of type) type count a b p e
 
--- so in data of one length, where the bytes of the value agree place by place
+-- so in data of one length, where the bytes of the value agree offset by offset
 pub decode_same : (order : Order) (type count : ℕ) (a b : List ℕ) (p : ℕ) → length a ≡ length b
     → Same a b p (known_length (type_of type) * count)
     → decode (number_of order) type count a p ≡ decode (number_of order) type count b p

@@ -9,7 +9,7 @@ use Rattle.exif_tiff.proofs.Members.{all_append}
 
 -- one ends before the other begins
 abbrev pub IsApart : Stretch → Stretch → Type 0
-IsApart s t = (s.place + s.len ≤ t.place) ⊎ (t.place + t.len ≤ s.place)
+IsApart s t = (s.offset + s.len ≤ t.offset) ⊎ (t.offset + t.len ≤ s.offset)
 
 -- each two stretches of a list are apart
 abbrev pub AreApart : List Stretch → Type 0
@@ -50,9 +50,9 @@ all_weaker P Q h (s ∷ ss) p = (h s p.0, all_weaker P Q h ss p.1)
 -- ---- the test
 
 no_overlap : (s t : Stretch) → IsApart s t → overlap s t ≡ false
-no_overlap s t h = by_tests (nat_lt t.place (s.place + s.len)) (nat_lt s.place (t.place + t.len)) refl refl h
+no_overlap s t h = by_tests (nat_lt t.offset (s.offset + s.len)) (nat_lt s.offset (t.offset + t.len)) refl refl h
   where
-    by_tests : (a b : Bool) → nat_lt t.place (s.place + s.len) ≡ a → nat_lt s.place (t.place + t.len) ≡ b
+    by_tests : (a b : Bool) → nat_lt t.offset (s.offset + s.len) ≡ a → nat_lt s.offset (t.offset + t.len) ≡ b
         → IsApart s t → (a && b) ≡ false
     by_tests false b p q h = refl
     by_tests true false p q h = refl

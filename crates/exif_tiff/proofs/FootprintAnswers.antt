@@ -76,7 +76,7 @@ module _ (a b : List ℕ) (as_long : length a ≡ length b) where
 
   -- the footprint behind a header
   abbrev footprint_by : List ℕ → Result Order Fault → List Stretch
-  footprint_by bytes x = record { place = 0; len = 8 } ∷ elim x [
+  footprint_by bytes x = record { offset = 0; len = 8 } ∷ elim x [
     | Ok order ↦ ordered_footprint (number_of order) bytes
     | Err fault ↦ []
   ]
@@ -85,7 +85,7 @@ module _ (a b : List ℕ) (as_long : length a ≡ length b) where
       → footprint_by a x ≡ footprint_by b x
   footprint_same (Err fault) s h = refl
   footprint_same (Ok order) s h =
-      ap (λ rest. record { place = 0; len = 8 } ∷ rest) (shared_in_order order a b as_long s h)
+      ap (λ rest. record { offset = 0; len = 8 } ∷ rest) (shared_in_order order a b as_long s h)
 
 -- data of one length that agree on the footprint of the one have the same footprint
 pub footprint_shared : (a b : List ℕ) → FootprintIsShared a b

@@ -10,9 +10,9 @@ use Rattle.exif_table.specs.declared.context.Context.{Context}
 use Rattle.exif_table.specs.declared.context.Context.TheVariants.{Tiff}
 use Rattle.exif_tiff.specs.declared.fault.Fault.{Fault}
 use Rattle.exif_tiff.specs.Footprint.{Agree, Below, named, pointed, entry_directories, directories, following, chain_directories, directory_stretch, value_stretch, looked_at, ordered_footprint}
-use Rattle.exif_tiff.specs.Trace.{child_of, depth_of, directory_end, entry_places, entry_value}
+use Rattle.exif_tiff.specs.Trace.{child_of, depth_of, directory_end, entry_offsets, entry_value}
 use Rattle.exif_tiff.proofs.Agreement.{Same, number_same, part_same}
-use Rattle.exif_tiff.proofs.Footprints.{Alike, ValueAlike, all_flat, each_same, end_same, entries_same, first_alike, places_same, value_same, whole_same}
+use Rattle.exif_tiff.proofs.Footprints.{Alike, ValueAlike, all_flat, each_same, end_same, entries_same, first_alike, offsets_same, value_same, whole_same}
 use Rattle.exif_tiff.proofs.Members.{all_left, all_right}
 
 module _ (order : Order) (a b : List ℕ) (as_long : length a ≡ length b) where
@@ -22,17 +22,17 @@ module _ (order : Order) (a b : List ℕ) (as_long : length a ≡ length b) wher
   value_stretch_same e h =
       let types = number_same order 2 a b (e + 2) (part_same a b e 12 (e + 2) 2 (omega arith) (omega arith) h) in
       let counts = number_same order 4 a b (e + 4) (part_same a b e 12 (e + 4) 4 (omega arith) (omega arith) h) in
-      let places = number_same order 4 a b (e + 8) (part_same a b e 12 (e + 8) 4 (omega arith) (omega arith) h) in
-      rw (types, counts, places, as_long) refl
+      let offsets = number_same order 4 a b (e + 8) (part_same a b e 12 (e + 8) 4 (omega arith) (omega arith) h) in
+      rw (types, counts, offsets, as_long) refl
 
   looked_same : (p : ℕ) → Alike order a b as_long p
       → looked_at (number_of order) a p ≡ looked_at (number_of order) b p
   looked_same p h =
       let whole = whole_same order a b as_long p h in
-      let es = places_same order a b as_long p h in
+      let es = offsets_same order a b as_long p h in
       let here = entries_same order a b as_long p h in
       let values = each_same (value_stretch (number_of order) a) (value_stretch (number_of order) b)
-      (λ e. Same a b e 12) (λ e. Same a b e 12) (λ e. Same a b e 12) (entry_places (number_of order) a p)
+      (λ e. Same a b e 12) (λ e. Same a b e 12) (λ e. Same a b e 12) (entry_offsets (number_of order) a p)
       (λ e s t u. value_stretch_same e s) here here here in
       rw (← es, ← whole) (ap (λ rest. directory_stretch (number_of order) a p ∷ rest) values)
 
@@ -65,21 +65,21 @@ module _ (order : Order) (a b : List ℕ) (as_long : length a ≡ length b) wher
       → directories depth (number_of order) a c p ≡ directories depth (number_of order) b c p
   directories_same zero c p h = refl
   directories_same (suc depth) c p h =
-      rw (← places_same order a b as_long p h.0)
+      rw (← offsets_same order a b as_long p h.0)
       (ap (λ rest. p ∷ rest)
       (each_same (entry_directories (directories depth (number_of order) a) (number_of order) a c)
       (entry_directories (directories depth (number_of order) b) (number_of order) b c)
       (λ e. Same a b e 12) (ValueAlike order a b as_long)
       (λ e. AllByRecursion (Alike order a b as_long)
       (entry_directories (directories depth (number_of order) a) (number_of order) a c e))
-      (entry_places (number_of order) a p)
+      (entry_offsets (number_of order) a p)
       (below_same (directories depth (number_of order) a) (directories depth (number_of order) b)
       (directories_same depth) c)
       (entries_same order a b as_long p h.0)
-      (all_flat (Agree a b) (value_stretch (number_of order) a) (entry_places (number_of order) a p) h.0.1)
+      (all_flat (Agree a b) (value_stretch (number_of order) a) (entry_offsets (number_of order) a p) h.0.1)
       (all_flat (Alike order a b as_long)
       (entry_directories (directories depth (number_of order) a) (number_of order) a c)
-      (entry_places (number_of order) a p) h.1)))
+      (entry_offsets (number_of order) a p) h.1)))
 
   following_same : (f g : ℕ → List ℕ) (x : Result ℕ Fault)
       → ((q : ℕ) → AllByRecursion (Alike order a b as_long) (f q) → f q ≡ g q)

@@ -15,7 +15,7 @@ use Rattle.exif_table.specs.declared.context.Context.TheVariants.{Tiff}
 use Rattle.exif_tiff.specs.declared.fault.Fault.{Fault}
 use Rattle.exif_tiff.specs.declared.fault.Fault.TheVariants.{TruncatedCount, TruncatedDirectory, TruncatedNextOffset}
 use Rattle.exif_tiff.specs.Footprint.{Agree, Below, named, pointed, entry_directories, directories, following, chain_directories, value_stretch, looked_at, ordered_footprint}
-use Rattle.exif_tiff.specs.Trace.{Node, Visit, Directory, chain_after, chain_nodes, child_of, depth_of, directory_end, directory_nodes, entry_nodes, entry_places, entry_value, ordered_trace, pointer_nodes, tagged_nodes, valued_nodes, whole_entries, opened}
+use Rattle.exif_tiff.specs.Trace.{Node, Visit, Directory, chain_after, chain_nodes, child_of, depth_of, directory_end, directory_nodes, entry_nodes, entry_offsets, entry_value, ordered_trace, pointer_nodes, tagged_nodes, valued_nodes, whole_entries, opened}
 use Rattle.exif_tiff.proofs.Agreement.{Same, decode_same, number_same, part_same, same_of}
 use Rattle.exif_tiff.proofs.Members.{all_left, all_right}
 
@@ -26,7 +26,7 @@ all_flat P f [] h = tt
 all_flat P f (p ∷ ps) h =
     (all_left P (f p) (flat_map f ps) h, all_flat P f ps (all_right P (f p) (flat_map f ps) h))
 
--- pieces that are the same one by one, by what holds of three lists of places
+-- pieces that are the same one by one, by what holds of three lists of offsets
 pub each_same : {X : Type 0} (f g : ℕ → List X) (P Q R : ℕ → Type 0) (ps : List ℕ)
     → ((p : ℕ) → P p → Q p → R p → f p ≡ g p)
     → AllByRecursion P ps → AllByRecursion Q ps → AllByRecursion R ps
@@ -63,9 +63,9 @@ module _ (order : Order) (a b : List ℕ) (as_long : length a ≡ length b) wher
   whole_by : (p : ℕ) → Same a b p 2 → whole_entries number a p ≡ whole_entries number b p
   whole_by p h = let count = number_same order 2 a b p h in rw (as_long, count) refl
 
-  -- where both have the same count there, the entries stand at the same places
-  pub places_by : (p : ℕ) → Same a b p 2 → entry_places number a p ≡ entry_places number b p
-  places_by p h = ap (spaced (p + 2) 12) (whole_by p h)
+  -- where both have the same count there, the entries stand at the same offsets
+  pub offsets_by : (p : ℕ) → Same a b p 2 → entry_offsets number a p ≡ entry_offsets number b p
+  offsets_by p h = ap (spaced (p + 2) 12) (whole_by p h)
 
   counts : (p : ℕ) → Alike p → Same a b p 2
   counts p h =
@@ -76,9 +76,9 @@ module _ (order : Order) (a b : List ℕ) (as_long : length a ≡ length b) wher
   pub whole_same : (p : ℕ) → Alike p → whole_entries number a p ≡ whole_entries number b p
   whole_same p h = whole_by p (counts p h)
 
-  -- where both agree on a directory, its entries stand at the same places
-  pub places_same : (p : ℕ) → Alike p → entry_places number a p ≡ entry_places number b p
-  places_same p h = places_by p (counts p h)
+  -- where both agree on a directory, its entries stand at the same offsets
+  pub offsets_same : (p : ℕ) → Alike p → entry_offsets number a p ≡ entry_offsets number b p
+  offsets_same p h = offsets_by p (counts p h)
 
   ends_same : (s t u : Bool) (x y : ℕ) → (t ≡ false → x ≡ y) → ends s t u x ≡ ends s t u y
   ends_same true t u x y h = refl
@@ -86,7 +86,7 @@ module _ (order : Order) (a b : List ℕ) (as_long : length a ≡ length b) wher
   ends_same false false true x y h = refl
   ends_same false false false x y h = ap Ok (h refl)
 
-  -- where both have the same count and the same next place there
+  -- where both have the same count and the same next offset there
   pub end_by : (p : ℕ) → Same a b p 2 → Same a b (p + 2 + 12 * whole_entries number a p) 4
       → directory_end number a p ≡ directory_end number b p
   end_by p h k =
@@ -101,7 +101,7 @@ module _ (order : Order) (a b : List ℕ) (as_long : length a ≡ length b) wher
       (nat_lt (length a) (p + 2 + 12 * m + 4)) (number_at number 4 a (p + 2 + 12 * m))
       (number_at number 4 b (p + 2 + 12 * m)) next)
 
-  -- where both agree on a directory, it ends with the same next place, or with the same fault
+  -- where both agree on a directory, it ends with the same next offset, or with the same fault
   pub end_same : (p : ℕ) → Alike p → directory_end number a p ≡ directory_end number b p
   end_same p h =
       end_by p (counts p h)
@@ -117,29 +117,29 @@ module _ (order : Order) (a b : List ℕ) (as_long : length a ≡ length b) wher
   )
 
   -- where both agree on a directory, the 12 bytes of each whole entry are the same
-  pub entries_same : (p : ℕ) → Alike p → AllByRecursion (λ e. Same a b e 12) (entry_places number a p)
+  pub entries_same : (p : ℕ) → Alike p → AllByRecursion (λ e. Same a b e 12) (entry_offsets number a p)
   entries_same p h =
       let w = whole_entries number a p in
       spaced_same (p + 2) w (part_same a b p (2 + 12 * w + 4) (p + 2) (12 * w) (omega arith) (omega arith) (stands p h))
 
   -- the value of an entry, by its two tests
-  valued_same : (s t : Bool) (size place : ℕ) (v w x y : Value) → (s ≡ true → v ≡ w)
+  valued_same : (s t : Bool) (size offset : ℕ) (v w x y : Value) → (s ≡ true → v ≡ w)
       → (s ≡ false → t ≡ true → x ≡ y)
       → (if s then Some v else (if t then Some x else None))
       ≡ (if s then Some w else (if t then Some y else None))
-  valued_same true t size place v w x y h k = ap Some (h refl)
-  valued_same false true size place v w x y h k = ap Some (k refl refl)
-  valued_same false false size place v w x y h k = refl
+  valued_same true t size offset v w x y h k = ap Some (h refl)
+  valued_same false true size offset v w x y h k = ap Some (k refl refl)
+  valued_same false false size offset v w x y h k = refl
 
-  outside_same : (s t : Bool) (place size : ℕ) → s ≡ true → t ≡ true
+  outside_same : (s t : Bool) (offset size : ℕ) → s ≡ true → t ≡ true
       → AllByRecursion (Agree a b)
-      (if s && t then record { place = place; len = size } ∷ [] else []) → Same a b place size
-  outside_same true true place size e f h = same_of a b place size h.0
-  outside_same true false place size e f h = absurd (false_true f)
+      (if s && t then record { offset = offset; len = size } ∷ [] else []) → Same a b offset size
+  outside_same true true offset size e f h = same_of a b offset size h.0
+  outside_same true false offset size e f h = absurd (false_true f)
     where
       false_true : ◌≡◌ {A = Bool} false true → ⊥
       false_true e = cc
-  outside_same false t place size e f h = absurd (false_true e)
+  outside_same false t offset size e f h = absurd (false_true e)
     where
       false_true : ◌≡◌ {A = Bool} false true → ⊥
       false_true e = cc
@@ -150,22 +150,22 @@ module _ (order : Order) (a b : List ℕ) (as_long : length a ≡ length b) wher
   value_same e h v =
       let type = number_at number 2 a (e + 2) in
       let count = number_at number 4 a (e + 4) in
-      let place = number_at number 4 a (e + 8) in
+      let offset = number_at number 4 a (e + 8) in
       let size = known_length (type_of type) * count in
       let types : type ≡ number_at number 2 b (e + 2) =
       number_same order 2 a b (e + 2) (part_same a b e 12 (e + 2) 2 (omega arith) (omega arith) h) in
       let counts : count ≡ number_at number 4 b (e + 4) =
       number_same order 4 a b (e + 4) (part_same a b e 12 (e + 4) 4 (omega arith) (omega arith) h) in
-      let places : place ≡ number_at number 4 b (e + 8) =
+      let offsets : offset ≡ number_at number 4 b (e + 8) =
       number_same order 4 a b (e + 8) (part_same a b e 12 (e + 8) 4 (omega arith) (omega arith) h) in
-      rw (← types, ← counts, ← places, ← as_long)
-      (valued_same (nat_le size 4) (nat_le (place + size) (length a)) size place
+      rw (← types, ← counts, ← offsets, ← as_long)
+      (valued_same (nat_le size 4) (nat_le (offset + size) (length a)) size offset
       (decode number type count a (e + 8)) (decode number type count b (e + 8))
-      (decode number type count a place) (decode number type count b place)
+      (decode number type count a offset) (decode number type count b offset)
       (λ s. decode_same order type count a b (e + 8) as_long
       (part_same a b e 12 (e + 8) size (omega arith) (grind (arith, nat_tests)) h))
-      (λ s t. decode_same order type count a b place as_long
-      (outside_same (nat_lt 4 size) (nat_le (place + size) (length a)) place size
+      (λ s t. decode_same order type count a b offset as_long
+      (outside_same (nat_lt 4 size) (nat_le (offset + size) (length a)) offset size
       (grind (arith, nat_tests)) t v)))
 
   -- a pointer, where both directories below it hold the same
@@ -212,20 +212,20 @@ module _ (order : Order) (a b : List ℕ) (as_long : length a ≡ length b) wher
       → directory_nodes depth number a k c p ≡ directory_nodes depth number b k c p
   directory_same zero k c p h = refl
   directory_same (suc depth) k c p h =
-      rw (← places_same p h.0)
+      rw (← offsets_same p h.0)
       (ap (opened c p)
       (each_same (entry_nodes (directory_nodes depth number a k) number a c k p)
       (entry_nodes (directory_nodes depth number b k) number b c k p)
       (λ e. Same a b e 12) ValueAlike
       (λ e. AllByRecursion Alike (entry_directories (directories depth number a) number a c e))
-      (entry_places number a p)
+      (entry_offsets number a p)
       (λ e s v d. entry_same (directories depth number a) (directory_nodes depth number a k)
       (directory_nodes depth number b k) (directory_same depth k)
       (λ x q g. end_same q (first_alike depth x q g)) c k p e s v d)
       (entries_same p h.0)
-      (all_flat (Agree a b) (value_stretch number a) (entry_places number a p) h.0.1)
+      (all_flat (Agree a b) (value_stretch number a) (entry_offsets number a p) h.0.1)
       (all_flat Alike (entry_directories (directories depth number a) number a c)
-      (entry_places number a p) h.1)))
+      (entry_offsets number a p) h.1)))
 
   -- what follows a directory of a chain
   after_same : (rest : ℕ → List ℕ) (f g : ℕ → List Node) (x : Result ℕ Fault)

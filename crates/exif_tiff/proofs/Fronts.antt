@@ -18,7 +18,7 @@ use Rattle.exif_tiff.specs.declared.fault.Fault.{Fault}
 use Rattle.exif_tiff.specs.declared.fault.Fault.TheVariants.{DataTooLarge, TruncatedHeader, TooManyEntries, TruncatedValue}
 use Rattle.exif_tiff.specs.Answers.{Answer, Refused, Whole, answer_of, raw_answer}
 use Rattle.exif_tiff.specs.Fronts.{FrontHasHeader, FrontSaysAll, TooLargeIsRefused}
-use Rattle.exif_tiff.specs.Trace.{Content, Node, Opens, Visit, Found, Met, Directory, chain_after, chain_nodes, child_end, child_of, content_of, cut, depth_of, directory_end, directory_nodes, entry_nodes, entry_places, entry_value, faults_of, header, limited, order_of, ordered_trace, pointer_nodes, tagged_nodes, valued_nodes, whole_entries, opened}
+use Rattle.exif_tiff.specs.Trace.{Content, Node, Opens, Visit, Found, Met, Directory, chain_after, chain_nodes, child_end, child_of, content_of, cut, depth_of, directory_end, directory_nodes, entry_nodes, entry_offsets, entry_value, faults_of, header, limited, order_of, ordered_trace, pointer_nodes, tagged_nodes, valued_nodes, whole_entries, opened}
 use Rattle.exif_tiff.proofs.Agreement.{Same, decode_alike, number_same, same_of}
 use Rattle.exif_tiff.proofs.FootprintAnswers.{ordered, ordered_alike}
 use Rattle.exif_tiff.proofs.Footprints.{each_same, ends}
@@ -145,24 +145,24 @@ module _ (order : Order) (a b : List ℕ) (longer : length a ≤ length b)
   value_in e v h is =
       let type = number_at number 2 a (e + 2) in
       let count = number_at number 4 a (e + 4) in
-      let place = number_at number 4 a (e + 8) in
+      let offset = number_at number 4 a (e + 8) in
       let size = known_length (type_of type) * count in
       let types : type ≡ number_at number 2 b (e + 2) =
       number_same order 2 a b (e + 2) (same (e + 2) 2 (omega (arith, h))) in
       let counts : count ≡ number_at number 4 b (e + 4) =
       number_same order 4 a b (e + 4) (same (e + 4) 4 (omega (arith, h))) in
-      let places : place ≡ number_at number 4 b (e + 8) =
+      let offsets : offset ≡ number_at number 4 b (e + 8) =
       number_same order 4 a b (e + 8) (same (e + 8) 4 (omega (arith, h))) in
-      rw (← types, ← counts, ← places)
-      (valued_in (nat_le size 4) (nat_le (place + size) (length a)) (nat_le (place + size) (length b))
+      rw (← types, ← counts, ← offsets)
+      (valued_in (nat_le size 4) (nat_le (offset + size) (length a)) (nat_le (offset + size) (length b))
       (decode number type count a (e + 8)) (decode number type count b (e + 8))
-      (decode number type count a place) (decode number type count b place) v
+      (decode number type count a offset) (decode number type count b offset) v
       (λ s. decode_alike order type count a b (e + 8)
       (fronts (e + 8) size (grind (arith, nat_tests))))
       (λ t. (
         grind (arith, nat_tests),
-        decode_alike order type count a b place
-            (fronts place size (grind (arith, nat_tests))),
+        decode_alike order type count a b offset
+            (fronts offset size (grind (arith, nat_tests))),
       ))
       is)
 
@@ -214,18 +214,18 @@ module _ (order : Order) (a b : List ℕ) (longer : length a ≤ length b)
   directory_in zero k c p next e h = refl
   directory_in (suc depth) k c p next e h =
       let well = ends_in p next e in
-      let places : entry_places number a p ≡ entry_places number b p =
+      let offsets : entry_offsets number a p ≡ entry_offsets number b p =
       ap (spaced (p + 2) 12) well.whole in
       let stand = spaced_in (p + 2) (whole_entries number a p) well.room in
       let nodes : Directory → List ℕ → ℕ → List Node =
       λ child bytes q. entry_nodes child number bytes c k p q in
       let f = directory_nodes depth number a k in
       let g = directory_nodes depth number b k in
-      rw (← places) (ap (opened c p)
+      rw (← offsets) (ap (opened c p)
       (each_same (nodes f a) (nodes g b) StandsIn (λ q. IsClean (nodes f a q)) StandsIn
-      (entry_places number a p)
+      (entry_offsets number a p)
       (λ q s clean t. entry_in f g (directory_in depth k) c k p q s clean)
-      stand (clean_each (nodes f a) (entry_places number a p) h) stand))
+      stand (clean_each (nodes f a) (entry_offsets number a p) h) stand))
 
   -- what follows a directory of a chain
   linked_in : (left k p : ℕ) (x : Result ℕ Fault)

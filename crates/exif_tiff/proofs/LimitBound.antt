@@ -11,7 +11,7 @@ use Rattle.exif_table.specs.declared.context.Context.{Context}
 use Rattle.exif_table.specs.declared.context.Context.TheVariants.{Tiff}
 use Rattle.exif_tiff.specs.declared.fault.Fault.{Fault}
 use Rattle.exif_tiff.specs.declared.fault.Fault.TheVariants.{UnexpectedNext, TooManyDirectories}
-use Rattle.exif_tiff.specs.Trace.{Node, Visit, Found, Met, Directory, visits_of, fields_of, faults_of, cut, trace, ordered_trace, header, chain_nodes, chain_after, directory_nodes, directory_end, entry_nodes, entry_places, entry_value, valued_nodes, tagged_nodes, pointer_nodes, child_end, child_of, Opens}
+use Rattle.exif_tiff.specs.Trace.{Node, Visit, Found, Met, Directory, visits_of, fields_of, faults_of, cut, trace, ordered_trace, header, chain_nodes, chain_after, directory_nodes, directory_end, entry_nodes, entry_offsets, entry_value, valued_nodes, tagged_nodes, pointer_nodes, child_end, child_of, Opens}
 use Rattle.exif_tiff.specs.Visits.{ReportsAreBoundedUnder, LimitBoundsReports, LimitAndLengthBoundReports}
 use Rattle.exif_tiff.proofs.VisitBound.{visits_bounded}
 use Rattle.exif_tiff.proofs.Limits.{visits_limited}
@@ -53,7 +53,7 @@ paid_join xs ys a p q = record {
   paid = paid-append 0 0 xs ys p.paid (paid_more 0 0 (0 + visits_of xs) (0 + (length (fields_of xs) + length (faults_of xs))) ys (omega (arith, a.bound)) q.paid);
 }
 
-paid_flat : (f : ℕ → List Node) → ((e : ℕ) → Reports 0 (f e)) → ((e : ℕ) → Paid (f e)) → (places : List ℕ) → Paid (flat_map f places)
+paid_flat : (f : ℕ → List Node) → ((e : ℕ) → Reports 0 (f e)) → ((e : ℕ) → Paid (f e)) → (offsets : List ℕ) → Paid (flat_map f offsets)
 paid_flat f a h [] = record { paid = tt }
 paid_flat f a h (e ∷ es) = paid_join (f e) (flat_map f es) (a e) (h e) (paid_flat f a h es)
 
@@ -92,7 +92,7 @@ directory_paid (suc d) number bytes k c p =
     let entries = paid_flat (entry_nodes child number bytes c k p)
     (entry_reports child number bytes (directory_reports d number bytes k) c k p)
     (entry_paid child number bytes (directory_reports d number bytes k) (directory_paid d number bytes k) c k p)
-    (entry_places number bytes p) in
+    (entry_offsets number bytes p) in
     record { paid = entries.paid }
 
 after_paid : (rest : ℕ → List Node) (x : Result ℕ Fault) → ((p : ℕ) → Paid (rest p)) → Paid (chain_after rest x)

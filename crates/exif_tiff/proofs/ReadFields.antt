@@ -18,7 +18,7 @@ use Rattle.exif_tiff.specs.declared.fault.Fault.{Fault}
 use Rattle.exif_tiff.specs.declared.fault.Fault.TheVariants.{UnexpectedNext, TooManyDirectories}
 use Rattle.exif_table.specs.declared.context.Context.{Context}
 use Rattle.exif_table.specs.declared.context.Context.TheVariants.{Tiff}
-use Rattle.exif_tiff.specs.Trace.{Node, Visit, Found, Met, Directory, fields_of, cut, limited, ordered_trace, chain_nodes, chain_after, directory_nodes, directory_end, entry_nodes, entry_places, entry_value, valued_nodes, tagged_nodes, pointer_nodes, child_end, child_of, Opens, field_of}
+use Rattle.exif_tiff.specs.Trace.{Node, Visit, Found, Met, Directory, fields_of, cut, limited, ordered_trace, chain_nodes, chain_after, directory_nodes, directory_end, entry_nodes, entry_offsets, entry_value, valued_nodes, tagged_nodes, pointer_nodes, child_end, child_of, Opens, field_of}
 use Rattle.exif_tiff.proofs.ReportBound.{fields-append}
 
 -- a text without zero bytes
@@ -79,10 +79,10 @@ entry_plain number bytes e =
     let type = number_at number 2 bytes (e + 2) in
     let count = number_at number 4 bytes (e + 4) in
     let size = known_length (type_of type) * count in
-    let place = number_at number 4 bytes (e + 8) in
-    let there = decode number type count bytes place in
-    if_plain (nat_le size 4) (decode number type count bytes (e + 8)) (if nat_le (place + size) (length bytes) then Some there else None) (decode_plain number type count bytes (e + 8))
-    (if_plain (nat_le (place + size) (length bytes)) there None (decode_plain number type count bytes place) tt)
+    let offset = number_at number 4 bytes (e + 8) in
+    let there = decode number type count bytes offset in
+    if_plain (nat_le size 4) (decode number type count bytes (e + 8)) (if nat_le (offset + size) (length bytes) then Some there else None) (decode_plain number type count bytes (e + 8))
+    (if_plain (nat_le (offset + size) (length bytes)) there None (decode_plain number type count bytes offset) tt)
 
 -- each field of a piece is one that reading gives
 record AreRead (nodes : List Node) : Type 0 where
@@ -94,7 +94,7 @@ none_read = record { each = All-nil IsRead }
 join_read : (xs ys : List Node) → AreRead xs → AreRead ys → AreRead (xs ++ ys)
 join_read xs ys a b = record { each = rw (fields-append xs ys) (All-append IsRead (fields_of xs) (fields_of ys) a.each b.each) }
 
-flat_read : (f : ℕ → List Node) → ((e : ℕ) → AreRead (f e)) → (places : List ℕ) → AreRead (flat_map f places)
+flat_read : (f : ℕ → List Node) → ((e : ℕ) → AreRead (f e)) → (offsets : List ℕ) → AreRead (flat_map f offsets)
 flat_read f h [] = none_read
 flat_read f h (e ∷ es) = join_read (f e) (flat_map f es) (h e) (flat_read f h es)
 
@@ -130,7 +130,7 @@ directory_read zero number bytes k small c p = record { each = All-nil IsRead }
 directory_read (suc d) number bytes k small c p =
     let child : Directory = directory_nodes d number bytes k in
     let entries = flat_read (entry_nodes child number bytes c k p)
-    (entry_read child number bytes k small (directory_read d number bytes k small) c p) (entry_places number bytes p) in
+    (entry_read child number bytes k small (directory_read d number bytes k small) c p) (entry_offsets number bytes p) in
     record { each = entries.each }
 
 after_read : (rest : ℕ → List Node) (x : Result ℕ Fault) → ((p : ℕ) → AreRead (rest p)) → AreRead (chain_after rest x)

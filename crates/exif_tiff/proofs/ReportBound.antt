@@ -12,7 +12,7 @@ use Rattle.exif_tiff.specs.declared.fault.Fault.TheVariants.{UnexpectedNext, Too
 use Rattle.exif_base.specs.declared.endian.Order.{Order}
 use Rattle.exif_table.specs.declared.context.Context.{Context}
 use Rattle.exif_table.specs.declared.context.Context.TheVariants.{Tiff}
-use Rattle.exif_tiff.specs.Trace.{Node, Visit, Found, Met, Directory, visits_of, fields_of, faults_of, trace, ordered_trace, header, chain_nodes, chain_after, directory_nodes, directory_end, entry_nodes, entry_places, entry_value, valued_nodes, tagged_nodes, pointer_nodes, child_end, child_of, Opens}
+use Rattle.exif_tiff.specs.Trace.{Node, Visit, Found, Met, Directory, visits_of, fields_of, faults_of, trace, ordered_trace, header, chain_nodes, chain_after, directory_nodes, directory_end, entry_nodes, entry_offsets, entry_value, valued_nodes, tagged_nodes, pointer_nodes, child_end, child_of, Opens}
 use Rattle.exif_tiff.specs.Visits.{ReportsAreBounded}
 use Rattle.exif_tiff.proofs.VisitBound.{visits-append}
 
@@ -41,7 +41,7 @@ reports_join i j k xs ys e a b = record {
   bound = rw (fields-append xs ys, faults-append xs ys) (omega (arith, visits-append xs ys, length-append (fields_of xs) (fields_of ys), length-append (faults_of xs) (faults_of ys), a.bound, b.bound));
 }
 
-reports_flat : (f : ℕ → List Node) → ((e : ℕ) → Reports 0 (f e)) → (places : List ℕ) → Reports 0 (flat_map f places)
+reports_flat : (f : ℕ → List Node) → ((e : ℕ) → Reports 0 (f e)) → (offsets : List ℕ) → Reports 0 (flat_map f offsets)
 reports_flat f h [] = record { bound = omega arith }
 reports_flat f h (e ∷ es) = reports_join 0 0 0 (f e) (flat_map f es) (omega arith) (h e) (reports_flat f h es)
 
@@ -78,7 +78,7 @@ directory_reports zero number bytes k c p = record { bound = omega arith }
 directory_reports (suc d) number bytes k c p =
     let child : Directory = directory_nodes d number bytes k in
     let entries = reports_flat (entry_nodes child number bytes c k p)
-    (entry_reports child number bytes (directory_reports d number bytes k) c k p) (entry_places number bytes p) in
+    (entry_reports child number bytes (directory_reports d number bytes k) c k p) (entry_offsets number bytes p) in
     record { bound = entries.bound }
 
 after_reports : (rest : ℕ → List Node) (x : Result ℕ Fault) → ((p : ℕ) → Reports 1 (rest p)) → Reports 1 (chain_after rest x)

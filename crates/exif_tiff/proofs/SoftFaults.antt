@@ -14,7 +14,7 @@ use Rattle.exif_table.specs.declared.context.Context.TheVariants.{Tiff}
 use Rattle.exif_types.specs.declared.field.Field.{Field}
 use Rattle.exif_tiff.specs.declared.fault.Fault.{Fault}
 use Rattle.exif_tiff.specs.declared.fault.Fault.TheVariants.{DataTooLarge, TruncatedHeader, InvalidByteOrder, InvalidFortyTwo, TruncatedCount, TruncatedDirectory, TruncatedNextOffset, TruncatedValue, InvalidPointer, UnexpectedNext, TooManyDirectories, TooManyEntries}
-use Rattle.exif_tiff.specs.Trace.{Node, Visit, Found, Met, Directory, fields_of, faults_of, cut, limited, content_of, trace, ordered_trace, header, order_of, chain_nodes, chain_after, directory_nodes, directory_end, entry_nodes, entry_places, entry_value, valued_nodes, tagged_nodes, pointer_nodes, child_end, child_of, Opens}
+use Rattle.exif_tiff.specs.Trace.{Node, Visit, Found, Met, Directory, fields_of, faults_of, cut, limited, content_of, trace, ordered_trace, header, order_of, chain_nodes, chain_after, directory_nodes, directory_end, entry_nodes, entry_offsets, entry_value, valued_nodes, tagged_nodes, pointer_nodes, child_end, child_of, Opens}
 use Rattle.exif_tiff.specs.Answers.{Answer, Refused, Partial, answer_of, raw_answer}
 use Rattle.exif_tiff.specs.SoftFaults.{is_hard, is_soft, is_soft_under, FaultsAreSoft, FaultsAreSoftUnder, PassesSoftFaults, RefusesHardOrSoft, HeaderFaultsAreHard, TooLargeIsExact}
 use Rattle.exif_tiff.proofs.Members.{all_append}
@@ -37,7 +37,7 @@ record AreSoft (nodes : List Node) : Type 0 where
 soft_join : (xs ys : List Node) → AreSoft xs → AreSoft ys → AreSoft (xs ++ ys)
 soft_join xs ys a b = record { each = all_append IsSoftNode xs ys a.each b.each }
 
-soft_flat : (f : ℕ → List Node) → ((e : ℕ) → AreSoft (f e)) → (places : List ℕ) → AreSoft (flat_map f places)
+soft_flat : (f : ℕ → List Node) → ((e : ℕ) → AreSoft (f e)) → (offsets : List ℕ) → AreSoft (flat_map f offsets)
 soft_flat f h [] = record { each = tt }
 soft_flat f h (e ∷ es) = soft_join (f e) (flat_map f es) (h e) (soft_flat f h es)
 
@@ -82,7 +82,7 @@ directory_soft zero number bytes k c p = record { each = (tt, tt) }
 directory_soft (suc d) number bytes k c p =
     let child : Directory = directory_nodes d number bytes k in
     let entries = soft_flat (entry_nodes child number bytes c k p)
-    (entry_soft child number bytes (directory_soft d number bytes k) c k p) (entry_places number bytes p) in
+    (entry_soft child number bytes (directory_soft d number bytes k) c k p) (entry_offsets number bytes p) in
     record { each = (tt, entries.each) }
 
 after_soft : (rest : ℕ → List Node) (x : Result ℕ Fault) → IsSoftEnd x → ((p : ℕ) → AreSoft (rest p)) → AreSoft (chain_after rest x)

@@ -15,7 +15,7 @@ use Rattle.exif_base.specs.declared.endian.Order.{Order}
 use Rattle.exif_base.specs.declared.endian.Order.TheVariants.{Big, Little}
 use Rattle.exif_table.specs.declared.context.Context.{Context}
 use Rattle.exif_table.specs.declared.context.Context.TheVariants.{Tiff}
-use Rattle.exif_tiff.specs.Trace.{Node, Visit, Found, Met, Directory, valued_nodes, visits_of, trace, ordered_trace, header, chain_nodes, chain_after, directory_nodes, directory_end, entry_nodes, entry_places, entry_value, whole_entries, tagged_nodes, pointer_nodes, child_end, child_of, Opens}
+use Rattle.exif_tiff.specs.Trace.{Node, Visit, Found, Met, Directory, valued_nodes, visits_of, trace, ordered_trace, header, chain_nodes, chain_after, directory_nodes, directory_end, entry_nodes, entry_offsets, entry_value, whole_entries, tagged_nodes, pointer_nodes, child_end, child_of, Opens}
 use Rattle.exif_tiff.specs.Visits.{AreBytes, entries_at_most, visits_at_most, VisitsAreBounded}
 
 -- visits of two lists add up
@@ -26,13 +26,13 @@ visits-append (Visit ∷ xs) ys = omega (arith, visits-append xs ys)
 visits-append (Found l ∷ xs) ys = visits-append xs ys
 visits-append (Met fault ∷ xs) ys = visits-append xs ys
 
--- as many places as were asked for
+-- as many offsets as were asked for
 pub length-spaced : (p u n : ℕ) → length (spaced p u n) ≡ n
 length-spaced p u zero = refl
 length-spaced p u (suc n) = omega (arith, length-spaced (p + u) u n)
 
 -- pieces with at most b visits each
-visits_flat : (f : ℕ → List Node) (b : ℕ) → ((e : ℕ) → visits_of (f e) ≤ b) → (places : List ℕ) → visits_of (flat_map f places) ≤ length places * b
+visits_flat : (f : ℕ → List Node) (b : ℕ) → ((e : ℕ) → visits_of (f e) ≤ b) → (offsets : List ℕ) → visits_of (flat_map f offsets) ≤ length offsets * b
 visits_flat f b h [] = omega arith
 visits_flat f b h (e ∷ es) =
     let one = h e in
@@ -82,7 +82,7 @@ directory_visits : (d : ℕ) (number : Reading) (bytes : List ℕ) (k : ℕ) →
 directory_visits zero number bytes k s c p = omega arith
 directory_visits (suc d) number bytes k s c p =
     let b = level (entries_at_most bytes) d in
-    let flat = visits_flat (entry_nodes (directory_nodes d number bytes k) number bytes c k p) (b + 1) (entry_visits (directory_nodes d number bytes k) number bytes b (directory_visits d number bytes k s) c k p) (entry_places number bytes p) in
+    let flat = visits_flat (entry_nodes (directory_nodes d number bytes k) number bytes c k p) (b + 1) (entry_visits (directory_nodes d number bytes k) number bytes b (directory_visits d number bytes k s) c k p) (entry_offsets number bytes p) in
     let many = mul-le-mul_right (b + 1) (whole_bound number bytes p s) in
     let short = rw (length-spaced (p + 2) 12 (whole_entries number bytes p)) at flat in
     le_trans short many

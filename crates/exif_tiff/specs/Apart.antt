@@ -5,7 +5,7 @@ use Rattle.exif_tiff.specs.Footprint.{Stretch, footprint}
 
 -- whether two stretches have a byte in common
 abbrev pub overlap : Stretch → Stretch → Bool
-overlap s t = nat_lt t.place (s.place + s.len) && nat_lt s.place (t.place + t.len)
+overlap s t = nat_lt t.offset (s.offset + s.len) && nat_lt s.offset (t.offset + t.len)
 
 -- whether no two of some stretches have
 abbrev pub are_apart : List Stretch → Bool

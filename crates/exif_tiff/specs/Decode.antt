@@ -10,37 +10,37 @@ use Rattle.exif_types.specs.declared.value.Value.TheVariants as value
 use Rattle.exif_text.specs.declared.field_type.FieldType.{FieldType}
 use Rattle.exif_text.specs.declared.field_type.FieldType.TheVariants as field_type
 
--- the value of a type, with count items from a place on
+-- the value of a type, with count items from an offset on
 abbrev pub decode_as : Reading → FieldType → ℕ → List ℕ → ℕ → Value
-decode_as number field_type.Byte count bytes place = value.Byte (bytes_at count bytes place)
-decode_as number field_type.Ascii count bytes place =
-    value.Ascii (texts (bytes_at count bytes place))
-decode_as number field_type.Short count bytes place =
-    value.Short (items_at (number_at number 2 bytes) 2 count place)
-decode_as number field_type.Long count bytes place =
-    value.Long (items_at (number_at number 4 bytes) 4 count place)
-decode_as number field_type.Rational count bytes place =
-    value.Rational (items_at (rational_at number bytes) 8 count place)
-decode_as number field_type.SByte count bytes place =
-    value.SByte (items_at (λ p. cast_signed w8 (slice_index bytes p)) 1 count place)
-decode_as number field_type.Undefined count bytes place =
-    value.Undefined (bytes_at count bytes place) place
-decode_as number field_type.SShort count bytes place =
-    value.SShort (items_at (λ p. cast_signed w16 (number_at number 2 bytes p)) 2 count place)
-decode_as number field_type.SLong count bytes place =
-    value.SLong (items_at (λ p. cast_signed w32 (number_at number 4 bytes p)) 4 count place)
-decode_as number field_type.SRational count bytes place =
-    value.SRational (items_at (srational_at number bytes) 8 count place)
-decode_as number field_type.Float count bytes place =
-    value.Float (items_at (number_at number 4 bytes) 4 count place)
-decode_as number field_type.Double count bytes place =
-    value.Double (items_at (number_at number 8 bytes) 8 count place)
+decode_as number field_type.Byte count bytes offset = value.Byte (bytes_at count bytes offset)
+decode_as number field_type.Ascii count bytes offset =
+    value.Ascii (texts (bytes_at count bytes offset))
+decode_as number field_type.Short count bytes offset =
+    value.Short (items_at (number_at number 2 bytes) 2 count offset)
+decode_as number field_type.Long count bytes offset =
+    value.Long (items_at (number_at number 4 bytes) 4 count offset)
+decode_as number field_type.Rational count bytes offset =
+    value.Rational (items_at (rational_at number bytes) 8 count offset)
+decode_as number field_type.SByte count bytes offset =
+    value.SByte (items_at (λ p. cast_signed w8 (slice_index bytes p)) 1 count offset)
+decode_as number field_type.Undefined count bytes offset =
+    value.Undefined (bytes_at count bytes offset) offset
+decode_as number field_type.SShort count bytes offset =
+    value.SShort (items_at (λ p. cast_signed w16 (number_at number 2 bytes p)) 2 count offset)
+decode_as number field_type.SLong count bytes offset =
+    value.SLong (items_at (λ p. cast_signed w32 (number_at number 4 bytes p)) 4 count offset)
+decode_as number field_type.SRational count bytes offset =
+    value.SRational (items_at (srational_at number bytes) 8 count offset)
+decode_as number field_type.Float count bytes offset =
+    value.Float (items_at (number_at number 4 bytes) 4 count offset)
+decode_as number field_type.Double count bytes offset =
+    value.Double (items_at (number_at number 8 bytes) 8 count offset)
 
 -- the value of the type with a number; a number that names no type is kept with the count and the
--- place
+-- offset
 abbrev pub decode : Reading → ℕ → ℕ → List ℕ → ℕ → Value
-decode number type count bytes place =
+decode number type count bytes offset =
     elim (type_of type) [
-      | Some t ↦ decode_as number t count bytes place
-      | None ↦ value.Unknown type count place
+      | Some t ↦ decode_as number t count bytes offset
+      | None ↦ value.Unknown type count offset
     ]

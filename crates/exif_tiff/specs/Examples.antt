@@ -13,7 +13,7 @@ use Rattle.exif_base.specs.declared.endian.Order.TheVariants.{Big}
 
 -- a directory that is opened, and a field with its entry and the directory that has it
 abbrev opens : Context → ℕ → Node
-opens c p = Opens (record { place = p; context = c })
+opens c p = Opens (record { offset = p; context = c })
 
 abbrev found : Field → ℕ → ℕ → Node
 found field entry directory = Found (record { field = field; entry = entry; directory = directory })
@@ -47,7 +47,7 @@ empty_data_trace : trace empty_data ≡ []
 unfolding trace ordered_trace
 empty_data_trace = refl
 
--- one directory whose next place is itself
+-- one directory whose next offset is itself
 abbrev circle : List ℕ
 circle =
     77 ∷ 77 ∷ 0 ∷ 42 ∷ 0 ∷ 0 ∷ 0 ∷ 8
@@ -148,7 +148,7 @@ wrong_pointers : trace wrong_pointers_data ≡ opens Tiff 8 ∷ Visit ∷ Met In
 unfolding trace ordered_trace
 wrong_pointers = refl
 
--- a child with a next place, after its field
+-- a child with a next offset, after its field
 next_of_child : trace (77 ∷ 77 ∷ 0 ∷ 42 ∷ 0 ∷ 0 ∷ 0 ∷ 8 ∷ 0 ∷ 1 ∷ 135 ∷ 105 ∷ 0 ∷ 4 ∷ 0 ∷ 0 ∷ 0 ∷ 1 ∷ 0 ∷ 0 ∷ 0 ∷ 26 ∷ 0 ∷ 0 ∷ 0 ∷ 0 ∷ 0 ∷ 1 ∷ 144 ∷ 0 ∷ 0 ∷ 7 ∷ 0 ∷ 0 ∷ 0 ∷ 4 ∷ 48 ∷ 50 ∷ 51 ∷ 49 ∷ 0 ∷ 0 ∷ 0 ∷ 8 ∷ []) ≡ opens Tiff 8 ∷ Visit ∷ opens Exif 26 ∷ Visit ∷ found (record { tag = record { 0 = Exif; 1 = 0x9000 }; ifd_num = record { 0 = 0 }; value = value.Undefined (codes "0231") 0x24 }) 28 26 ∷ Met UnexpectedNext ∷ []
 unfolding trace ordered_trace
 next_of_child = refl
@@ -178,7 +178,7 @@ short_strict : raw_answer false None (take 7 empty_data) ≡ Refused TruncatedHe
 unfolding raw_answer
 short_strict = refl
 
--- a directory whose count lacks a byte, and one whose next place lacks one
+-- a directory whose count lacks a byte, and one whose next offset lacks one
 cut_count : trace (77 ∷ 77 ∷ 0 ∷ 42 ∷ 0 ∷ 0 ∷ 0 ∷ 8 ∷ 0 ∷ []) ≡ opens Tiff 8 ∷ Met TruncatedCount ∷ []
 unfolding trace ordered_trace
 cut_count = refl

@@ -10,21 +10,21 @@ use Rattle.exif_table.specs.declared.context.Context.{Context}
 use Rattle.exif_table.specs.declared.context.Context.TheVariants.{Tiff}
 use Rattle.exif_tiff.specs.declared.fault.Fault.{Fault}
 use Rattle.exif_tiff.specs.Answers.{raw_answer}
-use Rattle.exif_tiff.specs.declared.place.DirectoryPlace.{DirectoryPlace}
-use Rattle.exif_tiff.specs.Trace.{child_of, depth_of, directories_of, directory_end, entry_places, entry_value, header, ordered_trace, trace, whole_entries}
+use Rattle.exif_tiff.specs.declared.offset.DirectoryOffset.{DirectoryOffset}
+use Rattle.exif_tiff.specs.Trace.{child_of, depth_of, directories_of, directory_end, entry_offsets, entry_value, header, ordered_trace, trace, whole_entries}
 
--- so many bytes from a place on
+-- so many bytes from an offset on
 pub record Stretch : Type 0 where
-  pub place : ℕ
+  pub offset : ℕ
   pub len : ℕ
 
 -- ---- the directories
 
--- the directory of a context at a place, and those below it
+-- the directory of a context at an offset, and those below it
 abbrev pub Below : Type 0
 Below = Context → ℕ → List ℕ
 
--- what a pointer to a directory of context d leads to, if it names a place
+-- what a pointer to a directory of context d leads to, if it names an offset
 abbrev pub named : Below → Context → Option ℕ → List ℕ
 named below d None = []
 named below d (Some q) = below d q
@@ -44,7 +44,7 @@ abbrev pub directories : ℕ → Reading → List ℕ → Below
 directories zero number bytes c p = p ∷ []
 directories (suc depth) number bytes c p =
     p ∷ flat_map (entry_directories (directories depth number bytes) number bytes c)
-    (entry_places number bytes p)
+    (entry_offsets number bytes p)
 
 -- what follows a directory of a chain, if that names a next one
 abbrev pub following : (ℕ → List ℕ) → Result ℕ Fault → List ℕ
@@ -61,25 +61,25 @@ chain_directories (suc left) number bytes p =
 
 -- ---- what is looked at
 
--- the directory at p: its count, its whole entries, and its next place
+-- the directory at p: its count, its whole entries, and its next offset
 abbrev pub directory_stretch : Reading → List ℕ → ℕ → Stretch
 directory_stretch number bytes p =
-    record { place = p; len = 2 + 12 * whole_entries number bytes p + 4 }
+    record { offset = p; len = 2 + 12 * whole_entries number bytes p + 4 }
 
 -- the value of the entry at e, if it stands outside of the entry and lies in the data
 abbrev pub value_stretch : Reading → List ℕ → ℕ → List Stretch
 value_stretch number bytes e =
     let size = known_length (type_of (number_at number 2 bytes (e + 2)))
     * number_at number 4 bytes (e + 4) in
-    let place = number_at number 4 bytes (e + 8) in
-    if nat_lt 4 size && nat_le (place + size) (length bytes)
-    then record { place = place; len = size } ∷ [] else []
+    let offset = number_at number 4 bytes (e + 8) in
+    if nat_lt 4 size && nat_le (offset + size) (length bytes)
+    then record { offset = offset; len = size } ∷ [] else []
 
 -- the directory at p, and the values of its entries
 abbrev pub looked_at : Reading → List ℕ → ℕ → List Stretch
 looked_at number bytes p =
     directory_stretch number bytes p
-    ∷ flat_map (value_stretch number bytes) (entry_places number bytes p)
+    ∷ flat_map (value_stretch number bytes) (entry_offsets number bytes p)
 
 -- the directories of data of this order, with their values
 abbrev pub ordered_footprint : Reading → List ℕ → List Stretch
@@ -90,7 +90,7 @@ ordered_footprint number bytes =
 -- the header, and all directories with their values; of data with a wrong header it alone
 abbrev pub footprint : List ℕ → List Stretch
 footprint bytes =
-    record { place = 0; len = 8 }
+    record { offset = 0; len = 8 }
     ∷ elim (header bytes) [
       | Ok order ↦ ordered_footprint (number_of order) bytes
       | Err fault ↦ []
@@ -100,7 +100,7 @@ footprint bytes =
 
 -- the same bytes stand in a stretch of both
 abbrev pub Agree : List ℕ → List ℕ → Stretch → Type 0
-Agree a b s = bytes_at s.len a s.place ≡ bytes_at s.len b s.place
+Agree a b s = bytes_at s.len a s.offset ≡ bytes_at s.len b s.offset
 
 -- data as long that agree on the footprint of the one have it too
 abbrev pub FootprintIsShared : List ℕ → List ℕ → Type 0
@@ -121,5 +121,5 @@ FootprintSettlesAnswer lenient limit a b =
 -- the directories that are visited are those that are looked at, in their order
 abbrev pub VisitsWhatIsLookedAt : Reading → List ℕ → Type 0
 VisitsWhatIsLookedAt number bytes =
-    map (λ (d : DirectoryPlace). d.place) (directories_of (ordered_trace number bytes))
+    map (λ (d : DirectoryOffset). d.offset) (directories_of (ordered_trace number bytes))
     ≡ chain_directories 8 number bytes (number_at number 4 bytes 4)

@@ -3,7 +3,7 @@ use Rattle.std.specs.Prelude.{◌≡◌, ℕ, List, [], ◌∷◌, ◌++◌, cod
 use Rattle.exif_tiff.specs.Footprint.{Stretch, footprint}
 
 abbrev stretch : ℕ → ℕ → Stretch
-stretch place len = record { place = place; len = len }
+stretch offset len = record { offset = offset; len = len }
 
 -- a header that is wrong
 wrong_header : footprint (77 ∷ 73 ∷ 0 ∷ 42 ∷ 0 ∷ 0 ∷ 0 ∷ 8 ∷ []) ≡ stretch 0 8 ∷ []

@@ -7,14 +7,14 @@ use Rattle.exif_text.specs.declared.rational.SRational.{SRational}
 
 -- two numbers of 32 bits
 abbrev pub rational_at : Reading → List ℕ → ℕ → Rational
-rational_at number bytes place = record {
-  num = number_at number 4 bytes place;
-  denom = number_at number 4 bytes (place + 4);
+rational_at number bytes offset = record {
+  num = number_at number 4 bytes offset;
+  denom = number_at number 4 bytes (offset + 4);
 }
 
--- the signed fraction at a place
+-- the signed fraction at an offset
 abbrev pub srational_at : Reading → List ℕ → ℕ → SRational
-srational_at number bytes place = record {
-  num = cast_signed w32 (number_at number 4 bytes place);
-  denom = cast_signed w32 (number_at number 4 bytes (place + 4));
+srational_at number bytes offset = record {
+  num = cast_signed w32 (number_at number 4 bytes offset);
+  denom = cast_signed w32 (number_at number 4 bytes (offset + 4));
 }

@@ -69,6 +69,6 @@ RefusesHardOrSoft lenient limit bytes =
 abbrev pub HeaderFaultsAreHard : List ℕ → Type 0
 HeaderFaultsAreHard bytes = (fault : Fault) → header bytes ≡ Err fault → is_hard fault ≡ true
 
--- data are too large exactly where places of 32 bits don't reach their end
+-- data are too large exactly where offsets of 32 bits don't reach their end
 abbrev pub TooLargeIsExact : List ℕ → Type 0
 TooLargeIsExact bytes = (header bytes ≡ Err DataTooLarge) ↔ (4294967295 < length bytes)

@@ -13,25 +13,25 @@ use Rattle.exif_table.specs.declared.context.Context.TheVariants.{Tiff, Exif, Gp
 use Rattle.exif_types.specs.declared.field.Field.{Field}
 use Rattle.exif_tiff.specs.declared.fault.Fault.{Fault}
 use Rattle.exif_tiff.specs.declared.fault.Fault.TheVariants.{DataTooLarge, TruncatedHeader, InvalidByteOrder, InvalidFortyTwo, TruncatedCount, TruncatedDirectory, TruncatedNextOffset, TruncatedValue, InvalidPointer, UnexpectedNext, TooManyDirectories, TooManyEntries}
-use Rattle.exif_tiff.specs.declared.place.DirectoryPlace.{DirectoryPlace}
-use Rattle.exif_tiff.specs.declared.place.EntryPlace.{EntryPlace}
+use Rattle.exif_tiff.specs.declared.offset.DirectoryOffset.{DirectoryOffset}
+use Rattle.exif_tiff.specs.declared.offset.EntryOffset.{EntryOffset}
 use Rattle.exif_base.specs.declared.endian.Order.{Order}
 use Rattle.exif_base.specs.declared.endian.Order.TheVariants.{Big, Little}
 
--- a field, the place of the 12 bytes of its entry, and that of the directory which has it
+-- a field, the offset of the 12 bytes of its entry, and that of the directory which has it
 pub record Located : Type 0 where
   pub field : Field
   pub entry : ℕ
   pub directory : ℕ
 
--- its places alone
-abbrev pub entry_of : Located → EntryPlace
+-- its offsets alone
+abbrev pub entry_of : Located → EntryOffset
 entry_of l = record { entry = l.entry; directory = l.directory }
 
 -- what stands in a trace: a directory is opened, an entry is visited, a field is found, a fault is
 -- met
 pub data Node : Type 0 where
-  Opens : DirectoryPlace → Node
+  Opens : DirectoryOffset → Node
   Visit : Node
   Found : Located → Node
   Met : Fault → Node
@@ -42,10 +42,10 @@ entry_value number bytes e =
     let type = number_at number 2 bytes (e + 2) in
     let count = number_at number 4 bytes (e + 4) in
     let size = known_length (type_of type) * count in
-    let place = number_at number 4 bytes (e + 8) in
+    let offset = number_at number 4 bytes (e + 8) in
     if nat_le size 4 then Some (decode number type count bytes (e + 8)) else
-    (if nat_le (place + size) (length bytes)
-    then Some (decode number type count bytes place)
+    (if nat_le (offset + size) (length bytes)
+    then Some (decode number type count bytes offset)
     else None)
 
 -- how many entries of the directory at p are whole
@@ -53,10 +53,10 @@ abbrev pub whole_entries : Reading → List ℕ → ℕ → ℕ
 whole_entries number bytes p = min (number_at number 2 bytes p) ((length bytes - p - 2) / 12)
 
 -- where they stand
-abbrev pub entry_places : Reading → List ℕ → ℕ → List ℕ
-entry_places number bytes p = spaced (p + 2) 12 (whole_entries number bytes p)
+abbrev pub entry_offsets : Reading → List ℕ → ℕ → List ℕ
+entry_offsets number bytes p = spaced (p + 2) 12 (whole_entries number bytes p)
 
--- how the directory at p ends: with the place of the next one, or a fault
+-- how the directory at p ends: with the offset of the next one, or a fault
 abbrev pub directory_end : Reading → List ℕ → ℕ → Result ℕ Fault
 directory_end number bytes p =
     let count = number_at number 2 bytes p in
@@ -77,11 +77,11 @@ abbrev pub child_end : Result ℕ Fault → List Node
 child_end (Err fault) = Met fault ∷ []
 child_end (Ok next) = if next == 0 then [] else Met UnexpectedNext ∷ []
 
--- what the directory of context c at place p holds
+-- what the directory of context c at offset p holds
 abbrev pub Directory : Type 0
 Directory = Context → ℕ → List Node
 
--- a pointer to q, if it names a place
+-- a pointer to q, if it names an offset
 abbrev pub pointer_nodes : Directory → Reading → List ℕ → Context → Option ℕ → List Node
 pointer_nodes child number bytes c None = Met InvalidPointer ∷ []
 pointer_nodes child number bytes c (Some q) = child c q ++ child_end (directory_end number bytes q)
@@ -115,14 +115,14 @@ entry_nodes child number bytes c k p e =
 
 -- a directory is opened, before what its entries hold
 abbrev pub opened : Context → ℕ → List Node → List Node
-opened c p nodes = Opens (record { place = p; context = c }) ∷ nodes
+opened c p nodes = Opens (record { offset = p; context = c }) ∷ nodes
 
 -- the directory at p, with its children down to a depth
 abbrev pub directory_nodes : ℕ → Reading → List ℕ → ℕ → Directory
 directory_nodes zero number bytes k c p = opened c p []
 directory_nodes (suc depth) number bytes k c p =
     opened c p (flat_map (entry_nodes (directory_nodes depth number bytes k) number bytes c k p)
-    (entry_places number bytes p))
+    (entry_offsets number bytes p))
 
 -- how deep directories of a context nest: Tiff, Exif, Interop or Tiff, Gps
 abbrev pub depth_of : Context → ℕ
@@ -196,7 +196,7 @@ visits_of (Visit ∷ nodes) = visits_of nodes + 1
 visits_of (Found l ∷ nodes) = visits_of nodes
 visits_of (Met fault ∷ nodes) = visits_of nodes
 
--- the fields, each with its places
+-- the fields, each with its offsets
 abbrev pub located_of : List Node → List Located
 located_of [] = []
 located_of (Opens directory ∷ nodes) = located_of nodes
@@ -205,7 +205,7 @@ located_of (Found l ∷ nodes) = l ∷ located_of nodes
 located_of (Met fault ∷ nodes) = located_of nodes
 
 -- the directories, those of the chain and their children
-abbrev pub directories_of : List Node → List DirectoryPlace
+abbrev pub directories_of : List Node → List DirectoryOffset
 directories_of [] = []
 directories_of (Opens directory ∷ nodes) = directory ∷ directories_of nodes
 directories_of (Visit ∷ nodes) = directories_of nodes

@@ -18,86 +18,86 @@ pub trait Item: Copy + Drop {
     // How many bytes an item takes.
     ghost LEN: { ℕ };
 
-    // The item at a place of the data.
+    // The item at an offset of the data.
     ghost item_at: { Reading → List ℕ → ℕ → Self };
 
     const LEN: usize;
 
-    /// Loads the item at a place.
-    fn load<E: Endian>(bytes: &[u8], place: usize) -> Self
-        requires { place + LEN ≤ length bytes.now }
-        ensures { result ≡ item_at E.number_of bytes.now place };
+    /// Loads the item at an offset.
+    fn load<E: Endian>(bytes: &[u8], offset: usize) -> Self
+        requires { offset + LEN ≤ length bytes.now }
+        ensures { result ≡ item_at E.number_of bytes.now offset };
 }
 
 impl Item for u16 {
     ghost LEN = { 2 };
 
-    ghost item_at = { λ number bytes place. number_at number 2 bytes place };
+    ghost item_at = { λ number bytes offset. number_at number 2 bytes offset };
 
     const LEN: usize = 2;
 
-    fn load<E: Endian>(bytes: &[u8], place: usize) -> u16 {
-        E::loadu16(bytes, place)
+    fn load<E: Endian>(bytes: &[u8], offset: usize) -> u16 {
+        E::loadu16(bytes, offset)
     }
 }
 
 impl Item for u32 {
     ghost LEN = { 4 };
 
-    ghost item_at = { λ number bytes place. number_at number 4 bytes place };
+    ghost item_at = { λ number bytes offset. number_at number 4 bytes offset };
 
     const LEN: usize = 4;
 
-    fn load<E: Endian>(bytes: &[u8], place: usize) -> u32 {
-        E::loadu32(bytes, place)
+    fn load<E: Endian>(bytes: &[u8], offset: usize) -> u32 {
+        E::loadu32(bytes, offset)
     }
 }
 
 impl Item for u64 {
     ghost LEN = { 8 };
 
-    ghost item_at = { λ number bytes place. number_at number 8 bytes place };
+    ghost item_at = { λ number bytes offset. number_at number 8 bytes offset };
 
     const LEN: usize = 8;
 
-    fn load<E: Endian>(bytes: &[u8], place: usize) -> u64 {
-        E::loadu64(bytes, place)
+    fn load<E: Endian>(bytes: &[u8], offset: usize) -> u64 {
+        E::loadu64(bytes, offset)
     }
 }
 
 impl Item for i8 {
     ghost LEN = { 1 };
 
-    ghost item_at = { λ number bytes place. cast_signed w8 (slice_index bytes place) };
+    ghost item_at = { λ number bytes offset. cast_signed w8 (slice_index bytes offset) };
 
     const LEN: usize = 1;
 
-    fn load<E: Endian>(bytes: &[u8], place: usize) -> i8 {
-        bytes[place].cast_signed()
+    fn load<E: Endian>(bytes: &[u8], offset: usize) -> i8 {
+        bytes[offset].cast_signed()
     }
 }
 
 impl Item for i16 {
     ghost LEN = { 2 };
 
-    ghost item_at = { λ number bytes place. cast_signed w16 (number_at number 2 bytes place) };
+    ghost item_at = { λ number bytes offset. cast_signed w16 (number_at number 2 bytes offset) };
 
     const LEN: usize = 2;
 
-    fn load<E: Endian>(bytes: &[u8], place: usize) -> i16 {
-        E::loadu16(bytes, place).cast_signed()
+    fn load<E: Endian>(bytes: &[u8], offset: usize) -> i16 {
+        E::loadu16(bytes, offset).cast_signed()
     }
 }
 
 impl Item for i32 {
     ghost LEN = { 4 };
 
-    ghost item_at = { λ number bytes place. cast_signed w32 (number_at number 4 bytes place) };
+    ghost item_at = { λ number bytes offset. cast_signed w32 (number_at number 4 bytes offset) };
 
     const LEN: usize = 4;
 
-    fn load<E: Endian>(bytes: &[u8], place: usize) -> i32 {
-        E::loadu32(bytes, place).cast_signed()
+    fn load<E: Endian>(bytes: &[u8], offset: usize) -> i32 {
+        E::loadu32(bytes, offset).cast_signed()
     }
 }
 
@@ -108,10 +108,10 @@ impl Item for Rational {
 
     const LEN: usize = 8;
 
-    fn load<E: Endian>(bytes: &[u8], place: usize) -> Rational {
+    fn load<E: Endian>(bytes: &[u8], offset: usize) -> Rational {
         Rational {
-            num: E::loadu32(bytes, place),
-            denom: E::loadu32(bytes, place + 4),
+            num: E::loadu32(bytes, offset),
+            denom: E::loadu32(bytes, offset + 4),
         }
     }
 }
@@ -123,27 +123,27 @@ impl Item for SRational {
 
     const LEN: usize = 8;
 
-    fn load<E: Endian>(bytes: &[u8], place: usize) -> SRational {
+    fn load<E: Endian>(bytes: &[u8], offset: usize) -> SRational {
         SRational {
-            num: E::loadu32(bytes, place).cast_signed(),
-            denom: E::loadu32(bytes, place + 4).cast_signed(),
+            num: E::loadu32(bytes, offset).cast_signed(),
+            denom: E::loadu32(bytes, offset + 4).cast_signed(),
         }
     }
 }
 
-// Decodes so many items, one after the other from a place on.
+// Decodes so many items, one after the other from an offset on.
 fn decode_items<T: Item, E: Endian>(
     alloc: Global,
     bytes: &[u8],
-    place: usize,
+    offset: usize,
     count: usize,
 ) -> Result<Items<T>, AllocError>
-    requires { place + T.LEN * count ≤ length bytes.now }
+    requires { offset + T.LEN * count ≤ length bytes.now }
     ensures { IfOk result (λ items.
-        items ≡ items_at (T.item_at E.number_of bytes.now) T.LEN count place) }
+        items ≡ items_at (T.item_at E.number_of bytes.now) T.LEN count offset) }
 {
     let mut items = Vec::with_capacity(alloc, count)?;
-    let mut at = place;
+    let mut at = offset;
     for _ in 0..count {
         items.push(T::load::<E>(bytes, at))?;
         at += T::LEN;
@@ -173,18 +173,18 @@ fn texts_of(alloc: Global, bytes: &[u8]) -> Result<Items<Items<u8>>, AllocError>
     parts_of(alloc, ended)
 }
 
-/// The value of a type that `count` items from a place on spell.
+/// The value of a type that `count` items from an offset on spell.
 pub fn decode_value<E: Endian>(
     alloc: Global,
     field_type: FieldType,
     count: u32,
     bytes: &[u8],
-    place: u32,
+    offset: u32,
 ) -> Result<Value, AllocError>
-    requires { place + unit_length field_type * count ≤ length bytes.now }
-    ensures { IfOk result (λ v. v ≡ decode_as E.number_of field_type count bytes.now place) }
+    requires { offset + unit_length field_type * count ≤ length bytes.now }
+    ensures { IfOk result (λ v. v ≡ decode_as E.number_of field_type count bytes.now offset) }
 {
-    let at = place as usize;
+    let at = offset as usize;
     let n = count as usize;
     Ok(match field_type {
         FieldType::Byte => Value::Byte(Items::from_slice(alloc, &bytes[at..at + n])?),
@@ -196,7 +196,7 @@ pub fn decode_value<E: Endian>(
         }
         FieldType::SByte => Value::SByte(decode_items::<i8, E>(alloc, bytes, at, n)?),
         FieldType::Undefined => {
-            Value::Undefined(Items::from_slice(alloc, &bytes[at..at + n])?, place)
+            Value::Undefined(Items::from_slice(alloc, &bytes[at..at + n])?, offset)
         }
         FieldType::SShort => Value::SShort(decode_items::<i16, E>(alloc, bytes, at, n)?),
         FieldType::SLong => Value::SLong(decode_items::<i32, E>(alloc, bytes, at, n)?),

@@ -9,7 +9,7 @@ use exif_types::Error;
 /// soft: reading may pass over them.
 #[derive(Clone, Copy, Debug, PartialEq, Eq)]
 pub enum Fault {
-    /// There are more bytes than 32-bit places.
+    /// There are more bytes than 32-bit offsets.
     DataTooLarge,
     /// The header is not whole.
     TruncatedHeader,
@@ -21,7 +21,7 @@ pub enum Fault {
     TruncatedCount,
     /// A directory's entries are not whole.
     TruncatedDirectory,
-    /// The place of the next directory is not whole.
+    /// The offset of the next directory is not whole.
     TruncatedNextOffset,
     /// A value does not lie in the data.
     TruncatedValue,

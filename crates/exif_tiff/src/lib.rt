@@ -5,8 +5,8 @@
 pub mod decode;
 pub mod fault;
 pub mod laws;
-pub mod place;
+pub mod offset;
 
 pub use decode::decode_value;
 pub use fault::Fault;
-pub use place::{DirectoryPlace, EntryPlace};
+pub use offset::{DirectoryOffset, EntryOffset};

@@ -72,7 +72,7 @@ last_cons : {X : Type 0} (p : X → Bool) (x : X) (xs : List X)
     → find p (reverse (x ∷ xs)) ≡ or_else (find p (reverse xs)) (cond (p x) (Some x) None)
 last_cons p x xs = ap (find p) (reverse-append (x ∷ []) xs) ∙ find_one_more p (reverse xs) x
 
--- none of the list from a place on passes the test
+-- none of the list from a position on passes the test
 abbrev NoneFrom : {X : Type 0} → (X → Bool) → ℕ → List X → Type 0
 NoneFrom {X} p i xs = (j : ℕ) (x : X) → i ≤ j → slice_get xs j ≡ Some x → p x ≡ true → ⊥
 
@@ -97,7 +97,7 @@ last_passes p (y ∷ xs) (suc i) x e h n =
 
 -- ---- entries
 
--- the number is the entry of a field of the list, of which the first stands at a place
+-- the number is the entry of a field of the list, of which the first stands at a position
 abbrev IsEntryFrom : ℕ → List Field → ℕ → Type 0
 IsEntryFrom p fs e = (j : ℕ) × (f : Field) × (slice_get fs j ≡ Some f) × (e ≡ entry_of (key_of f.tag f.ifd_num) (p + j))
 
@@ -145,9 +145,9 @@ only_entries p (g ∷ fs) =
 -- ---- the search
 
 -- the parts of an entry that is up to the greatest of a key, and no less than its least
-one_key : (k key j place last : ℕ) → j < 2 ^ 43 → last ≡ entry_of k (0 + j) → last ≡ entry_of key 0 + place → last ≤ entry_of key (2 ^ 43 - 1)
-    → (k ≡ key) × (j ≡ place)
-one_key k key j place last small a b c = (omega (arith, small, a, b, c), omega (arith, small, a, b, c))
+one_key : (k key j position last : ℕ) → j < 2 ^ 43 → last ≡ entry_of k (0 + j) → last ≡ entry_of key 0 + position → last ≤ entry_of key (2 ^ 43 - 1)
+    → (k ≡ key) × (j ≡ position)
+one_key k key j position last small a b c = (omega (arith, small, a, b, c), omega (arith, small, a, b, c))
 
 -- what a search in an index knows
 abbrev pub Searched : FieldIndex → List Field → Tag → In → ℕ → Type 0
@@ -172,7 +172,7 @@ named_stands index fields tag ifd_num end s j f h n =
     (subst (λ i. Contains (entries_from 0 fields) (entry_of (key_of f.tag f.ifd_num) i)) z (entry_stands 0 fields j f h)) in
     let c : Contains xs e = Contains-permutation (entries_from 0 fields) xs e s.0.entries a in
     let small : e ≤ greatest_of (key_of tag ifd_num) =
-    let w = slice_get_within fields j f h in let v = s.0.places in omega (arith, w, v) in
+    let w = slice_get_within fields j f h in let v = s.0.positions in omega (arith, w, v) in
     let before : c.0 < end =
     lt_of_not-le (λ b. let above = rw c.2 at (s.3.1 c.0 e b c.1) in absurd (omega (arith, above, small))) in
     (c.0, before, λ d. get_or_default xs c.0 d e c.1 ∙ c.2)
@@ -219,19 +219,19 @@ pub last_small : (index : FieldIndex) (fields : List Field) (tag : Tag) (ifd_num
 last_small index fields tag ifd_num end last s l some =
     rw l at (s.3.0 (end - 1) last (omega arith) (omega (arith, some)))
 
--- the last entry before the end is of the key, and its place is that of the last field of the name
-pub last_found : (index : FieldIndex) (fields : List Field) (tag : Tag) (ifd_num : In) (end last place : ℕ) → Searched index fields tag ifd_num end
-    → get_or index.entries.items (end - 1) last ≡ last → 0 < end → last ≡ entry_of (key_of tag ifd_num) 0 + place
-    → last_named fields tag ifd_num ≡ slice_get fields place
-last_found index fields tag ifd_num end last place s l some is =
+-- the last entry before the end is of the key, and its position is that of the last field of the name
+pub last_found : (index : FieldIndex) (fields : List Field) (tag : Tag) (ifd_num : In) (end last position : ℕ) → Searched index fields tag ifd_num end
+    → get_or index.entries.items (end - 1) last ≡ last → 0 < end → last ≡ entry_of (key_of tag ifd_num) 0 + position
+    → last_named fields tag ifd_num ≡ slice_get fields position
+last_found index fields tag ifd_num end last position s l some is =
     let xs = index.entries.items in
     let all = All-permutation (IsEntryFrom 0 fields) (entries_from 0 fields) xs s.0.entries (only_entries 0 fields) in
     let e : IsEntryFrom 0 fields last = subst (IsEntryFrom 0 fields) l (all (end - 1) last (omega (arith, some, s.2))) in
     let f = e.1 in
     let w = slice_get_within fields e.0 f e.2 in
-    let v = s.0.places in
+    let v = s.0.positions in
     let small = last_small index fields tag ifd_num end last s l some in
-    let same = one_key (key_of f.tag f.ifd_num) (key_of tag ifd_num) e.0 place last (omega (arith, w, v)) e.3 is small in
+    let same = one_key (key_of f.tag f.ifd_num) (key_of tag ifd_num) e.0 position last (omega (arith, w, v)) e.3 is small in
     let number : f.tag.1 < 2 ^ 16 = rw (get_or_from_slice_get fields e.0 f f e.2) at (s.0.numbers e.0 f w) in
     let named = key_has_name tag ifd_num f number s.1 same.0 in
     let found = last_passes (is_named tag ifd_num) fields e.0 f e.2 named

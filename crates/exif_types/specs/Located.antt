@@ -1,4 +1,4 @@
--- Fields by directory, tag and place.
+-- Fields by directory, tag and offset.
 use Rattle.std.specs.Prelude.{ℕ, ◌+◌, ◌*◌, ◌-◌, ◌^◌, ◌<◌, ◌≤◌, List, [], ◌∷◌, length, All}
 use Rattle.std.specs.List.Sorted.{IsPermutation, IsNonDecreasing, IsPartitionPoint}
 use Rattle.exif_table.specs.Contexts.{context_rank}
@@ -12,9 +12,9 @@ use Rattle.exif_types.specs.declared.index.FieldIndex.{FieldIndex}
 abbrev pub key_of : Tag → In → ℕ
 key_of tag ifd_num = (ifd_num.0 * 4 + context_rank tag.0) * 2 ^ 16 + tag.1
 
--- a field as one number: its key, then its place
+-- a field as one number: its key, then its offset
 abbrev pub entry_of : ℕ → ℕ → ℕ
-entry_of key place = key * 2 ^ 43 + place
+entry_of key offset = key * 2 ^ 43 + offset
 
 -- the greatest entry of a key
 abbrev pub greatest_of : ℕ → ℕ
@@ -24,17 +24,17 @@ greatest_of key = entry_of key (2 ^ 43 - 1)
 abbrev pub EndsUpTo : ℕ → List ℕ → ℕ → Type 0
 EndsUpTo bound numbers end = IsPartitionPoint (λ n. n ≤ bound) (λ n. bound < n) numbers end
 
--- the entries of fields, of which the first stands at this place
+-- the entries of fields, of which the first stands at this offset
 abbrev pub entries_from : ℕ → List Field → List ℕ
-entries_from place [] = []
-entries_from place (field ∷ fields) =
-    entry_of (key_of field.tag field.ifd_num) place ∷ entries_from (place + 1) fields
+entries_from offset [] = []
+entries_from offset (field ∷ fields) =
+    entry_of (key_of field.tag field.ifd_num) offset ∷ entries_from (offset + 1) fields
 
 -- an index has the entries of the fields, and they ascend
 pub record Indexes (index : FieldIndex) (fields : List Field) : Type 0 where
   pub entries : IsPermutation (entries_from 0 fields) index.entries.items
   pub ascending : IsNonDecreasing index.entries.items
-  -- each directory is one of the first eight, each tag's number has 16 bits, each place 43
+  -- each directory is one of the first eight, each tag's number has 16 bits, each offset 43
   pub directories : All (λ field. field.ifd_num.0 < 8) fields
   pub numbers : All (λ field. field.tag.1 < 2 ^ 16) fields
-  pub places : length fields ≤ 2 ^ 43
+  pub positions : length fields ≤ 2 ^ 43

@@ -15,13 +15,13 @@ field_type_of (Short xs) = Some field_type.Short
 field_type_of (Long xs) = Some field_type.Long
 field_type_of (Rational xs) = Some field_type.Rational
 field_type_of (SByte xs) = Some field_type.SByte
-field_type_of (Undefined xs place) = Some field_type.Undefined
+field_type_of (Undefined xs offset) = Some field_type.Undefined
 field_type_of (SShort xs) = Some field_type.SShort
 field_type_of (SLong xs) = Some field_type.SLong
 field_type_of (SRational xs) = Some field_type.SRational
 field_type_of (Float xs) = Some field_type.Float
 field_type_of (Double xs) = Some field_type.Double
-field_type_of (Unknown type count place) = None
+field_type_of (Unknown type count offset) = None
 
 -- the number of a known type
 abbrev pub known_number : Option FieldType → ℕ
@@ -30,7 +30,7 @@ known_number (Some type) = number_of type
 
 -- the number of a value's type
 abbrev pub type_number : Value → ℕ
-type_number (Unknown type count place) = type
+type_number (Unknown type count offset) = type
 type_number value = known_number (field_type_of value)
 
 -- how many items a value has; those of texts are their bytes
@@ -41,10 +41,10 @@ count_of (Short xs) = length xs
 count_of (Long xs) = length xs
 count_of (Rational xs) = length xs
 count_of (SByte xs) = length xs
-count_of (Undefined xs place) = length xs
+count_of (Undefined xs offset) = length xs
 count_of (SShort xs) = length xs
 count_of (SLong xs) = length xs
 count_of (SRational xs) = length xs
 count_of (Float xs) = length xs
 count_of (Double xs) = length xs
-count_of (Unknown type count place) = count
+count_of (Unknown type count offset) = count

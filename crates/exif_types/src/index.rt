@@ -1,4 +1,4 @@
-//! The places of fields by directory and tag.
+//! The positions of fields by directory and tag.
 
 ghost use Rattle.std.specs.Prelude.{◌≡◌, ◌<◌, ◌≤◌, ◌^◌, All, length, IfOk};
 ghost use Rattle.std.specs.Option.{option_copied};
@@ -10,13 +10,13 @@ ghost use Rattle.exif_types.specs.Sound.{IsRead};
 use crate::{Context, Field, In, Tag};
 use std::alloc::{AllocError, Global};
 
-/// The fields of a list by directory, tag and place: an entry for each, in ascending order.
+/// The fields of a list by directory, tag and position: an entry for each, in ascending order.
 #[derive(Drop)]
 pub struct FieldIndex {
     entries: Vec<u64>,
 }
 
-// The place of a context in the order of contexts.
+// The position of a context in the order of contexts.
 fn rank(context: Context) -> u64
     ensures value { result ≡ context_rank context }
     ensures small { result < 4 }
@@ -39,13 +39,13 @@ fn key_of(tag: Tag, ifd_num: In) -> u64
     (ifd_num.0 as u64 * 4 + rank(tag.0)) * 65536 + tag.1 as u64
 }
 
-// A field with this key at this place, as one number.
-fn entry_of(key: u64, place: u64) -> u64
+// A field with this key at this position, as one number.
+fn entry_of(key: u64, position: u64) -> u64
     requires key { key < 2 ^ 21 }
-    requires place { place < 2 ^ 43 }
-    ensures { result ≡ entry_of key place }
+    requires position { position < 2 ^ 43 }
+    ensures { result ≡ entry_of key position }
 {
-    key * (1 << 43) + place
+    key * (1 << 43) + position
 }
 
 impl FieldIndex {
@@ -61,8 +61,8 @@ impl FieldIndex {
             return Err(AllocError);
         }
         let mut entries = Vec::with_capacity(alloc, fields.len())?;
-        for (place, field) in fields.iter().enumerate() {
-            entries.push(entry_of(key_of(field.tag, field.ifd_num), place as u64))?;
+        for (position, field) in fields.iter().enumerate() {
+            entries.push(entry_of(key_of(field.tag, field.ifd_num), position as u64))?;
         }
         entries.sort_unstable();
         Ok(FieldIndex { entries })
@@ -90,7 +90,7 @@ impl FieldIndex {
         let key = key_of(tag, ifd_num);
         let last = self.count_up_to(key).checked_sub(1)?;
         let entry = self.entries.get(last)?;
-        let place = entry.checked_sub(entry_of(key, 0))?;
-        fields.get(place as usize)
+        let position = entry.checked_sub(entry_of(key, 0))?;
+        fields.get(position as usize)
     }
 }

@@ -80,7 +80,7 @@ impl Value {
             Value::SRational(items) => Contents::SRational(items.as_slice()),
             Value::Float(items) => Contents::Float(items.as_slice()),
             Value::Double(items) => Contents::Double(items.as_slice()),
-            Value::Unknown(number, count, place) => Contents::Unknown(*number, *count, *place),
+            Value::Unknown(number, count, offset) => Contents::Unknown(*number, *count, *offset),
         }
     }
 
@@ -154,13 +154,13 @@ impl Value {
             Value::Long(items) => Value::Long(items.clone(alloc)?),
             Value::Rational(items) => Value::Rational(items.clone(alloc)?),
             Value::SByte(items) => Value::SByte(items.clone(alloc)?),
-            Value::Undefined(items, place) => Value::Undefined(items.clone(alloc)?, *place),
+            Value::Undefined(items, offset) => Value::Undefined(items.clone(alloc)?, *offset),
             Value::SShort(items) => Value::SShort(items.clone(alloc)?),
             Value::SLong(items) => Value::SLong(items.clone(alloc)?),
             Value::SRational(items) => Value::SRational(items.clone(alloc)?),
             Value::Float(items) => Value::Float(items.clone(alloc)?),
             Value::Double(items) => Value::Double(items.clone(alloc)?),
-            Value::Unknown(number, count, place) => Value::Unknown(*number, *count, *place),
+            Value::Unknown(number, count, offset) => Value::Unknown(*number, *count, *offset),
         })
     }
 }
@@ -242,10 +242,10 @@ impl fmt::Debug for Value {
             Value::Long(items) => write!(f, "Long({items:?})"),
             Value::Rational(items) => write!(f, "Rational({items:?})"),
             Value::SByte(items) => write!(f, "SByte({items:?})"),
-            Value::Undefined(_, place) => {
+            Value::Undefined(_, offset) => {
                 write!(
                     f,
-                    "Undefined({}, ofs=0x{place:x})",
+                    "Undefined({}, ofs=0x{offset:x})",
                     PlainText(self.contents())
                 )
             }
@@ -254,8 +254,8 @@ impl fmt::Debug for Value {
             Value::SRational(items) => write!(f, "SRational({items:?})"),
             Value::Float(items) => write!(f, "Float({items:?})"),
             Value::Double(items) => write!(f, "Double({items:?})"),
-            Value::Unknown(number, count, place) => {
-                write!(f, "Unknown(typ={number}, cnt={count}, ofs=0x{place:x})")
+            Value::Unknown(number, count, offset) => {
+                write!(f, "Unknown(typ={number}, cnt={count}, ofs=0x{offset:x})")
             }
         }
     }

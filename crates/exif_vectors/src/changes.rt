@@ -64,7 +64,7 @@ fn removed(case: &Case) -> Removed {
     } else if case.removes_all {
         Removed::Metadata
     } else {
-        Removed::Places
+        Removed::Gps
     }
 }
 

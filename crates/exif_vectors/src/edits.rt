@@ -5,13 +5,13 @@ use exif::{Counted, Field, In, Seekable, Sink, Source, Tag};
 use exif_cases::{Call, Case, CaseError, Kind};
 use exif_containers::util::read_all;
 use exif_edit::{
-    Error, Patch, erase_all, erase_all_patches, erase_field, erase_field_patches, erase_places,
-    erase_places_patches, set_value, set_value_patches,
+    Error, Patch, erase_all, erase_all_patches, erase_field, erase_field_patches, erase_gps,
+    erase_gps_patches, set_value, set_value_patches,
 };
 use exif_edit_files::{
     erase_all_in_file, erase_all_patches_in_file, erase_field_in_file, erase_field_patches_in_file,
-    erase_field_patches_of, erase_places_in_file, erase_places_patches_in_file,
-    erase_places_patches_of, set_value_in_file, set_value_patches_in_file, set_value_patches_of,
+    erase_field_patches_of, erase_gps_in_file, erase_gps_patches_in_file,
+    erase_gps_patches_of, set_value_in_file, set_value_patches_in_file, set_value_patches_of,
 };
 use std::alloc::Global;
 use std::fmt::Display;
@@ -66,8 +66,8 @@ fn field_of(case: &Case) -> Result<&Field, Error> {
 fn in_place(alloc: Global, case: &Case, bytes: &mut [u8]) -> Result<(), Error> {
     let (tag, ifd_num) = name_of(case);
     match (case.call, case.kind) {
-        (Call::EraseGps, Kind::Data) => erase_places(alloc, bytes),
-        (Call::EraseGps, _) => erase_places_in_file(alloc, bytes),
+        (Call::EraseGps, Kind::Data) => erase_gps(alloc, bytes),
+        (Call::EraseGps, _) => erase_gps_in_file(alloc, bytes),
         (Call::EraseAll, Kind::Data) => erase_all(bytes),
         (Call::EraseAll, _) => erase_all_in_file(alloc, bytes),
         (Call::EraseField, Kind::Data) => erase_field(alloc, bytes, tag, ifd_num),
@@ -88,8 +88,8 @@ fn patches(alloc: Global, case: &Case, bytes: &[u8]) -> Result<Vec<Patch>, Error
     let (tag, ifd_num) = name_of(case);
     match (case.call, case.kind) {
         (_, Kind::Stream) => patches_sought(alloc, case, bytes),
-        (Call::EraseGps, Kind::Data) => erase_places_patches(alloc, bytes),
-        (Call::EraseGps, _) => erase_places_patches_in_file(alloc, bytes),
+        (Call::EraseGps, Kind::Data) => erase_gps_patches(alloc, bytes),
+        (Call::EraseGps, _) => erase_gps_patches_in_file(alloc, bytes),
         (Call::EraseAll, Kind::Data) => erase_all_patches(alloc, bytes),
         (Call::EraseAll, _) => erase_all_patches_in_file(alloc, bytes),
         (Call::EraseField, Kind::Data) => erase_field_patches(alloc, bytes, tag, ifd_num),
@@ -118,7 +118,7 @@ fn patches_read(alloc: Global, case: &Case, bytes: &[u8]) -> Result<Vec<Patch>, 
     let mut source = Counted::new(bytes);
     let len = bytes.len() as u64;
     match case.call {
-        Call::EraseGps => erase_places_patches_of(alloc, &mut source, len),
+        Call::EraseGps => erase_gps_patches_of(alloc, &mut source, len),
         Call::EraseField => erase_field_patches_of(alloc, &mut source, len, tag, ifd_num),
         _ => {
             let field = field_of(case)?;
@@ -134,7 +134,7 @@ fn patches_sought(alloc: Global, case: &Case, bytes: &[u8]) -> Result<Vec<Patch>
     let mut source = Seekable::new(Cursor::new(bytes));
     let len = bytes.len() as u64;
     match case.call {
-        Call::EraseGps => erase_places_patches_of(alloc, &mut source, len),
+        Call::EraseGps => erase_gps_patches_of(alloc, &mut source, len),
         Call::EraseField => erase_field_patches_of(alloc, &mut source, len, tag, ifd_num),
         _ => {
             let field = field_of(case)?;
@@ -165,7 +165,7 @@ fn end_of_patches<E: Display + Drop>(
     match answer {
         Ok(patches) => {
             for patch in patches.as_slice() {
-                put(bytes, patch.place as usize, patch.text.as_slice());
+                put(bytes, patch.offset as usize, patch.text.as_slice());
             }
             Ok(String::new(alloc))
         }

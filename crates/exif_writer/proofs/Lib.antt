@@ -5,7 +5,7 @@ pub mod MeasureSteps
 pub mod MeasureTails
 pub mod PlanChain
 pub mod PlanOrder
-pub mod PlanPlaces
+pub mod PlanOffsets
 pub mod PlanSettling
 pub mod Ready
 pub mod SendChains

@@ -7,7 +7,7 @@ use Rattle.exif_layout.proofs.Images.Exact as exact
 use Rattle.exif_writer.specs.declared.measure.Tail.{Tail}
 use Rattle.exif_writer.specs.Tails.{measure, Tells}
 use Rattle.exif_layout.specs.Slots.{Slot, content_len, in_tag_order}
-use Rattle.exif_layout.specs.Places.{after_values}
+use Rattle.exif_layout.specs.Offsets.{after_values}
 use Rattle.exif_layout.specs.Measuring.{span, last_out, end_from}
 
 -- a count stays right over one more entry whose value takes at most four bytes
@@ -62,21 +62,21 @@ tells_older tail new tag size pair slots slot h k e t bytes some high last =
     tells_big tail new tag size slots slot h k e t bytes (last ∙ some ∙ sym (ap (newer_pair tag size) some ∙ rw (lt-ltb tag pair.0 high) refl))
 
 -- the end of values, from what a count tells
-pub told_none : (tail : Tail) (place : ℕ) (slots : List Slot) → Tells tail slots → tail.last ≡ None → place ≡ after_values place (in_tag_order slots)
-told_none tail place slots t none = go (last_out slots) refl (sym t.last ∙ none)
+pub told_none : (tail : Tail) (offset : ℕ) (slots : List Slot) → Tells tail slots → tail.last ≡ None → offset ≡ after_values offset (in_tag_order slots)
+told_none tail offset slots t none = go (last_out slots) refl (sym t.last ∙ none)
   where
-    go : (l : Option Slot) → last_out slots ≡ l → option_map measure (last_out slots) ≡ None → place ≡ after_values place (in_tag_order slots)
-    go None k n = sym (exact.end_is place slots ∙ ap (end_from place (span slots)) k)
+    go : (l : Option Slot) → last_out slots ≡ l → option_map measure (last_out slots) ≡ None → offset ≡ after_values offset (in_tag_order slots)
+    go None k n = sym (exact.end_is offset slots ∙ ap (end_from offset (span slots)) k)
     go (Some s) k n = let j : Some (measure s) ≡ None = rw k at n in absurd cc
 
 -- values outside their entries end behind all counted bytes, without the pad of the last one
-pub told_some : (tail : Tail) (place : ℕ) (pair : ℕ × ℕ) (slots : List Slot) → Tells tail slots → tail.last ≡ Some pair
-    → place + place % 2 + tail.bytes - pair.1 % 2 ≡ after_values place (in_tag_order slots)
-told_some tail place pair slots t some = go (last_out slots) refl (sym t.last ∙ some)
+pub told_some : (tail : Tail) (offset : ℕ) (pair : ℕ × ℕ) (slots : List Slot) → Tells tail slots → tail.last ≡ Some pair
+    → offset + offset % 2 + tail.bytes - pair.1 % 2 ≡ after_values offset (in_tag_order slots)
+told_some tail offset pair slots t some = go (last_out slots) refl (sym t.last ∙ some)
   where
-    go : (l : Option Slot) → last_out slots ≡ l → option_map measure (last_out slots) ≡ Some pair → place + place % 2 + tail.bytes - pair.1 % 2 ≡ after_values place (in_tag_order slots)
+    go : (l : Option Slot) → last_out slots ≡ l → option_map measure (last_out slots) ≡ Some pair → offset + offset % 2 + tail.bytes - pair.1 % 2 ≡ after_values offset (in_tag_order slots)
     go None k n = let j : None ≡ Some pair = rw k at n in absurd cc
     go (Some s) k n =
         let j : Some (measure s) ≡ Some pair = rw k at n in
         let m : measure s ≡ pair = cc in
-        (λ i. place + place % 2 + t.bytes i - ((sym m) i).1 % 2) ∙ sym (exact.end_is place slots ∙ ap (end_from place (span slots)) k)
+        (λ i. offset + offset % 2 + t.bytes i - ((sym m) i).1 % 2) ∙ sym (exact.end_is offset slots ∙ ap (end_from offset (span slots)) k)

@@ -20,12 +20,12 @@ use Rattle.exif_table.specs.declared.context.Context.{Context}
 use Rattle.exif_table.specs.declared.context.Context.TheVariants.{Tiff, Exif, Gps, Interop}
 use Rattle.exif_layout.proofs.Images.Counting.{values_end_is}
 use Rattle.exif_writer.proofs.MeasureSteps.{tells_small}
-use Rattle.exif_layout.specs.Groups.{Group, Entry, pushed_in, entry_of, places_tag, lengths_tag, single}
+use Rattle.exif_layout.specs.Groups.{Group, Entry, pushed_in, entry_of, offsets_tag, lengths_tag, single}
 use Rattle.exif_layout.specs.Encoding.{value_len}
 use Rattle.exif_layout.specs.Measuring.{span, last_out, end_from}
-use Rattle.exif_layout.specs.Places.{even, after_values}
+use Rattle.exif_layout.specs.Offsets.{even, after_values}
 use Rattle.exif_layout.specs.Refused.{any_unknown, is_unknown}
-use Rattle.exif_layout.specs.Slots.{Slot, PlacesOf, LengthsOf, PlaceOf, known, content_len, set_slots, block_slots, pointer_slots, exif_slots, gps_slots, interop_slots, tiff_unsorted, unsorted, slots_of}
+use Rattle.exif_layout.specs.Slots.{Slot, OffsetsOf, LengthsOf, OffsetOf, known, content_len, set_slots, block_slots, pointer_slots, exif_slots, gps_slots, interop_slots, tiff_unsorted, unsorted, slots_of}
 
 -- what follows of an answer that there is, and of none
 pub none_map : {T P Q : Type 0} (o : Option T) → (P → Q) → IfNone o P → IfNone o Q
@@ -73,9 +73,9 @@ span_first slots a b =
     let k = span-append (slots ++ a ∷ []) (b ∷ []) in
     omega arith
 
--- the slot with the places of the blocks, the first of the two
-abbrev pub place_slot : BlockKind → List (Bor (List ℕ)) → Slot
-place_slot kind texts = record { tag = places_tag kind; content = PlacesOf kind (lens texts) }
+-- the slot with the offsets of the blocks, the first of the two
+abbrev pub offset_slot : BlockKind → List (Bor (List ℕ)) → Slot
+offset_slot kind texts = record { tag = offsets_tag kind; content = OffsetsOf kind (lens texts) }
 
 -- the slot with the lengths of the blocks, the second of the two
 abbrev pub length_slot : BlockKind → List (Bor (List ℕ)) → Slot
@@ -85,12 +85,12 @@ length_slot kind texts = record { tag = lengths_tag kind; content = LengthsOf ki
 pub slot_len : (texts : List (Bor (List ℕ))) (size : ℕ) → size ≡ 4 * length texts → 4 * length (lens texts) ≡ size
 slot_len texts size e = let k = lens_length texts in omega arith
 
--- where the places of blocks take 2^32 bytes or more, so do values with the blocks' two entries
+-- where the offsets of blocks take 2^32 bytes or more, so do values with the blocks' two entries
 pub over_many : (kind : BlockKind) (texts : List (Bor (List ℕ))) (slots : List Slot) → 2 ^ 32 ≤ 4 * length texts
-    → 2 ^ 32 ≤ span (slots ++ place_slot kind texts ∷ length_slot kind texts ∷ [])
+    → 2 ^ 32 ≤ span (slots ++ offset_slot kind texts ∷ length_slot kind texts ∷ [])
 over_many kind texts slots h =
-    let one = over_alone (4 * length texts) slots (place_slot kind texts) h (slot_len texts (4 * length texts) refl) in
-    let two = span_first slots (place_slot kind texts) (length_slot kind texts) in
+    let one = over_alone (4 * length texts) slots (offset_slot kind texts) h (slot_len texts (4 * length texts) refl) in
+    let two = span_first slots (offset_slot kind texts) (length_slot kind texts) in
     omega arith
 
 -- the slots of pushed fields
@@ -137,12 +137,12 @@ span_longer xs ys = let e = span-append xs ys in omega arith
 -- slots whose values stand in their entries tell nothing
 pub tells_pointer : (tail : Tail) (slots : List Slot) (tag : ℕ) (child : Context) (entries : List Slot) → Tells tail slots → Tells tail (slots ++ pointer_slots tag child entries)
 tells_pointer tail slots tag child [] t = rw (append-nil slots) t
-tells_pointer tail slots tag child (entry ∷ entries) t = tells_small tail 4 slots (record { tag = tag; content = PlaceOf child }) (omega arith) refl t
+tells_pointer tail slots tag child (entry ∷ entries) t = tells_small tail 4 slots (record { tag = tag; content = OffsetOf child }) (omega arith) refl t
 
 tells_jpeg : (tail : Tail) (slots : List Slot) (jpeg : Option (List ℕ)) → Tells tail slots → Tells tail (slots ++ set_slots Jpeg (single jpeg))
 tells_jpeg tail slots None t = rw (append-nil slots) t
 tells_jpeg tail slots (Some text) t =
-    let a : Slot = record { tag = places_tag Jpeg; content = PlacesOf Jpeg (length text ∷ []) } in
+    let a : Slot = record { tag = offsets_tag Jpeg; content = OffsetsOf Jpeg (length text ∷ []) } in
     let b : Slot = record { tag = lengths_tag Jpeg; content = LengthsOf Jpeg (length text ∷ []) } in
     let P : List Slot → Type 0 = Tells tail in
     subst P (pushed_two slots a b) (tells_small tail 4 (slots ++ a ∷ []) b (omega arith) refl (tells_small tail 4 slots a (omega arith) refl t))
@@ -189,13 +189,13 @@ pushed_front group Exif = span_longer (map known group.exif) (pointer_slots 0xa0
 pushed_front group Gps = omega arith
 pushed_front group Interop = omega arith
 
--- values of many bytes end far behind their place
-pub span_beyond : (place : ℕ) (group : Group) (context : Context) → 0 < place → 2 ^ 32 ≤ span (unsorted group context) → 2 ^ 32 ≤ after_values place (slots_of group context)
-span_beyond place group context low h = go (last_out (unsorted group context)) refl
+-- values of many bytes end far behind their offset
+pub span_beyond : (offset : ℕ) (group : Group) (context : Context) → 0 < offset → 2 ^ 32 ≤ span (unsorted group context) → 2 ^ 32 ≤ after_values offset (slots_of group context)
+span_beyond offset group context low h = go (last_out (unsorted group context)) refl
   where
-    go : (last : Option Slot) → last_out (unsorted group context) ≡ last → 2 ^ 32 ≤ after_values place (slots_of group context)
+    go : (last : Option Slot) → last_out (unsorted group context) ≡ last → 2 ^ 32 ≤ after_values offset (slots_of group context)
     go None e = let none = exact.span_none (unsorted group context) e in absurd (omega arith)
     go (Some last) e =
-        let k : after_values place (slots_of group context) ≡ even place + span (unsorted group context) - content_len last.content % 2 =
-        values_end_is place group context ∙ ap (end_from place (span (unsorted group context))) e in
+        let k : after_values offset (slots_of group context) ≡ even offset + span (unsorted group context) - content_len last.content % 2 =
+        values_end_is offset group context ∙ ap (end_from offset (span (unsorted group context))) e in
         omega arith

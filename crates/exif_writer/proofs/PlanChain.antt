@@ -6,10 +6,10 @@ use Rattle.exif_layout.specs.declared.write_fault.WriteFault.{WriteFault}
 use Rattle.exif_layout.specs.declared.write_fault.WriteFault.TheVariants.{NoDirectory, OffsetTooLarge}
 use Rattle.exif_writer.specs.Drafts.{HasRoom, IsSettledPlan, ArePlans, next_of}
 use Rattle.exif_writer.specs.declared.plan.Plan.{Plan}
-use Rattle.exif_writer.proofs.PlanPlaces.{tiff_is, places_within}
+use Rattle.exif_writer.proofs.PlanOffsets.{tiff_is, offsets_within}
 use Rattle.std.proofs.lemmas.List.{append-nil, drop_more, drop_all}
 use Rattle.exif_layout.specs.Groups.{Group, empty_group}
-use Rattle.exif_layout.specs.Places.{draft_end, drafts_end, next_place, even}
+use Rattle.exif_layout.specs.Offsets.{draft_end, drafts_end, next_offset, even}
 use Rattle.exif_layout.specs.Refused.{group_fault, first_group_fault, write_fault}
 use Rattle.exif_layout.specs.Slots.{Draft, draft_of}
 use Rattle.exif_layout.proofs.Images.Room.{drafts_low}
@@ -130,14 +130,14 @@ refused_never groups cause h e s near =
 
 -- where the next directory stands
 pub next_is : (end : ℕ) (groups : List Group) (i : ℕ) (last : Bool) → last ≡ (i + 1 == length groups) → i < length groups
-    → next_of end last ≡ next_place end (map draft_of (drop (i + 1) groups))
+    → next_of end last ≡ next_offset end (map draft_of (drop (i + 1) groups))
 next_is end groups i true e h =
     let all = eqb-true (i + 1) (length groups) (sym e) in
-    sym (ap (λ r. next_place end (map draft_of r)) (drop_all (i + 1) groups (omega arith)))
+    sym (ap (λ r. next_offset end (map draft_of r)) (drop_all (i + 1) groups (omega arith)))
 next_is end groups i false e h =
     let d : Group = get_or groups (i + 1) empty_group in
     let more = eqb-false (i + 1) (length groups) (sym e) in
-    sym (ap (λ r. next_place end (map draft_of r)) (drop_more groups (i + 1) empty_group (omega arith)))
+    sym (ap (λ r. next_offset end (map draft_of r)) (drop_more groups (i + 1) empty_group (omega arith)))
 
 -- it stands before the end of the image
 pub next_within : (groups : List Group) (i : ℕ) → i < length groups → even (drafts_end 8 (map draft_of (take i groups))) ≤ drafts_end 8 (map draft_of groups)
@@ -145,7 +145,7 @@ next_within groups i h =
     let x : Group = get_or groups i empty_group in
     let start : ℕ = drafts_end 8 (map draft_of (take i groups)) in
     let at = tiff_is (draft_of x) start in
-    let high = (places_within (draft_of x) start).in_tiff.high in
+    let high = (offsets_within (draft_of x) start).in_tiff.high in
     let within = ends_within 8 groups i x empty_group h refl in
     omega arith
 
@@ -154,7 +154,7 @@ module _ (groups : List Group) (i : ℕ) (x d : Group) (start : ℕ) (plans : Li
     (so : (more : List Plan) → ArePlans start (map draft_of (drop i groups)) more → ArePlans 8 (map draft_of groups) (plans ++ more)) where
   -- with the plan of one more group put behind, only the plans of the groups after it are missing
   pub plans_more : (plan : Plan) (next end : ℕ) (new : List Plan) → IsSettledPlan (draft_of x) start next plan → end ≡ draft_end (draft_of x) start
-      → next ≡ next_place (draft_end (draft_of x) start) (map draft_of (drop (i + 1) groups)) → new ≡ plans ++ plan ∷ []
+      → next ≡ next_offset (draft_end (draft_of x) start) (map draft_of (drop (i + 1) groups)) → new ≡ plans ++ plan ∷ []
       → (more : List Plan) → ArePlans end (map draft_of (drop (i + 1) groups)) more → ArePlans 8 (map draft_of groups) (new ++ more)
   plans_more plan next end new is k n p more rest =
       let split : map draft_of (drop i groups) ≡ draft_of x ∷ map draft_of (drop (i + 1) groups) =

@@ -8,7 +8,7 @@ use Rattle.std.specs.Vec.{with_items}
 use Rattle.std.specs.declared.vec.Vec.{Vec}
 use mir.Val.{bool_byte}
 use Rattle.exif_layout.specs.Slots as format
-use Rattle.exif_layout.specs.Places.{even, after_value}
+use Rattle.exif_layout.specs.Offsets.{even, after_value}
 use Rattle.exif_writer.specs.Sending.{symbol, after_slot, values_end, settle_slot, settle, IsSettled, AreSettled}
 use Rattle.exif_layout.specs.EntryContents.{content_size}
 use Rattle.exif_writer.specs.declared.plan.Slot.{Slot}
@@ -35,7 +35,7 @@ settle_all start slots i h = (λ k. settle start (take_all i slots h k) ++ drop_
 -- settling leaves what a slot says
 slot_same : (start : ℕ) (slot : Slot) → symbol (settle_slot start slot) ≡ symbol slot
 slot_same start slot =
-    elim (nat_le (content_size slot.content) 4) as (λ b. symbol (if b then record slot { size = content_size slot.content } else record slot { size = content_size slot.content; place = even start; padded = start % 2 == 1 }) ≡ symbol slot) [ true ↦ refl | false ↦ refl ]
+    elim (nat_le (content_size slot.content) 4) as (λ b. symbol (if b then record slot { size = content_size slot.content } else record slot { size = content_size slot.content; offset = even start; padded = start % 2 == 1 }) ≡ symbol slot) [ true ↦ refl | false ↦ refl ]
 
 -- settling slots leaves all that images see of them: tags and contents
 pub settle_same : (start : ℕ) (slots : List Slot) → map symbol (settle start slots) ≡ map symbol slots
@@ -45,12 +45,12 @@ settle_same start (slot ∷ slots) = λ i. slot_same start slot i ∷ settle_sam
 -- settled slots are such
 content_same : (start : ℕ) (slot : Slot) → (settle_slot start slot).content ≡ slot.content
 content_same start slot =
-    elim (nat_le (content_size slot.content) 4) as (λ b. (let s : Slot = if b then record slot { size = content_size slot.content } else record slot { size = content_size slot.content; place = even start; padded = start % 2 == 1 } in s).content ≡ slot.content) [ true ↦ refl | false ↦ refl ]
+    elim (nat_le (content_size slot.content) 4) as (λ b. (let s : Slot = if b then record slot { size = content_size slot.content } else record slot { size = content_size slot.content; offset = even start; padded = start % 2 == 1 } in s).content ≡ slot.content) [ true ↦ refl | false ↦ refl ]
 
 settled_by : (start : ℕ) (slot : Slot) (b : Bool) → nat_le (content_size slot.content) 4 ≡ b
-    → IsSettled start (if b then record slot { size = content_size slot.content } else record slot { size = content_size slot.content; place = even start; padded = start % 2 == 1 })
-settled_by start slot true e = record { size = refl; place = λ h. absurd (true≢false (sym e ∙ h)); padded = λ h. absurd (true≢false (sym e ∙ h)) }
-settled_by start slot false e = record { size = refl; place = λ h. refl; padded = λ h. refl }
+    → IsSettled start (if b then record slot { size = content_size slot.content } else record slot { size = content_size slot.content; offset = even start; padded = start % 2 == 1 })
+settled_by start slot true e = record { size = refl; offset = λ h. absurd (true≢false (sym e ∙ h)); padded = λ h. absurd (true≢false (sym e ∙ h)) }
+settled_by start slot false e = record { size = refl; offset = λ h. refl; padded = λ h. refl }
 
 -- settled slots have their sizes, and their values outside stand one behind the other
 pub settle_are : (start : ℕ) (slots : List Slot) → AreSettled start (settle start slots)
@@ -92,9 +92,9 @@ settling start symbols old lent new same lend e =
     let P : List Slot → Type 0 = AreSettled start in
     record { same = ap (map symbol) whole ∙ settle_same start old.items ∙ same; are = subst P (sym whole) (settle_are start old.items) }
 
--- a vector whose slots are settled from a place on is a settled directory that says the same
-pub settling_at : {Z : Type 0} {start place : ℕ} {symbols : List format.Slot} → start ≡ place → (old : Vec Slot Z) {lent : List Slot} (new : List Slot) → map symbol old.items ≡ symbols → lent ≡ old.items
-    → new ≡ settle start lent → IsSettling place symbols (with_items old new).items
+-- a vector whose slots are settled from an offset on is a settled directory that says the same
+pub settling_at : {Z : Type 0} {start offset : ℕ} {symbols : List format.Slot} → start ≡ offset → (old : Vec Slot Z) {lent : List Slot} (new : List Slot) → map symbol old.items ≡ symbols → lent ≡ old.items
+    → new ≡ settle start lent → IsSettling offset symbols (with_items old new).items
 settling_at {start = start} {symbols = symbols} at old {lent = lent} new same lend e =
     let P : ℕ → Type 0 = λ p. IsSettling p symbols (with_items old new).items in
     subst P at (settling start symbols old lent new same lend e)

@@ -12,7 +12,7 @@ use Rattle.exif_writer.proofs.SendChains.{HasSent, sends_whole, sends_then, send
 use Rattle.exif_writer.proofs.SendMembers.{around}
 use Rattle.exif_base.specs.declared.endian.Order.{Order}
 use Rattle.exif_layout.specs.Encoding.{spelled}
-use Rattle.exif_layout.specs.Places.{places_from}
+use Rattle.exif_layout.specs.Offsets.{offsets_from}
 use Rattle.exif_base.specs.Sent.{Sends}
 use Rattle.exif_base.specs.declared.device.Sink as sink
 
@@ -74,11 +74,11 @@ runs_all {T = T} {E = E} {W = W} {a = a} {b = b} {y = y} step text s xs i h sent
     let P : List ℕ → Type 0 = λ w. Sends W a b r w in
     subst P (ap (run step text s) (take_all i xs h)) (sends_whole sent)
 
--- the places of texts, and their lengths, as loops send them
-pub run_places : (order : Order) (first : ℕ) (texts : List (Bor (List ℕ)))
-    → run (λ (p : ℕ) (b : Bor (List ℕ)). p + length b.now) (λ p b. spelled order 4 p) first texts ≡ flat_map (spelled order 4) (places_from first (lens texts))
-run_places order first [] = refl
-run_places order first (t ∷ texts) = ap (λ r. spelled order 4 first ++ r) (run_places order (first + length t.now) texts)
+-- the offsets of texts, and their lengths, as loops send them
+pub run_offsets : (order : Order) (first : ℕ) (texts : List (Bor (List ℕ)))
+    → run (λ (p : ℕ) (b : Bor (List ℕ)). p + length b.now) (λ p b. spelled order 4 p) first texts ≡ flat_map (spelled order 4) (offsets_from first (lens texts))
+run_offsets order first [] = refl
+run_offsets order first (t ∷ texts) = ap (λ r. spelled order 4 first ++ r) (run_offsets order (first + length t.now) texts)
 
 -- spelling the length of each text gives the same bytes as spelling the list of lengths
 pub lengths_text : (order : Order) (texts : List (Bor (List ℕ)))
@@ -98,7 +98,7 @@ sum_within xs i x d h e =
     ap sum_of (around xs i x d h e) ∙ sum_append (take i xs) (x ∷ drop (i + 1) xs) in
     omega arith
 
--- a place that moves on by each text's length ends all their lengths behind where it began
+-- an offset that moves on by each text's length ends all their lengths behind where it began
 pub state_sum : (s : ℕ) (xs : List (Bor (List ℕ))) → state (λ (p : ℕ) (x : Bor (List ℕ)). p + length x.now) s xs ≡ s + sum_of xs
 state_sum s [] = omega arith
 state_sum s (x ∷ xs) = let e = state_sum (s + length x.now) xs in omega arith

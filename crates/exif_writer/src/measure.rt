@@ -2,7 +2,7 @@
 
 ghost use Rattle.std.specs.Prelude.{◌≡◌, ◌+◌, ◌*◌, ◌<◌, ◌≤◌, ◌^◌, false, length, SomeIff, ◌-◌, ◌%◌, ◌++◌, [], ◌∷◌, List, map, IfSome, IfNone, None, IfOk};
 ghost use Rattle.exif_layout.specs.Encoding.{value_len};
-ghost use Rattle.exif_layout.specs.Places.{after_blocks, after_values, directory_len, tiff_values, strips_place, draft_end, drafts_end};
+ghost use Rattle.exif_layout.specs.Offsets.{after_blocks, after_values, directory_len, tiff_values, strips_offset, draft_end, drafts_end};
 ghost use Rattle.exif_layout.specs.Refused.{is_unknown, any_unknown, group_fault, first_group_fault, write_fault};
 ghost use Rattle.exif_layout.specs.Views.{blocks_of, set_in, entries_in};
 ghost use Rattle.exif_writer.specs.Tails.{Tells};
@@ -10,15 +10,15 @@ ghost use Rattle.exif_layout.specs.Measuring.{MeasuredAs, span};
 ghost use Rattle.exif_layout.specs.Slots.{Slot, known, set_slots, content_len, in_tag_order, draft_of, slots_of, unsorted};
 ghost use Rattle.exif_layout.specs.Counting.{counted_len};
 
-use crate::plan::{lengths_tag, places_tag};
+use crate::plan::{lengths_tag, offsets_tag};
 use exif_layout::{BlockKind, Ifd, WriteFault};
 use exif_types::{Context, Field, Value};
 
-/// The end of so many bytes that begin at a place.
-pub fn end_of(place: u32, len: usize) -> Option<u32>
-    ensures { MeasuredAs result (place + len) }
+/// The end of so many bytes that begin at an offset.
+pub fn end_of(offset: u32, len: usize) -> Option<u32>
+    ensures { MeasuredAs result (offset + len) }
 {
-    place.checked_add(u32::try_from(len).ok()?)
+    offset.checked_add(u32::try_from(len).ok()?)
 }
 
 /// How many bytes items of a few bytes each take.
@@ -38,11 +38,11 @@ pub fn value_size(value: &Value) -> Option<u32>
     unit.checked_mul(value.count()?)
 }
 
-/// Where blocks end that begin at a place.
-pub fn blocks_end(place: u32, blocks: &[&[u8]]) -> Option<u32>
-    ensures { MeasuredAs result (after_blocks place (blocks_of blocks.now)) }
+/// Where blocks end that begin at an offset.
+pub fn blocks_end(offset: u32, blocks: &[&[u8]]) -> Option<u32>
+    ensures { MeasuredAs result (after_blocks offset (blocks_of blocks.now)) }
 {
-    let mut end = place;
+    let mut end = offset;
     for block in blocks {
         end = end_of(end, block.len())?;
     }
@@ -56,12 +56,12 @@ pub struct Tail {
     last: Option<(u16, u32)>,
 }
 
-// The end of so many bytes that begin at an even place, less the zero that makes the last ones
+// The end of so many bytes that begin at an even offset, less the zero that makes the last ones
 // even.
-fn even_end(place: u32, bytes: u32, last: u32) -> Option<u32>
-    ensures { MeasuredAs result (place + place % 2 + bytes - last % 2) }
+fn even_end(offset: u32, bytes: u32, last: u32) -> Option<u32>
+    ensures { MeasuredAs result (offset + offset % 2 + bytes - last % 2) }
 {
-    let end = u64::from(place) + u64::from(place % 2) + u64::from(bytes);
+    let end = u64::from(offset) + u64::from(offset % 2) + u64::from(bytes);
     u32::try_from(end.saturating_sub(u64::from(last % 2))).ok()
 }
 
@@ -107,18 +107,18 @@ impl Tail {
             return Some(self);
         };
         let size = items_size(4, blocks.len())?;
-        self.with(places_tag(kind), size)?
+        self.with(offsets_tag(kind), size)?
             .with(lengths_tag(kind), size)
     }
 
-    /// Where the values end that begin at a place.
-    pub fn end(&self, place: u32) -> Option<u32>
+    /// Where the values end that begin at an offset.
+    pub fn end(&self, offset: u32) -> Option<u32>
         ensures { (slots : List Slot) → Tells self.now slots
-            → MeasuredAs result (after_values place (in_tag_order slots)) }
+            → MeasuredAs result (after_values offset (in_tag_order slots)) }
     {
         match self.last {
-            None => Some(place),
-            Some((_, size)) => even_end(place, self.bytes, size),
+            None => Some(offset),
+            Some((_, size)) => even_end(offset, self.bytes, size),
         }
     }
 }
@@ -158,7 +158,7 @@ pub fn context_len(ifd: &Ifd, context: Context) -> u32
     directory_len(ifd.count(context))
 }
 
-// Where the directories end of a directory of the chain that begins at a place.
+// Where the directories end of a directory of the chain that begins at an offset.
 fn directories_end(ifd: &Ifd, start: u32) -> Option<u32>
     requires { group_fault ifd.now ≡ None }
     ensures { MeasuredAs result (tiff_values (draft_of ifd.now) start) }
@@ -186,20 +186,20 @@ fn context_tail(ifd: &Ifd, context: Context) -> Option<Tail>
     }
 }
 
-// Where the values of a context end that begin at a place.
-fn values_end(ifd: &Ifd, context: Context, place: u32) -> Option<u32>
+// Where the values of a context end that begin at an offset.
+fn values_end(ifd: &Ifd, context: Context, offset: u32) -> Option<u32>
     requires fault { group_fault ifd.now ≡ None }
-    requires place { 0 < place }
-    ensures { MeasuredAs result (after_values place (slots_of ifd.now context)) }
+    requires offset { 0 < offset }
+    ensures { MeasuredAs result (after_values offset (slots_of ifd.now context)) }
 {
-    context_tail(ifd, context)?.end(place)
+    context_tail(ifd, context)?.end(offset)
 }
 
 // Where the values of all its directories end.
 fn all_values_end(ifd: &Ifd, start: u32) -> Option<u32>
     requires fault { group_fault ifd.now ≡ None }
     requires start { 0 < start }
-    ensures { MeasuredAs result (strips_place (draft_of ifd.now) start) }
+    ensures { MeasuredAs result (strips_offset (draft_of ifd.now) start) }
 {
     let tiff = directories_end(ifd, start)?;
     let exif = values_end(ifd, Context::Tiff, tiff)?;
@@ -208,7 +208,7 @@ fn all_values_end(ifd: &Ifd, start: u32) -> Option<u32>
     values_end(ifd, Context::Interop, interop)
 }
 
-// Where a directory of the chain that begins at a place ends, with its children and its blocks.
+// Where a directory of the chain that begins at an offset ends, with its children and its blocks.
 fn end(ifd: &Ifd, start: u32) -> Option<u32>
     requires fault { group_fault ifd.now ≡ None }
     requires start { 0 < start }
@@ -220,7 +220,7 @@ fn end(ifd: &Ifd, start: u32) -> Option<u32>
     blocks_end(jpeg, ifd.blocks(BlockKind::Jpeg))
 }
 
-/// The place of the first directory, right behind the header.
+/// The offset of the first directory, right behind the header.
 pub const FIRST: u32 = 8;
 
 // The cause of the first directory that has one.
@@ -236,16 +236,16 @@ fn first_fault(ifds: &[Ifd]) -> Option<WriteFault>
     None
 }
 
-// Where the image ends, if places of 32 bits reach there.
+// Where the image ends, if offsets of 32 bits reach there.
 fn image_end(ifds: &[Ifd]) -> Option<u32>
     requires { first_group_fault ifds.now ≡ None }
     ensures { MeasuredAs result (drafts_end 8 (map draft_of ifds.now)) }
 {
-    let mut place = FIRST;
+    let mut offset = FIRST;
     for ifd in ifds {
-        place = end(ifd, place)?;
+        offset = end(ifd, offset)?;
     }
-    Some(place)
+    Some(offset)
 }
 
 /// Why nothing is written. It takes no memory.

@@ -4,10 +4,10 @@
 ghost use Rattle.std.specs.Prelude.{◌≡◌, ◌≤◌, map, OnOk, ◌++◌, IfOk, length, None};
 ghost use Rattle.exif_writer.specs.Sending.{symbol, settle, settle_slot, after_slot, values_end, IsMeasurable};
 ghost use Rattle.exif_layout.specs.EntryContents.{symbol_of};
-ghost use Rattle.exif_layout.specs.Places.{after_blocks, draft_end};
-ghost use Rattle.exif_layout.specs.Groups.{places_tag, lengths_tag};
+ghost use Rattle.exif_layout.specs.Offsets.{after_blocks, draft_end};
+ghost use Rattle.exif_layout.specs.Groups.{offsets_tag, lengths_tag};
 ghost use Rattle.exif_layout.specs.Slots.{in_tag_order, draft_of, known, set_slots, pointer_slots};
-ghost use Rattle.exif_writer.specs.Drafts.{AreDirectories, AreSettledDirectories, HasRoom, IsSettledPlan, next_of, places_of, ArePlans};
+ghost use Rattle.exif_writer.specs.Drafts.{AreDirectories, AreSettledDirectories, HasRoom, IsSettledPlan, next_of, offsets_of, ArePlans};
 ghost use Rattle.exif_writer.specs.Plans.{CanSettle};
 ghost use Rattle.exif_layout.specs.Views.{blocks_of, set_in, entries_in};
 ghost use Rattle.exif_layout.specs.Refused.{write_fault};
@@ -19,9 +19,9 @@ use exif_layout::{BlockKind, Ifd};
 use exif_types::{Context, Field, Tag};
 use std::alloc::{AllocError, Global};
 
-/// The places of the parts of one directory of the chain and its children.
+/// The offsets of the parts of one directory of the chain and its children.
 #[derive(Clone, Copy, Debug)]
-pub struct Places {
+pub struct Offsets {
     /// The end of what stands before.
     pub start: u32,
     /// The directory of the chain.
@@ -62,13 +62,13 @@ pub struct Slot<'a> {
     /// How many bytes the value takes.
     pub size: u32,
     /// Where the value stands, if it isn't in the entry.
-    pub place: u32,
+    pub offset: u32,
     /// Whether a zero stands before it there.
     pub padded: bool,
 }
 
 impl<'a> Slot<'a> {
-    /// An entry whose size and place are not settled.
+    /// An entry whose size and offset are not settled.
     pub fn new(tag: u16, content: Content<'a>) -> Slot<'a>
         ensures { symbol result ≡ record { tag = tag; content = symbol_of content.entry } }
     {
@@ -76,13 +76,13 @@ impl<'a> Slot<'a> {
             tag,
             content,
             size: 0,
-            place: 0,
+            offset: 0,
             padded: false,
         }
     }
 
-    // Settles the size of the value, and its place if it isn't in the entry and may stand from a
-    // place on; answers where the next one may stand.
+    // Settles the size of the value, and its offset if it isn't in the entry and may stand from a
+    // offset on; answers where the next one may stand.
     fn settle(&mut self, start: u32) -> u32
         requires measurable { IsMeasurable self.old }
         requires room { after_slot start self.old ≤ 4294967295 }
@@ -95,8 +95,8 @@ impl<'a> Slot<'a> {
             return start;
         }
         self.padded = start % 2 == 1;
-        self.place = start + start % 2;
-        self.place + size
+        self.offset = start + start % 2;
+        self.offset + size
     }
 }
 
@@ -104,7 +104,7 @@ impl<'a> Slot<'a> {
 #[derive(Drop)]
 pub struct Plan<'a> {
     /// Where everything stands.
-    pub places: Places,
+    pub offsets: Offsets,
     /// The entries of the directory of the chain, in tag order.
     pub tiff: Vec<Slot<'a>>,
     /// Those of the Exif directory.
@@ -121,7 +121,7 @@ pub struct Plan<'a> {
     pub jpeg: &'a [&'a [u8]],
 }
 
-/// Settles the sizes and the places of values that stand one behind the other from a place on;
+/// Settles the sizes and the offsets of values that stand one behind the other from an offset on;
 /// answers where they end.
 pub fn settle(slots: &mut [Slot], start: u32) -> u32
     requires { CanSettle start slots.old }
@@ -135,21 +135,21 @@ pub fn settle(slots: &mut [Slot], start: u32) -> u32
     end
 }
 
-// Where blocks end that begin at a place.
-fn after_blocks(place: u32, blocks: &[&[u8]]) -> u32
-    requires { after_blocks place (blocks_of blocks.now) ≤ 4294967295 }
-    ensures { result ≡ after_blocks place (blocks_of blocks.now) }
+// Where blocks end that begin at an offset.
+fn after_blocks(offset: u32, blocks: &[&[u8]]) -> u32
+    requires { after_blocks offset (blocks_of blocks.now) ≤ 4294967295 }
+    ensures { result ≡ after_blocks offset (blocks_of blocks.now) }
 {
-    let mut end = place;
+    let mut end = offset;
     for block in blocks {
         end += block.len() as u32;
     }
     end
 }
 
-/// The tag under which the places of blocks stand.
-pub fn places_tag(kind: BlockKind) -> u16
-    ensures { result ≡ places_tag kind }
+/// The tag under which the offsets of blocks stand.
+pub fn offsets_tag(kind: BlockKind) -> u16
+    ensures { result ≡ offsets_tag kind }
 {
     match kind {
         BlockKind::Strips => Tag::StripOffsets.number(),
@@ -196,7 +196,7 @@ fn push_blocks<'a>(
     let Some(blocks) = set else {
         return Ok(());
     };
-    slots.push(Slot::new(places_tag(kind), Content::PlacesOf(kind, blocks)))?;
+    slots.push(Slot::new(offsets_tag(kind), Content::OffsetsOf(kind, blocks)))?;
     slots.push(Slot::new(lengths_tag(kind), Content::LengthsOf(kind, blocks)))?;
     Ok(())
 }
@@ -214,7 +214,7 @@ fn push_pointer<'a>(
     if entries.is_empty() {
         return Ok(());
     }
-    slots.push(Slot::new(tag.number(), Content::PlaceOf(child)))?;
+    slots.push(Slot::new(tag.number(), Content::OffsetOf(child)))?;
     Ok(())
 }
 
@@ -237,7 +237,7 @@ struct Directories<'a> {
     interop: Vec<Slot<'a>>,
 }
 
-// Those of a directory whose sizes and places are not settled.
+// Those of a directory whose sizes and offsets are not settled.
 fn directories_of<'b>(alloc: Global, ifd: &'b Ifd) -> Result<Directories<'b>, AllocError>
     ensures { IfOk result (AreDirectories (draft_of ifd.now)) }
 {
@@ -276,7 +276,7 @@ fn directories_of<'b>(alloc: Global, ifd: &'b Ifd) -> Result<Directories<'b>, Al
     })
 }
 
-// The place of the next directory of the chain; behind the last one there is none.
+// The offset of the next directory of the chain; behind the last one there is none.
 fn next_of(end: u32, last: bool) -> u32
     requires { next_of end last ≤ 4294967295 }
     ensures { result ≡ next_of end last }
@@ -285,12 +285,12 @@ fn next_of(end: u32, last: bool) -> u32
 }
 
 impl<'a> Directories<'a> {
-    // Settles where everything stands from a place on.
-    fn settle(&mut self, ifd: &Ifd, start: u32, last: bool) -> Places
+    // Settles where everything stands from an offset on.
+    fn settle(&mut self, ifd: &Ifd, start: u32, last: bool) -> Offsets
         requires directories { AreDirectories (draft_of ifd.now) self.old }
         requires room { HasRoom ifd.now start last }
-        ensures places { result
-            ≡ places_of (draft_of ifd.now) start
+        ensures offsets { result
+            ≡ offsets_of (draft_of ifd.now) start
             (next_of (draft_end (draft_of ifd.now) start) last) }
         ensures settled { AreSettledDirectories (draft_of ifd.now) start self.new }
     {
@@ -307,7 +307,7 @@ impl<'a> Directories<'a> {
         let jpeg = after_blocks(tiles, ifd.blocks(BlockKind::Tiles));
         let end = after_blocks(jpeg, ifd.blocks(BlockKind::Jpeg));
         let next = next_of(end, last);
-        Places {
+        Offsets {
             start,
             tiff,
             exif,
@@ -326,7 +326,7 @@ impl<'a> Directories<'a> {
     }
 }
 
-// The plan of a directory that begins at a place and is the last one of the chain, or not.
+// The plan of a directory that begins at an offset and is the last one of the chain, or not.
 fn plan_of<'b>(alloc: Global, ifd: &'b Ifd, start: u32, last: bool) -> Result<Plan<'b>, AllocError>
     requires { HasRoom ifd.now start last }
     ensures { IfOk result
@@ -334,9 +334,9 @@ fn plan_of<'b>(alloc: Global, ifd: &'b Ifd, start: u32, last: bool) -> Result<Pl
         (next_of (draft_end (draft_of ifd.now) start) last)) }
 {
     let mut directories = directories_of(alloc, ifd)?;
-    let places = directories.settle(ifd, start, last);
+    let offsets = directories.settle(ifd, start, last);
     Ok(Plan {
-        places,
+        offsets,
         tiff: directories.tiff,
         exif: directories.exif,
         gps: directories.gps,
@@ -356,7 +356,7 @@ pub fn plans<'b>(alloc: Global, ifds: &'b [Ifd]) -> Result<Vec<Plan<'b>>, AllocE
     let mut start = FIRST;
     for (index, ifd) in ifds.iter().enumerate() {
         let plan = plan_of(alloc, ifd, start, index + 1 == ifds.len())?;
-        start = plan.places.end;
+        start = plan.offsets.end;
         plans.push(plan)?;
     }
     Ok(plans)

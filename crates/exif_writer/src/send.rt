@@ -2,15 +2,15 @@
 
 ghost use Rattle.std.specs.Prelude.{◌≡◌, ◌+◌, ◌*◌, ◌++◌, ◌^◌, ◌<◌, ◌≤◌, length, map, false, IfSome};
 ghost use Rattle.std.specs.List.{flat_map, AllByRecursion};
-ghost use Rattle.exif_writer.specs.Sending.{block_place, context_place, sum_of, settled, Settles, element, slot_text, IsReady, entries_text, slots_text, value_text, values_text, blocks_text};
+ghost use Rattle.exif_writer.specs.Sending.{block_offset, context_offset, sum_of, settled, Settles, element, slot_text, IsReady, entries_text, slots_text, value_text, values_text, blocks_text};
 ghost use Rattle.exif_layout.specs.EntryContents.{lens};
 ghost use Rattle.exif_layout.specs.Encoding.{spelled, encode};
-ghost use Rattle.exif_layout.specs.Places.{places_from};
+ghost use Rattle.exif_layout.specs.Offsets.{offsets_from};
 ghost use Rattle.exif_layout.specs.Image.{header_text, order_mark};
 ghost use Rattle.exif_base.specs.Sent.{Sends};
 ghost use Rattle.exif_writer.specs.Plans.{IsReadyPlan, directories_text, plan_values_text, plan_blocks_text, plan_text, plans_text, sent_image};
 
-use crate::plan::{Places, Plan, Slot};
+use crate::plan::{Offsets, Plan, Slot};
 use exif_base::{Order, Sink, send_all};
 use exif_layout::BlockKind;
 use exif_layout::content::Content;
@@ -20,10 +20,10 @@ use exif_layout::item::{
 use exif_types::Context;
 use std::io;
 
-impl Places {
+impl Offsets {
     // Where the blocks of a kind begin.
     fn block(&self, kind: BlockKind) -> u32
-        ensures { result ≡ block_place self.now kind }
+        ensures { result ≡ block_offset self.now kind }
     {
         match kind {
             BlockKind::Strips => self.strips,
@@ -34,7 +34,7 @@ impl Places {
 
     // Where the directory of a context stands.
     fn context(&self, context: Context) -> u32
-        ensures { result ≡ context_place self.now context }
+        ensures { result ≡ context_offset self.now context }
     {
         match context {
             Context::Tiff => self.tiff,
@@ -45,16 +45,16 @@ impl Places {
     }
 }
 
-// Sends the places of blocks that stand one behind the other.
-fn send_places<W: Sink>(out: &mut W, order: Order, first: u32, blocks: &[&[u8]]) -> io::Result<()>
+// Sends the offsets of blocks that stand one behind the other.
+fn send_offsets<W: Sink>(out: &mut W, order: Order, first: u32, blocks: &[&[u8]]) -> io::Result<()>
     requires { first + sum_of blocks.now ≤ 4294967295 }
     ensures sends { Sends W.Sink out.old out.new result
-        (flat_map (spelled order 4) (places_from first (lens blocks.now))) }
+        (flat_map (spelled order 4) (offsets_from first (lens blocks.now))) }
 {
-    let mut place = first;
+    let mut offset = first;
     for block in blocks {
-        send_u32(out, order, place)?;
-        place += block.len() as u32;
+        send_u32(out, order, offset)?;
+        offset += block.len() as u32;
     }
     Ok(())
 }
@@ -76,46 +76,46 @@ fn send_lengths<W: Sink>(out: &mut W, order: Order, blocks: &[&[u8]]) -> io::Res
 fn send_content<W: Sink>(
     out: &mut W,
     order: Order,
-    places: &Places,
+    offsets: &Offsets,
     content: &Content,
 ) -> io::Result<()>
-    requires { Settles places.now content.now }
+    requires { Settles offsets.now content.now }
     ensures sends { Sends W.Sink out.old out.new result
-        (encode order (settled places.now content.now)) }
+        (encode order (settled offsets.now content.now)) }
 {
     match content {
         Content::Known(noted) => send_value(out, order, noted.value()),
         Content::OneShort(x) => send_u16(out, order, *x),
         Content::OneLong(x) => send_u32(out, order, *x),
-        Content::PlacesOf(kind, blocks) => send_places(out, order, places.block(*kind), blocks),
+        Content::OffsetsOf(kind, blocks) => send_offsets(out, order, offsets.block(*kind), blocks),
         Content::LengthsOf(_, blocks) => send_lengths(out, order, blocks),
-        Content::PlaceOf(context) => send_u32(out, order, places.context(*context)),
+        Content::OffsetOf(context) => send_u32(out, order, offsets.context(*context)),
     }
 }
 
 #[tactic(auto, using(crate::proofs::SendSizes::count_within))]
 impl<'a> Slot<'a> {
     // Sends the last four bytes of the entry.
-    fn send_element<W: Sink>(&self, out: &mut W, order: Order, places: &Places) -> io::Result<()>
-        requires { Settles places.now self.now.content }
-        ensures sends { Sends W.Sink out.old out.new result (element order places.now self.now) }
+    fn send_element<W: Sink>(&self, out: &mut W, order: Order, offsets: &Offsets) -> io::Result<()>
+        requires { Settles offsets.now self.now.content }
+        ensures sends { Sends W.Sink out.old out.new result (element order offsets.now self.now) }
     {
         if self.size <= 4 {
-            send_content(out, order, places, &self.content)?;
+            send_content(out, order, offsets, &self.content)?;
             send_zeros(out, (4 - self.size) as usize)
         } else {
-            send_u32(out, order, self.place)
+            send_u32(out, order, self.offset)
         }
     }
 
-    // The last four bytes of the entry, where they are one number: the place of the value, or the
+    // The last four bytes of the entry, where they are one number: the offset of the value, or the
     // value itself.
     fn number(&self, order: Order) -> Option<[u8; 4]>
         ensures { IfSome result
-            (λ bytes. (places : Places) → element order places self.now ≡ bytes) }
+            (λ bytes. (offsets : Offsets) → element order offsets self.now ≡ bytes) }
     {
         if self.size > 4 {
-            return Some(spelled_u32(order, self.place));
+            return Some(spelled_u32(order, self.offset));
         }
         match self.content {
             Content::OneShort(x) if self.size == 2 => Some(spelled_short(order, x)),
@@ -125,9 +125,9 @@ impl<'a> Slot<'a> {
     }
 
     // Sends the entry: in one piece, where its last four bytes are one number.
-    fn send<W: Sink>(&self, out: &mut W, order: Order, places: &Places) -> io::Result<()>
-        requires { IsReady places.now self.now }
-        ensures sends { Sends W.Sink out.old out.new result (slot_text order places.now self.now) }
+    fn send<W: Sink>(&self, out: &mut W, order: Order, offsets: &Offsets) -> io::Result<()>
+        requires { IsReady offsets.now self.now }
+        ensures sends { Sends W.Sink out.old out.new result (slot_text order offsets.now self.now) }
     {
         let kind = self.content.type_number();
         let count = self.content.count();
@@ -135,19 +135,19 @@ impl<'a> Slot<'a> {
             return send_entry(out, order, self.tag, kind, count, number);
         }
         send_head(out, order, self.tag, kind, count)?;
-        self.send_element(out, order, places)
+        self.send_element(out, order, offsets)
     }
 
     // Sends the value, if it isn't in its entry.
-    fn send_value<W: Sink>(&self, out: &mut W, order: Order, places: &Places) -> io::Result<()>
-        requires { IsReady places.now self.now }
-        ensures sends { Sends W.Sink out.old out.new result (value_text order places.now self.now) }
+    fn send_value<W: Sink>(&self, out: &mut W, order: Order, offsets: &Offsets) -> io::Result<()>
+        requires { IsReady offsets.now self.now }
+        ensures sends { Sends W.Sink out.old out.new result (value_text order offsets.now self.now) }
     {
         if self.size <= 4 {
             return Ok(());
         }
         send_zeros(out, usize::from(self.padded))?;
-        send_content(out, order, places, &self.content)
+        send_content(out, order, offsets, &self.content)
     }
 }
 
@@ -155,14 +155,14 @@ impl<'a> Slot<'a> {
 fn send_entries<W: Sink>(
     out: &mut W,
     order: Order,
-    places: &Places,
+    offsets: &Offsets,
     slots: &[Slot],
 ) -> io::Result<()>
-    requires { AllByRecursion (IsReady places.now) slots.now }
-    ensures sends { Sends W.Sink out.old out.new result (entries_text order places.now slots.now) }
+    requires { AllByRecursion (IsReady offsets.now) slots.now }
+    ensures sends { Sends W.Sink out.old out.new result (entries_text order offsets.now slots.now) }
 {
     for slot in slots {
-        slot.send(out, order, places)?;
+        slot.send(out, order, offsets)?;
     }
     Ok(())
 }
@@ -171,20 +171,20 @@ fn send_entries<W: Sink>(
 pub fn send_directory<W: Sink>(
     out: &mut W,
     order: Order,
-    places: &Places,
+    offsets: &Offsets,
     slots: &[Slot],
     next: u32,
 ) -> io::Result<()>
     requires few { length slots.now ≤ 65535 }
-    requires ready { AllByRecursion (IsReady places.now) slots.now }
+    requires ready { AllByRecursion (IsReady offsets.now) slots.now }
     ensures sends { Sends W.Sink out.old out.new result
-        (slots_text order places.now next slots.now) }
+        (slots_text order offsets.now next slots.now) }
 {
     if slots.is_empty() {
         return Ok(());
     }
     send_u16(out, order, slots.len() as u16)?;
-    send_entries(out, order, places, slots)?;
+    send_entries(out, order, offsets, slots)?;
     send_u32(out, order, next)
 }
 
@@ -192,14 +192,14 @@ pub fn send_directory<W: Sink>(
 pub fn send_values<W: Sink>(
     out: &mut W,
     order: Order,
-    places: &Places,
+    offsets: &Offsets,
     slots: &[Slot],
 ) -> io::Result<()>
-    requires { AllByRecursion (IsReady places.now) slots.now }
-    ensures sends { Sends W.Sink out.old out.new result (values_text order places.now slots.now) }
+    requires { AllByRecursion (IsReady offsets.now) slots.now }
+    ensures sends { Sends W.Sink out.old out.new result (values_text order offsets.now slots.now) }
 {
     for slot in slots {
-        slot.send_value(out, order, places)?;
+        slot.send_value(out, order, offsets)?;
     }
     Ok(())
 }
@@ -220,12 +220,12 @@ impl<'a> Plan<'a> {
         requires { IsReadyPlan self.now }
         ensures sends { Sends W.Sink out.old out.new result (directories_text order self.now) }
     {
-        let places = &self.places;
-        send_zeros(out, (places.start % 2) as usize)?;
-        send_directory(out, order, places, self.tiff.as_slice(), places.next)?;
-        send_directory(out, order, places, self.exif.as_slice(), 0)?;
-        send_directory(out, order, places, self.gps.as_slice(), 0)?;
-        send_directory(out, order, places, self.interop.as_slice(), 0)
+        let offsets = &self.offsets;
+        send_zeros(out, (offsets.start % 2) as usize)?;
+        send_directory(out, order, offsets, self.tiff.as_slice(), offsets.next)?;
+        send_directory(out, order, offsets, self.exif.as_slice(), 0)?;
+        send_directory(out, order, offsets, self.gps.as_slice(), 0)?;
+        send_directory(out, order, offsets, self.interop.as_slice(), 0)
     }
 
     // Sends the values that aren't in their entries.
@@ -233,11 +233,11 @@ impl<'a> Plan<'a> {
         requires { IsReadyPlan self.now }
         ensures sends { Sends W.Sink out.old out.new result (plan_values_text order self.now) }
     {
-        let places = &self.places;
-        send_values(out, order, places, self.tiff.as_slice())?;
-        send_values(out, order, places, self.exif.as_slice())?;
-        send_values(out, order, places, self.gps.as_slice())?;
-        send_values(out, order, places, self.interop.as_slice())
+        let offsets = &self.offsets;
+        send_values(out, order, offsets, self.tiff.as_slice())?;
+        send_values(out, order, offsets, self.exif.as_slice())?;
+        send_values(out, order, offsets, self.gps.as_slice())?;
+        send_values(out, order, offsets, self.interop.as_slice())
     }
 
     // Sends the blocks.
@@ -270,7 +270,7 @@ fn order_mark(order: Order) -> [u8; 2]
     }
 }
 
-// Sends the byte order, the number 42 and the place of the first directory.
+// Sends the byte order, the number 42 and the offset of the first directory.
 fn send_header<W: Sink>(out: &mut W, order: Order) -> io::Result<()>
     ensures sends { Sends W.Sink out.old out.new result (header_text order) }
 {

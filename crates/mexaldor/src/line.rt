@@ -13,8 +13,8 @@ pub fn words(rt: &HostRuntime) -> io::Result<Vec<String>> {
     let mut words = Vec::new(rt.alloc());
     let mut word = Vec::new(rt.alloc());
     word.resize(LONGEST, 0)?;
-    for place in 0..usize::MAX {
-        match rt.arg(place, word.as_mut_slice()) {
+    for index in 0..usize::MAX {
+        match rt.arg(index, word.as_mut_slice()) {
             Ok(len) => words.push(String::from_utf8_lossy(rt.alloc(), &word[..len])?)?,
             Err(FillError::NotPresent) => break,
             Err(FillError::TooLong) => return Err(io::Error::from(ErrorKind::ArgumentListTooLong)),

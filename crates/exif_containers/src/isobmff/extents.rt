@@ -4,11 +4,11 @@ ghost use Rattle.std.specs.Prelude.{◌≡◌, ◌≤◌, ◌-◌, ◌++◌, ℕ
 ghost use Rattle.exif_base.specs.Reads.{Counts};
 ghost use Rattle.exif_base.specs.Told.{HasFewer, Skips};
 ghost use Rattle.exif_types.specs.Refusals.{Gives, IsInterrupted, is_io};
-ghost use Rattle.exif_isobmff.specs.Places.{item_bytes, location_view};
+ghost use Rattle.exif_isobmff.specs.ItemLocations.{item_bytes, location_view};
 ghost use Rattle.exif_isobmff.specs.HeifRefusals.{heif_refusals};
 ghost use Rattle.exif_containers.specs.Answer.{IsNamed};
 ghost use Rattle.exif_containers.specs.GoingBack.{HasRead, IsReached};
-ghost use Rattle.exif_containers.specs.HeifSteps.{PlaceIsReached, one_part};
+ghost use Rattle.exif_containers.specs.HeifSteps.{OffsetIsReached, one_part};
 
 use super::front::read_whole;
 use crate::util::{pass_over, read_rest, skip};
@@ -20,27 +20,27 @@ use std::alloc::Global;
 // One byte more than an item may have.
 const TOO_MANY: u64 = MAX_EXIF_SIZE as u64 + 1;
 
-// Where a place of the file stands in the bytes that are kept of it, or none where the file ends
-// in front of it. Bytes in front of a place that was not read yet are no longer kept.
-fn reach<R: Source>(source: &mut R, bytes: &mut Vec<u8>, place: u64) -> Result<Option<usize>, Error>
-    ensures reached { IfOk result (λ start. PlaceIsReached place start
+// Where an offset of the file stands in the bytes that are kept of it, or none where the file ends
+// in front of it. Bytes in front of an offset that was not read yet are no longer kept.
+fn reach<R: Source>(source: &mut R, bytes: &mut Vec<u8>, offset: u64) -> Result<Option<usize>, Error>
+    ensures reached { IfOk result (λ start. OffsetIsReached offset start
         (R.left source.old) (R.left source.new) bytes.old.items bytes.new.items) }
     ensures start { IfOk result (λ start. IfSome start (λ at. at ≤ length bytes.new.items)) }
     ensures interrupted { IfErr result IsInterrupted }
     ensures counts { Counts R.Source source.old source.new (is_io result) }
 {
     let read = bytes.len() as u64;
-    if place < read {
-        return Ok(Some(place as usize));
+    if offset < read {
+        return Ok(Some(offset as usize));
     }
-    if !pass_over(source, place - read)? {
+    if !pass_over(source, offset - read)? {
         return Ok(None);
     }
     bytes.clear();
     Ok(Some(0))
 }
 
-// The bytes of an item of one extent, among those from its place on.
+// The bytes of an item of one extent, among those from its location on.
 fn part_of(alloc: Global, len: u64, bytes: &[u8]) -> Result<Vec<u8>, Error>
     ensures gives { Gives (λ v. v.items) result (one_part len bytes.now) }
     ensures no_io { is_io result ≡ false }
@@ -52,23 +52,23 @@ fn part_of(alloc: Global, len: u64, bytes: &[u8]) -> Result<Vec<u8>, Error>
     Ok(Vec::from_slice(alloc, part)?)
 }
 
-// The bytes of an item of one extent, which begins at this place.
+// The bytes of an item of one extent, which begins at this location.
 //
 // An extent that is too long is passed over: only whether the file reaches its end counts.
 fn one_extent<R: Source>(
     alloc: Global,
     source: &mut R,
     front: Vec<u8>,
-    place: u64,
+    offset: u64,
     len: u64,
 ) -> Result<Vec<u8>, Error>
     ensures gives { IfSome (R.left source.old) (λ rest. Gives (λ v. v.items) result
-        (one_part len (drop place (front.items ++ rest)))) }
+        (one_part len (drop offset (front.items ++ rest)))) }
     ensures named { IfErr result (IsNamed heif_refusals) }
     ensures counts { Counts R.Source source.old source.new (is_io result) }
 {
     let mut bytes = front;
-    let Some(start) = reach(source, &mut bytes, place)? else {
+    let Some(start) = reach(source, &mut bytes, offset)? else {
         return part_of(alloc, len, &[]);
     };
     let at_hand = (bytes.len() - start) as u64;
@@ -103,10 +103,10 @@ pub fn bytes_in_file<R: Source>(
         return Ok(found);
     }
     let extent = location.extents[0];
-    let Some(place) = location.base.checked_add(extent.offset) else {
+    let Some(offset) = location.base.checked_add(extent.offset) else {
         return Err(Error::InvalidFormat("Invalid offset"));
     };
-    one_extent(alloc, source, front, place, extent.len)
+    one_extent(alloc, source, front, offset, extent.len)
 }
 
 // Moves a source, of which a file was read from `origin` up to `at`, to an offset of the file.

@@ -4,11 +4,11 @@ use Rattle.exif_edit_laws.proofs.what_is_looked_at_once_is_edited.Goals as goal
 pub returns-clause-values : goal.returns-clause-values
 returns-clause-values c = set_apart
 
-pub returns-clause-places : goal.returns-clause-places
-returns-clause-places c = erased_apart
+pub returns-clause-offsets : goal.returns-clause-offsets
+returns-clause-offsets c = erased_apart
 
 pub returns-clause-values_in_images : goal.returns-clause-values_in_images
 returns-clause-values_in_images c = set_in_image
 
-pub returns-clause-places_in_images : goal.returns-clause-places_in_images
-returns-clause-places_in_images c = erased_in_image
+pub returns-clause-offsets_in_images : goal.returns-clause-offsets_in_images
+returns-clause-offsets_in_images c = erased_in_image

@@ -1,4 +1,4 @@
-use Rattle.exif_edit_laws.proofs.ApartFields.{each_apart, last_apart, places_alone}
+use Rattle.exif_edit_laws.proofs.ApartFields.{each_apart, last_apart, gps_alone}
 use Rattle.exif_edit_laws.proofs.what_is_looked_at_once_stands_alone.Goals as goal
 
 pub returns-clause-each : goal.returns-clause-each
@@ -7,5 +7,5 @@ returns-clause-each c = each_apart
 pub returns-clause-last : goal.returns-clause-last
 returns-clause-last c = last_apart
 
-pub returns-clause-places : goal.returns-clause-places
-returns-clause-places c = places_alone
+pub returns-clause-offsets : goal.returns-clause-offsets
+returns-clause-offsets c = gps_alone

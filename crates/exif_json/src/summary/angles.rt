@@ -30,7 +30,7 @@ fn product(a: u32, b: u32, c: u32) -> u128
 }
 
 impl Angle {
-    ghost use Rattle.exif_json.specs.Places.{angle_of, is_within, units_of};
+    ghost use Rattle.exif_json.specs.Coordinates.{angle_of, is_within, units_of};
 
     /// Degrees, minutes and seconds together.
     pub(crate) fn of(d: Rational, m: Rational, s: Rational) -> Angle
@@ -55,7 +55,7 @@ impl Angle {
     }
 
     /// The angle in units of a ten millionth of a degree, to the nearest, half up.
-    #[tactic(auto, unfolding(crate::specs::Places::units_of))]
+    #[tactic(auto, unfolding(crate::specs::Coordinates::units_of))]
     pub(crate) fn units(self) -> u64
         requires { (0 < self.under) × (self.under < 2 ^ 108) × (self.over ≤ 255 * self.under) }
         ensures { result ≡ units_of (record { over = self.over; under = self.under }) }
@@ -78,7 +78,7 @@ pub(crate) struct Degrees {
 }
 
 impl fmt::Display for Degrees {
-    ghost use Rattle.exif_json.specs.Places.{degrees_text};
+    ghost use Rattle.exif_json.specs.Coordinates.{degrees_text};
 
     ghost output = { λ d. Some (degrees_text d.negative d.units) };
 

@@ -2,7 +2,7 @@
 
 ghost use Rattle.std.specs.Prelude.{◌≡◌, ◌*◌, ◌^◌, ◌<◌, ◌≤◌, IfSome, option_map};
 ghost use Rattle.std.specs.Option.{option_copied};
-ghost use Rattle.exif_json.specs.Places.{angle_in, half_of};
+ghost use Rattle.exif_json.specs.Coordinates.{angle_in, half_of};
 ghost use Rattle.exif_json.specs.Seen.{angle_view, axis_view, degrees_view};
 ghost use Rattle.exif_json.specs.Finding.{degrees_of, first_text, found, number_of, orientation_of, text_found};
 
@@ -95,7 +95,7 @@ fn half_of(value: &Value, positive: u8, negative: u8) -> Option<bool>
     }
 }
 
-/// A coordinate of the place.
+/// A coordinate of the location.
 pub(crate) fn find_degrees(exif: &Exif, axis: &Axis) -> Option<Degrees>
     ensures { option_map degrees_view result ≡ degrees_of exif.now.fields (axis_view axis.now) }
 {

@@ -12,22 +12,22 @@ use Rattle.exif_table.specs.declared.context.Context.{Context}
 use Rattle.exif_table.specs.declared.context.Context.TheVariants.{Tiff, Exif, Gps, Interop}
 use Rattle.exif_tiff.specs.Apart.{are_apart, looks_apart}
 use Rattle.exif_tiff.specs.Footprint.{Below, Stretch, chain_directories, directories, entry_directories, following, footprint, looked_at, ordered_footprint, value_stretch}
-use Rattle.exif_tiff.specs.Trace.{child_of, directory_end, entry_places, whole_entries}
+use Rattle.exif_tiff.specs.Trace.{child_of, directory_end, entry_offsets, whole_entries}
 use Rattle.exif_tiff.proofs.ApartLists.{AreApart, IsApart, all_weaker, apart_append, apart_computes, each_apart}
 use Rattle.exif_tiff.proofs.Members.{all_append, all_left, all_right}
 use Rattle.exif_layout.specs.Groups.{Group}
 use Rattle.exif_layout.specs.declared.block_kind.BlockKind.TheVariants.{Strips, Tiles, Jpeg}
 use Rattle.exif_layout.specs.Image.{draft_parts, image, parts_from}
 use Rattle.exif_layout.specs.Layout.{Stands}
-use Rattle.exif_layout.specs.Places.{after_values, directory_len, directory_place, draft_end, even, next_place, strips_place, tiff_place, values_place, tiles_place, jpeg_place}
+use Rattle.exif_layout.specs.Offsets.{after_values, directory_len, directory_offset, draft_end, even, next_offset, strips_offset, tiff_offset, values_offset, tiles_offset, jpeg_offset}
 use Rattle.exif_layout.specs.Ranged.{AreRanged, HavePlainTexts}
 use Rattle.exif_layout.specs.Refused.{write_fault}
-use Rattle.exif_layout.specs.Slots.{Content, Draft, Known, LengthsOf, PlaceOf, PlacesOf, Slot, draft_of}
+use Rattle.exif_layout.specs.Slots.{Content, Draft, Known, LengthsOf, OffsetOf, OffsetsOf, Slot, draft_of}
 use Rattle.exif_layout.proofs.Images.Families.{draft_stands, each_read, values_fit}
 use Rattle.exif_layout.proofs.Images.Fitting.{slots_fit}
 use Rattle.exif_layout.proofs.Images.Looked.{below_content, entries_look, value_stretches}
 use Rattle.exif_layout.proofs.Images.Once.{Differ, NamesOnce, child_named, names_once}
-use Rattle.exif_layout.proofs.Images.Places.{length-written}
+use Rattle.exif_layout.proofs.Images.Offsets.{length-written}
 use Rattle.exif_layout.proofs.Images.ReadBack.{draft_end_le, image_header, image_first, next_low}
 use Rattle.exif_layout.proofs.Images.Regions.{ExifBelow, GpsBelow, In, InteropBelow, IsChild, Lies, Of, below_apart, children_apart, directory_to, in_front, in_lies, in_own, in_parent, values_apart, values_lie, values_to}
 use Rattle.exif_layout.proofs.Images.Whole.{length-image, not_refused, parts_stand}
@@ -62,10 +62,10 @@ module _ (order : Order) (bytes : List ℕ) (small : length bytes < 256 ^ 4) (dr
     (fit : (context : Context) → AllByRecursion (SlotFits draft context) (draft.slots context))
     (once : (context : Context) → NamesOnce (draft.slots context)) where
   -- where the directory of a context stands in the draft
-  abbrev pub place : Context → ℕ
-  place = directory_place draft start
+  abbrev pub offset : Context → ℕ
+  offset = directory_offset draft start
 
-  -- the places of a directory and of those below it, as reading finds them down to a depth
+  -- the offsets of a directory and of those below it, as reading finds them down to a depth
   abbrev pub below : ℕ → Below
   below depth = directories depth (number_of order) bytes
 
@@ -75,7 +75,7 @@ module _ (order : Order) (bytes : List ℕ) (small : length bytes < 256 ^ 4) (dr
 
   -- what is looked at of the children of entries
   abbrev pub children : ℕ → List Slot → List Stretch
-  children depth slots = looked (flat_map (λ (slot : Slot). below_content (below depth) place slot.content) slots)
+  children depth slots = looked (flat_map (λ (slot : Slot). below_content (below depth) offset slot.content) slots)
 
   -- stretches that are apart from each other, all in a directory, its values or what is below it
   pub record Good (c : Context) (ts : List Stretch) : Type 0 where
@@ -86,15 +86,15 @@ module _ (order : Order) (bytes : List ℕ) (small : length bytes < 256 ^ 4) (dr
 
   -- the stretches of one directory: itself, and its values that stand outside of entries
   abbrev pub own : (c : Context) → List Stretch
-  own c = record { place = place c; len = directory_len (draft.slots c) } ∷ value_stretches (values_place draft start c) (draft.slots c)
+  own c = record { offset = offset c; len = directory_len (draft.slots c) } ∷ value_stretches (values_offset draft start c) (draft.slots c)
 
   own_apart : (c : Context) → AreApart (own c)
   unfolding directory_to
   own_apart c =
       let front = in_front draft start c in
-      let from : ℕ = values_place draft start c in
+      let from : ℕ = values_offset draft start c in
       let to : ℕ = after_values from (draft.slots c) in (
-        all_weaker (Lies from to) (IsApart (record { place = place c; len = directory_len (draft.slots c) })) (λ s l. inl (omega (arith, l.0, front)))
+        all_weaker (Lies from to) (IsApart (record { offset = offset c; len = directory_len (draft.slots c) })) (λ s l. inl (omega (arith, l.0, front)))
             (value_stretches from (draft.slots c)) (values_lie from (draft.slots c)),
         values_apart from (draft.slots c),
       )
@@ -102,7 +102,7 @@ module _ (order : Order) (bytes : List ℕ) (small : length bytes < 256 ^ 4) (dr
   own_of : (c : Context) → AllByRecursion (Of draft start c) (own c)
   unfolding Of directory_to values_to
   own_of c =
-      let from : ℕ = values_place draft start c in
+      let from : ℕ = values_offset draft start c in
       let to : ℕ = after_values from (draft.slots c) in (
         inl (omega arith, omega arith),
         all_weaker (Lies from to) (Of draft start c) (λ s l. inr l) (value_stretches from (draft.slots c)) (values_lie from (draft.slots c)),
@@ -110,25 +110,25 @@ module _ (order : Order) (bytes : List ℕ) (small : length bytes < 256 ^ 4) (dr
 
   -- what reading finds of a directory
   pub record Found (depth : ℕ) (c : Context) : Type 0 where
-    pub here : looked_at (number_of order) bytes (place c) ≡ own c
-    pub under : looked (flat_map (entry_directories (below depth) (number_of order) bytes c) (entry_places (number_of order) bytes (place c)))
+    pub here : looked_at (number_of order) bytes (offset c) ≡ own c
+    pub under : looked (flat_map (entry_directories (below depth) (number_of order) bytes c) (entry_offsets (number_of order) bytes (offset c)))
         ≡ children depth (draft.slots c)
 
   found : (depth : ℕ) (c : Context) → 0 < length (draft.slots c) → Found depth c
   found depth c some =
       let slots : List Slot = draft.slots c in
       let read = each_read order bytes small draft start next low stands few fit c some in
-      let looks = entries_look order bytes small draft start (below depth) c (place c + 2) (values_place draft start c) slots (fit c)
+      let looks = entries_look order bytes small draft start (below depth) c (offset c + 2) (values_offset draft start c) slots (fit c)
       (values_fit order bytes small draft start next low stands few fit c slots (fit c)) read.texts (stands.values c) in
-      let count : whole_entries (number_of order) bytes (place c) ≡ length slots =
-      read.count ∙ length-written draft start (place c + 2) (values_place draft start c) slots in
-      let long : 2 + 12 * whole_entries (number_of order) bytes (place c) + 4 ≡ directory_len slots =
+      let count : whole_entries (number_of order) bytes (offset c) ≡ length slots =
+      read.count ∙ length-written draft start (offset c + 2) (values_offset draft start c) slots in
+      let long : 2 + 12 * whole_entries (number_of order) bytes (offset c) + 4 ≡ directory_len slots =
       ap (λ n. 2 + 12 * n + 4) count ∙ sym (directory_is slots some) in
-      let values : flat_map (value_stretch (number_of order) bytes) (entry_places (number_of order) bytes (place c)) ≡ value_stretches (values_place draft start c) slots =
-      ap (λ n. flat_map (value_stretch (number_of order) bytes) (spaced (place c + 2) 12 n)) count ∙ looks.stretches in
+      let values : flat_map (value_stretch (number_of order) bytes) (entry_offsets (number_of order) bytes (offset c)) ≡ value_stretches (values_offset draft start c) slots =
+      ap (λ n. flat_map (value_stretch (number_of order) bytes) (spaced (offset c + 2) 12 n)) count ∙ looks.stretches in
       record {
-        here = λ i. record { place = place c; len = long i } ∷ values i;
-        under = ap looked (ap (λ n. flat_map (entry_directories (below depth) (number_of order) bytes c) (spaced (place c + 2) 12 n)) count ∙ looks.children);
+        here = λ i. record { offset = offset c; len = long i } ∷ values i;
+        under = ap looked (ap (λ n. flat_map (entry_directories (below depth) (number_of order) bytes c) (spaced (offset c + 2) 12 n)) count ∙ looks.children);
       }
 
   -- ---- its children
@@ -140,30 +140,30 @@ module _ (order : Order) (bytes : List ℕ) (small : length bytes < 256 ^ 4) (dr
     pub within : In draft start child t
 
   children_more : (depth : ℕ) (slot : Slot) (slots : List Slot)
-      → children depth (slot ∷ slots) ≡ looked (below_content (below depth) place slot.content) ++ children depth slots
+      → children depth (slot ∷ slots) ≡ looked (below_content (below depth) offset slot.content) ++ children depth slots
   children_more depth slot slots =
-      flat_map-append (looked_at (number_of order) bytes) (below_content (below depth) place slot.content)
-      (flat_map (λ (slot : Slot). below_content (below depth) place slot.content) slots)
+      flat_map-append (looked_at (number_of order) bytes) (below_content (below depth) offset slot.content)
+      (flat_map (λ (slot : Slot). below_content (below depth) offset slot.content) slots)
 
   -- what an entry names passes
   abbrev pub Names : (Context → Type 0) → Content → Type 0
   Names P content = (child : Context) → child_named content ≡ Some child → P child
 
-  content_from : (depth : ℕ) (P : Context → Type 0) → ((child : Context) → P child → Good child (looked (below depth child (place child))))
-      → (content : Content) → Names P content → AllByRecursion (From P) (looked (below_content (below depth) place content))
+  content_from : (depth : ℕ) (P : Context → Type 0) → ((child : Context) → P child → Good child (looked (below depth child (offset child))))
+      → (content : Content) → Names P content → AllByRecursion (From P) (looked (below_content (below depth) offset content))
   content_from depth P good (Known value) names = tt
-  content_from depth P good (PlacesOf kind lengths) names = tt
+  content_from depth P good (OffsetsOf kind lengths) names = tt
   content_from depth P good (LengthsOf kind lengths) names = tt
-  content_from depth P good (PlaceOf child) names =
+  content_from depth P good (OffsetOf child) names =
       let passes = names child refl in
       all_weaker (In draft start child) (From P) (λ t h. record { child = child; passes = passes; within = h }) _ (good child passes).inside
 
-  children_from : (depth : ℕ) (P : Context → Type 0) → ((child : Context) → P child → Good child (looked (below depth child (place child))))
+  children_from : (depth : ℕ) (P : Context → Type 0) → ((child : Context) → P child → Good child (looked (below depth child (offset child))))
       → (slots : List Slot) → AllByRecursion (λ (s : Slot). Names P s.content) slots → AllByRecursion (From P) (children depth slots)
   children_from depth P good [] names = tt
   children_from depth P good (slot ∷ slots) names =
       subst (AllByRecursion (From P)) (sym (children_more depth slot slots))
-      (all_append (From P) (looked (below_content (below depth) place slot.content)) (children depth slots)
+      (all_append (From P) (looked (below_content (below depth) offset slot.content)) (children depth slots)
       (content_from depth P good slot.content names.0) (children_from depth P good slots names.1))
 
   -- the child of a context, which has entries
@@ -178,9 +178,9 @@ module _ (order : Order) (bytes : List ℕ) (small : length bytes < 256 ^ 4) (dr
 
   fit_names : (c : Context) (tag : ℕ) (content : Content) → ContentFits draft c tag content → Names (Child c) content
   fit_names c tag (Known value) h child is = absurd (none_some child is)
-  fit_names c tag (PlacesOf kind lengths) h child is = absurd (none_some child is)
+  fit_names c tag (OffsetsOf kind lengths) h child is = absurd (none_some child is)
   fit_names c tag (LengthsOf kind lengths) h child is = absurd (none_some child is)
-  fit_names c tag (PlaceOf named) h child is = subst (Child c) (some_same named child is) (child_is c named tag h.0, h.1)
+  fit_names c tag (OffsetOf named) h child is = subst (Child c) (some_same named child is) (child_is c named tag h.0, h.1)
 
   all_name : (c : Context) (slots : List Slot) → AllByRecursion (SlotFits draft c) slots → AllByRecursion (λ (s : Slot). Names (Child c) s.content) slots
   all_name c [] h = tt
@@ -198,20 +198,20 @@ module _ (order : Order) (bytes : List ℕ) (small : length bytes < 256 ^ 4) (dr
     others c named slot slots is h.1 f.1,
   )
 
-  module _ (depth : ℕ) (good : (child : Context) → 0 < length (draft.slots child) → Good child (looked (below depth child (place child)))) where
+  module _ (depth : ℕ) (good : (child : Context) → 0 < length (draft.slots child) → Good child (looked (below depth child (offset child)))) where
     content_apart : (c : Context) (tag : ℕ) (content : Content) (slots : List Slot) → ContentFits draft c tag content
         → ((named : Context) → child_named content ≡ Some named → AllByRecursion (λ (s : Slot). Names (Other c named) s.content) slots)
-        → AreApart (children depth slots) → AreApart (looked (below_content (below depth) place content) ++ children depth slots)
+        → AreApart (children depth slots) → AreApart (looked (below_content (below depth) offset content) ++ children depth slots)
     content_apart c tag (Known value) slots f o h = h
-    content_apart c tag (PlacesOf kind lengths) slots f o h = h
+    content_apart c tag (OffsetsOf kind lengths) slots f o h = h
     content_apart c tag (LengthsOf kind lengths) slots f o h = h
-    content_apart c tag (PlaceOf child) slots f o h =
+    content_apart c tag (OffsetOf child) slots f o h =
         let is = child_is c child tag f.0 in
         let first = good child f.1 in
-        apart_append (looked (below depth child (place child))) (children depth slots) first.apart h
+        apart_append (looked (below depth child (offset child))) (children depth slots) first.apart h
         (each_apart (In draft start child) (From (Other c child))
         (λ s t a b. children_apart draft start is b.passes.0.0 b.passes.1 s t a b.within)
-        (looked (below depth child (place child))) (children depth slots) first.inside
+        (looked (below depth child (offset child))) (children depth slots) first.inside
         (children_from depth (Other c child) (λ x p. good x p.0.1) slots (o child refl)))
 
     apart_children : (c : Context) (slots : List Slot) → AllByRecursion (SlotFits draft c) slots → NamesOnce slots → AreApart (children depth slots)
@@ -233,33 +233,33 @@ module _ (order : Order) (bytes : List ℕ) (small : length bytes < 256 ^ 4) (dr
         }
 
   -- what is looked at of a directory with entries, and below it, is apart and lies in its regions
-  pub tree : (depth : ℕ) (c : Context) → 0 < length (draft.slots c) → Good c (looked (below depth c (place c)))
+  pub tree : (depth : ℕ) (c : Context) → 0 < length (draft.slots c) → Good c (looked (below depth c (offset c)))
   tree zero c some =
       let is = found zero c some in
-      let alone : looked (below zero c (place c)) ≡ own c = append-nil (looked_at (number_of order) bytes (place c)) ∙ is.here in
+      let alone : looked (below zero c (offset c)) ≡ own c = append-nil (looked_at (number_of order) bytes (offset c)) ∙ is.here in
       subst (Good c) (sym alone)
       (record { apart = own_apart c; inside = all_weaker (Of draft start c) (In draft start c) (in_own draft start c) (own c) (own_of c) })
   tree (suc depth) c some =
       let is = found depth c some in
-      let whole : looked (below (suc depth) c (place c)) ≡ own c ++ children depth (draft.slots c) = λ i. is.here i ++ is.under i in
+      let whole : looked (below (suc depth) c (offset c)) ≡ own c ++ children depth (draft.slots c) = λ i. is.here i ++ is.under i in
       subst (Good c) (sym whole) (good_over depth (tree depth) c some)
 
 -- ---- the chain
 
 -- what is looked at of a draft stands between where it starts and where it ends
 in_draft : (draft : Draft) (start : ℕ) (t : Stretch) → In draft start Tiff t → Lies start (draft_end draft start) t
-unfolding tiff_place tiles_place jpeg_place draft_end
+unfolding tiff_offset tiles_offset jpeg_offset draft_end
 in_draft draft start t h =
     let lies = in_lies draft start t h in
-    let strips = blocks_low (strips_place draft start) (draft.blocks Strips) in
-    let tiles = blocks_low (tiles_place draft start) (draft.blocks Tiles) in
-    let jpeg = blocks_low (jpeg_place draft start) (draft.blocks Jpeg) in
+    let strips = blocks_low (strips_offset draft start) (draft.blocks Strips) in
+    let tiles = blocks_low (tiles_offset draft start) (draft.blocks Tiles) in
+    let jpeg = blocks_low (jpeg_offset draft start) (draft.blocks Jpeg) in
     (omega (arith, lies.0), omega (arith, lies.1, strips, tiles, jpeg))
 
--- stretches that are apart, none of which stands in front of a place
+-- stretches that are apart, none of which stands in front of an offset
 record Behind (start : ℕ) (ts : List Stretch) : Type 0 where
   apart : AreApart ts
-  behind : AllByRecursion (λ (t : Stretch). start ≤ t.place) ts
+  behind : AllByRecursion (λ (t : Stretch). start ≤ t.offset) ts
 
 -- one more directory of a chain
 chain_step : (number : Reading) (bytes : List ℕ) (count p next : ℕ) → 0 < p → directory_end number bytes p ≡ Ok next
@@ -279,16 +279,16 @@ none_behind number bytes (suc count) start = record { apart = tt; behind = tt }
 module _ (order : Order) (bytes : List ℕ) (small : length bytes < 256 ^ 4) where
   chain_behind : (groups : List Group) (count start : ℕ) → 0 < start → AllByRecursion IsAccepted groups → AreRanged groups → HavePlainTexts groups
       → AllStand bytes (parts_from order start (map draft_of groups))
-      → Behind start (flat_map (looked_at (number_of order) bytes) (chain_directories count (number_of order) bytes (next_place start (map draft_of groups))))
-  unfolding tiff_place
+      → Behind start (flat_map (looked_at (number_of order) bytes) (chain_directories count (number_of order) bytes (next_offset start (map draft_of groups))))
+  unfolding tiff_offset
   chain_behind [] count start some h ranged clean stands = none_behind (number_of order) bytes count start
   chain_behind (group ∷ groups) zero start some h ranged clean stands = record { apart = tt; behind = tt }
   chain_behind (group ∷ groups) (suc count) start some h ranged clean stands =
       let draft : Draft = draft_of group in
       let end : ℕ = draft_end draft start in
-      let next : ℕ = next_place end (map draft_of groups) in
-      let here = all_left (λ part. Stands bytes part.place part.text) (draft_parts order draft start next) (parts_from order end (map draft_of groups)) stands in
-      let there = all_right (λ part. Stands bytes part.place part.text) (draft_parts order draft start next) (parts_from order end (map draft_of groups)) stands in
+      let next : ℕ = next_offset end (map draft_of groups) in
+      let here = all_left (λ part. Stands bytes part.offset part.text) (draft_parts order draft start next) (parts_from order end (map draft_of groups)) stands in
+      let there = all_right (λ part. Stands bytes part.offset part.text) (draft_parts order draft start next) (parts_from order end (map draft_of groups)) stands in
       let group_stand : DraftStands order bytes draft start next = draft_stands order bytes draft start next here in
       let fit = slots_fit group ranged.0 clean.0 h.0 in
       let low : next < 256 ^ 4 = next_low order bytes small end groups h.1 there in
@@ -302,10 +302,10 @@ module _ (order : Order) (bytes : List ℕ) (small : length bytes < 256 ^ 4) whe
       subst (Behind start) (sym (chain_step (number_of order) bytes count (even start) next (omega arith) read.end))
       (record {
         apart = apart_append first rest one.apart more.apart
-            (each_apart (Lies start end) (λ (t : Stretch). end ≤ t.place) (λ s t a b. inl (omega (arith, a.1, b))) first rest lie more.behind);
-        behind = all_append (λ (t : Stretch). start ≤ t.place) first rest
-            (all_weaker (Lies start end) (λ (t : Stretch). start ≤ t.place) (λ t a. a.0) first lie)
-            (all_weaker (λ (t : Stretch). end ≤ t.place) (λ (t : Stretch). start ≤ t.place) (λ t a. omega (arith, a, on)) rest more.behind);
+            (each_apart (Lies start end) (λ (t : Stretch). end ≤ t.offset) (λ s t a b. inl (omega (arith, a.1, b))) first rest lie more.behind);
+        behind = all_append (λ (t : Stretch). start ≤ t.offset) first rest
+            (all_weaker (Lies start end) (λ (t : Stretch). start ≤ t.offset) (λ t a. a.0) first lie)
+            (all_weaker (λ (t : Stretch). end ≤ t.offset) (λ (t : Stretch). start ≤ t.offset) (λ t a. omega (arith, a, on)) rest more.behind);
       })
 
 -- ---- the image
@@ -330,11 +330,11 @@ pub image_looks_apart : (order : Order) (groups : List Group) → AreRanged grou
 image_looks_apart order groups ranged clean h =
     let bytes : List ℕ = image order groups in
     let behind = image_behind order groups ranged clean h in
-    let header_stretch : Stretch = record { place = 0; len = 8 } in
+    let header_stretch : Stretch = record { offset = 0; len = 8 } in
     let all : footprint bytes ≡ header_stretch ∷ ordered_footprint (number_of order) bytes =
     λ i. header_stretch ∷ elim (image_header order groups h i) as (λ _. List Stretch) [ Ok found ↦ ordered_footprint (number_of found) bytes | Err fault ↦ [] ] in
     ap are_apart all
     ∙ apart_computes (header_stretch ∷ ordered_footprint (number_of order) bytes) (
-      all_weaker (λ (t : Stretch). 8 ≤ t.place) (IsApart header_stretch) (λ t a. inl (omega (arith, a))) (ordered_footprint (number_of order) bytes) behind.behind,
+      all_weaker (λ (t : Stretch). 8 ≤ t.offset) (IsApart header_stretch) (λ t a. inl (omega (arith, a))) (ordered_footprint (number_of order) bytes) behind.behind,
       behind.apart,
     )

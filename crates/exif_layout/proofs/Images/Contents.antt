@@ -10,12 +10,12 @@ use Rattle.exif_table.specs.declared.context.Context.{Context}
 use Rattle.exif_table.specs.declared.context.Context.TheVariants.{Tiff}
 use Rattle.exif_types.specs.declared.field.Field.{Field}
 use Rattle.exif_tiff.specs.Trace.{chain_nodes, fields_of, faults_of, ordered_trace}
-use Rattle.exif_layout.specs.Groups.{Group, strips_set, tiles_set, jpeg_set, single, pushed_in, blocks_in, places_tag, lengths_tag}
+use Rattle.exif_layout.specs.Groups.{Group, strips_set, tiles_set, jpeg_set, single, pushed_in, blocks_in, offsets_tag, lengths_tag}
 use Rattle.exif_layout.specs.Slots.{draft_of, block_list}
 use Rattle.exif_layout.specs.declared.block_kind.BlockKind.{BlockKind}
 use Rattle.exif_layout.specs.declared.block_kind.BlockKind.TheVariants.{Strips, Tiles, Jpeg}
 use Rattle.exif_layout.specs.Image.{block_parts, draft_parts, parts_from, image}
-use Rattle.exif_layout.specs.Places.{blocks_place, places_from, draft_end, next_place}
+use Rattle.exif_layout.specs.Offsets.{blocks_offset, offsets_from, draft_end, next_offset}
 use Rattle.exif_layout.specs.Flat.{flat, flat_from, directory_fields}
 use Rattle.exif_layout.specs.Refused.{write_fault}
 use Rattle.exif_layout.specs.Layout.{Stands, BlocksNamed, BlocksStand, fields_under}
@@ -30,25 +30,25 @@ use Rattle.exif_layout.proofs.Images.ReadBack.{Leaves, read_back, image_chain, i
 use Rattle.exif_layout.proofs.Images.Families.{draft_stands}
 use Rattle.exif_layout.proofs.Images.Pushing.{group_at, blocks_at}
 use Rattle.exif_layout.proofs.Images.Rewritten.{all_at, rewrites_same, AllNumbered, fields_numbered}
-use Rattle.exif_layout.proofs.Images.Naming.{start_at, top_field, places_slots, lengths_slots, places_under, lengths_under}
+use Rattle.exif_layout.proofs.Images.Naming.{start_at, top_field, offsets_slots, lengths_slots, offsets_under, lengths_under}
 
 -- the blocks of a group stand
 blocks_stand_at : (order : Order) (bytes : List ℕ) (groups : List Group) (m start : ℕ) → m < length groups → AllStand bytes (parts_from order start (map draft_of groups))
-    → (kind : BlockKind) → AllStand bytes (block_parts (blocks_place (draft_of (group_at groups m)) (start_at m start groups) kind) (block_list (blocks_in (group_at groups m) kind)))
+    → (kind : BlockKind) → AllStand bytes (block_parts (blocks_offset (draft_of (group_at groups m)) (start_at m start groups) kind) (block_list (blocks_in (group_at groups m) kind)))
 blocks_stand_at order bytes [] m start h stands kind = absurd (omega arith)
 blocks_stand_at order bytes (group ∷ groups) zero start h stands kind =
-    let next : ℕ = next_place (draft_end (draft_of group) start) (map draft_of groups) in
+    let next : ℕ = next_offset (draft_end (draft_of group) start) (map draft_of groups) in
     (draft_stands order bytes (draft_of group) start next
-    (all_left (λ part. Stands bytes part.place part.text) (draft_parts order (draft_of group) start next) (parts_from order (draft_end (draft_of group) start) (map draft_of groups)) stands)).blocks kind
+    (all_left (λ part. Stands bytes part.offset part.text) (draft_parts order (draft_of group) start next) (parts_from order (draft_end (draft_of group) start) (map draft_of groups)) stands)).blocks kind
 blocks_stand_at order bytes (group ∷ groups) (suc m) start h stands kind =
-    let next : ℕ = next_place (draft_end (draft_of group) start) (map draft_of groups) in
+    let next : ℕ = next_offset (draft_end (draft_of group) start) (map draft_of groups) in
     blocks_stand_at order bytes groups m (draft_end (draft_of group) start) (omega arith)
-    (all_right (λ part. Stands bytes part.place part.text) (draft_parts order (draft_of group) start next) (parts_from order (draft_end (draft_of group) start) (map draft_of groups)) stands) kind
+    (all_right (λ part. Stands bytes part.offset part.text) (draft_parts order (draft_of group) start next) (parts_from order (draft_end (draft_of group) start) (map draft_of groups)) stands) kind
 
-zip_stand : (bytes : List ℕ) (place : ℕ) (texts : List (List ℕ)) → AllStand bytes (block_parts place texts)
-    → AllZip (λ place text. Stands bytes place text) (places_from place (map length texts)) texts
-zip_stand bytes place [] h = tt
-zip_stand bytes place (text ∷ texts) h = (h.0, zip_stand bytes (place + length text) texts h.1)
+zip_stand : (bytes : List ℕ) (offset : ℕ) (texts : List (List ℕ)) → AllStand bytes (block_parts offset texts)
+    → AllZip (λ offset text. Stands bytes offset text) (offsets_from offset (map length texts)) texts
+zip_stand bytes offset [] h = tt
+zip_stand bytes offset (text ∷ texts) h = (h.0, zip_stand bytes (offset + length text) texts h.1)
 
 entries_at : (groups : List Group) (m : ℕ) → m < length groups → AreRanged groups → (context : Context) → AllByRecursion (IsEntry context) (pushed_in (group_at groups m) context)
 entries_at groups m h ranged =
@@ -64,10 +64,10 @@ blocks_stand order groups ranged written ifd kind texts h is =
     let list : block_list (blocks_in group kind) ≡ texts = ap block_list is in
     let entries = entries_at groups ifd h ranged Tiff in
     record {
-      places = places_from (blocks_place (draft_of group) start kind) (map length texts);
-      places_named = places_under groups ifd kind h entries ∙ ap (λ o. map (top_field (draft_of group) start ifd) (places_slots kind o)) is;
+      offsets = offsets_from (blocks_offset (draft_of group) start kind) (map length texts);
+      offsets_named = offsets_under groups ifd kind h entries ∙ ap (λ o. map (top_field (draft_of group) start ifd) (offsets_slots kind o)) is;
       lengths_named = lengths_under groups ifd kind h entries ∙ ap (λ o. map (top_field (draft_of group) start ifd) (lengths_slots kind o)) is;
-      stand = zip_stand (image order groups) (blocks_place (draft_of group) start kind) texts (rw list at here);
+      stand = zip_stand (image order groups) (blocks_offset (draft_of group) start kind) texts (rw list at here);
     }
 
 -- the numbers of the first field, if it has long ones
@@ -75,44 +75,44 @@ longs : List Field → List ℕ
 longs [] = []
 longs (field ∷ fields) = elim field.value [ Long xs ↦ xs | _ ↦ [] ]
 
--- texts of the same lengths at the same places are the same
-same_texts : (bytes : List ℕ) (places : List ℕ) (a b : List (List ℕ)) → map length a ≡ map length b → AllZip (λ place text. Stands bytes place text) places a
-    → AllZip (λ place text. Stands bytes place text) places b → a ≡ b
+-- texts of the same lengths at the same offsets are the same
+same_texts : (bytes : List ℕ) (offsets : List ℕ) (a b : List (List ℕ)) → map length a ≡ map length b → AllZip (λ offset text. Stands bytes offset text) offsets a
+    → AllZip (λ offset text. Stands bytes offset text) offsets b → a ≡ b
 same_texts bytes [] [] [] e s t = refl
 same_texts bytes [] [] (y ∷ b) e s t = absurd cc
 same_texts bytes [] (x ∷ a) b e s t = absurd s
-same_texts bytes (p ∷ places) [] b e s t = absurd s
-same_texts bytes (p ∷ places) (x ∷ a) [] e s t = absurd t
-same_texts bytes (p ∷ places) (x ∷ a) (y ∷ b) e s t =
+same_texts bytes (p ∷ offsets) [] b e s t = absurd s
+same_texts bytes (p ∷ offsets) (x ∷ a) [] e s t = absurd t
+same_texts bytes (p ∷ offsets) (x ∷ a) (y ∷ b) e s t =
     let first : length x ≡ length y = cc in
     let rest : map length a ≡ map length b = cc in
     let one : x ≡ y = sym s.0.there ∙ ap (λ n. take n (drop p bytes)) first ∙ t.0.there in
-    λ i. one i ∷ same_texts bytes places a b rest s.1 t.1 i
+    λ i. one i ∷ same_texts bytes offsets a b rest s.1 t.1 i
 
 -- blocks that stand in one image under the same fields are the same
 same_option : (bytes : List ℕ) (fs gs : List Field) (ifd : ℕ) (kind : BlockKind) (a b : Option (List (List ℕ)))
     → fs ≡ gs
-    → ((texts : List (List ℕ)) → a ≡ Some texts → BlocksNamed bytes fs ifd kind texts) → (a ≡ None → fields_under (places_tag kind) ifd fs ≡ [])
-    → ((texts : List (List ℕ)) → b ≡ Some texts → BlocksNamed bytes gs ifd kind texts) → (b ≡ None → fields_under (places_tag kind) ifd gs ≡ [])
+    → ((texts : List (List ℕ)) → a ≡ Some texts → BlocksNamed bytes fs ifd kind texts) → (a ≡ None → fields_under (offsets_tag kind) ifd fs ≡ [])
+    → ((texts : List (List ℕ)) → b ≡ Some texts → BlocksNamed bytes gs ifd kind texts) → (b ≡ None → fields_under (offsets_tag kind) ifd gs ≡ [])
     → a ≡ b
 unfolding longs
 same_option bytes fs gs ifd kind None None e s n t m = refl
 same_option bytes fs gs ifd kind None (Some y) e s n t m =
-    let k = sym (n refl) ∙ ap (fields_under (places_tag kind) ifd) e ∙ (t y refl).places_named in absurd cc
+    let k = sym (n refl) ∙ ap (fields_under (offsets_tag kind) ifd) e ∙ (t y refl).offsets_named in absurd cc
 same_option bytes fs gs ifd kind (Some x) None e s n t m =
-    let k = sym (m refl) ∙ ap (fields_under (places_tag kind) ifd) (sym e) ∙ (s x refl).places_named in absurd cc
+    let k = sym (m refl) ∙ ap (fields_under (offsets_tag kind) ifd) (sym e) ∙ (s x refl).offsets_named in absurd cc
 same_option bytes fs gs ifd kind (Some x) (Some y) e s n t m =
     let one = s x refl in
     let two = t y refl in
-    let places : one.places ≡ two.places = ap longs (sym one.places_named ∙ ap (fields_under (places_tag kind) ifd) e ∙ two.places_named) in
+    let offsets : one.offsets ≡ two.offsets = ap longs (sym one.offsets_named ∙ ap (fields_under (offsets_tag kind) ifd) e ∙ two.offsets_named) in
     let lengths : map length x ≡ map length y = ap longs (sym one.lengths_named ∙ ap (fields_under (lengths_tag kind) ifd) e ∙ two.lengths_named) in
-    ap Some (same_texts bytes two.places x y lengths (rw places at one.stand) two.stand)
+    ap Some (same_texts bytes two.offsets x y lengths (rw offsets at one.stand) two.stand)
 
 nothing_under : (groups : List Group) (ifd : ℕ) (kind : BlockKind) → ifd < length groups → AreRanged groups → blocks_in (group_at groups ifd) kind ≡ None
-    → fields_under (places_tag kind) ifd (flat groups) ≡ []
+    → fields_under (offsets_tag kind) ifd (flat groups) ≡ []
 nothing_under groups ifd kind h ranged is =
-    places_under groups ifd kind h (entries_at groups ifd h ranged Tiff)
-    ∙ ap (λ o. map (top_field (draft_of (group_at groups ifd)) (start_at ifd 8 groups) ifd) (places_slots kind o)) is
+    offsets_under groups ifd kind h (entries_at groups ifd h ranged Tiff)
+    ∙ ap (λ o. map (top_field (draft_of (group_at groups ifd)) (start_at ifd 8 groups) ifd) (offsets_slots kind o)) is
 
 single_same : (a b : Option (List ℕ)) → single a ≡ single b → a ≡ b
 single_same None None h = refl

@@ -7,7 +7,7 @@ use Rattle.exif_layout.specs.declared.block_kind.BlockKind.{BlockKind}
 use Rattle.exif_layout.specs.declared.block_kind.BlockKind.TheVariants.{Strips, Tiles, Jpeg}
 use Rattle.exif_layout.specs.Groups.{Group, single}
 use Rattle.exif_layout.specs.Slots.{Slot, known, in_tag_order, set_slots, block_slots, pointer_slots, unsorted, slots_of, tiff_slots, exif_slots, gps_slots, interop_slots}
-use Rattle.exif_layout.specs.Places.{directory_len, after_values}
+use Rattle.exif_layout.specs.Offsets.{directory_len, after_values}
 use Rattle.exif_layout.specs.Counting.{set_count, pointer_count, entry_count, exif_count, gps_count, interop_count, counted_len}
 use Rattle.exif_layout.specs.Measuring.{span, last_out, end_from}
 use Rattle.exif_layout.proofs.Images.Sorting.{length-sorted}
@@ -22,8 +22,8 @@ slots_sorted group Gps = refl
 slots_sorted group Interop = refl
 
 -- where the values of a directory end
-pub values_end_is : (place : ℕ) (group : Group) (context : Context) → after_values place (slots_of group context) ≡ end_from place (span (unsorted group context)) (last_out (unsorted group context))
-values_end_is place group context = ap (after_values place) (slots_sorted group context) ∙ end_is place (unsorted group context)
+pub values_end_is : (offset : ℕ) (group : Group) (context : Context) → after_values offset (slots_of group context) ≡ end_from offset (span (unsorted group context)) (last_out (unsorted group context))
+values_end_is offset group context = ap (after_values offset) (slots_sorted group context) ∙ end_is offset (unsorted group context)
 
 pointer_len : (tag : ℕ) (child : Context) (slots : List Slot) (n : ℕ) → length slots ≡ n → length (pointer_slots tag child slots) ≡ pointer_count n
 pointer_len tag child [] n e = ap pointer_count e

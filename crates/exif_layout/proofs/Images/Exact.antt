@@ -4,7 +4,7 @@ use Rattle.std.specs.Prelude.{if◌then◌else◌, nat_le, nat_lt, Option, Some,
 use Rattle.std.proofs.lemmas.Bool.{leb-false, ltb-true, ltb-false, le-ltb, lt-ltb}
 use Rattle.std.specs.List.{AllByRecursion}
 use Rattle.exif_layout.specs.Slots.{Slot, inserted, in_tag_order, content_len}
-use Rattle.exif_layout.specs.Places.{after_value, after_values, even}
+use Rattle.exif_layout.specs.Offsets.{after_value, after_values, even}
 use Rattle.exif_layout.specs.Measuring.{fits, span, later, last_out, end_from}
 use Rattle.exif_layout.proofs.Images.Sorting.{IsUp, up_sorted}
 
@@ -91,27 +91,27 @@ span_none (slot ∷ slots) e = go (fits slot) (last_out slots) refl refl (span_n
         pick false e = absurd cc
 
 -- the end of values in tag order
-pub end_sorted : (place : ℕ) (slots : List Slot) → IsUp slots → after_values place slots ≡ end_from place (span slots) (last_out slots)
-end_sorted place [] up = refl
-end_sorted place (slot ∷ slots) up = go (fits slot) (last_out slots) refl refl (λ p. end_sorted p slots up.1)
+pub end_sorted : (offset : ℕ) (slots : List Slot) → IsUp slots → after_values offset slots ≡ end_from offset (span slots) (last_out slots)
+end_sorted offset [] up = refl
+end_sorted offset (slot ∷ slots) up = go (fits slot) (last_out slots) refl refl (λ p. end_sorted p slots up.1)
   where
     go : (b : Bool) (l : Option Slot) → fits slot ≡ b → last_out slots ≡ l → ((p : ℕ) → after_values p slots ≡ end_from p (span slots) (last_out slots))
-        → after_values (after_value place (content_len slot.content)) slots
-        ≡ end_from place ((if fits slot then 0 else even (content_len slot.content)) + span slots) (if fits slot then last_out slots else later slot (last_out slots))
-    go true l f k ih = let z : 0 + span slots ≡ span slots = omega arith in rw (f, z) (ih place)
+        → after_values (after_value offset (content_len slot.content)) slots
+        ≡ end_from offset ((if fits slot then 0 else even (content_len slot.content)) + span slots) (if fits slot then last_out slots else later slot (last_out slots))
+    go true l f k ih = let z : 0 + span slots ≡ span slots = omega arith in rw (f, z) (ih offset)
     go false None f k ih =
         let none = span_none slots k in
-        let p : ℕ = even place + content_len slot.content in
+        let p : ℕ = even offset + content_len slot.content in
         rw (f, k) (rw k at (ih p) ∙ omega arith)
     go false (Some t) f k ih =
         let high = last_high slot.tag slots t up.0 k in
         let same : nat_lt t.tag slot.tag ≡ false = le-ltb t.tag slot.tag high in
-        let p : ℕ = even place + content_len slot.content in
+        let p : ℕ = even offset + content_len slot.content in
         rw (f, k, same) (rw k at (ih p) ∙ omega arith)
 
 -- the end of the values of a directory, from its entries in any order
-pub end_is : (place : ℕ) (slots : List Slot) → after_values place (in_tag_order slots) ≡ end_from place (span slots) (last_out slots)
-end_is place slots = end_sorted place (in_tag_order slots) (up_sorted slots) ∙ (λ i. end_from place ((span_sorted slots) i) ((last_sorted slots) i))
+pub end_is : (offset : ℕ) (slots : List Slot) → after_values offset (in_tag_order slots) ≡ end_from offset (span slots) (last_out slots)
+end_is offset slots = end_sorted offset (in_tag_order slots) (up_sorted slots) ∙ (λ i. end_from offset ((span_sorted slots) i) ((last_sorted slots) i))
 
 -- a slot behind those of which the last one in tag order is known
 abbrev pub newer : Slot → Option Slot → Option Slot

@@ -13,7 +13,7 @@ use Rattle.exif_layout.specs.Encoding.{moved_to}
 use Rattle.exif_table.specs.declared.context.Context.{Context}
 use Rattle.exif_table.specs.declared.context.Context.TheVariants.{Tiff, Exif, Gps, Interop}
 use Rattle.exif_tiff.specs.Trace.{child_of}
-use Rattle.exif_layout.specs.Groups.{Group, Entry, is_ignored, single, pushed_in, places_tag, lengths_tag}
+use Rattle.exif_layout.specs.Groups.{Group, Entry, is_ignored, single, pushed_in, offsets_tag, lengths_tag}
 use Rattle.exif_layout.specs.Slots.{Draft, draft_of, known, set_slots, block_list, slots_of}
 use Rattle.exif_layout.specs.declared.block_kind.BlockKind.{BlockKind}
 use Rattle.exif_layout.specs.declared.block_kind.BlockKind.TheVariants.{Strips, Tiles, Jpeg}
@@ -36,16 +36,16 @@ fits_of (Short xs) r z u = recursion_from_All _ xs r
 fits_of (Long xs) r z u = recursion_from_All _ xs r
 fits_of (Rational xs) r z u = recursion_from_All _ xs r
 fits_of (SByte xs) r z u = recursion_from_All _ xs r
-fits_of (Undefined xs place) r z u = tt
+fits_of (Undefined xs offset) r z u = tt
 fits_of (SShort xs) r z u = recursion_from_All _ xs r
 fits_of (SLong xs) r z u = recursion_from_All _ xs r
 fits_of (SRational xs) r z u = recursion_from_All _ xs r
 fits_of (Float xs) r z u = recursion_from_All _ xs r
 fits_of (Double xs) r z u = recursion_from_All _ xs r
-fits_of (Unknown type count place) r z u = absurd cc
+fits_of (Unknown type count offset) r z u = absurd cc
 
-fits_moved : (place : ℕ) (value : Value) → Fits value → Fits (moved_to place value)
-fits_moved place value = moved_by (λ v m. Fits v → Fits m) (λ v h. h) (λ xs old new h. h) place value
+fits_moved : (offset : ℕ) (value : Value) → Fits value → Fits (moved_to offset value)
+fits_moved offset value = moved_by (λ v m. Fits v → Fits m) (λ v h. h) (λ xs old new h. h) offset value
 
 -- a tag that isn't the writer's own is no pointer
 no_pointer : (context : Context) (tag : ℕ) → is_ignored context tag ≡ false → child_of context tag ≡ None
@@ -73,7 +73,7 @@ pushed_fit draft context (entry ∷ entries) r z u = (
 )
 
 blocks_fit : (draft : Draft) (kind : BlockKind) (texts : Option (List (List ℕ)))
-    → places_tag kind < 256 ^ 2 → lengths_tag kind < 256 ^ 2 → child_of Tiff (places_tag kind) ≡ None → child_of Tiff (lengths_tag kind) ≡ None
+    → offsets_tag kind < 256 ^ 2 → lengths_tag kind < 256 ^ 2 → child_of Tiff (offsets_tag kind) ≡ None → child_of Tiff (lengths_tag kind) ≡ None
     → draft.blocks kind ≡ block_list texts → AllByRecursion (SlotFits draft Tiff) (set_slots kind texts)
 blocks_fit draft kind None p l a b e = tt
 blocks_fit draft kind (Some texts) p l a b e = (

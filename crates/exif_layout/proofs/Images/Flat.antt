@@ -11,19 +11,19 @@ use Rattle.exif_types.specs.Lookup.{context_eq}
 use Rattle.exif_table.specs.declared.context.Context.{Context}
 use Rattle.exif_types.specs.declared.field.Field.{Field}
 use Rattle.exif_layout.specs.Groups.{is_ignored}
-use Rattle.exif_layout.specs.Slots.{Draft, Slot, Content, Known, PlacesOf, LengthsOf, PlaceOf, inserted, in_tag_order, content_len}
-use Rattle.exif_layout.specs.Places.{written, directory_place, values_place, after_value, value_of, even}
+use Rattle.exif_layout.specs.Slots.{Draft, Slot, Content, Known, OffsetsOf, LengthsOf, OffsetOf, inserted, in_tag_order, content_len}
+use Rattle.exif_layout.specs.Offsets.{written, directory_offset, values_offset, after_value, value_of, even}
 use Rattle.exif_layout.specs.Flat.{entry_fields, directory_fields}
 use Rattle.exif_layout.proofs.Images.Pushing.{added}
 
--- A slot holds no old place, and what the writer made itself has a tag of its own.
+-- A slot holds no old offset, and what the writer made itself has a tag of its own.
 abbrev pub IsSettled : Context → Slot → Type 0
 IsSettled context slot =
     elim slot.content [
       | Known value ↦ moved_to 0 value ≡ value
-      | PlacesOf kind lengths ↦ is_ignored context slot.tag ≡ true
+      | OffsetsOf kind lengths ↦ is_ignored context slot.tag ≡ true
       | LengthsOf kind lengths ↦ is_ignored context slot.tag ≡ true
-      | PlaceOf child ↦ is_ignored context slot.tag ≡ true
+      | OffsetOf child ↦ is_ignored context slot.tag ≡ true
     ]
 
 -- whether a slot was pushed
@@ -35,24 +35,24 @@ abbrev pub share : Context → Context → (Context → List Slot) → Slot → 
 share context here inner slot =
     elim slot.content [
       | Known value ↦ if is_ignored here slot.tag then [] else (if context_eq here context then slot ∷ [] else [])
-      | PlacesOf kind lengths ↦ []
+      | OffsetsOf kind lengths ↦ []
       | LengthsOf kind lengths ↦ []
-      | PlaceOf child ↦ inner child
+      | OffsetOf child ↦ inner child
     ]
 
 module _ (draft : Draft) (start ifd : ℕ) where
   -- what one entry adds
-  entry_adds : (context here : Context) (fields : Context → List Field) (tag : ℕ) (content : Content) (place : ℕ)
+  entry_adds : (context here : Context) (fields : Context → List Field) (tag : ℕ) (content : Content) (offset : ℕ)
       → IsSettled here (record { tag = tag; content = content })
-      → flat_map (added ifd context) (entry_fields fields here ifd (record { tag = tag; content = content; value = value_of draft start content; place = place }))
+      → flat_map (added ifd context) (entry_fields fields here ifd (record { tag = tag; content = content; value = value_of draft start content; offset = offset }))
       ≡ share context here (λ child. flat_map (added ifd context) (fields child)) (record { tag = tag; content = content })
-  entry_adds context here fields tag (Known value) place h =
+  entry_adds context here fields tag (Known value) offset h =
       let n : (ifd == ifd) ≡ true = eq-eqb ifd ifd refl in
-      let v : moved_to 0 (moved_to place value) ≡ value = moved_twice 0 place value ∙ h in
+      let v : moved_to 0 (moved_to offset value) ≡ value = moved_twice 0 offset value ∙ h in
       append-nil _ ∙ rw (n, v) refl
-  entry_adds context here fields tag (PlacesOf kind lengths) place h = append-nil _ ∙ rw h refl
-  entry_adds context here fields tag (LengthsOf kind lengths) place h = append-nil _ ∙ rw h refl
-  entry_adds context here fields tag (PlaceOf child) place h = refl
+  entry_adds context here fields tag (OffsetsOf kind lengths) offset h = append-nil _ ∙ rw h refl
+  entry_adds context here fields tag (LengthsOf kind lengths) offset h = append-nil _ ∙ rw h refl
+  entry_adds context here fields tag (OffsetOf child) offset h = refl
 
   entries_add : (context here : Context) (fields : Context → List Field) (at values : ℕ) (slots : List Slot) → AllByRecursion (IsSettled here) slots
       → flat_map (added ifd context) (flat_map (entry_fields fields here ifd) (written draft start at values slots))
@@ -63,7 +63,7 @@ module _ (draft : Draft) (start ifd : ℕ) where
         tag = slot.tag;
         content = slot.content;
         value = value_of draft start slot.content;
-        place = if nat_le (content_len slot.content) 4 then at + 8 else even values;
+        offset = if nat_le (content_len slot.content) 4 then at + 8 else even values;
       })) (flat_map (entry_fields fields here ifd) (written draft start (at + 12) (after_value values (content_len slot.content)) slots))
       ∙ (λ i. entry_adds context here fields slot.tag slot.content (if nat_le (content_len slot.content) 4 then at + 8 else even values) h.0 i
       ++ entries_add context here fields (at + 12) (after_value values (content_len slot.content)) slots h.1 i)
@@ -76,7 +76,7 @@ module _ (draft : Draft) (start ifd : ℕ) where
   pub sum_is : (depth : ℕ) (context here : Context) → AllByRecursion (IsSettled here) (draft.slots here)
       → sum_of (suc depth) context here ≡ flat_map (share context here (sum_of depth context)) (draft.slots here)
   sum_is depth context here h =
-      entries_add context here (directory_fields draft start ifd depth) (directory_place draft start here + 2) (values_place draft start here) (draft.slots here) h
+      entries_add context here (directory_fields draft start ifd depth) (directory_offset draft start here + 2) (values_offset draft start here) (draft.slots here) h
 
 -- where each member gives nothing, the whole list gives nothing
 pub flat_nothing : {X Y : Type 0} (f : X → List Y) (l : List X) → AllByRecursion (λ x. f x ≡ []) l → flat_map f l ≡ []

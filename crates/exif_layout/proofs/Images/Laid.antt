@@ -10,9 +10,9 @@ use Rattle.exif_layout.specs.Layout.{Spans}
 pub laid_append : (start middle : ℕ) (ps qs : List Part) → Spans start ps middle → laid start (ps ++ qs) ≡ laid start ps ++ laid middle qs
 laid_append start middle [] qs s = ap (λ n. laid n qs) s
 laid_append start middle (p ∷ ps) qs s =
-    let gap : List ℕ = replicate (p.place - start) 0 in
-    let rest : List ℕ = laid (p.place + length p.text) ps in
-    ap (λ r. gap ++ (p.text ++ r)) (laid_append (p.place + length p.text) middle ps qs s.2)
+    let gap : List ℕ = replicate (p.offset - start) 0 in
+    let rest : List ℕ = laid (p.offset + length p.text) ps in
+    ap (λ r. gap ++ (p.text ++ r)) (laid_append (p.offset + length p.text) middle ps qs s.2)
     ∙ ap (λ r. gap ++ r) (sym (append_assoc p.text rest (laid middle qs)))
     ∙ sym (append_assoc gap (p.text ++ rest) (laid middle qs))
 
@@ -21,12 +21,12 @@ pub joined : (start middle : ℕ) (ps qs : List Part) (x y : List ℕ) → Spans
 joined start middle ps qs x y s a b = laid_append start middle ps qs s ∙ (λ i. a i ++ b i)
 
 -- blocks stand without gaps
-pub laid_blocks : (place : ℕ) (texts : List (List ℕ)) → laid place (block_parts place texts) ≡ flat_map (λ text. text) texts
-laid_blocks place [] = refl
-laid_blocks place (text ∷ texts) =
-    let none : place - place ≡ 0 = omega arith in
-    (λ i. replicate (none i) 0 ++ (text ++ laid (place + length text) (block_parts (place + length text) texts)))
-    ∙ ap (λ r. text ++ r) (laid_blocks (place + length text) texts)
+pub laid_blocks : (offset : ℕ) (texts : List (List ℕ)) → laid offset (block_parts offset texts) ≡ flat_map (λ text. text) texts
+laid_blocks offset [] = refl
+laid_blocks offset (text ∷ texts) =
+    let none : offset - offset ≡ 0 = omega arith in
+    (λ i. replicate (none i) 0 ++ (text ++ laid (offset + length text) (block_parts (offset + length text) texts)))
+    ∙ ap (λ r. text ++ r) (laid_blocks (offset + length text) texts)
 
 -- the header of an image takes 8 bytes, in either byte order
 pub length_header : (order : Order) → length (header_text order) ≡ 8

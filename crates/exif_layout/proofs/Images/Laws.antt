@@ -29,8 +29,8 @@ laid_out order groups h =
     let each = (not_refused groups h).each in
     record {
       span = rw (length-image order groups each) (parts_span order groups each);
-      stand = All-from_recursion (λ part. Stands (image order groups) part.place part.text) (parts order (map draft_of groups)) (parts_stand order groups each);
-      pads = λ place within outside. pads_zero order groups each place (recursion_from_All (IsOutside place) (parts order (map draft_of groups)) outside);
+      stand = All-from_recursion (λ part. Stands (image order groups) part.offset part.text) (parts order (map draft_of groups)) (parts_stand order groups each);
+      pads = λ offset within outside. pads_zero order groups each offset (recursion_from_All (IsOutside offset) (parts order (map draft_of groups)) outside);
     }
 
 -- an image that is written ends where its last draft does, below 2^32 bytes

@@ -11,23 +11,23 @@ use Rattle.exif_table.specs.declared.context.Context.{Context}
 use Rattle.exif_tiff.specs.Footprint.{Below, Stretch, entry_directories, pointed, value_stretch}
 use Rattle.exif_tiff.specs.Trace.{child_of}
 use Rattle.exif_layout.specs.Encoding.{encode, spelled, value_len, moved_to}
-use Rattle.exif_layout.specs.Slots.{Draft, Slot, Content, Known, PlacesOf, LengthsOf, PlaceOf, content_len}
-use Rattle.exif_layout.specs.Places.{Written, value_of, written, after_value, directory_place, even}
+use Rattle.exif_layout.specs.Slots.{Draft, Slot, Content, Known, OffsetsOf, LengthsOf, OffsetOf, content_len}
+use Rattle.exif_layout.specs.Offsets.{Written, value_of, written, after_value, directory_offset, even}
 use Rattle.exif_layout.specs.Image.{entry_text, value_parts}
 use Rattle.exif_layout.specs.Layout.{Stands}
 use Rattle.exif_layout.proofs.Images.Words.{AllStand, ContentFits, Fits, SlotFits}
 use Rattle.exif_layout.proofs.Images.Standing.{stands_left, stands_right, number_read}
-use Rattle.exif_layout.proofs.Images.Places.{length-value_of, length-entry_text}
+use Rattle.exif_layout.proofs.Images.Offsets.{length-value_of, length-entry_text}
 use Rattle.exif_layout.proofs.Images.Entries.{IsSpelled, entry_spelled, fits_known, value_at}
 use Rattle.exif_layout.proofs.Images.Values.{length-encode}
 use Rattle.exif_layout.proofs.Images.Directories.{value_outside, values_rest}
 
 -- a value of some length that stands outside of its entry, or nothing
 abbrev pub outside_of : Bool → ℕ → ℕ → List Stretch
-outside_of true place len = []
-outside_of false place len = record { place = place; len = len } ∷ []
+outside_of true offset len = []
+outside_of false offset len = record { offset = offset; len = len } ∷ []
 
--- the values that stand outside of entries, the first one from a place on
+-- the values that stand outside of entries, the first one from an offset on
 abbrev pub value_stretches : ℕ → List Slot → List Stretch
 value_stretches values [] = []
 value_stretches values (slot ∷ slots) =
@@ -36,16 +36,16 @@ value_stretches values (slot ∷ slots) =
 
 -- the directories below an entry
 abbrev pub below_content : Below → (Context → ℕ) → Content → List ℕ
-below_content below place (Known value) = []
-below_content below place (PlacesOf kind lengths) = []
-below_content below place (LengthsOf kind lengths) = []
-below_content below place (PlaceOf child) = below child (place child)
+below_content below offset (Known value) = []
+below_content below offset (OffsetsOf kind lengths) = []
+below_content below offset (LengthsOf kind lengths) = []
+below_content below offset (OffsetOf child) = below child (offset child)
 
 module _ (order : Order) (bytes : List ℕ) (small : length bytes < 256 ^ 4) where
   stretch_when : (entry : Written) (e : ℕ) → Fits entry.value → IsSpelled order bytes small entry e
       → (fits : Bool) → nat_le (value_len entry.value) 4 ≡ fits
-      → (fits ≡ false → Stands bytes entry.place (encode order entry.value))
-      → value_stretch (number_of order) bytes e ≡ outside_of fits entry.place (value_len entry.value)
+      → (fits ≡ false → Stands bytes entry.offset (encode order entry.value))
+      → value_stretch (number_of order) bytes e ≡ outside_of fits entry.offset (value_len entry.value)
   stretch_when entry e h is true fit outside =
       let size : known_length (type_of (number_at (number_of order) 2 bytes (e + 2))) * number_at (number_of order) 4 bytes (e + 4) ≡ value_len entry.value =
       (λ i. known_length (type_of (is.type i)) * is.count i) in
@@ -60,34 +60,34 @@ module _ (order : Order) (bytes : List ℕ) (small : length bytes < 256 ^ 4) whe
       let within = there.within in
       let len = length-encode order entry.value (fits_known entry.value h) in
       let high = leb-false (value_len entry.value) 4 fit in
-      let element : Stands bytes (e + 8) (spelled order 4 entry.place) = rw fit at is.element in
-      let place : number_at (number_of order) 4 bytes (e + 8) ≡ entry.place = number_read order 4 entry.place (e + 8) bytes (omega arith) element in
+      let element : Stands bytes (e + 8) (spelled order 4 entry.offset) = rw fit at is.element in
+      let offset : number_at (number_of order) 4 bytes (e + 8) ≡ entry.offset = number_read order 4 entry.offset (e + 8) bytes (omega arith) element in
       let long : nat_lt 4 (known_length (type_of (number_at (number_of order) 2 bytes (e + 2))) * number_at (number_of order) 4 bytes (e + 4)) ≡ true =
       ap (λ n. nat_lt 4 n) size ∙ lt-ltb 4 (value_len entry.value) high in
       let enough : nat_le (number_at (number_of order) 4 bytes (e + 8) + known_length (type_of (number_at (number_of order) 2 bytes (e + 2))) * number_at (number_of order) 4 bytes (e + 4)) (length bytes) ≡ true =
-      (λ i. nat_le (place i + size i) (length bytes)) ∙ le-leb (entry.place + value_len entry.value) (length bytes) (omega arith) in
-      rw (long, enough) (λ i. record { place = place i; len = size i } ∷ [])
+      (λ i. nat_le (offset i + size i) (length bytes)) ∙ le-leb (entry.offset + value_len entry.value) (length bytes) (omega arith) in
+      rw (long, enough) (λ i. record { offset = offset i; len = size i } ∷ [])
 
   -- what is looked at of entries: their values and the directories below them
-  pub record Looks (below : Below) (place : Context → ℕ) (context : Context) (at values : ℕ) (slots : List Slot) : Type 0 where
+  pub record Looks (below : Below) (offset : Context → ℕ) (context : Context) (at values : ℕ) (slots : List Slot) : Type 0 where
     pub stretches : flat_map (value_stretch (number_of order) bytes) (spaced at 12 (length slots)) ≡ value_stretches values slots
     pub children : flat_map (entry_directories below (number_of order) bytes context) (spaced at 12 (length slots))
-        ≡ flat_map (λ (slot : Slot). below_content below place slot.content) slots
+        ≡ flat_map (λ (slot : Slot). below_content below offset slot.content) slots
 
   module _ (draft : Draft) (start : ℕ) (below : Below) where
-    content_below : (context : Context) (tag place : ℕ) (content : Content) → ContentFits draft context tag content
-        → pointed below (child_of context tag) (Some (moved_to place (value_of draft start content))) ≡ below_content below (directory_place draft start) content
-    content_below context tag place (Known value) h = rw h.1 refl
-    content_below context tag place (PlacesOf kind lengths) h = rw h.1 refl
-    content_below context tag place (LengthsOf kind lengths) h = rw h.1 refl
-    content_below context tag place (PlaceOf child) h = rw h.0 refl
+    content_below : (context : Context) (tag offset : ℕ) (content : Content) → ContentFits draft context tag content
+        → pointed below (child_of context tag) (Some (moved_to offset (value_of draft start content))) ≡ below_content below (directory_offset draft start) content
+    content_below context tag offset (Known value) h = rw h.1 refl
+    content_below context tag offset (OffsetsOf kind lengths) h = rw h.1 refl
+    content_below context tag offset (LengthsOf kind lengths) h = rw h.1 refl
+    content_below context tag offset (OffsetOf child) h = rw h.0 refl
 
     -- of entries that stand, reading looks at values outside of them and at the directories below
     pub entries_look : (context : Context) (at values : ℕ) (slots : List Slot) → AllByRecursion (SlotFits draft context) slots
         → AllByRecursion (λ slot. Fits (value_of draft start slot.content)) slots
         → Stands bytes at (flat_map (entry_text order) (written draft start at values slots))
         → AllStand bytes (value_parts order (written draft start at values slots))
-        → Looks below (directory_place draft start) context at values slots
+        → Looks below (directory_offset draft start) context at values slots
     entries_look context at values [] fit good texts parts = record { stretches = refl; children = refl }
     entries_look context at values (slot ∷ slots) fit good texts parts =
         let len : ℕ = content_len slot.content in
@@ -95,7 +95,7 @@ module _ (order : Order) (bytes : List ℕ) (small : length bytes < 256 ^ 4) whe
           tag = slot.tag;
           content = slot.content;
           value = value_of draft start slot.content;
-          place = if nat_le len 4 then at + 8 else even values;
+          offset = if nat_le len 4 then at + 8 else even values;
         } in
         let rest : List Written = written draft start (at + 12) (after_value values len) slots in
         let same : value_len entry.value ≡ len = length-value_of draft start slot.content in
@@ -103,7 +103,7 @@ module _ (order : Order) (bytes : List ℕ) (small : length bytes < 256 ^ 4) whe
         let twelve : length (entry_text order entry) ≡ 12 = length-entry_text order entry (fits_known entry.value good.0) in
         let more : Stands bytes (at + 12) (flat_map (entry_text order) rest) =
         stands_right bytes (entry_text order entry) (flat_map (entry_text order) rest) at (at + 12) texts (omega arith) in
-        let inside : nat_le (value_len entry.value) 4 ≡ true → entry.place ≡ at + 8 =
+        let inside : nat_le (value_len entry.value) 4 ≡ true → entry.offset ≡ at + 8 =
         λ e. let e' : nat_le len 4 ≡ true = ap (λ n. nat_le n 4) (sym same) ∙ e in rw e' refl in
         let outside = value_outside order bytes small draft start entry rest parts (nat_le (value_len entry.value) 4) refl in
         let is : IsSpelled order bytes small entry at = entry_spelled order bytes small entry at fit.0.tag good.0 text outside in
@@ -112,8 +112,8 @@ module _ (order : Order) (bytes : List ℕ) (small : length bytes < 256 ^ 4) whe
         (values_rest order bytes small draft start entry rest parts (nat_le (value_len entry.value) 4) refl) in
         let stretch : value_stretch (number_of order) bytes at ≡ outside_of (nat_le len 4) (even values) len =
         stretch_when entry at good.0 is (nat_le (value_len entry.value) 4) refl outside ∙ placed (nat_le len 4) refl same in
-        let child : entry_directories below (number_of order) bytes context at ≡ below_content below (directory_place draft start) slot.content =
-        (λ i. pointed below (child_of context (is.tag i)) (value i)) ∙ content_below context slot.tag entry.place slot.content fit.0.content in
+        let child : entry_directories below (number_of order) bytes context at ≡ below_content below (directory_offset draft start) slot.content =
+        (λ i. pointed below (child_of context (is.tag i)) (value i)) ∙ content_below context slot.tag entry.offset slot.content fit.0.content in
         record {
           stretches = λ i. stretch i ++ ih.stretches i;
           children = λ i. child i ++ ih.children i;

@@ -7,11 +7,11 @@ use Rattle.exif_types.specs.declared.value.Value.TheVariants.{Long}
 use Rattle.exif_table.specs.declared.context.Context.{Context}
 use Rattle.exif_table.specs.declared.context.Context.TheVariants.{Tiff}
 use Rattle.exif_types.specs.declared.field.Field.{Field}
-use Rattle.exif_layout.specs.Groups.{Group, Entry, blocks_in, pushed_in, places_tag, lengths_tag}
+use Rattle.exif_layout.specs.Groups.{Group, Entry, blocks_in, pushed_in, offsets_tag, lengths_tag}
 use Rattle.exif_layout.specs.Encoding.{moved_to}
-use Rattle.exif_layout.specs.Slots.{Draft, draft_of, Slot, Content, Known, PlacesOf, LengthsOf, PlaceOf, known, set_slots, slots_of, content_len}
+use Rattle.exif_layout.specs.Slots.{Draft, draft_of, Slot, Content, Known, OffsetsOf, LengthsOf, OffsetOf, known, set_slots, slots_of, content_len}
 use Rattle.exif_layout.specs.declared.block_kind.BlockKind.{BlockKind}
-use Rattle.exif_layout.specs.Places.{written, draft_end, even, after_value, value_of, directory_place, values_place}
+use Rattle.exif_layout.specs.Offsets.{written, draft_end, even, after_value, value_of, directory_offset, values_offset}
 use Rattle.exif_layout.specs.Flat.{field_of, entry_fields, directory_fields, flat_from, flat}
 use Rattle.exif_tiff.proofs.Members.{all_append}
 use Rattle.exif_layout.proofs.Images.Slots.{all_slots}
@@ -22,29 +22,29 @@ use Rattle.exif_layout.proofs.Moved.{moved_twice}
 abbrev SlotHas : (Field → Type 0) → ℕ → Context → Slot → Type 0
 SlotHas P ifd context slot =
     elim slot.content [
-      | Known value ↦ (place : ℕ) → P (field_of context slot.tag ifd (moved_to place value))
-      | PlacesOf kind lengths ↦ (numbers : List ℕ) → P (field_of context slot.tag ifd (Long numbers))
+      | Known value ↦ (offset : ℕ) → P (field_of context slot.tag ifd (moved_to offset value))
+      | OffsetsOf kind lengths ↦ (numbers : List ℕ) → P (field_of context slot.tag ifd (Long numbers))
       | LengthsOf kind lengths ↦ (numbers : List ℕ) → P (field_of context slot.tag ifd (Long numbers))
-      | PlaceOf child ↦ ⊤
+      | OffsetOf child ↦ ⊤
     ]
 
 -- the same of a group: of each pushed entry, and of the two fields of blocks that are set
 pub record GroupHas (P : Field → Type 0) (ifd : ℕ) (group : Group) : Type 0 where
-  pub pushed : (context : Context) → AllByRecursion (λ entry. (place : ℕ) → P (field_of context entry.tag ifd (moved_to place entry.value))) (pushed_in group context)
-  pub places : (kind : BlockKind) (texts : List (List ℕ)) → blocks_in group kind ≡ Some texts → (numbers : List ℕ) → P (field_of Tiff (places_tag kind) ifd (Long numbers))
+  pub pushed : (context : Context) → AllByRecursion (λ entry. (offset : ℕ) → P (field_of context entry.tag ifd (moved_to offset entry.value))) (pushed_in group context)
+  pub offsets : (kind : BlockKind) (texts : List (List ℕ)) → blocks_in group kind ≡ Some texts → (numbers : List ℕ) → P (field_of Tiff (offsets_tag kind) ifd (Long numbers))
   pub lengths : (kind : BlockKind) (texts : List (List ℕ)) → blocks_in group kind ≡ Some texts → (numbers : List ℕ) → P (field_of Tiff (lengths_tag kind) ifd (Long numbers))
 
 module _ (P : Field → Type 0) (ifd : ℕ) where
-  known_have : (context : Context) (entries : List Entry) → AllByRecursion (λ entry. (place : ℕ) → P (field_of context entry.tag ifd (moved_to place entry.value))) entries
+  known_have : (context : Context) (entries : List Entry) → AllByRecursion (λ entry. (offset : ℕ) → P (field_of context entry.tag ifd (moved_to offset entry.value))) entries
       → AllByRecursion (λ entry. SlotHas P ifd context (known entry)) entries
   known_have context [] h = tt
   known_have context (entry ∷ entries) h = (
-    λ place. subst (λ (v : Value). P (field_of context entry.tag ifd v)) (sym (moved_twice place 0 entry.value)) (h.0 place),
+    λ offset. subst (λ (v : Value). P (field_of context entry.tag ifd v)) (sym (moved_twice offset 0 entry.value)) (h.0 offset),
     known_have context entries h.1,
   )
 
   blocks_have : (kind : BlockKind) (blocks : Option (List (List ℕ)))
-      → ((texts : List (List ℕ)) → blocks ≡ Some texts → (numbers : List ℕ) → P (field_of Tiff (places_tag kind) ifd (Long numbers)))
+      → ((texts : List (List ℕ)) → blocks ≡ Some texts → (numbers : List ℕ) → P (field_of Tiff (offsets_tag kind) ifd (Long numbers)))
       → ((texts : List (List ℕ)) → blocks ≡ Some texts → (numbers : List ℕ) → P (field_of Tiff (lengths_tag kind) ifd (Long numbers)))
       → AllByRecursion (SlotHas P ifd Tiff) (set_slots kind blocks)
   blocks_have kind None h k = tt
@@ -53,17 +53,17 @@ module _ (P : Field → Type 0) (ifd : ℕ) where
   slots_have : (group : Group) → GroupHas P ifd group → (context : Context) → AllByRecursion (SlotHas P ifd context) (slots_of group context)
   slots_have group h =
       all_slots (SlotHas P ifd) group (λ context. known_have context (pushed_in group context) (h.pushed context))
-      (λ kind. blocks_have kind (blocks_in group kind) (h.places kind) (h.lengths kind))
+      (λ kind. blocks_have kind (blocks_in group kind) (h.offsets kind) (h.lengths kind))
       (λ some. tt) (λ some. tt) (λ some. tt)
 
   module _ (draft : Draft) (start : ℕ) where
-    content_has : (fields : Context → List Field) → ((child : Context) → AllByRecursion P (fields child)) → (here : Context) (tag place : ℕ) (content : Content)
+    content_has : (fields : Context → List Field) → ((child : Context) → AllByRecursion P (fields child)) → (here : Context) (tag offset : ℕ) (content : Content)
         → SlotHas P ifd here (record { tag = tag; content = content })
-        → AllByRecursion P (entry_fields fields here ifd (record { tag = tag; content = content; value = value_of draft start content; place = place }))
-    content_has fields h here tag place (Known value) p = (p place, tt)
-    content_has fields h here tag place (PlacesOf kind lengths) p = (p _, tt)
-    content_has fields h here tag place (LengthsOf kind lengths) p = (p lengths, tt)
-    content_has fields h here tag place (PlaceOf child) p = h child
+        → AllByRecursion P (entry_fields fields here ifd (record { tag = tag; content = content; value = value_of draft start content; offset = offset }))
+    content_has fields h here tag offset (Known value) p = (p offset, tt)
+    content_has fields h here tag offset (OffsetsOf kind lengths) p = (p _, tt)
+    content_has fields h here tag offset (LengthsOf kind lengths) p = (p lengths, tt)
+    content_has fields h here tag offset (OffsetOf child) p = h child
 
     entries_have : (fields : Context → List Field) → ((child : Context) → AllByRecursion P (fields child)) → (here : Context) (at values : ℕ) (slots : List Slot)
         → AllByRecursion (SlotHas P ifd here) slots → AllByRecursion P (flat_map (entry_fields fields here ifd) (written draft start at values slots))
@@ -76,7 +76,7 @@ module _ (P : Field → Type 0) (ifd : ℕ) where
     fields_have : ((context : Context) → AllByRecursion (SlotHas P ifd context) (draft.slots context)) → (depth : ℕ) (here : Context) → AllByRecursion P (directory_fields draft start ifd depth here)
     fields_have h zero here = tt
     fields_have h (suc depth) here =
-        entries_have (directory_fields draft start ifd depth) (fields_have h depth) here (directory_place draft start here + 2) (values_place draft start here) (draft.slots here) (h here)
+        entries_have (directory_fields draft start ifd depth) (fields_have h depth) here (directory_offset draft start here + 2) (values_offset draft start here) (draft.slots here) (h here)
 
 from_has : (P : Field → Type 0) (groups : List Group) (ifd start : ℕ) → ((m : ℕ) → m < length groups → GroupHas P (ifd + m) (group_at groups m))
     → AllByRecursion P (flat_from ifd start (map draft_of groups))

@@ -10,11 +10,11 @@ use Rattle.exif_layout.specs.Encoding.{moved_to}
 use Rattle.exif_table.specs.declared.context.Context.{Context}
 use Rattle.exif_table.specs.declared.context.Context.TheVariants.{Tiff, Exif, Gps}
 use Rattle.exif_types.specs.declared.field.Field.{Field}
-use Rattle.exif_layout.specs.Groups.{Group, Entry, is_ignored, single, pushed_in, blocks_in, places_tag, lengths_tag}
-use Rattle.exif_layout.specs.Slots.{Draft, draft_of, Slot, Content, Known, PlacesOf, LengthsOf, PlaceOf, known, in_tag_order, set_slots, block_slots, pointer_slots, slots_of, tiff_slots, exif_slots, gps_slots, content_len}
+use Rattle.exif_layout.specs.Groups.{Group, Entry, is_ignored, single, pushed_in, blocks_in, offsets_tag, lengths_tag}
+use Rattle.exif_layout.specs.Slots.{Draft, draft_of, Slot, Content, Known, OffsetsOf, LengthsOf, OffsetOf, known, in_tag_order, set_slots, block_slots, pointer_slots, slots_of, tiff_slots, exif_slots, gps_slots, content_len}
 use Rattle.exif_layout.specs.declared.block_kind.BlockKind.{BlockKind}
 use Rattle.exif_layout.specs.declared.block_kind.BlockKind.TheVariants.{Strips, Tiles, Jpeg}
-use Rattle.exif_layout.specs.Places.{written, draft_end, even, after_value, value_of, directory_place, values_place}
+use Rattle.exif_layout.specs.Offsets.{written, draft_end, even, after_value, value_of, directory_offset, values_offset}
 use Rattle.exif_layout.specs.Flat.{field_of, entry_fields, directory_fields, flat_from, flat}
 use Rattle.exif_layout.specs.Ranged.{IsEntry}
 use Rattle.exif_layout.specs.Layout.{is_tiff, fields_under}
@@ -31,7 +31,7 @@ under tag ifd field = is_tiff field.tag.0 && (field.tag.1 == tag) && (field.ifd_
 
 -- children lie in other contexts
 ChildIsLow : Slot → Type 0
-ChildIsLow slot = elim slot.content [ PlaceOf child ↦ is_tiff child ≡ false | _ ↦ Unit {0} ]
+ChildIsLow slot = elim slot.content [ OffsetOf child ↦ is_tiff child ≡ false | _ ↦ Unit {0} ]
 
 blocks_low : (kind : BlockKind) (texts : Option (List (List ℕ))) → AllByRecursion ChildIsLow (set_slots kind texts)
 unfolding ChildIsLow
@@ -50,13 +50,13 @@ AllLow fields = AllByRecursion (λ field. is_tiff field.tag.0 ≡ false) fields
 
 module _ (draft : Draft) (start ifd : ℕ) where
   content_low : (fields : Context → List Field) → ((child : Context) → is_tiff child ≡ false → AllLow (fields child)) → (here : Context) → is_tiff here ≡ false
-      → (tag place : ℕ) (content : Content) → ChildIsLow (record { tag = tag; content = content })
-      → AllLow (entry_fields fields here ifd (record { tag = tag; content = content; value = value_of draft start content; place = place }))
+      → (tag offset : ℕ) (content : Content) → ChildIsLow (record { tag = tag; content = content })
+      → AllLow (entry_fields fields here ifd (record { tag = tag; content = content; value = value_of draft start content; offset = offset }))
   unfolding AllLow ChildIsLow
-  content_low fields h here low tag place (Known value) c = (low, tt)
-  content_low fields h here low tag place (PlacesOf kind lengths) c = (low, tt)
-  content_low fields h here low tag place (LengthsOf kind lengths) c = (low, tt)
-  content_low fields h here low tag place (PlaceOf child) c = h child c
+  content_low fields h here low tag offset (Known value) c = (low, tt)
+  content_low fields h here low tag offset (OffsetsOf kind lengths) c = (low, tt)
+  content_low fields h here low tag offset (LengthsOf kind lengths) c = (low, tt)
+  content_low fields h here low tag offset (OffsetOf child) c = h child c
 
   entries_low : (fields : Context → List Field) → ((child : Context) → is_tiff child ≡ false → AllLow (fields child)) → (here : Context) → is_tiff here ≡ false
       → (at values : ℕ) (slots : List Slot) → AllByRecursion ChildIsLow slots → AllLow (flat_map (entry_fields fields here ifd) (written draft start at values slots))
@@ -71,21 +71,21 @@ module _ (draft : Draft) (start ifd : ℕ) where
   unfolding AllLow
   fields_low c zero here low = tt
   fields_low c (suc depth) here low =
-      entries_low (directory_fields draft start ifd depth) (fields_low c depth) here low (directory_place draft start here + 2) (values_place draft start here) (draft.slots here) (c here)
+      entries_low (directory_fields draft start ifd depth) (fields_low c depth) here low (directory_offset draft start here + 2) (values_offset draft start here) (draft.slots here) (c here)
 
 none_under : (tag ifd : ℕ) (fields : List Field) → AllLow fields → filter (under tag ifd) fields ≡ []
 unfolding AllLow
 none_under tag ifd [] h = refl
 none_under tag ifd (field ∷ fields) h = rw h.0 (none_under tag ifd fields h.1)
 
--- what has a tag of the writer's own doesn't depend on its place, and is no pointer
+-- what has a tag of the writer's own doesn't depend on its offset, and is no pointer
 abbrev IsNamed : ℕ → Slot → Type 0
 IsNamed t slot =
     elim slot.content [
       | Known value ↦ (slot.tag == t) ≡ true → (p : ℕ) → moved_to p value ≡ value
-      | PlacesOf kind lengths ↦ Unit {0}
+      | OffsetsOf kind lengths ↦ Unit {0}
       | LengthsOf kind lengths ↦ Unit {0}
-      | PlaceOf child ↦ ((slot.tag == t) ≡ false) × (is_tiff child ≡ false)
+      | OffsetOf child ↦ ((slot.tag == t) ≡ false) × (is_tiff child ≡ false)
     ]
 
 -- the field that an entry of a top directory is
@@ -94,17 +94,17 @@ top_field draft start ifd slot = field_of Tiff slot.tag ifd (value_of draft star
 
 module _ (draft : Draft) (start ifd t : ℕ) where
   content_named : (fields : Context → List Field) → ((child : Context) → is_tiff child ≡ false → filter (under t ifd) (fields child) ≡ [])
-      → (tag place : ℕ) (content : Content) → IsNamed t (record { tag = tag; content = content }) → (b : Bool) → (tag == t) ≡ b
-      → filter (under t ifd) (entry_fields fields Tiff ifd (record { tag = tag; content = content; value = value_of draft start content; place = place }))
+      → (tag offset : ℕ) (content : Content) → IsNamed t (record { tag = tag; content = content }) → (b : Bool) → (tag == t) ≡ b
+      → filter (under t ifd) (entry_fields fields Tiff ifd (record { tag = tag; content = content; value = value_of draft start content; offset = offset }))
       ≡ cond b (top_field draft start ifd (record { tag = tag; content = content }) ∷ []) []
-  content_named fields h tag place (Known value) n true e = let own : (ifd == ifd) ≡ true = eq-eqb ifd ifd refl in rw (e, own, n e place) refl
-  content_named fields h tag place (Known value) n false e = rw e refl
-  content_named fields h tag place (PlacesOf kind lengths) n true e = let own : (ifd == ifd) ≡ true = eq-eqb ifd ifd refl in rw (e, own) refl
-  content_named fields h tag place (PlacesOf kind lengths) n false e = rw e refl
-  content_named fields h tag place (LengthsOf kind lengths) n true e = let own : (ifd == ifd) ≡ true = eq-eqb ifd ifd refl in rw (e, own) refl
-  content_named fields h tag place (LengthsOf kind lengths) n false e = rw e refl
-  content_named fields h tag place (PlaceOf child) n true e = absurd (let k : true ≡ false = sym e ∙ n.0 in cc)
-  content_named fields h tag place (PlaceOf child) n false e = h child n.1
+  content_named fields h tag offset (Known value) n true e = let own : (ifd == ifd) ≡ true = eq-eqb ifd ifd refl in rw (e, own, n e offset) refl
+  content_named fields h tag offset (Known value) n false e = rw e refl
+  content_named fields h tag offset (OffsetsOf kind lengths) n true e = let own : (ifd == ifd) ≡ true = eq-eqb ifd ifd refl in rw (e, own) refl
+  content_named fields h tag offset (OffsetsOf kind lengths) n false e = rw e refl
+  content_named fields h tag offset (LengthsOf kind lengths) n true e = let own : (ifd == ifd) ≡ true = eq-eqb ifd ifd refl in rw (e, own) refl
+  content_named fields h tag offset (LengthsOf kind lengths) n false e = rw e refl
+  content_named fields h tag offset (OffsetOf child) n true e = absurd (let k : true ≡ false = sym e ∙ n.0 in cc)
+  content_named fields h tag offset (OffsetOf child) n false e = h child n.1
 
   entries_named : (fields : Context → List Field) → ((child : Context) → is_tiff child ≡ false → filter (under t ifd) (fields child) ≡ [])
       → (at values : ℕ) (slots : List Slot) → AllByRecursion (IsNamed t) slots
@@ -112,7 +112,7 @@ module _ (draft : Draft) (start ifd t : ℕ) where
   entries_named fields h at values [] n = refl
   entries_named fields h at values (slot ∷ slots) n =
       filter-append (under t ifd)
-      (entry_fields fields Tiff ifd (record { tag = slot.tag; content = slot.content; value = value_of draft start slot.content; place = if nat_le (content_len slot.content) 4 then at + 8 else even values }))
+      (entry_fields fields Tiff ifd (record { tag = slot.tag; content = slot.content; value = value_of draft start slot.content; offset = if nat_le (content_len slot.content) 4 then at + 8 else even values }))
       (flat_map (entry_fields fields Tiff ifd) (written draft start (at + 12) (after_value values (content_len slot.content)) slots))
       ∙ (λ i. content_named fields h slot.tag (if nat_le (content_len slot.content) 4 then at + 8 else even values) slot.content n.0 (slot.tag == t) refl i
       ++ entries_named fields h (at + 12) (after_value values (content_len slot.content)) slots n.1 i)
@@ -148,7 +148,7 @@ tiff_named : (group : Group) (start ifd t : ℕ) → AllByRecursion (IsNamed t) 
 tiff_named group start ifd t n =
     entries_named (draft_of group) start ifd t (directory_fields (draft_of group) start ifd 2)
     (λ child low. none_under t ifd (directory_fields (draft_of group) start ifd 2 child) (fields_low (draft_of group) start ifd (children_low group) 2 child low))
-    (directory_place (draft_of group) start Tiff + 2) (values_place (draft_of group) start Tiff) (tiff_slots group) n
+    (directory_offset (draft_of group) start Tiff + 2) (values_offset (draft_of group) start Tiff) (tiff_slots group) n
 
 -- the fields under a tag of the writer's own
 flat_named : (groups : List Group) (t n m start : ℕ) → m < length groups → AllByRecursion (IsNamed t) (tiff_slots (group_at groups m))
@@ -182,10 +182,10 @@ ignored_none tag h =
     let f = or_parts (tag == 0x202) _ e.1 in
     (a.0, b.0, c.0, d.0, e.0, f.0)
 
-own_places : (kind : BlockKind) → IsOwn (places_tag kind)
-own_places Strips = record { pushed = λ tag h. (ignored_none tag h).0; exif = refl; gps = refl }
-own_places Tiles = record { pushed = λ tag h. (ignored_none tag h).2; exif = refl; gps = refl }
-own_places Jpeg = record { pushed = λ tag h. (ignored_none tag h).4; exif = refl; gps = refl }
+own_offsets : (kind : BlockKind) → IsOwn (offsets_tag kind)
+own_offsets Strips = record { pushed = λ tag h. (ignored_none tag h).0; exif = refl; gps = refl }
+own_offsets Tiles = record { pushed = λ tag h. (ignored_none tag h).2; exif = refl; gps = refl }
+own_offsets Jpeg = record { pushed = λ tag h. (ignored_none tag h).4; exif = refl; gps = refl }
 
 own_lengths : (kind : BlockKind) → IsOwn (lengths_tag kind)
 own_lengths Strips = record { pushed = λ tag h. (ignored_none tag h).1; exif = refl; gps = refl }
@@ -237,44 +237,44 @@ own_slots group t own h =
     ∙ (λ i. pushed_not t own group.tiff h i ++ filter test a ++ filter test b ++ filter test j)
     )
 
--- the slot that gives the places of the blocks of a kind, where they are set
-abbrev pub places_slots : BlockKind → Option (List (List ℕ)) → List Slot
-places_slots kind None = []
-places_slots kind (Some texts) = record { tag = places_tag kind; content = PlacesOf kind (map length texts) } ∷ []
+-- the slot that gives the offsets of the blocks of a kind, where they are set
+abbrev pub offsets_slots : BlockKind → Option (List (List ℕ)) → List Slot
+offsets_slots kind None = []
+offsets_slots kind (Some texts) = record { tag = offsets_tag kind; content = OffsetsOf kind (map length texts) } ∷ []
 
 -- the slot that gives the lengths of the blocks of a kind, where they are set
 abbrev pub lengths_slots : BlockKind → Option (List (List ℕ)) → List Slot
 lengths_slots kind None = []
 lengths_slots kind (Some texts) = record { tag = lengths_tag kind; content = LengthsOf kind (map length texts) } ∷ []
 
-three_places : (kind : BlockKind) (a b j : Option (List (List ℕ)))
-    → in_tag_order (filter (λ slot. slot.tag == places_tag kind) (set_slots Strips a) ++ filter (λ slot. slot.tag == places_tag kind) (set_slots Tiles b)
-    ++ filter (λ slot. slot.tag == places_tag kind) (set_slots Jpeg j))
-    ≡ places_slots kind (elim kind [ Strips ↦ a | Tiles ↦ b | Jpeg ↦ j ])
-three_places Strips None None None = refl
-three_places Strips None None (Some j) = refl
-three_places Strips None (Some b) None = refl
-three_places Strips None (Some b) (Some j) = refl
-three_places Strips (Some a) None None = refl
-three_places Strips (Some a) None (Some j) = refl
-three_places Strips (Some a) (Some b) None = refl
-three_places Strips (Some a) (Some b) (Some j) = refl
-three_places Tiles None None None = refl
-three_places Tiles None None (Some j) = refl
-three_places Tiles None (Some b) None = refl
-three_places Tiles None (Some b) (Some j) = refl
-three_places Tiles (Some a) None None = refl
-three_places Tiles (Some a) None (Some j) = refl
-three_places Tiles (Some a) (Some b) None = refl
-three_places Tiles (Some a) (Some b) (Some j) = refl
-three_places Jpeg None None None = refl
-three_places Jpeg None None (Some j) = refl
-three_places Jpeg None (Some b) None = refl
-three_places Jpeg None (Some b) (Some j) = refl
-three_places Jpeg (Some a) None None = refl
-three_places Jpeg (Some a) None (Some j) = refl
-three_places Jpeg (Some a) (Some b) None = refl
-three_places Jpeg (Some a) (Some b) (Some j) = refl
+three_offsets : (kind : BlockKind) (a b j : Option (List (List ℕ)))
+    → in_tag_order (filter (λ slot. slot.tag == offsets_tag kind) (set_slots Strips a) ++ filter (λ slot. slot.tag == offsets_tag kind) (set_slots Tiles b)
+    ++ filter (λ slot. slot.tag == offsets_tag kind) (set_slots Jpeg j))
+    ≡ offsets_slots kind (elim kind [ Strips ↦ a | Tiles ↦ b | Jpeg ↦ j ])
+three_offsets Strips None None None = refl
+three_offsets Strips None None (Some j) = refl
+three_offsets Strips None (Some b) None = refl
+three_offsets Strips None (Some b) (Some j) = refl
+three_offsets Strips (Some a) None None = refl
+three_offsets Strips (Some a) None (Some j) = refl
+three_offsets Strips (Some a) (Some b) None = refl
+three_offsets Strips (Some a) (Some b) (Some j) = refl
+three_offsets Tiles None None None = refl
+three_offsets Tiles None None (Some j) = refl
+three_offsets Tiles None (Some b) None = refl
+three_offsets Tiles None (Some b) (Some j) = refl
+three_offsets Tiles (Some a) None None = refl
+three_offsets Tiles (Some a) None (Some j) = refl
+three_offsets Tiles (Some a) (Some b) None = refl
+three_offsets Tiles (Some a) (Some b) (Some j) = refl
+three_offsets Jpeg None None None = refl
+three_offsets Jpeg None None (Some j) = refl
+three_offsets Jpeg None (Some b) None = refl
+three_offsets Jpeg None (Some b) (Some j) = refl
+three_offsets Jpeg (Some a) None None = refl
+three_offsets Jpeg (Some a) None (Some j) = refl
+three_offsets Jpeg (Some a) (Some b) None = refl
+three_offsets Jpeg (Some a) (Some b) (Some j) = refl
 
 three_lengths : (kind : BlockKind) (a b j : Option (List (List ℕ)))
     → in_tag_order (filter (λ slot. slot.tag == lengths_tag kind) (set_slots Strips a) ++ filter (λ slot. slot.tag == lengths_tag kind) (set_slots Tiles b)
@@ -312,15 +312,15 @@ in_cases group Tiles = refl
 in_cases group Jpeg = refl
 
 -- what the blocks of a group are named by
-pub places_under : (groups : List Group) (m : ℕ) (kind : BlockKind) → m < length groups → AllByRecursion (IsEntry Tiff) (group_at groups m).tiff
-    → fields_under (places_tag kind) m (flat groups)
-    ≡ map (top_field (draft_of (group_at groups m)) (start_at m 8 groups) m) (places_slots kind (blocks_in (group_at groups m) kind))
+pub offsets_under : (groups : List Group) (m : ℕ) (kind : BlockKind) → m < length groups → AllByRecursion (IsEntry Tiff) (group_at groups m).tiff
+    → fields_under (offsets_tag kind) m (flat groups)
+    ≡ map (top_field (draft_of (group_at groups m)) (start_at m 8 groups) m) (offsets_slots kind (blocks_in (group_at groups m) kind))
 unfolding flat
-places_under groups m kind h entries =
+offsets_under groups m kind h entries =
     let zero_add : 0 + m ≡ m = omega arith in
     let group : Group = group_at groups m in
-    let named = flat_named groups (places_tag kind) 0 m 8 h (named_slots group (places_tag kind) (own_places kind) entries) in
-    (rw zero_add at named) ∙ ap (map (top_field (draft_of group) (start_at m 8 groups) m)) (own_slots group (places_tag kind) (own_places kind) entries ∙ three_places kind group.strips group.tiles (single group.jpeg) ∙ ap (places_slots kind) (in_cases group kind))
+    let named = flat_named groups (offsets_tag kind) 0 m 8 h (named_slots group (offsets_tag kind) (own_offsets kind) entries) in
+    (rw zero_add at named) ∙ ap (map (top_field (draft_of group) (start_at m 8 groups) m)) (own_slots group (offsets_tag kind) (own_offsets kind) entries ∙ three_offsets kind group.strips group.tiles (single group.jpeg) ∙ ap (offsets_slots kind) (in_cases group kind))
 
 -- under the tag of their lengths a group has one field of its blocks, or none if none are set
 pub lengths_under : (groups : List Group) (m : ℕ) (kind : BlockKind) → m < length groups → AllByRecursion (IsEntry Tiff) (group_at groups m).tiff

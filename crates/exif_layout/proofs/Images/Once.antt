@@ -7,16 +7,16 @@ use Rattle.exif_table.specs.declared.context.Context.TheVariants.{Tiff, Exif, Gp
 use Rattle.exif_layout.specs.declared.block_kind.BlockKind.{BlockKind}
 use Rattle.exif_layout.specs.declared.block_kind.BlockKind.TheVariants.{Strips, Tiles, Jpeg}
 use Rattle.exif_layout.specs.Groups.{Group, Entry, blocks_in}
-use Rattle.exif_layout.specs.Slots.{Content, Known, PlacesOf, LengthsOf, PlaceOf, Slot, block_slots, exif_slots, gps_slots, in_tag_order, inserted, interop_slots, known, pointer_slots, set_slots, slots_of, tiff_slots}
+use Rattle.exif_layout.specs.Slots.{Content, Known, OffsetsOf, LengthsOf, OffsetOf, Slot, block_slots, exif_slots, gps_slots, in_tag_order, inserted, interop_slots, known, pointer_slots, set_slots, slots_of, tiff_slots}
 use Rattle.exif_layout.proofs.Images.Slots.{all_in_tag_order, all_inserted}
 use Rattle.exif_tiff.proofs.Members.{all_append}
 
 -- the child that an entry names
 abbrev pub child_named : Content → Option Context
 child_named (Known value) = None
-child_named (PlacesOf kind lengths) = None
+child_named (OffsetsOf kind lengths) = None
 child_named (LengthsOf kind lengths) = None
-child_named (PlaceOf child) = Some child
+child_named (OffsetOf child) = Some child
 
 -- two entries that do not name one child
 abbrev pub Differ : Slot → Slot → Type 0

@@ -165,19 +165,19 @@ has_pushed_and_blocks groups =
     let P : Field → Type 0 = λ field. IsPushed groups field ⊎ NamesBlocks groups field in
     All-from_recursion P (flat groups) (flat_has P groups (λ m k. record {
       pushed = λ context.
-          weaker (Contains (pushed_in (group_at groups m) context)) (λ entry. (place : ℕ) → P (field_of context entry.tag m (moved_to place entry.value)))
-          (λ entry c place. inl (record { entry = entry; place = place; pushed = c; moved = refl }))
+          weaker (Contains (pushed_in (group_at groups m) context)) (λ entry. (offset : ℕ) → P (field_of context entry.tag m (moved_to offset entry.value)))
+          (λ entry c offset. inl (record { entry = entry; offset = offset; pushed = c; moved = refl }))
           (pushed_in (group_at groups m) context)
           (recursion_from_All (Contains (pushed_in (group_at groups m) context)) (pushed_in (group_at groups m) context) (All-contains_itself (pushed_in (group_at groups m) context)));
-      places = λ kind texts is numbers. inr (record { kind = kind; texts = texts; numbers = numbers; set = is; names = inl refl });
+      offsets = λ kind texts is numbers. inr (record { kind = kind; texts = texts; numbers = numbers; set = is; names = inl refl });
       lengths = λ kind texts is numbers. inr (record { kind = kind; texts = texts; numbers = numbers; set = is; names = inr refl });
     }))
 
 -- an entry of a pushed field
 abbrev IsOf : List Field → ℕ → Context → Entry → Type 0
-IsOf fields m context entry = (place : ℕ) → IsMoved fields (field_of context entry.tag m (moved_to place entry.value))
+IsOf fields m context entry = (offset : ℕ) → IsMoved fields (field_of context entry.tag m (moved_to offset entry.value))
 
--- the image of pushed fields has no others, but undefined values may have other places
+-- the image of pushed fields has no others, but undefined values may have other offsets
 pub has_pushed_alone : (fields : List Field) → HasPushedAlone fields
 has_pushed_alone fields =
     let made : List Group = pushed_all fields [] in
@@ -185,10 +185,10 @@ has_pushed_alone fields =
     let entries : EntriesHave (IsOf fields) made =
     pushed_all_have (IsOf fields) fields []
     (weaker (Contains fields) (λ field. is_ignored field.tag.0 field.tag.1 ≡ false → IsOf fields field.ifd_num.0 field.tag.0 (entry_of field))
-    (λ field c e place. record { from = field; place = place; given = c; moved = refl }) fields (recursion_from_All (Contains fields) fields (All-contains_itself fields)))
+    (λ field c e offset. record { from = field; offset = offset; given = c; moved = refl }) fields (recursion_from_All (Contains fields) fields (All-contains_itself fields)))
     (empty_have (IsOf fields)) in
     All-from_recursion (IsMoved fields) (flat made) (flat_has (IsMoved fields) made (λ m k. record {
       pushed = entries m;
-      places = λ kind texts is numbers. (let n = no_blocks m kind in absurd cc);
+      offsets = λ kind texts is numbers. (let n = no_blocks m kind in absurd cc);
       lengths = λ kind texts is numbers. (let n = no_blocks m kind in absurd cc);
     }))

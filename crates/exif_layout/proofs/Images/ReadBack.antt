@@ -17,7 +17,7 @@ use Rattle.exif_tiff.specs.Answers.{Answer, Refused, raw_answer, answer_of}
 use Rattle.exif_layout.specs.Ranged.{AreRanged, HavePlainTexts}
 use Rattle.exif_layout.specs.Groups.{Group}
 use Rattle.exif_layout.specs.Slots.{draft_of}
-use Rattle.exif_layout.specs.Places.{even, tiff_place, draft_end, next_place}
+use Rattle.exif_layout.specs.Offsets.{even, tiff_offset, draft_end, next_offset}
 use Rattle.exif_layout.specs.Image.{Part, draft_parts, parts_from, image}
 use Rattle.exif_layout.specs.Flat.{flat_from, flat}
 use Rattle.exif_layout.specs.Refused.{write_fault}
@@ -25,7 +25,7 @@ use Rattle.exif_layout.specs.Layout.{Stands, Spans}
 use Rattle.exif_tiff.proofs.ReportBound.{fields-append, faults-append}
 use Rattle.exif_layout.proofs.Images.Words.{AllStand, DraftStands, IsAccepted}
 use Rattle.exif_tiff.proofs.Members.{all_left, all_right}
-use Rattle.exif_layout.proofs.Images.Places.{draft_spans, even_low}
+use Rattle.exif_layout.proofs.Images.Offsets.{draft_spans, even_low}
 use Rattle.exif_layout.proofs.Images.Whole.{known_slots, not_refused, length-image, parts_stand}
 use Rattle.exif_layout.proofs.Images.Families.{draft_stands, each_read, nodes_give}
 use Rattle.exif_layout.proofs.Images.Fitting.{slots_fit}
@@ -34,7 +34,7 @@ spans_le : (start end : ℕ) (ps : List Part) → Spans start ps end → start �
 spans_le start end [] s = omega arith
 spans_le start end (p ∷ ps) s =
     let low = s.0 in
-    let more = spans_le (p.place + length p.text) end ps s.2 in
+    let more = spans_le (p.offset + length p.text) end ps s.2 in
     omega arith
 
 -- the draft of an accepted group ends no lower than it starts
@@ -45,15 +45,15 @@ otherwise : (b : Bool) (nodes : List Node) → b ≡ false → elim b as (λ _. 
 otherwise b nodes h = rw h refl
 
 -- one more directory of a chain
-chain_step : (number : Reading) (bytes : List ℕ) (left ifd place next : ℕ) → 0 < place → directory_end number bytes place ≡ Ok next
-    → chain_nodes (suc left) number bytes ifd place ≡ directory_nodes 3 number bytes ifd Tiff place ++ chain_nodes left number bytes (suc ifd) next
-chain_step number bytes left ifd place next some e =
-    let there : (place == 0) ≡ false = ne_eqb place 0 (λ k. omega arith) in
+chain_step : (number : Reading) (bytes : List ℕ) (left ifd offset next : ℕ) → 0 < offset → directory_end number bytes offset ≡ Ok next
+    → chain_nodes (suc left) number bytes ifd offset ≡ directory_nodes 3 number bytes ifd Tiff offset ++ chain_nodes left number bytes (suc ifd) next
+chain_step number bytes left ifd offset next some e =
+    let there : (offset == 0) ≡ false = ne_eqb offset 0 (λ k. omega arith) in
     let after : ifd + 1 ≡ suc ifd = omega arith in
-    otherwise (place == 0) _ there ∙ (λ i. directory_nodes 3 number bytes ifd Tiff place ++ chain_after (chain_nodes left number bytes (after i)) (e i))
+    otherwise (offset == 0) _ there ∙ (λ i. directory_nodes 3 number bytes ifd Tiff offset ++ chain_after (chain_nodes left number bytes (after i)) (e i))
 
-chain_over : (number : Reading) (bytes : List ℕ) (ifd place : ℕ) → 0 < place → chain_nodes 0 number bytes ifd place ≡ Met TooManyDirectories ∷ []
-chain_over number bytes ifd place some = let there : (place == 0) ≡ false = ne_eqb place 0 (λ k. omega arith) in rw there refl
+chain_over : (number : Reading) (bytes : List ℕ) (ifd offset : ℕ) → 0 < offset → chain_nodes 0 number bytes ifd offset ≡ Met TooManyDirectories ∷ []
+chain_over number bytes ifd offset some = let there : (offset == 0) ≡ false = ne_eqb offset 0 (λ k. omega arith) in rw there refl
 
 -- the fault of a chain that has more directories than are followed
 abbrev pub faults_over : ℕ → List Group → List Fault
@@ -67,29 +67,29 @@ pub record Leaves (nodes : List Node) (fields : List Field) (faults : List Fault
   pub failed : faults_of nodes ≡ faults
 
 module _ (order : Order) (bytes : List ℕ) (small : length bytes < 256 ^ 4) where
-  -- where the parts of accepted groups stand, 32 bits hold the place of the first directory
-  pub next_low : (start : ℕ) (groups : List Group) → AllByRecursion IsAccepted groups → AllStand bytes (parts_from order start (map draft_of groups)) → next_place start (map draft_of groups) < 256 ^ 4
-  unfolding tiff_place
+  -- where the parts of accepted groups stand, 32 bits hold the offset of the first directory
+  pub next_low : (start : ℕ) (groups : List Group) → AllByRecursion IsAccepted groups → AllStand bytes (parts_from order start (map draft_of groups)) → next_offset start (map draft_of groups) < 256 ^ 4
+  unfolding tiff_offset
   next_low start [] h stands = omega arith
   next_low start (group ∷ groups) h stands =
-      let first = draft_stands order bytes (draft_of group) start (next_place (draft_end (draft_of group) start) (map draft_of groups)) (all_left _ _ _ stands) in
+      let first = draft_stands order bytes (draft_of group) start (next_offset (draft_end (draft_of group) start) (map draft_of groups)) (all_left _ _ _ stands) in
       let within = (first.directory Tiff h.0.some).within in
       omega arith
 
   -- where accepted groups of values that fit stand, those followed are read, and more are a fault
   pub chain_leaves : (groups : List Group) (count ifd start : ℕ) → 0 < start → AllByRecursion IsAccepted groups → AreRanged groups → HavePlainTexts groups
       → AllStand bytes (parts_from order start (map draft_of groups))
-      → Leaves (chain_nodes count (number_of order) bytes ifd (next_place start (map draft_of groups))) (flat_from ifd start (map draft_of (take count groups))) (faults_over count groups)
-  unfolding tiff_place
+      → Leaves (chain_nodes count (number_of order) bytes ifd (next_offset start (map draft_of groups))) (flat_from ifd start (map draft_of (take count groups))) (faults_over count groups)
+  unfolding tiff_offset
   chain_leaves [] zero ifd start some h ranged clean stands = record { seen = refl; failed = refl }
   chain_leaves [] (suc count) ifd start some h ranged clean stands = record { seen = refl; failed = refl }
   chain_leaves (group ∷ groups) zero ifd start some h ranged clean stands =
       let low = even_low start in
       rw (chain_over (number_of order) bytes ifd (even start) (omega arith)) (record { seen = refl; failed = refl })
   chain_leaves (group ∷ groups) (suc count) ifd start some h ranged clean stands =
-      let next : ℕ = next_place (draft_end (draft_of group) start) (map draft_of groups) in
-      let here = all_left (λ part. Stands bytes part.place part.text) (draft_parts order (draft_of group) start next) (parts_from order (draft_end (draft_of group) start) (map draft_of groups)) stands in
-      let there = all_right (λ part. Stands bytes part.place part.text) (draft_parts order (draft_of group) start next) (parts_from order (draft_end (draft_of group) start) (map draft_of groups)) stands in
+      let next : ℕ = next_offset (draft_end (draft_of group) start) (map draft_of groups) in
+      let here = all_left (λ part. Stands bytes part.offset part.text) (draft_parts order (draft_of group) start next) (parts_from order (draft_end (draft_of group) start) (map draft_of groups)) stands in
+      let there = all_right (λ part. Stands bytes part.offset part.text) (draft_parts order (draft_of group) start next) (parts_from order (draft_end (draft_of group) start) (map draft_of groups)) stands in
       let group_stand : DraftStands order bytes (draft_of group) start next = draft_stands order bytes (draft_of group) start next here in
       let fit = slots_fit group ranged.0 clean.0 h.0 in
       let low : next < 256 ^ 4 = next_low (draft_end (draft_of group) start) groups h.1 there in
@@ -118,7 +118,7 @@ unfolding image
 image_mark Big groups = refl
 image_mark Little groups = refl
 
--- the header of an image names 8 as the place of the first directory
+-- the header of an image names 8 as the offset of the first directory
 pub image_first : (order : Order) (groups : List Group) → number_at (number_of order) 4 (image order groups) 4 ≡ 8
 unfolding image
 image_first Big groups = refl

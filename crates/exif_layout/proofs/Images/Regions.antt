@@ -6,14 +6,14 @@ use Rattle.exif_table.specs.declared.context.Context.{Context}
 use Rattle.exif_table.specs.declared.context.Context.TheVariants.{Tiff, Exif, Gps, Interop}
 use Rattle.exif_tiff.specs.Footprint.{Stretch}
 use Rattle.exif_tiff.proofs.ApartLists.{AreApart, IsApart, all_weaker, apart_turned}
-use Rattle.exif_layout.specs.Places.{after_value, after_values, directory_len, directory_place, even, exif_place, gps_place, interop_place, strips_place, values_place, tiff_values, exif_values, gps_values, interop_values}
+use Rattle.exif_layout.specs.Offsets.{after_value, after_values, directory_len, directory_offset, even, exif_offset, gps_offset, interop_offset, strips_offset, values_offset, tiff_values, exif_values, gps_values, interop_values}
 use Rattle.exif_layout.specs.Slots.{Draft, Slot, content_len}
 use Rattle.exif_layout.proofs.Images.Looked.{outside_of, value_stretches}
 use Rattle.exif_layout.proofs.Images.Room.{values_low}
 
 -- a stretch between two places
 abbrev pub Lies : ℕ → ℕ → Stretch → Type 0
-Lies from to t = (from ≤ t.place) × (t.place + t.len ≤ to)
+Lies from to t = (from ≤ t.offset) × (t.offset + t.len ≤ to)
 
 -- ---- values, one behind the other
 
@@ -48,7 +48,7 @@ apart_next : (values len next end : ℕ) (fits : Bool) (rest : List Stretch) →
 apart_next values len next end true rest n apart h = apart
 apart_next values len next end false rest n apart h =
     let same = n.outside refl in
-    (all_weaker (Lies next end) (IsApart (record { place = even values; len = len })) (λ s l. inl (omega (arith, l.0))) rest h, apart)
+    (all_weaker (Lies next end) (IsApart (record { offset = even values; len = len })) (λ s l. inl (omega (arith, l.0))) rest h, apart)
 
 -- values that stand outside of their entries are apart from each other
 pub values_apart : (values : ℕ) (slots : List Slot) → AreApart (value_stretches values slots)
@@ -70,15 +70,15 @@ pub data IsChild : Context → Context → Type 0 where
 module _ (draft : Draft) (start : ℕ) where
   -- where the directory of a context ends
   unfoldable pub directory_to : Context → ℕ
-  directory_to c = directory_place draft start c + directory_len (draft.slots c)
+  directory_to c = directory_offset draft start c + directory_len (draft.slots c)
 
   -- where the values of a context's directory end
   unfoldable pub values_to : Context → ℕ
-  values_to c = after_values (values_place draft start c) (draft.slots c)
+  values_to c = after_values (values_offset draft start c) (draft.slots c)
 
   -- a stretch of the directory of a context, or of its values
   unfoldable pub Of : Context → Stretch → Type 0
-  Of c t = Lies (directory_place draft start c) (directory_to c) t ⊎ Lies (values_place draft start c) (values_to c) t
+  Of c t = Lies (directory_offset draft start c) (directory_to c) t ⊎ Lies (values_offset draft start c) (values_to c) t
 
   -- a stretch of a directory or of one below it
   unfoldable pub In : Context → Stretch → Type 0
@@ -89,25 +89,25 @@ module _ (draft : Draft) (start : ℕ) where
 
   -- where the regions stand, one behind the other
   pub record Stand : Type 0 where
-    exif : directory_to Tiff ≡ directory_place draft start Exif
-    gps : directory_to Exif ≡ directory_place draft start Gps
-    interop : directory_to Gps ≡ directory_place draft start Interop
-    values : directory_to Interop ≡ values_place draft start Tiff
-    exif_values : values_to Tiff ≡ values_place draft start Exif
-    gps_values : values_to Exif ≡ values_place draft start Gps
-    interop_values : values_to Gps ≡ values_place draft start Interop
-    end : values_to Interop ≡ strips_place draft start
-    tiff_down : directory_place draft start Tiff ≤ directory_to Tiff
-    exif_down : directory_place draft start Exif ≤ directory_to Exif
-    gps_down : directory_place draft start Gps ≤ directory_to Gps
-    interop_down : directory_place draft start Interop ≤ directory_to Interop
-    tiff_up : values_place draft start Tiff ≤ values_to Tiff
-    exif_up : values_place draft start Exif ≤ values_to Exif
-    gps_up : values_place draft start Gps ≤ values_to Gps
-    interop_up : values_place draft start Interop ≤ values_to Interop
+    exif : directory_to Tiff ≡ directory_offset draft start Exif
+    gps : directory_to Exif ≡ directory_offset draft start Gps
+    interop : directory_to Gps ≡ directory_offset draft start Interop
+    values : directory_to Interop ≡ values_offset draft start Tiff
+    exif_values : values_to Tiff ≡ values_offset draft start Exif
+    gps_values : values_to Exif ≡ values_offset draft start Gps
+    interop_values : values_to Gps ≡ values_offset draft start Interop
+    end : values_to Interop ≡ strips_offset draft start
+    tiff_down : directory_offset draft start Tiff ≤ directory_to Tiff
+    exif_down : directory_offset draft start Exif ≤ directory_to Exif
+    gps_down : directory_offset draft start Gps ≤ directory_to Gps
+    interop_down : directory_offset draft start Interop ≤ directory_to Interop
+    tiff_up : values_offset draft start Tiff ≤ values_to Tiff
+    exif_up : values_offset draft start Exif ≤ values_to Exif
+    gps_up : values_offset draft start Gps ≤ values_to Gps
+    interop_up : values_offset draft start Interop ≤ values_to Interop
 
   they_stand : Stand
-  unfolding directory_to values_to exif_place gps_place interop_place tiff_values exif_values gps_values interop_values strips_place
+  unfolding directory_to values_to exif_offset gps_offset interop_offset tiff_values exif_values gps_values interop_values strips_offset
   they_stand = record {
     exif = refl;
     gps = refl;
@@ -128,8 +128,8 @@ module _ (draft : Draft) (start : ℕ) where
   }
 
   -- regions of two contexts, of which the first of each stand in front of the second
-  pair : (c d : Context) (s t : Stretch) → directory_to c ≤ directory_place draft start d → directory_place draft start d ≤ directory_to d
-      → directory_to d ≤ values_place draft start c → values_place draft start c ≤ values_to c → values_to c ≤ values_place draft start d
+  pair : (c d : Context) (s t : Stretch) → directory_to c ≤ directory_offset draft start d → directory_offset draft start d ≤ directory_to d
+      → directory_to d ≤ values_offset draft start c → values_offset draft start c ≤ values_to c → values_to c ≤ values_offset draft start d
       → Of c s → Of d t → IsApart s t
   unfolding Of
   pair c d s t p q r u k (inl h) (inl i) = inl (omega (arith, h.1, i.0))
@@ -174,49 +174,49 @@ module _ (draft : Draft) (start : ℕ) where
       (omega (arith, st.values, st.tiff_up, st.exif_values, st.exif_up, st.gps_values)) st.gps_up (omega (arith, st.interop_values)) h i
 
   -- a directory stands in front of its values
-  pub in_front : (c : Context) → directory_to c ≤ values_place draft start c
+  pub in_front : (c : Context) → directory_to c ≤ values_offset draft start c
   in_front c = by_context they_stand c
     where
-      by_context : Stand → (c : Context) → directory_to c ≤ values_place draft start c
+      by_context : Stand → (c : Context) → directory_to c ≤ values_offset draft start c
       by_context st Tiff = omega (arith, st.exif, st.exif_down, st.gps, st.gps_down, st.interop, st.interop_down, st.values)
       by_context st Exif = omega (arith, st.gps, st.gps_down, st.interop, st.interop_down, st.values, st.tiff_up, st.exif_values)
       by_context st Gps = omega (arith, st.interop, st.interop_down, st.values, st.tiff_up, st.exif_values, st.exif_up, st.gps_values)
       by_context st Interop = omega (arith, st.values, st.tiff_up, st.exif_values, st.exif_up, st.gps_values, st.gps_up, st.interop_values)
 
   -- the first directory stands in front of all, and the blocks behind all values
-  behind_first : (c : Context) → directory_place draft start Tiff ≤ directory_place draft start c
+  behind_first : (c : Context) → directory_offset draft start Tiff ≤ directory_offset draft start c
   behind_first c = by_context they_stand c
     where
-      by_context : Stand → (c : Context) → directory_place draft start Tiff ≤ directory_place draft start c
+      by_context : Stand → (c : Context) → directory_offset draft start Tiff ≤ directory_offset draft start c
       by_context st Tiff = omega arith
       by_context st Exif = omega (arith, st.tiff_down, st.exif)
       by_context st Gps = omega (arith, st.tiff_down, st.exif, st.exif_down, st.gps)
       by_context st Interop = omega (arith, st.tiff_down, st.exif, st.exif_down, st.gps, st.gps_down, st.interop)
 
-  before_blocks : (c : Context) → values_to c ≤ strips_place draft start
+  before_blocks : (c : Context) → values_to c ≤ strips_offset draft start
   before_blocks c = by_context they_stand c
     where
-      by_context : Stand → (c : Context) → values_to c ≤ strips_place draft start
+      by_context : Stand → (c : Context) → values_to c ≤ strips_offset draft start
       by_context st Tiff = omega (arith, st.exif_values, st.exif_up, st.gps_values, st.gps_up, st.interop_values, st.interop_up, st.end)
       by_context st Exif = omega (arith, st.gps_values, st.gps_up, st.interop_values, st.interop_up, st.end)
       by_context st Gps = omega (arith, st.interop_values, st.interop_up, st.end)
       by_context st Interop = omega (arith, st.end)
 
-  down : (c : Context) → directory_place draft start c ≤ directory_to c
+  down : (c : Context) → directory_offset draft start c ≤ directory_to c
   unfolding directory_to
   down c = omega arith
 
-  up : (c : Context) → values_place draft start c ≤ values_to c
+  up : (c : Context) → values_offset draft start c ≤ values_to c
   unfolding values_to
-  up c = values_low (values_place draft start c) (draft.slots c)
+  up c = values_low (values_offset draft start c) (draft.slots c)
 
-  of_lies : (c : Context) (t : Stretch) → Of c t → Lies (directory_place draft start Tiff) (strips_place draft start) t
+  of_lies : (c : Context) (t : Stretch) → Of c t → Lies (directory_offset draft start Tiff) (strips_offset draft start) t
   unfolding Of
   of_lies c t (inl h) = (omega (arith, h.0, behind_first c), omega (arith, h.1, in_front c, up c, before_blocks c))
   of_lies c t (inr h) = (omega (arith, h.0, behind_first c, down c, in_front c), omega (arith, h.1, before_blocks c))
 
   -- each directory and each value lies between the first directory and the blocks
-  pub in_lies : (t : Stretch) → In Tiff t → Lies (directory_place draft start Tiff) (strips_place draft start) t
+  pub in_lies : (t : Stretch) → In Tiff t → Lies (directory_offset draft start Tiff) (strips_offset draft start) t
   unfolding In
   in_lies t (inl h) = of_lies Tiff t h
   in_lies t (inr (inl h)) = of_lies Exif t h

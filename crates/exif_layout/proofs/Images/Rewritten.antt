@@ -12,10 +12,10 @@ use Rattle.exif_table.specs.declared.context.Context.{Context}
 use Rattle.exif_table.specs.declared.context.Context.TheVariants.{Tiff, Exif, Gps, Interop}
 use Rattle.exif_types.specs.declared.field.Field.{Field}
 use Rattle.exif_layout.specs.Groups.{Group, Entry, empty_group, is_ignored, changed, with_entry, with_strips, with_tiles, with_jpeg, entry_of, pushed, strips_set, tiles_set, jpeg_set, single, blocks_in, pushed_in}
-use Rattle.exif_layout.specs.Slots.{Draft, draft_of, Slot, Content, Known, PlacesOf, LengthsOf, PlaceOf, known, in_tag_order, set_slots, block_slots, block_list, pointer_slots, slots_of, tiff_slots, exif_slots, gps_slots, interop_slots, content_len}
+use Rattle.exif_layout.specs.Slots.{Draft, draft_of, Slot, Content, Known, OffsetsOf, LengthsOf, OffsetOf, known, in_tag_order, set_slots, block_slots, block_list, pointer_slots, slots_of, tiff_slots, exif_slots, gps_slots, interop_slots, content_len}
 use Rattle.exif_layout.specs.declared.block_kind.BlockKind.{BlockKind}
 use Rattle.exif_layout.specs.declared.block_kind.BlockKind.TheVariants.{Strips, Tiles, Jpeg}
-use Rattle.exif_layout.specs.Places.{written, draft_end, even, after_value, value_of, directory_place, values_place}
+use Rattle.exif_layout.specs.Offsets.{written, draft_end, even, after_value, value_of, directory_offset, values_offset}
 use Rattle.exif_layout.specs.Flat.{entry_fields, directory_fields, flat_from, flat}
 use Rattle.exif_layout.specs.Refused.{write_fault}
 use Rattle.exif_layout.specs.Image.{parts, laid, image}
@@ -27,7 +27,7 @@ use Rattle.exif_layout.proofs.Images.Whole.{not_refused}
 use Rattle.exif_layout.proofs.Images.Sorting.{sorted_again, filter-sorted}
 use Rattle.exif_layout.proofs.Images.Pushing.{group_at, slots_in, added, pushed_all_adds, pushed_all_blocks, blocks_at, with_blocks, or_else, all_set_at, length-changed}
 use Rattle.exif_layout.proofs.Images.Flat.{is_pushed}
-use Rattle.exif_layout.proofs.Images.Shares.{top_adds, places_ignored, lengths_ignored}
+use Rattle.exif_layout.proofs.Images.Shares.{top_adds, offsets_ignored, lengths_ignored}
 
 -- fields of another number add nothing
 pub added_elsewhere : (ifd : ℕ) (context : Context) (field : Field) → field.ifd_num.0 ≢ ifd → added ifd context field ≡ []
@@ -43,12 +43,12 @@ abbrev pub AllNumbered : ℕ → List Field → Type 0
 AllNumbered ifd fields = AllByRecursion (λ field. field.ifd_num.0 ≡ ifd) fields
 
 module _ (draft : Draft) (start ifd : ℕ) where
-  content_numbered : (fields : Context → List Field) → ((child : Context) → AllNumbered ifd (fields child)) → (here : Context) (tag place : ℕ) (content : Content)
-      → AllNumbered ifd (entry_fields fields here ifd (record { tag = tag; content = content; value = value_of draft start content; place = place }))
-  content_numbered fields h here tag place (Known value) = (refl, tt)
-  content_numbered fields h here tag place (PlacesOf kind lengths) = (refl, tt)
-  content_numbered fields h here tag place (LengthsOf kind lengths) = (refl, tt)
-  content_numbered fields h here tag place (PlaceOf child) = h child
+  content_numbered : (fields : Context → List Field) → ((child : Context) → AllNumbered ifd (fields child)) → (here : Context) (tag offset : ℕ) (content : Content)
+      → AllNumbered ifd (entry_fields fields here ifd (record { tag = tag; content = content; value = value_of draft start content; offset = offset }))
+  content_numbered fields h here tag offset (Known value) = (refl, tt)
+  content_numbered fields h here tag offset (OffsetsOf kind lengths) = (refl, tt)
+  content_numbered fields h here tag offset (LengthsOf kind lengths) = (refl, tt)
+  content_numbered fields h here tag offset (OffsetOf child) = h child
 
   entries_numbered : (fields : Context → List Field) → ((child : Context) → AllNumbered ifd (fields child)) → (here : Context) (at values : ℕ) (slots : List Slot)
       → AllNumbered ifd (flat_map (entry_fields fields here ifd) (written draft start at values slots))
@@ -62,7 +62,7 @@ module _ (draft : Draft) (start ifd : ℕ) where
   pub fields_numbered : (depth : ℕ) (here : Context) → AllNumbered ifd (directory_fields draft start ifd depth here)
   fields_numbered zero here = tt
   fields_numbered (suc depth) here =
-      entries_numbered (directory_fields draft start ifd depth) (fields_numbered depth) here (directory_place draft start here + 2) (values_place draft start here) (draft.slots here)
+      entries_numbered (directory_fields draft start ifd depth) (fields_numbered depth) here (directory_offset draft start here + 2) (values_offset draft start here) (draft.slots here)
 
 add_nothing : (ifd n : ℕ) (context : Context) (fields : List Field) → n ≢ ifd → AllNumbered n fields → flat_map (added ifd context) fields ≡ []
 add_nothing ifd n context [] h a = refl
@@ -105,9 +105,9 @@ pushed_pass context (entry ∷ entries) h = rw h.0 (ap (λ r. known entry ∷ r)
 
 blocks_fail : (kind : BlockKind) (texts : Option (List (List ℕ))) → filter (is_pushed Tiff) (set_slots kind texts) ≡ []
 blocks_fail kind None = refl
-blocks_fail kind (Some texts) = rw (places_ignored kind, lengths_ignored kind) refl
+blocks_fail kind (Some texts) = rw (offsets_ignored kind, lengths_ignored kind) refl
 
-pointer_fails : (context : Context) (tag : ℕ) (child : Context) (l : List Slot) → is_pushed context (record { tag = tag; content = PlaceOf child }) ≡ false
+pointer_fails : (context : Context) (tag : ℕ) (child : Context) (l : List Slot) → is_pushed context (record { tag = tag; content = OffsetOf child }) ≡ false
     → filter (is_pushed context) (pointer_slots tag child l) ≡ []
 pointer_fails context tag child [] h = refl
 pointer_fails context tag child (x ∷ l) h = rw h refl

@@ -1,4 +1,4 @@
--- In an image that is written every place, value and block lies below 2 ^ 32.
+-- In an image that is written every offset, value and block lies below 2 ^ 32.
 use Rattle.std.proofs.Common.{◌≡◌, ℕ, ◌+◌, ◌≤◌, List, [], ◌∷◌, length, refl, arith, Bool, true, false}
 use Rattle.std.specs.Prelude.{if◌then◌else◌, nat_le}
 use Rattle.std.proofs.lemmas.Bool.{leb-true}
@@ -13,7 +13,7 @@ use Rattle.exif_layout.specs.declared.block_kind.BlockKind.TheVariants.{Strips, 
 use Rattle.exif_layout.specs.Encoding.{value_len}
 use Rattle.exif_types.specs.ValueTypes.{count_of}
 use Rattle.exif_layout.specs.Slots.{Draft, Slot, content_len}
-use Rattle.exif_layout.specs.Places.{even, after_value, after_values, after_blocks, tiff_place, exif_place, gps_place, interop_place, tiff_values, exif_values, gps_values, interop_values, strips_place, tiles_place, jpeg_place, draft_end, directory_place, values_place, blocks_place, drafts_end}
+use Rattle.exif_layout.specs.Offsets.{even, after_value, after_values, after_blocks, tiff_offset, exif_offset, gps_offset, interop_offset, tiff_values, exif_values, gps_values, interop_values, strips_offset, tiles_offset, jpeg_offset, draft_end, directory_offset, values_offset, blocks_offset, drafts_end}
 use Rattle.exif_layout.specs.Refused.{is_unknown}
 
 -- a value of a known type has no more items than bytes
@@ -24,42 +24,42 @@ count_within (Short xs) h = omega arith
 count_within (Long xs) h = omega arith
 count_within (Rational xs) h = omega arith
 count_within (SByte xs) h = omega arith
-count_within (Undefined xs place) h = omega arith
+count_within (Undefined xs offset) h = omega arith
 count_within (SShort xs) h = omega arith
 count_within (SLong xs) h = omega arith
 count_within (SRational xs) h = omega arith
 count_within (Float xs) h = omega arith
 count_within (Double xs) h = omega arith
-count_within (Unknown type count place) h = absurd cc
+count_within (Unknown type count offset) h = absurd cc
 
--- places only grow
-value_low : (place len : ℕ) → place ≤ after_value place len
-value_low place len = elim (nat_le len 4) as (λ b. place ≤ (if b then place else even place + len)) [ true ↦ omega arith | false ↦ omega arith ]
+-- offsets only grow
+value_low : (offset len : ℕ) → offset ≤ after_value offset len
+value_low offset len = elim (nat_le len 4) as (λ b. offset ≤ (if b then offset else even offset + len)) [ true ↦ omega arith | false ↦ omega arith ]
 
--- the values of a directory end no lower than their first place
-pub values_low : (place : ℕ) (slots : List Slot) → place ≤ after_values place slots
-values_low place [] = omega arith
-values_low place (slot ∷ slots) = le_trans (value_low place (content_len slot.content)) (values_low (after_value place (content_len slot.content)) slots)
+-- the values of a directory end no lower than their first offset
+pub values_low : (offset : ℕ) (slots : List Slot) → offset ≤ after_values offset slots
+values_low offset [] = omega arith
+values_low offset (slot ∷ slots) = le_trans (value_low offset (content_len slot.content)) (values_low (after_value offset (content_len slot.content)) slots)
 
--- blocks end no lower than their first place
-pub blocks_low : (place : ℕ) (texts : List (List ℕ)) → place ≤ after_blocks place texts
-blocks_low place [] = omega arith
-blocks_low place (text ∷ texts) = let more = blocks_low (place + length text) texts in omega arith
+-- blocks end no lower than their first offset
+pub blocks_low : (offset : ℕ) (texts : List (List ℕ)) → offset ≤ after_blocks offset texts
+blocks_low offset [] = omega arith
+blocks_low offset (text ∷ texts) = let more = blocks_low (offset + length text) texts in omega arith
 
 -- a value takes no more than 4 bytes or stands before the end
-value_room : (place len end : ℕ) → after_value place len ≤ end → 4 ≤ end → len ≤ end
-value_room place len end h few = go (nat_le len 4) refl h
+value_room : (offset len end : ℕ) → after_value offset len ≤ end → 4 ≤ end → len ≤ end
+value_room offset len end h few = go (nat_le len 4) refl h
   where
-    go : (b : Bool) → nat_le len 4 ≡ b → (if b then place else even place + len) ≤ end → len ≤ end
+    go : (b : Bool) → nat_le len 4 ≡ b → (if b then offset else even offset + len) ≤ end → len ≤ end
     go true e k = let low = leb-true len 4 e in omega arith
     go false e k = omega arith
 
--- where values end no higher than at some place, at least 4, none is longer than it
-pub values_room : (place end : ℕ) (slots : List Slot) → after_values place slots ≤ end → 4 ≤ end → AllByRecursion (λ slot. content_len slot.content ≤ end) slots
-values_room place end [] h few = tt
-values_room place end (slot ∷ slots) h few = (
-  value_room place (content_len slot.content) end (le_trans (values_low (after_value place (content_len slot.content)) slots) h) few,
-  values_room (after_value place (content_len slot.content)) end slots h few,
+-- where values end no higher than at some offset, at least 4, none is longer than it
+pub values_room : (offset end : ℕ) (slots : List Slot) → after_values offset slots ≤ end → 4 ≤ end → AllByRecursion (λ slot. content_len slot.content ≤ end) slots
+values_room offset end [] h few = tt
+values_room offset end (slot ∷ slots) h few = (
+  value_room offset (content_len slot.content) end (le_trans (values_low (after_value offset (content_len slot.content)) slots) h) few,
+  values_room (after_value offset (content_len slot.content)) end slots h few,
 )
 
 -- how many bytes blocks take
@@ -67,30 +67,30 @@ abbrev pub blocks_len : List (List ℕ) → ℕ
 blocks_len [] = 0
 blocks_len (text ∷ texts) = length text + blocks_len texts
 
--- blocks end as many bytes behind their first place as they take in all
-pub blocks_end : (place : ℕ) (texts : List (List ℕ)) → after_blocks place texts ≡ place + blocks_len texts
-blocks_end place [] = omega arith
-blocks_end place (text ∷ texts) = let more = blocks_end (place + length text) texts in omega arith
+-- blocks end as many bytes behind their first offset as they take in all
+pub blocks_end : (offset : ℕ) (texts : List (List ℕ)) → after_blocks offset texts ≡ offset + blocks_len texts
+blocks_end offset [] = omega arith
+blocks_end offset (text ∷ texts) = let more = blocks_end (offset + length text) texts in omega arith
 
--- the places of a draft, each no lower than the one before
-pub record PlacesGrow (draft : Draft) (start : ℕ) : Type 0 where
-  pub tiff_up : start ≤ tiff_place draft start
-  pub exif_up : tiff_place draft start ≤ exif_place draft start
-  pub gps_up : exif_place draft start ≤ gps_place draft start
-  pub interop_up : gps_place draft start ≤ interop_place draft start
-  pub tiff_values_up : interop_place draft start ≤ tiff_values draft start
+-- the offsets of a draft, each no lower than the one before
+pub record OffsetsGrow (draft : Draft) (start : ℕ) : Type 0 where
+  pub tiff_up : start ≤ tiff_offset draft start
+  pub exif_up : tiff_offset draft start ≤ exif_offset draft start
+  pub gps_up : exif_offset draft start ≤ gps_offset draft start
+  pub interop_up : gps_offset draft start ≤ interop_offset draft start
+  pub tiff_values_up : interop_offset draft start ≤ tiff_values draft start
   pub exif_values_up : tiff_values draft start ≤ exif_values draft start
   pub gps_values_up : exif_values draft start ≤ gps_values draft start
   pub interop_values_up : gps_values draft start ≤ interop_values draft start
-  pub strips_up : interop_values draft start ≤ strips_place draft start
-  pub tiles_up : strips_place draft start ≤ tiles_place draft start
-  pub jpeg_up : tiles_place draft start ≤ jpeg_place draft start
-  pub end_up : jpeg_place draft start ≤ draft_end draft start
+  pub strips_up : interop_values draft start ≤ strips_offset draft start
+  pub tiles_up : strips_offset draft start ≤ tiles_offset draft start
+  pub jpeg_up : tiles_offset draft start ≤ jpeg_offset draft start
+  pub end_up : jpeg_offset draft start ≤ draft_end draft start
 
--- in every draft each place is no lower than the one before
-pub places_grow : (draft : Draft) (start : ℕ) → PlacesGrow draft start
-unfolding tiff_place exif_place gps_place interop_place tiff_values exif_values gps_values interop_values strips_place tiles_place jpeg_place draft_end
-places_grow draft start = record {
+-- in every draft each offset is no lower than the one before
+pub offsets_grow : (draft : Draft) (start : ℕ) → OffsetsGrow draft start
+unfolding tiff_offset exif_offset gps_offset interop_offset tiff_values exif_values gps_values interop_values strips_offset tiles_offset jpeg_offset draft_end
+offsets_grow draft start = record {
   tiff_up = omega arith;
   exif_up = omega arith;
   gps_up = omega arith;
@@ -100,40 +100,40 @@ places_grow draft start = record {
   gps_values_up = values_low (exif_values draft start) (draft.slots Exif);
   interop_values_up = values_low (gps_values draft start) (draft.slots Gps);
   strips_up = values_low (interop_values draft start) (draft.slots Interop);
-  tiles_up = blocks_low (strips_place draft start) (draft.blocks Strips);
-  jpeg_up = blocks_low (tiles_place draft start) (draft.blocks Tiles);
-  end_up = blocks_low (jpeg_place draft start) (draft.blocks Jpeg);
+  tiles_up = blocks_low (strips_offset draft start) (draft.blocks Strips);
+  jpeg_up = blocks_low (tiles_offset draft start) (draft.blocks Tiles);
+  end_up = blocks_low (jpeg_offset draft start) (draft.blocks Jpeg);
 }
 
 module _ (draft : Draft) (start : ℕ) where
   -- each directory of a draft begins no higher than where the draft ends
-  pub directory_within : (context : Context) → directory_place draft start context ≤ draft_end draft start
-  directory_within context = let g = places_grow draft start in by_context g context
+  pub directory_within : (context : Context) → directory_offset draft start context ≤ draft_end draft start
+  directory_within context = let g = offsets_grow draft start in by_context g context
     where
-      by_context : PlacesGrow draft start → (context : Context) → directory_place draft start context ≤ draft_end draft start
+      by_context : OffsetsGrow draft start → (context : Context) → directory_offset draft start context ≤ draft_end draft start
       by_context g Tiff = let a = g.exif_up in let b = g.gps_up in let c = g.interop_up in let d = g.tiff_values_up in let e = g.exif_values_up in let f = g.gps_values_up in let h = g.interop_values_up in let i = g.strips_up in let j = g.tiles_up in let k = g.jpeg_up in let l = g.end_up in omega arith
       by_context g Exif = let b = g.gps_up in let c = g.interop_up in let d = g.tiff_values_up in let e = g.exif_values_up in let f = g.gps_values_up in let h = g.interop_values_up in let i = g.strips_up in let j = g.tiles_up in let k = g.jpeg_up in let l = g.end_up in omega arith
       by_context g Gps = let c = g.interop_up in let d = g.tiff_values_up in let e = g.exif_values_up in let f = g.gps_values_up in let h = g.interop_values_up in let i = g.strips_up in let j = g.tiles_up in let k = g.jpeg_up in let l = g.end_up in omega arith
       by_context g Interop = let d = g.tiff_values_up in let e = g.exif_values_up in let f = g.gps_values_up in let h = g.interop_values_up in let i = g.strips_up in let j = g.tiles_up in let k = g.jpeg_up in let l = g.end_up in omega arith
 
   -- where the values of each directory end
-  pub values_within : (context : Context) → after_values (values_place draft start context) (draft.slots context) ≤ draft_end draft start
-  unfolding exif_values gps_values interop_values strips_place
-  values_within Tiff = let g = places_grow draft start in let f = g.gps_values_up in let h = g.interop_values_up in let i = g.strips_up in let j = g.tiles_up in let k = g.jpeg_up in let l = g.end_up in omega arith
-  values_within Exif = let g = places_grow draft start in let h = g.interop_values_up in let i = g.strips_up in let j = g.tiles_up in let k = g.jpeg_up in let l = g.end_up in omega arith
-  values_within Gps = let g = places_grow draft start in let i = g.strips_up in let j = g.tiles_up in let k = g.jpeg_up in let l = g.end_up in omega arith
-  values_within Interop = let g = places_grow draft start in let j = g.tiles_up in let k = g.jpeg_up in let l = g.end_up in omega arith
+  pub values_within : (context : Context) → after_values (values_offset draft start context) (draft.slots context) ≤ draft_end draft start
+  unfolding exif_values gps_values interop_values strips_offset
+  values_within Tiff = let g = offsets_grow draft start in let f = g.gps_values_up in let h = g.interop_values_up in let i = g.strips_up in let j = g.tiles_up in let k = g.jpeg_up in let l = g.end_up in omega arith
+  values_within Exif = let g = offsets_grow draft start in let h = g.interop_values_up in let i = g.strips_up in let j = g.tiles_up in let k = g.jpeg_up in let l = g.end_up in omega arith
+  values_within Gps = let g = offsets_grow draft start in let i = g.strips_up in let j = g.tiles_up in let k = g.jpeg_up in let l = g.end_up in omega arith
+  values_within Interop = let g = offsets_grow draft start in let j = g.tiles_up in let k = g.jpeg_up in let l = g.end_up in omega arith
 
   -- where the blocks of each kind end
-  pub blocks_within : (kind : BlockKind) → blocks_place draft start kind + blocks_len (draft.blocks kind) ≤ draft_end draft start
-  unfolding tiles_place jpeg_place draft_end
-  blocks_within Strips = let e = blocks_end (strips_place draft start) (draft.blocks Strips) in let g = places_grow draft start in let k = g.jpeg_up in let l = g.end_up in omega arith
-  blocks_within Tiles = let e = blocks_end (tiles_place draft start) (draft.blocks Tiles) in let g = places_grow draft start in let l = g.end_up in omega arith
-  blocks_within Jpeg = let e = blocks_end (jpeg_place draft start) (draft.blocks Jpeg) in omega arith
+  pub blocks_within : (kind : BlockKind) → blocks_offset draft start kind + blocks_len (draft.blocks kind) ≤ draft_end draft start
+  unfolding tiles_offset jpeg_offset draft_end
+  blocks_within Strips = let e = blocks_end (strips_offset draft start) (draft.blocks Strips) in let g = offsets_grow draft start in let k = g.jpeg_up in let l = g.end_up in omega arith
+  blocks_within Tiles = let e = blocks_end (tiles_offset draft start) (draft.blocks Tiles) in let g = offsets_grow draft start in let l = g.end_up in omega arith
+  blocks_within Jpeg = let e = blocks_end (jpeg_offset draft start) (draft.blocks Jpeg) in omega arith
 
   -- a draft ends no lower than where it starts
   pub end_low : start ≤ draft_end draft start
-  end_low = let t = (places_grow draft start).tiff_up in let d = directory_within Tiff in le_trans t d
+  end_low = let t = (offsets_grow draft start).tiff_up in let d = directory_within Tiff in le_trans t d
 
 -- drafts end no lower than where the first one starts
 pub drafts_low : (start : ℕ) (drafts : List Draft) → start ≤ drafts_end start drafts

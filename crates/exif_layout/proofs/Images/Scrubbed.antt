@@ -29,8 +29,8 @@ both false false h = (refl, refl)
 neither : (a b : Bool) → a ≡ false → b ≡ false → (not a && not b) ≡ true
 neither a b h k = rw (h, k) refl
 
-unknown_moved : (place : ℕ) (value : Value) → is_unknown (moved_to place value) ≡ is_unknown value
-unknown_moved place value = (same_moved value place).unknown
+unknown_moved : (offset : ℕ) (value : Value) → is_unknown (moved_to offset value) ≡ is_unknown value
+unknown_moved offset value = (same_moved value offset).unknown
 
 all_pass : {X : Type 0} (test : X → Bool) (xs : List X) → AllByRecursion (λ x. test x ≡ true) xs → filter test xs ≡ xs
 all_pass test [] h = refl
@@ -40,7 +40,7 @@ all_pass test (x ∷ xs) h = rw h.0 (ap (λ r. x ∷ r) (all_pass test xs h.1))
 moved_kept : (fields : List Field) (field : Field) → IsMoved (kept fields) field → is_kept field ≡ true
 moved_kept fields field m =
     let passes : is_kept m.from ≡ true = All-contains (λ field. is_kept field ≡ true) (kept fields) m.from (filter_passes is_kept fields) m.given in
-    let same : is_kept (record m.from { value = moved_to m.place m.from.value }) ≡ is_kept m.from = ap (λ b. not (is_gps m.from.tag.0) && not b) (unknown_moved m.place m.from.value) in
+    let same : is_kept (record m.from { value = moved_to m.offset m.from.value }) ≡ is_kept m.from = ap (λ b. not (is_gps m.from.tag.0) && not b) (unknown_moved m.offset m.from.value) in
     ap is_kept m.moved ∙ same ∙ passes
 
 -- so each field of the image

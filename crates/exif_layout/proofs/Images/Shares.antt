@@ -6,7 +6,7 @@ use Rattle.std.proofs.lemmas.List.{append-nil, append_assoc, length-append}
 use Rattle.exif_types.specs.Lookup.{context_eq}
 use Rattle.exif_table.specs.declared.context.Context.{Context}
 use Rattle.exif_table.specs.declared.context.Context.TheVariants.{Tiff, Exif, Gps, Interop}
-use Rattle.exif_layout.specs.Groups.{Group, Entry, is_ignored, pushed_in, blocks_in, places_tag, lengths_tag}
+use Rattle.exif_layout.specs.Groups.{Group, Entry, is_ignored, pushed_in, blocks_in, offsets_tag, lengths_tag}
 use Rattle.exif_layout.specs.Slots.{draft_of, Slot, known, in_tag_order, set_slots, block_slots, pointer_slots, slots_of, tiff_slots, exif_slots, gps_slots, interop_slots}
 use Rattle.exif_layout.specs.declared.block_kind.BlockKind.{BlockKind}
 use Rattle.exif_layout.specs.declared.block_kind.BlockKind.TheVariants.{Strips, Tiles, Jpeg}
@@ -22,10 +22,10 @@ always P h [] = tt
 always P h (x ∷ l) = (h x, always P h l)
 
 -- the tags of blocks are the writer's own
-pub places_ignored : (kind : BlockKind) → is_ignored Tiff (places_tag kind) ≡ true
-places_ignored Strips = refl
-places_ignored Tiles = refl
-places_ignored Jpeg = refl
+pub offsets_ignored : (kind : BlockKind) → is_ignored Tiff (offsets_tag kind) ≡ true
+offsets_ignored Strips = refl
+offsets_ignored Tiles = refl
+offsets_ignored Jpeg = refl
 
 -- so is the tag of the lengths of blocks, of each kind
 pub lengths_ignored : (kind : BlockKind) → is_ignored Tiff (lengths_tag kind) ≡ true
@@ -35,9 +35,9 @@ lengths_ignored Jpeg = refl
 
 settled_blocks : (kind : BlockKind) (texts : Option (List (List ℕ))) → AllByRecursion (IsSettled Tiff) (set_slots kind texts)
 settled_blocks kind None = tt
-settled_blocks kind (Some texts) = (places_ignored kind, (lengths_ignored kind, tt))
+settled_blocks kind (Some texts) = (offsets_ignored kind, (lengths_ignored kind, tt))
 
--- each slot of a group has no old place, or has a tag of the writer's own
+-- each slot of a group has no old offset, or has a tag of the writer's own
 pub settled : (group : Group) (context : Context) → AllByRecursion (IsSettled context) (slots_of group context)
 settled group =
     all_slots IsSettled group
@@ -72,7 +72,7 @@ own_entries here inner = always (λ entry. OwnShare here inner (known entry)) (�
 own_blocks : (inner : Context → List Slot) (kind : BlockKind) (texts : Option (List (List ℕ))) → AllByRecursion (OwnShare Tiff inner) (set_slots kind texts)
 unfolding OwnShare
 own_blocks inner kind None = tt
-own_blocks inner kind (Some texts) = (rw (places_ignored kind) refl, (rw (lengths_ignored kind) refl, tt))
+own_blocks inner kind (Some texts) = (rw (offsets_ignored kind) refl, (rw (lengths_ignored kind) refl, tt))
 
 own_tiff : (group : Group) (inner : Context → List Slot) → inner Exif ≡ [] → inner Gps ≡ []
     → flat_map (share Tiff Tiff inner) (tiff_slots group) ≡ filter (is_pushed Tiff) (tiff_slots group)

@@ -7,10 +7,10 @@ use Rattle.exif_table.specs.declared.context.Context.TheVariants.{Tiff, Exif, Gp
 use Rattle.exif_layout.specs.Groups.{Group, Entry, pushed_in}
 use Rattle.exif_layout.specs.declared.block_kind.BlockKind.{BlockKind}
 use Rattle.exif_layout.specs.declared.block_kind.BlockKind.TheVariants.{Strips, Tiles, Jpeg}
-use Rattle.exif_layout.specs.Slots.{Slot, PlaceOf, known, inserted, in_tag_order, block_slots, pointer_slots, slots_of, tiff_slots, exif_slots, gps_slots, interop_slots}
+use Rattle.exif_layout.specs.Slots.{Slot, OffsetOf, known, inserted, in_tag_order, block_slots, pointer_slots, slots_of, tiff_slots, exif_slots, gps_slots, interop_slots}
 use Rattle.exif_tiff.proofs.Members.{all_append}
 
--- what holds of a slot and of all others holds of all with it in its place
+-- what holds of a slot and of all others holds of all with it in its position
 pub all_inserted : (P : Slot → Type 0) (slot : Slot) (slots : List Slot) → P slot → AllByRecursion P slots → AllByRecursion P (inserted slot slots)
 all_inserted P slot [] p h = (p, tt)
 all_inserted P slot (next ∷ slots) p h =
@@ -30,14 +30,14 @@ all_known P [] h = tt
 all_known P (entry ∷ entries) h = (h.0, all_known P entries h.1)
 
 -- what holds of the pointer to a child that has entries holds of the slots that name the child
-pub all_pointer : (P : Slot → Type 0) (tag : ℕ) (child : Context) (slots : List Slot) → (0 < length slots → P (record { tag = tag; content = PlaceOf child }))
+pub all_pointer : (P : Slot → Type 0) (tag : ℕ) (child : Context) (slots : List Slot) → (0 < length slots → P (record { tag = tag; content = OffsetOf child }))
     → AllByRecursion P (pointer_slots tag child slots)
 all_pointer P tag child [] h = tt
 all_pointer P tag child (slot ∷ slots) h = (h (omega arith), tt)
 
 -- the pointer to a child
 abbrev pub pointer_to : ℕ → Context → Slot
-pointer_to tag child = record { tag = tag; content = PlaceOf child }
+pointer_to tag child = record { tag = tag; content = OffsetOf child }
 
 -- what holds of the pushed entries, blocks and pointers of a Tiff directory holds of its slots
 pub all_tiff : (P : Slot → Type 0) (group : Group) → AllByRecursion (λ entry. P (known entry)) group.tiff

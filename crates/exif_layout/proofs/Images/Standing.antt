@@ -14,39 +14,39 @@ use Rattle.exif_layout.specs.Image.{Part, laid}
 use Rattle.exif_layout.specs.Layout.{Stands, Spans, IsOutside}
 use Rattle.exif_layout.proofs.Images.Words.{AllStand}
 
--- a text stands at a place if a front of that length comes before it
-pub stands_of : (bytes front text back : List ℕ) (place : ℕ) → bytes ≡ front ++ (text ++ back) → length front ≡ place → Stands bytes place text
-stands_of bytes front text back place e h =
+-- a text stands at an offset if a front of that length comes before it
+pub stands_of : (bytes front text back : List ℕ) (offset : ℕ) → bytes ≡ front ++ (text ++ back) → length front ≡ offset → Stands bytes offset text
+stands_of bytes front text back offset e h =
     let len : length bytes ≡ length front + (length text + length back) =
     ap length e ∙ length-append front (text ++ back) ∙ ap (λ n. length front + n) (length-append text back) in
     record {
       within = omega arith;
-      there = ap (λ x. take (length text) (drop place x)) e ∙ ap (take (length text)) (drop_at front (text ++ back) place h) ∙ take_at text back (length text) refl;
+      there = ap (λ x. take (length text) (drop offset x)) e ∙ ap (take (length text)) (drop_at front (text ++ back) offset h) ∙ take_at text back (length text) refl;
     }
 
 -- bytes in which a text stands are what is before it, the text, and what is behind it
-pub stands_split : (bytes text : List ℕ) (place : ℕ) → Stands bytes place text → bytes ≡ take place bytes ++ (text ++ drop (length text) (drop place bytes))
-stands_split bytes text place s =
-    sym (take-append-drop place bytes)
-    ∙ ap (λ x. take place bytes ++ x) (sym (take-append-drop (length text) (drop place bytes)) ∙ ap (λ x. x ++ drop (length text) (drop place bytes)) s.there)
+pub stands_split : (bytes text : List ℕ) (offset : ℕ) → Stands bytes offset text → bytes ≡ take offset bytes ++ (text ++ drop (length text) (drop offset bytes))
+stands_split bytes text offset s =
+    sym (take-append-drop offset bytes)
+    ∙ ap (λ x. take offset bytes ++ x) (sym (take-append-drop (length text) (drop offset bytes)) ∙ ap (λ x. x ++ drop (length text) (drop offset bytes)) s.there)
 
--- what is before a text that stands is as long as its place
-pub stands_front : (bytes text : List ℕ) (place : ℕ) → Stands bytes place text → length (take place bytes) ≡ place
-stands_front bytes text place s = let h = s.within in length-take-le place bytes (omega arith)
+-- what is before a text that stands is as long as its offset
+pub stands_front : (bytes text : List ℕ) (offset : ℕ) → Stands bytes offset text → length (take offset bytes) ≡ offset
+stands_front bytes text offset s = let h = s.within in length-take-le offset bytes (omega arith)
 
--- where two joined texts stand, the first stands at their place
-pub stands_left : (bytes x y : List ℕ) (place : ℕ) → Stands bytes place (x ++ y) → Stands bytes place x
-stands_left bytes x y place s =
-    stands_of bytes (take place bytes) x (y ++ drop (length (x ++ y)) (drop place bytes)) place
-    (stands_split bytes (x ++ y) place s ∙ ap (λ z. take place bytes ++ z) (append_assoc x y _))
-    (stands_front bytes (x ++ y) place s)
+-- where two joined texts stand, the first stands at their offset
+pub stands_left : (bytes x y : List ℕ) (offset : ℕ) → Stands bytes offset (x ++ y) → Stands bytes offset x
+stands_left bytes x y offset s =
+    stands_of bytes (take offset bytes) x (y ++ drop (length (x ++ y)) (drop offset bytes)) offset
+    (stands_split bytes (x ++ y) offset s ∙ ap (λ z. take offset bytes ++ z) (append_assoc x y _))
+    (stands_front bytes (x ++ y) offset s)
 
 -- and the second stands where the first ends
-pub stands_right : (bytes x y : List ℕ) (place next : ℕ) → Stands bytes place (x ++ y) → next ≡ place + length x → Stands bytes next y
-stands_right bytes x y place next s h =
-    stands_of bytes (take place bytes ++ x) y (drop (length (x ++ y)) (drop place bytes)) next
-    (stands_split bytes (x ++ y) place s ∙ ap (λ z. take place bytes ++ z) (append_assoc x y _) ∙ sym (append_assoc (take place bytes) x _))
-    (length-append (take place bytes) x ∙ ap (λ n. n + length x) (stands_front bytes (x ++ y) place s) ∙ sym h)
+pub stands_right : (bytes x y : List ℕ) (offset next : ℕ) → Stands bytes offset (x ++ y) → next ≡ offset + length x → Stands bytes next y
+stands_right bytes x y offset next s h =
+    stands_of bytes (take offset bytes ++ x) y (drop (length (x ++ y)) (drop offset bytes)) next
+    (stands_split bytes (x ++ y) offset s ∙ ap (λ z. take offset bytes ++ z) (append_assoc x y _) ∙ sym (append_assoc (take offset bytes) x _))
+    (length-append (take offset bytes) x ∙ ap (λ n. n + length x) (stands_front bytes (x ++ y) offset s) ∙ sym h)
 
 -- a number spelled in n bytes takes n bytes, in either byte order
 pub length_spelled : (order : Order) (n x : ℕ) → length (spelled order n x) ≡ n
@@ -59,42 +59,42 @@ number_spelled Big n x rest h = big_number-reads_back n x rest h
 number_spelled Little n x rest h = little_number-reads_back n x rest h
 
 -- a number that stands is read
-pub number_read : (order : Order) (n x place : ℕ) (bytes : List ℕ) → x < 256 ^ n → Stands bytes place (spelled order n x) → number_at (number_of order) n bytes place ≡ x
-number_read order n x place bytes h s =
+pub number_read : (order : Order) (n x offset : ℕ) (bytes : List ℕ) → x < 256 ^ n → Stands bytes offset (spelled order n x) → number_at (number_of order) n bytes offset ≡ x
+number_read order n x offset bytes h s =
     let text : List ℕ = spelled order n x in
-    ap (number_of order n) (sym (take-append-drop (length text) (drop place bytes)) ∙ ap (λ z. z ++ drop (length text) (drop place bytes)) s.there)
+    ap (number_of order n) (sym (take-append-drop (length text) (drop offset bytes)) ∙ ap (λ z. z ++ drop (length text) (drop offset bytes)) s.there)
     ∙ number_spelled order n x _ h
 
--- parts side by side up to a place, and others from there on, are side by side when joined
+-- parts side by side up to an offset, and others from there on, are side by side when joined
 pub spans_append : (start middle end : ℕ) (ps qs : List Part) → Spans start ps middle → Spans middle qs end → Spans start (ps ++ qs) end
 spans_append start middle end [] qs s t = let P : ℕ → Type 0 = λ n. Spans n qs end in rw s t
-spans_append start middle end (p ∷ ps) qs s t = (s.0, s.1, spans_append (p.place + length p.text) middle end ps qs s.2 t)
+spans_append start middle end (p ∷ ps) qs s t = (s.0, s.1, spans_append (p.offset + length p.text) middle end ps qs s.2 t)
 
 -- what is laid side by side has the length of all
 pub length-laid : (start end : ℕ) (ps : List Part) → Spans start ps end → start + length (laid start ps) ≡ end
 length-laid start end [] s = omega arith
 length-laid start end (p ∷ ps) s =
     let low = s.0 in
-    let more = length-laid (p.place + length p.text) end ps s.2 in
-    let gap : List ℕ = replicate (p.place - start) 0 in
-    let zeros : length gap ≡ p.place - start = length-replicate (p.place - start) 0 in
-    let b = length-append p.text (laid (p.place + length p.text) ps) in
-    let a : length (laid start (p ∷ ps)) ≡ length gap + length (p.text ++ laid (p.place + length p.text) ps) =
-    length-append gap (p.text ++ laid (p.place + length p.text) ps) in
+    let more = length-laid (p.offset + length p.text) end ps s.2 in
+    let gap : List ℕ = replicate (p.offset - start) 0 in
+    let zeros : length gap ≡ p.offset - start = length-replicate (p.offset - start) 0 in
+    let b = length-append p.text (laid (p.offset + length p.text) ps) in
+    let a : length (laid start (p ∷ ps)) ≡ length gap + length (p.text ++ laid (p.offset + length p.text) ps) =
+    length-append gap (p.text ++ laid (p.offset + length p.text) ps) in
     omega arith
 
--- each part stands at its place
+-- each part stands at its offset
 pub laid_stand : (bytes front : List ℕ) (start end : ℕ) (ps : List Part) → Spans start ps end → bytes ≡ front ++ laid start ps → length front ≡ start → AllStand bytes ps
 laid_stand bytes front start end [] s e h = tt
 laid_stand bytes front start end (p ∷ ps) s e h =
-    let zeros : List ℕ = replicate (p.place - start) 0 in
-    let rest : List ℕ = laid (p.place + length p.text) ps in
+    let zeros : List ℕ = replicate (p.offset - start) 0 in
+    let rest : List ℕ = laid (p.offset + length p.text) ps in
     let low = s.0 in
-    let zeros_len : length zeros ≡ p.place - start = length-replicate (p.place - start) 0 in
-    let front_len : length (front ++ zeros) ≡ p.place = (let a = length-append front zeros in omega arith) in
+    let zeros_len : length zeros ≡ p.offset - start = length-replicate (p.offset - start) 0 in
+    let front_len : length (front ++ zeros) ≡ p.offset = (let a = length-append front zeros in omega arith) in
     let at_front : bytes ≡ (front ++ zeros) ++ (p.text ++ rest) = e ∙ sym (append_assoc front zeros (p.text ++ rest)) in (
-      stands_of bytes (front ++ zeros) p.text rest p.place at_front front_len,
-      laid_stand bytes ((front ++ zeros) ++ p.text) (p.place + length p.text) end ps s.2
+      stands_of bytes (front ++ zeros) p.text rest p.offset at_front front_len,
+      laid_stand bytes ((front ++ zeros) ++ p.text) (p.offset + length p.text) end ps s.2
           (at_front ∙ sym (append_assoc (front ++ zeros) p.text rest))
           (length-append (front ++ zeros) p.text ∙ ap (λ n. n + length p.text) front_len),
     )
@@ -104,15 +104,15 @@ pub laid_zero : (start end i : ℕ) (ps : List Part) → Spans start ps end → 
 laid_zero start end i [] s h = refl
 laid_zero start end i (p ∷ ps) s h =
     let low = s.0 in
-    let gap : List ℕ = replicate (p.place - start) 0 in
-    let rest : List ℕ = laid (p.place + length p.text) ps in
-    let gap_len : length gap ≡ p.place - start = length-replicate (p.place - start) 0 in
+    let gap : List ℕ = replicate (p.offset - start) 0 in
+    let rest : List ℕ = laid (p.offset + length p.text) ps in
+    let gap_len : length gap ≡ p.offset - start = length-replicate (p.offset - start) 0 in
     ⊎_elim
-    (λ before. let k : i < p.place - start = omega arith in
-    get_or_append_left gap (p.text ++ rest) 0 i (omega arith) ∙ get_or-replicate (p.place - start) i 0 0 k)
+    (λ before. let k : i < p.offset - start = omega arith in
+    get_or_append_left gap (p.text ++ rest) 0 i (omega arith) ∙ get_or-replicate (p.offset - start) i 0 0 k)
     (λ behind. let text_len : length p.text ≤ i - length gap = omega arith in
-    let next : start + i ≡ p.place + length p.text + (i - length gap - length p.text) = omega arith in
+    let next : start + i ≡ p.offset + length p.text + (i - length gap - length p.text) = omega arith in
     get_or-append_right gap (p.text ++ rest) i 0 (omega arith)
     ∙ get_or-append_right p.text rest (i - length gap) 0 text_len
-    ∙ laid_zero (p.place + length p.text) end (i - length gap - length p.text) ps s.2 (subst (λ (n : ℕ). AllByRecursion (IsOutside n) ps) next h.1))
+    ∙ laid_zero (p.offset + length p.text) end (i - length gap - length p.text) ps s.2 (subst (λ (n : ℕ). AllByRecursion (IsOutside n) ps) next h.1))
     h.0

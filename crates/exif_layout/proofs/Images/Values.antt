@@ -70,7 +70,7 @@ length-encode order (Short xs) h = length_flat (spelled order 2) 2 (length_spell
 length-encode order (Long xs) h = length_flat (spelled order 4) 4 (length_spelled order 4) xs
 length-encode order (Rational xs) h = length_flat (λ x. spelled order 4 x.num ++ spelled order 4 x.denom) 8 (λ x. length_pair order x.num x.denom) xs
 length-encode order (SByte xs) h = length_flat (λ x. cast_unsigned w8 x ∷ []) 1 (λ x. refl) xs
-length-encode order (Undefined xs place) h = omega arith
+length-encode order (Undefined xs offset) h = omega arith
 length-encode order (SShort xs) h = length_flat (λ x. spelled order 2 (cast_unsigned w16 x)) 2 (λ x. length_spelled order 2 (cast_unsigned w16 x)) xs
 length-encode order (SLong xs) h = length_flat (λ x. spelled order 4 (cast_unsigned w32 x)) 4 (λ x. length_spelled order 4 (cast_unsigned w32 x)) xs
 length-encode order (SRational xs) h =
@@ -78,7 +78,7 @@ length-encode order (SRational xs) h =
     (λ x. length_pair order (cast_unsigned w32 x.num) (cast_unsigned w32 x.denom)) xs
 length-encode order (Float xs) h = length_flat (spelled order 4) 4 (length_spelled order 4) xs
 length-encode order (Double xs) h = length_flat (spelled order 8) 8 (length_spelled order 8) xs
-length-encode order (Unknown type count place) h = absurd cc
+length-encode order (Unknown type count offset) h = absurd cc
 
 first_is : (xs : List ℕ) (b : ℕ) → take 1 xs ≡ b ∷ [] → get_or xs 0 0 ≡ b
 first_is [] b h = ap (λ l. get_or l 0 0) h
@@ -135,7 +135,7 @@ module _ (order : Order) (bytes : List ℕ) where
       let b = signed_read w32 4 refl x.denom (p + 4) h.1 (second_stands n d p (length_spelled order 4 (cast_unsigned w32 x.num)) s) in
       λ i. record { num = a i; denom = b i }
 
-  -- a value that fits is read from where its bytes stand, an undefined one with that place
+  -- a value that fits is read from where its bytes stand, an undefined one with that offset
   pub decode_read : (value : Value) (p : ℕ) → Fits value → Stands bytes p (encode order value) → decode (number_of order) (type_number value) (count_of value) bytes p ≡ moved_to p value
   decode_read (Byte xs) p h s = ap Byte s.there
   decode_read (Ascii xs) p h s = ap Ascii (ap texts s.there ∙ texts_ended xs h)
@@ -144,11 +144,11 @@ module _ (order : Order) (bytes : List ℕ) where
   decode_read (Rational xs) p h s = ap Rational (items_read (rational_at (number_of order) bytes) (λ x. spelled order 4 x.num ++ spelled order 4 x.denom) 8
       (λ x. (x.num < 256 ^ 4) × (x.denom < 256 ^ 4)) bytes rational_read (λ x. length_pair order x.num x.denom) xs p h s)
   decode_read (SByte xs) p h s = ap SByte (sbytes_read xs p h s)
-  decode_read (Undefined xs place) p h s = ap (λ x. Undefined x p) s.there
+  decode_read (Undefined xs offset) p h s = ap (λ x. Undefined x p) s.there
   decode_read (SShort xs) p h s = ap SShort (signeds_read w16 2 refl xs p h s)
   decode_read (SLong xs) p h s = ap SLong (signeds_read w32 4 refl xs p h s)
   decode_read (SRational xs) p h s = ap SRational (items_read (srational_at (number_of order) bytes) (λ x. spelled order 4 (cast_unsigned w32 x.num) ++ spelled order 4 (cast_unsigned w32 x.denom)) 8
       (λ x. FitsSigned w32 x.num × FitsSigned w32 x.denom) bytes srational_read (λ x. length_pair order (cast_unsigned w32 x.num) (cast_unsigned w32 x.denom)) xs p h s)
   decode_read (Float xs) p h s = ap Float (numbers_read 4 xs p h s)
   decode_read (Double xs) p h s = ap Double (numbers_read 8 xs p h s)
-  decode_read (Unknown type count place) p h s = absurd h
+  decode_read (Unknown type count offset) p h s = absurd h

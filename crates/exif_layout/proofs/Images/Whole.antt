@@ -1,4 +1,4 @@
--- What an image that is written is: its parts stand side by side, each at its place.
+-- What an image that is written is: its parts stand side by side, each at its offset.
 use Rattle.std.proofs.Common.{◌∙◌}
 use Rattle.exif_layout.proofs.Moved.{same_moved}
 use Rattle.std.proofs.Common.{◌≡◌, ℕ, ◌+◌, ◌<◌, ◌≤◌, List, [], ◌∷◌, length, refl, subst, arith, Bool, true, false, map, Option, Some, None}
@@ -14,7 +14,7 @@ use Rattle.exif_table.specs.declared.context.Context.TheVariants.{Tiff, Exif, Gp
 use Rattle.exif_layout.specs.Groups.{Group, Entry, blocks_in, pushed_in}
 use Rattle.exif_layout.specs.declared.block_kind.BlockKind.{BlockKind}
 use Rattle.exif_layout.specs.Slots.{set_slots, slots_of, tiff_slots, exif_slots, gps_slots, interop_slots, draft_of, known}
-use Rattle.exif_layout.specs.Places.{draft_end, drafts_end, next_place}
+use Rattle.exif_layout.specs.Offsets.{draft_end, drafts_end, next_offset}
 use Rattle.exif_layout.specs.Image.{parts_from, parts, image}
 use Rattle.exif_layout.specs.Refused.{contexts, write_fault, first_group_fault, group_fault, any_over, any_unknown, is_unknown}
 use Rattle.exif_layout.specs.declared.write_fault.WriteFault.{WriteFault}
@@ -22,7 +22,7 @@ use Rattle.exif_layout.specs.declared.write_fault.WriteFault.TheVariants.{EmptyD
 use Rattle.exif_layout.specs.Layout.{Spans, IsOutside}
 use Rattle.exif_layout.proofs.Images.Words.{AllStand, AllKnown, IsKnown, IsAccepted}
 use Rattle.exif_layout.proofs.Images.Standing.{spans_append, laid_stand, laid_zero, length-laid}
-use Rattle.exif_layout.proofs.Images.Places.{draft_spans}
+use Rattle.exif_layout.proofs.Images.Offsets.{draft_spans}
 use Rattle.exif_layout.proofs.Images.Slots.{all_slots}
 
 none_passes : {X : Type 0} (test : X → Bool) (xs : List X) → list_any test xs ≡ false → AllByRecursion (λ x. test x ≡ false) xs
@@ -98,8 +98,8 @@ known_blocks : (kind : BlockKind) (texts : Option (List (List ℕ))) → AllKnow
 known_blocks kind None = tt
 known_blocks kind (Some texts) = (tt, (tt, tt))
 
-known_moved : (place : ℕ) (value : Value) → is_unknown value ≡ false → is_unknown (moved_to place value) ≡ false
-known_moved place value h = (same_moved value place).unknown ∙ h
+known_moved : (offset : ℕ) (value : Value) → is_unknown value ≡ false → is_unknown (moved_to offset value) ≡ false
+known_moved offset value h = (same_moved value offset).unknown ∙ h
 
 known_entries : (entries : List Entry) → AllByRecursion (λ entry. is_unknown entry.value ≡ false) entries → AllByRecursion (λ entry. IsKnown (known entry).content) entries
 known_entries [] h = tt
@@ -119,7 +119,7 @@ parts_from_span order start [] h = refl
 parts_from_span order start (group ∷ groups) h =
     let end : ℕ = draft_end (draft_of group) start in
     spans_append start end (drafts_end end (map draft_of groups)) _ _
-    (draft_spans order (draft_of group) start (next_place end (map draft_of groups)) h.0.some (known_slots group h.0))
+    (draft_spans order (draft_of group) start (next_offset end (map draft_of groups)) h.0.some (known_slots group h.0))
     (parts_from_span order end groups h.1)
 
 -- The parts of an image stand side by side from 0 to its end, with single bytes between.
@@ -127,21 +127,21 @@ pub parts_span : (order : Order) (groups : List Group) → AllByRecursion IsAcce
 parts_span Big groups h = (omega arith, omega arith, parts_from_span Big 8 groups h)
 parts_span Little groups h = (omega arith, omega arith, parts_from_span Little 8 groups h)
 
--- the image of accepted groups is as long as the place where the last draft ends
+-- the image of accepted groups is as long as the offset where the last draft ends
 pub length-image : (order : Order) (groups : List Group) → AllByRecursion IsAccepted groups → length (image order groups) ≡ drafts_end 8 (map draft_of groups)
 unfolding image
 length-image order groups h = let e = length-laid 0 (drafts_end 8 (map draft_of groups)) (parts order (map draft_of groups)) (parts_span order groups h) in omega arith
 
--- each part of an image stands at its place
+-- each part of an image stands at its offset
 pub parts_stand : (order : Order) (groups : List Group) → AllByRecursion IsAccepted groups → AllStand (image order groups) (parts order (map draft_of groups))
 unfolding image
 parts_stand order groups h =
     laid_stand (image order groups) [] 0 (drafts_end 8 (map draft_of groups)) (parts order (map draft_of groups)) (parts_span order groups h) refl refl
 
 -- what no part of an image stands at is zero
-pub pads_zero : (order : Order) (groups : List Group) → AllByRecursion IsAccepted groups → (place : ℕ) → AllByRecursion (IsOutside place) (parts order (map draft_of groups)) → slice_index (image order groups) place ≡ 0
+pub pads_zero : (order : Order) (groups : List Group) → AllByRecursion IsAccepted groups → (offset : ℕ) → AllByRecursion (IsOutside offset) (parts order (map draft_of groups)) → slice_index (image order groups) offset ≡ 0
 unfolding image
-pads_zero order groups h place outside =
-    let e : place ≡ 0 + place = omega arith in
-    laid_zero 0 (drafts_end 8 (map draft_of groups)) place (parts order (map draft_of groups)) (parts_span order groups h)
+pads_zero order groups h offset outside =
+    let e : offset ≡ 0 + offset = omega arith in
+    laid_zero 0 (drafts_end 8 (map draft_of groups)) offset (parts order (map draft_of groups)) (parts_span order groups h)
     (subst (λ (n : ℕ). AllByRecursion (IsOutside n) (parts order (map draft_of groups))) e outside)

@@ -19,7 +19,7 @@ pub fn pushing_keeps()
 {}
 
 /// Each field of an image is a pushed entry of its directory or names blocks that were set, and
-/// after pushes alone it is one of the pushed fields. An undefined value has its new place. Each
+/// after pushes alone it is one of the pushed fields. An undefined value has its new offset. Each
 /// directory holds what was pushed into it, in tag order, equal tags in push order.
 pub fn images_hold_what_was_pushed()
     ensures groups { (groups : List Group) → HasPushedAndBlocks groups }

@@ -3,9 +3,9 @@
 mod picture;
 
 use exif::{DateTime, Error, Exif};
-use exif_examples::changing::{erase_place, set_orientation, without_metadata, without_place};
+use exif_examples::changing::{erase_location, set_orientation, without_metadata, without_location};
 use exif_examples::dates::date_taken;
-use exif_examples::places::place;
+use exif_examples::locations::location;
 use exif_examples::reading::{
     field_lines, orientation, print_orientation, read_damaged, read_fields, read_from_stranger,
     read_picture, size, thumbnail,
@@ -68,7 +68,7 @@ fn when_it_was_taken(rt: HostRuntime) -> Result<(), Fail> {
 fn where_it_was_taken(rt: HostRuntime) -> Result<(), Fail> {
     let alloc = rt.alloc();
     let exif = read(alloc)?;
-    let Some((latitude, longitude)) = place(&exif) else {
+    let Some((latitude, longitude)) = location(&exif) else {
         return Err(Fail::new("no place"));
     };
     is_text(shown(alloc, &latitude)?.as_str(), "33° 51' 35.9\" S")?;
@@ -161,22 +161,22 @@ fn an_orientation_set(rt: HostRuntime) -> Result<(), Fail> {
 }
 
 #[test]
-fn a_place_erased(rt: HostRuntime) -> Result<(), Fail> {
+fn a_location_erased(rt: HostRuntime) -> Result<(), Fail> {
     let alloc = rt.alloc();
     let mut picture = Vec::from_slice(alloc, PICTURE)?;
-    assert!(rt; erase_place(alloc, picture.as_mut_slice()).is_ok());
+    assert!(rt; erase_location(alloc, picture.as_mut_slice()).is_ok());
     let exif = read_picture(alloc, Cursor::new(picture.as_slice()))?;
-    assert!(rt; place(&exif).is_none());
+    assert!(rt; location(&exif).is_none());
     assert!(rt; exif.fields().len() == 14);
     Ok(())
 }
 
 #[test]
-fn fields_without_a_place(rt: HostRuntime) -> Result<(), Fail> {
+fn fields_without_a_location(rt: HostRuntime) -> Result<(), Fail> {
     let alloc = rt.alloc();
-    let data = without_place(alloc, &read(alloc)?)?;
+    let data = without_location(alloc, &read(alloc)?)?;
     let exif = read_picture(alloc, Cursor::new(data.as_slice()))?;
-    assert!(rt; place(&exif).is_none());
+    assert!(rt; location(&exif).is_none());
     assert!(rt; orientation(&exif) == Some(6));
     Ok(())
 }

@@ -5,7 +5,7 @@ use exif_types::Value;
 use std::process::Abort;
 
 /// What a list of three answers of its places.
-fn assert_places(rt: &impl Abort, items: &Items<u16>) {
+fn assert_positions(rt: &impl Abort, items: &Items<u16>) {
     assert!(rt; items.first() == Some(&8) && items.last() == Some(&10));
     assert!(rt; items.get(1) == Some(&9) && items.get(3).is_none());
 }
@@ -27,7 +27,7 @@ fn a_list_is_looked_at_as_a_vector(rt: HostRuntime) {
     let items = Items::from_slice(rt.alloc(), &[8u16, 9, 10]).expect(&rt, "memory");
     assert!(rt; items[0] == 8 && items[2] == 10);
     assert!(rt; items.len() == 3 && !items.is_empty());
-    assert_places(&rt, &items);
+    assert_positions(&rt, &items);
     assert!(rt; last_of(&items) == Some(10));
     assert!(rt; sum_of(&items) == 27);
 }

@@ -67,7 +67,7 @@ fn more_than_a_piece_in_memory(rt: HostRuntime) {
 }
 
 #[test]
-fn a_place_behind_the_end(rt: HostRuntime) {
+fn an_index_behind_the_end(rt: HostRuntime) {
     let mut list = begun(&rt);
     let mut behind = Cursor::new(DIGITS);
     behind.set_position(u64::MAX);

@@ -1,7 +1,7 @@
 use Rattle.std.proofs.lemmas.Result.{err_from_is_err_and}
 use Rattle.exif_types.specs.Refusals.{Gives}
 use Rattle.exif_isobmff.specs.ItemView.{item_view}
-use Rattle.exif_isobmff.proofs.ExifNames.{exif_place_only}
+use Rattle.exif_isobmff.proofs.ExifNames.{exif_item_only}
 use Rattle.exif_containers.proofs.IsobmffNames.{fails_named}
 use Rattle.exif_containers.proofs.IsobmffFile.{item_fails, beside_gives, in_file_gives}
 use Rattle.exif_containers.proofs.isobmff.exif_behind.Goals as goal
@@ -15,7 +15,7 @@ returns-in_err-location-clause-gives g c =
 pub returns-in_err-location-clause-named : goal.returns-in_err-location-clause-named
 returns-in_err-location-clause-named g c =
     let p = err_from_is_err_and c.from_residual.result c.from_residual.ensures.1 in
-    rw (p.1, p.2) (fails_named c.in_err-location.field-0.0 _ (exif_place_only _) c.in_err-location.ensures.gives)
+    rw (p.1, p.2) (fails_named c.in_err-location.field-0.0 _ (exif_item_only _) c.in_err-location.ensures.gives)
 
 pub returns-then-location-ne0-clause-gives : goal.returns-then-location-ne0-clause-gives
 returns-then-location-ne0-clause-gives g c =

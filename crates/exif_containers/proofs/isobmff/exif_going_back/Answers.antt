@@ -2,7 +2,7 @@ use Rattle.std.proofs.Common.{◌-◌, rules}
 use Rattle.std.proofs.lemmas.Result.{err_from_is_err_and}
 use Rattle.exif_types.specs.Refusals.{Gives}
 use Rattle.exif_isobmff.specs.ItemView.{item_view}
-use Rattle.exif_isobmff.proofs.ExifNames.{exif_place_only}
+use Rattle.exif_isobmff.proofs.ExifNames.{exif_item_only}
 use Rattle.exif_containers.proofs.IsobmffBack.{back_fails, back_beside, back_gives}
 use Rattle.exif_containers.proofs.IsobmffNames.{fails_named}
 use Rattle.exif_containers.proofs.isobmff.exif_going_back.Goals as goal
@@ -10,7 +10,7 @@ use Rattle.exif_containers.proofs.isobmff.exif_going_back.Goals as goal
 pub returns-in_err-location-clause-named : goal.returns-in_err-location-clause-named
 returns-in_err-location-clause-named g c =
     let p = err_from_is_err_and c.from_residual-in_err-location.result c.from_residual-in_err-location.ensures.1 in
-    rw (p.1, p.2) (fails_named c.in_err-location.field-0.0 _ (exif_place_only _) c.in_err-location.ensures.gives)
+    rw (p.1, p.2) (fails_named c.in_err-location.field-0.0 _ (exif_item_only _) c.in_err-location.ensures.gives)
 
 pub returns-in_err-location-clause-gives : goal.returns-in_err-location-clause-gives
 returns-in_err-location-clause-gives g c =

@@ -1,7 +1,7 @@
 use Rattle.std.proofs.Common.{◌≡◌, ◌++◌, None, Ok}
 use Rattle.std.proofs.lemmas.Result.{err_from_is_err_and}
 use Rattle.exif_types.specs.Refusals.{Fails}
-use Rattle.exif_isobmff.specs.Places.{item_bytes, location_view}
+use Rattle.exif_isobmff.specs.ItemLocations.{item_bytes, location_view}
 use Rattle.exif_isobmff.proofs.ExifNames.{after_header_only}
 use Rattle.exif_containers.proofs.IsobmffNames.{fails_named}
 use Rattle.exif_containers.proofs.IsobmffFile.{block_fails, block_read}

@@ -6,5 +6,5 @@ use Rattle.exif_edit.proofs.alone.changes.Given as goal
 -- no patch so far has a byte of the stretch
 abbrev pub invariant-loop-patch : goal.invariant-loop-patch
 invariant-loop-patch l =
-    list_any (covers (record { place = l.place; len = l.len })) (take l.patch-index l.patches)
+    list_any (covers (record { offset = l.offset; len = l.len })) (take l.patch-index l.patches)
     ≡ false

@@ -7,7 +7,7 @@ use Rattle.exif_edit.proofs.alone.changes_value.Goals as goal
 
 pub changes-requires-clause-stretch : goal.changes-requires-clause-stretch
 changes-requires-clause-stretch c =
-    let near = subst (λ (s : Span). s.place + s.len ≤ length c.args.bytes.now)
+    let near = subst (λ (s : Span). s.offset + s.len ≤ length c.args.bytes.now)
     (sym c.value_span-value.ensures)
     (value_near (number_of c.args.order) c.args.bytes.now c.args.at) in
     omega (arith, near)

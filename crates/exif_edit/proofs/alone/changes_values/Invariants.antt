@@ -3,7 +3,7 @@ use Rattle.std.specs.List.{flat_map, list_any}
 use Rattle.exif_base.specs.Bytes.{spaced}
 use Rattle.exif_base.specs.Orders.{number_of}
 use Rattle.exif_tiff.specs.Footprint.{value_stretch}
-use Rattle.exif_tiff.specs.Trace.{entry_places}
+use Rattle.exif_tiff.specs.Trace.{entry_offsets}
 use Rattle.exif_edit.specs.Changing.{changes}
 use Rattle.exif_edit.proofs.alone.changes_values.Given as goal
 
@@ -16,5 +16,5 @@ invariant-loop l =
       follows : list_any (changes l.patches)
           (flat_map value (spaced l.at 12 (l.end - l.counter)))
           ≡ list_any (changes l.patches)
-          (flat_map value (entry_places (number_of l.order) l.bytes l.place));
+          (flat_map value (entry_offsets (number_of l.order) l.bytes l.offset));
     }

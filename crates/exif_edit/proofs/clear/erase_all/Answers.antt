@@ -7,7 +7,7 @@ use Rattle.exif_edit.proofs.clear.erase_all.Goals as goal
 pub returns-in-Ok-clause-answer : goal.returns-in-Ok-clause-answer
 returns-in-Ok-clause-answer c =
     let made = cleared_bytes c.in-Ok.order c.args.bytes.now c.put_first.new.bytes
-    c.zero_behind.new.bytes c.empty_place.result c.empty_place.ensures c.put_first.ensures.value
+    c.zero_behind.new.bytes c.empty_offset.result c.empty_offset.ensures c.put_first.ensures.value
     c.put_first.ensures.len c.zero_behind.ensures.value in
     answer_made (clear_patches c.args.bytes.now) c.args.bytes.now
     (clearing c.in-Ok.order (length c.args.bytes.now))
@@ -17,7 +17,7 @@ returns-in-Ok-clause-answer c =
 pub returns-in-Ok-clause-cleared : goal.returns-in-Ok-clause-cleared
 returns-in-Ok-clause-cleared c =
     let made = cleared_bytes c.in-Ok.order c.args.bytes.now c.put_first.new.bytes
-    c.zero_behind.new.bytes c.empty_place.result c.empty_place.ensures c.put_first.ensures.value
+    c.zero_behind.new.bytes c.empty_offset.result c.empty_offset.ensures c.put_first.ensures.value
     c.put_first.ensures.len c.zero_behind.ensures.value in
     subst (λ xs. IsCleared c.args.bytes.now xs) (sym made)
     (clear_sound c.args.bytes.now c.in-Ok.order (sym c.header.ensures.value ∙ c.in-Ok.is))

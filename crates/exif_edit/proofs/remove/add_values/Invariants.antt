@@ -11,12 +11,12 @@ use Rattle.exif_edit.proofs.remove.add_values.Given as goal
 abbrev pub invariant-loop : goal.invariant-loop
 invariant-loop l = record {
   room : l.counter < l.count → l.at + 12 * (l.count - l.counter) ≤ length l.bytes;
-  bound : l.at ≡ l.place + 2 + 12 * l.counter;
+  bound : l.at ≡ l.offset + 2 + 12 * l.counter;
   rest : l.patches.items
       ++ map zeros_over
       (map (value_span (number_of l.order) l.bytes)
       (filter (has_tag (number_of l.order) l.bytes l.number)
       (spaced l.at 12 (l.count - l.counter))))
       ≡ l.fn.patches.items
-      ++ map zeros_over (taken_spans (number_of l.order) l.bytes l.number l.place);
+      ++ map zeros_over (taken_spans (number_of l.order) l.bytes l.number l.offset);
 }

@@ -6,7 +6,7 @@ use Rattle.exif_edit.proofs.remove.directories_with.Given as goal
 abbrev pub invariant-loop-i : goal.invariant-loop-i
 invariant-loop-i l = record {
   within : l.i ≤ length l.fields;
-  noted : l.places.items ≡ directories_with l.tag l.ifd_num (drop l.i l.fields)
+  noted : l.offsets.items ≡ directories_with l.tag l.ifd_num (drop l.i l.fields)
       (drop l.i l.entries);
 }
 

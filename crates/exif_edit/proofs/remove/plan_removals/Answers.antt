@@ -16,30 +16,30 @@ pub directories_with-requires : goal.directories_with-requires
 directories_with-requires c =
     rw (c.as_slice.ensures.value, c.entries.ensures)
     (as_many c.args.bytes.now (read_of c.in_ok-parsed.field-0.parsed) c.in_ok-parsed.field-0.walk.entries
-    c.in_ok-parsed.ensures.reads c.in_ok-parsed.ensures.places.entries)
+    c.in_ok-parsed.ensures.reads c.in_ok-parsed.ensures.offsets.entries)
 
 pub returns-then-is_empty-clause-answer : goal.returns-then-is_empty-clause-answer
 returns-then-is_empty-clause-answer c =
     none_named c.args.bytes.now c.args.tag c.args.ifd_num (read_of c.in_ok-parsed.field-0.parsed)
-    c.in_ok-parsed.field-0.walk.entries c.in_ok-places.places.items c.in_ok-parsed.ensures.reads
-    c.in_ok-parsed.ensures.places.entries
-    (rw (c.as_slice.ensures.value, c.entries.ensures) at c.in_ok-places.ensures)
-    (rw c.as_slice-places.ensures.value at (sym c.is_empty.ensures ∙ c.if-is_empty.true))
+    c.in_ok-parsed.field-0.walk.entries c.in_ok-offsets.offsets.items c.in_ok-parsed.ensures.reads
+    c.in_ok-parsed.ensures.offsets.entries
+    (rw (c.as_slice.ensures.value, c.entries.ensures) at c.in_ok-offsets.ensures)
+    (rw c.as_slice-offsets.ensures.value at (sym c.is_empty.ensures ∙ c.if-is_empty.true))
 
 pub returns-clause-answer : goal.returns-clause-answer
 unfolding planned
 returns-clause-answer c =
     remove_wanted c.args.bytes.now c.args.tag c.args.ifd_num
-    (read_of c.in_ok-parsed.field-0.parsed) c.in_ok-parsed.field-0.walk.entries c.in_ok-places.places.items
+    (read_of c.in_ok-parsed.field-0.parsed) c.in_ok-parsed.field-0.walk.entries c.in_ok-offsets.offsets.items
     c.in_ok-patches.patches.items c.drop_named.new.fields.items c.order_named-order.result
-    c.in_ok-parsed.ensures.reads c.in_ok-parsed.ensures.places.entries
-    (rw (c.as_slice.ensures.value, c.entries.ensures) at c.in_ok-places.ensures)
-    c.order_named-order.ensures (rw c.as_slice-places.ensures.value at c.in_ok-patches.ensures)
+    c.in_ok-parsed.ensures.reads c.in_ok-parsed.ensures.offsets.entries
+    (rw (c.as_slice.ensures.value, c.entries.ensures) at c.in_ok-offsets.ensures)
+    c.order_named-order.ensures (rw c.as_slice-offsets.ensures.value at c.in_ok-patches.ensures)
     c.drop_named.ensures
-    (rw c.as_slice-places.ensures.value at (sym c.is_empty.ensures ∙ c.if-is_empty.false))
+    (rw c.as_slice-offsets.ensures.value at (sym c.is_empty.ensures ∙ c.if-is_empty.false))
 
 pub returns-clause-within : goal.returns-clause-within
 returns-clause-within c =
     rw c.in_ok-patches.ensures
     (removals_fit c.order_named-order.result c.args.bytes.now c.args.tag.1
-    c.as_slice-places.result.now)
+    c.as_slice-offsets.result.now)

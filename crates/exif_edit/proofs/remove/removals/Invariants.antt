@@ -6,16 +6,16 @@ use Rattle.exif_edit.specs.Removing.{directory_patches, removals, taken_spans}
 use Rattle.exif_edit.proofs.remove.removals.Given as goal
 
 -- what is left of the directories adds what all of them do
-abbrev pub invariant-loop-place : goal.invariant-loop-place
-invariant-loop-place l =
+abbrev pub invariant-loop-offset : goal.invariant-loop-offset
+invariant-loop-offset l =
     l.patches.items ++ flat_map (directory_patches l.order l.bytes l.number)
-    (drop l.place-index l.places)
-    ≡ flat_map (directory_patches l.order l.bytes l.number) l.places
+    (drop l.offset-index l.offsets)
+    ≡ flat_map (directory_patches l.order l.bytes l.number) l.offsets
 
 -- so of their values
-abbrev pub invariant-loop-place-2 : goal.invariant-loop-place-2
-invariant-loop-place-2 l =
+abbrev pub invariant-loop-offset-2 : goal.invariant-loop-offset-2
+invariant-loop-offset-2 l =
     l.patches.items
     ++ map zeros_over
-    (flat_map (taken_spans (number_of l.order) l.bytes l.number) (drop l.place-index l.places))
-    ≡ removals l.order l.bytes l.number l.places
+    (flat_map (taken_spans (number_of l.order) l.bytes l.number) (drop l.offset-index l.offsets))
+    ≡ removals l.order l.bytes l.number l.offsets

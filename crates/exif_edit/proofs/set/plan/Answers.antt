@@ -2,19 +2,19 @@ use Rattle.std.proofs.Common.{sym, ◌∙◌}
 use Rattle.exif_edit.proofs.SetSteps.{set_named, set_unknown, set_known}
 use Rattle.exif_edit.proofs.set.plan.Goals as goal
 
-pub returns-then-names_places-clause-answer : goal.returns-then-names_places-clause-answer
-returns-then-names_places-clause-answer c =
+pub returns-then-names_offsets-clause-answer : goal.returns-then-names_offsets-clause-answer
+returns-then-names_offsets-clause-answer c =
     set_named c.args.bytes.now c.args.tag c.args.ifd_num c.args.value.now
-    (sym c.names_places.ensures ∙ c.if-names_places.true)
+    (sym c.names_offsets.ensures ∙ c.if-names_offsets.true)
 
 pub returns-then-is_unknown-clause-answer : goal.returns-then-is_unknown-clause-answer
 returns-then-is_unknown-clause-answer c =
     set_unknown c.args.bytes.now c.args.tag c.args.ifd_num c.args.value.now
-    (sym c.names_places.ensures ∙ c.if-names_places.false)
+    (sym c.names_offsets.ensures ∙ c.if-names_offsets.false)
     (sym c.is_unknown.ensures ∙ c.if-is_unknown.true)
 
 pub returns-clause-answer : goal.returns-clause-answer
 returns-clause-answer c =
     rw (set_known c.args.bytes.now c.args.tag c.args.ifd_num c.args.value.now
-    (sym c.names_places.ensures ∙ c.if-names_places.false)
+    (sym c.names_offsets.ensures ∙ c.if-names_offsets.false)
     (sym c.is_unknown.ensures ∙ c.if-is_unknown.false)) at c.plan_known.ensures.answer

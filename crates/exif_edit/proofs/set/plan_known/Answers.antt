@@ -56,7 +56,7 @@ unfolding planned
 returns-clause-answer c =
     set_wanted c.args.bytes.now c.in_ok-edit.edit.patches.items c.args.tag
     c.args.ifd_num c.args.value.now c.in_ok-moved.moved (read_of c.in_ok-found.found.parsed)
-    c.in_ok-found.found.entry c.in_ok-edit.edit.place c.set_field.new.fields.items
+    c.in_ok-found.found.entry c.in_ok-edit.edit.offset c.set_field.new.fields.items
     c.order_named-order.result
     c.in_ok-found.ensures.answer c.order_named-order.ensures c.in_ok-edit.ensures.answer
-    c.set_field.ensures c.in_ok-moved.ensures.answer c.in_ok-edit.ensures.place
+    c.set_field.ensures c.in_ok-moved.ensures.answer c.in_ok-edit.ensures.offset

@@ -14,16 +14,16 @@ returns-in-None-clause-answer c =
     find_missing c.args.bytes.now c.args.tag c.args.ifd_num (read_of c.in_ok-parsed.field-0.parsed)
     c.in_ok-parsed.ensures.reads (rw c.as_slice.ensures.value at c.in-None.ensures)
 
-pub at-place-requires : goal.at-place-requires
-at-place-requires c =
+pub at-offset-requires : goal.at-offset-requires
+at-offset-requires c =
     rw c.entries.ensures
     (entry_below c.args.bytes.now c.args.tag c.args.ifd_num (read_of c.in_ok-parsed.field-0.parsed)
     c.in-Some.index c.in_ok-parsed.field-0.walk.entries c.in_ok-parsed.ensures.reads
-    (rw c.as_slice.ensures.value at c.in-Some.ensures) c.in_ok-parsed.ensures.places.entries)
+    (rw c.as_slice.ensures.value at c.in-Some.ensures) c.in_ok-parsed.ensures.offsets.entries)
 
 pub returns-in-Some-clause-answer : goal.returns-in-Some-clause-answer
 returns-in-Some-clause-answer c =
     find_found c.args.bytes.now c.args.tag c.args.ifd_num (read_of c.in_ok-parsed.field-0.parsed)
-    c.in-Some.index c.at-place.result c.in_ok-parsed.field-0.walk.entries c.in_ok-parsed.ensures.reads
-    (rw c.as_slice.ensures.value at c.in-Some.ensures) c.in_ok-parsed.ensures.places.entries
-    (rw c.entries.ensures at c.at-place.ensures)
+    c.in-Some.index c.at-offset.result c.in_ok-parsed.field-0.walk.entries c.in_ok-parsed.ensures.reads
+    (rw c.as_slice.ensures.value at c.in-Some.ensures) c.in_ok-parsed.ensures.offsets.entries
+    (rw c.entries.ensures at c.at-offset.ensures)

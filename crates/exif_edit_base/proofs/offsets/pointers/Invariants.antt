@@ -2,7 +2,7 @@ use Rattle.std.proofs.Common.{◌≡◌, ◌≤◌, ◌<◌, ◌+◌, ◌*◌, �
 use Rattle.std.specs.List.{flat_map}
 use Rattle.exif_base.specs.Bytes.{spaced}
 use Rattle.exif_base.specs.Orders.{number_of}
-use Rattle.exif_tiff.specs.Trace.{entry_places}
+use Rattle.exif_tiff.specs.Trace.{entry_offsets}
 use Rattle.exif_edit_base.specs.GpsOffsets.{max_pointers, pointers_in}
 use Rattle.exif_edit_base.proofs.offsets.pointers.Given as goal
 
@@ -16,5 +16,5 @@ invariant-loop l =
       rest : take max_pointers
           (l.pointers.items ++ flat_map within (spaced l.at 12 (l.end - l.counter)))
           ≡ take max_pointers
-          (flat_map within (entry_places (number_of l.order) l.bytes l.offset));
+          (flat_map within (entry_offsets (number_of l.order) l.bytes l.offset));
     }

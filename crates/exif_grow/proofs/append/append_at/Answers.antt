@@ -1,6 +1,6 @@
 use Rattle.std.proofs.Common.{ℕ, List, length, sym, ap, ◌∙◌}
-use Rattle.exif_layout.specs.Places.{even}
-use Rattle.exif_edit.specs.Setting.{set_place}
+use Rattle.exif_layout.specs.Offsets.{even}
+use Rattle.exif_edit.specs.Setting.{set_offset}
 use Rattle.exif_grow.specs.Growing.{added_of}
 use Rattle.std.proofs.lemmas.Result.{err_from_is_err_and}
 use Rattle.exif_edit_base.specs.Readings.{read_of}
@@ -41,7 +41,7 @@ returns c = record {
       (added_of c.in_ok-kept.kept) c.order_named-order.ensures c.value_room-span.ensures.value
       c.in_ok-encoded.ensures.answer c.in_ok-cleared.ensures.added c.in_ok-kept.ensures.added
       c.set_field.ensures c.in_ok-moved.ensures.answer
-      (c.offset_of.ensures ∙ ap (λ (t : List ℕ). set_place (even (length c.args.bytes.now))
+      (c.offset_of.ensures ∙ ap (λ (t : List ℕ). set_offset (even (length c.args.bytes.now))
       c.args.found.entry t) (c.as_slice.ensures.value ∙ c.in_ok-encoded.ensures.bytes))))
       c.first_read.ensures.answer;
 }

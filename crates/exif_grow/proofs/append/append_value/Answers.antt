@@ -14,15 +14,15 @@ use Rattle.exif_grow.proofs.Found.{appended_found}
 use Rattle.exif_grow.proofs.GrowthSteps.{on_ok}
 use Rattle.exif_grow.proofs.append.append_value.Goals as goal
 
-pub returns-then-names_places-clause-answer : goal.returns-then-names_places-clause-answer
-returns-then-names_places-clause-answer c =
+pub returns-then-names_offsets-clause-answer : goal.returns-then-names_offsets-clause-answer
+returns-then-names_offsets-clause-answer c =
     append_named c.args.bytes.now c.args.tag c.args.ifd_num c.args.value.now
-    (sym c.names_places.ensures ∙ c.if-names_places.true)
+    (sym c.names_offsets.ensures ∙ c.if-names_offsets.true)
 
 pub returns-then-is_unknown-clause-answer : goal.returns-then-is_unknown-clause-answer
 returns-then-is_unknown-clause-answer c =
     append_unknown c.args.bytes.now c.args.tag c.args.ifd_num c.args.value.now
-    (sym c.names_places.ensures ∙ c.if-names_places.false)
+    (sym c.names_offsets.ensures ∙ c.if-names_offsets.false)
     (sym c.is_unknown.ensures ∙ c.if-is_unknown.true)
 
 pub returns-in_err-found-clause-answer : goal.returns-in_err-found-clause-answer
@@ -34,14 +34,14 @@ returns-in_err-found-clause-answer c =
     (append_answer c.args.bytes.now c.args.tag c.args.ifd_num c.args.value.now)
     c.in_err-found.ensures.answer
     (λ r h. append_known c.args.bytes.now c.args.tag c.args.ifd_num c.args.value.now
-    (sym c.names_places.ensures ∙ c.if-names_places.false)
+    (sym c.names_offsets.ensures ∙ c.if-names_offsets.false)
     (sym c.is_unknown.ensures ∙ c.if-is_unknown.false)
     ∙ append_missing c.args.bytes.now c.args.tag c.args.ifd_num c.args.value.now r h))
 
 pub returns-clause-answer : goal.returns-clause-answer
 returns-clause-answer c =
     rw (append_known c.args.bytes.now c.args.tag c.args.ifd_num c.args.value.now
-    (sym c.names_places.ensures ∙ c.if-names_places.false)
+    (sym c.names_offsets.ensures ∙ c.if-names_offsets.false)
     (sym c.is_unknown.ensures ∙ c.if-is_unknown.false)
     ∙ append_found c.args.bytes.now c.args.tag c.args.ifd_num c.args.value.now
     (read_of c.in_ok-found.found.parsed) c.in_ok-found.found.entry c.in_ok-found.ensures.answer)

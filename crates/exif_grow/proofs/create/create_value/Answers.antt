@@ -10,21 +10,21 @@ use Rattle.exif_grow.proofs.CreateSound.{create_fits, create_sound}
 use Rattle.exif_grow.proofs.CreateSteps.{create_known, create_named, create_unknown}
 use Rattle.exif_grow.proofs.create.create_value.Goals as goal
 
-pub returns-then-names_places-clause-answer : goal.returns-then-names_places-clause-answer
-returns-then-names_places-clause-answer c =
+pub returns-then-names_offsets-clause-answer : goal.returns-then-names_offsets-clause-answer
+returns-then-names_offsets-clause-answer c =
     create_named c.args.bytes.now c.args.tag c.args.ifd_num c.args.value.now
-    (sym c.names_places.ensures ∙ c.if-names_places.true)
+    (sym c.names_offsets.ensures ∙ c.if-names_offsets.true)
 
 pub returns-then-is_unknown-clause-answer : goal.returns-then-is_unknown-clause-answer
 returns-then-is_unknown-clause-answer c =
     create_unknown c.args.bytes.now c.args.tag c.args.ifd_num c.args.value.now
-    (sym c.names_places.ensures ∙ c.if-names_places.false)
+    (sym c.names_offsets.ensures ∙ c.if-names_offsets.false)
     (sym c.is_unknown.ensures ∙ c.if-is_unknown.true)
 
 pub returns-clause-answer : goal.returns-clause-answer
 returns-clause-answer c =
     rw (create_known c.args.bytes.now c.args.tag c.args.ifd_num c.args.value.now
-    (sym c.names_places.ensures ∙ c.if-names_places.false)
+    (sym c.names_offsets.ensures ∙ c.if-names_offsets.false)
     (sym c.is_unknown.ensures ∙ c.if-is_unknown.false)) c.create.ensures.answer
 
 pub returns-clause-within : goal.returns-clause-within

@@ -1,5 +1,5 @@
 use Rattle.std.proofs.Common.{◌≡◌, ◌≤◌, [], drop, vec_len}
-use Rattle.exif_isobmff.specs.Places.{extent_bytes, gathered}
+use Rattle.exif_isobmff.specs.ItemLocations.{extent_bytes, gathered}
 use Rattle.exif_isobmff.proofs.extents.gather.Given as goal
 
 -- what was found, with what is still read, is what is read in all

@@ -1,5 +1,5 @@
 use Rattle.std.proofs.Common.{◌≡◌, ◌-◌}
-use Rattle.exif_isobmff.specs.Places.{extent_at}
+use Rattle.exif_isobmff.specs.ItemLocations.{extent_at}
 use Rattle.exif_isobmff.specs.Boxes.{times}
 use Rattle.exif_isobmff.proofs.LocationsTimes.{times_more}
 use Rattle.exif_isobmff.proofs.locations.extents.Given as goal

@@ -1,7 +1,7 @@
 use Rattle.std.proofs.Common.{sym, ◌∙◌}
 use Rattle.std.specs.Option.{option_map}
 use Rattle.std.proofs.lemmas.Result.{err_from_is_err_and}
-use Rattle.exif_isobmff.specs.Places.{location_view, location_at}
+use Rattle.exif_isobmff.specs.ItemLocations.{location_view, location_at}
 use Rattle.exif_isobmff.proofs.LocationsTimes.{last_failed, last_went_on, last_done}
 use Rattle.exif_isobmff.proofs.locations.last_location.Goals as goal
 

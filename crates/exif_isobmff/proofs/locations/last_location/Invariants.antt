@@ -2,7 +2,7 @@ use Rattle.std.proofs.Common.{◌≡◌, ◌-◌, None}
 use Rattle.std.specs.Option.{option_map}
 use Rattle.exif_types.specs.Refusals.{last_read}
 use Rattle.exif_isobmff.specs.Boxes.{times_joined}
-use Rattle.exif_isobmff.specs.Places.{location_view, location_at}
+use Rattle.exif_isobmff.specs.ItemLocations.{location_view, location_at}
 use Rattle.exif_isobmff.proofs.locations.last_location.Given as goal
 
 -- what was found and what is still read is what is read in all

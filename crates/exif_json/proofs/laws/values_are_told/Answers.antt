@@ -20,7 +20,7 @@ pub returns-clause-signed_bytes : goal.returns-clause-signed_bytes
 returns-clause-signed_bytes c = signed_bytes_told
 
 pub returns-clause-any_bytes : goal.returns-clause-any_bytes
-returns-clause-any_bytes c = (λ place. undefined_told place place)
+returns-clause-any_bytes c = (λ offset. undefined_told offset offset)
 
 pub returns-clause-signed_shorts : goal.returns-clause-signed_shorts
 returns-clause-signed_shorts c = signed_shorts_told

@@ -4,8 +4,8 @@ use Rattle.exif_tiff.specs.Trace.{content_of, cut, ordered_trace}
 use Rattle.exif_tiff.specs.Answers.{answer_of}
 use Rattle.exif_reader.specs.Running.{outcome}
 use Rattle.exif_reader.proofs.TiffAnswers.{answered, says_stop}
-use Rattle.exif_reader.specs.Noted.{TellsPlaces}
-use Rattle.exif_reader.proofs.PlacesTold.{met_places, told}
+use Rattle.exif_reader.specs.Noted.{TellsOffsets}
+use Rattle.exif_reader.proofs.OffsetsTold.{met_offsets, told}
 use Rattle.exif_reader.proofs.TiffOutcomes.{met_noted}
 use Rattle.exif_reader.proofs.tiff.parse_in.Goals as goal
 use Rattle.exif_reader.proofs.tiff.parse_in.Goals.{in-Ok, in-Err-Fault+in_ok-met-in-Err-Fault}
@@ -30,15 +30,15 @@ returns-clause-says g c =
     ] in
     rw (c.into_parts-fields.ensures.fields, c.into_parts-fields.ensures.faults) parser
 
-pub returns-clause-places : goal.returns-clause-places
-returns-clause-places g c l w =
+pub returns-clause-offsets : goal.returns-clause-offsets
+returns-clause-offsets g c l w =
     let nodes = cut c.args.most (ordered_trace g.E.Endian.number_of c.args.bytes.now) in
     let start = rw c.new.ensures at c.new-parser.ensures in
-    let parser : TellsPlaces nodes c.match-chain.parser.places = elim c.match-chain.branch [
+    let parser : TellsOffsets nodes c.match-chain.parser.offsets = elim c.match-chain.branch [
       | in-Ok b ↦
           rw b.parser-is (told g.E.Endian.number_of c.args.bytes.now c.args.lenient c.args.asked c.args.most c.new-parser.result (c.chain.new.self, None) start (rw c.loadu32.ensures at b.in-Ok.ensures.follows) l w)
       | in-Err-Fault+in_ok-met-in-Err-Fault b ↦
-          rw (b.parser-is, ← met_places c.chain.new.self b.met.new.self b.in-Err-Fault.fault b.in_ok-met-in-Err-Fault.ensures)
+          rw (b.parser-is, ← met_offsets c.chain.new.self b.met.new.self b.in-Err-Fault.fault b.in_ok-met-in-Err-Fault.ensures)
           (told g.E.Endian.number_of c.args.bytes.now c.args.lenient c.args.asked c.args.most c.new-parser.result (c.chain.new.self, Some b.in-Err-Fault.fault) start (rw c.loadu32.ensures at (rw b.in-Err-Fault.field-0-is at b.in-Err-Fault.ensures.follows)) l w)
     ] in
-    rw c.into_parts-fields.ensures.places parser
+    rw c.into_parts-fields.ensures.offsets parser

@@ -1,7 +1,7 @@
 use Rattle.std.proofs.Common.{List, None, refl, sym, subst, IfOk, true}
 use Rattle.exif_tiff.specs.Answers.{Answer}
 use Rattle.exif_tiff.specs.Trace.{Node, trace}
-use Rattle.exif_reader.specs.Noted.{TellsPlaces}
+use Rattle.exif_reader.specs.Noted.{TellsOffsets}
 use Rattle.exif_reader.specs.Results.{Says, parsed_of}
 use Rattle.exif_reader.specs.declared.tiff.Placed.{Placed}
 use Rattle.exif_reader.proofs.TiffLimits.{all_fit, unlimited}
@@ -14,10 +14,10 @@ returns-clause-says c =
     (c.reading_is_bounded.ensures.visits c.args.bytes.now c.show_bytes.ensures) (λ n. c.limits_cut_readings.ensures.unchanged n c.args.bytes.now)))
     c.parse_within.ensures.says
 
-pub returns-clause-places : goal.returns-clause-places
-returns-clause-places c =
+pub returns-clause-offsets : goal.returns-clause-offsets
+returns-clause-offsets c =
     let P : List Node → Type 0 =
-    λ nodes. IfOk c.parse_within.result (λ (placed : Placed). TellsPlaces nodes placed.places) in
+    λ nodes. IfOk c.parse_within.result (λ (placed : Placed). TellsOffsets nodes placed.offsets) in
     subst P (c.limits_cut_readings.ensures.within 18446744073709551615 (trace c.args.bytes.now)
     (all_fit c.args.bytes.now (c.reading_is_bounded.ensures.visits c.args.bytes.now c.show_bytes.ensures)))
-    (c.parse_within.ensures.places refl refl)
+    (c.parse_within.ensures.offsets refl refl)

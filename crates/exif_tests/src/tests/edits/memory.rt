@@ -5,13 +5,13 @@ use super::undone::out_of_memory;
 use super::{DESCRIPTION, put, text};
 use exif_base::Counted;
 use exif_edit::{
-    Error, Patch, erase_all, erase_all_patches, erase_field, erase_field_patches, erase_places,
-    erase_places_patches, set_value, set_value_patches,
+    Error, Patch, erase_all, erase_all_patches, erase_field, erase_field_patches, erase_gps,
+    erase_gps_patches, set_value, set_value_patches,
 };
 use exif_edit_files::{
     erase_all_in_file, erase_all_patches_in_file, erase_field_in_file, erase_field_patches_in_file,
-    erase_field_patches_of, erase_places_in_file, erase_places_patches_in_file,
-    erase_places_patches_of, set_value_in_file, set_value_patches_in_file, set_value_patches_of,
+    erase_field_patches_of, erase_gps_in_file, erase_gps_patches_in_file,
+    erase_gps_patches_of, set_value_in_file, set_value_patches_in_file, set_value_patches_of,
 };
 use exif_test_support::shortage::{Outcome, in_turn};
 use exif_types::{In, Value};
@@ -63,7 +63,7 @@ static FORMS: [Form; 5] = [
 #[derive(Clone, Copy)]
 enum Edit<'a> {
     Value(&'a Value),
-    Places,
+    Offsets,
     Field,
     All,
 }
@@ -94,15 +94,15 @@ fn setting(
 }
 
 // The GPS data erased.
-fn erasing_places(alloc: Global, form: Form, file: &mut [u8; LENGTH]) -> Result<Vec<Patch>, Error> {
+fn erasing_gps(alloc: Global, form: Form, file: &mut [u8; LENGTH]) -> Result<Vec<Patch>, Error> {
     match form {
-        Form::Data => erase_places(alloc, &mut file[FRONT..])?,
-        Form::File => erase_places_in_file(alloc, &mut file[..])?,
-        Form::DataPatches => return erase_places_patches(alloc, &file[FRONT..]),
-        Form::FilePatches => return erase_places_patches_in_file(alloc, &file[..]),
+        Form::Data => erase_gps(alloc, &mut file[FRONT..])?,
+        Form::File => erase_gps_in_file(alloc, &mut file[..])?,
+        Form::DataPatches => return erase_gps_patches(alloc, &file[FRONT..]),
+        Form::FilePatches => return erase_gps_patches_in_file(alloc, &file[..]),
         Form::Stream => {
             let mut source = Counted::new(&file[..]);
-            return erase_places_patches_of(alloc, &mut source, LENGTH as u64);
+            return erase_gps_patches_of(alloc, &mut source, LENGTH as u64);
         }
     }
     Ok(Vec::new(alloc))
@@ -143,7 +143,7 @@ fn erasing_all(alloc: Global, form: Form, file: &mut [u8; LENGTH]) -> Result<Vec
 // Puts patches over the bytes that they count from.
 fn put_all(bytes: &mut [u8], patches: &[Patch]) {
     for patch in patches {
-        put(bytes, patch.place as usize, patch.text.as_slice());
+        put(bytes, patch.offset as usize, patch.text.as_slice());
     }
 }
 
@@ -153,7 +153,7 @@ fn attempt(alloc: Global, form: Form, edit: Edit, wanted: &[u8]) -> Outcome {
     put(&mut file[..], 0, FILE);
     let answer = match edit {
         Edit::Value(value) => setting(alloc, form, &mut file, value),
-        Edit::Places => erasing_places(alloc, form, &mut file),
+        Edit::Offsets => erasing_gps(alloc, form, &mut file),
         Edit::Field => erasing_field(alloc, form, &mut file),
         Edit::All => erasing_all(alloc, form, &mut file),
     };
@@ -194,8 +194,8 @@ fn a_value_runs_out_of_memory(rt: HostRuntime) -> Result<(), Fail> {
 }
 
 #[test]
-fn places_run_out_of_memory(rt: HostRuntime) -> Result<(), Fail> {
-    let counts = refusals(rt.alloc(), Edit::Places, NOWHERE)?;
+fn erasing_gps_runs_out_of_memory(rt: HostRuntime) -> Result<(), Fail> {
+    let counts = refusals(rt.alloc(), Edit::Offsets, NOWHERE)?;
     assert!(rt; counts.iter().all(|count| *count > 0));
     Ok(())
 }

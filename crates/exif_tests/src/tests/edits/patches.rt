@@ -3,7 +3,7 @@
 use super::{DESCRIPTION, is_so, text};
 use exif_edit::{Error, Patch, erase_field_patches, set_value_patches};
 use exif_edit_files::set_value_patches_in_file;
-use exif_test_support::files::{DESCRIBED_BIG, JPEG, PLACE_BEFORE_DESCRIPTION};
+use exif_test_support::files::{DESCRIBED_BIG, JPEG, OFFSET_BEFORE_DESCRIPTION};
 use exif_types::{Context, In, Tag};
 use std::alloc::{AllocError, Global};
 use std::process::Abort;
@@ -16,9 +16,9 @@ const THREE: &[u8] =
 // A JPEG stream with a comment of the same bytes as its data, which begin at 78.
 static PARTS: [&[u8]; 5] = [
     b"\xff\xd8\xff\xfe\0\x40",
-    PLACE_BEFORE_DESCRIPTION,
+    OFFSET_BEFORE_DESCRIPTION,
     b"\xff\xe1\0\x46Exif\0\0",
-    PLACE_BEFORE_DESCRIPTION,
+    OFFSET_BEFORE_DESCRIPTION,
     b"\xff\xd9",
 ];
 
@@ -40,7 +40,7 @@ fn are_these(
     let mut offsets = Vec::new(alloc);
     let mut bytes = Vec::new(alloc);
     for patch in patches {
-        offsets.push(patch.place)?;
+        offsets.push(patch.offset)?;
         bytes.extend_from_slice(patch.text.as_slice())?;
     }
     Ok(offsets.as_slice() == at && bytes.as_slice() == wanted)
@@ -96,7 +96,7 @@ fn an_entry_behind_a_copy_of_it(rt: HostRuntime) -> Result<(), Fail> {
 fn erases_by(alloc: Global, first: (u64, usize), second: (u64, usize)) -> Result<bool, Error> {
     let patches = erase_field_patches(alloc, THREE, Tag(Context::Tiff, 0x131), In(0))?;
     match patches.as_slice() {
-        [a, b] => Ok((a.place, a.text.len()) == first && (b.place, b.text.len()) == second),
+        [a, b] => Ok((a.offset, a.text.len()) == first && (b.offset, b.text.len()) == second),
         _ => Ok(false),
     }
 }

@@ -26,7 +26,7 @@ fn errors_are_shown(rt: HostRuntime) {
     );
     assert_shown(
         &rt,
-        Error::NamesPlaces,
+        Error::NamesOffsets,
         "The field holds offsets of other data",
     );
     assert_shown(&rt, Error::SharedBytes, shared);

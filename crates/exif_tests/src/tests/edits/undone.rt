@@ -3,9 +3,9 @@
 
 use super::put;
 use exif_base::Items;
-use exif_edit::{Error, erase_places, set_value};
-use exif_edit_files::erase_places_in_file;
-use exif_test_support::files::PLACE_BEFORE_DESCRIPTION;
+use exif_edit::{Error, erase_gps, set_value};
+use exif_edit_files::erase_gps_in_file;
+use exif_test_support::files::OFFSET_BEFORE_DESCRIPTION;
 use exif_test_support::shortage::{Outcome, in_turn};
 use exif_types::{Context, In, Tag, Value};
 use std::alloc::Global;
@@ -24,8 +24,8 @@ const LENGTH: usize = 232;
 fn heif() -> [u8; LENGTH] {
     let mut file = [0u8; LENGTH];
     put(&mut file[..], 0, HEAD);
-    put(&mut file[..], 104, PLACE_BEFORE_DESCRIPTION);
-    put(&mut file[..], DATA, PLACE_BEFORE_DESCRIPTION);
+    put(&mut file[..], 104, OFFSET_BEFORE_DESCRIPTION);
+    put(&mut file[..], DATA, OFFSET_BEFORE_DESCRIPTION);
     file
 }
 
@@ -41,7 +41,7 @@ pub(super) fn out_of_memory(error: Error, is_kept: bool) -> Outcome {
 }
 
 // The file without its GPS data, a directory of 18 bytes.
-fn without_places() -> [u8; LENGTH] {
+fn without_locations() -> [u8; LENGTH] {
     let mut file = heif();
     put(&mut file[..], DATA + 26, &[0u8; 18]);
     file
@@ -50,8 +50,8 @@ fn without_places() -> [u8; LENGTH] {
 // What erasing its GPS data comes to. The copy stays, though the patches are tried there first.
 fn erasing_in_heif(alloc: Global) -> Outcome {
     let mut file = heif();
-    match erase_places_in_file(alloc, &mut file[..]) {
-        Ok(()) => Outcome::answered(file[..] == without_places()[..]),
+    match erase_gps_in_file(alloc, &mut file[..]) {
+        Ok(()) => Outcome::answered(file[..] == without_locations()[..]),
         Err(error) => out_of_memory(error, file[..] == heif()[..]),
     }
 }
@@ -88,12 +88,12 @@ fn refused(answer: Result<(), Error>, is_kept: bool) -> Outcome {
 fn erasing_shared(alloc: Global) -> Outcome {
     let mut bytes = [0u8; 64];
     put(&mut bytes[..], 0, SAME_VALUE);
-    let answer = erase_places(alloc, &mut bytes[..]);
+    let answer = erase_gps(alloc, &mut bytes[..]);
     refused(answer, &bytes[..] == SAME_VALUE)
 }
 
 #[test]
-fn shared_places_are_put_back(rt: HostRuntime) -> Result<(), Fail> {
+fn shared_gps_data_are_put_back(rt: HostRuntime) -> Result<(), Fail> {
     let count = in_turn(rt.alloc(), || erasing_shared(rt.alloc()))?;
     assert!(rt; count > 0);
     Ok(())

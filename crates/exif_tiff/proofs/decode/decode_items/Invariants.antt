@@ -8,5 +8,5 @@ invariant-loop g l =
     let item = g.T.Item.item_at g.E.Endian.number_of l.bytes in
     record {
       room : l.at + g.T.Item.LEN * (l.count - l.counter) ≤ length l.bytes;
-      all : l.items.items ++ items_at item g.T.Item.LEN (l.count - l.counter) l.at ≡ items_at item g.T.Item.LEN l.fn.count l.fn.place;
+      all : l.items.items ++ items_at item g.T.Item.LEN (l.count - l.counter) l.at ≡ items_at item g.T.Item.LEN l.fn.count l.fn.offset;
     }

@@ -1,5 +1,5 @@
 use Rattle.std.proofs.Common.{arith, refl, sym}
-use Rattle.exif_writer.proofs.PlanPlaces.{all_values_within, exif_at, gps_at, interop_at, strips_at}
+use Rattle.exif_writer.proofs.PlanOffsets.{all_values_within, exif_at, gps_at, interop_at, strips_at}
 use Rattle.exif_layout.specs.Slots.{draft_of}
 use Rattle.exif_writer.proofs.MeasureTails.{at_least}
 use Rattle.exif_writer.proofs.measure.all_values_end.Goals as goal
@@ -10,8 +10,8 @@ returns-in_err-tiff c =
     let within = (all_values_within (draft_of c.args.ifd.now) c.args.start).in_tiff.high in
     rw c.from_residual.ensures (λ less. omega arith)
 
-pub values_end-requires-clause-place : goal.values_end-requires-clause-place
-values_end-requires-clause-place c =
+pub values_end-requires-clause-offset : goal.values_end-requires-clause-offset
+values_end-requires-clause-offset c =
     let tiff = c.in_ok-tiff.ensures.1 in
     let within = (all_values_within (draft_of c.args.ifd.now) c.args.start).in_tiff.low in
     omega arith
@@ -23,8 +23,8 @@ returns-in_err-exif c =
     let within = (all_values_within (draft_of c.args.ifd.now) c.args.start).in_exif.high in
     rw c.from_residual-in_err-exif.ensures (λ less. omega arith)
 
-pub values_end-requires-2-clause-place : goal.values_end-requires-2-clause-place
-values_end-requires-2-clause-place c =
+pub values_end-requires-2-clause-offset : goal.values_end-requires-2-clause-offset
+values_end-requires-2-clause-offset c =
     let exif = exif_at (draft_of c.args.ifd.now) c.args.start c.in_ok-tiff.ensures.1 c.in_ok-exif.ensures.1 in
     let within = (all_values_within (draft_of c.args.ifd.now) c.args.start).in_exif.low in
     omega arith
@@ -37,8 +37,8 @@ returns-in_err-gps c =
     let within = (all_values_within (draft_of c.args.ifd.now) c.args.start).in_gps.high in
     rw c.from_residual-in_err-gps.ensures (λ less. omega arith)
 
-pub values_end-requires-3-clause-place : goal.values_end-requires-3-clause-place
-values_end-requires-3-clause-place c =
+pub values_end-requires-3-clause-offset : goal.values_end-requires-3-clause-offset
+values_end-requires-3-clause-offset c =
     let exif = exif_at (draft_of c.args.ifd.now) c.args.start c.in_ok-tiff.ensures.1 c.in_ok-exif.ensures.1 in
     let gps = gps_at (draft_of c.args.ifd.now) c.args.start exif c.in_ok-gps.ensures.1 in
     let within = (all_values_within (draft_of c.args.ifd.now) c.args.start).in_gps.low in
@@ -53,8 +53,8 @@ returns-in_err-interop c =
     let within = (all_values_within (draft_of c.args.ifd.now) c.args.start).in_interop.high in
     rw c.from_residual-in_err-interop.ensures (λ less. omega arith)
 
-pub values_end-requires-4-clause-place : goal.values_end-requires-4-clause-place
-values_end-requires-4-clause-place c =
+pub values_end-requires-4-clause-offset : goal.values_end-requires-4-clause-offset
+values_end-requires-4-clause-offset c =
     let exif = exif_at (draft_of c.args.ifd.now) c.args.start c.in_ok-tiff.ensures.1 c.in_ok-exif.ensures.1 in
     let gps = gps_at (draft_of c.args.ifd.now) c.args.start exif c.in_ok-gps.ensures.1 in
     let interop = interop_at (draft_of c.args.ifd.now) c.args.start gps c.in_ok-interop.ensures.1 in

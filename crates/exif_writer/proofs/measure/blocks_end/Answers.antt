@@ -7,7 +7,7 @@ use Rattle.exif_writer.proofs.measure.blocks_end.Goals as goal
 
 pub returns-in_err-end : goal.returns-in_err-end
 returns-in_err-end c =
-    let end = end_is_sum c.args.place c.args.blocks.now in
+    let end = end_is_sum c.args.offset c.args.blocks.now in
     let room = sum_within c.args.blocks.now c.loop-block.block-index (get_or c.args.blocks.now c.loop-block.block-index no_text) no_text c.loop-block-test.true refl in
     search rules
 
@@ -18,6 +18,6 @@ loop-block-preserved c =
 
 pub returns : goal.returns
 returns c =
-    let end = end_is_sum c.args.place c.args.blocks.now in
+    let end = end_is_sum c.args.offset c.args.blocks.now in
     let all = ap sum_of (take_all c.loop-block.block-index c.args.blocks.now c.loop-block-test.false) in
     search rules

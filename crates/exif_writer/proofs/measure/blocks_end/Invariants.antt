@@ -4,6 +4,6 @@ use Rattle.exif_writer.proofs.measure.blocks_end.Given as goal
 
 abbrev pub invariant-loop-block : goal.invariant-loop-block
 invariant-loop-block l = record {
-  sum : l.end ≡ l.place + sum_of (take l.block-index l.blocks);
+  sum : l.end ≡ l.offset + sum_of (take l.block-index l.blocks);
   fits : l.end < 2 ^ 32;
 }

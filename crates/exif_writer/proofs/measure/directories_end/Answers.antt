@@ -1,6 +1,6 @@
 use Rattle.std.proofs.Common.{rules, ◌≡◌, ◌+◌, ◌%◌, arith}
-use Rattle.exif_writer.proofs.PlanPlaces.{directories_are}
-use Rattle.exif_layout.specs.Places.{tiff_values}
+use Rattle.exif_writer.proofs.PlanOffsets.{directories_are}
+use Rattle.exif_layout.specs.Offsets.{tiff_values}
 use Rattle.exif_layout.specs.Slots.{draft_of}
 use Rattle.exif_writer.proofs.measure.directories_end.Goals as goal
 

@@ -6,7 +6,7 @@ use Rattle.exif_writer.proofs.measure.values_end.Goals as goal
 
 pub returns-in_err-context_tail : goal.returns-in_err-context_tail
 returns-in_err-context_tail c =
-    let far = span_beyond c.args.place c.args.ifd.now c.args.context c.requires.place c.in_err-context_tail.ensures.over in
+    let far = span_beyond c.args.offset c.args.ifd.now c.args.context c.requires.offset c.in_err-context_tail.ensures.over in
     rw c.from_residual.ensures (λ less. omega arith)
 
 pub returns : goal.returns

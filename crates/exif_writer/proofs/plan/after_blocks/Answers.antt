@@ -7,14 +7,14 @@ use Rattle.exif_writer.proofs.plan.after_blocks.Goals as goal
 
 pub overflow_cast-end : goal.overflow_cast-end
 overflow_cast-end c =
-    let end = end_is_sum c.args.place c.args.blocks.now in
+    let end = end_is_sum c.args.offset c.args.blocks.now in
     let room = sum_within c.args.blocks.now c.loop-block.block-index (get_or c.args.blocks.now c.loop-block.block-index no_text) no_text c.loop-block-test.true refl in
     let small = c.requires in
     omega arith
 
 pub overflow_add-end : goal.overflow_add-end
 overflow_add-end c =
-    let end = end_is_sum c.args.place c.args.blocks.now in
+    let end = end_is_sum c.args.offset c.args.blocks.now in
     let room = sum_within c.args.blocks.now c.loop-block.block-index (get_or c.args.blocks.now c.loop-block.block-index no_text) no_text c.loop-block-test.true refl in
     let small = c.requires in
     let sum = c.loop-block.invariant in
@@ -28,7 +28,7 @@ loop-block-preserved c =
 
 pub returns : goal.returns
 returns c =
-    let end = end_is_sum c.args.place c.args.blocks.now in
+    let end = end_is_sum c.args.offset c.args.blocks.now in
     let all = ap sum_of (take_all c.loop-block.block-index c.args.blocks.now c.loop-block-test.false) in
     let sum = c.loop-block.invariant in
     omega arith

@@ -3,4 +3,4 @@ use Rattle.exif_writer.specs.Sending.{sum_of}
 use Rattle.exif_writer.proofs.plan.after_blocks.Given as goal
 
 abbrev pub invariant-loop-block : goal.invariant-loop-block
-invariant-loop-block l = l.end ≡ l.place + sum_of (take l.block-index l.blocks)
+invariant-loop-block l = l.end ≡ l.offset + sum_of (take l.block-index l.blocks)

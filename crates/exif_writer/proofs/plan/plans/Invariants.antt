@@ -1,7 +1,7 @@
 use Rattle.std.proofs.Common.{◌≡◌, ◌++◌, List, drop, map, take}
 use Rattle.exif_writer.specs.Drafts.{ArePlans}
 use Rattle.exif_writer.specs.declared.plan.Plan.{Plan}
-use Rattle.exif_layout.specs.Places.{drafts_end}
+use Rattle.exif_layout.specs.Offsets.{drafts_end}
 use Rattle.exif_layout.specs.Slots.{draft_of}
 use Rattle.exif_writer.proofs.plan.plans.Given as goal
 

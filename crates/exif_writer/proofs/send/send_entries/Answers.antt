@@ -8,18 +8,18 @@ loop-slot-init g c = sends_none
 
 pub send-requires : goal.send-requires
 send-requires g c =
-    all_at (IsReady c.args.places.now) c.args.slots.now c.loop-slot.slot-index c.slot-item.result c.slot-item.result c.requires c.loop-slot-test.true c.slot-item.is
+    all_at (IsReady c.args.offsets.now) c.args.slots.now c.loop-slot.slot-index c.slot-item.result c.slot-item.result c.requires c.loop-slot-test.true c.slot-item.is
 
 pub loop-slot-preserved : goal.loop-slot-preserved
 loop-slot-preserved g c =
-    sends_member (slot_text c.args.order c.args.places.now) c.args.slots.now c.loop-slot.slot-index c.slot-item.result c.slot-item.result
+    sends_member (slot_text c.args.order c.args.offsets.now) c.args.slots.now c.loop-slot.slot-index c.slot-item.result c.slot-item.result
     c.loop-slot-test.true c.slot-item.is c.loop-slot.invariant c.in_ok-send.ensures.sends
 
 pub returns-in_err-send : goal.returns-in_err-send
 returns-in_err-send g c = record {
-  sends = sends_stop_member (slot_text c.args.order c.args.places.now) c.args.slots.now c.loop-slot.slot-index c.slot-item.result c.slot-item.result
+  sends = sends_stop_member (slot_text c.args.order c.args.offsets.now) c.args.slots.now c.loop-slot.slot-index c.slot-item.result c.slot-item.result
       c.loop-slot-test.true c.slot-item.is c.loop-slot.invariant c.in_err-send.ensures.sends c.from_residual.ensures.0;
 }
 
 pub returns : goal.returns
-returns g c = record { sends = sends_members (slot_text c.args.order c.args.places.now) c.args.slots.now c.loop-slot.slot-index c.loop-slot-test.false c.loop-slot.invariant }
+returns g c = record { sends = sends_members (slot_text c.args.order c.args.offsets.now) c.args.slots.now c.loop-slot.slot-index c.loop-slot-test.false c.loop-slot.invariant }

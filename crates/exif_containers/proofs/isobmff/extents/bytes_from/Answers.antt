@@ -1,6 +1,6 @@
 use Rattle.std.proofs.Common.{◌≡◌, ◌≤◌, ◌+◌, ◌^◌, [], ◌∷◌, sym, ap, ◌∙◌, arith, refl}
 use Rattle.exif_types.specs.Refusals.{Gives}
-use Rattle.exif_isobmff.specs.Places.{location_view}
+use Rattle.exif_isobmff.specs.ItemLocations.{location_view}
 use Rattle.exif_containers.proofs.IsobmffExtents.{only_one}
 use Rattle.exif_containers.proofs.IsobmffMeta.{too_large, none_there, read_there}
 use Rattle.exif_containers.proofs.isobmff.extents.bytes_from.Goals as goal

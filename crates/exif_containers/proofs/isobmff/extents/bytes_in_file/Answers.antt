@@ -2,7 +2,7 @@ use Rattle.std.proofs.Common.{◌≡◌, ◌≤◌, ◌+◌, ◌^◌, [], ◌∷
 use Rattle.std.proofs.lemmas.Result.{err_from_is_err_and}
 use Rattle.exif_isobmff.proofs.ExifNames.{item_bytes_only}
 use Rattle.exif_types.specs.Refusals.{Gives}
-use Rattle.exif_isobmff.specs.Places.{location_view}
+use Rattle.exif_isobmff.specs.ItemLocations.{location_view}
 use Rattle.exif_containers.proofs.IsobmffExtents.{only_one, overflows, one_gives}
 use Rattle.exif_containers.proofs.IsobmffNames.{fails_named}
 use Rattle.exif_containers.proofs.isobmff.extents.bytes_in_file.Goals as goal
@@ -27,5 +27,5 @@ returns-clause-gives g c =
     let one : length c.args.location.now.extents.items ≡ 1 = search rules in
     let only : c.args.location.now.extents.items ≡ c.index-extent.result.now ∷ [] = only_one c.args.location.now.extents.items c.index-extent.result.now one ∙ ap (λ x. x ∷ []) (sym c.index-extent.ensures) in
     let fits = c.in-Some.ensures in
-    one_gives (λ t. Gives (λ v. v.items) c.one_extent.result t) (g.R.Source.left c.args.source.now) c.args.front.items (location_view c.args.location.now) c.index-extent.result.now c.in-Some.place c.requires only fits.0 fits.1
+    one_gives (λ t. Gives (λ v. v.items) c.one_extent.result t) (g.R.Source.left c.args.source.now) c.args.front.items (location_view c.args.location.now) c.index-extent.result.now c.in-Some.offset c.requires only fits.0 fits.1
     c.one_extent.ensures.gives

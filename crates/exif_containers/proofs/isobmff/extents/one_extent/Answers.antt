@@ -19,7 +19,7 @@ pub returns-then-len-gt-TOO_MANY-clause-gives : goal.returns-then-len-gt-TOO_MAN
 returns-then-len-gt-TOO_MANY-clause-gives g c =
     let within : c.in-Some.start ≤ length c.reach.new.bytes.items = rw c.in-Some.is at c.in_ok-start.ensures.start in
     let rest : c.args.len ≤ c.saturating_sub.result + (length c.reach.new.bytes.items - c.in-Some.start) = omega arith in
-    long_part (g.R.Source.left c.args.source.now) (g.R.Source.left c.reach.new.source) (g.R.Source.left c.skip.new.source) c.args.place c.in-Some.start c.args.len c.saturating_sub.result c.args.front.items c.reach.new.bytes.items
+    long_part (g.R.Source.left c.args.source.now) (g.R.Source.left c.reach.new.source) (g.R.Source.left c.skip.new.source) c.args.offset c.in-Some.start c.args.len c.saturating_sub.result c.args.front.items c.reach.new.bytes.items
     (rw c.in-Some.is at c.in_ok-start.ensures.reached) (omega arith) rest c.in_ok-skip.ensures.taken
 
 pub returns-clause-named : goal.returns-clause-named
@@ -31,6 +31,6 @@ returns-clause-gives g c =
     let rest : c.if-len-eq0.wanted ≤ c.saturating_sub-2.result + (length c.reach.new.bytes.items - c.in-Some.start) = omega arith in
     let wanted : c.if-len-eq0.wanted ≡ cond (eqb c.args.len 0) 65536 c.args.len =
     elim c.if-len-eq0.branch [ then-len-eq0 w ↦ grind (arith, nat_tests) | else-len-eq0 w ↦ grind (arith, nat_tests) ] in
-    part_read (λ t. Gives (λ v. v.items) c.part_of-2.result t) (g.R.Source.left c.args.source.now) (g.R.Source.left c.reach.new.source) (g.R.Source.left c.read_whole.new.source) c.args.place c.in-Some.start c.args.len c.if-len-eq0.wanted
+    part_read (λ t. Gives (λ v. v.items) c.part_of-2.result t) (g.R.Source.left c.args.source.now) (g.R.Source.left c.reach.new.source) (g.R.Source.left c.read_whole.new.source) c.args.offset c.in-Some.start c.args.len c.if-len-eq0.wanted
     c.saturating_sub-2.result c.in_ok-_whole._whole c.args.front.items c.reach.new.bytes.items c.read_whole.new.bytes.items (take (length c.deref.result.now - c.in-Some.start) (drop c.in-Some.start c.deref.result.now)) (rw c.in-Some.is at c.in_ok-start.ensures.reached) within wanted rest
     c.in_ok-_whole.ensures.read c.in_ok-_whole.ensures.kept c.in_ok-_whole.ensures.grows c.in_ok-_whole.ensures.end (rest_of c.in-Some.start c.deref.result.now c.read_whole.new.bytes.items c.deref.ensures.value) c.part_of-2.ensures.gives

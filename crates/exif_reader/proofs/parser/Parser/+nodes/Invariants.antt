@@ -18,8 +18,8 @@ decreases-pointer g l = 3 * depth_of l.child + 1
 abbrev pub invariant-directory-loop : goal.invariant-directory-loop
 invariant-directory-loop g l =
     let number = g.E.Endian.number_of in
-    let entry = entry_nodes (directory_nodes (depth_of l.context - 1) number l.bytes l.ifd_num.0) number l.bytes l.context l.ifd_num.0 l.place in
+    let entry = entry_nodes (directory_nodes (depth_of l.context - 1) number l.bytes l.ifd_num.0) number l.bytes l.context l.ifd_num.0 l.offset in
     record {
       room : l.counter < l.entries → l.at + 12 * (l.entries - l.counter) ≤ length l.bytes;
-      follows : run (flat_map entry (spaced l.at 12 (l.entries - l.counter))) l.self ≡ run (directory_nodes (depth_of l.context) number l.bytes l.ifd_num.0 l.context l.place) l.fn.self;
+      follows : run (flat_map entry (spaced l.at 12 (l.entries - l.counter))) l.self ≡ run (directory_nodes (depth_of l.context) number l.bytes l.ifd_num.0 l.context l.offset) l.fn.self;
     }

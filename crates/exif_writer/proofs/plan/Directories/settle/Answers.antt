@@ -1,18 +1,18 @@
 use Rattle.std.proofs.Common.{◌≡◌, ◌∙◌, ◌+◌, ◌%◌, ap, arith, map, refl}
 use Rattle.exif_table.specs.declared.context.Context.TheVariants.{Tiff, Exif, Gps, Interop}
 use Rattle.exif_layout.proofs.Images.Whole.{accepted}
-use Rattle.exif_writer.proofs.PlanPlaces.{AreValuesPlaces, AreBlocksPlaces, tiff_is, exif_place_at, gps_place_at, interop_place_at, tiff_values_at, exif_at, gps_at, interop_at, strips_at, tiles_at, jpeg_at, end_at, directories_fit, places_within}
+use Rattle.exif_writer.proofs.PlanOffsets.{AreValuesOffsets, AreBlocksOffsets, tiff_is, exif_offset_at, gps_offset_at, interop_offset_at, tiff_values_at, exif_at, gps_at, interop_at, strips_at, tiles_at, jpeg_at, end_at, directories_fit, offsets_within}
 use Rattle.exif_writer.proofs.Ready.{can_settle, ends_at}
 use Rattle.exif_writer.proofs.PlanSettling.{settling_at}
 use Rattle.exif_writer.specs.Drafts.{next_of}
-use Rattle.exif_layout.specs.Places.{strips_place}
+use Rattle.exif_layout.specs.Offsets.{strips_offset}
 use Rattle.exif_writer.specs.Sending.{symbol}
 use Rattle.exif_layout.specs.Slots.{draft_of}
 use Rattle.exif_writer.proofs.plan.Directories.settle.Goals as goal
 use Rattle.exif_writer.proofs.plan.Directories.settle.Goals.{After-settle-strips, After-after_blocks-end}
 
--- the places of the values, once they are settled
-values_here : (c : After-settle-strips) → AreValuesPlaces (draft_of c.args.ifd.now) c.args.start
+-- the offsets of the values, once they are settled
+values_here : (c : After-settle-strips) → AreValuesOffsets (draft_of c.args.ifd.now) c.args.start
     (c.args.start + c.args.start % 2 + c.context_len.result + c.context_len-2.result + c.context_len-3.result + c.context_len-4.result)
     c.settle-exif_values.result c.settle-gps_values.result c.settle-interop_values.result c.settle-strips.result
 values_here c =
@@ -24,7 +24,7 @@ values_here c =
     record { tiff = tiff; exif = exif; gps = gps; interop = interop; strips = strips }
 
 -- the ends of the blocks
-blocks_here : (c : After-after_blocks-end) → c.settle-strips.result ≡ strips_place (draft_of c.args.ifd.now) c.args.start → AreBlocksPlaces (draft_of c.args.ifd.now) c.args.start c.after_blocks-tiles.result c.after_blocks-jpeg.result c.after_blocks-end.result
+blocks_here : (c : After-after_blocks-end) → c.settle-strips.result ≡ strips_offset (draft_of c.args.ifd.now) c.args.start → AreBlocksOffsets (draft_of c.args.ifd.now) c.args.start c.after_blocks-tiles.result c.after_blocks-jpeg.result c.after_blocks-end.result
 blocks_here c strips =
     let tiles = tiles_at (draft_of c.args.ifd.now) c.args.start strips c.blocks-2.ensures c.after_blocks-tiles.ensures in
     let jpeg = jpeg_at (draft_of c.args.ifd.now) c.args.start tiles c.blocks-3.ensures c.after_blocks-jpeg.ensures in
@@ -100,7 +100,7 @@ pub after_blocks-tiles-requires : goal.after_blocks-tiles-requires
 after_blocks-tiles-requires c =
     let strips = (values_here (goal.at.after_blocks-tiles-requires c).After-settle-strips).strips in
     let tiles = tiles_at (draft_of c.args.ifd.now) c.args.start strips c.blocks-2.ensures refl in
-    let within = (places_within (draft_of c.args.ifd.now) c.args.start).in_tiles.high in
+    let within = (offsets_within (draft_of c.args.ifd.now) c.args.start).in_tiles.high in
     let room = c.requires.room.end in
     omega arith
 
@@ -109,7 +109,7 @@ after_blocks-jpeg-requires c =
     let strips = (values_here (goal.at.after_blocks-jpeg-requires c).After-settle-strips).strips in
     let tiles = tiles_at (draft_of c.args.ifd.now) c.args.start strips c.blocks-2.ensures c.after_blocks-tiles.ensures in
     let jpeg = jpeg_at (draft_of c.args.ifd.now) c.args.start tiles c.blocks-3.ensures refl in
-    let within = (places_within (draft_of c.args.ifd.now) c.args.start).in_jpeg.high in
+    let within = (offsets_within (draft_of c.args.ifd.now) c.args.start).in_jpeg.high in
     let room = c.requires.room.end in
     omega arith
 
@@ -130,16 +130,16 @@ next_of-next-requires c =
     let next = ap (λ e. next_of e c.args.last) end in
     omega arith
 
-pub returns-clause-places : goal.returns-clause-places
-returns-clause-places c =
-    let values = values_here (goal.at.returns-clause-places c).After-settle-strips in
-    let blocks = blocks_here (goal.at.returns-clause-places c).After-after_blocks-end values.strips in
+pub returns-clause-offsets : goal.returns-clause-offsets
+returns-clause-offsets c =
+    let values = values_here (goal.at.returns-clause-offsets c).After-settle-strips in
+    let blocks = blocks_here (goal.at.returns-clause-offsets c).After-after_blocks-end values.strips in
     λ i. record {
       start = c.args.start;
       tiff = tiff_is (draft_of c.args.ifd.now) c.args.start i;
-      exif = exif_place_at (draft_of c.args.ifd.now) c.args.start c.context_len.ensures.len i;
-      gps = gps_place_at (draft_of c.args.ifd.now) c.args.start c.context_len.ensures.len c.context_len-2.ensures.len i;
-      interop = interop_place_at (draft_of c.args.ifd.now) c.args.start c.context_len.ensures.len c.context_len-2.ensures.len c.context_len-3.ensures.len i;
+      exif = exif_offset_at (draft_of c.args.ifd.now) c.args.start c.context_len.ensures.len i;
+      gps = gps_offset_at (draft_of c.args.ifd.now) c.args.start c.context_len.ensures.len c.context_len-2.ensures.len i;
+      interop = interop_offset_at (draft_of c.args.ifd.now) c.args.start c.context_len.ensures.len c.context_len-2.ensures.len c.context_len-3.ensures.len i;
       tiff_values = values.tiff i;
       exif_values = values.exif i;
       gps_values = values.gps i;

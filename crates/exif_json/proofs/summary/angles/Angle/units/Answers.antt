@@ -1,5 +1,5 @@
 use Rattle.std.proofs.Common.{arith}
-use Rattle.exif_json.specs.Places.{units_of}
+use Rattle.exif_json.specs.Coordinates.{units_of}
 use Rattle.exif_json.proofs.Rounding.{units_by_parts, units_small}
 use Rattle.exif_json.proofs.summary.angles.Angle.units.Goals as goal
 

@@ -1,4 +1,4 @@
--- Where the places stand alone, they are erased: the edit is not refused as shared.
+-- Where GPS data stand alone, they are erased: the edit is not refused as shared.
 use Rattle.std.proofs.Common.{◌≡◌, ◌≤◌, ◌<◌, ◌+◌, ◌-◌, ◌*◌, min, ℕ, Bool, true, false, if◌then◌else◌, List, [], ◌∷◌, length, map, Result, Ok, Err, refl, sym, ap, subst, ◌∙◌, arith}
 use Rattle.std.specs.Prelude.{◌&&◌, nat_le, nat_lt, slice_index}
 use Rattle.std.specs.Bool.{beq}
@@ -21,7 +21,7 @@ use Rattle.exif_tiff.proofs.FootprintAnswers.{header_same}
 use Rattle.exif_tiff.proofs.Footprints.{all_flat}
 use Rattle.exif_tiff.proofs.Members.{all_left}
 use Rattle.exif_edit_base.specs.GpsOffsets.{gps_offsets, gps_pointers}
-use Rattle.exif_edit_base.specs.Locations.{directory_places, gps_of, gps_places}
+use Rattle.exif_edit_base.specs.Locations.{directory_offsets, gps_of, visited_gps}
 use Rattle.exif_edit_base.specs.Causes.{shared}
 use Rattle.exif_edit_base.specs.Patches.{inside, patched, zeros_over}
 use Rattle.exif_edit_base.specs.Readings.{Read, reading}
@@ -30,15 +30,15 @@ use Rattle.exif_edit_base.specs.declared.patch.Span.{Span}
 use Rattle.exif_edit_base.proofs.OffsetSteps.{noted_holds}
 use Rattle.exif_edit_base.proofs.PatchSteps.{length-patched, zeroed_at}
 use Rattle.exif_edit.specs.Erasing.{clears, clipped, directory_spans, erase_patches, gps_spans, kept}
-use Rattle.exif_edit.specs.PlacesAlone.{AreErasedUnshared, all_kept, places_stand_alone}
+use Rattle.exif_edit.specs.GpsAlone.{AreErasedUnshared, all_kept, gps_stands_alone}
 use Rattle.exif_edit.specs.Sharing.{meets}
 use Rattle.exif_edit.proofs.EraseSound.{spans_within, zeros_fit}
-use Rattle.exif_edit.proofs.PlacesKept.{Emptied, ordered_kept}
+use Rattle.exif_edit.proofs.GpsKept.{Emptied, ordered_kept}
 use Rattle.exif_edit.proofs.Unshared.{missed, named_order, read_in, reading_in}
 
 -- a stretch that no span meets has no byte of them
 missed_all : (ss : List Span) (t : Stretch) (i : ℕ) → list_any (λ s. meets s t) ss ≡ false
-    → t.place ≤ i → i < t.place + t.len → list_any (inside i) ss ≡ false
+    → t.offset ≤ i → i < t.offset + t.len → list_any (inside i) ss ≡ false
 missed_all [] t i h low high = refl
 missed_all (s ∷ ss) t i h low high =
     let a = or_parts (meets s t) (list_any (λ x. meets x t) ss) h in
@@ -59,10 +59,10 @@ each_gives : {X : Type 0} (P Q : X → Type 0) (xs : List X) → ((x : X) → P 
 each_gives P Q [] f h = tt
 each_gives P Q (x ∷ xs) f h = (f x h.0, each_gives P Q xs f h.1)
 
-gps_places_in : (bytes : List ℕ) (order : Order) → header bytes ≡ Ok order
-    → gps_places bytes ≡ gps_of (directories_of (ordered_trace (number_of order) bytes))
-unfolding gps_places directory_places trace
-gps_places_in bytes order h =
+visited_gps_in : (bytes : List ℕ) (order : Order) → header bytes ≡ Ok order
+    → visited_gps bytes ≡ gps_of (directories_of (ordered_trace (number_of order) bytes))
+unfolding visited_gps directory_offsets trace
+visited_gps_in bytes order h =
     ap (λ (x : Result Order Fault). gps_of (directories_of (elim x as (λ _. List Node)
     [ Ok o ↦ ordered_trace (number_of o) bytes | Err fault ↦ [] ]))) h
 
@@ -78,7 +78,7 @@ clears_by : (x : Result Read Fault) (found want : Read) → x ≡ Ok found
 clears_by x found want e l f g = rw (e, l, f, g) refl
 
 module _ (order : Order) (bytes : List ℕ) (head : header bytes ≡ Ok order)
-    (alone : places_stand_alone (number_of order) bytes ≡ true) where
+    (alone : gps_stands_alone (number_of order) bytes ≡ true) where
   abbrev number : Reading
   number = number_of order
 
@@ -104,7 +104,7 @@ module _ (order : Order) (bytes : List ℕ) (head : header bytes ≡ Ok order)
 
   stretch_same : (t : Stretch) → met t ≡ false → Agree bytes out t
   stretch_same t m =
-      bytes_same bytes out t.place t.len as_long
+      bytes_same bytes out t.offset t.len as_long
       (λ i low high. sym (byte_at i ∙ ap (λ x. if x then 0 else slice_index bytes i)
       (missed_all spans t i m low high)))
 
@@ -128,7 +128,7 @@ module _ (order : Order) (bytes : List ℕ) (head : header bytes ≡ Ok order)
       (λ i x. byte_at i ∙ ap (λ y. if y then 0 else slice_index bytes i) x)
 
   clipped_in : (q n i : ℕ) → q ≤ i → i < q + n → i < length bytes
-      → inside i (clipped (length bytes) (record { place = q; len = n })) ≡ true
+      → inside i (clipped (length bytes) (record { offset = q; len = n })) ≡ true
   clipped_in q n i low high near =
       let here : nat_le q (length bytes) ≡ true = grind (arith, nat_tests) in
       let behind : nat_le q i ≡ true = grind (arith, nat_tests) in
@@ -151,10 +151,10 @@ module _ (order : Order) (bytes : List ℕ) (head : header bytes ≡ Ok order)
   abbrev AreZeroed : ℕ → Type 0
   AreZeroed q = AllByRecursion Zeroed (directory_spans number bytes q)
 
-  visited_zeroed : AllByRecursion AreZeroed (gps_places bytes)
+  visited_zeroed : AllByRecursion AreZeroed (visited_gps bytes)
   unfolding gps_spans gps_offsets
   visited_zeroed =
-      noted_holds (λ qs. AllByRecursion AreZeroed qs) bytes (all_left AreZeroed) (gps_places bytes)
+      noted_holds (λ qs. AllByRecursion AreZeroed qs) bytes (all_left AreZeroed) (visited_gps bytes)
       (gps_pointers number bytes)
       (all_flat Zeroed (directory_spans number bytes) (gps_offsets number bytes) all_zeroed)
 
@@ -162,8 +162,8 @@ module _ (order : Order) (bytes : List ℕ) (head : header bytes ≡ Ok order)
       (gps_of (directories_of (ordered_trace number bytes)))
   emptied =
       subst (λ ps. AllByRecursion (Emptied order bytes out as_long) ps)
-      (gps_places_in bytes order head)
-      (each_gives AreZeroed (Emptied order bytes out as_long) (gps_places bytes) emptied_of
+      (visited_gps_in bytes order head)
+      (each_gives AreZeroed (Emptied order bytes out as_long) (visited_gps bytes) emptied_of
       visited_zeroed)
 
   head_out : header out ≡ Ok order
@@ -193,5 +193,5 @@ module _ (order : Order) (bytes : List ℕ) (head : header bytes ≡ Ok order)
       rw (read, named) (ap (λ t. if t then Ok zeros else Err shared) right)
 
 -- where no byte of GPS data is looked at as anything else, the GPS data are erased
-pub places_unshared : (bytes : List ℕ) → AreErasedUnshared bytes
-places_unshared bytes order head alone = erased order bytes head alone
+pub gps_unshared : (bytes : List ℕ) → AreErasedUnshared bytes
+gps_unshared bytes order head alone = erased order bytes head alone

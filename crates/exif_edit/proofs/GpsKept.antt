@@ -18,16 +18,16 @@ use Rattle.exif_table.specs.declared.context.Context.TheVariants.{Tiff, Exif, Gp
 use Rattle.exif_tiff.specs.declared.fault.Fault.{Fault}
 use Rattle.exif_tiff.specs.declared.fault.Fault.TheVariants.{TruncatedCount, TruncatedDirectory, TruncatedNextOffset, TooManyDirectories}
 use Rattle.exif_tiff.specs.Footprint.{Agree, named, pointed, entry_directories, following, looked_at, value_stretch}
-use Rattle.exif_tiff.specs.Trace.{Node, Found, Met, Opens, Visit, opened, directories_of, field_of, chain_after, chain_nodes, child_end, child_of, depth_of, directory_end, directory_nodes, entry_nodes, entry_places, entry_value, fields_of, faults_of, ordered_trace, pointer_nodes, tagged_nodes, valued_nodes, whole_entries}
+use Rattle.exif_tiff.specs.Trace.{Node, Found, Met, Opens, Visit, opened, directories_of, field_of, chain_after, chain_nodes, child_end, child_of, depth_of, directory_end, directory_nodes, entry_nodes, entry_offsets, entry_value, fields_of, faults_of, ordered_trace, pointer_nodes, tagged_nodes, valued_nodes, whole_entries}
 use Rattle.exif_tiff.proofs.Agreement.{Same, number_same, part_same, same_of}
 use Rattle.exif_tiff.proofs.Footprints as footprints
 use Rattle.exif_tiff.proofs.Footprints.{all_flat}
 use Rattle.exif_tiff.proofs.Members.{all_append, all_left, all_right}
 use Rattle.exif_tiff.proofs.ReportBound.{faults-append, fields-append}
-use Rattle.exif_edit_base.specs.Locations.{gps_of, gps_place}
+use Rattle.exif_edit_base.specs.Locations.{gps_of, gps_offset}
 use Rattle.exif_edit_base.proofs.LawsLocated.{end_has_none}
 use Rattle.exif_edit.specs.Erasing.{is_gps, without_gps}
-use Rattle.exif_edit.specs.PlacesAlone.{all_kept, below_kept, chain_kept, directories_kept}
+use Rattle.exif_edit.specs.GpsAlone.{all_kept, below_kept, chain_kept, directories_kept}
 
 -- the new nodes have the fields of the old ones but those of GPS data, and no more faults
 abbrev pub Kept : List Node → List Node → Type 0
@@ -53,7 +53,7 @@ unfielded ns ms h s =
     let none = ap without_gps h in
     (ap fields_of (sym s) ∙ (h ∙ sym none), let l = ap (λ xs. length (faults_of xs)) s in omega (arith, l))
 
--- the places of the GPS directories of nodes
+-- the offsets of the GPS directories of nodes
 abbrev pub gps_in : List Node → List ℕ
 gps_in nodes = gps_of (directories_of nodes)
 
@@ -62,7 +62,7 @@ gps_left : (P : ℕ → Type 0) (xs ys : List Node) → AllByRecursion P (gps_in
     → AllByRecursion P (gps_in xs) × AllByRecursion P (gps_in ys)
 gps_left P [] ys h = (tt, h)
 gps_left P (Opens d ∷ xs) ys h =
-    let own = gps_place d.context d.place in
+    let own = gps_offset d.context d.offset in
     let r = gps_left P xs ys (all_right P own (gps_in (xs ++ ys)) h) in
     (all_append P own (gps_in xs) (all_left P own (gps_in (xs ++ ys)) h) r.0, r.1)
 gps_left P (Visit ∷ xs) ys h = gps_left P xs ys h
@@ -104,7 +104,7 @@ gps_alone : (depth : ℕ) (number : Reading) (bytes : List ℕ) (k p : ℕ)
 gps_alone zero number bytes k p = refl
 gps_alone (suc depth) number bytes k p =
     no_others (entry_nodes (directory_nodes depth number bytes k) number bytes Gps k p)
-    (entry_places number bytes p)
+    (entry_offsets number bytes p)
     (λ e. by_value (number_at number 2 bytes e) e (entry_value number bytes e))
   where
     by_value : (n e : ℕ) (o : Option Value)
@@ -138,7 +138,7 @@ module _ (order : Order) (a b : List ℕ) (as_long : length a ≡ length b) wher
   abbrev Alike : ℕ → Type 0
   Alike p = AllByRecursion (Agree a b) (looked_at number a p)
 
-  -- the count and the next place of an empty directory are zeros
+  -- the count and the next offset of an empty directory are zeros
   abbrev pub Emptied : ℕ → Type 0
   Emptied q = (i : ℕ) → q ≤ i → i < q + 6 → slice_index b i ≡ 0
 
@@ -198,15 +198,15 @@ module _ (order : Order) (a b : List ℕ) (as_long : length a ≡ length b) wher
         rw (held, faults) (omega (arith, sum, lesser)),
       )
     where
-      no_places : Emptied q → entry_places number b q ≡ []
-      no_places z =
+      no_offsets : Emptied q → entry_offsets number b q ≡ []
+      no_offsets z =
           let count = zero_at 2 q q (two_none order) (omega arith) (omega arith) z in
           let w : whole_entries number b q ≡ 0 = omega (arith, count) in
           ap (spaced (q + 2) 12) w
 
       none : (depth : ℕ) → directory_nodes depth number b k Gps q ≡ opened Gps q []
       none zero = refl
-      none (suc depth) = let p = no_places z in rw p refl
+      none (suc depth) = let p = no_offsets z in rw p refl
 
   ended : (ns ms : List Node) (x y : Result ℕ Fault) → Kept ns ms → x ≡ y
       → Kept (ns ++ child_end x) (ms ++ child_end y)
@@ -298,7 +298,7 @@ module _ (order : Order) (a b : List ℕ) (as_long : length a ≡ length b) wher
   directory_kept : (depth k : ℕ) (c : Context) (p : ℕ) → KeptAt depth k c p
   directory_kept zero k c p other h z = (refl, omega arith)
   directory_kept (suc depth) k c p other h z =
-      rw (← footprints.places_same order a b as_long p h.0)
+      rw (← footprints.offsets_same order a b as_long p h.0)
       (each (entry_nodes (directory_nodes depth number a k) number a c k p)
       (entry_nodes (directory_nodes depth number b k) number b c k p) (λ e. Same a b e 12)
       (λ e. AllByRecursion (Agree a b) (value_stretch number a e))
@@ -306,15 +306,15 @@ module _ (order : Order) (a b : List ℕ) (as_long : length a ≡ length b) wher
       (entry_directories (below_kept (directories_kept depth number a)) number a c e))
       (λ e. AllByRecursion Emptied
       (gps_in (entry_nodes (directory_nodes depth number a k) number a c k p e)))
-      (entry_places number a p)
+      (entry_offsets number a p)
       (λ e x y u v. entry_kept depth k (directory_kept depth k) c p e other x y u v)
       (footprints.entries_same order a b as_long p h.0)
-      (all_flat (Agree a b) (value_stretch number a) (entry_places number a p) h.0.1)
+      (all_flat (Agree a b) (value_stretch number a) (entry_offsets number a p) h.0.1)
       (all_flat Alike
       (entry_directories (below_kept (directories_kept depth number a)) number a c)
-      (entry_places number a p) h.1)
+      (entry_offsets number a p) h.1)
       (gps_flat Emptied (entry_nodes (directory_nodes depth number a k) number a c k p)
-      (entry_places number a p) (all_right Emptied (gps_place c p) _ z)))
+      (entry_offsets number a p) (all_right Emptied (gps_offset c p) _ z)))
 
   after_kept : (rest : ℕ → List ℕ) (f g : ℕ → List Node) (x : Result ℕ Fault)
       → ((q : ℕ) → AllByRecursion Alike (rest q) → AllByRecursion Emptied (gps_in (f q))
@@ -341,7 +341,7 @@ module _ (order : Order) (a b : List ℕ) (as_long : length a ≡ length b) wher
       (following (chain_kept left number a) (directory_end number a p)) h in
       let behind = all_right Alike (directories_kept (depth_of Tiff) number a Tiff p)
       (following (chain_kept left number a) (directory_end number a p)) h in
-      let places = gps_left Emptied (directory_nodes (depth_of Tiff) number a k Tiff p)
+      let offsets = gps_left Emptied (directory_nodes (depth_of Tiff) number a k Tiff p)
       (chain_after (chain_nodes left number a (k + 1)) (directory_end number a p)) z in
       let end = footprints.end_same order a b as_long p (first_alike (depth_of Tiff) Tiff p here) in
       rw (← end)
@@ -349,10 +349,10 @@ module _ (order : Order) (a b : List ℕ) (as_long : length a ≡ length b) wher
       (chain_after (chain_nodes left number a (k + 1)) (directory_end number a p))
       (directory_nodes (depth_of Tiff) number b k Tiff p)
       (chain_after (chain_nodes left number b (k + 1)) (directory_end number a p))
-      (directory_kept (depth_of Tiff) k Tiff p refl here places.0)
+      (directory_kept (depth_of Tiff) k Tiff p refl here offsets.0)
       (after_kept (chain_kept left number a) (chain_nodes left number a (k + 1))
       (chain_nodes left number b (k + 1))
-      (directory_end number a p) rest behind places.1))
+      (directory_end number a p) rest behind offsets.1))
 
   either_kept : (t : Bool) (ps : List ℕ) (ns ms : List Node)
       → (AllByRecursion Alike ps → AllByRecursion Emptied (gps_in ns) → Kept ns ms)

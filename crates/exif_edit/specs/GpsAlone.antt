@@ -6,7 +6,7 @@ use Rattle.exif_base.specs.Orders.{number_of}
 use Rattle.exif_base.specs.declared.endian.Order.{Order}
 use Rattle.exif_table.specs.declared.context.Context.TheVariants.{Tiff}
 use Rattle.exif_tiff.specs.Footprint.{Below, Stretch, entry_directories, following, looked_at}
-use Rattle.exif_tiff.specs.Trace.{depth_of, directory_end, entry_places, header}
+use Rattle.exif_tiff.specs.Trace.{depth_of, directory_end, entry_offsets, header}
 use Rattle.exif_edit_base.specs.Patches.{zeros_over}
 use Rattle.exif_edit.specs.Erasing.{erase_patches, gps_spans, is_gps}
 use Rattle.exif_edit.specs.Sharing.{meets}
@@ -21,7 +21,7 @@ directories_kept zero number bytes c p = p ∷ []
 directories_kept (suc depth) number bytes c p =
     p ∷ flat_map
     (entry_directories (below_kept (directories_kept depth number bytes)) number bytes c)
-    (entry_places number bytes p)
+    (entry_offsets number bytes p)
 
 -- those of a chain from p on
 abbrev pub chain_kept : ℕ → Reading → List ℕ → ℕ → List ℕ
@@ -34,17 +34,17 @@ chain_kept (suc left) number bytes p =
 -- what reading looks at but for GPS directories and their values
 abbrev pub all_kept : Reading → List ℕ → List Stretch
 all_kept number bytes =
-    record { place = 0; len = 8 }
+    record { offset = 0; len = 8 }
     ∷ flat_map (looked_at number bytes) (chain_kept 8 number bytes (number_at number 4 bytes 4))
 
 -- whether it looks there at no byte of GPS directories and their values
-abbrev pub places_stand_alone : Reading → List ℕ → Bool
-places_stand_alone number bytes =
+abbrev pub gps_stands_alone : Reading → List ℕ → Bool
+gps_stands_alone number bytes =
     not
     (list_any (λ t. list_any (λ s. meets s t) (gps_spans number bytes)) (all_kept number bytes))
 
--- where the places stand alone, they are erased
+-- where GPS data stand alone, they are erased
 abbrev pub AreErasedUnshared : List ℕ → Type 0
 AreErasedUnshared bytes =
-    (order : Order) → header bytes ≡ Ok order → places_stand_alone (number_of order) bytes ≡ true
+    (order : Order) → header bytes ≡ Ok order → gps_stands_alone (number_of order) bytes ≡ true
     → erase_patches bytes ≡ Ok (map zeros_over (gps_spans (number_of order) bytes))

@@ -2,7 +2,7 @@ use Rattle.exif_edit.specs.Erasing.{erase_patches}
 use Rattle.exif_edit.specs.Promises.{IsErased}
 use Rattle.exif_edit.proofs.PlanSteps.{carried_sound}
 use Rattle.exif_edit.proofs.EraseSound.{erased_sound}
-use Rattle.exif_edit.proofs.erase.erase_places.Goals as goal
+use Rattle.exif_edit.proofs.erase.erase_gps.Goals as goal
 
 pub returns-clause-erased : goal.returns-clause-erased
 returns-clause-erased c =

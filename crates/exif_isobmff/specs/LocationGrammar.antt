@@ -9,7 +9,7 @@ use Rattle.exif_isobmff.specs.declared.extents.Within.TheVariants.{File, ItemDat
 use Rattle.exif_isobmff.specs.declared.locations.Extent.{Extent}
 use Rattle.exif_isobmff.specs.declared.locations.Sizes.{Sizes}
 use Rattle.exif_isobmff.specs.ItemGrammar.{FullHead, print_full, IsFull}
-use Rattle.exif_isobmff.specs.Places.{Place, locations, extent_bytes, gathered}
+use Rattle.exif_isobmff.specs.ItemLocations.{ItemExtents, locations, extent_bytes, gathered}
 
 -- a field of 0, 4 or 8 bytes
 abbrev pub IsSize : ℕ → Type 0
@@ -41,7 +41,7 @@ extent_of e =
 -- ---- an item: its number, its construction, where its data are, a base, a count, and its extents
 
 -- the fields of an item
-pub record PlaceTree : Type 0 where
+pub record LocationTree : Type 0 where
   pub number : List ℕ
   pub method : List ℕ
   pub reference : List ℕ
@@ -50,8 +50,8 @@ pub record PlaceTree : Type 0 where
   pub extents : List ExtentTree
 
 -- the bytes of an item
-abbrev pub print_place : PlaceTree → List ℕ
-print_place p =
+abbrev pub print_location : LocationTree → List ℕ
+print_location p =
     p.number ++ (p.method
     ++ (p.reference ++ (p.base ++ (p.count ++ flat_map print_extent p.extents))))
 
@@ -68,11 +68,11 @@ abbrev pub method_said : ℕ → List ℕ → ℕ
 method_said version method = if version == 0 then 0 else slice_index method 1 % 16
 
 -- the item has the wanted number
-abbrev pub IsWanted : ℕ → PlaceTree → Type 0
+abbrev pub IsWanted : ℕ → LocationTree → Type 0
 IsWanted wanted p = big_number (length p.number) p.number ≡ wanted
 
 -- only extents of the wanted item are numbers, so only those need a size of 0, 4 or 8
-pub record IsPlace (wanted version : ℕ) (s : Sizes) (p : PlaceTree) : Type 0 where
+pub record IsLocation (wanted version : ℕ) (s : Sizes) (p : LocationTree) : Type 0 where
   pub number : length p.number ≡ number_len version
   pub method : length p.method ≡ method_len version
   pub reference : length p.reference ≡ 2
@@ -85,9 +85,9 @@ pub record IsPlace (wanted version : ℕ) (s : Sizes) (p : PlaceTree) : Type 0 w
   pub sized : IsWanted wanted p → 0 < length p.extents
       → IsSize s.index × IsSize s.offset × IsSize s.len
 
--- the place that the fields spell
-abbrev pub place_of : ℕ → PlaceTree → Place
-place_of version p =
+-- the offset that the fields spell
+abbrev pub location_of : ℕ → LocationTree → ItemExtents
+location_of version p =
     record {
       method = method_said version p.method;
       base = big_number (length p.base) p.base;
@@ -95,25 +95,25 @@ place_of version p =
     }
 
 -- where the item is, if it is the wanted one
-abbrev pub place_said : ℕ → ℕ → PlaceTree → List Place
-place_said wanted version p =
-    if big_number (length p.number) p.number == wanted then place_of version p ∷ [] else []
+abbrev pub location_said : ℕ → ℕ → LocationTree → List ItemExtents
+location_said wanted version p =
+    if big_number (length p.number) p.number == wanted then location_of version p ∷ [] else []
 
 -- ---- an `iloc`: two bytes of sizes, a count, items, and any bytes
 
 -- the fields of an `iloc`
-pub record PlacesTree : Type 0 where
+pub record LocationsTree : Type 0 where
   pub head : FullHead
   pub packed : List ℕ
   pub sizes : Sizes
   pub count : List ℕ
-  pub places : List PlaceTree
+  pub items : List LocationTree
   pub rest : List ℕ
 
 -- the bytes of an `iloc`
-abbrev pub print_places : PlacesTree → List ℕ
-print_places t =
-    print_full t.head (t.packed ++ (t.count ++ (flat_map print_place t.places ++ t.rest)))
+abbrev pub print_locations : LocationsTree → List ℕ
+print_locations t =
+    print_full t.head (t.packed ++ (t.count ++ (flat_map print_location t.items ++ t.rest)))
 
 -- two bytes spell four numbers of 4 bits
 pub record ArePacked (packed : List ℕ) (s : Sizes) : Type 0 where
@@ -135,28 +135,28 @@ sizes_in version s =
     }
 
 -- the tree is valid: its fields have their lengths, and its count counts its items
-pub record ArePlaces (wanted : ℕ) (t : PlacesTree) : Type 0 where
+pub record AreLocations (wanted : ℕ) (t : LocationsTree) : Type 0 where
   pub head : IsFull t.head
   pub version : t.head.version ≤ 2
   pub packed : ArePacked t.packed t.sizes
   pub count : length t.count ≡ number_len t.head.version
-  pub counted : big_number (length t.count) t.count ≡ length t.places
-  pub places : All (IsPlace wanted t.head.version (sizes_in t.head.version t.sizes)) t.places
+  pub counted : big_number (length t.count) t.count ≡ length t.items
+  pub items : All (IsLocation wanted t.head.version (sizes_in t.head.version t.sizes)) t.items
 
--- the places of the wanted item
-abbrev pub places_said : ℕ → PlacesTree → List Place
-places_said wanted t = flat_map (place_said wanted t.head.version) t.places
+-- the locations of the wanted item
+abbrev pub locations_said : ℕ → LocationsTree → List ItemExtents
+locations_said wanted t = flat_map (location_said wanted t.head.version) t.items
 
--- the bytes of a valid `iloc` give the places of the wanted item that its tree says
-abbrev pub PlacesAreRead : ℕ → PlacesTree → Type 0
-PlacesAreRead wanted t =
-    ArePlaces wanted t → locations wanted (print_places t) ≡ Ok (places_said wanted t)
+-- the bytes of a valid `iloc` give the locations of the wanted item that its tree says
+abbrev pub LocationsAreRead : ℕ → LocationsTree → Type 0
+LocationsAreRead wanted t =
+    AreLocations wanted t → locations wanted (print_locations t) ≡ Ok (locations_said wanted t)
 
 -- an `iloc` that is read is that of a tree
-abbrev pub IsAPlaces : ℕ → List ℕ → List Place → Type 0
-IsAPlaces wanted body places =
-    locations wanted body ≡ Ok places → (t : PlacesTree) × ArePlaces wanted t
-    × (places_said wanted t ≡ places) × (print_places t ≡ body)
+abbrev pub IsAnIloc : ℕ → List ℕ → List ItemExtents → Type 0
+IsAnIloc wanted body listed =
+    locations wanted body ≡ Ok listed → (t : LocationsTree) × AreLocations wanted t
+    × (locations_said wanted t ≡ listed) × (print_locations t ≡ body)
 
 -- ---- the text of an extent
 
@@ -164,13 +164,13 @@ IsAPlaces wanted body places =
 pub record StandsAt (bytes : List ℕ) (from : ℕ) (text : List ℕ) : Type 0 where
   pub front : List ℕ
   pub behind : List ℕ
-  pub place : length front ≡ from
+  pub begins : length front ≡ from
   pub whole : front ++ (text ++ behind) ≡ bytes
 
 -- a text is all that stands behind so many bytes
 pub record RunsToEnd (bytes : List ℕ) (from : ℕ) (text : List ℕ) : Type 0 where
   pub front : List ℕ
-  pub place : length front ≡ from
+  pub begins : length front ≡ from
   pub whole : front ++ text ≡ bytes
 
 -- in the file: length 0 runs to the end, and is empty past it
@@ -185,7 +185,7 @@ IsIdatText idat from len text =
     ((len ≡ 0) × RunsToEnd idat from text)
     ⊎ ((0 < len) × (length text ≡ len) × StandsAt idat from text)
 
--- places have 64 bits
+-- offsets have 64 bits
 abbrev pub IsText : Within → List ℕ → ℕ → Extent → List ℕ → Type 0
 IsText File bytes base e text =
     (base + e.offset < 2 ^ 64) × IsFileText bytes (base + e.offset) e.len text

@@ -32,11 +32,11 @@ impl fmt::Display for Angle {
 }
 
 /// The latitude and the longitude of the location.
-pub fn place(exif: &Exif) -> Option<(Angle, Angle)>
-    ensures latitude { IfSome result (λ place.
-        found exif.now.fields Context.Gps 2 ≡ Some (Value.Rational place.0.parts)) }
-    ensures longitude { IfSome result (λ place.
-        found exif.now.fields Context.Gps 4 ≡ Some (Value.Rational place.1.parts)) }
+pub fn location(exif: &Exif) -> Option<(Angle, Angle)>
+    ensures latitude { IfSome result (λ location.
+        found exif.now.fields Context.Gps 2 ≡ Some (Value.Rational location.0.parts)) }
+    ensures longitude { IfSome result (λ location.
+        found exif.now.fields Context.Gps 4 ≡ Some (Value.Rational location.1.parts)) }
 {
     let latitude = angle_of(exif, Tag::GPSLatitude, Tag::GPSLatitudeRef)?;
     let longitude = angle_of(exif, Tag::GPSLongitude, Tag::GPSLongitudeRef)?;

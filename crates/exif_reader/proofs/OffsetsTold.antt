@@ -1,28 +1,28 @@
--- A lenient parser that is asked for places has those of the trace that it read.
+-- A lenient parser that is asked for offsets has those of the trace that it read.
 use Rattle.std.proofs.Common.{◌≡◌, ◌∙◌, ℕ, zero, suc, Bool, true, false, List, [], ◌∷◌, ◌++◌, map, Option, Some, None, refl, sym, ap, append_assoc}
 use Rattle.std.proofs.lemmas.List.{append-nil}
 use Rattle.exif_base.specs.Bytes.{Reading, number_at}
 use Rattle.exif_types.specs.declared.field.Field.{Field}
 use Rattle.exif_tiff.specs.declared.fault.Fault.{Fault}
-use Rattle.exif_tiff.specs.declared.place.DirectoryPlace.{DirectoryPlace}
-use Rattle.exif_tiff.specs.declared.place.EntryPlace.{EntryPlace}
+use Rattle.exif_tiff.specs.declared.offset.DirectoryOffset.{DirectoryOffset}
+use Rattle.exif_tiff.specs.declared.offset.EntryOffset.{EntryOffset}
 use Rattle.exif_tiff.specs.Trace.{Found, Met, Node, Opens, Visit, chain_nodes, cut, directories_of, entry_of, located_of, ordered_trace}
-use Rattle.exif_reader.specs.Noted.{Noted, TellsPlaces}
+use Rattle.exif_reader.specs.Noted.{Noted, TellsOffsets}
 use Rattle.exif_reader.specs.Running.{Progress, on_met, run}
 use Rattle.exif_reader.proofs.TiffOutcomes.{at_work, stopped}
 
--- the places that were asked for
-abbrev pub asked : List EntryPlace → List DirectoryPlace → Noted
+-- the offsets that were asked for
+abbrev pub asked : List EntryOffset → List DirectoryOffset → Noted
 asked entries directories = record { asked = true; entries = entries; directories = directories }
 
 -- what was noted before a trace, and what the trace adds
-abbrev added : List EntryPlace → List DirectoryPlace → List Node → Noted
+abbrev added : List EntryOffset → List DirectoryOffset → List Node → Noted
 added entries directories nodes =
     asked (entries ++ map entry_of (located_of nodes)) (directories ++ directories_of nodes)
 
 noted : (nodes : List Node) (left : ℕ) (fields : List Field) (faults : List Fault)
-    (entries : List EntryPlace) (directories : List DirectoryPlace)
-    → (run nodes (at_work true left fields faults (asked entries directories))).0.places
+    (entries : List EntryOffset) (directories : List DirectoryOffset)
+    → (run nodes (at_work true left fields faults (asked entries directories))).0.offsets
     ≡ added entries directories (cut left nodes)
 noted [] left fields faults entries directories = rw (append-nil, append-nil) refl
 noted (Opens directory ∷ nodes) left fields faults entries directories =
@@ -44,31 +44,31 @@ pub told : (number : Reading) (bytes : List ℕ) (lenient wanted : Bool) (most :
     (record { asked = wanted; entries = []; directories = [] })
     → run (chain_nodes 8 number bytes 0 (number_at number 4 bytes 4)) start ≡ x
     → lenient ≡ true → wanted ≡ true
-    → TellsPlaces (cut most (ordered_trace number bytes)) x.0.places
+    → TellsOffsets (cut most (ordered_trace number bytes)) x.0.offsets
 unfolding ordered_trace
 told number bytes lenient wanted most start x s e l w =
     let nodes = chain_nodes 8 number bytes 0 (number_at number 4 bytes 4) in
     let begun : start ≡ at_work true most [] [] (asked [] []) =
     s ∙ (λ i. at_work (l i) most [] [] (record { asked = w i; entries = []; directories = [] })) in
-    let all : x.0.places ≡ added [] [] (cut most nodes) =
-    ap (λ (y : Progress × Option Fault). y.0.places) (sym e)
-    ∙ (ap (λ (p : Progress). (run nodes p).0.places) begun ∙ noted nodes most [] [] [] []) in
+    let all : x.0.offsets ≡ added [] [] (cut most nodes) =
+    ap (λ (y : Progress × Option Fault). y.0.offsets) (sym e)
+    ∙ (ap (λ (p : Progress). (run nodes p).0.offsets) begun ∙ noted nodes most [] [] [] []) in
     record {
       entries = ap (λ (p : Noted). p.entries) all;
       directories = ap (λ (p : Noted). p.directories) all;
     }
 
--- a fault that is noted changes no place
+-- a fault that is noted changes no offset
 by_mode : (b : Bool) (p q : Progress) (fault : Fault)
     → elim b as (λ _. Progress × Option Fault) [
       | true ↦ (record p { faults = p.faults ++ fault ∷ [] }, None)
       | false ↦ (p, Some fault)
     ]
-    ≡ (q, None) → p.places ≡ q.places
-by_mode true p q fault e = ap (λ (y : Progress × Option Fault). y.0.places) e
+    ≡ (q, None) → p.offsets ≡ q.offsets
+by_mode true p q fault e = ap (λ (y : Progress × Option Fault). y.0.offsets) e
 by_mode false p q fault e = absurd (stopped p q fault e)
 
--- so a parser that goes on after a fault has the places that it had before
-pub met_places : (p q : Progress) (fault : Fault) → on_met p fault ≡ (q, None)
-    → p.places ≡ q.places
-met_places p q fault e = by_mode p.lenient p q fault e
+-- so a parser that goes on after a fault has the offsets that it had before
+pub met_offsets : (p q : Progress) (fault : Fault) → on_met p fault ≡ (q, None)
+    → p.offsets ≡ q.offsets
+met_offsets p q fault e = by_mode p.lenient p q fault e

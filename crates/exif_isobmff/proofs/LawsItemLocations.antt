@@ -12,8 +12,8 @@ use Rattle.exif_isobmff.specs.declared.locations.ItemHead.{ItemHead}
 use Rattle.exif_isobmff.specs.declared.locations.Sizes.{Sizes}
 use Rattle.exif_isobmff.specs.HeifRefusals.{too_small, external_data, invalid_base_size, invalid_index_size, invalid_offset_size, invalid_length_size}
 use Rattle.exif_isobmff.specs.Boxes.{bytes_at, pass_at, number_at, times}
-use Rattle.exif_isobmff.specs.Places.{Place, item_width, sized_at, extent_at, method_at, item_head_at, location_at}
-use Rattle.exif_isobmff.specs.PlaceGrammar.{IsSize, ExtentTree, print_extent, IsExtent, extent_of, PlaceTree, print_place, method_len, method_said, IsPlace, place_of, place_said}
+use Rattle.exif_isobmff.specs.ItemLocations.{ItemExtents, item_width, sized_at, extent_at, method_at, item_head_at, location_at}
+use Rattle.exif_isobmff.specs.LocationGrammar.{IsSize, ExtentTree, print_extent, IsExtent, extent_of, LocationTree, print_location, method_len, method_said, IsLocation, location_of, location_said}
 use Rattle.exif_isobmff.proofs.SplitterBoxes.{bind_ok, ok_same}
 use Rattle.exif_isobmff.proofs.LawsSteps.{then_ok, unless-ok, bytes_read, number_read, times-read, times-only, sized-read, number-taken, sized-taken, bytes-taken}
 
@@ -165,7 +165,7 @@ file-in m r h z = by (eqb r 0) refl
     by true q = eqb-true r 0 q
     by false q = let k : true ≡ false = sym (ap (λ t. t && not (eqb r 0)) (eq-eqb m 0 z) ∙ ap not q) ∙ h in absurd cc
 
-abbrev head_said : ℕ → PlaceTree → ItemHead
+abbrev head_said : ℕ → LocationTree → ItemHead
 head_said version p = record {
   number = big_number (length p.number) p.number;
   method = method_said version p.method;
@@ -173,7 +173,7 @@ head_said version p = record {
   count = big_number 2 p.count;
 }
 
-head-read : (wanted version : ℕ) (s : Sizes) (p : PlaceTree) (rest : List ℕ) → IsPlace wanted version s p
+head-read : (wanted version : ℕ) (s : Sizes) (p : LocationTree) (rest : List ℕ) → IsLocation wanted version s p
     → item_head_at version s (p.number ++ (p.method ++ (p.reference ++ (p.base ++ (p.count ++ rest))))) ≡ Ok (head_said version p, rest)
 unfolding item_head_at
 head-read wanted version s p rest is =
@@ -262,10 +262,10 @@ all-extents s (e ∷ es) h =
     let one = All-head (λ e. IsExtent s e × AreSizes s) e es h in
     (All-cons (IsExtent s) e es one.0 (all-extents s es (All-tail (λ e. IsExtent s e × AreSizes s) e es h)).0, λ lt. one.1)
 
-abbrev places_if : Bool → Place → List Place
-places_if t p = cond t (p ∷ []) []
+abbrev locations_if : Bool → ItemExtents → List ItemExtents
+locations_if t p = cond t (p ∷ []) []
 
-abbrev located : ℕ → Sizes → ItemHead × List ℕ → Bool → Front (List Place)
+abbrev located : ℕ → Sizes → ItemHead × List ℕ → Bool → Front (List ItemExtents)
 located wanted s h t =
     cond t (times h.0.count (extent_at s) h.1 >>= λ extents. Ok (record { method = h.0.method; base = h.0.base; extents = extents.0 } ∷ [], extents.1))
     (pass_at ((s.index + s.offset + s.len) * h.0.count) h.1 >>= λ passed. Ok ([], passed.1))
@@ -282,18 +282,18 @@ pass-read n bytes rest e =
     passed : Bool → List ℕ → Front (Unit {0})
     passed t rest = cond t (Err too_small) (Ok (tt, rest))
 
-place-behind : (p : PlaceTree) (rest : List ℕ)
-    → print_place p ++ rest ≡ p.number ++ (p.method ++ (p.reference ++ (p.base ++ (p.count ++ (flat_map print_extent p.extents ++ rest)))))
-place-behind p rest =
+location-behind : (p : LocationTree) (rest : List ℕ)
+    → print_location p ++ rest ≡ p.number ++ (p.method ++ (p.reference ++ (p.base ++ (p.count ++ (flat_map print_extent p.extents ++ rest)))))
+location-behind p rest =
     append_assoc p.number (p.method ++ (p.reference ++ (p.base ++ (p.count ++ flat_map print_extent p.extents)))) rest
     ∙ ap (λ t. p.number ++ t) (append_assoc p.method (p.reference ++ (p.base ++ (p.count ++ flat_map print_extent p.extents))) rest)
     ∙ ap (λ t. p.number ++ (p.method ++ t)) (append_assoc p.reference (p.base ++ (p.count ++ flat_map print_extent p.extents)) rest)
     ∙ ap (λ t. p.number ++ (p.method ++ (p.reference ++ t))) (append_assoc p.base (p.count ++ flat_map print_extent p.extents) rest)
     ∙ ap (λ t. p.number ++ (p.method ++ (p.reference ++ (p.base ++ t)))) (append_assoc p.count (flat_map print_extent p.extents) rest)
 
-located-read : (wanted version : ℕ) (s : Sizes) (p : PlaceTree) (rest : List ℕ) (t : Bool) → IsPlace wanted version s p
+located-read : (wanted version : ℕ) (s : Sizes) (p : LocationTree) (rest : List ℕ) (t : Bool) → IsLocation wanted version s p
     → eqb (big_number (length p.number) p.number) wanted ≡ t
-    → located wanted s (head_said version p, flat_map print_extent p.extents ++ rest) t ≡ Ok (places_if t (place_of version p), rest)
+    → located wanted s (head_said version p, flat_map print_extent p.extents ++ rest) t ≡ Ok (locations_if t (location_of version p), rest)
 located-read wanted version s p rest true is e =
     let sized = is.sized (eqb-true (big_number (length p.number) p.number) wanted e) in
     then_ok (times (big_number 2 p.count) (extent_at s) (flat_map print_extent p.extents ++ rest)) (map extent_of p.extents, rest) _
@@ -305,28 +305,28 @@ located-read wanted version s p rest false is e =
     (extents-len s p.extents is.extents ∙ ap (λ n. (s.index + s.offset + s.len) * n) (sym is.counted)))
 
 -- an item of an `iloc` is read as its tree says
-pub location-read : (wanted version : ℕ) (s : Sizes) (p : PlaceTree) (rest : List ℕ) → IsPlace wanted version s p
-    → location_at wanted version s (print_place p ++ rest) ≡ Ok (place_said wanted version p, rest)
+pub location-read : (wanted version : ℕ) (s : Sizes) (p : LocationTree) (rest : List ℕ) → IsLocation wanted version s p
+    → location_at wanted version s (print_location p ++ rest) ≡ Ok (location_said wanted version p, rest)
 location-read wanted version s p rest is =
-    ap (location_at wanted version s) (place-behind p rest)
+    ap (location_at wanted version s) (location-behind p rest)
     ∙ location-headed wanted version s (p.number ++ (p.method ++ (p.reference ++ (p.base ++ (p.count ++ (flat_map print_extent p.extents ++ rest))))))
     ∙ then_ok (item_head_at version s (p.number ++ (p.method ++ (p.reference ++ (p.base ++ (p.count ++ (flat_map print_extent p.extents ++ rest))))))) (head_said version p, flat_map print_extent p.extents ++ rest)
     (λ h. located wanted s h (eqb h.0.number wanted)) (head-read wanted version s p (flat_map print_extent p.extents ++ rest) is)
     ∙ located-read wanted version s p rest (eqb (big_number (length p.number) p.number) wanted) is refl
 
 -- the extents of an item that was read or passed over
-record Located (wanted version : ℕ) (s : Sizes) (text : List ℕ) (x : List Place × List ℕ) : Type 0 where
-  tree : PlaceTree
-  is : IsPlace wanted version s tree
-  said : place_said wanted version tree ≡ x.0
-  whole : print_place tree ++ x.1 ≡ text
+record Located (wanted version : ℕ) (s : Sizes) (text : List ℕ) (x : List ItemExtents × List ℕ) : Type 0 where
+  tree : LocationTree
+  is : IsLocation wanted version s tree
+  said : location_said wanted version tree ≡ x.0
+  whole : print_location tree ++ x.1 ≡ text
 
-abbrev with_extents : {version : ℕ} {s : Sizes} {text : List ℕ} {y : ItemHead × List ℕ} → Headed version s text y → List ExtentTree → PlaceTree
+abbrev with_extents : {version : ℕ} {s : Sizes} {text : List ℕ} {y : ItemHead × List ℕ} → Headed version s text y → List ExtentTree → LocationTree
 with_extents h es = record { number = h.number; method = h.method; reference = h.reference; base = h.base; count = h.count; extents = es }
 
-located-by : (wanted version : ℕ) (s : Sizes) (text : List ℕ) (y : ItemHead × List ℕ) (h : Headed version s text y) (x : List Place × List ℕ) (es : List ExtentTree)
+located-by : (wanted version : ℕ) (s : Sizes) (text : List ℕ) (y : ItemHead × List ℕ) (h : Headed version s text y) (x : List ItemExtents × List ℕ) (es : List ExtentTree)
     → y.0.count ≡ length es → All (IsExtent s) es → (y.0.number ≡ wanted → 0 < length es → AreSizes s) → flat_map print_extent es ++ x.1 ≡ y.1
-    → place_said wanted version (with_extents h es) ≡ x.0 → Located wanted version s text x
+    → location_said wanted version (with_extents h es) ≡ x.0 → Located wanted version s text x
 located-by wanted version s text y h x es count are sized whole said = record {
   tree = with_extents h es;
   is = record {
@@ -342,7 +342,7 @@ located-by wanted version s text y h x es count are sized whole said = record {
     sized = λ e. sized (sym (ap (λ (i : ItemHead). i.number) h.value) ∙ e);
   };
   said = said;
-  whole = place-behind (with_extents h es) x.1
+  whole = location-behind (with_extents h es) x.1
       ∙ ap (λ t. h.number ++ (h.method ++ (h.reference ++ (h.base ++ (h.count ++ t))))) whole ∙ h.whole;
 }
 
@@ -353,7 +353,7 @@ pass-only n text x e =
     let same : (tt, drop n text) ≡ x = ok_same u.1 in
     (take n text, length-take-le n text room, ap (λ r. take n text ++ r) (sym (ap (λ (y : Unit {0} × List ℕ). y.1) same)) ∙ take-append-drop n text)
 
-located-only : (wanted version : ℕ) (s : Sizes) (text : List ℕ) (y : ItemHead × List ℕ) (h : Headed version s text y) (x : List Place × List ℕ) (t : Bool)
+located-only : (wanted version : ℕ) (s : Sizes) (text : List ℕ) (y : ItemHead × List ℕ) (h : Headed version s text y) (x : List ItemExtents × List ℕ) (t : Bool)
     → eqb y.0.number wanted ≡ t → located wanted s y t ≡ Ok x → Located wanted version s text x
 located-only wanted version s text y h x true q e =
     let b = bind_ok (times y.0.count (extent_at s) y.1) _ x e in
@@ -362,13 +362,13 @@ located-only wanted version s text y h x true q e =
     let same : (record { method = y.0.method; base = y.0.base; extents = b.0.0 } ∷ [], b.0.1) ≡ x = ok_same b.2 in
     let here : eqb (big_number (length h.number) h.number) wanted ≡ true = ap (λ (i : ItemHead). eqb i.number wanted) h.value ∙ q in
     located-by wanted version s text y h x ts.trees (sym ts.count) all.0 (λ e. all.1)
-    (ap (λ r. flat_map print_extent ts.trees ++ r) (sym (ap (λ (z : List Place × List ℕ). z.1) same)) ∙ ts.whole)
-    (ap (λ t. places_if t (place_of version (with_extents h ts.trees))) here
+    (ap (λ r. flat_map print_extent ts.trees ++ r) (sym (ap (λ (z : List ItemExtents × List ℕ). z.1) same)) ∙ ts.whole)
+    (ap (λ t. locations_if t (location_of version (with_extents h ts.trees))) here
     ∙ ap (λ (i : ItemHead). made i.method i.base (map extent_of ts.trees)) h.value
     ∙ ap (λ es. made y.0.method y.0.base es) ts.vals
-    ∙ ap (λ (z : List Place × List ℕ). z.0) same)
+    ∙ ap (λ (z : List ItemExtents × List ℕ). z.0) same)
   where
-    made : ℕ → ℕ → List Extent → List Place
+    made : ℕ → ℕ → List Extent → List ItemExtents
     made method base extents = record { method = method; base = base; extents = extents } ∷ []
 located-only wanted version s text y h x false q e =
     let b = bind_ok (pass_at ((s.index + s.offset + s.len) * y.0.count) y.1) _ x e in
@@ -377,12 +377,12 @@ located-only wanted version s text y h x false q e =
     let same : ([], b.0.1) ≡ x = ok_same b.2 in
     let here : eqb (big_number (length h.number) h.number) wanted ≡ false = ap (λ (i : ItemHead). eqb i.number wanted) h.value ∙ q in
     located-by wanted version s text y h x ps.extents (sym ps.count) ps.are (λ e. absurd (eqb-false y.0.number wanted q e))
-    (ap (λ r. flat_map print_extent ps.extents ++ r) (sym (ap (λ (z : List Place × List ℕ). z.1) same)) ∙ ps.whole)
-    (ap (λ t. places_if t (place_of version (with_extents h ps.extents))) here ∙ ap (λ (z : List Place × List ℕ). z.0) same)
+    (ap (λ r. flat_map print_extent ps.extents ++ r) (sym (ap (λ (z : List ItemExtents × List ℕ). z.1) same)) ∙ ps.whole)
+    (ap (λ t. locations_if t (location_of version (with_extents h ps.extents))) here ∙ ap (λ (z : List ItemExtents × List ℕ). z.0) same)
 
 -- an item that is read has a tree
-pub location-only : (wanted version : ℕ) (s : Sizes) (text : List ℕ) (x : List Place × List ℕ) → location_at wanted version s text ≡ Ok x
-    → (p : PlaceTree) × IsPlace wanted version s p × (place_said wanted version p ≡ x.0) × (print_place p ++ x.1 ≡ text)
+pub location-only : (wanted version : ℕ) (s : Sizes) (text : List ℕ) (x : List ItemExtents × List ℕ) → location_at wanted version s text ≡ Ok x
+    → (p : LocationTree) × IsLocation wanted version s p × (location_said wanted version p ≡ x.0) × (print_location p ++ x.1 ≡ text)
 location-only wanted version s text x e =
     let b = bind_ok (item_head_at version s text) (λ h. located wanted s h (eqb h.0.number wanted)) x (sym (location-headed wanted version s text) ∙ e) in
     let l = located-only wanted version s text b.0 (head-only version s text b.0 b.1) x (eqb b.0.0.number wanted) refl b.2 in

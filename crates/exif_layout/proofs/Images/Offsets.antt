@@ -9,9 +9,9 @@ use Rattle.exif_layout.specs.Encoding.{spelled, encode, value_len}
 use Rattle.exif_types.specs.ValueTypes.{type_number, count_of}
 use Rattle.exif_table.specs.declared.context.Context.{Context}
 use Rattle.exif_table.specs.declared.context.Context.TheVariants.{Tiff, Exif, Gps, Interop}
-use Rattle.exif_layout.specs.Slots.{Draft, Content, Known, PlacesOf, LengthsOf, PlaceOf, Slot, content_len}
+use Rattle.exif_layout.specs.Slots.{Draft, Content, Known, OffsetsOf, LengthsOf, OffsetOf, Slot, content_len}
 use Rattle.exif_layout.specs.declared.block_kind.BlockKind.TheVariants.{Strips, Tiles, Jpeg}
-use Rattle.exif_layout.specs.Places.{Written, value_of, places_from, blocks_place, written, directory_len, after_value, after_values, after_blocks, even, tiff_place, exif_place, gps_place, interop_place, tiff_values, exif_values, gps_values, interop_values, strips_place, tiles_place, jpeg_place, draft_end}
+use Rattle.exif_layout.specs.Offsets.{Written, value_of, offsets_from, blocks_offset, written, directory_len, after_value, after_values, after_blocks, even, tiff_offset, exif_offset, gps_offset, interop_offset, tiff_values, exif_values, gps_values, interop_values, strips_offset, tiles_offset, jpeg_offset, draft_end}
 use Rattle.exif_layout.specs.Image.{entry_text, directory_text, directory_part, value_parts, block_parts, draft_parts}
 use Rattle.exif_layout.specs.Refused.{is_unknown}
 use Rattle.exif_layout.specs.Layout.{Spans}
@@ -19,23 +19,23 @@ use Rattle.exif_layout.proofs.Images.Words.{IsKnown, AllKnown}
 use Rattle.exif_layout.proofs.Images.Standing.{length_spelled, spans_append}
 use Rattle.exif_layout.proofs.Images.Values.{length-encode}
 
-length-places_from : (place : ℕ) (lengths : List ℕ) → length (places_from place lengths) ≡ length lengths
-length-places_from place [] = refl
-length-places_from place (len ∷ lengths) = ap suc (length-places_from (place + len) lengths)
+length-offsets_from : (offset : ℕ) (lengths : List ℕ) → length (offsets_from offset lengths) ≡ length lengths
+length-offsets_from offset [] = refl
+length-offsets_from offset (len ∷ lengths) = ap suc (length-offsets_from (offset + len) lengths)
 
--- once its places are settled, a value takes as many bytes as was counted before
+-- once its offsets are settled, a value takes as many bytes as was counted before
 pub length-value_of : (draft : Draft) (start : ℕ) (content : Content) → value_len (value_of draft start content) ≡ content_len content
 length-value_of draft start (Known value) = refl
-length-value_of draft start (PlacesOf blocks lengths) = ap (λ n. 4 * n) (length-places_from (blocks_place draft start blocks) lengths)
+length-value_of draft start (OffsetsOf blocks lengths) = ap (λ n. 4 * n) (length-offsets_from (blocks_offset draft start blocks) lengths)
 length-value_of draft start (LengthsOf blocks lengths) = refl
-length-value_of draft start (PlaceOf context) = refl
+length-value_of draft start (OffsetOf context) = refl
 
--- a value of a known type is still of one once its places are settled
+-- a value of a known type is still of one once its offsets are settled
 pub known_value : (draft : Draft) (start : ℕ) (content : Content) → IsKnown content → is_unknown (value_of draft start content) ≡ false
 known_value draft start (Known value) h = h
-known_value draft start (PlacesOf blocks lengths) h = refl
+known_value draft start (OffsetsOf blocks lengths) h = refl
 known_value draft start (LengthsOf blocks lengths) h = refl
-known_value draft start (PlaceOf context) h = refl
+known_value draft start (OffsetOf context) h = refl
 
 -- a directory has one written entry for each slot
 pub length-written : (draft : Draft) (start at values : ℕ) (slots : List Slot) → length (written draft start at values slots) ≡ length slots
@@ -44,7 +44,7 @@ length-written draft start at values (slot ∷ slots) = ap suc (length-written d
 
 -- the last 4 bytes of an entry
 element_of : Order → Written → Bool → List ℕ
-element_of order entry fits = if fits then encode order entry.value ++ replicate (4 - value_len entry.value) 0 else spelled order 4 entry.place
+element_of order entry fits = if fits then encode order entry.value ++ replicate (4 - value_len entry.value) 0 else spelled order 4 entry.offset
 
 length-element : (order : Order) (entry : Written) → is_unknown entry.value ≡ false → (fits : Bool) → nat_le (value_len entry.value) 4 ≡ fits → length (element_of order entry fits) ≡ 4
 unfolding element_of
@@ -55,7 +55,7 @@ length-element order entry h true e =
     let b = length-encode order entry.value h in
     let c : length gap ≡ 4 - value_len entry.value = length-replicate (4 - value_len entry.value) 0 in
     omega arith
-length-element order entry h false e = length_spelled order 4 entry.place
+length-element order entry h false e = length_spelled order 4 entry.offset
 
 -- an entry of a known type takes 12 bytes
 pub length-entry_text : (order : Order) (entry : Written) → is_unknown entry.value ≡ false → length (entry_text order entry) ≡ 12
@@ -102,26 +102,26 @@ length-directory_text order next entries h =
     omega arith
 
 -- A directory begins where it may, if it has an entry, and ends as many bytes later as it has.
-pub directory_spans : (order : Order) (draft : Draft) (start next from place at values : ℕ) (slots : List Slot) → AllKnown slots
-    → (0 < length slots) ⊎ (from ≡ place) → from ≤ place → place ≤ from + 1
-    → Spans from (directory_part order place next (written draft start at values slots)) (place + directory_len slots)
-directory_spans order draft start next from place at values [] h o low high =
+pub directory_spans : (order : Order) (draft : Draft) (start next from offset at values : ℕ) (slots : List Slot) → AllKnown slots
+    → (0 < length slots) ⊎ (from ≡ offset) → from ≤ offset → offset ≤ from + 1
+    → Spans from (directory_part order offset next (written draft start at values slots)) (offset + directory_len slots)
+directory_spans order draft start next from offset at values [] h o low high =
     ⊎_elim (λ no. absurd (omega arith)) (λ e. omega arith) o
-directory_spans order draft start next from place at values (slot ∷ slots) h o low high =
+directory_spans order draft start next from offset at values (slot ∷ slots) h o low high =
     let entries : List Written = written draft start at values (slot ∷ slots) in
     let e : length entries ≡ suc (length slots) = length-written draft start at values (slot ∷ slots) in
     let l = length-directory_text order next entries (known_written draft start at values (slot ∷ slots) h) in
     (low, high, omega arith)
 
--- the place where a value may stand is even, at most one byte on
+-- the offset where a value may stand is even, at most one byte on
 pub even_low : (n : ℕ) → n ≤ even n
 even_low n = omega arith
 
--- the next even place is at most one byte on
+-- the next even offset is at most one byte on
 pub even_high : (n : ℕ) → even n ≤ n + 1
 even_high n = omega arith
 
--- one more value, which fits into its entry or stands at the next even place
+-- one more value, which fits into its entry or stands at the next even offset
 value_span : (order : Order) (draft : Draft) (start at values : ℕ) (slot : Slot) (slots : List Slot) → IsKnown slot.content
     → ((v : ℕ) → Spans v (value_parts order (written draft start (at + 12) v slots)) (after_values v slots))
     → (fits : Bool) → nat_le (content_len slot.content) 4 ≡ fits
@@ -135,31 +135,31 @@ value_span order draft start at values slot slots h more false e =
     length-encode order (value_of draft start slot.content) (known_value draft start slot.content h) ∙ length-value_of draft start slot.content in
     rw (same, e) (even_low values, even_high values, rw len (more (even values + content_len slot.content)))
 
--- the values of a directory stand side by side from their first place to their end
+-- the values of a directory stand side by side from their first offset to their end
 pub values_span : (order : Order) (draft : Draft) (start at values : ℕ) (slots : List Slot) → AllKnown slots
     → Spans values (value_parts order (written draft start at values slots)) (after_values values slots)
 values_span order draft start at values [] h = refl
 values_span order draft start at values (slot ∷ slots) h =
     value_span order draft start at values slot slots h.0 (λ v. values_span order draft start (at + 12) v slots h.1) (nat_le (content_len slot.content) 4) refl
 
--- blocks stand side by side from their first place to their end
-pub blocks_span : (place : ℕ) (texts : List (List ℕ)) → Spans place (block_parts place texts) (after_blocks place texts)
-blocks_span place [] = refl
-blocks_span place (text ∷ texts) = (omega arith, omega arith, blocks_span (place + length text) texts)
+-- blocks stand side by side from their first offset to their end
+pub blocks_span : (offset : ℕ) (texts : List (List ℕ)) → Spans offset (block_parts offset texts) (after_blocks offset texts)
+blocks_span offset [] = refl
+blocks_span offset (text ∷ texts) = (omega arith, omega arith, blocks_span (offset + length text) texts)
 
 -- a draft's parts go from where it starts to where it ends
 pub draft_spans : (order : Order) (draft : Draft) (start next : ℕ) → 0 < length (draft.slots Tiff) → ((context : Context) → AllKnown (draft.slots context))
     → Spans start (draft_parts order draft start next) (draft_end draft start)
-unfolding draft_parts tiff_place exif_place gps_place interop_place tiff_values exif_values gps_values interop_values strips_place tiles_place jpeg_place draft_end
+unfolding draft_parts tiff_offset exif_offset gps_offset interop_offset tiff_values exif_values gps_values interop_values strips_offset tiles_offset jpeg_offset draft_end
 draft_spans order draft start next some h =
-    spans_append _ (exif_place draft start) _ _ _ (directory_spans order draft start next start (tiff_place draft start) _ _ (draft.slots Tiff) (h Tiff) (inl some) (even_low start) (even_high start))
-    (spans_append _ (gps_place draft start) _ _ _ (directory_spans order draft start 0 _ (exif_place draft start) _ _ (draft.slots Exif) (h Exif) (inr refl) (omega arith) (omega arith))
-    (spans_append _ (interop_place draft start) _ _ _ (directory_spans order draft start 0 _ (gps_place draft start) _ _ (draft.slots Gps) (h Gps) (inr refl) (omega arith) (omega arith))
-    (spans_append _ (tiff_values draft start) _ _ _ (directory_spans order draft start 0 _ (interop_place draft start) _ _ (draft.slots Interop) (h Interop) (inr refl) (omega arith) (omega arith))
+    spans_append _ (exif_offset draft start) _ _ _ (directory_spans order draft start next start (tiff_offset draft start) _ _ (draft.slots Tiff) (h Tiff) (inl some) (even_low start) (even_high start))
+    (spans_append _ (gps_offset draft start) _ _ _ (directory_spans order draft start 0 _ (exif_offset draft start) _ _ (draft.slots Exif) (h Exif) (inr refl) (omega arith) (omega arith))
+    (spans_append _ (interop_offset draft start) _ _ _ (directory_spans order draft start 0 _ (gps_offset draft start) _ _ (draft.slots Gps) (h Gps) (inr refl) (omega arith) (omega arith))
+    (spans_append _ (tiff_values draft start) _ _ _ (directory_spans order draft start 0 _ (interop_offset draft start) _ _ (draft.slots Interop) (h Interop) (inr refl) (omega arith) (omega arith))
     (spans_append _ (exif_values draft start) _ _ _ (values_span order draft start _ (tiff_values draft start) (draft.slots Tiff) (h Tiff))
     (spans_append _ (gps_values draft start) _ _ _ (values_span order draft start _ (exif_values draft start) (draft.slots Exif) (h Exif))
     (spans_append _ (interop_values draft start) _ _ _ (values_span order draft start _ (gps_values draft start) (draft.slots Gps) (h Gps))
-    (spans_append _ (strips_place draft start) _ _ _ (values_span order draft start _ (interop_values draft start) (draft.slots Interop) (h Interop))
-    (spans_append _ (tiles_place draft start) _ _ _ (blocks_span (strips_place draft start) (draft.blocks Strips))
-    (spans_append _ (jpeg_place draft start) _ _ _ (blocks_span (tiles_place draft start) (draft.blocks Tiles))
-    (blocks_span (jpeg_place draft start) (draft.blocks Jpeg)))))))))))
+    (spans_append _ (strips_offset draft start) _ _ _ (values_span order draft start _ (interop_values draft start) (draft.slots Interop) (h Interop))
+    (spans_append _ (tiles_offset draft start) _ _ _ (blocks_span (strips_offset draft start) (draft.blocks Strips))
+    (spans_append _ (jpeg_offset draft start) _ _ _ (blocks_span (tiles_offset draft start) (draft.blocks Tiles))
+    (blocks_span (jpeg_offset draft start) (draft.blocks Jpeg)))))))))))

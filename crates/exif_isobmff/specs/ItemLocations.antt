@@ -40,17 +40,17 @@ extent_at s text = do
   Ok (record { offset = offset.0; len = len.0 }, len.1)
 
 -- where an item is
-pub record Place : Type 0 where
+pub record ItemExtents : Type 0 where
   pub method : ℕ
   pub base : ℕ
   pub extents : List Extent
 
--- a location of the code as a place
-abbrev pub location_view : Location → Place
+-- a location of the code as one of the definitions
+abbrev pub location_view : Location → ItemExtents
 location_view l = record { method = l.method; base = l.base; extents = l.extents.items }
 
--- the place, where there is one
-abbrev pub location_list : Option Location → List Place
+-- the offset, where there is one
+abbrev pub location_list : Option Location → List ItemExtents
 location_list o = option_to_list (option_map location_view o)
 
 -- how an item is put together: the low 4 bits of two bytes, or 0 in version 0
@@ -71,7 +71,7 @@ item_head_at version s text = do
   Ok (record { number = number.0; method = method.0; base = base.0; count = count.0 }, count.1)
 
 -- a location, where the item at the front is the wanted one; extents of others are passed over
-unfoldable pub location_at : ℕ → ℕ → Sizes → List ℕ → Front (List Place)
+unfoldable pub location_at : ℕ → ℕ → Sizes → List ℕ → Front (List ItemExtents)
 location_at wanted version s text = do
   head ← item_head_at version s text
   if head.0.number == wanted
@@ -86,7 +86,7 @@ location_at wanted version s text = do
         Ok ([], passed.1))
 
 -- the locations of the wanted item in an `iloc` box
-unfoldable pub locations : ℕ → List ℕ → Result (List Place) Refusal
+unfoldable pub locations : ℕ → List ℕ → Result (List ItemExtents) Refusal
 locations wanted body = do
   version ← version_at body
   packed ← number_at 2 version.1
@@ -94,7 +94,7 @@ locations wanted body = do
       number_at (item_width version.0) packed.1
   times_joined count.0 (location_at wanted version.0 (sizes version.0 packed.0)) count.1
 
--- what an extent of this length has of the bytes from its place on; length 0 runs to their end
+-- what an extent of this length has of the bytes from its offset on; length 0 runs to their end
 abbrev pub extent_front : ℕ → List ℕ → Result (List ℕ) Refusal
 extent_front len bytes =
     if len == 0 then Ok bytes else
@@ -132,8 +132,8 @@ gathered bytes_of front (e ∷ es) = do
   if nat_lt 65535 (length (front ++ bytes)) then Err data_too_large else
       gathered bytes_of (front ++ bytes) es
 
--- the bytes at a place, by how the item is put together
-unfoldable pub item_bytes : List ℕ → Option (List ℕ) → Place → Result (List ℕ) Refusal
+-- the bytes at a location, by how the item is put together
+unfoldable pub item_bytes : List ℕ → Option (List ℕ) → ItemExtents → Result (List ℕ) Refusal
 item_bytes file idat p =
     if p.method == 0 then gathered (extent_bytes File file p.base) [] p.extents else
     (if p.method == 1 then (do

@@ -1,22 +1,22 @@
-//! The places of entries and directories, noted where they are asked for.
+//! The offsets of entries and directories, noted where they are asked for.
 
 ghost use Rattle.std.specs.Prelude.{◌≡◌, [], OnOk};
 ghost use Rattle.exif_reader.specs.Noted.{directory_noted, entry_noted};
 
-use exif_tiff::{DirectoryPlace, EntryPlace};
+use exif_tiff::{DirectoryOffset, EntryOffset};
 use std::alloc::{AllocError, Global};
 use std::marker::Model;
 
 /// Where the entries of fields and the directories stand, in the order of a reading. Where nobody
 /// asks for them, none is noted, and no memory is taken.
 #[derive(Drop)]
-pub struct Places {
+pub struct Offsets {
     asked: bool,
-    entries: Vec<EntryPlace>,
-    directories: Vec<DirectoryPlace>,
+    entries: Vec<EntryOffset>,
+    directories: Vec<DirectoryOffset>,
 }
 
-impl Model for Places {
+impl Model for Offsets {
     ghost use Rattle.exif_reader.specs.Noted.{Noted};
 
     ghost Value = { Noted };
@@ -28,12 +28,12 @@ impl Model for Places {
     } };
 }
 
-impl Places {
-    /// No places yet.
-    pub fn new(alloc: Global, asked: bool) -> Places
+impl Offsets {
+    /// No offsets yet.
+    pub fn new(alloc: Global, asked: bool) -> Offsets
         ensures { result ≡ record { asked = asked; entries = []; directories = [] } }
     {
-        Places {
+        Offsets {
             asked,
             entries: Vec::new(alloc),
             directories: Vec::new(alloc),
@@ -41,34 +41,34 @@ impl Places {
     }
 
     /// Notes the entry of a field.
-    pub fn entry(&mut self, place: EntryPlace) -> Result<(), AllocError>
-        ensures { OnOk result (self.new ≡ entry_noted self.old place) }
+    pub fn entry(&mut self, offset: EntryOffset) -> Result<(), AllocError>
+        ensures { OnOk result (self.new ≡ entry_noted self.old offset) }
     {
         if self.asked {
-            self.entries.push(place)?;
+            self.entries.push(offset)?;
         }
         Ok(())
     }
 
     /// Notes a directory.
-    pub fn directory(&mut self, place: DirectoryPlace) -> Result<(), AllocError>
-        ensures { OnOk result (self.new ≡ directory_noted self.old place) }
+    pub fn directory(&mut self, offset: DirectoryOffset) -> Result<(), AllocError>
+        ensures { OnOk result (self.new ≡ directory_noted self.old offset) }
     {
         if self.asked {
-            self.directories.push(place)?;
+            self.directories.push(offset)?;
         }
         Ok(())
     }
 
-    /// The places of entries, in the order of the fields.
-    pub fn entries(&self) -> &[EntryPlace]
+    /// The offsets of entries, in the order of the fields.
+    pub fn entries(&self) -> &[EntryOffset]
         ensures { result.now ≡ self.now.entries }
     {
         self.entries.as_slice()
     }
 
     /// The directories, in the order in which they are visited.
-    pub fn directories(&self) -> &[DirectoryPlace]
+    pub fn directories(&self) -> &[DirectoryOffset]
         ensures { result.now ≡ self.now.directories }
     {
         self.directories.as_slice()

@@ -4,14 +4,14 @@ use exif_types::Context;
 
 /// Where a directory stands, and its kind.
 #[derive(Clone, Copy, Debug)]
-pub struct DirectoryPlace {
-    pub place: u32,
+pub struct DirectoryOffset {
+    pub offset: u32,
     pub context: Context,
 }
 
 /// Where the entry of a field stands, and the directory that has it.
 #[derive(Clone, Copy, Debug)]
-pub struct EntryPlace {
+pub struct EntryOffset {
     pub entry: u32,
     pub directory: u32,
 }

@@ -11,18 +11,18 @@ use Rattle.exif_base.specs.declared.endian.Order.{Order}
 use Rattle.exif_text.specs.FieldTypes.{type_of, known_length}
 use Rattle.exif_table.specs.declared.context.Context.{Context}
 use Rattle.exif_table.specs.declared.context.Context.TheVariants.{Tiff, Exif, Gps, Interop}
-use Rattle.exif_tiff.specs.declared.place.DirectoryPlace.{DirectoryPlace}
+use Rattle.exif_tiff.specs.declared.offset.DirectoryOffset.{DirectoryOffset}
 use Rattle.exif_tiff.specs.Apart.{are_apart}
 use Rattle.exif_tiff.specs.Footprint.{Stretch, chain_directories, directory_stretch, looked_at, value_stretch}
-use Rattle.exif_tiff.specs.Trace.{entry_of, entry_places, header, whole_entries}
+use Rattle.exif_tiff.specs.Trace.{entry_of, entry_offsets, header, whole_entries}
 use Rattle.exif_tiff.proofs.ApartLists.{IsApart}
-use Rattle.exif_edit_base.specs.Locations.{directory_places, gps_of, gps_places, located}
+use Rattle.exif_edit_base.specs.Locations.{directory_offsets, gps_of, visited_gps, located}
 use Rattle.exif_edit_base.specs.Walked.{Finds, Walked}
 use Rattle.exif_edit_base.specs.declared.patch.Span.{Span}
 use Rattle.exif_edit.specs.Erasing.{clipped, gps_spans, nowhere, value_span, within}
-use Rattle.exif_edit.specs.PlacesAlone.{all_kept, chain_kept, places_stand_alone}
+use Rattle.exif_edit.specs.GpsAlone.{all_kept, chain_kept, gps_stands_alone}
 use Rattle.exif_edit.specs.Sharing.{meets}
-use Rattle.exif_edit.proofs.WalkedDirectories.{kept_of, places_of, walked_kept, walked_places}
+use Rattle.exif_edit.proofs.WalkedDirectories.{kept_of, offsets_of, walked_kept, walked_offsets}
 use Rattle.exif_edit_laws.specs.Apart.{AreGpsDataVisited, visited_directory_spans, visited_spans}
 use Rattle.exif_edit_laws.proofs.ApartCounts.{HaveBytes, Lacks, apart_holders, apart_misses, apart_of, Where, behind, before, has, has_before, has_behind, has_inside, inside, stands, holders, holders-append, holders_more, holders_none}
 use Rattle.exif_edit_laws.proofs.ApartEntries.{all_have, all_looked, looked_has, nothing_met}
@@ -31,8 +31,8 @@ use Rattle.exif_edit_laws.proofs.ApartEntries.{all_have, all_looked, looked_has,
 walk : List ℕ → Walked
 walk bytes = record {
   entries = map entry_of (located bytes);
-  gps = gps_places bytes;
-  directories = directory_places bytes;
+  gps = visited_gps bytes;
+  directories = directory_offsets bytes;
 }
 
 walk_finds : (bytes : List ℕ) → Finds bytes (walk bytes)
@@ -44,34 +44,34 @@ module _ (number : Reading) (bytes : List ℕ) where
   looked ps = flat_map (looked_at number bytes) ps
 
   -- directories are those of GPS data and the others
-  pub looked_parts : (i : ℕ) (ds : List DirectoryPlace)
-      → holders i (looked (places_of (kept_of ds))) + holders i (looked (gps_of ds))
-      ≡ holders i (looked (places_of ds))
+  pub looked_parts : (i : ℕ) (ds : List DirectoryOffset)
+      → holders i (looked (offsets_of (kept_of ds))) + holders i (looked (gps_of ds))
+      ≡ holders i (looked (offsets_of ds))
   looked_parts i [] = let a = holders_none i in omega arith
-  looked_parts i (d ∷ ds) = by_context d.context d.place (looked_parts i ds)
+  looked_parts i (d ∷ ds) = by_context d.context d.offset (looked_parts i ds)
     where
       other : (p : ℕ)
-          → holders i (looked (places_of (kept_of ds))) + holders i (looked (gps_of ds))
-          ≡ holders i (looked (places_of ds))
-          → holders i (looked (p ∷ places_of (kept_of ds))) + holders i (looked (gps_of ds))
-          ≡ holders i (looked (p ∷ places_of ds))
+          → holders i (looked (offsets_of (kept_of ds))) + holders i (looked (gps_of ds))
+          ≡ holders i (looked (offsets_of ds))
+          → holders i (looked (p ∷ offsets_of (kept_of ds))) + holders i (looked (gps_of ds))
+          ≡ holders i (looked (p ∷ offsets_of ds))
       other p rest =
-          let a = holders-append i (looked_at number bytes p) (looked (places_of (kept_of ds))) in
-          let b = holders-append i (looked_at number bytes p) (looked (places_of ds)) in
+          let a = holders-append i (looked_at number bytes p) (looked (offsets_of (kept_of ds))) in
+          let b = holders-append i (looked_at number bytes p) (looked (offsets_of ds)) in
           omega arith
 
       by_context : (c : Context) (p : ℕ)
-          → holders i (looked (places_of (kept_of ds))) + holders i (looked (gps_of ds))
-          ≡ holders i (looked (places_of ds))
-          → holders i (looked (places_of (kept_of (record { place = p; context = c } ∷ ds))))
-          + holders i (looked (gps_of (record { place = p; context = c } ∷ ds)))
-          ≡ holders i (looked (p ∷ places_of ds))
+          → holders i (looked (offsets_of (kept_of ds))) + holders i (looked (gps_of ds))
+          ≡ holders i (looked (offsets_of ds))
+          → holders i (looked (offsets_of (kept_of (record { offset = p; context = c } ∷ ds))))
+          + holders i (looked (gps_of (record { offset = p; context = c } ∷ ds)))
+          ≡ holders i (looked (p ∷ offsets_of ds))
       by_context Tiff p rest = other p rest
       by_context Exif p rest = other p rest
       by_context Interop p rest = other p rest
       by_context Gps p rest =
           let a = holders-append i (looked_at number bytes p) (looked (gps_of ds)) in
-          let b = holders-append i (looked_at number bytes p) (looked (places_of ds)) in
+          let b = holders-append i (looked_at number bytes p) (looked (offsets_of ds)) in
           omega arith
 
   -- ---- a stretch without a byte of GPS directories and their values
@@ -97,36 +97,36 @@ module _ (number : Reading) (bytes : List ℕ) where
     one_apart s ss more h =
         apart_of s t more some (λ i low high. none i (λ near far. h i near far) low high)
       where
-        none : (i : ℕ) → (t.place ≤ i → i < t.place + t.len → holders i (s ∷ ss) ≡ 0)
-            → s.place ≤ i → i < s.place + s.len → has i t ≡ 0
-        none i k low high = by_place (stands i t)
+        none : (i : ℕ) → (t.offset ≤ i → i < t.offset + t.len → holders i (s ∷ ss) ≡ 0)
+            → s.offset ≤ i → i < s.offset + s.len → has i t ≡ 0
+        none i k low high = by_offset (stands i t)
           where
-            by_place : Where i t → has i t ≡ 0
-            by_place (inside near far) =
+            by_offset : Where i t → has i t ≡ 0
+            by_offset (inside near far) =
                 let a = k near far in
                 let b = holders_more i s ss in
                 let c = has_inside i s low high in
                 absurd (omega arith)
-            by_place (before near) = has_before i t near
-            by_place (behind far) = has_behind i t far
+            by_offset (before near) = has_before i t near
+            by_offset (behind far) = has_behind i t far
 
     -- so the directory, as far as it lies in the data
     clipped_misses : (q n : ℕ) (ss : List Stretch) → 0 < n
-        → Free (record { place = q; len = n } ∷ ss)
-        → meets (clipped (length bytes) (record { place = q; len = n })) t ≡ false
+        → Free (record { offset = q; len = n } ∷ ss)
+        → meets (clipped (length bytes) (record { offset = q; len = n })) t ≡ false
     clipped_misses q n ss more h = by_test (nat_le q (length bytes))
-        (one_apart (record { place = q; len = n }) ss more h)
+        (one_apart (record { offset = q; len = n }) ss more h)
       where
-        shorter : (m : ℕ) → m ≤ n → IsApart (record { place = q; len = n }) t
-            → IsApart (record { place = q; len = m }) t
+        shorter : (m : ℕ) → m ≤ n → IsApart (record { offset = q; len = n }) t
+            → IsApart (record { offset = q; len = m }) t
         shorter m few (inl k) = inl (omega arith)
         shorter m few (inr k) = inr k
 
-        by_test : (b : Bool) → IsApart (record { place = q; len = n }) t
-            → meets (if b then record { place = q; len = min n (length bytes - q) } else nowhere) t
+        by_test : (b : Bool) → IsApart (record { offset = q; len = n }) t
+            → meets (if b then record { offset = q; len = min n (length bytes - q) } else nowhere) t
             ≡ false
         by_test true k =
-            apart_misses (record { place = q; len = min n (length bytes - q) }) t
+            apart_misses (record { offset = q; len = min n (length bytes - q) }) t
             (shorter (min n (length bytes - q)) (omega arith) k)
         by_test false k = nothing_met t
 
@@ -134,28 +134,28 @@ module _ (number : Reading) (bytes : List ℕ) where
     value_misses : (e : ℕ) → Free (value_stretch number bytes e)
         → meets (value_span number bytes e) t ≡ false
     value_misses e h =
-        by_tests (nat_le size 4) (nat_lt 4 size) (nat_le (place + size) (length bytes)) refl refl refl h
+        by_tests (nat_le size 4) (nat_lt 4 size) (nat_le (offset + size) (length bytes)) refl refl refl h
       where
         size : ℕ
         size = known_length (type_of (number_at number 2 bytes (e + 2))) * number_at number 4 bytes (e + 4)
 
-        place : ℕ
-        place = number_at number 4 bytes (e + 8)
+        offset : ℕ
+        offset = number_at number 4 bytes (e + 8)
 
         none_within : (d : Bool) → meets (if d then nowhere else nowhere) t ≡ false
         none_within true = nothing_met t
         none_within false = nothing_met t
 
         by_tests : (a b c : Bool) → nat_le size 4 ≡ a → nat_lt 4 size ≡ b
-            → nat_le (place + size) (length bytes) ≡ c
-            → Free (if b && c then record { place = place; len = size } ∷ [] else [])
+            → nat_le (offset + size) (length bytes) ≡ c
+            → Free (if b && c then record { offset = offset; len = size } ∷ [] else [])
             → meets
             (within (length bytes)
-            (if a then nowhere else record { place = place; len = size })) t ≡ false
+            (if a then nowhere else record { offset = offset; len = size })) t ≡ false
         by_tests true b c p q r h = none_within (nat_le (0 + 0) (length bytes))
         by_tests false false c p q r h = absurd (grind (arith, nat_tests))
-        by_tests false true true p q r h = rw r (apart_misses (record { place = place; len = size }) t
-            (one_apart (record { place = place; len = size }) [] (grind (arith, nat_tests)) h))
+        by_tests false true true p q r h = rw r (apart_misses (record { offset = offset; len = size }) t
+            (one_apart (record { offset = offset; len = size }) [] (grind (arith, nat_tests)) h))
         by_tests false true false p q r h = rw r (nothing_met t)
 
     none_met : (es : List ℕ) → Free (flat_map (value_stretch number bytes) es)
@@ -171,9 +171,9 @@ module _ (number : Reading) (bytes : List ℕ) where
     spans_missed : (q : ℕ) → Free (looked_at number bytes q)
         → list_any (λ s. meets s t) (visited_directory_spans number bytes q) ≡ false
     spans_missed q h =
-        let values = flat_map (value_stretch number bytes) (entry_places number bytes q) in
+        let values = flat_map (value_stretch number bytes) (entry_offsets number bytes q) in
         let a = clipped_misses q (2 + 12 * whole_entries number bytes q + 4) values (omega arith) h in
-        let b = none_met (entry_places number bytes q)
+        let b = none_met (entry_offsets number bytes q)
         (right_free (directory_stretch number bytes q ∷ []) values h) in
         rw (a, b) refl
 
@@ -210,12 +210,12 @@ module _ (number : Reading) (bytes : List ℕ) where
 -- ---- the whole
 
 -- where no two stretches that are looked at overlap, GPS directories and values stand alone
-pub places_apart : (bytes : List ℕ) (order : Order) → header bytes ≡ Ok order
+pub offsets_apart : (bytes : List ℕ) (order : Order) → header bytes ≡ Ok order
     → AreGpsDataVisited (number_of order) bytes
     → are_apart (all_looked (number_of order) bytes) ≡ true
-    → places_stand_alone (number_of order) bytes ≡ true
-unfolding visited_spans gps_places walk
-places_apart bytes order head visited apart =
+    → gps_stands_alone (number_of order) bytes ≡ true
+unfolding visited_spans visited_gps walk
+offsets_apart bytes order head visited apart =
     ap
     (λ ss. not (list_any (λ t. list_any (λ (s : Span). meets s t) ss) (all_kept number bytes)))
     visited
@@ -224,13 +224,13 @@ places_apart bytes order head visited apart =
     number : Reading
     number = number_of order
 
-    ds : List DirectoryPlace
-    ds = directory_places bytes
+    ds : List DirectoryOffset
+    ds = directory_offsets bytes
 
-    all : places_of ds ≡ chain_directories 8 number bytes (number_at number 4 bytes 4)
-    all = walked_places bytes order (walk bytes) head (walk_finds bytes)
+    all : offsets_of ds ≡ chain_directories 8 number bytes (number_at number 4 bytes 4)
+    all = walked_offsets bytes order (walk bytes) head (walk_finds bytes)
 
-    kept : places_of (kept_of ds) ≡ chain_kept 8 number bytes (number_at number 4 bytes 4)
+    kept : offsets_of (kept_of ds) ≡ chain_kept 8 number bytes (number_at number 4 bytes 4)
     kept = walked_kept bytes order (walk bytes) head (walk_finds bytes)
 
     have : HaveBytes (all_kept number bytes)
@@ -246,8 +246,8 @@ places_apart bytes order head visited apart =
         let b = looked_parts number bytes i ds in
         let c = ap (λ ps. holders i (looked number bytes ps)) all in
         let d = ap (λ ps. holders i (looked number bytes ps)) kept in
-        let f = holders_more i (record { place = 0; len = 8 })
+        let f = holders_more i (record { offset = 0; len = 8 })
         (looked number bytes (chain_directories 8 number bytes (number_at number 4 bytes 4))) in
-        let g = holders_more i (record { place = 0; len = 8 })
+        let g = holders_more i (record { offset = 0; len = 8 })
         (looked number bytes (chain_kept 8 number bytes (number_at number 4 bytes 4))) in
         omega arith
