@@ -112,6 +112,9 @@ gives "the HEIF file has no field" 0 "$mexaldor" show work/whole.heic
 check "nor a line of one" test "$(wc -l <out)" = 1
 fresh
 gives "GPS data are erased in all" 0 "$mexaldor" scrub --places-only -i work/whole.jpg work/whole.tif work/big.tif work/whole.webp work/whole.heic
+printf 'MM\000*\000\000\000\010\000\001\210\045\000\015\000\000\000\001\000\000\000\310\000\000\000\000' >work/outside.tif
+gives "a GPS pointer that is not followed is reported" 3 "$mexaldor" scrub --places-only -i work/outside.tif
+says "the file of a GPS pointer that is not followed is named" "work/outside.tif: GPS data may be left"
 for file in whole.jpg whole.tif big.tif whole.webp whole.heic; do
     "$mexaldor" show "work/$file" >out
     check "no GPS field is left in $file" sh -c '! grep -q GPS out'

@@ -84,7 +84,7 @@ int main(void)
         }
         file = ending(from, length);
         memcpy(file, given, length);
-        uint32_t status = files % 3 ? mexaldor_erase_places(file, length)
+        uint32_t status = files % 3 ? mexaldor_erase_gps(file, length)
                                     : mexaldor_set(file, length, turn, sizeof turn - 1);
         edited += status == MEXALDOR_OK;
         must(status == MEXALDOR_OK || memcmp(file, given, length) == 0,

@@ -32,9 +32,8 @@ enum mexaldor_status {
     MEXALDOR_FIELD_NOT_FOUND = 16,  /* the file has no such field to set */
     MEXALDOR_UNKNOWN_TYPE = 17,
     MEXALDOR_VALUE_TOO_LONG = 18,   /* the new value does not fit into the space of the old one */
-    MEXALDOR_NAMES_PLACES = 19,     /* the field holds the offset or length of other data */
+    MEXALDOR_NAMES_OFFSETS = 19,     /* the field holds the offset or length of other data */
     MEXALDOR_SHARED_BYTES = 20,     /* something else uses the same bytes */
-    MEXALDOR_SCATTERED_DATA = 21,   /* the Exif data are not stored in one piece */
     MEXALDOR_PICTURE_DATA = 22,     /* a TIFF file: the picture is stored in the same data */
     MEXALDOR_INVALID_HEADER = 23,
     MEXALDOR_NO_DIRECTORY = 24,     /* there is no directory to put the field into */
@@ -62,7 +61,7 @@ struct mexaldor_answer mexaldor_read(const uint8_t *file, size_t length, bool le
 
 /* Erases the GPS data of Exif: their bytes become zero, and no other byte changes. The file keeps
  * its length. Locations in XMP and in maker notes stay. A refused file is not changed. */
-uint32_t mexaldor_erase_places(uint8_t *file, size_t length);
+uint32_t mexaldor_erase_gps(uint8_t *file, size_t length);
 
 /* Writes a copy of a file without its metadata to `out`. JPEG and WebP files lose all metadata; the
  * colour profile and what decoders need stay. In a HEIF file only the Exif fields are erased, and

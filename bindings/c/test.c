@@ -115,7 +115,7 @@ static void edits(const char *folder, const char *name)
     struct bytes old = file(folder, name);
     struct bytes new = copy(old);
     check(name, tells(old, "\"latitude\":"));
-    check("places are erased", mexaldor_erase_places(new.at, new.length) == MEXALDOR_OK);
+    check("GPS data are erased", mexaldor_erase_gps(new.at, new.length) == MEXALDOR_OK);
     check("no place is left", !tells(new, "\"latitude\":"));
     check("the orientation is left", tells(new, "\"orientation\":6"));
     const char *turned = "Orientation=1";
@@ -124,7 +124,7 @@ static void edits(const char *folder, const char *name)
     const char *back = "Orientation=6";
     check("it is set back", mexaldor_set(new.at, new.length, back, strlen(back)) == MEXALDOR_OK);
     struct bytes erased = copy(old);
-    mexaldor_erase_places(erased.at, erased.length);
+    mexaldor_erase_gps(erased.at, erased.length);
     check("nothing else has changed", equal(new, erased));
 
     struct {
@@ -179,7 +179,7 @@ static void refusals(const char *folder)
     check("the picture of a TIFF file stays", answer.status == MEXALDOR_PICTURE_DATA);
     check("and the buffer", answer.length == 0 && memcmp(room, "\1\2\3\4", 4) == 0);
     check("nothing is no file", mexaldor_scrub(NULL, 0, NULL, 0).status == MEXALDOR_INVALID_FORMAT);
-    check("nothing has no places", mexaldor_erase_places(NULL, 0) != MEXALDOR_OK);
+    check("nothing has no GPS data", mexaldor_erase_gps(NULL, 0) != MEXALDOR_OK);
     check("nothing has no field", mexaldor_set(NULL, 0, NULL, 0) != MEXALDOR_OK);
     free(tiff.at);
 

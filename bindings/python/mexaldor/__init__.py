@@ -20,7 +20,7 @@ import os
 import pathlib
 from typing import Any, Dict, Union
 
-__all__ = ["Refused", "Status", "erase_places", "read", "scrub", "set"]
+__all__ = ["Refused", "Status", "erase_gps", "read", "scrub", "set"]
 __version__ = "0.1.0"
 
 Source = Union[str, "os.PathLike[str]", bytes, bytearray, memoryview]
@@ -41,9 +41,8 @@ class Status(enum.IntEnum):
     FIELD_NOT_FOUND = 16
     UNKNOWN_TYPE = 17
     VALUE_TOO_LONG = 18
-    NAMES_PLACES = 19
+    NAMES_OFFSETS = 19
     SHARED_BYTES = 20
-    SCATTERED_DATA = 21
     PICTURE_DATA = 22
     INVALID_HEADER = 23
     NO_DIRECTORY = 24
@@ -78,8 +77,8 @@ def _library() -> ctypes.CDLL:
     library.mexaldor_read.restype = _Answer
     library.mexaldor_scrub.argtypes = [some, size, some, size]
     library.mexaldor_scrub.restype = _Answer
-    library.mexaldor_erase_places.argtypes = [some, size]
-    library.mexaldor_erase_places.restype = ctypes.c_uint32
+    library.mexaldor_erase_gps.argtypes = [some, size]
+    library.mexaldor_erase_gps.restype = ctypes.c_uint32
     library.mexaldor_set.argtypes = [some, size, some, size]
     library.mexaldor_set.restype = ctypes.c_uint32
     library.mexaldor_error.argtypes = [ctypes.c_uint32, some, size]
@@ -139,13 +138,13 @@ def scrub(source: Source) -> bytes:
     return room.raw[: answer.length]
 
 
-def erase_places(source: Source) -> bytes:
+def erase_gps(source: Source) -> bytes:
     """Return a copy of a file, of the same length, with the GPS data of Exif erased.
 
     Locations in XMP and in maker notes stay.
     """
     room, length = _room(_bytes(source))
-    status = _mexaldor.mexaldor_erase_places(room, length)
+    status = _mexaldor.mexaldor_erase_gps(room, length)
     if status != Status.OK:
         raise _refused(status)
     return room.raw[:length]

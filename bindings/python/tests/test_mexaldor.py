@@ -60,16 +60,16 @@ class Pictures(unittest.TestCase):
         self.assertEqual(self.refused(Status.INVALID_FORMAT, mexaldor.read, b""), "Unknown image format")
         self.refused(Status.INVALID_FORMAT, mexaldor.scrub, b"no picture")
         self.refused(Status.INVALID_FORMAT, mexaldor.set, b"no picture", "Orientation=6")
-        self.refused(Status.INVALID_FORMAT, mexaldor.erase_places, b"")
+        self.refused(Status.INVALID_FORMAT, mexaldor.erase_gps, b"")
         self.assertEqual(
             self.refused(Status.NOT_FOUND, mexaldor.read, self.folder / "plain.jpg"),
             "No Exif data found in JPEG",
         )
 
-    def test_places_are_erased(self):
+    def test_gps_data_are_erased(self):
         for name in ["whole.jpg", "whole.webp", "whole.heic", "whole.tif"]:
             old = (self.folder / name).read_bytes()
-            new = mexaldor.erase_places(old)
+            new = mexaldor.erase_gps(old)
             self.assertEqual(len(new), len(old))
             self.assertIn("latitude", mexaldor.read(old)["summary"])
             summary = mexaldor.read(new)["summary"]

@@ -4,7 +4,7 @@ use Rattle.exif_types.specs.Failures.{Failure}
 use Rattle.exif_types.specs.Refusals as refusals
 use Rattle.exif_types.specs.Refusals.{invalid_format, not_found, blank_value, too_big, not_supported, unexpected_value}
 use Rattle.exif_types.specs.declared.error.Error.TheVariants as error
-use Rattle.exif_edit_base.specs.Causes.{Cause, no_field, no_directory, full_directory, unknown_type, too_long, offset_named, shared, scattered, picture, wrong_header, no_data}
+use Rattle.exif_edit_base.specs.Causes.{Cause, no_field, no_directory, full_directory, unknown_type, too_long, offset_named, shared, picture, wrong_header, no_data}
 use Rattle.exif_edit_base.specs.declared.error.Error.{Error}
 use Rattle.exif_edit_base.specs.declared.error.Error.TheVariants as edit
 use Rattle.exif_change.specs.declared.refusal.Refusal.{Refusal}
@@ -28,7 +28,6 @@ number_of status.UnknownType = 17
 number_of status.ValueTooLong = 18
 number_of status.NamesOffsets = 19
 number_of status.SharedBytes = 20
-number_of status.ScatteredData = 21
 number_of status.PictureData = 22
 number_of status.InvalidHeader = 23
 number_of status.NoDirectory = 24
@@ -57,7 +56,6 @@ text_of status.UnknownType = codes "Cannot write unknown field types"
 text_of status.ValueTooLong = codes "The value is too long for its space"
 text_of status.NamesOffsets = codes "The field holds offsets of other data"
 text_of status.SharedBytes = codes "The bytes are shared with other data"
-text_of status.ScatteredData = codes "The Exif data are not contiguous"
 text_of status.PictureData = codes "The picture is in the same data"
 text_of status.InvalidHeader = codes "Invalid header of the Exif data"
 text_of status.NoDirectory = codes "No directory to put the field into"
@@ -76,7 +74,7 @@ all =
     status.Well ∷ status.Faults ∷ status.InvalidFormat ∷ status.NotFound ∷ status.BlankValue ∷
     status.TooBig ∷ status.NotSupported ∷ status.UnexpectedValue ∷ status.OutOfMemory ∷
     status.FieldNotFound ∷ status.UnknownType ∷ status.ValueTooLong ∷ status.NamesOffsets ∷
-    status.SharedBytes ∷ status.ScatteredData ∷ status.PictureData ∷ status.InvalidHeader ∷
+    status.SharedBytes ∷ status.PictureData ∷ status.InvalidHeader ∷
     status.NoDirectory ∷ status.FullDirectory ∷
     status.NoAssignment ∷ status.NotOfItsType ∷ status.SecondExif ∷ status.NoDate ∷
     status.InvalidDate ∷ status.DateOutOfRange ∷ status.NoThumbnail ∷ []
@@ -120,7 +118,6 @@ cause_status unknown_type = status.UnknownType
 cause_status too_long = status.ValueTooLong
 cause_status offset_named = status.NamesOffsets
 cause_status shared = status.SharedBytes
-cause_status scattered = status.ScatteredData
 cause_status picture = status.PictureData
 cause_status (wrong_header fault) = status.InvalidHeader
 cause_status (no_data refusal) = kind_status refusal
@@ -134,7 +131,6 @@ edit_status edit.UnknownType = status.UnknownType
 edit_status edit.ValueTooLong = status.ValueTooLong
 edit_status edit.NamesOffsets = status.NamesOffsets
 edit_status edit.SharedBytes = status.SharedBytes
-edit_status edit.ScatteredData = status.ScatteredData
 edit_status edit.PictureData = status.PictureData
 edit_status (edit.Header fault) = status.InvalidHeader
 edit_status (edit.Container cause) = error_status cause

@@ -1,22 +1,24 @@
 //! Files changed.
 
-ghost use Rattle.exif_edit.specs.Erasing.{erase_patches};
-ghost use Rattle.exif_edit_files.specs.InFiles.{edited_file, in_file};
-ghost use Rattle.exif_c.specs.Calls.{Ends, IsScrubbed, SetsHere};
+ghost use Rattle.std.specs.Prelude.{Some};
+ghost use Rattle.exif_edit.specs.declared.edits.Edit.TheVariants.{EraseGps};
+ghost use Rattle.exif_edit_files.specs.InFiles.{edited_file};
+ghost use Rattle.exif_c.specs.Calls.{Ends, IsScrubbed, SetsHere, entry_limit};
 
 use crate::buffer::{Answer, given, nothing};
 use crate::status::{Status, edit_status, refusal_status};
-use exif_change::{Assignment, Removed, scrub, set_here};
-use exif_edit_files::erase_gps_in_file;
+use exif_change::{Assignment, ENTRY_LIMIT, Removed, scrub, set_here};
+use exif_edit_files::{Edit, apply_in_file};
 use std::alloc::Global;
 
-/// Erases the offsets in the Exif data of a file, in the caller's buffer: its length stays. After a
+/// Erases the GPS data in the Exif data of a file, in the caller's buffer: its length stays. After a
 /// refusal the buffer is as it was.
 #[unsafe(no_mangle)]
 pub extern "C" fn mexaldor_erase_gps(alloc: Global, file: &mut [u8]) -> u32
-    ensures { Ends result file.old file.new (edited_file (in_file erase_patches) file.old) }
+    ensures { Ends result file.old file.new
+        (edited_file (Some entry_limit) EraseGps file.old) }
 {
-    match erase_gps_in_file(alloc, file) {
+    match apply_in_file(alloc, &Edit::EraseGps, Some(ENTRY_LIMIT), file) {
         Ok(()) => Status::Well.number(),
         Err(error) => edit_status(&error).number(),
     }

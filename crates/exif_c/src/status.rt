@@ -41,7 +41,6 @@ pub enum Status {
     /// The bytes are those of something else too.
     SharedBytes,
     /// The Exif data are not contiguous.
-    ScatteredData,
     /// A TIFF file: the picture stands in the same data.
     PictureData,
     /// Invalid header of the Exif data.
@@ -86,7 +85,6 @@ impl Status {
             Status::ValueTooLong => 18,
             Status::NamesOffsets => 19,
             Status::SharedBytes => 20,
-            Status::ScatteredData => 21,
             Status::PictureData => 22,
             Status::InvalidHeader => 23,
             Status::NoDirectory => 24,
@@ -120,7 +118,6 @@ impl Status {
             Status::ValueTooLong => "The value is too long for its space",
             Status::NamesOffsets => "The field holds offsets of other data",
             Status::SharedBytes => "The bytes are shared with other data",
-            Status::ScatteredData => "The Exif data are not contiguous",
             Status::PictureData => "The picture is in the same data",
             Status::InvalidHeader => "Invalid header of the Exif data",
             Status::NoDirectory => "No directory to put the field into",
@@ -155,7 +152,6 @@ impl Status {
             Status::ValueTooLong,
             Status::NamesOffsets,
             Status::SharedBytes,
-            Status::ScatteredData,
             Status::PictureData,
             Status::InvalidHeader,
             Status::NoDirectory,
@@ -209,7 +205,6 @@ pub fn edit_status(error: &exif_edit::Error) -> Status
         exif_edit::Error::ValueTooLong => Status::ValueTooLong,
         exif_edit::Error::NamesOffsets => Status::NamesOffsets,
         exif_edit::Error::SharedBytes => Status::SharedBytes,
-        exif_edit::Error::ScatteredData => Status::ScatteredData,
         exif_edit::Error::PictureData => Status::PictureData,
         exif_edit::Error::Header(_) => Status::InvalidHeader,
         exif_edit::Error::Container(cause) => error_status(cause),

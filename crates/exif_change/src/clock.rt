@@ -103,7 +103,7 @@ pub fn shift(
 {
     let exif = read(alloc, &file)?;
     let moved = moved_dates(alloc, &exif, by, dates)?;
-    set_all(alloc, file.as_mut_slice(), moved.as_slice())?;
+    set_all(alloc, file.as_mut_slice(), moved)?;
     Ok(file)
 }
 

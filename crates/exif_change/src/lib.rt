@@ -16,8 +16,9 @@ mod value_text;
 
 pub use assignment::Assignment;
 pub use clock::{ClockShift, Dates, shift};
+pub use exif_edit::Unerased;
 pub use reading::{ENTRY_LIMIT, read};
 pub use refusal::Refusal;
-pub use scrubbing::{Removed, scrub};
+pub use scrubbing::{Removed, scrub, unerased};
 pub use setting::{set, set_here};
 pub use thumbnails::thumbnail;

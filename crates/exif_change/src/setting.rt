@@ -5,13 +5,12 @@ ghost use Rattle.std.specs.List.{All};
 ghost use Rattle.exif_change.specs.Setting.{IsSet, IsSetHere, WasThere, assigned_tags, is_assigned};
 
 use crate::growing::{can_grow, with_fields};
-use crate::in_place::set_what_fits;
+use crate::in_place::{set_field, set_what_fits};
 use crate::new_fields::type_of_new;
 use crate::value_text::value_of;
 use crate::{Assignment, Refusal, read};
 use exif::{Exif, Field, In, Tag};
 use exif_containers::container::format_of;
-use exif_edit_files::set_value_in_file;
 use std::alloc::Global;
 
 /// The file with values set. A value that fits is written over the old one; another one, or a new
@@ -41,15 +40,15 @@ pub fn set(alloc: Global, file: Vec<u8>, assignments: &[Assignment<'_>]) -> Resu
     )
 }
 
-/// Sets one field of the primary image in a file where it stands: the file keeps its length. After a
-/// refusal it is as it was.
+/// Sets one field of the primary image of a file in place: the file keeps its length. After a refusal
+/// it is as it was.
 pub fn set_here(alloc: Global, file: &mut [u8], assignment: &Assignment<'_>) -> Result<(), Refusal>
     ensures set { OnOk result (IsSetHere assignment.now.tag file.old file.new) }
     ensures kept { OnErr result (file.new ≡ file.old) }
 {
     let exif = read(alloc, file)?;
     let field = field_for(alloc, Some(&exif), assignment)?;
-    Ok(set_value_in_file(alloc, file, field.tag, field.ifd_num, &field.value)?)
+    set_field(alloc, file, field)
 }
 
 // The fields that are to be set in a file, of those of one tag the last.

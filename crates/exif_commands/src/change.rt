@@ -5,7 +5,7 @@ use crate::replace::replace;
 use crate::request::{Change, Keeping, Target};
 use exif::{Error, Sink};
 use exif_base::send_all;
-use exif_change::{Refusal, scrub, set, shift};
+use exif_change::{Refusal, Removed, Unerased, scrub, set, shift, unerased};
 use std::alloc::Global;
 use std::{fmt, io};
 
@@ -39,15 +39,37 @@ impl fmt::Display for Trouble {
     }
 }
 
+/// What may be GPS data and is left in a file whose GPS data were erased.
+#[derive(Drop)]
+pub struct LeftGps(Unerased);
+
+impl fmt::Display for LeftGps {
+    fn fmt<W: fmt::Write>(&self, f: &mut fmt::Formatter<W>) -> fmt::Result {
+        let LeftGps(left) = self;
+        let count = left.pointers.len();
+        if count > 0 {
+            write!(
+                f,
+                "GPS data may be left: GPS pointers lead out of the Exif data ({count})"
+            )
+        } else {
+            write!(
+                f,
+                "GPS data may be left: the Exif data have too many directories"
+            )
+        }
+    }
+}
+
 /// Changes a file, and puts the new one where it belongs. A file that stays as it is is not
-/// replaced by itself.
+/// replaced by itself. Answers what is left of GPS data that were to be erased, if anything.
 pub fn change<W: Sink>(
     rt: &HostRuntime,
     change: &Change<'_>,
     target: Target<'_>,
     path: &str,
     out: &mut W,
-) -> Result<(), Trouble> {
+) -> Result<Option<LeftGps>, Trouble> {
     let old = read_file(rt, path)?;
     let new = changed(rt.alloc(), change, &old)?;
     let bytes = new.as_slice();
@@ -58,7 +80,18 @@ pub fn change<W: Sink>(
         Target::InPlace(_) if bytes == old.as_slice() => {}
         Target::InPlace(keeping) => replace(rt, path, bytes, keeping)?,
     }
-    Ok(())
+    Ok(left_in(rt.alloc(), change, bytes)?)
+}
+
+// What is left of GPS data that were to be erased.
+fn left_in(alloc: Global, change: &Change<'_>, new: &[u8]) -> Result<Option<LeftGps>, Refusal> {
+    let Change::Scrub(Removed::Gps) = change else {
+        return Ok(None);
+    };
+    match unerased(alloc, new)? {
+        Some(left) if left.meets_limit || !left.pointers.is_empty() => Ok(Some(LeftGps(left))),
+        Some(_) | None => Ok(None),
+    }
 }
 
 // The changed file.

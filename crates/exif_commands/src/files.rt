@@ -1,6 +1,6 @@
 //! Many files in turn: what is wrong with one is told, and the others go on.
 
-use crate::change::{Trouble, change};
+use crate::change::change;
 use crate::inputs::{is_picture, open};
 use crate::json::object_of;
 use crate::pending::{Next, Pending};
@@ -18,7 +18,7 @@ use std::io::{self, ErrorKind};
 pub enum Status {
     /// All that was asked for was done.
     Well,
-    /// So it was, but faults were passed over.
+    /// So it was, but faults were skipped, or something was left undone and reported.
     FaultsPassedOver,
     /// The file was refused.
     Refused,
@@ -109,12 +109,17 @@ impl<'r, 'a, W: Sink, E: Sink> Turns<'r, 'a, W, E> {
             Task::Show(reading) => self.show(*reading, path),
             Task::Json(reading) => self.tell(*reading, path),
             Task::Change(what, target) => {
-                let answer = change(self.rt, what, *target, path, self.out);
-                self.settle(path, answer)
+                match change(self.rt, what, *target, path, self.out) {
+                    Ok(None) => Ok(Status::Well),
+                    Ok(Some(left)) => self.report(path, &left),
+                    Err(trouble) => self.refuse(path, &trouble),
+                }
             }
             Task::Thumbnail(to) => {
-                let answer = write_thumbnail(self.rt, path, to, self.out);
-                self.settle(path, answer)
+                match write_thumbnail(self.rt, path, to, self.out) {
+                    Ok(()) => Ok(Status::Well),
+                    Err(trouble) => self.refuse(path, &trouble),
+                }
             }
         }
     }
@@ -135,12 +140,10 @@ impl<'r, 'a, W: Sink, E: Sink> Turns<'r, 'a, W, E> {
         Ok(status)
     }
 
-    // The status of a file that was changed, or was not.
-    fn settle(&mut self, path: &str, answer: Result<(), Trouble>) -> Result<Status, Error> {
-        match answer {
-            Ok(()) => Ok(Status::Well),
-            Err(trouble) => self.refuse(path, &trouble),
-        }
+    // Reports what was left undone in a file that was changed.
+    fn report<T: Display>(&mut self, path: &str, what: &T) -> Result<Status, Error> {
+        self.say(path, what)?;
+        Ok(Status::FaultsPassedOver)
     }
 
     // Tells why a file was refused.

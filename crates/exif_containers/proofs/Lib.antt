@@ -13,4 +13,6 @@ pub mod LawsWebp
 pub mod LimitedMoves
 pub mod LocatedSteps
 pub mod RemovingLemmas
+pub mod Replacing
+pub mod Splicing
 pub mod WebpChunks

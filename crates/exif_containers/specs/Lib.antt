@@ -6,6 +6,7 @@ pub mod Jpeg
 pub mod JpegGrammar
 pub mod Located
 pub mod Removing
+pub mod Replacing
 pub mod Webp
 pub mod WebpGrammar
 pub mod WebpSteps

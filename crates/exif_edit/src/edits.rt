@@ -1,4 +1,4 @@
-//! One edit of Exif data, by whichever way.
+//! Edits of Exif data, in memory and as patches.
 
 ghost use Rattle.std.specs.Prelude.{◌≡◌, All, length, IfOk, OnOk};
 ghost use Rattle.exif_edit_base.specs.Causes.{Edits, Makes};
@@ -15,10 +15,16 @@ use exif_edit_base::patch::Patch;
 use exif_types::{In, Tag, Value};
 use std::alloc::Global;
 
-/// An edit of Exif data.
+/// An edit of Exif data. Data whose changed bytes have no other use are never refused with
+/// `SharedBytes` (see [`laws`](crate::laws)).
 #[derive(Drop)]
 pub enum Edit {
-    /// Sets the last value of a name, as [`set_value`](crate::set_value) does.
+    /// Sets the last value of a name: in its entry where it takes at most four bytes, else over the
+    /// old one. The type, the count and the offset of the entry follow, and bytes of the old value
+    /// that are left become zero.
+    ///
+    /// Refusals are `NamesOffsets`, `UnknownType`, `Header`, `FieldNotFound`, `ValueTooLong` and
+    /// `SharedBytes`. It takes the memory of one reading, and where bytes are shared of a second.
     Set {
         /// The tag of the field.
         tag: Tag,
@@ -27,16 +33,32 @@ pub enum Edit {
         /// The new value.
         value: Value,
     },
-    /// Erases all GPS data, as [`erase_gps`](crate::erase_gps) does.
+    /// Puts zeros over the GPS directories to which data point, and over their values: those that
+    /// reading visits, and those to which a GPS pointer of type SHORT, LONG, SLONG or IFD leads from
+    /// the chain, however long it is, from Exif and interoperability directories, and from SubIFDs.
+    /// Of a value that is cut off by the end of the data the part that is there goes. The pointers
+    /// stay, to empty directories. Locations in XMP, in maker notes and in bytes that nothing points
+    /// to stay too; [`leftovers`](crate::leftovers) answers the GPS pointers that are not followed.
+    ///
+    /// Refusals are `Header` and `SharedBytes`. It takes the memory of one reading and of the zeros,
+    /// and where bytes are shared of a second reading.
     EraseGps,
-    /// Erases all fields of a name, as [`erase_field`](crate::erase_field) does.
+    /// Erases all fields of a name from their directories. The entries behind them and the offset of
+    /// the next directory move up; the end of the directory and the bytes of the values become zero.
+    /// A directory that was cut ends with no next offset then.
+    ///
+    /// Refusals are `NamesOffsets`, `Header`, `FieldNotFound` and `SharedBytes`. It takes the memory
+    /// of two readings and of the directories.
     EraseField {
         /// The tag of the fields.
         tag: Tag,
         /// Their directory.
         ifd_num: In,
     },
-    /// Erases all fields, as [`erase_all`](crate::erase_all) does.
+    /// Erases all fields: the byte order and the number 42 stay, and all behind them becomes zero, but
+    /// for the offset of an empty directory.
+    ///
+    /// The refusal is `Header`. It takes no memory.
     EraseAll,
 }
 
@@ -86,7 +108,7 @@ fn all_patches(alloc: Global, edit: &Edit, bytes: &[u8]) -> Result<Vec<Patch>, E
     }
 }
 
-/// Carries an edit out over data in memory. An error leaves all bytes as they were.
+/// Edits data in memory. An error leaves all bytes as they were.
 ///
 /// Data with more entries than the limit, if there is one, are refused with `Header`, as a reader
 /// refuses them; all fields are erased whatever their number. The other refusals are those of the
@@ -100,7 +122,8 @@ pub fn apply(alloc: Global, edit: &Edit, limit: Option<u64>, bytes: &mut [u8]) -
     carry_out(alloc, edit, bytes)
 }
 
-/// What [`apply`] puts over the data, as data, in the same way refused. The data stay as they are.
+/// What [`apply`] puts over the data, which stay as they are. The refusals are the same. Where bytes
+/// are shared it takes the memory of a copy, too.
 pub fn patches_of(
     alloc: Global,
     edit: &Edit,

@@ -20,7 +20,6 @@ pub data Cause : Type 0 where
   too_long : Cause
   offset_named : Cause
   shared : Cause
-  scattered : Cause
   picture : Cause
   wrong_header : Fault → Cause
   no_data : Refusal → Cause
@@ -38,7 +37,6 @@ cause_of error.UnknownType = Some unknown_type
 cause_of error.ValueTooLong = Some too_long
 cause_of error.NamesOffsets = Some offset_named
 cause_of error.SharedBytes = Some shared
-cause_of error.ScatteredData = Some scattered
 cause_of error.PictureData = Some picture
 cause_of (error.Header fault) = Some (wrong_header fault)
 cause_of (error.Container e) = no_data_by (refusal_of e)
@@ -53,7 +51,6 @@ error_text error.UnknownType = Some (codes "Cannot write unknown field types")
 error_text error.ValueTooLong = Some (codes "The value is too long for its space")
 error_text error.NamesOffsets = Some (codes "The field holds offsets of other data")
 error_text error.SharedBytes = Some (codes "The bytes are shared with other data")
-error_text error.ScatteredData = Some (codes "The Exif data are not contiguous")
 error_text error.PictureData = Some (codes "The picture is in the same data")
 error_text (error.Header fault) = Some (text_of fault)
 error_text (error.Container e) = failures.error_text e

@@ -19,15 +19,13 @@ pub enum Error {
     FullDirectory,
     /// The value is of a type that is not known.
     UnknownType,
-    /// The value takes more bytes than there is room for it.
+    /// The value takes more bytes than there is space for it.
     ValueTooLong,
     /// The field holds offsets of other data, or how many: strips, tiles, thumbnails, child
     /// directories.
     NamesOffsets,
-    /// Bytes of the field are those of something else too, which would change with it.
+    /// Bytes of the field have another use, and what they are used for would change too.
     SharedBytes,
-    /// The Exif data don't stand in the file in one piece.
-    ScatteredData,
     /// The file is TIFF data, which hold the picture too.
     PictureData,
     /// Invalid header of the Exif data.
@@ -94,7 +92,6 @@ impl fmt::Display for Error {
             Error::ValueTooLong => write!(f, "The value is too long for its space"),
             Error::NamesOffsets => write!(f, "The field holds offsets of other data"),
             Error::SharedBytes => write!(f, "The bytes are shared with other data"),
-            Error::ScatteredData => write!(f, "The Exif data are not contiguous"),
             Error::PictureData => write!(f, "The picture is in the same data"),
             Error::Header(fault) => write!(f, "{}", fault.message()),
             Error::Container(error) => write!(f, "{error}"),

@@ -1,138 +1,169 @@
 -- The steps of an edit in a file.
-use Rattle.std.proofs.Common.{◌≡◌, ◌≤◌, ◌<◌, ◌+◌, ℕ, Bool, true, false, List, [], ◌∷◌, length, get_or, set, drop, All, Some, None, Result, Ok, Err, refl, sym, ap, ◌∙◌, arith}
-use Rattle.std.specs.Prelude.{if◌then◌else◌}
-use Rattle.std.specs.List.{find}
-use Rattle.std.proofs.lemmas.Grind.{common_steps}
-use Rattle.std.proofs.lemmas.List.{drop-set-lt, get_or_default}
-use Rattle.std.proofs.lemmas.List.Elements.{All-head, All-rest, All-same}
+use Rattle.std.proofs.Common.{◌≡◌, ◌<◌, ◌+◌, ◌^◌, ℕ, Bool, true, false, List, [], ◌∷◌, ◌++◌, length, All, Option, Result, Ok, Err, refl, sym, ap, subst, ◌∙◌, arith, append-nil}
 use Rattle.exif_types.specs.Refusals.{Refusal}
-use Rattle.exif_containers.specs.Answer.{Answer, found}
-use Rattle.exif_containers.specs.Container.{begins_tiff, container_answer}
-use Rattle.exif_edit_base.specs.Causes.{Cause, of_container, or_cause, picture, scattered}
-use Rattle.exif_edit_base.specs.Patches.{FitsIn}
+use Rattle.exif_isobmff.specs.declared.locations.Extent.{Extent}
+use Rattle.exif_containers.specs.Container.{begins_tiff}
+use Rattle.exif_containers.specs.Located.{Located, in_one, located_answer}
+use Rattle.exif_containers.specs.declared.container.Format.{Format}
+use Rattle.exif_containers.specs.declared.container.Format.TheVariants.{Tiff, Jpeg, Heif, WebP}
+use Rattle.exif_containers.proofs.Replacing.{data_are_located, is_heif, tiff_located}
+use Rattle.exif_edit_base.specs.Causes.{Cause, Edits, no_data, of_container, picture, shared, unless, wrong_header, ◌>>=◌}
+use Rattle.exif_edit_base.specs.Patches.{FitsIn, patched}
+use Rattle.exif_edit_base.specs.declared.error.Error.{Error}
 use Rattle.exif_edit_base.specs.declared.patch.Patch.{Patch}
-use Rattle.exif_edit_base.proofs.ChangeSteps.{left_step}
-use Rattle.exif_edit.specs.Clearing.{clear_patches}
-use Rattle.exif_edit_files.specs.InFiles.{Edit, clear_file_patches, in_file, place_answer, place_for, placed, search_answer, serves, serves_as_told, told_place}
-use Rattle.exif_edit_files.specs.Pieces.{piece_in, place_before}
+use Rattle.exif_edit.specs.Edits.{edit_patches, edited, limited_edit, limited_patches, reads_past}
+use Rattle.exif_tiff.specs.declared.fault.Fault.TheVariants.{TooManyEntries}
+use Rattle.exif_edit.specs.declared.edits.Edit.{Edit}
+use Rattle.exif_edit_files.specs.InFiles.{data_patches, edited_file, file_patches, holds, if_served, placed, placed_file, served_file, serves, takes_picture}
+use Rattle.exif_edit_files.specs.Spreading.{spread}
+use Rattle.exif_edit_files.proofs.EditsSound.{edit_fits, unlimited}
+use Rattle.exif_edit_files.proofs.Spreads.{spread_fits, spread_front}
 
--- ---- the search of the place
+-- ---- one step after another
 
--- from one of the places that are tried to the next
-step_on : (test : ℕ → Bool) (xs : List ℕ) (i : ℕ) → i < length xs
-    → find test (drop i xs)
-    ≡ (if test (get_or xs i 0) then Some (get_or xs i 0) else find test (drop (i + 1) xs))
-step_on test xs i h =
-    ap (find test) (left_step xs i (get_or xs i 0) h (get_or_default xs i 0 (get_or xs i 0) h))
+-- what is placed of located data is the answer of the file
+pub file_located : (limit : Option ℕ) (edit : Edit) (file : List ℕ) (at : Located)
+    → of_container (located_answer file) ≡ Ok at
+    → file_patches limit edit file ≡ (data_patches limit edit at >>= placed file at)
+unfolding file_patches
+file_located limit edit file at e =
+    ap (λ x. x >>= λ l. data_patches limit edit l >>= λ ps. placed file l ps) e
 
--- past a place that does not serve, the search is still for the first that does
-pub place_on : (file old : List ℕ) (ps : List Patch) (xs : List ℕ) (i : ℕ) → i < length xs
-    → find (serves file old ps) (drop i xs) ≡ place_for file old ps
-    → serves file old ps (get_or xs i 0) ≡ false
-    → find (serves file old ps) (drop (i + 1) xs) ≡ place_for file old ps
-place_on file old ps xs i h f s =
-    let test = serves file old ps in
-    sym (ap (λ b. if b then Some (get_or xs i 0) else find test (drop (i + 1) xs)) s)
-    ∙ (sym (step_on test xs i h) ∙ f)
+-- a refusal of the container is that of the file
+pub file_unlocated : (limit : Option ℕ) (edit : Edit) (file : List ℕ) (c : Cause)
+    → of_container (located_answer file) ≡ Err c → file_patches limit edit file ≡ Err c
+unfolding file_patches
+file_unlocated limit edit file c e =
+    ap (λ x. x >>= λ l. data_patches limit edit l >>= λ ps. placed file l ps) e
 
--- the first place that serves is the answer of the search
-pub place_found : (file old : List ℕ) (ps : List Patch) (xs : List ℕ) (i : ℕ) → i < length xs
-    → find (serves file old ps) (drop i xs) ≡ place_for file old ps
-    → serves file old ps (get_or xs i 0) ≡ true
-    → search_answer file old ps ≡ Ok (get_or xs i 0)
-unfolding search_answer
-place_found file old ps xs i h f s =
-    let test = serves file old ps in
-    let e : Some (get_or xs i 0) ≡ place_for file old ps =
-    sym (ap (λ b. if b then Some (get_or xs i 0) else find test (drop (i + 1) xs)) s)
-    ∙ (sym (step_on test xs i h) ∙ f) in
-    ap (λ q. or_cause q scattered) (sym e)
+-- a refusal of the edit is that of the file
+pub file_unedited : (limit : Option ℕ) (edit : Edit) (file : List ℕ) (at : Located) (c : Cause)
+    → of_container (located_answer file) ≡ Ok at → data_patches limit edit at ≡ Err c
+    → file_patches limit edit file ≡ Err c
+file_unedited limit edit file at c l e =
+    file_located limit edit file at l ∙ ap (λ x. x >>= placed file at) e
 
--- where no place is left to try, the search is refused as scattered
-pub place_none : (file old : List ℕ) (ps : List Patch) (xs : List ℕ) (i : ℕ) → length xs ≤ i
-    → find (serves file old ps) (drop i xs) ≡ place_for file old ps
-    → search_answer file old ps ≡ Err scattered
-unfolding search_answer
-place_none file old ps xs i h f =
-    let z : drop i xs ≡ [] = grind (arith, common_steps) in
-    let g : None ≡ place_for file old ps = rw z at f in
-    ap (λ p. or_cause p scattered) (sym g)
+-- patches that are placed are the answer of the file
+pub file_placed : (limit : Option ℕ) (edit : Edit) (file : List ℕ) (at : Located) (ps : List Patch)
+    → of_container (located_answer file) ≡ Ok at → data_patches limit edit at ≡ Ok ps
+    → file_patches limit edit file ≡ placed file at ps
+file_placed limit edit file at ps l e =
+    file_located limit edit file at l ∙ ap (λ x. x >>= placed file at) e
 
--- ---- the place that lengths tell
+-- where the patches of a file are refused, the edited file is
+pub edited_refused : (limit : Option ℕ) (edit : Edit) (file : List ℕ) (c : Cause)
+    → file_patches limit edit file ≡ Err c → edited_file limit edit file ≡ Err c
+edited_refused limit edit file c e = ap (λ x. x >>= λ ps. Ok (patched ps file)) e
 
-abbrev told_by : List ℕ → Answer → ℕ
-told_by file x = elim x [ Ok piece ↦ place_before file piece.0 piece.1 | Err r ↦ 0 ]
+-- the file with patches that are placed is the edited file
+pub edited_placed : (limit : Option ℕ) (edit : Edit) (file new : List ℕ) (at : Located)
+    (ps : List Patch) (x : Result (Unit {0}) Error) → of_container (located_answer file) ≡ Ok at
+    → data_patches limit edit at ≡ Ok ps → Edits x file new (placed_file file at ps)
+    → Edits x file new (edited_file limit edit file)
+edited_placed limit edit file new at ps x l e h =
+    subst (λ y. Edits x file new (y >>= λ qs. Ok (patched qs file)))
+    (sym (file_placed limit edit file at ps l e)) h
 
--- where data stand in one piece, the place that lengths tell is the one before data and rest
-pub told_found : (file data' rest : List ℕ) (place : ℕ) → piece_in file ≡ found data' rest
-    → place ≡ place_before file data' rest → place ≡ told_place file
-told_found file data' rest place e p = p ∙ sym (ap (told_by file) e)
+-- ---- patches that serve
 
--- where a file holds its data in no one piece, the place that lengths tell is the first one
-pub told_refused : (file : List ℕ) (r : Refusal) → piece_in file ≡ Err r → 0 ≡ told_place file
-told_refused file r e = sym (ap (told_by file) e)
+-- patches of one extent always serve
+pub piece_placed : (file : List ℕ) (at : Located) (ps : List Patch) → is_heif at.format ≡ false
+    → placed file at ps ≡ Ok (spread at.ranges ps)
+piece_placed file at ps n =
+    ap (λ b. if_served b (spread at.ranges ps)) (piece_serves at.format n)
+  where
+    piece_serves : (f : Format) → is_heif f ≡ false
+        → serves f file (spread at.ranges ps) (patched ps at.bytes) ≡ true
+    piece_serves Tiff n = refl
+    piece_serves Jpeg n = refl
+    piece_serves WebP n = refl
+    piece_serves Heif n = absurd (true_false n)
+      where
+        true_false : ◌≡◌ {A = Bool} true false → ⊥
+        true_false e = cc
 
--- where the place that lengths tell serves, it is the answer
-pub place_as_told : (file old : List ℕ) (ps : List Patch) (place : ℕ)
-    → serves_as_told file old ps ≡ true → place ≡ told_place file
-    → place_answer file old ps ≡ Ok place
-unfolding place_answer
-place_as_told file old ps place h e = rw h (ap (λ p. Ok p) (sym e))
+-- ---- TIFF data, which are the file
 
--- where the place that lengths tell does not serve, the search has the answer
-pub place_searched : (file old : List ℕ) (ps : List Patch)
-    → serves_as_told file old ps ≡ false → search_answer file old ps ≡ place_answer file old ps
-unfolding place_answer
-place_searched file old ps h = rw h refl
+tiff_spread : (file : List ℕ) (ps : List Patch) → length file < 2 ^ 64
+    → All (FitsIn (length file)) ps
+    → patched (spread (record { offset = 0; len = length file } ∷ []) ps) file ≡ patched ps file
+tiff_spread file ps s fit =
+    ap (patched (spread (record { offset = 0; len = length file } ∷ []) ps)) (sym (append-nil file))
+    ∙ (spread_front ps [] file [] (omega arith) fit ∙ append-nil (patched ps file))
 
--- ---- the patches, counted from the first byte of the file
+tiff_placed : (limit : Option ℕ) (edit : Edit) (file : List ℕ) (x : Result (List Patch) Cause)
+    → length file < 2 ^ 64 → limited_patches limit edit file ≡ x
+    → ((x >>= placed file (in_one Tiff 0 file)) >>= λ qs. Ok (patched qs file))
+    ≡ (x >>= λ ps. Ok (patched ps file))
+tiff_placed limit edit file (Ok ps) s e =
+    ap (λ xs. Ok xs)
+    (tiff_spread file ps s (edit_fits edit file ps (unlimited limit edit file ps e)))
+tiff_placed limit edit file (Err c) s e = refl
 
--- with one patch changed, those behind it lie in the data as before
-pub change_left : (n : ℕ) (xs ys : List Patch) (i : ℕ) (x y : Patch) → i < length xs
-    → x ≡ get_or xs i x → ys ≡ set xs i y
-    → All (FitsIn n) (drop i xs) → All (FitsIn n) (drop (i + 1) ys)
-change_left n xs ys i x y h g e k =
-    let r : drop (i + 1) ys ≡ drop (i + 1) xs =
-    ap (λ zs. drop (i + 1) zs) e ∙ drop-set-lt (i + 1) xs i y (omega arith) in
-    All-same (FitsIn n) (drop (i + 1) ys) (drop (i + 1) xs) r
-    (All-rest (FitsIn n) x (drop (i + 1) xs) (drop i xs) (left_step xs i x h g) k)
+limited_as : (limit : Option ℕ) (edit : Edit) (old : List ℕ)
+    → (limited_patches limit edit old >>= λ ps. Ok (patched ps old)) ≡ limited_edit limit edit old
+limited_as limit edit old = by_limit (reads_past limit edit old)
+  where
+    by_limit : (b : Bool)
+        → ((unless b (wrong_header TooManyEntries) >>= λ a. edit_patches edit old) >>= λ ps. Ok (patched ps old))
+        ≡ (unless b (wrong_header TooManyEntries) >>= λ a. edited edit old)
+    by_limit true = refl
+    by_limit false = refl
 
--- the first of those that are left lies in the data
-pub first_left : (n : ℕ) (xs : List Patch) (i : ℕ) (x : Patch) → i < length xs → x ≡ get_or xs i x
-    → All (FitsIn n) (drop i xs) → FitsIn n x
-first_left n xs i x h g k =
-    All-head (FitsIn n) x (drop (i + 1) xs)
-    (All-same (FitsIn n) (x ∷ drop (i + 1) xs) (drop i xs) (sym (left_step xs i x h g)) k)
+-- TIFF data are edited as a file as they are edited alone
+pub tiff_edited : (limit : Option ℕ) (edit : Edit) (file : List ℕ) → length file < 2 ^ 64
+    → begins_tiff file ≡ true → takes_picture edit Tiff ≡ false
+    → edited_file limit edit file ≡ limited_edit limit edit file
+tiff_edited limit edit file s h k =
+    ap (λ x. x >>= λ qs. Ok (patched qs file))
+    (file_located limit edit file (in_one Tiff 0 file) (ap of_container (tiff_located file h))
+    ∙ ap (λ b. (unless b picture >>= λ a. limited_patches limit edit file) >>= placed file (in_one Tiff 0 file)) k)
+    ∙ (tiff_placed limit edit file (limited_patches limit edit file) s refl
+    ∙ limited_as limit edit file)
 
--- ---- the whole
+-- but for the picture that is in them
+pub tiff_kept : (limit : Option ℕ) (edit : Edit) (file : List ℕ) → begins_tiff file ≡ true
+    → takes_picture edit Tiff ≡ true → edited_file limit edit file ≡ Err picture
+tiff_kept limit edit file h k =
+    ap (λ x. x >>= λ qs. Ok (patched qs file))
+    (file_located limit edit file (in_one Tiff 0 file) (ap of_container (tiff_located file h))
+    ∙ ap (λ b. (unless b picture >>= λ a. limited_patches limit edit file) >>= placed file (in_one Tiff 0 file)) k)
 
--- where the container is refused, the edit of the file is, for the same cause
-pub file_data : (edit : Edit) (file : List ℕ) (c : Cause)
-    → of_container (container_answer file) ≡ Err c → in_file edit file ≡ Err c
-unfolding in_file
-file_data edit file c h = rw h refl
+-- the patches of a located answer lie in the file
+pub located_fits : (file : List ℕ) (at : Located) (ps : List Patch) → length file < 2 ^ 64
+    → located_answer file ≡ Ok at → All (FitsIn (length file)) (spread at.ranges ps)
+located_fits file at ps s e =
+    spread_fits file at.ranges ps (data_are_located file at s e).whole
 
--- where the edit of the data is refused, that of the file is, for the same cause
-pub file_edit : (edit : Edit) (file old : List ℕ) (c : Cause)
-    → of_container (container_answer file) ≡ Ok old → edit old ≡ Err c → in_file edit file ≡ Err c
-unfolding in_file
-file_edit edit file old c h g = rw (h, g) refl
+-- ---- what serves, and what does not
 
--- where the data are edited, the edit of the file answers the patches as they are placed
-pub file_placed : (edit : Edit) (file old : List ℕ) (ps : List Patch)
-    (x : Result (List Patch) Cause) → of_container (container_answer file) ≡ Ok old
-    → edit old ≡ Ok ps → placed file old ps ≡ x → in_file edit file ≡ x
-unfolding in_file
-file_placed edit file old ps x h g s = rw (h, g) s
+-- a file that does not hold the new data with its patches refuses them
+pub not_served : (file now : List ℕ) (ps : List Patch) (new : List ℕ) (b : Bool)
+    → now ≡ patched ps file → b ≡ holds now new → b ≡ false → served_file file ps new ≡ Err shared
+not_served file now ps new b n e f =
+    let h : holds (patched ps file) new ≡ false =
+    sym (ap (λ xs. holds xs new) n) ∙ (sym e ∙ f) in
+    ap (λ t. if_served t ps >>= λ qs. Ok (patched qs file)) h
 
--- in a file of TIFF data not all is erased, for the picture would be, too
-pub clear_file_tiff : (file : List ℕ) → begins_tiff file ≡ true
-    → clear_file_patches file ≡ Err picture
-unfolding clear_file_patches
-clear_file_tiff file h = rw h refl
+-- patches that serve are those of the file
+pub file_served : (limit : Option ℕ) (edit : Edit) (file : List ℕ) (at : Located)
+    (ps qs : List Patch) (b : Bool) → of_container (located_answer file) ≡ Ok at
+    → data_patches limit edit at ≡ Ok ps → qs ≡ spread at.ranges ps
+    → b ≡ serves at.format file qs (patched ps at.bytes) → b ≡ true
+    → file_patches limit edit file ≡ Ok qs
+file_served limit edit file at ps qs b l e s v t =
+    let h : serves at.format file (spread at.ranges ps) (patched ps at.bytes) ≡ true =
+    sym (ap (λ rs. serves at.format file rs (patched ps at.bytes)) s) ∙ (sym v ∙ t) in
+    file_placed limit edit file at ps l e
+    ∙ (ap (λ x. if_served x (spread at.ranges ps)) h ∙ ap (λ xs. Ok xs) (sym s))
 
--- in any other file all fields are erased as its data are cleared
-pub clear_file_else : (file : List ℕ) → begins_tiff file ≡ false
-    → clear_file_patches file ≡ in_file clear_patches file
-unfolding clear_file_patches
-clear_file_else file h = rw h refl
+-- others are refused
+pub file_unserved : (limit : Option ℕ) (edit : Edit) (file : List ℕ) (at : Located)
+    (ps qs : List Patch) (b : Bool) → of_container (located_answer file) ≡ Ok at
+    → data_patches limit edit at ≡ Ok ps → qs ≡ spread at.ranges ps
+    → b ≡ serves at.format file qs (patched ps at.bytes) → b ≡ false
+    → file_patches limit edit file ≡ Err shared
+file_unserved limit edit file at ps qs b l e s v t =
+    let h : serves at.format file (spread at.ranges ps) (patched ps at.bytes) ≡ false =
+    sym (ap (λ rs. serves at.format file rs (patched ps at.bytes)) s) ∙ (sym v ∙ t) in
+    file_placed limit edit file at ps l e ∙ ap (λ x. if_served x (spread at.ranges ps)) h

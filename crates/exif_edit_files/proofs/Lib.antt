@@ -1,9 +1,5 @@
-pub mod FileSound
+pub mod EditsSound
 pub mod FileSteps
-pub mod InPlace
-pub mod LawsStreams
-pub mod Splicing
-pub mod StandingPlaces
-pub mod StreamSound
-pub mod StreamSteps
-pub mod TiffFiles
+pub mod FilesSound
+pub mod SourceSteps
+pub mod Spreads

@@ -1,121 +1,85 @@
--- Exif data edited where they stand in a file.
-use Rattle.std.specs.Prelude.{◌≡◌, ℕ, ◌+◌, ◌-◌, ◌<◌, ◌≤◌, ◌&&◌, ◌⊎◌, nat_lt, if◌then◌else◌, Bool, true, false, List, length, map, slice_index, take, Option, Some, None, Result, Ok, Err}
-use Rattle.std.specs.List.{find}
+-- Exif data edited where they are in a file.
+use Rattle.std.specs.Prelude.{◌≡◌, ℕ, ◌+◌, ◌<◌, ◌≤◌, ◌⊎◌, Bool, true, false, List, length, slice_index, All, Option, Result, Ok, Err}
 use Rattle.std.specs.Str.{bytes_eq}
-use Rattle.std.specs.declared.alloc.AllocError.{AllocError}
-use Rattle.memchr.specs.Find.{matches}
-use Rattle.exif_base.specs.Bytes.{bytes_at}
-use Rattle.exif_containers.specs.Container.{begins_tiff, container_answer}
-use Rattle.exif_edit_base.specs.Causes.{Cause, of_container, or_cause, picture, scattered, unless, ◌>>=◌}
+use Rattle.exif_isobmff.specs.declared.locations.Extent.{Extent}
+use Rattle.exif_containers.specs.Container.{container_answer}
+use Rattle.exif_containers.specs.Located.{Located, located_answer}
+use Rattle.exif_containers.specs.declared.container.Format.{Format}
+use Rattle.exif_containers.specs.declared.container.Format.TheVariants.{Tiff, Jpeg, Heif, WebP}
+use Rattle.exif_edit_base.specs.Causes.{Cause, of_container, picture, shared, unless, ◌>>=◌}
 use Rattle.exif_edit_base.specs.Patches.{patched}
 use Rattle.exif_edit_base.specs.declared.patch.Patch.{Patch}
-use Rattle.exif_edit.specs.Clearing.{clear_patches}
-use Rattle.exif_edit_files.specs.Pieces.{piece_in, place_before}
+use Rattle.exif_edit.specs.Edits.{IsEdited, limited_edit, limited_patches}
+use Rattle.exif_edit.specs.declared.edits.Edit.{Edit}
+use Rattle.exif_edit.specs.declared.edits.Edit.TheVariants.{EraseAll}
+use Rattle.exif_edit_files.specs.Spreading.{spread}
 
--- an edit: what is put over data, or why that is refused
-abbrev pub Edit : Type 0
-Edit = List ℕ → Result (List Patch) Cause
+-- all fields of TIFF data are the picture's too
+abbrev pub takes_picture : Edit → Format → Bool
+takes_picture EraseAll Tiff = true
+takes_picture _ _ = false
 
--- a patch of data that stand at a place of a file
-abbrev pub shifted : ℕ → Patch → Patch
-shifted place p = record { place = place + p.place; text = p.text }
+-- what an edit puts over located data, or why it is refused
+abbrev pub data_patches : Option ℕ → Edit → Located → Result (List Patch) Cause
+data_patches limit edit at = do
+  a ← unless (takes_picture edit at.format) picture
+  limited_patches limit edit at.bytes
 
 -- whether a file holds these data
 abbrev pub holds : List ℕ → List ℕ → Bool
-holds file data' =
-    elim (container_answer file) [ Ok found ↦ bytes_eq found data' | Err r ↦ false ]
+holds file bytes =
+    elim (container_answer file) [ Ok found ↦ bytes_eq found bytes | Err r ↦ false ]
 
--- whether data stand at a place of a file, and the file with the patches there holds what they make
-abbrev pub serves : List ℕ → List ℕ → List Patch → ℕ → Bool
-serves file old patches place =
-    bytes_eq (bytes_at (length old) file place) old
-    && holds (patched (map (shifted place) patches) file) (patched patches old)
+-- whether patches over a file make the new data what it holds: a HEIF file is read again, since the
+-- bytes of an item may also say where it is
+abbrev pub serves : Format → List ℕ → List Patch → List ℕ → Bool
+serves Heif file ps new = holds (patched ps file) new
+serves Tiff file ps new = true
+serves Jpeg file ps new = true
+serves WebP file ps new = true
 
--- the first places at which data stand in a file, none within another: eight at most are tried, so
--- that a file that holds its data many times costs so many readings
-abbrev pub standing_places : List ℕ → List ℕ → List ℕ
-standing_places file data' = take 8 (matches file data' 0)
+-- patches over a file, if they serve
+abbrev pub if_served : Bool → List Patch → Result (List Patch) Cause
+if_served true ps = Ok ps
+if_served false ps = Err shared
 
--- the first of them that serves
-abbrev pub place_for : List ℕ → List ℕ → List Patch → Option ℕ
-place_for file old patches = find (serves file old patches) (standing_places file old)
+-- patches of located data as patches of the file
+abbrev pub placed : List ℕ → Located → List Patch → Result (List Patch) Cause
+placed file at ps =
+    let qs = spread at.ranges ps in
+    if_served (serves at.format file qs (patched ps at.bytes)) qs
 
--- the same, or why there is none
-unfoldable pub search_answer : List ℕ → List ℕ → List Patch → Result ℕ Cause
-search_answer file old patches = or_cause (place_for file old patches) scattered
+-- the file with patches of located data
+abbrev pub placed_file : List ℕ → Located → List Patch → Result (List ℕ) Cause
+placed_file file at ps = placed file at ps >>= λ qs. Ok (patched qs file)
 
--- the place that lengths tell, in a JPEG stream and a WebP file: what is not followed by the rest
-abbrev pub piece_place : List ℕ → Option ℕ
-piece_place file =
-    elim (piece_in file)
-    [ Ok piece ↦ Some (place_before file piece.0 piece.1) | Err r ↦ None ]
+-- the file with patches of its item, if it holds the new data then
+abbrev pub served_file : List ℕ → List Patch → List ℕ → Result (List ℕ) Cause
+served_file file ps new =
+    if_served (holds (patched ps file) new) ps >>= λ qs. Ok (patched qs file)
 
--- the place that lengths tell: in a JPEG stream and a WebP file what is not followed by the rest, in
--- others the first
-abbrev pub told_place : List ℕ → ℕ
-told_place file =
-    elim (piece_in file) [ Ok piece ↦ place_before file piece.0 piece.1 | Err r ↦ 0 ]
+-- what an edit puts over a file, or why it is refused
+unfoldable pub file_patches : Option ℕ → Edit → List ℕ → Result (List Patch) Cause
+file_patches limit edit file = do
+  at ← of_container (located_answer file)
+  ps ← data_patches limit edit at
+  placed file at ps
 
--- whether it serves
-abbrev pub serves_as_told : List ℕ → List ℕ → List Patch → Bool
-serves_as_told file old patches =
-    nat_lt (told_place file) (length file + 1 - length old)
-    && serves file old patches (told_place file)
+-- the file with them
+abbrev pub edited_file : Option ℕ → Edit → List ℕ → Result (List ℕ) Cause
+edited_file limit edit file = file_patches limit edit file >>= λ ps. Ok (patched ps file)
 
--- the place that lengths tell, if it serves; else the first that does
-unfoldable pub place_answer : List ℕ → List ℕ → List Patch → Result ℕ Cause
-place_answer file old patches =
-    if serves_as_told file old patches then Ok (told_place file) else search_answer file old patches
+-- an offset is not one of an extent
+abbrev pub Avoids : ℕ → Extent → Type 0
+Avoids i e = (i < e.offset) ⊎ (e.offset + e.len ≤ i)
 
--- patches of the data of a file as patches of the file
-abbrev pub placed : List ℕ → List ℕ → List Patch → Result (List Patch) Cause
-placed file old patches =
-    place_answer file old patches >>= λ place. Ok (map (shifted place) patches)
-
--- the file with patches of its data where they serve
-abbrev pub searched_file : List ℕ → List ℕ → List Patch → Result (List ℕ) Cause
-searched_file file old patches =
-    search_answer file old patches >>= λ place. Ok (patched (map (shifted place) patches) file)
-
--- the same, where the place that lengths tell is tried first
-abbrev pub placed_file : List ℕ → List ℕ → List Patch → Result (List ℕ) Cause
-placed_file file old patches = placed file old patches >>= λ qs. Ok (patched qs file)
-
--- what a try of patches at a place tells and leaves: all is as it was, unless they serve
-abbrev pub Tries : Result Bool AllocError → List ℕ → List ℕ → List Patch → ℕ → List ℕ → List Patch
-    → Type 0
-Tries (Ok true) file old patches place new left =
-    (serves file old patches place ≡ true) × (new ≡ patched (map (shifted place) patches) file)
-Tries (Ok false) file old patches place new left =
-    (serves file old patches place ≡ false) × (new ≡ file) × (left ≡ patches)
-Tries (Err e) file old patches place new left = (new ≡ file) × (left ≡ patches)
-
--- what edits the data of a file, or why that is refused
-unfoldable pub in_file : Edit → Edit
-in_file edit file = do
-  old ← of_container (container_answer file)
-  patches ← edit old
-  placed file old patches
-
--- what erases all fields of the data of a file; of TIFF data it would be the picture too
-unfoldable pub clear_file_patches : Edit
-clear_file_patches file = do
-  a ← unless (begins_tiff file) picture
-  in_file clear_patches file
-
--- the file with that
-abbrev pub edited_file : Edit → List ℕ → Result (List ℕ) Cause
-edited_file edit file = edit file >>= λ patches. Ok (patched patches file)
-
--- the data of a file were edited where they stand, and all else is as it was
-pub record IsEditedIn (edit : Edit) (file out : List ℕ) : Type 0 where
-  pub old : List ℕ
-  pub held : container_answer file ≡ Ok old
-  pub patches : List Patch
-  pub edited : edit old ≡ Ok patches
-  pub holds : container_answer out ≡ Ok (patched patches old)
-  pub place : ℕ
-  pub stood : bytes_at (length old) file place ≡ old
+-- the data of a file were edited where they are, and all else is as it was
+pub record IsEditedIn (limit : Option ℕ) (edit : Edit) (file out : List ℕ) : Type 0 where
+  pub at : Located
+  pub located : located_answer file ≡ Ok at
+  pub new : List ℕ
+  pub edited : limited_edit limit edit at.bytes ≡ Ok new
+  pub promised : IsEdited edit at.bytes new
+  pub holds : container_answer out ≡ Ok new
   pub as_long : length out ≡ length file
-  pub outside : (i : ℕ) → (i < place) ⊎ (place + length old ≤ i)
-      → slice_index out i ≡ slice_index file i
+  pub outside : (i : ℕ) → All (Avoids i) at.ranges → slice_index out i ≡ slice_index file i

@@ -1,3 +1,3 @@
 pub mod InFiles
-pub mod Pieces
-pub mod Streams
+pub mod Spreading
+pub mod Sources

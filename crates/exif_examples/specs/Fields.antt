@@ -1,7 +1,7 @@
 -- Fields that examples write.
 use Rattle.std.specs.Prelude.{ℕ, [], ◌∷◌}
-use Rattle.exif_edit_files.specs.InFiles.{Edit}
-use Rattle.exif_edit.specs.Setting.{set_patches}
+use Rattle.exif_edit.specs.declared.edits.Edit.{Edit}
+use Rattle.exif_edit.specs.declared.edits.Edit.TheVariants.{Set}
 use Rattle.exif_table.specs.declared.context.Context.TheVariants.{Tiff}
 use Rattle.exif_types.specs.declared.field.Field.{Field}
 use Rattle.exif_types.specs.declared.value.Value.TheVariants.{Short}
@@ -14,8 +14,8 @@ orientation_field number = record {
   value = Short (number ∷ []);
 }
 
--- what sets it in data
-abbrev pub orientation_patches : ℕ → Edit
-orientation_patches number data' =
-    set_patches data' (orientation_field number).tag (orientation_field number).ifd_num
+-- the edit that sets it
+abbrev pub orientation_edit : ℕ → Edit
+orientation_edit number =
+    Set (orientation_field number).tag (orientation_field number).ifd_num
     (orientation_field number).value

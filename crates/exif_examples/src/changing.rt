@@ -2,17 +2,17 @@
 
 ghost use Rattle.std.specs.Prelude.{◌≡◌, None, IfOk, OnErr, OnOk};
 ghost use Rattle.exif_base.specs.Orders.{order_named};
-ghost use Rattle.exif_edit.specs.Erasing.{erase_patches};
+ghost use Rattle.exif_edit.specs.declared.edits.Edit.TheVariants.{EraseGps};
 ghost use Rattle.exif_edit_files.specs.InFiles.{IsEditedIn};
 ghost use Rattle.exif_containers.specs.declared.remove.Remove.TheVariants.{Metadata};
 ghost use Rattle.exif_rewrite_jpeg.specs.Rewriting.{ends, finished};
 ghost use Rattle.exif_rewrite.specs.RewrittenFile.{file_rewriting};
 ghost use Rattle.exif_layout.specs.Image.{image};
 ghost use Rattle.exif_layout.specs.Scrubbing.{scrubbed};
-ghost use Rattle.exif_examples.specs.Fields.{orientation_patches};
+ghost use Rattle.exif_examples.specs.Fields.{orientation_edit};
 
 use exif::{Counted, Exif, In, Items, Tag, Value};
-use exif_edit_files::{erase_gps_in_file, set_value_in_file};
+use exif_edit_files::{Edit, apply_in_file};
 use exif_rewrite::{Remove, rewrite};
 use std::alloc::Global;
 
@@ -23,20 +23,25 @@ pub fn set_orientation(
     orientation: u16,
 ) -> Result<(), exif_edit::Error>
     ensures set { OnOk result
-        (IsEditedIn (orientation_patches orientation) picture.old picture.new) }
+        (IsEditedIn None (orientation_edit orientation) picture.old picture.new) }
     ensures kept { OnErr result (picture.new ≡ picture.old) }
 {
     let value = Value::Short(Items::from_slice(alloc, &[orientation])?);
-    set_value_in_file(alloc, picture, Tag::Orientation, In::PRIMARY, &value)
+    let edit = Edit::Set {
+        tag: Tag::Orientation,
+        ifd_num: In::PRIMARY,
+        value,
+    };
+    apply_in_file(alloc, &edit, None, picture)
 }
 
 /// Erases the GPS data of a picture in memory: their bytes become zero, and no other byte changes.
 /// After an error its bytes are unchanged.
 pub fn erase_location(alloc: Global, picture: &mut [u8]) -> Result<(), exif_edit::Error>
-    ensures erased { OnOk result (IsEditedIn erase_patches picture.old picture.new) }
+    ensures erased { OnOk result (IsEditedIn None EraseGps picture.old picture.new) }
     ensures kept { OnErr result (picture.new ≡ picture.old) }
 {
-    erase_gps_in_file(alloc, picture)
+    apply_in_file(alloc, &Edit::EraseGps, None, picture)
 }
 
 /// A JPEG or WebP picture without its metadata.

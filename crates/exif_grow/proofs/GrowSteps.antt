@@ -7,7 +7,7 @@ use Rattle.exif_text.specs.declared.ifd.In.{In}
 use Rattle.exif_types.specs.declared.value.Value.{Value}
 use Rattle.exif_tiff.specs.Trace.{fields_of, trace}
 use Rattle.exif_layout.specs.Encoding.{encode, moved_to}
-use Rattle.exif_edit_base.specs.Causes.{Cause, full_directory, no_data, no_directory, no_field, picture, offset_named, scattered, shared, too_long, unknown_type, wrong_header}
+use Rattle.exif_edit_base.specs.Causes.{Cause, full_directory, no_data, no_directory, no_field, picture, offset_named, shared, too_long, unknown_type, wrong_header}
 use Rattle.exif_edit_base.proofs.CauseSteps.{ok_same}
 use Rattle.exif_edit_base.specs.Finding.{replaced}
 use Rattle.exif_edit_base.specs.Patches.{FitsIn, patched}
@@ -153,7 +153,6 @@ created_promised old a tag k value (Err unknown_type) e h = refused unknown_type
 created_promised old a tag k value (Err too_long) e h = refused too_long a h
 created_promised old a tag k value (Err offset_named) e h = refused offset_named a h
 created_promised old a tag k value (Err shared) e h = refused shared a h
-created_promised old a tag k value (Err scattered) e h = refused scattered a h
 created_promised old a tag k value (Err picture) e h = refused picture a h
 created_promised old a tag k value (Err (wrong_header fault)) e h = refused (wrong_header fault) a h
 created_promised old a tag k value (Err (no_data r)) e h = refused (no_data r) a h
@@ -173,7 +172,6 @@ grown_promised old a tag k value (Err no_directory) e h = refused no_directory a
 grown_promised old a tag k value (Err full_directory) e h = refused full_directory a h
 grown_promised old a tag k value (Err unknown_type) e h = refused unknown_type a h
 grown_promised old a tag k value (Err offset_named) e h = refused offset_named a h
-grown_promised old a tag k value (Err scattered) e h = refused scattered a h
 grown_promised old a tag k value (Err picture) e h = refused picture a h
 grown_promised old a tag k value (Err (wrong_header fault)) e h = refused (wrong_header fault) a h
 grown_promised old a tag k value (Err (no_data r)) e h = refused (no_data r) a h

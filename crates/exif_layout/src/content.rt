@@ -146,7 +146,8 @@ impl<'a> Content<'a> {
         match self {
             Content::Known(noted) => noted.size(),
             Content::OneShort(_) => 2,
-            Content::OffsetsOf(_, blocks) | Content::LengthsOf(_, blocks) => 4 * blocks.len() as u32,
+            Content::OffsetsOf(_, blocks) | Content::LengthsOf(_, blocks) => 4
+                * blocks.len() as u32,
             Content::OneLong(_) | Content::OffsetOf(_) => 4,
         }
     }

@@ -9,8 +9,8 @@ ghost use Rattle.exif_reader.specs.Readings.{ParsesAs};
 ghost use Rattle.exif_reader.specs.Results.{Says, AsksMemory, SaysOrder, parsed_of};
 
 use crate::bytes::show_bytes;
-use crate::parser::Parser;
 use crate::offsets::Offsets;
+use crate::parser::Parser;
 use crate::stop::Stop;
 use exif_base::{BigEndian, Endian, LittleEndian, Order};
 use exif_tiff::Fault;

@@ -4,15 +4,8 @@ use crate::calls::{OUT_OF_MEMORY, end_of, end_of_error, send};
 use exif::{Counted, Field, In, Seekable, Sink, Source, Tag};
 use exif_cases::{Call, Case, CaseError, Kind};
 use exif_containers::util::read_all;
-use exif_edit::{
-    Error, Patch, erase_all, erase_all_patches, erase_field, erase_field_patches, erase_gps,
-    erase_gps_patches, set_value, set_value_patches,
-};
-use exif_edit_files::{
-    erase_all_in_file, erase_all_patches_in_file, erase_field_in_file, erase_field_patches_in_file,
-    erase_field_patches_of, erase_gps_in_file, erase_gps_patches_in_file,
-    erase_gps_patches_of, set_value_in_file, set_value_patches_in_file, set_value_patches_of,
-};
+use exif_edit::{Edit, Error, Patch, apply, patches_of};
+use exif_edit_files::{apply_in_file, patches_in};
 use std::alloc::Global;
 use std::fmt::Display;
 use std::io::Cursor;
@@ -59,51 +52,46 @@ fn name_of(case: &Case) -> (Tag, In) {
     case.tag.unwrap_or((Tag::ImageDescription, In(0)))
 }
 
-fn field_of(case: &Case) -> Result<&Field, Error> {
-    case.fields.first().ok_or(Error::FieldNotFound)
+// The edit of the case.
+fn edit_of(alloc: Global, case: &Case) -> Result<Edit, Error> {
+    let (tag, ifd_num) = name_of(case);
+    match case.call {
+        Call::EraseGps => Ok(Edit::EraseGps),
+        Call::EraseAll => Ok(Edit::EraseAll),
+        Call::EraseField => Ok(Edit::EraseField { tag, ifd_num }),
+        _ => set_by(alloc, case),
+    }
+}
+
+fn set_by(alloc: Global, case: &Case) -> Result<Edit, Error> {
+    let Some(field) = case.fields.first() else {
+        return Err(Error::FieldNotFound);
+    };
+    match field.value.clone(alloc) {
+        Ok(value) => Ok(Edit::Set {
+            tag: field.tag,
+            ifd_num: field.ifd_num,
+            value,
+        }),
+        Err(_out_of_memory) => Err(Error::OutOfMemory),
+    }
 }
 
 fn in_place(alloc: Global, case: &Case, bytes: &mut [u8]) -> Result<(), Error> {
-    let (tag, ifd_num) = name_of(case);
-    match (case.call, case.kind) {
-        (Call::EraseGps, Kind::Data) => erase_gps(alloc, bytes),
-        (Call::EraseGps, _) => erase_gps_in_file(alloc, bytes),
-        (Call::EraseAll, Kind::Data) => erase_all(bytes),
-        (Call::EraseAll, _) => erase_all_in_file(alloc, bytes),
-        (Call::EraseField, Kind::Data) => erase_field(alloc, bytes, tag, ifd_num),
-        (Call::EraseField, _) => erase_field_in_file(alloc, bytes, tag, ifd_num),
-        _ => set_in_place(alloc, case, bytes),
-    }
-}
-
-fn set_in_place(alloc: Global, case: &Case, bytes: &mut [u8]) -> Result<(), Error> {
-    let field = field_of(case)?;
+    let edit = edit_of(alloc, case)?;
     match case.kind {
-        Kind::Data => set_value(alloc, bytes, field.tag, field.ifd_num, &field.value),
-        _ => set_value_in_file(alloc, bytes, field.tag, field.ifd_num, &field.value),
+        Kind::Data => apply(alloc, &edit, None, bytes),
+        _ => apply_in_file(alloc, &edit, None, bytes),
     }
 }
 
+// The patches of data, or of a file that is read once, or one that is sought in.
 fn patches(alloc: Global, case: &Case, bytes: &[u8]) -> Result<Vec<Patch>, Error> {
-    let (tag, ifd_num) = name_of(case);
-    match (case.call, case.kind) {
-        (_, Kind::Stream) => patches_sought(alloc, case, bytes),
-        (Call::EraseGps, Kind::Data) => erase_gps_patches(alloc, bytes),
-        (Call::EraseGps, _) => erase_gps_patches_in_file(alloc, bytes),
-        (Call::EraseAll, Kind::Data) => erase_all_patches(alloc, bytes),
-        (Call::EraseAll, _) => erase_all_patches_in_file(alloc, bytes),
-        (Call::EraseField, Kind::Data) => erase_field_patches(alloc, bytes, tag, ifd_num),
-        (Call::EraseField, _) => erase_field_patches_in_file(alloc, bytes, tag, ifd_num),
-        _ => set_patches(alloc, case, bytes),
-    }
-}
-
-fn set_patches(alloc: Global, case: &Case, bytes: &[u8]) -> Result<Vec<Patch>, Error> {
-    let field = field_of(case)?;
-    let (tag, ifd_num) = (field.tag, field.ifd_num);
+    let edit = edit_of(alloc, case)?;
     match case.kind {
-        Kind::Data => set_value_patches(alloc, bytes, tag, ifd_num, &field.value),
-        _ => set_value_patches_in_file(alloc, bytes, tag, ifd_num, &field.value),
+        Kind::Data => patches_of(alloc, &edit, None, bytes),
+        Kind::Stream => { patches_in(alloc, &edit, None, &mut Seekable::new(Cursor::new(bytes))) }
+        _ => patches_in(alloc, &edit, None, &mut Counted::new(bytes)),
     }
 }
 
@@ -114,34 +102,8 @@ fn once(alloc: Global, case: &Case, old: &[u8], bytes: &mut [u8]) -> Result<Stri
 
 // The patches of a file that is read once.
 fn patches_read(alloc: Global, case: &Case, bytes: &[u8]) -> Result<Vec<Patch>, Error> {
-    let (tag, ifd_num) = name_of(case);
-    let mut source = Counted::new(bytes);
-    let len = bytes.len() as u64;
-    match case.call {
-        Call::EraseGps => erase_gps_patches_of(alloc, &mut source, len),
-        Call::EraseField => erase_field_patches_of(alloc, &mut source, len, tag, ifd_num),
-        _ => {
-            let field = field_of(case)?;
-            let (tag, ifd_num) = (field.tag, field.ifd_num);
-            set_value_patches_of(alloc, &mut source, len, tag, ifd_num, &field.value)
-        }
-    }
-}
-
-// The patches of a file that is sought in.
-fn patches_sought(alloc: Global, case: &Case, bytes: &[u8]) -> Result<Vec<Patch>, Error> {
-    let (tag, ifd_num) = name_of(case);
-    let mut source = Seekable::new(Cursor::new(bytes));
-    let len = bytes.len() as u64;
-    match case.call {
-        Call::EraseGps => erase_gps_patches_of(alloc, &mut source, len),
-        Call::EraseField => erase_field_patches_of(alloc, &mut source, len, tag, ifd_num),
-        _ => {
-            let field = field_of(case)?;
-            let (tag, ifd_num) = (field.tag, field.ifd_num);
-            set_value_patches_of(alloc, &mut source, len, tag, ifd_num, &field.value)
-        }
-    }
+    let edit = edit_of(alloc, case)?;
+    patches_in(alloc, &edit, None, &mut Counted::new(bytes))
 }
 
 // Whether the patches make the new bytes of the old ones, or are refused with the same text.
@@ -165,7 +127,7 @@ fn end_of_patches<E: Display + Drop>(
     match answer {
         Ok(patches) => {
             for patch in patches.as_slice() {
-                put(bytes, patch.offset as usize, patch.text.as_slice());
+                put(bytes, patch.offset as usize, patch.bytes.as_slice());
             }
             Ok(String::new(alloc))
         }

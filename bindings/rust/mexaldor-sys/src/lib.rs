@@ -23,7 +23,7 @@ extern "C" {
         room: usize,
     ) -> mexaldor_answer;
     /// Erases the GPS data of Exif in place.
-    pub fn mexaldor_erase_places(file: *mut u8, length: usize) -> u32;
+    pub fn mexaldor_erase_gps(file: *mut u8, length: usize) -> u32;
     /// Makes a copy of a file without its metadata.
     pub fn mexaldor_scrub(
         file: *const u8,

@@ -5,7 +5,7 @@
 //! let mut picture = std::fs::read("holiday.jpg")?;
 //! println!("{}", mexaldor::read(&picture)?.json);
 //! mexaldor::set(&mut picture, "Orientation=1")?;
-//! mexaldor::erase_places(&mut picture)?;
+//! mexaldor::erase_gps(&mut picture)?;
 //! std::fs::write("clean.jpg", mexaldor::scrub(&picture)?)?;
 //! # Ok(())
 //! # }
@@ -41,11 +41,10 @@ impl Refused {
     /// The new value does not fit into the space of the old one.
     pub const VALUE_TOO_LONG: Refused = Refused(18);
     /// The field holds the offset or length of other data.
-    pub const NAMES_PLACES: Refused = Refused(19);
+    pub const NAMES_OFFSETS: Refused = Refused(19);
     /// Something else uses the same bytes.
     pub const SHARED_BYTES: Refused = Refused(20);
     /// The Exif data are not stored in one piece.
-    pub const SCATTERED_DATA: Refused = Refused(21);
     /// A TIFF file: the picture is stored in the same data.
     pub const PICTURE_DATA: Refused = Refused(22);
     /// There is no directory to put the field into.
@@ -112,9 +111,9 @@ pub fn set(file: &mut [u8], assignment: &str) -> Result<(), Refused> {
 }
 
 /// Erases the GPS data of Exif in place. Locations in XMP and in maker notes stay.
-pub fn erase_places(file: &mut [u8]) -> Result<(), Refused> {
+pub fn erase_gps(file: &mut [u8]) -> Result<(), Refused> {
     // SAFETY: `file` has its length and is held by nobody else.
-    ended(unsafe { sys::mexaldor_erase_places(file.as_mut_ptr(), file.len()) })
+    ended(unsafe { sys::mexaldor_erase_gps(file.as_mut_ptr(), file.len()) })
 }
 
 /// Returns a copy of a file without its metadata.

@@ -1,6 +1,6 @@
 //! The calls on the pictures of tests/make_files.py, whose folder MEXALDOR_PICTURES names.
 
-use mexaldor::{erase_places, read, read_with, scrub, set, Options, Refused};
+use mexaldor::{erase_gps, read, read_with, scrub, set, Options, Refused};
 use std::path::PathBuf;
 
 const CONTAINERS: [&str; 4] = ["whole.jpg", "whole.webp", "whole.heic", "whole.tif"];
@@ -39,11 +39,11 @@ fn what_is_no_picture_is_refused() {
 }
 
 #[test]
-fn places_are_erased() {
+fn gps_data_are_erased() {
     for name in CONTAINERS {
         let mut file = picture(name);
         assert!(read(&file).unwrap().json.contains("\"latitude\":"));
-        erase_places(&mut file).expect(name);
+        erase_gps(&mut file).expect(name);
         assert!(!read(&file).unwrap().json.contains("\"latitude\":"));
         assert_eq!(file.len(), picture(name).len());
     }

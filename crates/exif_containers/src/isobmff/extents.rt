@@ -22,7 +22,11 @@ const TOO_MANY: u64 = MAX_EXIF_SIZE as u64 + 1;
 
 // Where an offset of the file stands in the bytes that are kept of it, or none where the file ends
 // in front of it. Bytes in front of an offset that was not read yet are no longer kept.
-fn reach<R: Source>(source: &mut R, bytes: &mut Vec<u8>, offset: u64) -> Result<Option<usize>, Error>
+fn reach<R: Source>(
+    source: &mut R,
+    bytes: &mut Vec<u8>,
+    offset: u64,
+) -> Result<Option<usize>, Error>
     ensures reached { IfOk result (λ start. OffsetIsReached offset start
         (R.left source.old) (R.left source.new) bytes.old.items bytes.new.items) }
     ensures start { IfOk result (λ start. IfSome start (λ at. at ≤ length bytes.new.items)) }

@@ -3,7 +3,9 @@
 mod picture;
 
 use exif::{DateTime, Error, Exif};
-use exif_examples::changing::{erase_location, set_orientation, without_metadata, without_location};
+use exif_examples::changing::{
+    erase_location, set_orientation, without_location, without_metadata,
+};
 use exif_examples::dates::date_taken;
 use exif_examples::locations::location;
 use exif_examples::reading::{

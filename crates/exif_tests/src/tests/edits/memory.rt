@@ -4,17 +4,10 @@
 use super::undone::out_of_memory;
 use super::{DESCRIPTION, put, text};
 use exif_base::Counted;
-use exif_edit::{
-    Error, Patch, erase_all, erase_all_patches, erase_field, erase_field_patches, erase_gps,
-    erase_gps_patches, set_value, set_value_patches,
-};
-use exif_edit_files::{
-    erase_all_in_file, erase_all_patches_in_file, erase_field_in_file, erase_field_patches_in_file,
-    erase_field_patches_of, erase_gps_in_file, erase_gps_patches_in_file,
-    erase_gps_patches_of, set_value_in_file, set_value_patches_in_file, set_value_patches_of,
-};
+use exif_edit::{Edit, Error, Patch, apply, patches_of};
+use exif_edit_files::{apply_in_file, patches_in};
 use exif_test_support::shortage::{Outcome, in_turn};
-use exif_types::{In, Value};
+use exif_types::In;
 use std::alloc::Global;
 use std::test::Fail;
 
@@ -48,93 +41,23 @@ enum Form {
     DataPatches,
     File,
     FilePatches,
-    Stream,
 }
 
-static FORMS: [Form; 5] = [
-    Form::Data,
-    Form::DataPatches,
-    Form::File,
-    Form::FilePatches,
-    Form::Stream,
-];
+static FORMS: [Form; 4] = [Form::Data, Form::DataPatches, Form::File, Form::FilePatches];
 
-// An edit.
-#[derive(Clone, Copy)]
-enum Edit<'a> {
-    Value(&'a Value),
-    Offsets,
-    Field,
-    All,
-}
-
-// A description set.
-fn setting(
+// An edit of the file, in place or as patches.
+fn edited(
     alloc: Global,
     form: Form,
+    edit: &Edit,
     file: &mut [u8; LENGTH],
-    value: &Value,
 ) -> Result<Vec<Patch>, Error> {
     match form {
-        Form::Data => set_value(alloc, &mut file[FRONT..], DESCRIPTION, In(0), value)?,
-        Form::File => set_value_in_file(alloc, &mut file[..], DESCRIPTION, In(0), value)?,
-        Form::DataPatches => {
-            return set_value_patches(alloc, &file[FRONT..], DESCRIPTION, In(0), value);
-        }
+        Form::Data => apply(alloc, edit, None, &mut file[FRONT..])?,
+        Form::File => apply_in_file(alloc, edit, None, &mut file[..])?,
+        Form::DataPatches => return patches_of(alloc, edit, None, &file[FRONT..]),
         Form::FilePatches => {
-            return set_value_patches_in_file(alloc, &file[..], DESCRIPTION, In(0), value);
-        }
-        Form::Stream => {
-            let mut source = Counted::new(&file[..]);
-            let len = LENGTH as u64;
-            return set_value_patches_of(alloc, &mut source, len, DESCRIPTION, In(0), value);
-        }
-    }
-    Ok(Vec::new(alloc))
-}
-
-// The GPS data erased.
-fn erasing_gps(alloc: Global, form: Form, file: &mut [u8; LENGTH]) -> Result<Vec<Patch>, Error> {
-    match form {
-        Form::Data => erase_gps(alloc, &mut file[FRONT..])?,
-        Form::File => erase_gps_in_file(alloc, &mut file[..])?,
-        Form::DataPatches => return erase_gps_patches(alloc, &file[FRONT..]),
-        Form::FilePatches => return erase_gps_patches_in_file(alloc, &file[..]),
-        Form::Stream => {
-            let mut source = Counted::new(&file[..]);
-            return erase_gps_patches_of(alloc, &mut source, LENGTH as u64);
-        }
-    }
-    Ok(Vec::new(alloc))
-}
-
-// The description erased.
-fn erasing_field(alloc: Global, form: Form, file: &mut [u8; LENGTH]) -> Result<Vec<Patch>, Error> {
-    match form {
-        Form::Data => erase_field(alloc, &mut file[FRONT..], DESCRIPTION, In(0))?,
-        Form::File => erase_field_in_file(alloc, &mut file[..], DESCRIPTION, In(0))?,
-        Form::DataPatches => {
-            return erase_field_patches(alloc, &file[FRONT..], DESCRIPTION, In(0));
-        }
-        Form::FilePatches => {
-            return erase_field_patches_in_file(alloc, &file[..], DESCRIPTION, In(0));
-        }
-        Form::Stream => {
-            let mut source = Counted::new(&file[..]);
-            return erase_field_patches_of(alloc, &mut source, LENGTH as u64, DESCRIPTION, In(0));
-        }
-    }
-    Ok(Vec::new(alloc))
-}
-
-// All fields erased. There is no such call for streams.
-fn erasing_all(alloc: Global, form: Form, file: &mut [u8; LENGTH]) -> Result<Vec<Patch>, Error> {
-    match form {
-        Form::Data => erase_all(&mut file[FRONT..])?,
-        Form::File => erase_all_in_file(alloc, &mut file[..])?,
-        Form::DataPatches => return erase_all_patches(alloc, &file[FRONT..]),
-        Form::FilePatches | Form::Stream => {
-            return erase_all_patches_in_file(alloc, &file[..]);
+            return patches_in(alloc, edit, None, &mut Counted::new(&file[..]));
         }
     }
     Ok(Vec::new(alloc))
@@ -143,20 +66,15 @@ fn erasing_all(alloc: Global, form: Form, file: &mut [u8; LENGTH]) -> Result<Vec
 // Puts patches over the bytes that they count from.
 fn put_all(bytes: &mut [u8], patches: &[Patch]) {
     for patch in patches {
-        put(bytes, patch.offset as usize, patch.text.as_slice());
+        put(bytes, patch.offset as usize, patch.bytes.as_slice());
     }
 }
 
 // What an edit of the file comes to that is to give these bytes. An error leaves it as it was.
-fn attempt(alloc: Global, form: Form, edit: Edit, wanted: &[u8]) -> Outcome {
+fn attempt(alloc: Global, form: Form, edit: &Edit, wanted: &[u8]) -> Outcome {
     let mut file = [0u8; LENGTH];
     put(&mut file[..], 0, FILE);
-    let answer = match edit {
-        Edit::Value(value) => setting(alloc, form, &mut file, value),
-        Edit::Offsets => erasing_gps(alloc, form, &mut file),
-        Edit::Field => erasing_field(alloc, form, &mut file),
-        Edit::All => erasing_all(alloc, form, &mut file),
-    };
+    let answer = edited(alloc, form, edit, &mut file);
     let begin = if matches!(form, Form::DataPatches) {
         FRONT
     } else {
@@ -176,8 +94,8 @@ fn attempt(alloc: Global, form: Form, edit: Edit, wanted: &[u8]) -> Outcome {
 }
 
 // In how many calls memory runs out, in each form.
-fn refusals(alloc: Global, edit: Edit, wanted: &[u8]) -> Result<[u16; 5], Fail> {
-    let mut counts = [0u16; 5];
+fn refusals(alloc: Global, edit: &Edit, wanted: &[u8]) -> Result<[u16; 4], Fail> {
+    let mut counts = [0u16; 4];
     for (count, form) in counts.iter_mut().zip(FORMS.iter()) {
         *count = in_turn(alloc, || attempt(alloc, *form, edit, wanted))?;
     }
@@ -186,30 +104,38 @@ fn refusals(alloc: Global, edit: Edit, wanted: &[u8]) -> Result<[u16; 5], Fail> 
 
 #[test]
 fn a_value_runs_out_of_memory(rt: HostRuntime) -> Result<(), Fail> {
-    let value = text(rt.alloc(), b"Blue")?;
-    let counts = refusals(rt.alloc(), Edit::Value(&value), SET);
-    drop(value);
+    let edit = Edit::Set {
+        tag: DESCRIPTION,
+        ifd_num: In(0),
+        value: text(rt.alloc(), b"Blue")?,
+    };
+    let counts = refusals(rt.alloc(), &edit, SET);
+    drop(edit);
     assert!(rt; counts?.iter().all(|count| *count > 0));
     Ok(())
 }
 
 #[test]
 fn erasing_gps_runs_out_of_memory(rt: HostRuntime) -> Result<(), Fail> {
-    let counts = refusals(rt.alloc(), Edit::Offsets, NOWHERE)?;
+    let counts = refusals(rt.alloc(), &Edit::EraseGps, NOWHERE)?;
     assert!(rt; counts.iter().all(|count| *count > 0));
     Ok(())
 }
 
 #[test]
 fn a_field_runs_out_of_memory(rt: HostRuntime) -> Result<(), Fail> {
-    let counts = refusals(rt.alloc(), Edit::Field, UNDESCRIBED)?;
+    let edit = Edit::EraseField {
+        tag: DESCRIPTION,
+        ifd_num: In(0),
+    };
+    let counts = refusals(rt.alloc(), &edit, UNDESCRIBED)?;
     assert!(rt; counts.iter().all(|count| *count > 0));
     Ok(())
 }
 
 #[test]
 fn all_fields_of_data_are_erased_without_memory(rt: HostRuntime) -> Result<(), Fail> {
-    let counts = refusals(rt.alloc(), Edit::All, EMPTY)?;
+    let counts = refusals(rt.alloc(), &Edit::EraseAll, EMPTY)?;
     assert!(rt; counts[0] == 0);
     assert!(rt; counts.iter().skip(1).all(|count| *count > 0));
     Ok(())

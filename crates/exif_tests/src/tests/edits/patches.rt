@@ -1,8 +1,9 @@
 //! The offsets of patches: in data, and in files, where they count from the first byte.
 
 use super::{DESCRIPTION, is_so, text};
-use exif_edit::{Error, Patch, erase_field_patches, set_value_patches};
-use exif_edit_files::set_value_patches_in_file;
+use exif_base::Counted;
+use exif_edit::{Edit, Error, Patch, patches_of};
+use exif_edit_files::patches_in;
 use exif_test_support::files::{DESCRIBED_BIG, JPEG, OFFSET_BEFORE_DESCRIPTION};
 use exif_types::{Context, In, Tag};
 use std::alloc::{AllocError, Global};
@@ -41,16 +42,25 @@ fn are_these(
     let mut bytes = Vec::new(alloc);
     for patch in patches {
         offsets.push(patch.offset)?;
-        bytes.extend_from_slice(patch.text.as_slice())?;
+        bytes.extend_from_slice(patch.bytes.as_slice())?;
     }
     Ok(offsets.as_slice() == at && bytes.as_slice() == wanted)
 }
 
+// The edit that sets a description.
+fn described(alloc: Global, ifd_num: In, new: &[u8]) -> Result<Edit, AllocError> {
+    Ok(Edit::Set {
+        tag: DESCRIPTION,
+        ifd_num,
+        value: text(alloc, new)?,
+    })
+}
+
 // Whether the patches that set a description in data are these.
 fn sets_by(alloc: Global, new: &[u8], at: &[u64], wanted: &[u8]) -> Result<bool, Error> {
-    let value = text(alloc, new)?;
-    let patches = set_value_patches(alloc, DESCRIBED_BIG, DESCRIPTION, In(0), &value);
-    drop(value);
+    let edit = described(alloc, In(0), new)?;
+    let patches = patches_of(alloc, &edit, None, DESCRIBED_BIG);
+    drop(edit);
     Ok(are_these(alloc, patches?.as_slice(), at, wanted)?)
 }
 
@@ -69,9 +79,9 @@ fn sets_in_file_by(
     at: &[u64],
     wanted: &[u8],
 ) -> Result<bool, Error> {
-    let value = text(alloc, new)?;
-    let patches = set_value_patches_in_file(alloc, file, DESCRIPTION, ifd_num, &value);
-    drop(value);
+    let edit = described(alloc, ifd_num, new)?;
+    let patches = patches_in(alloc, &edit, None, &mut Counted::new(file));
+    drop(edit);
     Ok(are_these(alloc, patches?.as_slice(), at, wanted)?)
 }
 
@@ -94,9 +104,13 @@ fn an_entry_behind_a_copy_of_it(rt: HostRuntime) -> Result<(), Fail> {
 
 // The offset and the length of each patch that erases the program's name.
 fn erases_by(alloc: Global, first: (u64, usize), second: (u64, usize)) -> Result<bool, Error> {
-    let patches = erase_field_patches(alloc, THREE, Tag(Context::Tiff, 0x131), In(0))?;
+    let edit = Edit::EraseField {
+        tag: Tag(Context::Tiff, 0x131),
+        ifd_num: In(0),
+    };
+    let patches = patches_of(alloc, &edit, None, THREE)?;
     match patches.as_slice() {
-        [a, b] => Ok((a.offset, a.text.len()) == first && (b.offset, b.text.len()) == second),
+        [a, b] => Ok((a.offset, a.bytes.len()) == first && (b.offset, b.bytes.len()) == second),
         _ => Ok(false),
     }
 }

@@ -30,11 +30,6 @@ fn errors_are_shown(rt: HostRuntime) {
         "The field holds offsets of other data",
     );
     assert_shown(&rt, Error::SharedBytes, shared);
-    assert_shown(
-        &rt,
-        Error::ScatteredData,
-        "The Exif data are not contiguous",
-    );
     assert_shown(&rt, Error::PictureData, "The picture is in the same data");
     let header = Error::Header(Fault::TruncatedHeader);
     assert_shown(&rt, header, "Truncated TIFF header");

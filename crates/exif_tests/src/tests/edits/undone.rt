@@ -1,33 +1,21 @@
 //! Edits that are undone: where what they make is read otherwise, where a file does not hold it, and
 //! where memory is refused on the way.
 
-use super::put;
+use super::{DESCRIPTION, put, text};
 use exif_base::Items;
-use exif_edit::{Error, erase_gps, set_value};
-use exif_edit_files::erase_gps_in_file;
-use exif_test_support::files::OFFSET_BEFORE_DESCRIPTION;
+use exif_edit::{Edit, Error, apply};
+use exif_edit_files::apply_in_file;
 use exif_test_support::shortage::{Outcome, in_turn};
 use exif_types::{Context, In, Tag, Value};
 use std::alloc::Global;
 use std::test::Fail;
 
-// A HEIF file up to its item: a copy of its data, which begins at 104, is in front of it.
-const HEAD: &[u8] =
-    b"\0\0\0\x14ftypmif1\0\0\0\0mif1\0\0\0Lmeta\0\0\0\0\0\0\0\x1eiloc\0\0\0\0D\0\0\x01\x1e\x1d\0\0\0\x01\0\0\0\xa6\0\0\0B\0\0\0\"iinf\0\0\0\0\0\x01\0\0\0\x14infe\x02\0\0\0\x1e\x1d\0\0Exif\0\0\0\x46free";
+// A HEIF file whose item is in two extents: the second is the eight bytes that say where the first
+// is, and they are the description.
+const HEIF: &[u8] =
+    b"\0\0\0\x14ftypmif1\0\0\0\0mif1\0\0\0Tmeta\0\0\0\0\0\0\0&iloc\0\0\0\0D\0\0\x01\x1e\x1d\0\0\0\x02\0\0\0h\0\0\0\x1e\0\0\0\x36\0\0\0\x08\0\0\0\"iinf\0\0\0\0\0\x01\0\0\0\x14infe\x02\0\0\0\x1e\x1d\0\0Exif\0\0\0\0MM\0*\0\0\0\x08\0\x01\x01\x0e\0\x02\0\0\0\x08\0\0\0\x1a\0\0\0\0";
 
-// Where the data of that file begin, and where it ends.
-const DATA: usize = 170;
-
-const LENGTH: usize = 232;
-
-// The file.
-fn heif() -> [u8; LENGTH] {
-    let mut file = [0u8; LENGTH];
-    put(&mut file[..], 0, HEAD);
-    put(&mut file[..], 104, OFFSET_BEFORE_DESCRIPTION);
-    put(&mut file[..], DATA, OFFSET_BEFORE_DESCRIPTION);
-    file
-}
+const LENGTH: usize = 134;
 
 // What an error comes to that is to be that memory ran out, with all bytes as they were.
 pub(super) fn out_of_memory(error: Error, is_kept: bool) -> Outcome {
@@ -40,26 +28,24 @@ pub(super) fn out_of_memory(error: Error, is_kept: bool) -> Outcome {
     }
 }
 
-// The file without its GPS data, a directory of 18 bytes.
-fn without_locations() -> [u8; LENGTH] {
-    let mut file = heif();
-    put(&mut file[..], DATA + 26, &[0u8; 18]);
-    file
-}
-
-// What erasing its GPS data comes to. The copy stays, though the patches are tried there first.
-fn erasing_in_heif(alloc: Global) -> Outcome {
-    let mut file = heif();
-    match erase_gps_in_file(alloc, &mut file[..]) {
-        Ok(()) => Outcome::answered(file[..] == without_locations()[..]),
-        Err(error) => out_of_memory(error, file[..] == heif()[..]),
-    }
+// What setting the description comes to: the file would not hold the new data.
+fn setting_in_heif(alloc: Global, edit: &Edit) -> Outcome {
+    let mut file = [0u8; LENGTH];
+    put(&mut file[..], 0, HEIF);
+    let answer = apply_in_file(alloc, edit, None, &mut file[..]);
+    refused(answer, &file[..] == HEIF)
 }
 
 #[test]
-fn what_does_not_serve_in_a_file_is_undone(rt: HostRuntime) -> Result<(), Fail> {
-    let count = in_turn(rt.alloc(), || erasing_in_heif(rt.alloc()))?;
-    assert!(rt; count > 0);
+fn an_item_that_says_where_it_is(rt: HostRuntime) -> Result<(), Fail> {
+    let edit = Edit::Set {
+        tag: DESCRIPTION,
+        ifd_num: In(0),
+        value: text(rt.alloc(), b"Sample")?,
+    };
+    let count = in_turn(rt.alloc(), || setting_in_heif(rt.alloc(), &edit));
+    drop(edit);
+    assert!(rt; count? > 0);
     Ok(())
 }
 
@@ -88,7 +74,7 @@ fn refused(answer: Result<(), Error>, is_kept: bool) -> Outcome {
 fn erasing_shared(alloc: Global) -> Outcome {
     let mut bytes = [0u8; 64];
     put(&mut bytes[..], 0, SAME_VALUE);
-    let answer = erase_gps(alloc, &mut bytes[..]);
+    let answer = apply(alloc, &Edit::EraseGps, None, &mut bytes[..]);
     refused(answer, &bytes[..] == SAME_VALUE)
 }
 
@@ -100,24 +86,22 @@ fn shared_gps_data_are_put_back(rt: HostRuntime) -> Result<(), Fail> {
 }
 
 // What setting a width comes to that is something else too.
-fn setting_shared(alloc: Global, value: &Value) -> Outcome {
+fn setting_shared(alloc: Global, edit: &Edit) -> Outcome {
     let mut bytes = [0u8; 38];
     put(&mut bytes[..], 0, OVERLAPPING);
-    let answer = set_value(
-        alloc,
-        &mut bytes[..],
-        Tag(Context::Tiff, 0x100),
-        In(0),
-        value,
-    );
+    let answer = apply(alloc, edit, None, &mut bytes[..]);
     refused(answer, &bytes[..] == OVERLAPPING)
 }
 
 #[test]
 fn a_shared_value_is_put_back(rt: HostRuntime) -> Result<(), Fail> {
-    let value = Value::Short(Items::from_slice(rt.alloc(), &[7])?);
-    let count = in_turn(rt.alloc(), || setting_shared(rt.alloc(), &value));
-    drop(value);
+    let edit = Edit::Set {
+        tag: Tag(Context::Tiff, 0x100),
+        ifd_num: In(0),
+        value: Value::Short(Items::from_slice(rt.alloc(), &[7])?),
+    };
+    let count = in_turn(rt.alloc(), || setting_shared(rt.alloc(), &edit));
+    drop(edit);
     assert!(rt; count? > 0);
     Ok(())
 }
