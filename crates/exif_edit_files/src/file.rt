@@ -94,7 +94,8 @@ fn put_in_item(
 fn put_in_file(alloc: Global, file: &mut [u8], at: &Located, patches: &[Patch]) -> Result<(), Error>
     requires located { located_answer file.old ≡ Ok (located_view at.now) }
     requires fit { All (FitsIn (length at.now.data.items)) patches.now }
-    ensures { Edits result file.old file.new (placed_file file.old (located_view at.now) patches.now) }
+    ensures { Edits result file.old file.new
+        (placed_file file.old (located_view at.now) patches.now) }
 {
     let mut all = spread(alloc, at.extents.as_slice(), patches)?;
     match at.format {

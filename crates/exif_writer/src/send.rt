@@ -141,7 +141,8 @@ impl<'a> Slot<'a> {
     // Sends the value, if it isn't in its entry.
     fn send_value<W: Sink>(&self, out: &mut W, order: Order, offsets: &Offsets) -> io::Result<()>
         requires { IsReady offsets.now self.now }
-        ensures sends { Sends W.Sink out.old out.new result (value_text order offsets.now self.now) }
+        ensures sends { Sends W.Sink out.old out.new result
+            (value_text order offsets.now self.now) }
     {
         if self.size <= 4 {
             return Ok(());
