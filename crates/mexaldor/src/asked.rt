@@ -141,7 +141,7 @@ fn keeping_of(matches: &ArgMatches<'_>) -> Keeping {
 
 fn removed_of(matches: &ArgMatches<'_>) -> Removed {
     if matches.get_flag("places-only") {
-        Removed::Offsets
+        Removed::Gps
     } else if matches.get_flag("keep-orientation") {
         Removed::AllButOrientation
     } else {
