@@ -23,7 +23,7 @@ const PIECE: usize = 4096;
 
 /// A reader that seeks in what it reads.
 pub trait ReadSeek: Read + Seek {
-    /// What reads will give is what stands behind the offset in the stream, where these are told.
+    /// Reads give the bytes of the stream from the current offset on, where both are known.
     ///
     /// A law: its body is empty.
     fn reads_in_place(&self)

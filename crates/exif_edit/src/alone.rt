@@ -143,7 +143,7 @@ fn changes_any_beside(
     false
 }
 
-// Whether one field stands in the entry at an offset.
+// Whether the entry at an offset holds exactly one field.
 fn stands_once(entries: &[EntryOffset], entry: u32) -> bool
     ensures { result ≡ (length (filter (λ p. p.entry == entry) entries.now) == 1) }
 {

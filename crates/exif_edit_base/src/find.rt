@@ -16,7 +16,7 @@ use exif_tiff::EntryOffset;
 use exif_types::{Field, In, Tag};
 use std::alloc::Global;
 
-/// What was read, and where a field stands in it, with all offsets.
+/// The fields that were read, the index of one of them, and the offsets of all.
 #[derive(Drop)]
 pub struct Found {
     pub parsed: Parsed,

@@ -20,8 +20,8 @@ use std::alloc::Global;
 // One byte more than an item may have.
 const TOO_MANY: u64 = MAX_EXIF_SIZE as u64 + 1;
 
-// Where an offset of the file stands in the bytes that are kept of it, or none where the file ends
-// in front of it. Bytes in front of an offset that was not read yet are no longer kept.
+// The index of an offset of the file in the bytes that are kept, or none where the file ends before
+// it. For an offset that was not read yet, the bytes before it are dropped.
 fn reach<R: Source>(
     source: &mut R,
     bytes: &mut Vec<u8>,
