@@ -106,7 +106,8 @@ fn exif_kept<R: Source>(alloc: Global, source: &mut R) -> Result<Vec<u8>, Error>
 
 // The Exif data of a file whose source goes back to its start first.
 fn exif_again<R: Source>(alloc: Global, source: &mut R, origin: u64) -> Result<Vec<u8>, Error>
-    ensures gives { (file : List ℕ) → Some file ≡ left_behind (Some origin) (R.stream source.old)
+    ensures gives { (file : List ℕ)
+        → Some file ≡ left_behind (Some origin) (R.stream source.old)
         → Gives (λ v. v.items) result (exif_of file) }
     ensures named { IfErr result (IsNamed heif_refusals) }
     ensures counts { Counts R.Source source.old source.new (is_io result) }
