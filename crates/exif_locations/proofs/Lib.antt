@@ -1,0 +1,9 @@
+pub mod IptcLawSteps
+pub mod IptcWalkSteps
+pub mod XmpAgreeing
+pub mod XmpDepthSteps
+pub mod XmpLawSteps
+pub mod XmpPieceSteps
+pub mod XmpStepSteps
+pub mod XmpTokenSteps
+pub mod XmpWalkSteps

@@ -1,0 +1,6 @@
+use Rattle.std.proofs.Common.{length, arith, false}
+use Rattle.exif_locations.proofs.XmpLawSteps.{holds}
+use Rattle.exif_locations.proofs.xmp.laws.tokens_stay.Goals as goal
+
+pub returns : goal.returns
+returns c packet out e = let h = holds (length packet) false 0 packet out (omega arith) e in (h.ps, h.read, h.kept)

@@ -1,0 +1,9 @@
+pub mod IptcDatasets
+pub mod IptcPromises
+pub mod Spaced
+pub mod XmpErasing
+pub mod XmpNames
+pub mod XmpPieces
+pub mod XmpPromises
+pub mod XmpScans
+pub mod XmpTokens

@@ -1,0 +1,28 @@
+//! Why a packet is refused.
+
+use std::fmt;
+
+/// Why a packet is refused, and left as it was.
+#[derive(Clone, Copy, Debug, PartialEq, Eq)]
+pub enum Fault {
+    /// Markup that is not well formed.
+    Malformed,
+    /// A document type, which may declare names for markup.
+    Doctype,
+    /// The packet ends within markup or within a property that names a location.
+    Cut,
+    /// The end of a property that names a location, whose start is not there.
+    Unbalanced,
+}
+
+impl fmt::Display for Fault {
+    fn fmt<W: fmt::Write>(&self, f: &mut fmt::Formatter<W>) -> fmt::Result {
+        let input = match self {
+            Fault::Malformed => "XMP is not well formed",
+            Fault::Doctype => "XMP with a document type",
+            Fault::Cut => "XMP ends too early",
+            Fault::Unbalanced => "XMP ends a property that it does not begin",
+        };
+        f.write_str(input)
+    }
+}
