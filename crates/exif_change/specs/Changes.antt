@@ -10,8 +10,8 @@ use Rattle.exif_edit.specs.declared.edits.Edit.TheVariants.{EraseAll, EraseGps}
 use Rattle.exif_edit_files.specs.InFiles.{edited_file}
 use Rattle.exif_change.specs.InPlace.{entry_limit}
 use Rattle.exif_rewrite.specs.RewrittenFile.{file_rewriting}
-use Rattle.exif_containers.specs.declared.remove.Remove.{Remove}
-use Rattle.exif_containers.specs.declared.remove.Remove.TheVariants.{Metadata}
+use Rattle.exif_segments.specs.declared.remove.Remove.{Remove}
+use Rattle.exif_segments.specs.declared.remove.Remove.TheVariants.{Metadata}
 use Rattle.exif_rewrite_jpeg.specs.Rewriting.{ends, finished}
 use Rattle.exif_change.specs.declared.scrubbing.Removed.{Removed}
 use Rattle.exif_change.specs.declared.scrubbing.Removed.TheVariants as removed

@@ -6,7 +6,7 @@ use Rattle.exif_types.specs.declared.field.Field.{Field}
 use Rattle.exif_containers.specs.Container.{container_answer}
 use Rattle.exif_containers.specs.declared.container.Format.{Format}
 use Rattle.exif_containers.specs.declared.container.Format.TheVariants.{Tiff, Jpeg, Heif, WebP}
-use Rattle.exif_containers.specs.declared.remove.Remove.TheVariants.{Exif}
+use Rattle.exif_segments.specs.declared.remove.Remove.TheVariants.{Exif}
 use Rattle.exif_edit_base.specs.Causes.{Cause}
 use Rattle.exif_layout.specs.Image.{image}
 use Rattle.exif_layout.specs.Rewriting.{pushed_all}

@@ -4,9 +4,9 @@ ghost use Rattle.std.specs.Prelude.{◌≡◌, ◌<◌, ◌+◌, [], Some, Ok, l
 ghost use Rattle.exif_base.specs.Orders.{order_named};
 ghost use Rattle.exif_layout.specs.Image.{image};
 ghost use Rattle.exif_layout.specs.Rewriting.{pushed_all};
-ghost use Rattle.exif_containers.specs.Removing.{payload_of};
+ghost use Rattle.exif_segments.specs.Removing.{payload_of};
 ghost use Rattle.exif_change.specs.Changes.{IsRewritten};
-ghost use Rattle.exif_containers.specs.declared.remove.Remove.TheVariants.{Exif};
+ghost use Rattle.exif_segments.specs.declared.remove.Remove.TheVariants.{Exif};
 ghost use Rattle.exif_change.specs.Growing.{HasGrown, IsReplacedIn, can_grow, new_data};
 
 use crate::Refusal;

@@ -5,26 +5,14 @@ use Rattle.std.specs.List.{Contains}
 use Rattle.exif_types.specs.Failures.{Failure}
 use Rattle.exif_types.specs.declared.error.Error.TheVariants as error
 use Rattle.exif_types.specs.Refusals.{Refusal, refusal_of, IsInterrupted}
-use Rattle.exif_containers.specs.Answer.{IsNamed}
+use Rattle.exif_segments.specs.Answer.{IsNamed}
 use Rattle.exif_containers.specs.Container.{container_refusals, unknown_format}
 use Rattle.exif_isobmff.specs.HeifRefusals.{heif_refusals}
-use Rattle.exif_containers.specs.Jpeg.{jpeg_refusals}
-use Rattle.exif_containers.specs.Webp.{webp_refusals}
+use Rattle.exif_segments.specs.Jpeg.{jpeg_refusals}
+use Rattle.exif_segments.specs.Webp.{webp_refusals}
 
 behind-one : {A : Type 0} (y : A) (xs : List A) (x : A) → Contains xs x → Contains (y ∷ xs) x
 behind-one y xs x h = (suc h.0, (let lt = h.1 in omega arith), h.2)
-
--- an interruption is no refusal
-pub interrupted_none : (e : Failure) → IsInterrupted e → refusal_of e ≡ None
-interrupted_none (error.Io cause) h = refl
-interrupted_none error.OutOfMemory h = refl
-interrupted_none (error.InvalidFormat text) h = absurd h
-interrupted_none (error.NotFound text) h = absurd h
-interrupted_none (error.BlankValue text) h = absurd h
-interrupted_none (error.TooBig text) h = absurd h
-interrupted_none (error.NotSupported text) h = absurd h
-interrupted_none (error.UnexpectedValue text) h = absurd h
-interrupted_none (error.PartialResult partial) h = absurd h
 
 -- an error that has a name in one list has it in a longer one
 pub more_named : {T : Type 0} (few all : List Refusal) → ((r : Refusal) → Contains few r → Contains all r) → (result : Result T Failure) → IfErr result (IsNamed few) → IfErr result (IsNamed all)

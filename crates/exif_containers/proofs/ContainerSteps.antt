@@ -8,11 +8,11 @@ use Rattle.std.specs.Io.KnownBytes.{Consumes, IsAtEnd, prepend_known}
 use Rattle.exif_base.specs.Told.{WhereTold, left_behind}
 use Rattle.exif_types.specs.Failures.{Failure}
 use Rattle.exif_types.specs.Refusals.{Refusal, Fails, Gives}
-use Rattle.exif_containers.specs.Answer.{found}
+use Rattle.exif_segments.specs.Answer.{found}
 use Rattle.exif_containers.specs.GoingBack.{BeginsAt}
 use Rattle.exif_containers.proofs.IsobmffFile.{along}
-use Rattle.exif_containers.specs.Jpeg.{jpeg_answer}
-use Rattle.exif_isobmff.proofs.Refusing.{fails_along}
+use Rattle.exif_segments.specs.Jpeg.{jpeg_answer}
+use Rattle.exif_types.proofs.Refusing.{fails_along}
 use Rattle.exif_containers.specs.declared.container.Format.{Format}
 use Rattle.exif_containers.specs.declared.container.Format.TheVariants.{Jpeg}
 use Rattle.exif_containers.specs.Container.{TiffIsWhole, answer_as, data_of, begins_tiff, format_in, container_answer}
@@ -33,9 +33,9 @@ pub container_holds : (P : Result (List ℕ) Refusal → Type 0) (n : ℕ) (bloc
     → IfSome left (λ bytes. P (answer_as format bytes))
     → IfSome a (λ bytes. P (container_answer bytes))
 unfolding container_answer
-container_holds P n block format None b left h bound most room end f e g = tt
-container_holds P n block format (Some xs) None left h bound most room end f e g = absurd h
-container_holds P n block format (Some xs) (Some ys) left h bound most room end f e g =
+container_holds P n block format None b left h bound most space end f e g = tt
+container_holds P n block format (Some xs) None left h bound most space end f e g = absurd h
+container_holds P n block format (Some xs) (Some ys) left h bound most space end f e g =
     let whole : IfSome (Some (take n block ++ ys)) (λ bytes. P (answer_as format bytes)) = subst (λ t. IfSome t (λ bytes. P (answer_as format bytes))) e g in
     let len : length (take n block) ≡ n = length-take-le n block bound in
     rw (h, head-first (take n block) ys (omega arith) (λ lt. end (omega arith)), ← f) whole
@@ -53,9 +53,9 @@ pub container_begins : (P : Result (List ℕ) Refusal → Type 0) (n : ℕ) (blo
     → format ≡ format_in (take n block) → left ≡ prepend_known (take n block) b → after ≡ stream
     → IfSome left (λ bytes. BeginsAt origin after left → P (answer_as format bytes))
     → IfSome a (λ bytes. BeginsAt origin stream a → P (container_answer bytes))
-container_begins P n block format origin stream after None b left h bound most room end f e s g = tt
-container_begins P n block format origin stream after (Some xs) b left h bound most room end f e s g =
-    λ k. container_holds P n block format (Some xs) b left h bound most room end f e
+container_begins P n block format origin stream after None b left h bound most space end f e s g = tt
+container_begins P n block format origin stream after (Some xs) b left h bound most space end f e s g =
+    λ k. container_holds P n block format (Some xs) b left h bound most space end f e
     (along left _ _ (λ bytes t. t (begins_there origin stream after left b xs (take n block) h e s k)) g)
 
 -- what needs no start holds with one

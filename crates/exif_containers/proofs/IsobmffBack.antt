@@ -5,7 +5,7 @@ use Rattle.exif_types.specs.Failures.{Failure}
 use Rattle.exif_types.specs.Refusals.{Refusal, ◌>>=◌, Fails}
 use Rattle.exif_isobmff.specs.HeifFile.{meta_body}
 use Rattle.exif_isobmff.specs.Heif.{FoundItem, exif_item, exif_block, after_header, exif_of}
-use Rattle.exif_isobmff.proofs.Refusing.{fails_along}
+use Rattle.exif_types.proofs.Refusing.{fails_along}
 use Rattle.exif_containers.specs.HeifSteps.{payload_at}
 use Rattle.exif_containers.specs.GoingBack.{FindsMeta, HasRead}
 use Rattle.exif_containers.proofs.IsobmffFile.{settled, unplaced, exif_is, other_method, no_matter}

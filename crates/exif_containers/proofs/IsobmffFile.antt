@@ -6,7 +6,7 @@ use Rattle.exif_types.specs.Refusals.{Refusal, ◌>>=◌, Fails}
 use Rattle.exif_isobmff.specs.HeifFile.{meta_body}
 use Rattle.exif_isobmff.specs.ItemLocations.{ItemExtents, item_bytes}
 use Rattle.exif_isobmff.specs.Heif.{FoundItem, exif_item, exif_block, after_header, exif_of}
-use Rattle.exif_isobmff.proofs.Refusing.{fails_along}
+use Rattle.exif_types.proofs.Refusing.{fails_along}
 use Rattle.exif_containers.specs.HeifSteps.{payload_at}
 
 -- what follows for each file follows where one is told

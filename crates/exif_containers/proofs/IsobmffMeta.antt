@@ -48,8 +48,8 @@ body_taken (Some xs) (Some ys) old new n len z h most end = by (cases_lt n len)
     by (inl lt) =
         let none : ys ≡ [] = end lt in
         let all : xs ≡ bytes = h.1 ∙ ap (λ t. bytes ++ t) none ∙ append-nil bytes in
-        let room : length bytes ≤ len = omega (arith, h.2) in
-        (put ∙ sym (ap (take len) all ∙ take_all len bytes room), none ∙ sym (ap (drop len) all ∙ drop_all len bytes room))
+        let space : length bytes ≤ len = omega (arith, h.2) in
+        (put ∙ sym (ap (take len) all ∙ take_all len bytes space), none ∙ sym (ap (drop len) all ∙ drop_all len bytes space))
     by (inr le) =
         let same : length bytes ≡ len = omega (arith, h.2) in
         (put ∙ sym (ap (take len) h.1 ∙ take_at bytes ys len same), sym (ap (drop len) h.1 ∙ drop_at bytes ys len same))

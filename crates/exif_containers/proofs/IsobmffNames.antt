@@ -7,7 +7,7 @@ use Rattle.exif_isobmff.specs.HeifRefusals.{heif_refusals, broken_file}
 use Rattle.exif_isobmff.proofs.ExifNames.{Only, only_then, only_if}
 use Rattle.exif_isobmff.specs.ItemLocations.{extent_front}
 use Rattle.exif_containers.specs.HeifSteps.{one_part}
-use Rattle.exif_containers.specs.Answer.{IsNamed, IsShort}
+use Rattle.exif_segments.specs.Answer.{IsNamed, IsShort}
 
 -- an error that is the refusal of such an answer has a name
 pub fails_named : {A : Type 0} (e : Failure) (answer : Result A Refusal) → Only answer → Fails e answer → IsNamed heif_refusals e

@@ -6,13 +6,5 @@ pub mod IsobmffFile
 pub mod IsobmffFront
 pub mod IsobmffMeta
 pub mod IsobmffNames
-pub mod JpegMoves
-pub mod JpegUnits
-pub mod LawsJpeg
-pub mod LawsWebp
-pub mod LimitedMoves
 pub mod LocatedSteps
-pub mod RemovingLemmas
 pub mod Replacing
-pub mod Splicing
-pub mod WebpChunks

@@ -5,15 +5,15 @@ use Rattle.std.proofs.lemmas.List.{length-take-le}
 use Rattle.exif_base.specs.Told.{WhereTold}
 use Rattle.exif_types.specs.Failures.{Failure}
 use Rattle.exif_types.specs.Refusals.{Fails, Refusal, ◌>>=◌}
-use Rattle.exif_isobmff.proofs.Refusing.{fails_along}
+use Rattle.exif_types.proofs.Refusing.{fails_along}
 use Rattle.exif_isobmff.specs.Extents.{located_exif}
 use Rattle.exif_isobmff.specs.Extents as heif
 use Rattle.exif_containers.specs.declared.container.Format.{Format}
 use Rattle.exif_containers.specs.declared.container.Format.TheVariants.{Heif, Jpeg, Tiff, WebP}
-use Rattle.exif_containers.specs.Answer.{found, offset_before}
+use Rattle.exif_segments.specs.Answer.{found, offset_before}
 use Rattle.exif_containers.specs.Container.{format_in}
-use Rattle.exif_containers.specs.Jpeg.{jpeg_answer}
-use Rattle.exif_containers.specs.Webp.{webp_answer}
+use Rattle.exif_segments.specs.Jpeg.{jpeg_answer}
+use Rattle.exif_segments.specs.Webp.{webp_answer}
 use Rattle.exif_containers.specs.Located.{Located, in_one, located_answer, located_as, payload_in}
 use Rattle.exif_containers.proofs.ContainerSteps.{head-first}
 
@@ -69,9 +69,9 @@ pub located_holds : (P : Result Located Refusal → Type 0) (n : ℕ) (block : L
     → IfSome left (λ bytes. P (located_as format bytes))
     → IfSome a (λ bytes. P (located_answer bytes))
 unfolding located_answer
-located_holds P n block format None b left h bound most room end f e g = tt
-located_holds P n block format (Some xs) None left h bound most room end f e g = absurd h
-located_holds P n block format (Some xs) (Some ys) left h bound most room end f e g =
+located_holds P n block format None b left h bound most space end f e g = tt
+located_holds P n block format (Some xs) None left h bound most space end f e g = absurd h
+located_holds P n block format (Some xs) (Some ys) left h bound most space end f e g =
     let whole : IfSome (Some (take n block ++ ys)) (λ bytes. P (located_as format bytes)) = subst (λ t. IfSome t (λ bytes. P (located_as format bytes))) e g in
     let len : length (take n block) ≡ n = length-take-le n block bound in
     rw (h, head-first (take n block) ys (omega arith) (λ lt. end (omega arith)), ← f) whole

@@ -20,16 +20,16 @@ use Rattle.exif_isobmff.specs.Kinds.{kind_of}
 use Rattle.exif_isobmff.specs.HeifFile.{begins_heif, has_heif_brand, is_ftyp, meta_body}
 use Rattle.exif_isobmff.specs.declared.locations.Extent.{Extent}
 use Rattle.exif_isobmff.proofs.ItemRanges.{exif_is_located}
-use Rattle.exif_containers.specs.Answer.{Answer, found, offset_before}
+use Rattle.exif_segments.specs.Answer.{Answer, found, offset_before}
 use Rattle.exif_containers.specs.Container.{answer_as, begins_tiff, container_answer, data_of, format_in, unknown_format}
-use Rattle.exif_containers.specs.Jpeg.{jpeg_answer}
-use Rattle.exif_containers.specs.Webp.{webp_answer}
-use Rattle.exif_containers.specs.WebpGrammar.{print_header}
+use Rattle.exif_segments.specs.Jpeg.{jpeg_answer}
+use Rattle.exif_segments.specs.Webp.{webp_answer}
+use Rattle.exif_segments.specs.WebpGrammar.{print_header}
 use Rattle.exif_containers.specs.Located.{DataAreLocated, IsLocated, Located, RefusedAlike, heif_located, in_one, located_answer, located_as, payload_in}
 use Rattle.exif_containers.specs.Replacing.{CanStandIn, DataAreReplaced, put_in}
 use Rattle.exif_containers.specs.declared.container.Format.{Format}
 use Rattle.exif_containers.specs.declared.container.Format.TheVariants.{Tiff, Jpeg, Heif, WebP}
-use Rattle.exif_containers.proofs.Splicing.{jpeg_around, refused_found, webp_around}
+use Rattle.exif_segments.proofs.Splicing.{jpeg_around, refused_found, webp_around}
 
 -- ---- the container of a file whose data are replaced
 

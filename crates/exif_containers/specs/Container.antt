@@ -5,12 +5,12 @@ use Rattle.std.specs.Str.{bytes_eq}
 use Rattle.exif_types.specs.Refusals.{Refusal, invalid_format, ◌>>=◌}
 use Rattle.exif_containers.specs.declared.container.Format.{Format}
 use Rattle.exif_containers.specs.declared.container.Format.TheVariants.{Tiff, Jpeg, Heif, WebP}
-use Rattle.exif_containers.specs.Answer.{Answer}
+use Rattle.exif_segments.specs.Answer.{Answer}
 use Rattle.exif_isobmff.specs.Heif.{exif_of}
 use Rattle.exif_isobmff.specs.HeifFile.{begins_heif}
 use Rattle.exif_isobmff.specs.HeifRefusals.{heif_refusals}
-use Rattle.exif_containers.specs.Jpeg.{begins_jpeg, jpeg_answer, jpeg_refusals}
-use Rattle.exif_containers.specs.Webp.{begins_webp, webp_answer, webp_refusals}
+use Rattle.exif_segments.specs.Jpeg.{begins_jpeg, jpeg_answer, jpeg_refusals}
+use Rattle.exif_segments.specs.Webp.{begins_webp, webp_answer, webp_refusals}
 
 -- the first bytes are those of no container
 abbrev pub unknown_format : Refusal
@@ -25,13 +25,13 @@ abbrev pub begins_tiff : List ℕ → Bool
 begins_tiff bytes =
     bytes_eq (take 4 bytes) (codes "MM\0*") || bytes_eq (take 4 bytes) (codes "II*\0")
 
--- the container that a head begins
+-- the container that a signature begins
 unfoldable pub format_in : List ℕ → Option Format
-format_in head =
-    if begins_tiff head then Some Tiff else
-    (if begins_jpeg head then Some Jpeg else
-    (if begins_heif head then Some Heif else
-    (if begins_webp head then Some WebP else None)))
+format_in signature =
+    if begins_tiff signature then Some Tiff else
+    (if begins_jpeg signature then Some Jpeg else
+    (if begins_heif signature then Some Heif else
+    (if begins_webp signature then Some WebP else None)))
 
 -- the Exif data alone
 abbrev pub data_of : Answer → Result (List ℕ) Refusal

@@ -19,7 +19,7 @@ abbrev pub TakesBody : ℕ → List ℕ → Option (List ℕ) → Option (List �
 TakesBody len body old new =
     WhereTold old new (λ xs ys. (body ≡ take len xs) × (ys ≡ drop len xs))
 
--- the body of a box before `meta` was passed over, and whether an `ftyp` was seen
+-- the body of a box before `meta` was skipped, and whether an `ftyp` was seen
 abbrev pub PassesBody : Header → Bool → Bool → Option (List ℕ) → Option (List ℕ) → Type 0
 PassesBody h seen now old new =
     WhereTold old new (λ xs ys. (passed seen h.kind h.len (take h.len xs) ≡ Ok now)

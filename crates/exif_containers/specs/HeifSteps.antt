@@ -6,7 +6,7 @@ use Rattle.exif_isobmff.specs.ItemLocations.{ItemExtents, extent_front, item_byt
 use Rattle.exif_isobmff.specs.Heif.{after_header}
 use Rattle.exif_base.specs.Told.{WhereTold}
 
--- bytes that were left now stand behind those that were read before
+-- bytes that were left are now behind those that were read before
 abbrev pub GoesOn : Option (List ℕ) → Option (List ℕ) → List ℕ → List ℕ → Type 0
 GoesOn left after old new = WhereTold left after (λ xs ys. new ++ ys ≡ old ++ xs)
 
@@ -16,7 +16,7 @@ one_part len bytes = do
   part ← extent_front len bytes
   if nat_lt 65535 (length part) then Err data_too_large else Ok part
 
--- an offset of a file stands at `start` of the bytes that are kept, or the file ends in front of it
+-- an offset of a file is at `start` of the bytes that are kept, or the file ends in front of it
 abbrev pub OffsetIsReached : ℕ → Option ℕ → Option (List ℕ) → Option (List ℕ) → List ℕ → List ℕ
     → Type 0
 OffsetIsReached offset (Some start) left after old new =

@@ -1,13 +1,5 @@
-pub mod Answer
 pub mod Container
 pub mod GoingBack
 pub mod HeifSteps
-pub mod Jpeg
-pub mod JpegGrammar
 pub mod Located
-pub mod Removing
 pub mod Replacing
-pub mod Webp
-pub mod WebpGrammar
-pub mod WebpSteps
-pub mod Within

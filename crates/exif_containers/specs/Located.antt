@@ -7,10 +7,10 @@ use Rattle.exif_isobmff.specs.Extents.{IsWhole, joined_bytes, located_exif}
 use Rattle.exif_containers.specs.declared.container.Format.{Format}
 use Rattle.exif_containers.specs.declared.container.Format.TheVariants.{Tiff, Jpeg, Heif, WebP}
 use Rattle.exif_containers.specs.declared.located.Located.{Located as Held}
-use Rattle.exif_containers.specs.Answer.{Answer, offset_before}
+use Rattle.exif_segments.specs.Answer.{Answer, offset_before}
 use Rattle.exif_containers.specs.Container.{container_answer, format_in, unknown_format}
-use Rattle.exif_containers.specs.Jpeg.{jpeg_answer}
-use Rattle.exif_containers.specs.Webp.{webp_answer}
+use Rattle.exif_segments.specs.Jpeg.{jpeg_answer}
+use Rattle.exif_segments.specs.Webp.{webp_answer}
 
 -- Exif data, their container, and the ranges that hold them
 pub record Located : Type 0 where

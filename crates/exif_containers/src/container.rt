@@ -4,15 +4,15 @@ ghost use Rattle.std.specs.Prelude.{◌≡◌, ◌<◌, ◌≤◌, length, min, 
 ghost use Rattle.std.specs.Io.KnownBytes.{Consumes, IsAtEnd};
 ghost use Rattle.exif_base.specs.Reads.{Counts};
 ghost use Rattle.exif_types.specs.Refusals.{Gives, is_io};
-ghost use Rattle.exif_containers.specs.Answer.{IsNamed};
+ghost use Rattle.exif_segments.specs.Answer.{IsNamed};
 ghost use Rattle.exif_containers.specs.GoingBack.{BeginsAt};
 ghost use Rattle.exif_containers.specs.Container.{answer_as, begins_tiff, container_answer, container_refusals, format_in};
 
 use crate::isobmff::{self, is_heif};
-use crate::jpeg::{self, is_jpeg};
-use crate::util::read_all;
-use crate::webp::{self, is_webp};
 use exif_base::{Blocks, Source, read_front};
+use exif_segments::jpeg::{self, is_jpeg};
+use exif_segments::util::read_all;
+use exif_segments::webp::{self, is_webp};
 use exif_types::Error;
 use std::alloc::Global;
 use std::io;
@@ -23,7 +23,7 @@ const TIFF_BE_SIG: [u8; 4] = [0x4d, 0x4d, 0x00, 0x2a];
 const TIFF_LE_SIG: [u8; 4] = [0x49, 0x49, 0x2a, 0x00];
 
 /// How many bytes choose the container.
-pub const HEAD: usize = 4096;
+pub const SNIFF_LEN: usize = 4096;
 
 /// How many bytes are read at a time behind them.
 pub const BLOCK: usize = 8192;
@@ -50,25 +50,27 @@ pub fn is_tiff(bytes: &[u8]) -> bool
 
 /// The container that begins with these bytes.
 #[tactic(auto, unfolding(crate::specs::Container::format_in))]
-pub fn format_of(head: &[u8]) -> Option<Format>
-    ensures { result ≡ format_in head.now }
+pub fn format_of(signature: &[u8]) -> Option<Format>
+    ensures { result ≡ format_in signature.now }
 {
-    if is_tiff(head) {
+    if is_tiff(signature) {
         Some(Format::Tiff)
-    } else if is_jpeg(head) {
+    } else if is_jpeg(signature) {
         Some(Format::Jpeg)
-    } else if is_heif(head) {
+    } else if is_heif(signature) {
         Some(Format::Heif)
-    } else if is_webp(head) {
+    } else if is_webp(signature) {
         Some(Format::WebP)
     } else {
         None
     }
 }
 
-// The data of this container, or the refusal of bytes that begin none.
+/// The Exif data of a stream whose signature is that of this container, or the refusal of bytes that
+/// begin none. The first byte is at this offset of a source that goes back; with none, the source
+/// does not go back.
 #[tactic(auto, unfolding(crate::specs::Container::answer_as))]
-fn attr_as<R: Source>(
+pub fn exif_attr_as<R: Source>(
     alloc: Global,
     format: Option<Format>,
     source: &mut R,
@@ -89,19 +91,21 @@ fn attr_as<R: Source>(
     }
 }
 
-/// Fills the front of the block with the head of the stream, or all of it.
-pub fn read_head<R: Source>(source: &mut R, block: &mut [u8]) -> io::Result<usize>
+/// Reads the first [`SNIFF_LEN`] bytes of the stream, or all if there are fewer, into the front of
+/// the block, and answers how many.
+pub fn read_signature<R: Source>(source: &mut R, block: &mut [u8]) -> io::Result<usize>
     ensures taken { IfOk result
         (λ n. Consumes (R.left source.old) (R.left source.new) (take n block.new)) }
     ensures bound { IfOk result (λ n. n ≤ length block.new) }
     ensures len { length block.new ≡ length block.old }
-    ensures end { IfOk result (λ n. n < min HEAD (length block.new) → IsAtEnd (R.left source.new)) }
-    ensures most { IfOk result (λ n. n ≤ HEAD) }
+    ensures end { IfOk result
+        (λ n. n < min SNIFF_LEN (length block.new) → IsAtEnd (R.left source.new)) }
+    ensures most { IfOk result (λ n. n ≤ SNIFF_LEN) }
     ensures stream { R.stream source.new ≡ R.stream source.old }
     ensures counts { Counts R.Source source.old source.new (is_err result) }
 {
-    let room = HEAD.min(block.len());
-    read_front(source, &mut block[..room])
+    let space = SNIFF_LEN.min(block.len());
+    read_front(source, &mut block[..space])
 }
 
 // The Exif data of a stream that is read through this block.
@@ -111,17 +115,17 @@ fn attr_through<R: Source>(
     origin: Option<u64>,
     block: &mut [u8],
 ) -> Result<Vec<u8>, Error>
-    requires { HEAD ≤ length block.now }
+    requires { SNIFF_LEN ≤ length block.now }
     ensures gives { IfSome (R.left source.old) (λ bytes.
         BeginsAt origin (R.stream source.old) (R.left source.old)
         → Gives (λ v. v.items) result (container_answer bytes)) }
     ensures named { IfErr result (IsNamed container_refusals) }
     ensures counts { Counts R.Source source.old source.new (is_io result) }
 {
-    let filled = read_head(source, block)?;
+    let filled = read_signature(source, block)?;
     let format = format_of(&block[..filled]);
     let mut blocks = Blocks::new(block, filled, source);
-    let payload = attr_as(alloc, format, &mut blocks, origin)?;
+    let payload = exif_attr_as(alloc, format, &mut blocks, origin)?;
     Ok(payload)
 }
 
@@ -139,7 +143,7 @@ pub fn exif_attr_from<R: Source>(
     ensures counts { Counts R.Source source.old source.new (is_io result) }
 {
     if source.is_at_hand() {
-        return attr_through(alloc, source, origin, &mut [0; HEAD]);
+        return attr_through(alloc, source, origin, &mut [0; SNIFF_LEN]);
     }
     attr_through(alloc, source, origin, &mut [0; BLOCK])
 }

@@ -10,7 +10,7 @@ ghost use Rattle.exif_isobmff.specs.Heif.{exif_of};
 ghost use Rattle.exif_isobmff.specs.LocatedView.{located_view};
 ghost use Rattle.exif_isobmff.specs.ItemLocations.{location_view};
 ghost use Rattle.exif_isobmff.specs.HeifRefusals.{heif_refusals};
-ghost use Rattle.exif_containers.specs.Answer.{IsNamed};
+ghost use Rattle.exif_segments.specs.Answer.{IsNamed};
 ghost use Rattle.exif_containers.specs.GoingBack.{BeginsAt, HasRead};
 ghost use Rattle.exif_containers.specs.HeifSteps.{payload_at};
 
@@ -21,13 +21,13 @@ mod meta;
 use self::extents::{bytes_from, bytes_in_file};
 use self::front::read_boxes;
 use self::meta::find_meta;
-use crate::util::read_rest;
 use exif_base::Source;
 pub use exif_isobmff::is_heif;
 use exif_isobmff::{
     ExifItem, LocatedExif, Location, after_header, exif_of_file, find_exif, item_bytes,
     settled_meta,
 };
+use exif_segments::util::read_rest;
 use exif_types::Error;
 use std::alloc::Global;
 

@@ -1,4 +1,8 @@
-//! The Exif data in container files: JPEG streams, HEIF files and WebP files.
+//! The Exif data of a stream, whatever container it is: TIFF data, a JPEG stream, a HEIF file or a
+//! WebP file; and where in the stream they are.
+//!
+//! `exif_segments` reads JPEG streams and WebP files; HEIF files are read here, by the boxes of
+//! `exif_isobmff`.
 //!
 //! A body ends `let x = f()?; Ok(x)` where its proof uses a lemma on the value or on the error
 //! alone: `?` makes a case of each.
@@ -6,14 +10,8 @@
 
 pub mod container;
 pub mod isobmff;
-pub mod jpeg;
 pub mod laws;
 mod located;
-pub mod remove;
-pub mod util;
-pub mod webp;
 
-pub use container::{exif_attr_from, exif_attr_of_stream};
-pub use jpeg::get_exif_attr_from_jpeg;
+pub use container::{exif_attr_as, exif_attr_from, exif_attr_of_stream};
 pub use located::{Extent, Located, find_exif};
-pub use remove::Remove;

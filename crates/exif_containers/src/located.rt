@@ -4,15 +4,16 @@ ghost use Rattle.std.specs.Prelude.{◌≡◌, ◌≤◌, length, Some, IfOk, If
 ghost use Rattle.exif_base.specs.Reads.{Counts};
 ghost use Rattle.exif_types.specs.Refusals.{Gives, is_io};
 ghost use Rattle.exif_containers.specs.declared.container.Format.TheVariants.{Tiff, Jpeg, Heif, WebP};
-ghost use Rattle.exif_containers.specs.Answer.{IsNamed};
+ghost use Rattle.exif_segments.specs.Answer.{IsNamed};
 ghost use Rattle.exif_containers.specs.Container.{container_refusals};
 ghost use Rattle.exif_containers.specs.Located.{in_one, located_answer, located_as, located_view};
 
-use crate::container::{BLOCK, Format, HEAD, format_of, read_head};
-use crate::util::read_all;
-use crate::{isobmff, jpeg, webp};
+use crate::container::{BLOCK, Format, SNIFF_LEN, format_of, read_signature};
+use crate::isobmff;
 use exif_base::{Blocks, Source};
 pub use exif_isobmff::Extent;
+use exif_segments::util::read_all;
+use exif_segments::{jpeg, webp};
 use exif_types::Error;
 use std::alloc::{AllocError, Global};
 
@@ -119,13 +120,13 @@ fn located_through<R: Source>(
     source: &mut R,
     block: &mut [u8],
 ) -> Result<Located, Error>
-    requires { HEAD ≤ length block.now }
+    requires { SNIFF_LEN ≤ length block.now }
     ensures gives { IfSome (R.left source.old)
         (λ bytes. Gives located_view result (located_answer bytes)) }
     ensures named { IfErr result (IsNamed container_refusals) }
     ensures counts { Counts R.Source source.old source.new (is_io result) }
 {
-    let filled = read_head(source, block)?;
+    let filled = read_signature(source, block)?;
     let format = format_of(&block[..filled]);
     let mut blocks = Blocks::new(block, filled, source);
     let found = located_as(alloc, format, &mut blocks)?;
@@ -145,7 +146,7 @@ pub fn find_exif<R: Source>(alloc: Global, source: &mut R) -> Result<Located, Er
     ensures counts { Counts R.Source source.old source.new (is_io result) }
 {
     if source.is_at_hand() {
-        return located_through(alloc, source, &mut [0; HEAD]);
+        return located_through(alloc, source, &mut [0; SNIFF_LEN]);
     }
     located_through(alloc, source, &mut [0; BLOCK])
 }

@@ -4,7 +4,7 @@ ghost use Rattle.std.specs.Prelude.{◌≡◌, None, IfOk, OnErr, OnOk};
 ghost use Rattle.exif_base.specs.Orders.{order_named};
 ghost use Rattle.exif_edit.specs.declared.edits.Edit.TheVariants.{EraseGps};
 ghost use Rattle.exif_edit_files.specs.InFiles.{IsEditedIn};
-ghost use Rattle.exif_containers.specs.declared.remove.Remove.TheVariants.{Metadata};
+ghost use Rattle.exif_segments.specs.declared.remove.Remove.TheVariants.{Metadata};
 ghost use Rattle.exif_rewrite_jpeg.specs.Rewriting.{ends, finished};
 ghost use Rattle.exif_rewrite.specs.RewrittenFile.{file_rewriting};
 ghost use Rattle.exif_layout.specs.Image.{image};

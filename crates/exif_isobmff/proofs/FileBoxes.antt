@@ -12,7 +12,7 @@ use Rattle.exif_types.specs.Refusals.{Refusal, refusal_of, ◌>>=◌, Refuses, a
 use Rattle.exif_isobmff.specs.HeifRefusals.{no_exif, meta_before_ftyp, broken_file}
 use Rattle.exif_isobmff.specs.Boxes.{Part, Parts, before, and_then, all_boxes, children, whole_part, box_at, header_len, header_at}
 use Rattle.exif_isobmff.specs.HeifFile.{file_box_at, file_boxes, fours, is_heif_brand, has_heif_brand, is_meta, is_ftyp, checked, passed, before_meta, whole, meta_from}
-use Rattle.exif_isobmff.proofs.Refusing.{refuses_along}
+use Rattle.exif_types.proofs.Refusing.{refuses_along}
 use Rattle.exif_isobmff.proofs.SplitterBoxes.{Shortens, all_boxes_more, all_boxes_end, bind_ok, when_ok, ok_same, header_rest, eight, after, box_shorter}
 
 -- ---- brands

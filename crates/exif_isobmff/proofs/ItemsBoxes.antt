@@ -7,7 +7,7 @@ use Rattle.exif_isobmff.specs.declared.kind.Kind.{Kind}
 use Rattle.exif_isobmff.specs.Kinds.{same_kind}
 use Rattle.exif_types.specs.Refusals.{Refusal, ◌>>=◌, Refuses, joined, last_read, unless_refused}
 use Rattle.exif_isobmff.specs.Boxes.{Part, Parts, before, and_then, box_at, boxes, read_one, read_each, from_count}
-use Rattle.exif_isobmff.proofs.Refusing.{refuses_along}
+use Rattle.exif_types.proofs.Refusing.{refuses_along}
 
 -- the last of two lists
 pub last_or-append : {A : Type 0} (o : Option A) (xs ys : List A) → last_or o (xs ++ ys) ≡ last_or (last_or o xs) ys

@@ -18,6 +18,5 @@ pub mod LawsLocations
 pub mod LawsItemLocations
 pub mod LawsSteps
 pub mod LocationsTimes
-pub mod Refusing
 pub mod SplitterBoxes
 pub mod TablesChildren

@@ -7,7 +7,7 @@ use Rattle.exif_types.specs.Failures.{Failure}
 use Rattle.exif_types.specs.Refusals.{Refusal, ◌>>=◌, Fails, last_read, Front}
 use Rattle.exif_isobmff.specs.Boxes.{times, times_joined}
 use Rattle.exif_isobmff.proofs.ItemsBoxes.{last_or-append}
-use Rattle.exif_isobmff.proofs.Refusing.{fails_along}
+use Rattle.exif_types.proofs.Refusing.{fails_along}
 
 -- those read before and those still read
 abbrev pub with_front : {A : Type 0} → List A → Front (List A) → Front (List A)

@@ -9,7 +9,7 @@ use Rattle.exif_isobmff.specs.Boxes.{Parts, before, and_then, whole_part, box_at
 use Rattle.exif_isobmff.specs.Items.{exif_numbers}
 use Rattle.exif_isobmff.specs.Heif.{Tables}
 use Rattle.exif_isobmff.specs.TablesView.{table_with}
-use Rattle.exif_isobmff.proofs.Refusing.{refuses_along}
+use Rattle.exif_types.proofs.Refusing.{refuses_along}
 use Rattle.exif_isobmff.proofs.ItemsBoxes.{read_more}
 use Rattle.exif_isobmff.proofs.SplitterBoxes.{all_boxes_more, all_boxes_end, box_shorter}
 

@@ -4,11 +4,11 @@ use Rattle.std.proofs.Common.{◌≡◌, ◌∙◌, inl, inr, ℕ, ◌<◌, ◌^
 use Rattle.std.proofs.lemmas.List.{take_all}
 use Rattle.exif_types.specs.Refusals.{Refusal}
 use Rattle.exif_containers.specs.Container.{container_answer, data_of, format_in, unknown_format}
-use Rattle.exif_containers.specs.Jpeg.{jpeg_answer}
-use Rattle.exif_containers.specs.Webp.{webp_answer}
+use Rattle.exif_segments.specs.Jpeg.{jpeg_answer}
+use Rattle.exif_segments.specs.Webp.{webp_answer}
 use Rattle.exif_containers.specs.declared.container.Format.{Format}
 use Rattle.exif_containers.specs.declared.container.Format.TheVariants.{Tiff, Jpeg, Heif, WebP}
-use Rattle.exif_containers.specs.declared.remove.Remove.{Remove}
+use Rattle.exif_segments.specs.declared.remove.Remove.{Remove}
 use Rattle.exif_rewrite_jpeg.specs.JpegLaws as jpeg_laws
 use Rattle.exif_rewrite_jpeg.specs.JpegSteps.{strictly, strict_end}
 use Rattle.exif_rewrite_jpeg.specs.JpegTokens.{IsFiltered}

@@ -8,10 +8,10 @@ use Rattle.std.specs.Str.{bytes_eq}
 use Rattle.exif_isobmff.specs.Boxes.{Parts, all_boxes, and_then, box_at, filling, header_at}
 use Rattle.exif_isobmff.specs.HeifFile.{begins_heif, has_heif_brand, is_ftyp}
 use Rattle.exif_isobmff.specs.HeifRefusals.{too_small}
-use Rattle.exif_containers.specs.Answer.{Answer, found, refused}
+use Rattle.exif_segments.specs.Answer.{Answer, found, refused}
 use Rattle.exif_containers.specs.Container.{answer_as, container_answer, data_of, format_in}
-use Rattle.exif_containers.specs.Jpeg.{jpeg_answer}
-use Rattle.exif_containers.specs.Webp.{begins_webp, broken_webp, no_exif_in_webp, not_webp, webp_answer}
+use Rattle.exif_segments.specs.Jpeg.{jpeg_answer}
+use Rattle.exif_segments.specs.Webp.{begins_webp, broken_webp, no_exif_in_webp, not_webp, webp_answer}
 use Rattle.exif_containers.specs.declared.container.Format.TheVariants.{Jpeg, Heif, WebP}
 use Rattle.exif_rewrite_webp.specs.WebpLaws.{FileAnswers}
 

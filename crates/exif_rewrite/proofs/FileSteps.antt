@@ -7,13 +7,13 @@ use Rattle.exif_base.proofs.Sent.{keeps_same, front_none}
 use Rattle.exif_base.specs.Sent.{SendsFront}
 use Rattle.exif_types.specs.Failures.{Failure}
 use Rattle.exif_types.specs.Refusals.{Refusal, refusal_of}
-use Rattle.exif_containers.specs.Answer.{IsNamed}
+use Rattle.exif_segments.specs.Answer.{IsNamed}
 use Rattle.exif_containers.specs.Container.{format_in, unknown_format}
 use Rattle.exif_containers.specs.declared.container.Format.{Format}
 use Rattle.exif_containers.specs.declared.container.Format.TheVariants.{Tiff, Jpeg, Heif, WebP}
 use Rattle.exif_containers.proofs.ContainerSteps.{head-first}
 use Rattle.exif_containers.proofs.ContainerNames.{more_named}
-use Rattle.exif_containers.specs.declared.remove.Remove.{Remove}
+use Rattle.exif_segments.specs.declared.remove.Remove.{Remove}
 use Rattle.exif_rewrite_jpeg.specs.Faults.{rewriting_refusals}
 use Rattle.exif_rewrite_jpeg.specs.JpegSteps.{strictly, strict_end}
 use Rattle.exif_rewrite_jpeg.specs.Passing.{Finishes, StopsBy}

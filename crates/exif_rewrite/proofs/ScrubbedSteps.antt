@@ -18,7 +18,7 @@ use Rattle.exif_layout.specs.Rewriting.{pushed_all}
 use Rattle.exif_layout.specs.WriteFaults.{write_refusal}
 use Rattle.exif_layout.specs.declared.write_fault.WriteFault.{WriteFault}
 use Rattle.exif_rewrite.specs.ScrubbedExif.{ReadsAs, image_or, scrubbed_answer}
-use Rattle.exif_containers.proofs.ContainerNames.{interrupted_none}
+use Rattle.exif_segments.proofs.Interruptions.{interrupted_none}
 
 -- nothing is wanted where no field is
 pub none_wanted : {X : Type 0} (p : X → Bool) (xs : List X) → list_any p xs ≡ false → filter p xs ≡ []

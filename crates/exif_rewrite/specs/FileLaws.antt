@@ -2,9 +2,9 @@
 use Rattle.std.specs.Prelude.{◌≡◌, ◌<◌, ◌^◌, ◌⊎◌, ℕ, List, length, Option, None, Some, Result, Ok, Err}
 use Rattle.exif_types.specs.Refusals.{Refusal}
 use Rattle.exif_containers.specs.Container.{container_answer}
-use Rattle.exif_containers.specs.Jpeg.{no_exif_in_jpeg}
-use Rattle.exif_containers.specs.Webp.{no_exif_in_webp}
-use Rattle.exif_containers.specs.declared.remove.Remove.{Remove}
+use Rattle.exif_segments.specs.Jpeg.{no_exif_in_jpeg}
+use Rattle.exif_segments.specs.Webp.{no_exif_in_webp}
+use Rattle.exif_segments.specs.declared.remove.Remove.{Remove}
 use Rattle.exif_rewrite_jpeg.specs.Rewriting.{Rewriting, finished}
 use Rattle.exif_rewrite.specs.RewrittenFile.{file_rewriting}
 

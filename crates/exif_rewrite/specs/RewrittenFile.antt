@@ -4,7 +4,7 @@ use Rattle.exif_types.specs.Refusals.{Refusal, not_supported}
 use Rattle.exif_containers.specs.declared.container.Format.{Format}
 use Rattle.exif_containers.specs.declared.container.Format.TheVariants.{Tiff, Jpeg, Heif, WebP}
 use Rattle.exif_containers.specs.Container.{format_in, unknown_format}
-use Rattle.exif_containers.specs.declared.remove.Remove.{Remove}
+use Rattle.exif_segments.specs.declared.remove.Remove.{Remove}
 use Rattle.exif_rewrite_jpeg.specs.Faults.{rewriting_refusals}
 use Rattle.exif_rewrite_jpeg.specs.JpegSteps.{strictly}
 use Rattle.exif_rewrite_jpeg.specs.Rewriting.{Rewriting, ends, finished, refused_by}

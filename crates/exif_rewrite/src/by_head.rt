@@ -5,24 +5,21 @@ ghost use Rattle.std.specs.Io.KnownBytes.{Keeps};
 ghost use Rattle.exif_base.specs.Device.{CountsBoth};
 ghost use Rattle.exif_types.specs.Refusals.{is_io, refusal_of};
 ghost use Rattle.exif_types.specs.declared.error.Error.TheVariants.{OutOfMemory};
-ghost use Rattle.exif_containers.specs.Answer.{IsNamed};
+ghost use Rattle.exif_segments.specs.Answer.{IsNamed};
 ghost use Rattle.exif_containers.specs.Container.{format_in};
 ghost use Rattle.exif_containers.specs.declared.container.Format.TheVariants as Format;
-ghost use Rattle.exif_containers.specs.Removing.{payload_of};
+ghost use Rattle.exif_segments.specs.Removing.{payload_of};
 ghost use Rattle.exif_rewrite_jpeg.specs.Passing.{Finishes, StopsBy};
 ghost use Rattle.exif_rewrite_jpeg.specs.Rewriting.{finished};
 ghost use Rattle.exif_rewrite.specs.RewrittenFile.{file_refusals, file_rewriting, rewriting_as};
 
 use exif_base::{Blocks, Sink, Source, read_front};
-use exif_containers::Remove;
-use exif_containers::container::{Format, format_of};
+use exif_containers::container::{Format, SNIFF_LEN, format_of};
 use exif_rewrite_jpeg::rewrite_jpeg;
 use exif_rewrite_webp::rewrite_webp;
+use exif_segments::Remove;
 use exif_types::Error;
 use std::alloc::Global;
-
-// How many bytes choose the container.
-const HEAD: usize = 4096;
 
 // A file of this container, or the refusal of bytes that begin none.
 fn rewrite_as<R: Source, W: Sink>(
@@ -93,7 +90,7 @@ pub fn rewrite<R: Source, W: Sink>(
     ensures read_through { R.through source.new ≡ R.through source.old }
     ensures written_through { W.through out.new ≡ W.through out.old }
 {
-    let mut block = [0u8; HEAD];
+    let mut block = [0u8; SNIFF_LEN];
     let filled = read_front(source, &mut block)?;
     let format = format_of(&block[..filled]);
     let mut blocks = Blocks::new(&mut block, filled, source);

@@ -2,7 +2,7 @@
 //! in its crate.
 
 ghost use Rattle.std.specs.Prelude.{ℕ, List, Option};
-ghost use Rattle.exif_containers.specs.declared.remove.Remove.{Remove};
+ghost use Rattle.exif_segments.specs.declared.remove.Remove.{Remove};
 ghost use Rattle.exif_rewrite.specs.FileLaws.{IsFound, IsSettled};
 
 use exif_rewrite_jpeg::laws::{

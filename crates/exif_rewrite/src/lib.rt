@@ -7,8 +7,8 @@ pub mod scrubbed;
 pub mod scrubbing;
 
 pub use by_head::rewrite;
-pub use exif_containers::Remove;
 pub use exif_rewrite_jpeg::{Ended, rewrite_jpeg, rewrite_jpeg_as_it_stands};
 pub use exif_rewrite_webp::rewrite_webp;
+pub use exif_segments::Remove;
 pub use scrubbed::{UPRIGHT, scrubbed_exif};
 pub use scrubbing::scrub;

@@ -4,16 +4,16 @@ use Rattle.std.specs.List.{All}
 use Rattle.std.specs.Option.{option_map}
 use Rattle.std.proofs.lemmas.Bool.{eqb-true}
 use Rattle.exif_types.specs.Refusals.{Refusal}
-use Rattle.exif_containers.specs.Answer.{Answer, found, refused}
-use Rattle.exif_containers.specs.Jpeg.{JpegUnit, not_jpeg, unexpected_soi, invalid_length, no_exif_in_jpeg, two_bytes, after_marks, stands_alone, unit_from_code, first_unit, begins_exif, exif_payload, unit_answer, with_units, units_of, first_answer, answer_from, jpeg_answer}
-use Rattle.exif_containers.specs.JpegGrammar.{UnitTree, print_brought, print_unit, IsUnit}
-use Rattle.exif_containers.proofs.JpegUnits.{answer-first_unit, rest-first_unit}
-use Rattle.exif_containers.proofs.LimitedMoves.{from_mark-others}
-use Rattle.exif_containers.proofs.LawsJpeg.{first_unit-print, tree-of_unit}
-use Rattle.exif_containers.specs.declared.remove.Remove.{Remove}
-use Rattle.exif_containers.specs.declared.remove.Remove.TheVariants.{Exif, Metadata}
+use Rattle.exif_segments.specs.Answer.{Answer, found, refused}
+use Rattle.exif_segments.specs.Jpeg.{JpegUnit, not_jpeg, unexpected_soi, invalid_length, no_exif_in_jpeg, two_bytes, after_marks, stands_alone, unit_from_code, first_unit, begins_exif, exif_payload, unit_answer, with_units, units_of, first_answer, answer_from, jpeg_answer}
+use Rattle.exif_segments.specs.JpegGrammar.{UnitTree, print_brought, print_unit, IsUnit}
+use Rattle.exif_segments.proofs.JpegUnits.{answer-first_unit, rest-first_unit}
+use Rattle.exif_segments.proofs.LimitedMoves.{from_mark-others}
+use Rattle.exif_segments.proofs.LawsJpeg.{first_unit-print, tree-of_unit}
+use Rattle.exif_segments.specs.declared.remove.Remove.{Remove}
+use Rattle.exif_segments.specs.declared.remove.Remove.TheVariants.{Exif, Metadata}
 use Rattle.exif_rewrite_jpeg.specs.Rewriting.{Rewriting, finished, refused_by, after, ends}
-use Rattle.exif_containers.specs.Removing.{behind}
+use Rattle.exif_segments.specs.Removing.{behind}
 use Rattle.exif_rewrite_jpeg.specs.RewrittenJpeg.{outside, passes, stays, exif_segment, placed, still, rewriting}
 use Rattle.exif_rewrite_jpeg.specs.JpegLaws.{IsAnswered}
 use Rattle.exif_rewrite_jpeg.specs.JpegSteps.{unit_rewriting}

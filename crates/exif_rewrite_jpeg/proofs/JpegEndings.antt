@@ -7,8 +7,8 @@ use Rattle.exif_base.proofs.Sent.{front_second, front_first, front_all, appends_
 use Rattle.exif_types.specs.Failures.{Failure}
 use Rattle.exif_types.specs.declared.error.Error.TheVariants as error
 use Rattle.exif_types.specs.Refusals.{Refusal, is_io_error, IsInterrupted}
-use Rattle.exif_containers.specs.Answer.{IsNamed}
-use Rattle.exif_containers.specs.declared.jpeg.TheConstants.{LIMIT}
+use Rattle.exif_segments.specs.Answer.{IsNamed}
+use Rattle.exif_segments.specs.declared.jpeg.TheConstants.{LIMIT}
 use Rattle.exif_rewrite_jpeg.specs.declared.ended.Ended.{Ended}
 use Rattle.exif_rewrite_jpeg.specs.declared.ended.Ended.TheVariants as ended
 use Rattle.exif_rewrite_jpeg.specs.declared.fault.Fault.{Fault}

@@ -6,20 +6,20 @@ use Rattle.std.proofs.lemmas.Bool.Decides.{nat_tests}
 use Rattle.std.proofs.lemmas.List.Elements.{All-nil}
 use Rattle.std.proofs.Math.Bool.{or-false}
 use Rattle.exif_types.specs.Refusals.{Refusal}
-use Rattle.exif_containers.specs.Jpeg.{JpegUnit, not_jpeg, invalid_length, first_unit}
-use Rattle.exif_containers.specs.JpegGrammar.{exif, exif_id, UnitTree, print_brought, print_unit, IsUnit}
-use Rattle.exif_containers.proofs.JpegUnits.{rest-first_unit}
-use Rattle.exif_containers.proofs.LawsJpeg.{from_code-brought, tree-of_unit}
-use Rattle.exif_containers.specs.declared.remove.Remove.{Remove}
-use Rattle.exif_containers.specs.declared.remove.Remove.TheVariants.{Exif, Metadata}
+use Rattle.exif_segments.specs.Jpeg.{JpegUnit, not_jpeg, invalid_length, first_unit}
+use Rattle.exif_segments.specs.JpegGrammar.{exif, exif_id, UnitTree, print_brought, print_unit, IsUnit}
+use Rattle.exif_segments.proofs.JpegUnits.{rest-first_unit}
+use Rattle.exif_segments.proofs.LawsJpeg.{from_code-brought, tree-of_unit}
+use Rattle.exif_segments.specs.declared.remove.Remove.{Remove}
+use Rattle.exif_segments.specs.declared.remove.Remove.TheVariants.{Exif, Metadata}
 use Rattle.exif_rewrite_jpeg.specs.Rewriting.{Rewriting, finished, cut_off, refused_by, after, ends, unless_refused}
-use Rattle.exif_containers.specs.Removing.{too_large, behind}
+use Rattle.exif_segments.specs.Removing.{too_large, behind}
 use Rattle.exif_rewrite_jpeg.specs.RewrittenJpeg.{unit_text, unit_refusal, outside, passes, stays, exif_segment, placed, still, rewriting, stream_rewriting}
 use Rattle.exif_rewrite_jpeg.specs.JpegLaws.{IsStable}
 use Rattle.exif_rewrite_jpeg.specs.JpegSteps.{unit_rewriting}
 use Rattle.exif_rewrite_jpeg.proofs.PassingSteps.{outside_none}
 use Rattle.exif_rewrite_jpeg.proofs.JpegSteps.{carry, at_unit, none_ends}
-use Rattle.exif_containers.proofs.RemovingLemmas.{behind_again}
+use Rattle.exif_segments.proofs.RemovingLemmas.{behind_again}
 
 -- a unit at the front
 pub rewriting_unit : (remove : Remove) (new : List ℕ) (d : Bool) (u : UnitTree) (rest : List ℕ) → IsUnit u

@@ -11,12 +11,12 @@ use Rattle.std.specs.Io.KnownBytes.{Appends, Consumes}
 use Rattle.exif_base.specs.Sent.{SendsFront}
 use Rattle.exif_base.proofs.Sent.{front_second, front_first}
 use Rattle.exif_base.proofs.ReadSteps.{consumes_append}
-use Rattle.exif_containers.specs.Jpeg.{JpegUnit, not_jpeg, two_bytes, from_mark, after_marks, stands_alone, unit_from_code, first_unit}
-use Rattle.exif_containers.proofs.LimitedMoves.{from_mark-others}
-use Rattle.exif_containers.proofs.JpegUnits.{unit-segment, rest-first_unit}
-use Rattle.exif_containers.proofs.LawsJpeg.{after_marks-fill}
-use Rattle.exif_containers.proofs.JpegMoves.{choose_yes, choose_no}
-use Rattle.exif_containers.specs.declared.remove.Remove.{Remove}
+use Rattle.exif_segments.specs.Jpeg.{JpegUnit, not_jpeg, two_bytes, from_mark, after_marks, stands_alone, unit_from_code, first_unit}
+use Rattle.exif_segments.proofs.LimitedMoves.{from_mark-others}
+use Rattle.exif_segments.proofs.JpegUnits.{unit-segment, rest-first_unit}
+use Rattle.exif_segments.proofs.LawsJpeg.{after_marks-fill}
+use Rattle.exif_segments.proofs.JpegMoves.{choose_yes, choose_no}
+use Rattle.exif_segments.specs.declared.remove.Remove.{Remove}
 use Rattle.exif_rewrite_jpeg.specs.declared.fault.Stop.{Stop}
 use Rattle.exif_rewrite_jpeg.specs.declared.fault.Stop.TheVariants as stop
 use Rattle.exif_rewrite_jpeg.specs.declared.fault.Fault.{Fault}
@@ -24,7 +24,7 @@ use Rattle.exif_rewrite_jpeg.specs.declared.fault.Fault.TheVariants as fault
 use Rattle.exif_rewrite_jpeg.specs.Faults.{OnEnd, fault_refusal}
 use Rattle.exif_rewrite_jpeg.specs.Passing.{Passes, Finishes, Stopped, ToMark}
 use Rattle.exif_rewrite_jpeg.specs.Rewriting.{Rewriting, finished, cut_off, refused_by, after, ends, unless_refused, Follows}
-use Rattle.exif_containers.specs.Removing.{behind}
+use Rattle.exif_segments.specs.Removing.{behind}
 use Rattle.exif_rewrite_jpeg.specs.RewrittenJpeg.{before_mark, marks, outside, passes, unit_text, unit_refusal, kept, placed, still, rewritten_unit, rewritten_first, rewriting_within, rewriting, stream_rewriting}
 use Rattle.exif_rewrite_jpeg.specs.JpegSteps.{Brings, unit_rewriting}
 use Rattle.exif_rewrite_jpeg.proofs.PassingSteps.{before_mark_others, outside_append, outside_none, passes_weaker, on_end, none_refused, follows_then, finishes_then, stopped_then, follows_sent, follows_taken, stopped_front, stopped_idle, stopped_refused}

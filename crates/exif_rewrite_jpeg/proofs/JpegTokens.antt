@@ -4,15 +4,15 @@ use Rattle.std.specs.List.{All, flat_map}
 use Rattle.std.proofs.lemmas.List.Concat.{flat_map-append}
 use Rattle.std.proofs.Math.Bool.{or-false}
 use Rattle.exif_types.specs.Refusals.{Refusal}
-use Rattle.exif_containers.specs.Jpeg.{JpegUnit, not_jpeg, from_mark, after_marks, unit_from_code, first_unit}
-use Rattle.exif_containers.specs.JpegGrammar.{UnitTree, print_brought, print_unit, IsUnit}
-use Rattle.exif_containers.proofs.JpegUnits.{rest-first_unit}
-use Rattle.exif_containers.proofs.LimitedMoves.{from_mark-others}
-use Rattle.exif_containers.proofs.LawsJpeg.{first_unit-print, tree-of_unit}
-use Rattle.exif_containers.specs.declared.remove.Remove.{Remove}
-use Rattle.exif_containers.specs.declared.remove.Remove.TheVariants.{Metadata}
+use Rattle.exif_segments.specs.Jpeg.{JpegUnit, not_jpeg, from_mark, after_marks, unit_from_code, first_unit}
+use Rattle.exif_segments.specs.JpegGrammar.{UnitTree, print_brought, print_unit, IsUnit}
+use Rattle.exif_segments.proofs.JpegUnits.{rest-first_unit}
+use Rattle.exif_segments.proofs.LimitedMoves.{from_mark-others}
+use Rattle.exif_segments.proofs.LawsJpeg.{first_unit-print, tree-of_unit}
+use Rattle.exif_segments.specs.declared.remove.Remove.{Remove}
+use Rattle.exif_segments.specs.declared.remove.Remove.TheVariants.{Metadata}
 use Rattle.exif_rewrite_jpeg.specs.Rewriting.{Rewriting, finished, refused_by, after, ends}
-use Rattle.exif_containers.specs.Removing.{behind}
+use Rattle.exif_segments.specs.Removing.{behind}
 use Rattle.exif_rewrite_jpeg.specs.RewrittenJpeg.{before_mark, marks, outside, passes, exif_segment, placed, still, rewriting, stream_rewriting, jpeg_rewriting}
 use Rattle.exif_rewrite_jpeg.specs.JpegSteps.{unit_rewriting}
 use Rattle.exif_rewrite_jpeg.specs.JpegTokens.{Token, byte, unit, token_text, tokens_first, tokens_within, tokens, trailer_first, trailer_within, trailer, image, new_tokens, unit_stays, rewritten_tokens, IsFilter, IsFiltered, AreBare, HasOnlyBare}

@@ -9,8 +9,8 @@ use Rattle.std.specs.Io.KnownBytes.{Appends, Consumes, IsAtEnd, Keeps}
 use Rattle.exif_base.specs.Sent.{SendsFront}
 use Rattle.exif_base.proofs.Sent.{appends_more, appends_none, front_first, front_second, front_none, keeps_same}
 use Rattle.exif_types.specs.Refusals.{Refusal}
-use Rattle.exif_containers.specs.Jpeg.{after_marks, from_mark}
-use Rattle.exif_containers.proofs.LimitedMoves.{from_mark-others}
+use Rattle.exif_segments.specs.Jpeg.{after_marks, from_mark}
+use Rattle.exif_segments.proofs.LimitedMoves.{from_mark-others}
 use Rattle.exif_rewrite_jpeg.specs.declared.fault.Stop.{Stop}
 use Rattle.exif_rewrite_jpeg.specs.declared.fault.Stop.TheVariants as stop
 use Rattle.exif_rewrite_jpeg.specs.Faults.{OnEnd}

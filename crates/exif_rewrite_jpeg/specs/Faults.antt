@@ -2,12 +2,12 @@
 use Rattle.std.specs.Prelude.{◌≡◌, List, [], ◌∷◌, Bool, true, false, ◌||◌, ⊤, Option, None, Some, Result, Ok, Err}
 use Rattle.exif_types.specs.Failures.{Failure}
 use Rattle.exif_types.specs.Refusals.{Refusal, refusal_of, is_io_error}
-use Rattle.exif_containers.specs.Jpeg.{broken_jpeg, not_jpeg, unexpected_soi, invalid_length}
+use Rattle.exif_segments.specs.Jpeg.{broken_jpeg, not_jpeg, unexpected_soi, invalid_length}
 use Rattle.exif_rewrite_jpeg.specs.declared.fault.Stop.{Stop}
 use Rattle.exif_rewrite_jpeg.specs.declared.fault.Stop.TheVariants as stop
 use Rattle.exif_rewrite_jpeg.specs.declared.fault.Fault.{Fault}
 use Rattle.exif_rewrite_jpeg.specs.declared.fault.Fault.TheVariants as fault
-use Rattle.exif_containers.specs.Removing.{too_large}
+use Rattle.exif_segments.specs.Removing.{too_large}
 
 -- the fault that the end or a failure of the reader is
 abbrev pub fault_of : Stop → Fault

@@ -1,7 +1,7 @@
 -- Small JPEG streams written again, worked by hand.
 use Rattle.std.specs.Prelude.{◌≡◌, [], ◌∷◌, ◌++◌, codes, None, Some}
 use Rattle.std.proofs.Common.{refl}
-use Rattle.exif_containers.specs.declared.remove.Remove.TheVariants.{Exif, Metadata}
+use Rattle.exif_segments.specs.declared.remove.Remove.TheVariants.{Exif, Metadata}
 use Rattle.exif_rewrite_jpeg.specs.Rewriting.{ends, finished, cut_off}
 use Rattle.exif_rewrite_jpeg.specs.RewrittenJpeg.{exif_segment, jpeg_rewriting}
 

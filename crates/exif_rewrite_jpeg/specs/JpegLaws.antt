@@ -1,8 +1,8 @@
 -- What holds of JPEG streams that are written again.
 use Rattle.std.specs.Prelude.{◌≡◌, ℕ, List, Option, None, Some}
-use Rattle.exif_containers.specs.Answer.{found, refused}
-use Rattle.exif_containers.specs.Jpeg.{jpeg_answer, no_exif_in_jpeg}
-use Rattle.exif_containers.specs.declared.remove.Remove.{Remove}
+use Rattle.exif_segments.specs.Answer.{found, refused}
+use Rattle.exif_segments.specs.Jpeg.{jpeg_answer, no_exif_in_jpeg}
+use Rattle.exif_segments.specs.declared.remove.Remove.{Remove}
 use Rattle.exif_rewrite_jpeg.specs.Rewriting.{finished}
 use Rattle.exif_rewrite_jpeg.specs.RewrittenJpeg.{jpeg_rewriting}
 

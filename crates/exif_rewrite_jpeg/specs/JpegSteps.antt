@@ -1,7 +1,7 @@
 -- What the steps over a JPEG stream do.
 use Rattle.std.specs.Prelude.{◌≡◌, ◌<◌, ⊤, ℕ, Bool, List, [], ◌∷◌, ◌++◌, Option, Some}
-use Rattle.exif_containers.specs.Jpeg.{broken_jpeg, unit_from_code}
-use Rattle.exif_containers.specs.declared.remove.Remove.{Remove}
+use Rattle.exif_segments.specs.Jpeg.{broken_jpeg, unit_from_code}
+use Rattle.exif_segments.specs.declared.remove.Remove.{Remove}
 use Rattle.exif_rewrite_jpeg.specs.declared.ended.Ended.{Ended}
 use Rattle.exif_rewrite_jpeg.specs.declared.ended.Ended.TheVariants as ended
 use Rattle.exif_rewrite_jpeg.specs.declared.units.Step.{Step}

@@ -1,11 +1,11 @@
 -- A JPEG image as its tokens: bytes that stand in no unit, as those of scans, and units.
 use Rattle.std.specs.Prelude.{◌≡◌, ⊤, ℕ, zero, suc, List, [], ◌∷◌, ◌++◌, ◌⊎◌, length, map, drop, Bool, true, false, ◌||◌, ◌==◌, if◌then◌else◌, Option, None, Some}
 use Rattle.std.specs.List.{flat_map}
-use Rattle.exif_containers.specs.Jpeg.{JpegUnit, from_mark, first_unit}
-use Rattle.exif_containers.specs.declared.remove.Remove.{Remove}
-use Rattle.exif_containers.specs.declared.remove.Remove.TheVariants.{Metadata}
+use Rattle.exif_segments.specs.Jpeg.{JpegUnit, from_mark, first_unit}
+use Rattle.exif_segments.specs.declared.remove.Remove.{Remove}
+use Rattle.exif_segments.specs.declared.remove.Remove.TheVariants.{Metadata}
 use Rattle.exif_rewrite_jpeg.specs.Rewriting.{finished}
-use Rattle.exif_containers.specs.Removing.{behind}
+use Rattle.exif_segments.specs.Removing.{behind}
 use Rattle.exif_rewrite_jpeg.specs.RewrittenJpeg.{before_mark, exif_segment, jpeg_rewriting, marks, passes, stays, unit_text}
 
 -- a byte, or so many ffs, a code and a body

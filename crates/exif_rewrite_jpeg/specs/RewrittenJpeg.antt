@@ -4,11 +4,11 @@ use Rattle.std.specs.Prelude.{ℕ, zero, suc, ◌+◌, List, [], ◌∷◌, ◌+
 use Rattle.std.specs.Str.{bytes_eq}
 use Rattle.std.specs.Int.{to_be_bytes, w16}
 use Rattle.exif_types.specs.Refusals.{Refusal}
-use Rattle.exif_containers.specs.Jpeg.{broken_jpeg, not_jpeg, unexpected_soi, invalid_length, JpegUnit, two_bytes, from_mark, stands_alone, first_unit, begins_exif}
-use Rattle.exif_containers.specs.JpegGrammar.{exif_id}
-use Rattle.exif_containers.specs.declared.remove.Remove.{Remove}
-use Rattle.exif_containers.specs.declared.remove.Remove.TheVariants.{Exif, Metadata}
-use Rattle.exif_containers.specs.Removing.{too_large, behind}
+use Rattle.exif_segments.specs.Jpeg.{broken_jpeg, not_jpeg, unexpected_soi, invalid_length, JpegUnit, two_bytes, from_mark, stands_alone, first_unit, begins_exif}
+use Rattle.exif_segments.specs.JpegGrammar.{exif_id}
+use Rattle.exif_segments.specs.declared.remove.Remove.{Remove}
+use Rattle.exif_segments.specs.declared.remove.Remove.TheVariants.{Exif, Metadata}
+use Rattle.exif_segments.specs.Removing.{too_large, behind}
 use Rattle.exif_rewrite_jpeg.specs.Rewriting.{Rewriting, after, ends, unless_refused, finished, cut_off, refused_by}
 
 -- all before the first ff

@@ -1,7 +1,7 @@
 //! Laws of JPEG streams that are written again.
 
 ghost use Rattle.std.specs.Prelude.{ℕ, List, Option};
-ghost use Rattle.exif_containers.specs.declared.remove.Remove.{Remove};
+ghost use Rattle.exif_segments.specs.declared.remove.Remove.{Remove};
 ghost use Rattle.exif_rewrite_jpeg.specs.JpegTokens.{HasOnlyBare, IsFiltered};
 ghost use Rattle.exif_rewrite_jpeg.specs.JpegLaws.{IsAnswered, IsStable};
 

@@ -2,14 +2,14 @@
 
 ghost use Rattle.std.specs.Prelude.{◌≡◌, ◌≤◌, ◌<◌, ◌^◌, ◌∷◌, [], false, length, IfErr, OnOk, None};
 ghost use Rattle.exif_base.specs.Sent.{Sends};
-ghost use Rattle.exif_containers.specs.Jpeg.{stands_alone, two_bytes};
+ghost use Rattle.exif_segments.specs.Jpeg.{stands_alone, two_bytes};
 ghost use Rattle.exif_rewrite_jpeg.specs.Faults.{fault_refusal, is_read, is_write};
 ghost use Rattle.exif_rewrite_jpeg.specs.RewrittenJpeg.{begins as begins_with, exif_segment, is_metadata as is_of_metadata, passes as does_pass, stays as is_kept, unit_refusal};
 
 use crate::fault::Fault;
 use exif_base::{Sink, send_all};
-use exif_containers::Remove;
-use exif_containers::jpeg::{APP1, EOI, MARK, RST0, SOI, TEM};
+use exif_segments::Remove;
+use exif_segments::jpeg::{APP1, EOI, MARK, RST0, SOI, TEM};
 use std::io;
 
 /// The first segment for applications: that of JFIF.

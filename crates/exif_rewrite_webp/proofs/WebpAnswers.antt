@@ -6,14 +6,14 @@ use Rattle.std.specs.Str.{bytes_eq}
 use Rattle.std.proofs.lemmas.Bool.Decides.{nat_tests}
 use Rattle.std.proofs.lemmas.List.Concat.{flat_map-append}
 use Rattle.byteorder.specs.Endian.{little_number}
-use Rattle.exif_containers.specs.Answer.{found, refused}
-use Rattle.exif_containers.specs.Webp.{webp_answer, no_exif_in_webp}
-use Rattle.exif_containers.specs.WebpGrammar.{ChunkTree, print_chunk, pad_len, AreOthers, IsExif, room_behind, exif, used_up}
-use Rattle.exif_containers.specs.WebpGrammar as grammar
-use Rattle.exif_containers.proofs.LawsWebp.{file_is_answered}
-use Rattle.exif_containers.specs.declared.remove.Remove.{Remove}
-use Rattle.exif_containers.specs.declared.remove.Remove.TheVariants.{Exif, Metadata}
-use Rattle.exif_containers.specs.Removing.{behind}
+use Rattle.exif_segments.specs.Answer.{found, refused}
+use Rattle.exif_segments.specs.Webp.{webp_answer, no_exif_in_webp}
+use Rattle.exif_segments.specs.WebpGrammar.{ChunkTree, print_chunk, pad_len, AreOthers, IsExif, space_behind, exif, used_up}
+use Rattle.exif_segments.specs.WebpGrammar as grammar
+use Rattle.exif_segments.proofs.LawsWebp.{file_is_answered}
+use Rattle.exif_segments.specs.declared.remove.Remove.{Remove}
+use Rattle.exif_segments.specs.declared.remove.Remove.TheVariants.{Exif, Metadata}
+use Rattle.exif_segments.specs.Removing.{behind}
 use Rattle.exif_rewrite_webp.specs.RewrittenWebp.{is, chunk_stays, staying, flagged, settled, chunk_named}
 use Rattle.exif_rewrite_webp.specs.WebpChunks.{Chunk, Body, file_body, pad_of, chunk_text, chunks_text, file_text}
 use Rattle.exif_rewrite_webp.specs.WebpLaws.{FileAnswers, FileIsAnswered}
@@ -27,32 +27,32 @@ trees_text : (cs : List Chunk) → flat_map print_chunk (map tree_of cs) ≡ chu
 trees_text [] = refl
 trees_text (c ∷ cs) = ap (λ t. chunk_text c ++ t) (trees_text cs)
 
-pad_same : (n room : ℕ) → n + length (pad_of n) ≤ room → length (pad_of n) ≡ pad_len n (room - n)
-pad_same n room = by (eqb (n % 2) 1)
+pad_same : (n space : ℕ) → n + length (pad_of n) ≤ space → length (pad_of n) ≡ pad_len n (space - n)
+pad_same n space = by (eqb (n % 2) 1)
   where
     pads : Bool → List ℕ
     pads t = cond t (0 ∷ []) []
 
-    by : (t : Bool) → n + length (pads t) ≤ room → length (pads t) ≡ cond (t && ltb 0 (room - n)) 1 0
+    by : (t : Bool) → n + length (pads t) ≤ space → length (pads t) ≡ cond (t && ltb 0 (space - n)) 1 0
     by true h = grind (arith, nat_tests)
     by false h = refl
 
 abbrev NoExif : Chunk → Type 0
 NoExif c = c.name ≢ codes "EXIF"
 
-others : (cs : List Chunk) (room : ℕ) → AllByRecursion HasName cs → AllByRecursion NoExif cs → length (chunks_text cs) ≤ room → room < 4294967296 → AreOthers room (map tree_of cs)
-others [] room h k fits small = tt
-others (c ∷ cs) room h k fits small = (
+others : (cs : List Chunk) (space : ℕ) → AllByRecursion HasName cs → AllByRecursion NoExif cs → length (chunks_text cs) ≤ space → space < 4294967296 → AreOthers space (map tree_of cs)
+others [] space h k fits small = tt
+others (c ∷ cs) space h k fits small = (
   record {
     chunk = record {
-      header = record { room_is = omega (arith, fits, both, one); name_len = h.0; size_len = refl };
+      header = record { space_is = omega (arith, fits, both, one); name_len = h.0; size_len = refl };
       payload_len = sym value;
       fits = omega (arith, fits, both, one, value);
     };
     name_is = k.0;
-    padded = pad_same (length c.payload) (room - 8) (omega (arith, fits, both, one));
+    padded = pad_same (length c.payload) (space - 8) (omega (arith, fits, both, one));
   },
-  others cs (room - (8 + (length c.payload + length (pad_of (length c.payload))))) h.1 k.1 (omega (arith, fits, both, one)) (omega (arith, small)),
+  others cs (space - (8 + (length c.payload + length (pad_of (length c.payload))))) h.1 k.1 (omega (arith, fits, both, one)) (omega (arith, small)),
 )
   where
     both : length (chunk_text c ++ chunks_text cs) ≡ length (chunk_text c) + length (chunks_text cs)
@@ -64,10 +64,10 @@ others (c ∷ cs) room h k fits small = (
     value : little_number 4 (to_le_bytes w32 (length c.payload)) ≡ length c.payload
     value = spelled (length c.payload) [] (omega (arith, fits, both, one, small))
 
-behind_all : (cs : List Chunk) (room : ℕ) → AllByRecursion HasName cs → room_behind room (map tree_of cs) ≡ room - length (chunks_text cs)
-behind_all [] room h = omega arith
-behind_all (c ∷ cs) room h =
-    behind_all cs (room - (8 + (length c.payload + length (pad_of (length c.payload))))) h.1
+behind_all : (cs : List Chunk) (space : ℕ) → AllByRecursion HasName cs → space_behind space (map tree_of cs) ≡ space - length (chunks_text cs)
+behind_all [] space h = omega arith
+behind_all (c ∷ cs) space h =
+    behind_all cs (space - (8 + (length c.payload + length (pad_of (length c.payload))))) h.1
     ∙ omega (arith, length-append (chunk_text c) (chunks_text cs), text_len c h.0)
 
 none_answered : (cs : List Chunk) (rest : List ℕ) (size : ℕ) → AllByRecursion HasName cs → AllByRecursion NoExif cs → size ≡ 4 + length (chunks_text cs) → size < 4294967296
@@ -121,7 +121,7 @@ exif_answered cs payload rest size h k e small =
         let len : little_number 4 (to_le_bytes w32 (length payload)) ≡ length payload = spelled (length payload) [] (omega (arith, is_size, small)) in
         record {
           chunk = record {
-            header = record { room_is = omega (arith, is_size); name_len = refl; size_len = refl };
+            header = record { space_is = omega (arith, is_size); name_len = refl; size_len = refl };
             payload_len = sym len;
             fits = omega (arith, is_size, len);
           };

@@ -7,12 +7,12 @@ use Rattle.std.proofs.lemmas.List.{take_at, drop_at, length-take-le}
 use Rattle.std.proofs.lemmas.Bool.{le-ltb}
 use Rattle.byteorder.specs.Endian.{little_number}
 use Rattle.exif_types.specs.Refusals.{Refusal, ◌>>=◌}
-use Rattle.exif_containers.specs.Webp.{broken_webp, invalid_file_size, overflowing, padded}
-use Rattle.exif_containers.specs.declared.remove.Remove.{Remove}
-use Rattle.exif_containers.specs.declared.remove.Remove.TheVariants.{Metadata}
-use Rattle.exif_containers.specs.Removing.{too_large, behind}
+use Rattle.exif_segments.specs.Webp.{broken_webp, invalid_file_size, overflowing, padded}
+use Rattle.exif_segments.specs.declared.remove.Remove.{Remove}
+use Rattle.exif_segments.specs.declared.remove.Remove.TheVariants.{Metadata}
+use Rattle.exif_segments.specs.Removing.{too_large, behind}
 use Rattle.exif_rewrite_webp.specs.RewrittenWebp.{is, is_image, chunk_stays, staying, flagged, settled, canvas_where, chunk_named, is_put, new_chunks, file_of, webp_rewriting}
-use Rattle.exif_rewrite_webp.specs.WebpChunks.{Chunk, Front, Body, in_front, chunk_of, first_chunk, body_within, body_of, header_room, file_body, pad_of, chunk_text, chunks_text, file_text}
+use Rattle.exif_rewrite_webp.specs.WebpChunks.{Chunk, Front, Body, in_front, chunk_of, first_chunk, body_within, body_of, header_space, file_body, pad_of, chunk_text, chunks_text, file_text}
 use Rattle.exif_rewrite_webp.specs.WebpLaws.{FileIsFiltered, IsBareChunk, FileIsBare}
 use Rattle.exif_rewrite_webp.proofs.WebpSteps.{body_step}
 
@@ -22,25 +22,25 @@ use Rattle.exif_rewrite_webp.proofs.WebpSteps.{body_step}
 pub spelled : (n : ℕ) (rest : List ℕ) → n < 4294967296 → little_number 4 (to_le_bytes w32 n ++ rest) ≡ n
 spelled n rest h = omega arith
 
-padded_is : (n room : ℕ) → n + length (pad_of n) ≤ room → padded n room ≡ n + length (pad_of n)
-padded_is n room = by (eqb (n % 2) 1)
+padded_is : (n space : ℕ) → n + length (pad_of n) ≤ space → padded n space ≡ n + length (pad_of n)
+padded_is n space = by (eqb (n % 2) 1)
   where
     pads : Bool → List ℕ
     pads t = cond t (0 ∷ []) []
 
-    by : (t : Bool) → n + length (pads t) ≤ room → cond (t && ltb n room) (n + 1) n ≡ n + length (pads t)
+    by : (t : Bool) → n + length (pads t) ≤ space → cond (t && ltb n space) (n + 1) n ≡ n + length (pads t)
     by true h = grind (arith, nat_tests)
     by false h = omega arith
 
-behind_back : (name payload rest : List ℕ) (room : ℕ) → length payload + length (pad_of (length payload)) ≤ room
-    → chunk_of name (length payload) room (payload ++ (pad_of (length payload) ++ rest))
-    ≡ Ok (record { chunk = record { name = name; payload = payload }; rest = rest; room = room - (length payload + length (pad_of (length payload))) })
-behind_back name payload rest room h =
-    ap (λ t. cond t (Err overflowing) (cond (ltb (length bytes) (padded (length payload) room)) (Err broken_webp) (Ok (front (padded (length payload) room) (take (length payload) bytes))))) (le-ltb room (length payload) (omega (arith, h)))
-    ∙ ap (λ n. cond (ltb (length bytes) n) (Err broken_webp) (Ok (front n (take (length payload) bytes)))) (padded_is (length payload) room h)
+behind_back : (name payload rest : List ℕ) (space : ℕ) → length payload + length (pad_of (length payload)) ≤ space
+    → chunk_of name (length payload) space (payload ++ (pad_of (length payload) ++ rest))
+    ≡ Ok (record { chunk = record { name = name; payload = payload }; rest = rest; space = space - (length payload + length (pad_of (length payload))) })
+behind_back name payload rest space h =
+    ap (λ t. cond t (Err overflowing) (cond (ltb (length bytes) (padded (length payload) space)) (Err broken_webp) (Ok (front (padded (length payload) space) (take (length payload) bytes))))) (le-ltb space (length payload) (omega (arith, h)))
+    ∙ ap (λ n. cond (ltb (length bytes) n) (Err broken_webp) (Ok (front n (take (length payload) bytes)))) (padded_is (length payload) space h)
     ∙ ap (λ t. cond t (Err broken_webp) (Ok (front whole (take (length payload) bytes)))) (le-ltb (length bytes) whole (omega (arith, long)))
     ∙ ap (λ p. Ok (front whole p)) (take_at payload (pad_of (length payload) ++ rest) (length payload) refl)
-    ∙ ap (λ r. Ok (record { chunk = record { name = name; payload = payload }; rest = r; room = room - whole })) gone
+    ∙ ap (λ r. Ok (record { chunk = record { name = name; payload = payload }; rest = r; space = space - whole })) gone
   where
     bytes : List ℕ
     bytes = payload ++ (pad_of (length payload) ++ rest)
@@ -49,7 +49,7 @@ behind_back name payload rest room h =
     whole = length payload + length (pad_of (length payload))
 
     front : ℕ → List ℕ → Front
-    front n p = record { chunk = record { name = name; payload = p }; rest = drop n bytes; room = room - n }
+    front n p = record { chunk = record { name = name; payload = p }; rest = drop n bytes; space = space - n }
 
     long : length (payload ++ (pad_of (length payload) ++ rest)) ≡ length payload + (length (pad_of (length payload)) + length rest)
     long = length-append payload (pad_of (length payload) ++ rest) ∙ ap (λ n. length payload + n) (length-append (pad_of (length payload)) rest)
@@ -67,9 +67,9 @@ text_len c e =
     let d = length-append c.payload (pad_of (length c.payload)) in
     omega (arith, a, b, d, e)
 
-chunk_back : (c : Chunk) (rest : List ℕ) (room : ℕ) → length c.name ≡ 4 → length (chunk_text c) ≤ room → length (chunk_text c) < 4294967296
-    → first_chunk room (chunk_text c ++ rest) ≡ Ok (record { chunk = c; rest = rest; room = room - length (chunk_text c) })
-chunk_back c rest room four fits small = by c.name four refl
+chunk_back : (c : Chunk) (rest : List ℕ) (space : ℕ) → length c.name ≡ 4 → length (chunk_text c) ≤ space → length (chunk_text c) < 4294967296
+    → first_chunk space (chunk_text c ++ rest) ≡ Ok (record { chunk = c; rest = rest; space = space - length (chunk_text c) })
+chunk_back c rest space four fits small = by c.name four refl
   where
     len : ℕ
     len = length c.payload
@@ -81,27 +81,27 @@ chunk_back c rest room four fits small = by c.name four refl
     is_len = text_len c four
 
     at_name : (i j k l : ℕ) → (i ∷ j ∷ k ∷ l ∷ []) ≡ c.name
-        → first_chunk room (i ∷ j ∷ k ∷ l ∷ (to_le_bytes w32 len ++ more)) ≡ Ok (record { chunk = c; rest = rest; room = room - length (chunk_text c) })
+        → first_chunk space (i ∷ j ∷ k ∷ l ∷ (to_le_bytes w32 len ++ more)) ≡ Ok (record { chunk = c; rest = rest; space = space - length (chunk_text c) })
     at_name i j k l e =
         ap (λ t. cond t (Err overflowing) (cond (ltb (length (i ∷ j ∷ k ∷ l ∷ (to_le_bytes w32 len ++ more))) 8) (Err broken_webp)
-        (chunk_of (i ∷ j ∷ k ∷ l ∷ []) (little_number 4 (to_le_bytes w32 len ++ more)) (room - 8) more))) (le-ltb room 8 (omega (arith, fits, is_len)))
-        ∙ ap (λ t. cond t (Err broken_webp) (chunk_of (i ∷ j ∷ k ∷ l ∷ []) (little_number 4 (to_le_bytes w32 len ++ more)) (room - 8) more)) (le-ltb (length (i ∷ j ∷ k ∷ l ∷ (to_le_bytes w32 len ++ more))) 8 (omega arith))
-        ∙ ap (λ n. chunk_of (i ∷ j ∷ k ∷ l ∷ []) n (room - 8) more) (spelled len more (omega (arith, small, is_len)))
-        ∙ behind_back (i ∷ j ∷ k ∷ l ∷ []) c.payload rest (room - 8) (omega (arith, fits, is_len))
-        ∙ ap (λ n. Ok (record { chunk = record { name = n; payload = c.payload }; rest = rest; room = room - 8 - (length c.payload + length (pad_of (length c.payload))) })) e
-        ∙ ap (λ n. Ok (record { chunk = c; rest = rest; room = n })) (omega (arith, is_len))
+        (chunk_of (i ∷ j ∷ k ∷ l ∷ []) (little_number 4 (to_le_bytes w32 len ++ more)) (space - 8) more))) (le-ltb space 8 (omega (arith, fits, is_len)))
+        ∙ ap (λ t. cond t (Err broken_webp) (chunk_of (i ∷ j ∷ k ∷ l ∷ []) (little_number 4 (to_le_bytes w32 len ++ more)) (space - 8) more)) (le-ltb (length (i ∷ j ∷ k ∷ l ∷ (to_le_bytes w32 len ++ more))) 8 (omega arith))
+        ∙ ap (λ n. chunk_of (i ∷ j ∷ k ∷ l ∷ []) n (space - 8) more) (spelled len more (omega (arith, small, is_len)))
+        ∙ behind_back (i ∷ j ∷ k ∷ l ∷ []) c.payload rest (space - 8) (omega (arith, fits, is_len))
+        ∙ ap (λ n. Ok (record { chunk = record { name = n; payload = c.payload }; rest = rest; space = space - 8 - (length c.payload + length (pad_of (length c.payload))) })) e
+        ∙ ap (λ n. Ok (record { chunk = c; rest = rest; space = n })) (omega (arith, is_len))
 
     joined : chunk_text c ++ rest ≡ c.name ++ (to_le_bytes w32 len ++ more)
     joined =
         append_assoc c.name (to_le_bytes w32 len ++ (c.payload ++ pad_of len)) rest
         ∙ ap (λ t. c.name ++ (to_le_bytes w32 len ++ t)) (append_assoc c.payload (pad_of len) rest)
 
-    by : (name : List ℕ) → length name ≡ 4 → name ≡ c.name → first_chunk room (chunk_text c ++ rest) ≡ Ok (record { chunk = c; rest = rest; room = room - length (chunk_text c) })
+    by : (name : List ℕ) → length name ≡ 4 → name ≡ c.name → first_chunk space (chunk_text c ++ rest) ≡ Ok (record { chunk = c; rest = rest; space = space - length (chunk_text c) })
     by [] n e = absurd (omega arith)
     by (i ∷ []) n e = absurd (omega arith)
     by (i ∷ j ∷ []) n e = absurd (omega arith)
     by (i ∷ j ∷ k ∷ []) n e = absurd (omega arith)
-    by (i ∷ j ∷ k ∷ l ∷ []) n e = ap (first_chunk room) (joined ∙ ap (λ t. t ++ (to_le_bytes w32 len ++ more)) (sym e)) ∙ at_name i j k l e
+    by (i ∷ j ∷ k ∷ l ∷ []) n e = ap (first_chunk space) (joined ∙ ap (λ t. t ++ (to_le_bytes w32 len ++ more)) (sym e)) ∙ at_name i j k l e
     by (i ∷ j ∷ k ∷ l ∷ m ∷ name) n e = absurd (omega arith)
 
 -- ---- chunks are read back
@@ -111,13 +111,13 @@ abbrev pub HasName : Chunk → Type 0
 HasName c = length c.name ≡ 4
 
 -- chunks are read back from their bytes, where names have four bytes and all take under 2^32
-pub body_back : (cs : List Chunk) (rest : List ℕ) (room : ℕ) → AllByRecursion HasName cs → room ≡ length (chunks_text cs) → room < 4294967296
-    → body_of room (chunks_text cs ++ rest) ≡ Ok (record { chunks = cs; rest = rest })
-body_back [] rest room named e small = ap (λ n. body_of n rest) e
-body_back (c ∷ cs) rest room named e small =
-    body_step room (chunks_text (c ∷ cs) ++ rest) (omega (arith, e, both, one))
-    ∙ ap next (ap (first_chunk room) (append_assoc (chunk_text c) (chunks_text cs) rest) ∙ chunk_back c (chunks_text cs ++ rest) room named.0 (omega (arith, e, both)) (omega (arith, e, both, small)))
-    ∙ ap (λ o. o >>= λ body. Ok (in_front (c ∷ []) body)) (body_back cs rest (room - length (chunk_text c)) named.1 (omega (arith, e, both)) (omega (arith, small)))
+pub body_back : (cs : List Chunk) (rest : List ℕ) (space : ℕ) → AllByRecursion HasName cs → space ≡ length (chunks_text cs) → space < 4294967296
+    → body_of space (chunks_text cs ++ rest) ≡ Ok (record { chunks = cs; rest = rest })
+body_back [] rest space named e small = ap (λ n. body_of n rest) e
+body_back (c ∷ cs) rest space named e small =
+    body_step space (chunks_text (c ∷ cs) ++ rest) (omega (arith, e, both, one))
+    ∙ ap next (ap (first_chunk space) (append_assoc (chunk_text c) (chunks_text cs) rest) ∙ chunk_back c (chunks_text cs ++ rest) space named.0 (omega (arith, e, both)) (omega (arith, e, both, small)))
+    ∙ ap (λ o. o >>= λ body. Ok (in_front (c ∷ []) body)) (body_back cs rest (space - length (chunk_text c)) named.1 (omega (arith, e, both)) (omega (arith, small)))
   where
     both : length (chunk_text c ++ chunks_text cs) ≡ length (chunk_text c) + length (chunks_text cs)
     both = length-append (chunk_text c) (chunks_text cs)
@@ -126,15 +126,15 @@ body_back (c ∷ cs) rest room named e small =
     one = text_len c named.0
 
     next : Result Front Refusal → Result Body Refusal
-    next front = front >>= λ front. body_of front.room front.rest >>= λ body. Ok (in_front (front.chunk ∷ []) body)
+    next front = front >>= λ front. body_of front.space front.rest >>= λ body. Ok (in_front (front.chunk ∷ []) body)
 
 -- a file's chunks and its tail are read back, where names have four bytes and four hold the size
 pub file_back : (cs : List Chunk) (rest : List ℕ) (size : ℕ) → AllByRecursion HasName cs → size ≡ 4 + length (chunks_text cs) → size < 4294967296
     → file_body (file_text size cs ++ rest) ≡ Ok (record { chunks = cs; rest = rest })
 file_back cs rest size named e small =
-    ap (λ t. cond t (Err broken_webp) (room_of size_read) >>= λ room. body_of room (chunks_text cs ++ rest)) (le-ltb (length (file_text size cs ++ rest)) 12 (omega arith))
-    ∙ ap (λ n. cond (ltb n 4) (Err invalid) (Ok (n - 4)) >>= λ room. body_of room (chunks_text cs ++ rest)) (spelled size (codes "WEBP" ++ (chunks_text cs ++ rest)) small)
-    ∙ ap (λ t. cond t (Err invalid) (Ok (size - 4)) >>= λ room. body_of room (chunks_text cs ++ rest)) (le-ltb size 4 (omega (arith, e)))
+    ap (λ t. cond t (Err broken_webp) (space_of size_read) >>= λ space. body_of space (chunks_text cs ++ rest)) (le-ltb (length (file_text size cs ++ rest)) 12 (omega arith))
+    ∙ ap (λ n. cond (ltb n 4) (Err invalid) (Ok (n - 4)) >>= λ space. body_of space (chunks_text cs ++ rest)) (spelled size (codes "WEBP" ++ (chunks_text cs ++ rest)) small)
+    ∙ ap (λ t. cond t (Err invalid) (Ok (size - 4)) >>= λ space. body_of space (chunks_text cs ++ rest)) (le-ltb size 4 (omega (arith, e)))
     ∙ body_back cs rest (size - 4) named (omega (arith, e)) (omega (arith, small))
   where
     invalid : Refusal
@@ -143,26 +143,26 @@ file_back cs rest size named e small =
     size_read : ℕ
     size_read = little_number 4 (to_le_bytes w32 size ++ (codes "WEBP" ++ (chunks_text cs ++ rest)))
 
-    room_of : ℕ → Result ℕ Refusal
-    room_of n = cond (ltb n 4) (Err invalid_file_size) (Ok (n - 4))
+    space_of : ℕ → Result ℕ Refusal
+    space_of n = cond (ltb n 4) (Err invalid_file_size) (Ok (n - 4))
 
 -- ---- the chunks that were read have names
 
-front_name : (room : ℕ) (bytes : List ℕ) (front : Front) → first_chunk room bytes ≡ Ok front → HasName front.chunk
-front_name room bytes front = by (ltb room 8) (ltb (length bytes) 8) refl (ltb (room - 8) size) (ltb (length (drop 8 bytes)) taken)
+front_name : (space : ℕ) (bytes : List ℕ) (front : Front) → first_chunk space bytes ≡ Ok front → HasName front.chunk
+front_name space bytes front = by (ltb space 8) (ltb (length bytes) 8) refl (ltb (space - 8) size) (ltb (length (drop 8 bytes)) taken)
   where
     size : ℕ
     size = little_number 4 (drop 4 bytes)
 
     taken : ℕ
-    taken = padded size (room - 8)
+    taken = padded size (space - 8)
 
     long : (n : ℕ) → ltb n 8 ≡ false → 4 ≤ n
     long n e = grind (arith, nat_tests)
 
     by : (a b : Bool) → ltb (length bytes) 8 ≡ b → (c d : Bool)
         → cond a (Err overflowing) (cond b (Err broken_webp) (cond c (Err overflowing) (cond d (Err broken_webp)
-        (Ok (record { chunk = record { name = take 4 bytes; payload = take size (drop 8 bytes) }; rest = drop taken (drop 8 bytes); room = room - 8 - taken }))))) ≡ Ok front → HasName front.chunk
+        (Ok (record { chunk = record { name = take 4 bytes; payload = take size (drop 8 bytes) }; rest = drop taken (drop 8 bytes); space = space - 8 - taken }))))) ≡ Ok front → HasName front.chunk
     by true b is c d e = absurd (cc)
     by false true is c d e = absurd (cc)
     by false false is true d e = absurd (cc)
@@ -179,21 +179,21 @@ abbrev chunks_in : Result Body Refusal → List Chunk
 chunks_in (Ok body) = body.chunks
 chunks_in (Err r) = []
 
-body_names : (n room : ℕ) (bytes : List ℕ) (body : Body) → body_within n room bytes ≡ Ok body → AllByRecursion HasName body.chunks
-body_names zero room bytes body e = let same : [] ≡ body.chunks = ap chunks_in e in rw (sym same) tt
-body_names (suc n) room bytes body e = by (eqb room 0) (first_chunk room bytes) refl e (λ r b body. body_names n r b body)
+body_names : (n space : ℕ) (bytes : List ℕ) (body : Body) → body_within n space bytes ≡ Ok body → AllByRecursion HasName body.chunks
+body_names zero space bytes body e = let same : [] ≡ body.chunks = ap chunks_in e in rw (sym same) tt
+body_names (suc n) space bytes body e = by (eqb space 0) (first_chunk space bytes) refl e (λ r b body. body_names n r b body)
   where
     under : (front : Front) → HasName front.chunk → (o : Result Body Refusal) → ((body : Body) → o ≡ Ok body → AllByRecursion HasName body.chunks)
         → (o >>= λ body. Ok (in_front (front.chunk ∷ []) body)) ≡ Ok body → AllByRecursion HasName body.chunks
     under front h (Err r) ih e = absurd (cc)
     under front h (Ok b) ih e = let same : front.chunk ∷ b.chunks ≡ body.chunks = ap chunks_in e in rw (sym same) (h, ih b refl)
 
-    by : (t : Bool) (o : Result Front Refusal) → first_chunk room bytes ≡ o
-        → cond t (Ok (record { chunks = []; rest = bytes })) (o >>= λ front. body_within n front.room front.rest >>= λ body. Ok (in_front (front.chunk ∷ []) body)) ≡ Ok body
+    by : (t : Bool) (o : Result Front Refusal) → first_chunk space bytes ≡ o
+        → cond t (Ok (record { chunks = []; rest = bytes })) (o >>= λ front. body_within n front.space front.rest >>= λ body. Ok (in_front (front.chunk ∷ []) body)) ≡ Ok body
         → ((r : ℕ) (b : List ℕ) (body : Body) → body_within n r b ≡ Ok body → AllByRecursion HasName body.chunks) → AllByRecursion HasName body.chunks
     by true o is e ih = let same : [] ≡ body.chunks = ap chunks_in e in rw (sym same) tt
     by false (Err r) is e ih = absurd (cc)
-    by false (Ok front) is e ih = under front (front_name room bytes front is) (body_within n front.room front.rest) (ih front.room front.rest) e
+    by false (Ok front) is e ih = under front (front_name space bytes front is) (body_within n front.space front.rest) (ih front.space front.rest) e
 
 -- ---- a file that was written
 
@@ -268,11 +268,11 @@ named_chunk name (Some payload) h = (h, tt)
 
 -- each chunk that is read of a file has a name of four bytes
 pub body_has_names : (bytes : List ℕ) (body : Body) → file_body bytes ≡ Ok body → AllByRecursion HasName body.chunks
-body_has_names bytes body = by (header_room bytes)
+body_has_names bytes body = by (header_space bytes)
   where
-    by : (o : Result ℕ Refusal) → (o >>= λ room. body_of room (drop 12 bytes)) ≡ Ok body → AllByRecursion HasName body.chunks
+    by : (o : Result ℕ Refusal) → (o >>= λ space. body_of space (drop 12 bytes)) ≡ Ok body → AllByRecursion HasName body.chunks
     by (Err r) e = absurd (cc)
-    by (Ok room) e = body_names room room (drop 12 bytes) body e
+    by (Ok space) e = body_names space space (drop 12 bytes) body e
 
 new_names : (remove : Remove) (put made : Option (List ℕ)) (bytes : List ℕ) (body : Body) → file_body bytes ≡ Ok body → AllByRecursion HasName (new_chunks remove put (staying remove body.chunks) made)
 new_names remove put made bytes body h =

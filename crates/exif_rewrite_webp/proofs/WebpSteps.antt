@@ -13,15 +13,15 @@ use Rattle.exif_base.proofs.Sent.{appends_kept, front_none, keeps_same}
 use Rattle.exif_types.specs.Failures.{Failure}
 use Rattle.exif_types.specs.declared.error.Error.TheVariants as error
 use Rattle.exif_types.specs.Refusals.{Refusal, refusal_of, IsInterrupted, Refuses, Fails, ◌>>=◌}
-use Rattle.exif_containers.specs.Answer.{IsNamed}
-use Rattle.exif_containers.specs.Webp.{broken_webp, not_webp, invalid_file_size, overflowing, padded}
-use Rattle.exif_containers.proofs.ContainerNames.{interrupted_none}
-use Rattle.exif_containers.specs.declared.remove.Remove.{Remove}
+use Rattle.exif_segments.specs.Answer.{IsNamed}
+use Rattle.exif_segments.specs.Webp.{broken_webp, not_webp, invalid_file_size, overflowing, padded}
+use Rattle.exif_segments.proofs.Interruptions.{interrupted_none}
+use Rattle.exif_segments.specs.declared.remove.Remove.{Remove}
 use Rattle.exif_rewrite_webp.specs.declared.chunks.Chunk.{Chunk as LentChunk}
 use Rattle.exif_rewrite_webp.specs.declared.chunks.Front.{Front as LentFront}
-use Rattle.exif_containers.specs.Removing.{too_large, behind}
+use Rattle.exif_segments.specs.Removing.{too_large, behind}
 use Rattle.exif_rewrite_webp.specs.RewrittenWebp.{is, chunk_stays, staying, flagged, settled, lossy, lossless, or_none, no_canvas, canvas_where, chunk_named, is_put, new_chunks, sized, file_of, webp_rewriting, webp_rewriting_refusals}
-use Rattle.exif_rewrite_webp.specs.WebpChunks.{Chunk, Front, Body, in_front, chunk_of, first_chunk, body_within, body_of, header_room, file_body, pad_of, chunk_text, chunks_text, file_text}
+use Rattle.exif_rewrite_webp.specs.WebpChunks.{Chunk, Front, Body, in_front, chunk_of, first_chunk, body_within, body_of, header_space, file_body, pad_of, chunk_text, chunks_text, file_text}
 use Rattle.exif_rewrite_webp.specs.WebpPlans.{chunk_view, kept_body, kept_file, staying_in, settled_text, header_text, named_text, StopsFile, sent_of}
 
 -- what a slice of chunks gives past its end
@@ -91,82 +91,82 @@ pub filter_join : (p : Chunk → Bool) (xs ys : List Chunk) → filter p (xs ++ 
 filter_join p [] ys = refl
 filter_join p (x ∷ xs) ys = one_more p x xs ys (p x) (filter_join p xs ys)
 
--- the room behind a chunk
-room_left : (a b c d : Bool) (x y z w : Refusal) (f front : Front) (room : ℕ) → (a ≡ false → f.room < room)
-    → cond a (Err x) (cond b (Err y) (cond c (Err z) (cond d (Err w) (Ok f)))) ≡ Ok front → front.room < room
-room_left true b c d x y z w f front room h e = absurd (cc)
-room_left false true c d x y z w f front room h e = absurd (cc)
-room_left false false true d x y z w f front room h e = absurd (cc)
-room_left false false false true x y z w f front room h e = absurd (cc)
-room_left false false false false x y z w f front room h e =
+-- the space behind a chunk
+space_left : (a b c d : Bool) (x y z w : Refusal) (f front : Front) (space : ℕ) → (a ≡ false → f.space < space)
+    → cond a (Err x) (cond b (Err y) (cond c (Err z) (cond d (Err w) (Ok f)))) ≡ Ok front → front.space < space
+space_left true b c d x y z w f front space h e = absurd (cc)
+space_left false true c d x y z w f front space h e = absurd (cc)
+space_left false false true d x y z w f front space h e = absurd (cc)
+space_left false false false true x y z w f front space h e = absurd (cc)
+space_left false false false false x y z w f front space h e =
     let same : f ≡ front = cc in
     rw same at (h refl)
 
-first_room : (room : ℕ) (bytes : List ℕ) (front : Front) → first_chunk room bytes ≡ Ok front → front.room < room
-first_room room bytes front =
-    room_left (ltb room 8) (ltb (length bytes) 8) (ltb (room - 8) size) (ltb (length (drop 8 bytes)) taken) overflowing broken_webp overflowing broken_webp
-    (record { chunk = record { name = take 4 bytes; payload = take size (drop 8 bytes) }; rest = drop taken (drop 8 bytes); room = room - 8 - taken }) front room (less room taken)
+first_space : (space : ℕ) (bytes : List ℕ) (front : Front) → first_chunk space bytes ≡ Ok front → front.space < space
+first_space space bytes front =
+    space_left (ltb space 8) (ltb (length bytes) 8) (ltb (space - 8) size) (ltb (length (drop 8 bytes)) taken) overflowing broken_webp overflowing broken_webp
+    (record { chunk = record { name = take 4 bytes; payload = take size (drop 8 bytes) }; rest = drop taken (drop 8 bytes); space = space - 8 - taken }) front space (less space taken)
   where
     size : ℕ
     size = little_number 4 (drop 4 bytes)
 
     taken : ℕ
-    taken = padded size (room - 8)
+    taken = padded size (space - 8)
 
-    less : (room n : ℕ) → ltb room 8 ≡ false → room - 8 - n < room
-    less room n e = grind (arith, nat_tests)
+    less : (space n : ℕ) → ltb space 8 ≡ false → space - 8 - n < space
+    less space n e = grind (arith, nat_tests)
 
 abbrev Next : ℕ → (ℕ → List ℕ → Result Body Refusal) → Result Front Refusal → Result Body Refusal
-Next room f front = front >>= λ front. f front.room front.rest >>= λ body. Ok (in_front (front.chunk ∷ []) body)
+Next space f front = front >>= λ front. f front.space front.rest >>= λ body. Ok (in_front (front.chunk ∷ []) body)
 
-next_same : (room : ℕ) (o : Result Front Refusal) (f g : ℕ → List ℕ → Result Body Refusal) → ((front : Front) → o ≡ Ok front → f front.room front.rest ≡ g front.room front.rest) → Next room f o ≡ Next room g o
-next_same room (Err r) f g h = refl
-next_same room (Ok front) f g h = ap (λ b. b >>= λ body. Ok (in_front (front.chunk ∷ []) body)) (h front refl)
+next_same : (space : ℕ) (o : Result Front Refusal) (f g : ℕ → List ℕ → Result Body Refusal) → ((front : Front) → o ≡ Ok front → f front.space front.rest ≡ g front.space front.rest) → Next space f o ≡ Next space g o
+next_same space (Err r) f g h = refl
+next_same space (Ok front) f g h = ap (λ b. b >>= λ body. Ok (in_front (front.chunk ∷ []) body)) (h front refl)
 
-within_step : (n room : ℕ) (bytes : List ℕ) → 0 < room → body_within (suc n) room bytes ≡ Next room (body_within n) (first_chunk room bytes)
-within_step n room bytes h =
-    let some : room ≢ 0 = λ e. omega (arith, h, e) in
-    ap (λ t. cond t (Ok (record { chunks = []; rest = bytes })) (Next room (body_within n) (first_chunk room bytes))) (ne_eqb room 0 some)
+within_step : (n space : ℕ) (bytes : List ℕ) → 0 < space → body_within (suc n) space bytes ≡ Next space (body_within n) (first_chunk space bytes)
+within_step n space bytes h =
+    let some : space ≢ 0 = λ e. omega (arith, h, e) in
+    ap (λ t. cond t (Ok (record { chunks = []; rest = bytes })) (Next space (body_within n) (first_chunk space bytes))) (ne_eqb space 0 some)
 
-body_enough : (n m room : ℕ) (bytes : List ℕ) → room ≤ n → room ≤ m → body_within n room bytes ≡ body_within m room bytes
-body_enough zero zero room bytes h k = refl
+body_enough : (n m space : ℕ) (bytes : List ℕ) → space ≤ n → space ≤ m → body_within n space bytes ≡ body_within m space bytes
+body_enough zero zero space bytes h k = refl
 body_enough zero (suc m) zero bytes h k = refl
-body_enough zero (suc m) (suc room) bytes h k = absurd (omega arith)
+body_enough zero (suc m) (suc space) bytes h k = absurd (omega arith)
 body_enough (suc n) zero zero bytes h k = refl
-body_enough (suc n) zero (suc room) bytes h k = absurd (omega arith)
+body_enough (suc n) zero (suc space) bytes h k = absurd (omega arith)
 body_enough (suc n) (suc m) zero bytes h k = refl
-body_enough (suc n) (suc m) (suc room) bytes h k =
-    within_step n (suc room) bytes (omega arith)
-    ∙ next_same (suc room) (first_chunk (suc room) bytes) (body_within n) (body_within m)
-    (λ front e. let l = first_room (suc room) bytes front e in body_enough n m front.room front.rest (omega arith) (omega arith))
-    ∙ sym (within_step m (suc room) bytes (omega arith))
+body_enough (suc n) (suc m) (suc space) bytes h k =
+    within_step n (suc space) bytes (omega arith)
+    ∙ next_same (suc space) (first_chunk (suc space) bytes) (body_within n) (body_within m)
+    (λ front e. let l = first_space (suc space) bytes front e in body_enough n m front.space front.rest (omega arith) (omega arith))
+    ∙ sym (within_step m (suc space) bytes (omega arith))
 
--- where there is room, a body is its first chunk and the body behind it, or what refuses them
-pub body_step : (room : ℕ) (bytes : List ℕ) → 0 < room → body_of room bytes ≡ Next room body_of (first_chunk room bytes)
+-- where there is space, a body is its first chunk and the body behind it, or what refuses them
+pub body_step : (space : ℕ) (bytes : List ℕ) → 0 < space → body_of space bytes ≡ Next space body_of (first_chunk space bytes)
 body_step zero bytes h = absurd (omega arith)
-body_step (suc room) bytes h =
-    within_step room (suc room) bytes (omega arith)
-    ∙ next_same (suc room) (first_chunk (suc room) bytes) (body_within room) body_of
-    (λ front e. let l = first_room (suc room) bytes front e in body_enough room front.room front.room front.rest (omega arith) (omega arith))
+body_step (suc space) bytes h =
+    within_step space (suc space) bytes (omega arith)
+    ∙ next_same (suc space) (first_chunk (suc space) bytes) (body_within space) body_of
+    (λ front e. let l = first_space (suc space) bytes front e in body_enough space front.space front.space front.rest (omega arith) (omega arith))
 
 abbrev Joined : List Chunk → Result Body Refusal → Result Body Refusal
 Joined cs body = body >>= λ body. Ok (in_front cs body)
 
 -- what stays of a body is its first chunk, if that stays, and what stays of the body behind it
-pub kept_step : (remove : Remove) (room : ℕ) (bytes : List ℕ) (front : Front) → 0 < room → first_chunk room bytes ≡ Ok front
-    → kept_body remove room bytes ≡ Joined (staying remove (front.chunk ∷ [])) (kept_body remove front.room front.rest)
-kept_step remove room bytes front h e =
-    ap (λ b. b >>= λ body. Ok (staying_in remove body)) (body_step room bytes h ∙ ap (Next room body_of) e) ∙ by (body_of front.room front.rest)
+pub kept_step : (remove : Remove) (space : ℕ) (bytes : List ℕ) (front : Front) → 0 < space → first_chunk space bytes ≡ Ok front
+    → kept_body remove space bytes ≡ Joined (staying remove (front.chunk ∷ [])) (kept_body remove front.space front.rest)
+kept_step remove space bytes front h e =
+    ap (λ b. b >>= λ body. Ok (staying_in remove body)) (body_step space bytes h ∙ ap (Next space body_of) e) ∙ by (body_of front.space front.rest)
   where
     by : (o : Result Body Refusal) → ((o >>= λ body. Ok (in_front (front.chunk ∷ []) body)) >>= λ body. Ok (staying_in remove body)) ≡ Joined (staying remove (front.chunk ∷ [])) (o >>= λ body. Ok (staying_in remove body))
     by (Err r) = refl
     by (Ok body) = ap (λ cs. Ok (record { chunks = cs; rest = body.rest })) (filter_join (chunk_stays remove) (front.chunk ∷ []) body.chunks)
 
 -- after one more chunk, what stays so far and then of the body left is what stays of all
-pub kept_more : (remove : Remove) (room left : ℕ) (bytes rest : List ℕ) (cs cs' : List Chunk) (front : Front) → 0 < left → first_chunk left rest ≡ Ok front → cs' ≡ cs ++ staying remove (front.chunk ∷ [])
-    → kept_body remove room bytes ≡ Joined cs (kept_body remove left rest) → kept_body remove room bytes ≡ Joined cs' (kept_body remove front.room front.rest)
-kept_more remove room left bytes rest cs cs' front h e is inv =
-    inv ∙ ap (Joined cs) (kept_step remove left rest front h e) ∙ by (kept_body remove front.room front.rest) ∙ ap (λ t. Joined t (kept_body remove front.room front.rest)) (sym is)
+pub kept_more : (remove : Remove) (space left : ℕ) (bytes rest : List ℕ) (cs cs' : List Chunk) (front : Front) → 0 < left → first_chunk left rest ≡ Ok front → cs' ≡ cs ++ staying remove (front.chunk ∷ [])
+    → kept_body remove space bytes ≡ Joined cs (kept_body remove left rest) → kept_body remove space bytes ≡ Joined cs' (kept_body remove front.space front.rest)
+kept_more remove space left bytes rest cs cs' front h e is inv =
+    inv ∙ ap (Joined cs) (kept_step remove left rest front h e) ∙ by (kept_body remove front.space front.rest) ∙ ap (λ t. Joined t (kept_body remove front.space front.rest)) (sym is)
   where
     by : (o : Result Body Refusal) → Joined cs (Joined (staying remove (front.chunk ∷ [])) o) ≡ Joined (cs ++ staying remove (front.chunk ∷ [])) o
     by (Err r) = refl
@@ -181,28 +181,28 @@ four (a ∷ b ∷ []) h = absurd (omega arith)
 four (a ∷ b ∷ c ∷ []) h = absurd (omega arith)
 four (a ∷ b ∷ c ∷ d ∷ rest) h = refl
 
--- where there is room and are bytes for a name and a size, the first chunk is the one that they tell
-pub first_whole : (room : ℕ) (bytes : List ℕ) → 8 ≤ room → 8 ≤ length bytes
-    → first_chunk room bytes
+-- where there is space and are bytes for a name and a size, the first chunk is the one that they tell
+pub first_whole : (space : ℕ) (bytes : List ℕ) → 8 ≤ space → 8 ≤ length bytes
+    → first_chunk space bytes
     ≡ chunk_of (get_or bytes 0 0 ∷ get_or bytes 1 0 ∷ get_or bytes 2 0 ∷ get_or bytes 3 0 ∷ [])
-    (little_number 4 (drop 4 bytes)) (room - 8) (take (length bytes - 8) (drop 8 bytes))
-first_whole room bytes h k =
+    (little_number 4 (drop 4 bytes)) (space - 8) (take (length bytes - 8) (drop 8 bytes))
+first_whole space bytes h k =
     ap (λ b. cond b (Err overflowing) (cond (ltb (length bytes) 8) (Err broken_webp)
-    (chunk_of (take 4 bytes) size (room - 8) (drop 8 bytes)))) (le-ltb room 8 h)
-    ∙ ap (λ b. cond b (Err broken_webp) (chunk_of (take 4 bytes) size (room - 8) (drop 8 bytes)))
+    (chunk_of (take 4 bytes) size (space - 8) (drop 8 bytes)))) (le-ltb space 8 h)
+    ∙ ap (λ b. cond b (Err broken_webp) (chunk_of (take 4 bytes) size (space - 8) (drop 8 bytes)))
     (le-ltb (length bytes) 8 k)
-    ∙ ap (λ name. chunk_of name size (room - 8) (drop 8 bytes)) (four bytes k)
+    ∙ ap (λ name. chunk_of name size (space - 8) (drop 8 bytes)) (four bytes k)
     ∙ ap (λ rest. chunk_of (get_or bytes 0 0 ∷ get_or bytes 1 0 ∷ get_or bytes 2 0 ∷ get_or bytes 3 0 ∷ []) size
-    (room - 8) rest) (sym (take_rest bytes 8))
+    (space - 8) rest) (sym (take_rest bytes 8))
   where
     size : ℕ
     size = little_number 4 (drop 4 bytes)
 
--- a chunk behind its name and its size leaves eight less of the room
-pub room_less : (front : Result LentFront Failure) (room : ℕ) → 8 ≤ room
-    → IfOk front (λ f. f.room ≤ room - 8) → IfOk front (λ f. f.room + 8 ≤ room)
-room_less (Ok f) room h k = omega arith
-room_less (Err e) room h k = tt
+-- a chunk behind its name and its size leaves eight less of the space
+pub space_less : (front : Result LentFront Failure) (space : ℕ) → 8 ≤ space
+    → IfOk front (λ f. f.space ≤ space - 8) → IfOk front (λ f. f.space + 8 ≤ space)
+space_less (Ok f) space h k = omega arith
+space_less (Err e) space h k = tt
 
 -- ---- refusals
 
@@ -218,38 +218,38 @@ kept_refused : (remove : Remove) (left : ℕ) (rest : List ℕ) (r : Refusal) �
 kept_refused remove left rest r h e = ap (λ b. b >>= λ body. Ok (staying_in remove body)) (body_step left rest h ∙ ap (Next left body_of) e)
 
 -- where the next chunk is refused, so is the whole body, by the same refusal
-pub front_fails : (e : Failure) (remove : Remove) (room left : ℕ) (bytes rest : List ℕ) (cs : List Chunk) → 0 < left → kept_body remove room bytes ≡ Joined cs (kept_body remove left rest)
-    → Refuses e (first_chunk left rest) → Fails e (kept_body remove room bytes)
-front_fails e remove room left bytes rest cs h inv =
-    refuses_fails e (first_chunk left rest) (kept_body remove room bytes) (λ r k. inv ∙ ap (Joined cs) (kept_refused remove left rest r h k))
+pub front_fails : (e : Failure) (remove : Remove) (space left : ℕ) (bytes rest : List ℕ) (cs : List Chunk) → 0 < left → kept_body remove space bytes ≡ Joined cs (kept_body remove left rest)
+    → Refuses e (first_chunk left rest) → Fails e (kept_body remove space bytes)
+front_fails e remove space left bytes rest cs h inv =
+    refuses_fails e (first_chunk left rest) (kept_body remove space bytes) (λ r k. inv ∙ ap (Joined cs) (kept_refused remove left rest r h k))
 
 -- ---- a plan
 
 -- to write a file again: read its header, keep what stays of the body, and make that the new file
 pub webp_by_kept : (remove : Remove) (put : Option (List ℕ)) (bytes : List ℕ)
-    → webp_rewriting remove put bytes ≡ (header_room bytes >>= λ room. kept_body remove room (drop 12 bytes) >>= λ kept. kept_file remove put kept)
-webp_by_kept remove put bytes = by (header_room bytes)
+    → webp_rewriting remove put bytes ≡ (header_space bytes >>= λ space. kept_body remove space (drop 12 bytes) >>= λ kept. kept_file remove put kept)
+webp_by_kept remove put bytes = by (header_space bytes)
   where
     inner : (o : Result Body Refusal) → (o >>= λ body. kept_file remove put (staying_in remove body)) ≡ ((o >>= λ body. Ok (staying_in remove body)) >>= λ kept. kept_file remove put kept)
     inner (Err r) = refl
     inner (Ok body) = refl
 
-    by : (o : Result ℕ Refusal) → ((o >>= λ room. body_of room (drop 12 bytes)) >>= λ body. kept_file remove put (staying_in remove body))
-        ≡ (o >>= λ room. kept_body remove room (drop 12 bytes) >>= λ kept. kept_file remove put kept)
+    by : (o : Result ℕ Refusal) → ((o >>= λ space. body_of space (drop 12 bytes)) >>= λ body. kept_file remove put (staying_in remove body))
+        ≡ (o >>= λ space. kept_body remove space (drop 12 bytes) >>= λ kept. kept_file remove put kept)
     by (Err r) = refl
-    by (Ok room) = inner (body_of room (drop 12 bytes))
+    by (Ok space) = inner (body_of space (drop 12 bytes))
 
-planned : (remove : Remove) (put : Option (List ℕ)) (bytes : List ℕ) (room : ℕ) (kept : Body) → header_room bytes ≡ Ok room → kept_body remove room (drop 12 bytes) ≡ Ok kept
+planned : (remove : Remove) (put : Option (List ℕ)) (bytes : List ℕ) (space : ℕ) (kept : Body) → header_space bytes ≡ Ok space → kept_body remove space (drop 12 bytes) ≡ Ok kept
     → webp_rewriting remove put bytes ≡ kept_file remove put kept
-planned remove put bytes room kept h k =
-    webp_by_kept remove put bytes ∙ ap (λ o. o >>= λ room. kept_body remove room (drop 12 bytes) >>= λ kept. kept_file remove put kept) h ∙ ap (λ o. o >>= λ kept. kept_file remove put kept) k
+planned remove put bytes space kept h k =
+    webp_by_kept remove put bytes ∙ ap (λ o. o >>= λ space. kept_body remove space (drop 12 bytes) >>= λ kept. kept_file remove put kept) h ∙ ap (λ o. o >>= λ kept. kept_file remove put kept) k
 
 -- where the canvas is refused for the chunks that stay, so is the whole file
-pub canvas_fails : (e : Failure) (remove : Remove) (put : Option (List ℕ)) (bytes : List ℕ) (room : ℕ) (kept : Body) → header_room bytes ≡ Ok room → kept_body remove room (drop 12 bytes) ≡ Ok kept
+pub canvas_fails : (e : Failure) (remove : Remove) (put : Option (List ℕ)) (bytes : List ℕ) (space : ℕ) (kept : Body) → header_space bytes ≡ Ok space → kept_body remove space (drop 12 bytes) ≡ Ok kept
     → Refuses e (canvas_where put kept.chunks) → Fails e (webp_rewriting remove put bytes)
-canvas_fails e remove put bytes room kept h k =
+canvas_fails e remove put bytes space kept h k =
     refuses_fails e (canvas_where put kept.chunks) (webp_rewriting remove put bytes)
-    (λ r is. planned remove put bytes room kept h k ∙ ap (λ o. o >>= λ made. file_of (new_chunks remove put kept.chunks made) >>= λ text. Ok (text ++ behind remove kept.rest)) is)
+    (λ r is. planned remove put bytes space kept h k ∙ ap (λ o. o >>= λ made. file_of (new_chunks remove put kept.chunks made) >>= λ text. Ok (text ++ behind remove kept.rest)) is)
 
 -- the length of the new chunks
 text_len : (name p q : List ℕ) → length p ≡ length q → length (chunk_text (record { name = name; payload = p })) ≡ length (chunk_text (record { name = name; payload = q }))
@@ -296,11 +296,11 @@ new_len remove put cs made =
     ap (λ (t : List ℕ). length t) (new_text remove put cs made) ∙ omega (arith, a, b, k)
 
 -- where the size of the new chunks is refused, so is the whole file
-pub size_fails : (e : Failure) (remove : Remove) (put made : Option (List ℕ)) (bytes : List ℕ) (room : ℕ) (kept : Body) (n : ℕ) → header_room bytes ≡ Ok room → kept_body remove room (drop 12 bytes) ≡ Ok kept
+pub size_fails : (e : Failure) (remove : Remove) (put made : Option (List ℕ)) (bytes : List ℕ) (space : ℕ) (kept : Body) (n : ℕ) → header_space bytes ≡ Ok space → kept_body remove space (drop 12 bytes) ≡ Ok kept
     → canvas_where put kept.chunks ≡ Ok made → n ≡ length (chunks_text (new_chunks remove put kept.chunks made)) → Refuses e (sized n) → Fails e (webp_rewriting remove put bytes)
-size_fails e remove put made bytes room kept n h k m is =
+size_fails e remove put made bytes space kept n h k m is =
     refuses_fails e (sized n) (webp_rewriting remove put bytes)
-    (λ r no. planned remove put bytes room kept h k ∙ ap (λ o. o >>= λ made. file_of (new_chunks remove put kept.chunks made) >>= λ text. Ok (text ++ behind remove kept.rest)) m
+    (λ r no. planned remove put bytes space kept h k ∙ ap (λ o. o >>= λ made. file_of (new_chunks remove put kept.chunks made) >>= λ text. Ok (text ++ behind remove kept.rest)) m
     ∙ ap (λ o. (o >>= λ size. Ok (file_text size (new_chunks remove put kept.chunks made))) >>= λ text. Ok (text ++ behind remove kept.rest)) (ap sized (sym is) ∙ no))
 
 settled_all : (remove : Remove) (put : Bool) (cs : List LentChunk) → chunks_text (map (settled remove put) (map chunk_view cs)) ≡ flat_map (settled_text remove put) cs
@@ -308,12 +308,12 @@ settled_all remove put [] = refl
 settled_all remove put (c ∷ cs) = ap (λ t. settled_text remove put c ++ t) (settled_all remove put cs)
 
 -- where nothing is refused, a file becomes header, canvas, chunks, new data and what follows
-pub plan_gives : (remove : Remove) (put made : Option (List ℕ)) (bytes : List ℕ) (room size : ℕ) (chunks : List LentChunk) (rest tail : List ℕ) (n : ℕ) → header_room bytes ≡ Ok room
-    → kept_body remove room (drop 12 bytes) ≡ Ok (record { chunks = map chunk_view chunks; rest = rest })
+pub plan_gives : (remove : Remove) (put made : Option (List ℕ)) (bytes : List ℕ) (space size : ℕ) (chunks : List LentChunk) (rest tail : List ℕ) (n : ℕ) → header_space bytes ≡ Ok space
+    → kept_body remove space (drop 12 bytes) ≡ Ok (record { chunks = map chunk_view chunks; rest = rest })
     → canvas_where put (map chunk_view chunks) ≡ Ok made → n ≡ length (chunks_text (new_chunks remove put (map chunk_view chunks) made)) → sized n ≡ Ok size → tail ≡ behind remove rest
     → webp_rewriting remove put bytes ≡ Ok (header_text size ++ (named_text (codes "VP8X") made ++ (flat_map (settled_text remove (is_put put)) chunks ++ (named_text (codes "EXIF") put ++ tail))))
-plan_gives remove put made bytes room size chunks rest tail n h k m is s t =
-    planned remove put bytes room (record { chunks = cs; rest = rest }) h k
+plan_gives remove put made bytes space size chunks rest tail n h k m is s t =
+    planned remove put bytes space (record { chunks = cs; rest = rest }) h k
     ∙ ap (λ o. o >>= λ made. file_of (new_chunks remove put cs made) >>= λ text. Ok (text ++ behind remove rest)) m
     ∙ ap (λ o. (o >>= λ size. Ok (file_text size (new_chunks remove put cs made))) >>= λ text. Ok (text ++ behind remove rest)) (ap sized (sym is) ∙ s)
     ∙ ap (λ l. Ok (header_text size ++ l)) (
@@ -394,19 +394,19 @@ cond_named : {X : Type 0} (b : Bool) (x y : Result X Refusal) → Named x → Na
 cond_named true x y h k = h
 cond_named false x y h k = k
 
-front_named : (room : ℕ) (bytes : List ℕ) → Named (first_chunk room bytes)
-front_named room bytes =
-    cond_named (ltb room 8) _ _ (refused_named overflowing (3, omega arith, refl))
+front_named : (space : ℕ) (bytes : List ℕ) → Named (first_chunk space bytes)
+front_named space bytes =
+    cond_named (ltb space 8) _ _ (refused_named overflowing (3, omega arith, refl))
     (cond_named (ltb (length bytes) 8) _ _ (refused_named broken_webp (0, omega arith, refl))
     (cond_named _ _ _ (refused_named overflowing (3, omega arith, refl))
     (cond_named _ _ _ (refused_named broken_webp (0, omega arith, refl)) (ok_named _))))
 
-body_named : (n room : ℕ) (bytes : List ℕ) → Named (body_within n room bytes)
-body_named zero room bytes = ok_named _
-body_named (suc n) room bytes =
-    cond_named (eqb room 0) _ _ (ok_named _) (named_then (first_chunk room bytes) _ (front_named room bytes) (λ front. named_then (body_within n front.room front.rest) _ (body_named n front.room front.rest) (λ body. ok_named _)))
+body_named : (n space : ℕ) (bytes : List ℕ) → Named (body_within n space bytes)
+body_named zero space bytes = ok_named _
+body_named (suc n) space bytes =
+    cond_named (eqb space 0) _ _ (ok_named _) (named_then (first_chunk space bytes) _ (front_named space bytes) (λ front. named_then (body_within n front.space front.rest) _ (body_named n front.space front.rest) (λ body. ok_named _)))
 
-header_named : (bytes : List ℕ) → Named (header_room bytes)
+header_named : (bytes : List ℕ) → Named (header_space bytes)
 header_named bytes =
     cond_named _ _ _ (refused_named broken_webp (0, omega arith, refl))
     (cond_named _ _ _ (refused_named not_webp (1, omega arith, refl)) (cond_named _ _ _ (refused_named invalid_file_size (2, omega arith, refl)) (ok_named _)))
@@ -424,7 +424,7 @@ canvas_named (Some payload) (c ∷ cs) =
 
 all_named : (remove : Remove) (put : Option (List ℕ)) (bytes : List ℕ) → Named (webp_rewriting remove put bytes)
 all_named remove put bytes =
-    named_then (file_body bytes) _ (named_then (header_room bytes) _ (header_named bytes) (λ room. body_named room room (drop 12 bytes)))
+    named_then (file_body bytes) _ (named_then (header_space bytes) _ (header_named bytes) (λ space. body_named space space (drop 12 bytes)))
     (λ body. named_then (canvas_where put (staying remove body.chunks)) _ (canvas_named put (staying remove body.chunks))
     (λ made. named_then (file_of (new_chunks remove put (staying remove body.chunks) made)) _
     (named_then (sized (length (chunks_text (new_chunks remove put (staying remove body.chunks) made)))) _ (cond_named _ _ _ (refused_named too_large (5, omega arith, refl)) (ok_named _)) (λ size. ok_named _)) (λ text. ok_named _)))

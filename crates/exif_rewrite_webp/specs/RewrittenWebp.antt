@@ -7,10 +7,10 @@ use Rattle.std.specs.Str.{bytes_eq}
 use Rattle.std.specs.Int.{to_le_bytes, w32}
 use Rattle.byteorder.specs.Endian.{little_number}
 use Rattle.exif_types.specs.Refusals.{Refusal, not_supported, ◌>>=◌}
-use Rattle.exif_containers.specs.Webp.{broken_webp, not_webp, invalid_file_size, overflowing}
-use Rattle.exif_containers.specs.declared.remove.Remove.{Remove}
-use Rattle.exif_containers.specs.declared.remove.Remove.TheVariants.{Exif, Metadata}
-use Rattle.exif_containers.specs.Removing.{too_large, behind}
+use Rattle.exif_segments.specs.Webp.{broken_webp, not_webp, invalid_file_size, overflowing}
+use Rattle.exif_segments.specs.declared.remove.Remove.{Remove}
+use Rattle.exif_segments.specs.declared.remove.Remove.TheVariants.{Exif, Metadata}
+use Rattle.exif_segments.specs.Removing.{too_large, behind}
 use Rattle.exif_rewrite_webp.specs.WebpChunks.{Chunk, file_body, chunks_text, file_text}
 
 -- no image header stands in front

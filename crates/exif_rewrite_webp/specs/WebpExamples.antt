@@ -1,7 +1,7 @@
 -- Small WebP files written again, worked by hand.
 use Rattle.std.specs.Prelude.{◌≡◌, [], ◌∷◌, ◌++◌, codes, None, Some, Ok, Err}
 use Rattle.std.proofs.Common.{refl}
-use Rattle.exif_containers.specs.declared.remove.Remove.TheVariants.{Exif, Metadata}
+use Rattle.exif_segments.specs.declared.remove.Remove.TheVariants.{Exif, Metadata}
 use Rattle.exif_rewrite_webp.specs.RewrittenWebp.{webp_rewriting, no_canvas}
 
 -- a lossless image of 2 x 3 pixels with alpha, and "ab" as its Exif data

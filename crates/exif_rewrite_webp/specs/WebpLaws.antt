@@ -1,11 +1,11 @@
 -- What holds of WebP files that are written again.
 use Rattle.std.specs.Prelude.{◌≡◌, ℕ, ◌+◌, List, ◌⊎◌, length, codes, true, Option, None, Some, Ok}
 use Rattle.std.specs.List.{AllByRecursion}
-use Rattle.exif_containers.specs.Answer.{found, refused}
-use Rattle.exif_containers.specs.Webp.{webp_answer, no_exif_in_webp}
-use Rattle.exif_containers.specs.declared.remove.Remove.{Remove}
-use Rattle.exif_containers.specs.declared.remove.Remove.TheVariants.{Metadata}
-use Rattle.exif_containers.specs.Removing.{behind}
+use Rattle.exif_segments.specs.Answer.{found, refused}
+use Rattle.exif_segments.specs.Webp.{webp_answer, no_exif_in_webp}
+use Rattle.exif_segments.specs.declared.remove.Remove.{Remove}
+use Rattle.exif_segments.specs.declared.remove.Remove.TheVariants.{Metadata}
+use Rattle.exif_segments.specs.Removing.{behind}
 use Rattle.exif_rewrite_webp.specs.RewrittenWebp.{is_image, staying, canvas_where, new_chunks, webp_rewriting}
 use Rattle.exif_rewrite_webp.specs.WebpChunks.{Chunk, Body, file_body, chunks_text, file_text}
 

@@ -5,12 +5,12 @@ use Rattle.std.specs.List.{flat_map}
 use Rattle.exif_base.specs.Sent.{SendsFront}
 use Rattle.exif_types.specs.Failures.{Failure}
 use Rattle.exif_types.specs.Refusals.{Refusal, refusal_of, ◌>>=◌}
-use Rattle.exif_containers.specs.declared.remove.Remove.{Remove}
+use Rattle.exif_segments.specs.declared.remove.Remove.{Remove}
 use Rattle.exif_rewrite_webp.specs.declared.chunks.Chunk.{Chunk as LentChunk}
 use Rattle.exif_rewrite_webp.specs.declared.chunks.Front.{Front as LentFront}
 use Rattle.exif_rewrite_webp.specs.declared.chunks.Kept.{Kept as LentKept}
 use Rattle.exif_rewrite_webp.specs.declared.plan.Plan.{Plan as LentPlan}
-use Rattle.exif_containers.specs.Removing.{behind, payload_of}
+use Rattle.exif_segments.specs.Removing.{behind, payload_of}
 use Rattle.exif_rewrite_webp.specs.RewrittenWebp.{staying, settled, canvas_where, new_chunks, file_of, chunk_named, is_put}
 use Rattle.exif_rewrite_webp.specs.WebpChunks.{Chunk, Front, Body, body_of, chunk_text, chunks_text}
 
@@ -20,7 +20,7 @@ chunk_view c = record { name = c.name; payload = c.payload.now }
 
 -- and what follows it
 abbrev pub front_view : LentFront → Front
-front_view f = record { chunk = chunk_view f.chunk; rest = f.rest.now; room = f.room }
+front_view f = record { chunk = chunk_view f.chunk; rest = f.rest.now; space = f.space }
 
 -- chunks that stay, and what follows the body
 abbrev pub kept_view : LentKept → Body
@@ -30,9 +30,9 @@ kept_view k = record { chunks = map chunk_view k.chunks.items; rest = k.rest.now
 abbrev pub staying_in : Remove → Body → Body
 staying_in remove body = record { chunks = staying remove body.chunks; rest = body.rest }
 
--- so of bytes with so much room
+-- so of bytes with so much space
 abbrev pub kept_body : Remove → ℕ → List ℕ → Result Body Refusal
-kept_body remove room bytes = body_of room bytes >>= λ body. Ok (staying_in remove body)
+kept_body remove space bytes = body_of space bytes >>= λ body. Ok (staying_in remove body)
 
 -- what chunks that stay become, and what follows the body
 abbrev pub kept_file : Remove → Option (List ℕ) → Body → Result (List ℕ) Refusal

@@ -7,7 +7,7 @@ ghost use Rattle.exif_rewrite_webp.specs.WebpPlans.{chunk_view};
 
 use crate::chunks::Chunk;
 use exif_base::{Endian, LittleEndian};
-use exif_containers::Remove;
+use exif_segments::Remove;
 use exif_types::Error;
 
 // The flags of a canvas: Exif data, XMP and alpha.

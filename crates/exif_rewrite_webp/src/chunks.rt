@@ -3,12 +3,12 @@
 ghost use Rattle.std.specs.Prelude.{◌≡◌, ◌≤◌, ◌+◌, ◌++◌, ◌∷◌, [], false, map, IfOk, OnOk};
 ghost use Rattle.exif_types.specs.Refusals.{Answers, Gives, is_io};
 ghost use Rattle.exif_rewrite_webp.specs.RewrittenWebp.{chunk_stays, is_image as is_of_image, staying};
-ghost use Rattle.exif_rewrite_webp.specs.WebpChunks.{chunk_of as chunk_in, first_chunk as chunk_at_front, header_room};
+ghost use Rattle.exif_rewrite_webp.specs.WebpChunks.{chunk_of as chunk_in, first_chunk as chunk_at_front, header_space};
 ghost use Rattle.exif_rewrite_webp.specs.WebpPlans.{chunk_view, front_view, kept_body, kept_view};
 
 use exif_base::{Endian, LittleEndian};
-use exif_containers::Remove;
-use exif_containers::webp::{is_webp, padded_len};
+use exif_segments::Remove;
+use exif_segments::webp::{is_webp, padded_len};
 use exif_types::Error;
 use std::alloc::{AllocError, Global};
 
@@ -19,12 +19,12 @@ pub struct Chunk<'a> {
     pub payload: &'a [u8],
 }
 
-/// A chunk, the bytes behind it, and the room of the body that is left there.
+/// A chunk, the bytes behind it, and the space of the body that is left there.
 #[derive(Clone, Copy)]
 pub struct Front<'a> {
     chunk: Chunk<'a>,
     rest: &'a [u8],
-    room: u64,
+    space: u64,
 }
 
 /// The chunks of a body that stay, and the bytes behind the body.
@@ -37,9 +37,9 @@ pub struct Kept<'a> {
 // What the end of the bytes is called.
 const BROKEN: &str = "Broken WebP file";
 
-/// The room of a file behind its header.
-pub fn body_room(bytes: &[u8]) -> Result<u64, Error>
-    ensures { Answers (λ room. room) result (header_room bytes.now) }
+/// The space of a file behind its header.
+pub fn body_space(bytes: &[u8]) -> Result<u64, Error>
+    ensures { Answers (λ space. space) result (header_space bytes.now) }
 {
     if bytes.len() < 12 {
         return Err(Error::InvalidFormat(BROKEN));
@@ -55,14 +55,14 @@ pub fn body_room(bytes: &[u8]) -> Result<u64, Error>
 }
 
 // What follows the name and the size of a chunk.
-fn chunk_of(name: [u8; 4], size: u64, room: u64, bytes: &[u8]) -> Result<Front, Error>
-    ensures front { Answers front_view result (chunk_in name size room bytes.now) }
-    ensures room { IfOk result (λ front. front.room ≤ room) }
+fn chunk_of(name: [u8; 4], size: u64, space: u64, bytes: &[u8]) -> Result<Front, Error>
+    ensures front { Answers front_view result (chunk_in name size space bytes.now) }
+    ensures space { IfOk result (λ front. front.space ≤ space) }
 {
-    if size > room {
+    if size > space {
         return Err(Error::InvalidFormat("Chunk overflowing parent"));
     }
-    let taken = padded_len(size, room);
+    let taken = padded_len(size, space);
     if (bytes.len() as u64) < taken {
         return Err(Error::InvalidFormat(BROKEN));
     }
@@ -70,16 +70,16 @@ fn chunk_of(name: [u8; 4], size: u64, room: u64, bytes: &[u8]) -> Result<Front, 
     Ok(Front {
         chunk: Chunk { name, payload },
         rest: &bytes[taken as usize..],
-        room: room - taken,
+        space: space - taken,
     })
 }
 
-// The chunk at the front of a body with so much room.
-fn first_chunk(room: u64, bytes: &[u8]) -> Result<Front, Error>
-    ensures front { Answers front_view result (chunk_at_front room bytes.now) }
-    ensures room { IfOk result (λ front. front.room + 8 ≤ room) }
+// The chunk at the front of a body with so much space.
+fn first_chunk(space: u64, bytes: &[u8]) -> Result<Front, Error>
+    ensures front { Answers front_view result (chunk_at_front space bytes.now) }
+    ensures space { IfOk result (λ front. front.space + 8 ≤ space) }
 {
-    if room < 8 {
+    if space < 8 {
         return Err(Error::InvalidFormat("Chunk overflowing parent"));
     }
     if bytes.len() < 8 {
@@ -87,7 +87,7 @@ fn first_chunk(room: u64, bytes: &[u8]) -> Result<Front, Error>
     }
     let name = [bytes[0], bytes[1], bytes[2], bytes[3]];
     let size = LittleEndian::loadu32(bytes, 4);
-    chunk_of(name, u64::from(size), room - 8, &bytes[8..])
+    chunk_of(name, u64::from(size), space - 8, &bytes[8..])
 }
 
 // Whether an image is made of such a chunk, or it holds its colours.
@@ -125,19 +125,19 @@ fn keep<'a>(chunks: &mut Vec<Chunk<'a>>, remove: Remove, chunk: Chunk<'a>) -> Re
     Ok(())
 }
 
-/// The chunks that stay of a body with so much room.
-pub fn keep_chunks(alloc: Global, remove: Remove, room: u64, bytes: &[u8]) -> Result<Kept, Error>
-    ensures gives { Gives kept_view result (kept_body remove room bytes.now) }
+/// The chunks that stay of a body with so much space.
+pub fn keep_chunks(alloc: Global, remove: Remove, space: u64, bytes: &[u8]) -> Result<Kept, Error>
+    ensures gives { Gives kept_view result (kept_body remove space bytes.now) }
     ensures no_device { is_io result ≡ false }
 {
     let mut chunks = Vec::new(alloc);
     let mut rest = bytes;
-    let mut left = room;
+    let mut left = space;
     while left > 0 {
         let front = first_chunk(left, rest)?;
         keep(&mut chunks, remove, front.chunk)?;
         rest = front.rest;
-        left = front.room;
+        left = front.space;
     }
     Ok(Kept { chunks, rest })
 }

@@ -4,16 +4,16 @@ ghost use Rattle.std.specs.Prelude.{◌≡◌, ℕ, List, Ok, false, OnOk, IfErr
 ghost use Rattle.std.specs.Io.KnownBytes.{Appends, Keeps};
 ghost use Rattle.exif_base.specs.Device.{CountsBoth};
 ghost use Rattle.exif_types.specs.Refusals.{is_io, is_io_error};
-ghost use Rattle.exif_containers.specs.Answer.{IsNamed};
-ghost use Rattle.exif_containers.specs.Removing.{payload_of};
+ghost use Rattle.exif_segments.specs.Answer.{IsNamed};
+ghost use Rattle.exif_segments.specs.Removing.{payload_of};
 ghost use Rattle.exif_rewrite_webp.specs.RewrittenWebp.{webp_rewriting, webp_rewriting_refusals};
 ghost use Rattle.exif_rewrite_webp.specs.WebpPlans.{StopsFile};
 
 use crate::plan::plan_file;
 use crate::send::send_plan;
 use exif_base::{Sink, Source};
-use exif_containers::Remove;
-use exif_containers::util::read_all;
+use exif_segments::Remove;
+use exif_segments::util::read_all;
 use exif_types::Error;
 use std::alloc::Global;
 

@@ -1,7 +1,7 @@
 //! Laws of WebP files that are written again.
 
 ghost use Rattle.std.specs.Prelude.{ℕ, List, Option};
-ghost use Rattle.exif_containers.specs.declared.remove.Remove.{Remove};
+ghost use Rattle.exif_segments.specs.declared.remove.Remove.{Remove};
 ghost use Rattle.exif_rewrite_webp.specs.WebpLaws.{FileIsAnswered, FileIsBare, FileIsFiltered, FileIsStable};
 
 /// A WebP file that was written again has the chunks that stay, in their order, with their flags

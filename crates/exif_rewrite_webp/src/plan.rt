@@ -2,14 +2,14 @@
 
 ghost use Rattle.std.specs.Prelude.{◌≡◌, ◌≤◌, ◌+◌, ◌^◌, false, map, length, codes};
 ghost use Rattle.exif_types.specs.Refusals.{Answers, Gives, is_io};
-ghost use Rattle.exif_containers.specs.Removing.{behind as behind_body, payload_of};
+ghost use Rattle.exif_segments.specs.Removing.{behind as behind_body, payload_of};
 ghost use Rattle.exif_rewrite_webp.specs.RewrittenWebp.{canvas_where as canvas_given, sized, webp_rewriting};
 ghost use Rattle.exif_rewrite_webp.specs.WebpChunks.{chunk_text, chunks_text};
 ghost use Rattle.exif_rewrite_webp.specs.WebpPlans.{chunk_view, named_text, plan_view};
 
 use crate::canvas::canvas;
-use crate::chunks::{Chunk, body_room, keep_chunks};
-use exif_containers::Remove;
+use crate::chunks::{Chunk, body_space, keep_chunks};
+use exif_segments::Remove;
 use exif_types::Error;
 use std::alloc::Global;
 
@@ -112,8 +112,8 @@ pub fn plan_file<'a>(
         (webp_rewriting remove (payload_of put.entry) bytes.now) }
     ensures no_device { is_io result ≡ false }
 {
-    let room = body_room(bytes)?;
-    let kept = keep_chunks(alloc, remove, room, &bytes[12..])?;
+    let space = body_space(bytes)?;
+    let kept = keep_chunks(alloc, remove, space, &bytes[12..])?;
     let canvas = canvas_where(put, &kept.chunks)?;
     let size = measured(canvas_len(canvas) + put_len(put), &kept.chunks)?;
     Ok(Plan {

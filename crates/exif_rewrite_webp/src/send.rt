@@ -4,7 +4,7 @@ ghost use Rattle.std.specs.Prelude.{◌≡◌, ◌+◌, ◌++◌, length, codes}
 ghost use Rattle.std.specs.List.{flat_map};
 ghost use Rattle.std.specs.Int.{to_le_bytes, w32};
 ghost use Rattle.exif_base.specs.Sent.{Sends};
-ghost use Rattle.exif_containers.specs.Removing.{payload_of};
+ghost use Rattle.exif_segments.specs.Removing.{payload_of};
 ghost use Rattle.exif_rewrite_webp.specs.RewrittenWebp.{is_put as is_there};
 ghost use Rattle.exif_rewrite_webp.specs.WebpChunks.{chunk_text, pad_of};
 ghost use Rattle.exif_rewrite_webp.specs.WebpPlans.{header_text, named_text, plan_view, settled_text};
@@ -13,7 +13,7 @@ use crate::canvas::new_flags;
 use crate::chunks::Chunk;
 use crate::plan::Plan;
 use exif_base::{Sink, send_all};
-use exif_containers::Remove;
+use exif_segments::Remove;
 use std::io;
 
 // Sends the name and the size of a chunk, which four bytes hold, as they hold that of the file.

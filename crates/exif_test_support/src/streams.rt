@@ -2,7 +2,8 @@
 
 use crate::devices::Slow;
 use exif::{Counted, Error, get_exif_attr_from_jpeg};
-use exif_containers::{isobmff, webp};
+use exif_containers::isobmff;
+use exif_segments::webp;
 use std::alloc::Global;
 use std::io::Read;
 

@@ -1,3 +1,4 @@
 pub mod IndexLemmas
 pub mod LawsLemmas
+pub mod Refusing
 pub mod ValueLemmas

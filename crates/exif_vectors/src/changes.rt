@@ -4,7 +4,7 @@ use crate::calls::{end_of, end_of_error, send};
 use exif::{Sink, Source};
 use exif_cases::{Call, Case, CaseError};
 use exif_change::{Assignment, ClockShift, Dates, Refusal, Removed, read, thumbnail};
-use exif_containers::util::read_all;
+use exif_segments::util::read_all;
 use std::alloc::{AllocError, Global};
 use std::fmt::Display;
 

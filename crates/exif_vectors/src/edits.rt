@@ -3,9 +3,9 @@
 use crate::calls::{OUT_OF_MEMORY, end_of, end_of_error, send};
 use exif::{Counted, Field, In, Seekable, Sink, Source, Tag};
 use exif_cases::{Call, Case, CaseError, Kind};
-use exif_containers::util::read_all;
 use exif_edit::{Edit, Error, Patch, apply, patches_of};
 use exif_edit_files::{apply_in_file, patches_in};
+use exif_segments::util::read_all;
 use std::alloc::Global;
 use std::fmt::Display;
 use std::io::Cursor;

@@ -5,10 +5,11 @@ use exif::{Error, Exif, Field, Reader, Sink, Source, parse_exif};
 use exif_base::{Blocks, Counted};
 use exif_cases::{Case, CaseError, Kind};
 use exif_containers::container::{Format, format_of};
-use exif_containers::util::read_all;
-use exif_containers::{exif_attr_of_stream, get_exif_attr_from_jpeg, isobmff, jpeg, webp};
+use exif_containers::{exif_attr_of_stream, isobmff};
 use exif_json::told_json;
 use exif_report::{report, report_limited};
+use exif_segments::util::read_all;
+use exif_segments::{get_exif_attr_from_jpeg, jpeg, webp};
 use std::alloc::{AllocError, Global};
 
 /// The end of a report, with the number of the faults that were skipped.

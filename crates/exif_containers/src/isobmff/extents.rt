@@ -6,14 +6,14 @@ ghost use Rattle.exif_base.specs.Told.{HasFewer, Skips};
 ghost use Rattle.exif_types.specs.Refusals.{Gives, IsInterrupted, is_io};
 ghost use Rattle.exif_isobmff.specs.ItemLocations.{item_bytes, location_view};
 ghost use Rattle.exif_isobmff.specs.HeifRefusals.{heif_refusals};
-ghost use Rattle.exif_containers.specs.Answer.{IsNamed};
+ghost use Rattle.exif_segments.specs.Answer.{IsNamed};
 ghost use Rattle.exif_containers.specs.GoingBack.{HasRead, IsReached};
 ghost use Rattle.exif_containers.specs.HeifSteps.{OffsetIsReached, one_part};
 
 use super::front::read_whole;
-use crate::util::{pass_over, read_rest, skip};
 use exif_base::Source;
 use exif_isobmff::{Location, MAX_EXIF_SIZE, extent_front, item_bytes};
+use exif_segments::util::{pass_over, read_rest, skip};
 use exif_types::Error;
 use std::alloc::Global;
 
@@ -58,7 +58,7 @@ fn part_of(alloc: Global, len: u64, bytes: &[u8]) -> Result<Vec<u8>, Error>
 
 // The bytes of an item of one extent, which begins at this location.
 //
-// An extent that is too long is passed over: only whether the file reaches its end counts.
+// An extent that is too long is skipped: only whether the file reaches its end counts.
 fn one_extent<R: Source>(
     alloc: Global,
     source: &mut R,

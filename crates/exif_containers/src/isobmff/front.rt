@@ -6,9 +6,9 @@ ghost use Rattle.exif_base.specs.Reads.{Counts};
 ghost use Rattle.exif_types.specs.Refusals.{IsInterrupted, is_io};
 ghost use Rattle.exif_containers.specs.HeifSteps.{GoesOn};
 
-use crate::util::read_at_most;
 use exif_base::Source;
 use exif_isobmff::{BoxSplitter, Kind};
+use exif_segments::util::read_at_most;
 use exif_types::Error;
 
 /// Reads so many bytes, or as far as they go, and answers whether all came.

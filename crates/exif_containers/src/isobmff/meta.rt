@@ -7,9 +7,9 @@ ghost use Rattle.exif_base.specs.Reads.{Counts};
 ghost use Rattle.exif_types.specs.Refusals.{IsInterrupted, is_io};
 ghost use Rattle.exif_containers.specs.GoingBack.{FindsMeta, PassesBody, TakesBody};
 
-use crate::util::{pass_over, read_at_most};
 use exif_base::{Source, read_front};
 use exif_isobmff::{Header, Kind, header_of, pass};
+use exif_segments::util::{pass_over, read_at_most};
 use exif_types::Error;
 use std::alloc::Global;
 use std::io;

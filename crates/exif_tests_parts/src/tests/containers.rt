@@ -1,8 +1,9 @@
 //! Sources that are not at their beginning, and what the containers leave in them.
 
 use exif_base::{Counted, Source, discard_exact};
-use exif_containers::util::read_all;
-use exif_containers::{get_exif_attr_from_jpeg, isobmff};
+use exif_containers::isobmff;
+use exif_segments::get_exif_attr_from_jpeg;
+use exif_segments::util::read_all;
 use std::test::Fail;
 
 /// Three bytes that are taken before, and a HEIF file whose item is in the file.

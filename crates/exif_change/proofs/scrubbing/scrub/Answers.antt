@@ -1,6 +1,6 @@
 use Rattle.std.proofs.Common.{rules, ◌≡◌, sym, subst}
 use Rattle.exif_containers.specs.Container.{format_in}
-use Rattle.exif_containers.specs.Removing.{payload_of}
+use Rattle.exif_segments.specs.Removing.{payload_of}
 use Rattle.exif_change.specs.Changes.{IsEmptied, IsScrubbed}
 use Rattle.exif_change.specs.declared.scrubbing.Removed.TheVariants as removed
 use Rattle.exif_change.proofs.scrubbing.scrub.Goals as goal

@@ -8,13 +8,13 @@ pub returns-in_err-payload-clause-gives : goal.returns-in_err-payload-clause-giv
 returns-in_err-payload-clause-gives g c =
     let p = err_from_is_err_and c.from_residual-in_err-payload.result c.from_residual-in_err-payload.ensures.1 in
     let head = c.in_ok-filled.ensures in
-    rw (p.1, p.2) (container_begins (Fails c.in_err-payload.field-0.0) c.in_ok-filled.filled c.read_head.new.block _ c.args.origin (g.R.Source.stream c.args.source.now) _ _ (g.R.Source.left c.read_head.new.source) _
+    rw (p.1, p.2) (container_begins (Fails c.in_err-payload.field-0.0) c.in_ok-filled.filled c.read_signature.new.block _ c.args.origin (g.R.Source.stream c.args.source.now) _ _ (g.R.Source.left c.read_signature.new.source) _
     head.taken head.bound head.most (search rules) head.end c.format_of-format.ensures (search rules) (search rules) c.in_err-payload.ensures.gives)
 
 pub returns-clause-gives : goal.returns-clause-gives
 returns-clause-gives g c =
     let head = c.in_ok-filled.ensures in
-    container_begins (λ t. t ≡ Ok c.in_ok-payload.payload.items) c.in_ok-filled.filled c.read_head.new.block _ c.args.origin (g.R.Source.stream c.args.source.now) _ _ (g.R.Source.left c.read_head.new.source) _
+    container_begins (λ t. t ≡ Ok c.in_ok-payload.payload.items) c.in_ok-filled.filled c.read_signature.new.block _ c.args.origin (g.R.Source.stream c.args.source.now) _ _ (g.R.Source.left c.read_signature.new.source) _
     head.taken head.bound head.most (search rules) head.end c.format_of-format.ensures (search rules) (search rules) c.in_ok-payload.ensures.gives
 
 pub returns-in_err-filled-clause-gives : goal.returns-in_err-filled-clause-gives

@@ -1,7 +1,7 @@
 use Rattle.std.proofs.Common.{sym, ◌∙◌}
 use Rattle.std.proofs.lemmas.Result.{err_from_is_err_and}
 use Rattle.exif_isobmff.specs.ItemLocations.{extent_at}
-use Rattle.exif_isobmff.proofs.Refusing.{refusal_fails}
+use Rattle.exif_types.proofs.Refusing.{refusal_fails}
 use Rattle.exif_isobmff.proofs.LocationsTimes.{times_failed, times_went_on, times_done}
 use Rattle.exif_isobmff.proofs.locations.extents.Goals as goal
 

@@ -3,7 +3,7 @@ use Rattle.std.proofs.lemmas.Result.{err_from_is_err_and}
 use Rattle.std.specs.Io.KnownBytes.{Appends}
 use Rattle.exif_base.specs.Sent.{SendsFront}
 use Rattle.exif_types.specs.Refusals.{refusal_of}
-use Rattle.exif_containers.specs.Removing.{payload_of}
+use Rattle.exif_segments.specs.Removing.{payload_of}
 use Rattle.exif_rewrite_jpeg.specs.Rewriting.{finished, refused_by}
 use Rattle.exif_rewrite.proofs.FileSteps.{file_chosen, file_holds}
 use Rattle.exif_rewrite.proofs.by_head.rewrite.Goals as goal

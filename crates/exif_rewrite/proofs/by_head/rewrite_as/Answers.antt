@@ -1,6 +1,6 @@
 use Rattle.std.proofs.Common.{arith, refl, rules}
 use Rattle.exif_containers.specs.Container.{unknown_format}
-use Rattle.exif_containers.specs.Removing.{payload_of}
+use Rattle.exif_segments.specs.Removing.{payload_of}
 use Rattle.exif_rewrite.specs.RewrittenFile.{heif_stays, tiff_stays}
 use Rattle.exif_rewrite.proofs.FileSteps.{heif_refused, jpeg_named, jpeg_sent, jpeg_stopped, refused_by_head, tiff_refused, unknown_refused, webp_named, webp_sent, webp_stopped}
 use Rattle.exif_rewrite.proofs.by_head.rewrite_as.Goals as goal

@@ -1,7 +1,7 @@
 use Rattle.std.proofs.Common.{◌≡◌, ◌+◌, ◌++◌, length, rules}
 use Rattle.std.specs.Int.{to_be_bytes, w16}
 use Rattle.exif_base.proofs.Sending.{sends_then, sends_stop, sends_failed}
-use Rattle.exif_containers.specs.JpegGrammar.{exif_id}
+use Rattle.exif_segments.specs.JpegGrammar.{exif_id}
 use Rattle.exif_rewrite_jpeg.proofs.segments.send_segment.Goals as goal
 
 pub returns-in_err-send_all : goal.returns-in_err-send_all

@@ -1,6 +1,6 @@
 use Rattle.std.proofs.Common.{refl, take}
 use Rattle.std.proofs.lemmas.Result.{err_from_is_err_and}
-use Rattle.exif_containers.specs.declared.jpeg.TheConstants.{LIMIT}
+use Rattle.exif_segments.specs.declared.jpeg.TheConstants.{LIMIT}
 use Rattle.exif_rewrite_jpeg.specs.JpegSteps.{end_of}
 use Rattle.exif_rewrite_jpeg.specs.RewrittenJpeg.{given_rewriting, waiting}
 use Rattle.exif_rewrite_jpeg.proofs.JpegEndings.{standing_stopped, waiting_stopped, flush_stopped, standing_sent}

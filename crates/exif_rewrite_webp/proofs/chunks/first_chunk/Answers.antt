@@ -1,14 +1,14 @@
 use Rattle.std.proofs.Common.{◌∙◌, sym, subst}
 use Rattle.exif_types.specs.Refusals.{Answers}
 use Rattle.exif_rewrite_webp.specs.WebpPlans.{front_view}
-use Rattle.exif_rewrite_webp.proofs.WebpSteps.{first_whole, room_less}
+use Rattle.exif_rewrite_webp.proofs.WebpSteps.{first_whole, space_less}
 use Rattle.exif_rewrite_webp.proofs.chunks.first_chunk.Goals as goal
 
 pub returns-clause-front : goal.returns-clause-front
 returns-clause-front c =
-    let whole = first_whole c.args.room c.args.bytes.now c.if-room-lt8.false c.if-bytes-lt8.false in
+    let whole = first_whole c.args.space c.args.bytes.now c.if-space-lt8.false c.if-bytes-lt8.false in
     let front = rw (c.from.ensures ∙ c.loadu32-size.ensures) at c.chunk_of.ensures.front in
     subst (λ answer. Answers front_view c.chunk_of.result answer) (sym whole) front
 
-pub returns-clause-room : goal.returns-clause-room
-returns-clause-room c = room_less c.chunk_of.result c.args.room c.if-room-lt8.false c.chunk_of.ensures.room
+pub returns-clause-space : goal.returns-clause-space
+returns-clause-space c = space_less c.chunk_of.result c.args.space c.if-space-lt8.false c.chunk_of.ensures.space

@@ -7,8 +7,8 @@ use Rattle.exif_rewrite_webp.proofs.chunks.keep_chunks.Goals as goal
 pub returns-in_err-front-clause-gives : goal.returns-in_err-front-clause-gives
 returns-in_err-front-clause-gives c =
     let p = err_from_is_err_and c.from_residual.result c.from_residual.ensures.1 in
-    rw (p.1, p.2) (front_fails _ c.args.remove c.args.room c.loop-left.left c.args.bytes.now c.loop-left.rest.now (map chunk_view c.loop-left.chunks.items) (search rules) c.loop-left.invariant c.in_err-front.ensures.front)
+    rw (p.1, p.2) (front_fails _ c.args.remove c.args.space c.loop-left.left c.args.bytes.now c.loop-left.rest.now (map chunk_view c.loop-left.chunks.items) (search rules) c.loop-left.invariant c.in_err-front.ensures.front)
 
 pub loop-left-preserved : goal.loop-left-preserved
 loop-left-preserved c =
-    kept_more c.args.remove c.args.room c.loop-left.left c.args.bytes.now c.loop-left.rest.now (map chunk_view c.loop-left.chunks.items) _ (front_view c.in_ok-front.front) (search rules) c.in_ok-front.ensures.front c.in_ok-keep.ensures c.loop-left.invariant
+    kept_more c.args.remove c.args.space c.loop-left.left c.args.bytes.now c.loop-left.rest.now (map chunk_view c.loop-left.chunks.items) _ (front_view c.in_ok-front.front) (search rules) c.in_ok-front.ensures.front c.in_ok-keep.ensures c.loop-left.invariant

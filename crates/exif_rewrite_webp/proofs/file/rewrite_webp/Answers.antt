@@ -2,7 +2,7 @@ use Rattle.std.proofs.Common.{false, true, refl, sym, ◌∙◌}
 use Rattle.std.proofs.lemmas.Result.{err_from_is_err_and}
 use Rattle.std.proofs.Math.Bool.{or-false}
 use Rattle.exif_base.proofs.Sent.{front_all, keeps_same}
-use Rattle.exif_containers.specs.Removing.{payload_of}
+use Rattle.exif_segments.specs.Removing.{payload_of}
 use Rattle.exif_rewrite_webp.specs.RewrittenWebp.{webp_rewriting}
 use Rattle.exif_rewrite_webp.specs.WebpPlans.{plan_view}
 use Rattle.exif_rewrite_webp.proofs.WebpSteps.{interrupted_stops, interrupted_named, plan_stops, fails_named, send_stops, file_sent}

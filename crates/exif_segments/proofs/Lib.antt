@@ -1,0 +1,9 @@
+pub mod Interruptions
+pub mod JpegMoves
+pub mod JpegUnits
+pub mod LawsJpeg
+pub mod LawsWebp
+pub mod LimitedMoves
+pub mod RemovingLemmas
+pub mod Splicing
+pub mod WebpChunks
