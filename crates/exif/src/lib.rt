@@ -21,7 +21,7 @@
 //! Ok(image.into_inner())
 //! ```
 //!
-//! Edits in place stand in `exif_edit` and `exif_edit_files`, files written again in `exif_rewrite`,
+//! Edits in place are in `exif_edit` and `exif_edit_files`, files written again in `exif_rewrite`,
 //! reports in `exif_report`, JSON in `exif_json`.
 #![tactic(auto)]
 
@@ -29,9 +29,10 @@ pub mod experimental;
 pub mod laws;
 
 pub use exif_base::{Counted, Items, ReadFault, ReadSeek, Seekable, Sink, Source};
-pub use exif_containers::get_exif_attr_from_jpeg;
+pub use exif_containers::container::Format;
 pub use exif_datetime::DateTime;
-pub use exif_reader::{Reader, parse_exif};
+pub use exif_reader::{Reader, Sniffed, parse_exif};
+pub use exif_segments::get_exif_attr_from_jpeg;
 pub use exif_types::{
     Context, Decimal, Display, DisplayValue, DisplayValueUnit, Error, Exif, Field, FieldType,
     Fields, In, PartialResult, ProvideUnit, Rational, SRational, Tag, UIntIter, UIntValue, Value,

@@ -1,13 +1,13 @@
 -- Data of which no more than a front is read.
-use Rattle.std.proofs.Common.{◌≡◌, ◌≤◌, ◌<◌, ◌+◌, ◌^◌, ◌++◌, ⊎_elim, ℕ, zero, suc, Bool, true, false, List, [], ◌∷◌, length, take, Option, Some, None, Result, Ok, Err, inr, refl, sym, ap, subst, ◌∙◌, arith}
+use Rattle.std.proofs.Common.{◌≡◌, ◌≤◌, ◌<◌, ◌+◌, ◌^◌, ◌++◌, ⊎_elim, ℕ, zero, suc, Bool, true, false, List, [], ◌∷◌, length, take, min, Option, Some, None, Result, Ok, Err, inr, refl, sym, ap, subst, ◌∙◌, arith}
 use Rattle.std.proofs.lemmas.Bool.{cases_lt}
 use Rattle.std.proofs.lemmas.Bool.Decides.{Decides-or}
-use Rattle.std.proofs.lemmas.List.{append-nil, length-append, length-take, take-append-le}
+use Rattle.std.proofs.lemmas.List.{append-nil, length-append, length-take, length-take-le, take-append-le}
 use Rattle.std.proofs.lemmas.Slice.Eq.{bytes_eq-Decides}
 use Rattle.std.specs.Prelude.{IfSome, codes, ◌||◌}
 use Rattle.std.specs.Str.{bytes_eq}
 use Rattle.std.specs.Borrow.{Bor}
-use Rattle.std.specs.Io.KnownBytes.{Consumes, Keeps, prepend_known}
+use Rattle.std.specs.Io.KnownBytes.{Consumes, IsAtEnd, Keeps}
 use Rattle.exif_base.specs.Orders.{order_named}
 use Rattle.exif_base.specs.Told.{TakesAll, left_behind}
 use Rattle.exif_types.specs.Contents.{ExifContents}
@@ -20,10 +20,12 @@ use Rattle.exif_tiff.specs.Answers.{Answer, Refused, Whole, raw_answer}
 use Rattle.exif_tiff.specs.Faults.{text_of}
 use Rattle.exif_tiff.specs.Fronts.{FrontHasHeader, FrontSaysAll, TooLargeIsRefused}
 use Rattle.exif_tiff.specs.Trace.{header}
-use Rattle.exif_containers.specs.Container.{TiffIsWhole, begins_tiff, container_answer}
+use Rattle.exif_containers.specs.Container.{answer_as, format_in}
+use Rattle.exif_containers.specs.declared.container.Format.{Format}
+use Rattle.exif_containers.specs.declared.container.Format.TheVariants.{Tiff}
 use Rattle.exif_containers.specs.GoingBack.{BeginsAt}
 use Rattle.exif_containers.proofs.IsobmffFile.{along}
-use Rattle.exif_containers.proofs.ContainerSteps.{begins_there}
+use Rattle.exif_containers.proofs.ContainerSteps.{head-first}
 use Rattle.exif_reader.specs.Files.{AnswersOwnData, ReadsByNeed, ReadsContainer}
 use Rattle.exif_reader.specs.Readings.{HoldsData, HoldsFront, ReadsAs, ReadsHeld}
 
@@ -34,25 +36,6 @@ pub told_rest : (left : Option (List ℕ)) (old new : List ℕ) (P : List ℕ �
     → TakesAll left old new → P new → IfSome left (λ rest. P (old ++ rest))
 told_rest None old new P h k = tt
 told_rest (Some xs) old new P h k = subst P h k
-
--- bytes whose front begins TIFF data begin them
-long_by : (front text : List ℕ) → length text ≡ 4 → take 4 front ≡ text → 4 ≤ length front
-long_by front text four e =
-    let len = length-take 4 front in
-    let same = ap length e in
-    grind arith
-
--- a front that begins TIFF data begins them whatever bytes follow it
-pub begins_more : (front rest : List ℕ) → begins_tiff front ≡ true
-    → begins_tiff (front ++ rest) ≡ true
-begins_more front rest h =
-    let big : List ℕ = codes "MM\0*" in
-    let little : List ℕ = codes "II*\0" in
-    let either = Decides-or (bytes_eq (take 4 front) big) (bytes_eq (take 4 front) little)
-    (bytes_eq-Decides (take 4 front) big) (bytes_eq-Decides (take 4 front) little) in
-    let long : 4 ≤ length front =
-    ⊎_elim (long_by front big refl) (long_by front little refl) (either.0 h) in
-    ap (λ t. bytes_eq t big || bytes_eq t little) (take-append-le 4 front rest long) ∙ h
 
 -- ---- what was read of all
 
@@ -92,19 +75,6 @@ container_all answer (Ok bytes) (Err (error.UnexpectedValue text)) h = h
 container_all answer (Err r) (Ok exif) h = h
 container_all answer (Err r) (Err e) h = h
 
--- what is read of a container by a front at hand and what follows it
-pub told_container : (answer : List ℕ → Answer) (old new left : Option (List ℕ)) (front : List ℕ)
-    (result : Result ExifContents Failure) → Consumes old new front → left ≡ prepend_known front new
-    → IfSome left (λ bytes. ReadsContainer answer (container_answer bytes) result)
-    → IfSome old (λ bytes. ReadsByNeed answer (container_answer bytes) result)
-told_container answer None new left front result h e k = tt
-told_container answer (Some xs) None left front result h e k = absurd h
-told_container answer (Some xs) (Some ys) left front result h e k =
-    let P : List ℕ → Type 0 = λ bytes. ReadsByNeed answer (container_answer bytes) result in
-    let R : Option (List ℕ) → Type 0 =
-    λ l. IfSome l (λ bytes. ReadsContainer answer (container_answer bytes) result) in
-    subst P (sym h) (container_all answer (container_answer (front ++ ys)) result (subst R e k))
-
 -- what holds where a source says its offset holds before
 pub kept_some : (a b : Option (List ℕ)) (P : List ℕ → Type 0) → Keeps a b → IfSome b P → IfSome a P
 kept_some None b P h k = tt
@@ -116,31 +86,42 @@ pub begins_found : (origin : Option ℕ) (stream left : Option (List ℕ)) → I
 begins_found None stream left h = tt
 begins_found (Some at) stream left h = h
 
--- what is read of a container by a front at hand and what follows it, where the source may go back
-pub told_container_from : (answer : List ℕ → Answer) (origin : Option ℕ) (stream after first old new left : Option (List ℕ)) (front : List ℕ)
-    (result : Result ExifContents Failure) → Keeps first old → IfSome origin (λ at. old ≡ left_behind (Some at) stream) → Consumes old new front → left ≡ prepend_known front new → after ≡ stream
-    → IfSome left (λ bytes. BeginsAt origin after left → ReadsContainer answer (container_answer bytes) result)
-    → IfSome first (λ bytes. ReadsByNeed answer (container_answer bytes) result)
-told_container_from answer origin stream after first None new left front result h b t e s k = kept_some first None _ h tt
-told_container_from answer origin stream after first (Some xs) new left front result h b t e s k =
-    let begins : BeginsAt origin after left = begins_there origin stream after left new xs front t e s (begins_found origin stream (Some xs) b) in
-    kept_some first (Some xs) _ h (told_container answer (Some xs) new left front result t e (along left _ _ (λ bytes f. f begins) k))
+-- what holds of a source that begins where it says held before it was asked
+pub begun : (origin : Option ℕ) (stream first old : Option (List ℕ)) (P : List ℕ → Type 0) → Keeps first old
+    → IfSome origin (λ at. old ≡ left_behind (Some at) stream)
+    → IfSome old (λ bytes. BeginsAt origin stream old → P bytes) → IfSome first P
+begun origin stream first old P h b k =
+    kept_some first old P h (along old _ _ (λ bytes f. f (begins_found origin stream old b)) k)
 
--- and of TIFF data
-pub told_tiff : (answer : List ℕ → Answer) (old new left : Option (List ℕ)) (front : List ℕ)
-    (result : Result ExifContents Failure) → Consumes old new front → left ≡ prepend_known front new
-    → begins_tiff front ≡ true → ((bytes : List ℕ) → TiffIsWhole bytes)
+-- the container of a stream is that of its signature
+pub sniffed_format : (n : ℕ) (block : List ℕ) (format : Option Format) (a b : Option (List ℕ))
+    → Consumes a b (take n block) → n ≤ length block → n ≤ 4096 → 4096 ≤ length block
+    → (n < min 4096 (length block) → IsAtEnd b) → format ≡ format_in (take n block)
+    → IfSome a (λ bytes. format ≡ format_in (take 4096 bytes))
+sniffed_format n block format None b h bound most room end f = tt
+sniffed_format n block format (Some xs) None h bound most room end f = absurd h
+sniffed_format n block format (Some xs) (Some ys) h bound most room end f =
+    let len : length (take n block) ≡ n = length-take-le n block bound in
+    rw (h, head-first (take n block) ys (omega arith) (λ lt. end (omega arith))) f
+
+-- TIFF data are their own container
+pub tiff_by_need : (answer : List ℕ → Answer) (format : Option Format) (left : Option (List ℕ))
+    (result : Result ExifContents Failure) (Q : Type 0) → format ≡ Some Tiff
     → IfSome left (λ bytes. ReadsHeld HoldsFront IsInterrupted (answer bytes) bytes result)
-    → IfSome old (λ bytes. ReadsByNeed answer (container_answer bytes) result)
-told_tiff answer None new left front result h e begins whole k = tt
-told_tiff answer (Some xs) None left front result h e begins whole k = absurd h
-told_tiff answer (Some xs) (Some ys) left front result h e begins whole k =
-    let P : List ℕ → Type 0 = λ bytes. ReadsByNeed answer (container_answer bytes) result in
-    let Q : Result (List ℕ) Refusal → Type 0 = λ container. ReadsByNeed answer container result in
-    let R : Option (List ℕ) → Type 0 =
-    λ l. IfSome l (λ bytes. ReadsHeld HoldsFront IsInterrupted (answer bytes) bytes result) in
-    let alone = whole (front ++ ys) (begins_more front ys begins) in
-    subst P (sym h) (subst Q (sym alone) (subst R e k))
+    → IfSome left (λ bytes. Q → ReadsByNeed answer (answer_as format bytes) result)
+unfolding answer_as
+tiff_by_need answer format None result Q e h = tt
+tiff_by_need answer format (Some bytes) result Q e h = λ q.
+    let P : Option Format → Type 0 = λ f. ReadsByNeed answer (answer_as f bytes) result in
+    subst P (sym e) h
+
+-- what is read of all the data is read by need
+pub whole_by_need : (answer : List ℕ → Answer) (given : List ℕ → Result (List ℕ) Refusal)
+    (left : Option (List ℕ)) (result : Result ExifContents Failure) (Q : Type 0)
+    → IfSome left (λ bytes. Q → ReadsContainer answer (given bytes) result)
+    → IfSome left (λ bytes. Q → ReadsByNeed answer (given bytes) result)
+whole_by_need answer given None result Q h = tt
+whole_by_need answer given (Some bytes) result Q h = λ q. container_all answer (given bytes) result (h q)
 
 -- ---- what was read of a front that says all
 

@@ -37,20 +37,13 @@ interrupted answer bytes (Err (error.TooBig text)) h = h
 interrupted answer bytes (Err (error.NotSupported text)) h = h
 interrupted answer bytes (Err (error.UnexpectedValue text)) h = h
 
--- what the data of a container are read as, is read of the container
-pub container_reads : (answer : List ℕ → Answer) (left : Option (List ℕ)) (bytes : List ℕ)
-    (result : Result ExifContents Failure) → IfSome left (λ file. container_answer file ≡ Ok bytes)
+-- what the data that a stream gives are read as, is read of the stream; it may have to begin where its
+-- source says
+pub given_reads : (answer : List ℕ → Answer) (given : List ℕ → Result (List ℕ) Refusal) (left : Option (List ℕ))
+    (bytes : List ℕ) (result : Result ExifContents Failure) (Q : Type 0) → IfSome left (λ file. Q → given file ≡ Ok bytes)
     → ReadsAs (answer bytes) bytes result
-    → IfSome left (λ file. ReadsContainer answer (container_answer file) result)
-container_reads answer None bytes result h k = tt
-container_reads answer (Some file) bytes result h k =
+    → IfSome left (λ file. Q → ReadsContainer answer (given file) result)
+given_reads answer given None bytes result Q h k = tt
+given_reads answer given (Some file) bytes result Q h k = λ q.
     let P : Result (List ℕ) Refusal → Type 0 = λ container. ReadsContainer answer container result in
-    subst P (sym h) (interrupted (answer bytes) bytes result k)
-
--- the same where the source may go back
-pub container_reads_from : (answer : List ℕ → Answer) (left : Option (List ℕ)) (bytes : List ℕ)
-    (result : Result ExifContents Failure) (Q : Type 0) → IfSome left (λ file. Q → container_answer file ≡ Ok bytes)
-    → ReadsAs (answer bytes) bytes result
-    → IfSome left (λ file. Q → ReadsContainer answer (container_answer file) result)
-container_reads_from answer None bytes result Q h k = tt
-container_reads_from answer (Some file) bytes result Q h k = λ q. container_reads answer (Some file) bytes result (h q) k
+    subst P (sym (h q)) (interrupted (answer bytes) bytes result k)

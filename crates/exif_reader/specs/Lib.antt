@@ -4,5 +4,6 @@ pub mod Noted
 pub mod Readings
 pub mod Results
 pub mod Running
+pub mod Sniffing
 pub mod StopErrors
 pub mod Stops

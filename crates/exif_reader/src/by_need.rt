@@ -11,7 +11,7 @@ ghost use Rattle.exif_tiff.specs.Trace.{header};
 use crate::stop::Stop;
 use crate::tiff::{Parsed, header, parse};
 use exif_base::{BigEndian, Endian, LittleEndian, Order, Source};
-use exif_containers::util::pass_over;
+use exif_segments::util::pass_over;
 use exif_tiff::laws::answers_show_what_was_read;
 use exif_types::Error;
 use std::alloc::Global;

@@ -1,6 +1,6 @@
 //! Readers of Exif metadata.
 
-ghost use Rattle.std.specs.Prelude.{◌≡◌, ◌≤◌, ◌++◌, ◌^◌, length, All, map, IfOk, IfSome, None, Some, Ok, false};
+ghost use Rattle.std.specs.Prelude.{◌≡◌, ◌≤◌, ◌++◌, ◌^◌, length, take, All, map, IfOk, IfErr, IfSome, None, Some, Ok, false};
 ghost use Rattle.exif_base.specs.Orders.{order_named};
 ghost use Rattle.exif_base.specs.Reads.{Counts};
 ghost use Rattle.exif_types.specs.Failures.{told_text, bytes_of, IsInvalidFormat};
@@ -8,28 +8,25 @@ ghost use Rattle.exif_types.specs.Refusals.{IsInterrupted, is_io};
 ghost use Rattle.exif_tiff.specs.Faults.{text_of};
 ghost use Rattle.exif_tiff.specs.Answers.{Whole, raw_answer};
 ghost use Rattle.exif_tiff.specs.Trace.{header};
-ghost use Rattle.exif_containers.specs.Container.{container_answer};
+ghost use Rattle.exif_containers.specs.Container.{answer_as, container_answer, format_in};
 ghost use Rattle.exif_containers.specs.GoingBack.{BeginsAt};
 ghost use Rattle.exif_reader.specs.Bounds.{ReportsAtMost};
 ghost use Rattle.exif_reader.specs.Files.{AnswersOwnData, ReadsByNeed, ReadsContainer};
+ghost use Rattle.exif_reader.specs.Sniffing.{has_io};
 ghost use Rattle.exif_reader.specs.Readings.{HoldsFront, ReadsAs, ReadsHeld};
 
 use crate::by_need::{FRONT, parse_front, pass_rest};
 use crate::bytes::show_bytes;
 use crate::tiff::{self, Parsed};
-use exif_base::{Blocks, Source, read_front};
-use exif_containers::container::is_tiff;
-use exif_containers::exif_attr_from;
-use exif_containers::laws::tiff_data_stand_alone;
-use exif_containers::util::{read_at_most, read_rest};
+use exif_base::{Blocks, Source};
+use exif_containers::container::{BLOCK, Format, SNIFF_LEN, format_of, read_signature};
+use exif_containers::{exif_attr_as, exif_attr_from};
+use exif_segments::util::{read_at_most, read_rest};
 use exif_tiff::Fault;
 use exif_tiff::laws::{a_front_may_say_all, answers_show_what_was_read, reading_is_bounded};
 use exif_types::{Error, Exif, exif_from_parts, partial_from_parts};
 use std::alloc::{AllocError, Global};
 use std::marker::Model;
-
-// How many bytes say whether TIFF data begin with them.
-const HEAD: usize = 4;
 
 /// A reader of Exif metadata: how it takes faults, and how many entries it visits at most. It holds
 /// nothing of a file, so one reader serves for many.
@@ -43,6 +40,15 @@ const HEAD: usize = 4;
 pub struct Reader {
     lenient: bool,
     limit: Option<u64>,
+}
+
+/// What a stream begins as, and what reading it answers.
+#[derive(Drop)]
+pub struct Sniffed {
+    /// The container that the first 4096 bytes begin, if they begin one.
+    pub format: Option<Format>,
+    /// What was read, or why nothing was.
+    pub answer: Result<Exif, Error>,
 }
 
 impl Model for Reader {
@@ -197,17 +203,104 @@ impl Reader {
         ensures bounded { ReportsAtMost self.now.limit result }
         ensures counts { Counts R.Source source.old source.new (is_io result) }
     {
+        let sniffed = self.read_with_format(alloc, source)?;
+        sniffed.answer
+    }
+
+    /// Reads as [`read_by_need`](Reader::read_by_need) does, and answers the container too, whatever
+    /// the reading says of it. The error is one of the source before the first 4096 bytes are read.
+    pub fn read_with_format<R: Source>(
+        &self,
+        alloc: Global,
+        source: &mut R,
+    ) -> Result<Sniffed, Error>
+        ensures format { IfOk result (λ s. IfSome (R.left source.old)
+            (λ bytes. s.format ≡ format_in (take SNIFF_LEN bytes))) }
+        ensures reads { IfOk result (λ s. IfSome (R.left source.old)
+            (λ bytes. ReadsByNeed (raw_answer self.now.lenient self.now.limit)
+            (container_answer bytes) s.answer)) }
+        ensures own { IfOk result
+            (λ s. AnswersOwnData (raw_answer self.now.lenient self.now.limit) s.answer) }
+        ensures bounded { IfOk result (λ s. ReportsAtMost self.now.limit s.answer) }
+        ensures interrupted { IfErr result IsInterrupted }
+        ensures counts { Counts R.Source source.old source.new (has_io result) }
+    {
         let origin = source.offset();
-        let mut block = [0u8; HEAD];
-        let filled = read_front(source, &mut block)?;
-        let begins_tiff = is_tiff(&block[..filled]);
-        tiff_data_stand_alone();
-        let mut blocks = Blocks::new(&mut block, filled, source);
-        if begins_tiff {
-            let exif = self.read_tiff(alloc, &mut blocks)?;
-            return Ok(exif);
+        if source.is_at_hand() {
+            return self.read_through(alloc, source, origin, &mut [0; SNIFF_LEN]);
         }
-        let exif = self.read_from(alloc, &mut blocks, origin)?;
+        self.read_through(alloc, source, origin, &mut [0; BLOCK])
+    }
+
+    // The same through this block, where the first byte is at this offset of a source that goes
+    // back. With none, the source does not go back.
+    fn read_through<R: Source>(
+        &self,
+        alloc: Global,
+        source: &mut R,
+        origin: Option<u64>,
+        block: &mut [u8],
+    ) -> Result<Sniffed, Error>
+        requires { SNIFF_LEN ≤ length block.now }
+        ensures format { IfOk result (λ s. IfSome (R.left source.old)
+            (λ bytes. s.format ≡ format_in (take SNIFF_LEN bytes))) }
+        ensures reads { IfOk result (λ s. IfSome (R.left source.old) (λ bytes.
+            BeginsAt origin (R.stream source.old) (R.left source.old)
+            → ReadsByNeed (raw_answer self.now.lenient self.now.limit)
+            (container_answer bytes) s.answer)) }
+        ensures own { IfOk result
+            (λ s. AnswersOwnData (raw_answer self.now.lenient self.now.limit) s.answer) }
+        ensures bounded { IfOk result (λ s. ReportsAtMost self.now.limit s.answer) }
+        ensures interrupted { IfErr result IsInterrupted }
+        ensures counts { Counts R.Source source.old source.new (has_io result) }
+    {
+        let filled = read_signature(source, block)?;
+        let format = format_of(&block[..filled]);
+        let mut blocks = Blocks::new(block, filled, source);
+        let answer = self.read_as(alloc, format, &mut blocks, origin);
+        Ok(Sniffed { format, answer })
+    }
+
+    // What is read of a stream whose signature is that of a container.
+    fn read_as<R: Source>(
+        &self,
+        alloc: Global,
+        format: Option<Format>,
+        source: &mut R,
+        origin: Option<u64>,
+    ) -> Result<Exif, Error>
+        ensures reads { IfSome (R.left source.old) (λ bytes.
+            BeginsAt origin (R.stream source.old) (R.left source.old)
+            → ReadsByNeed (raw_answer self.now.lenient self.now.limit)
+            (answer_as format bytes) result) }
+        ensures own { AnswersOwnData (raw_answer self.now.lenient self.now.limit) result }
+        ensures bounded { ReportsAtMost self.now.limit result }
+        ensures counts { Counts R.Source source.old source.new (is_io result) }
+    {
+        match format {
+            Some(Format::Tiff) => self.read_tiff(alloc, source),
+            _ => self.read_whole(alloc, format, source, origin),
+        }
+    }
+
+    // The same of all the data.
+    fn read_whole<R: Source>(
+        &self,
+        alloc: Global,
+        format: Option<Format>,
+        source: &mut R,
+        origin: Option<u64>,
+    ) -> Result<Exif, Error>
+        ensures reads { IfSome (R.left source.old) (λ bytes.
+            BeginsAt origin (R.stream source.old) (R.left source.old)
+            → ReadsContainer (raw_answer self.now.lenient self.now.limit)
+            (answer_as format bytes) result) }
+        ensures own { AnswersOwnData (raw_answer self.now.lenient self.now.limit) result }
+        ensures bounded { ReportsAtMost self.now.limit result }
+        ensures counts { Counts R.Source source.old source.new (is_io result) }
+    {
+        let bytes = exif_attr_as(alloc, format, source, origin)?;
+        let exif = self.read_raw(alloc, bytes)?;
         Ok(exif)
     }
 

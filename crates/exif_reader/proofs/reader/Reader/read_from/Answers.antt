@@ -1,13 +1,14 @@
 use Rattle.std.proofs.Common.{Ok, Err}
 use Rattle.std.proofs.lemmas.Result.{err_from_is_err_and}
 use Rattle.exif_tiff.specs.Answers.{raw_answer}
-use Rattle.exif_reader.proofs.ReaderOwnData.{answers_own_data, container_reads_from}
+use Rattle.exif_containers.specs.Container.{container_answer}
+use Rattle.exif_reader.proofs.ReaderOwnData.{answers_own_data, given_reads}
 use Rattle.exif_reader.proofs.reader.Reader.read_from.Goals as goal
 
 pub returns-in_err-exif-clause-reads : goal.returns-in_err-exif-clause-reads
 returns-in_err-exif-clause-reads g c =
     let p = err_from_is_err_and c.from_residual-in_err-exif.result c.from_residual-in_err-exif.ensures.1 in
-    rw (p.1, p.2) (container_reads_from (raw_answer c.args.self.now.lenient c.args.self.now.limit)
+    rw (p.1, p.2) (given_reads (raw_answer c.args.self.now.lenient c.args.self.now.limit) container_answer
     (g.R.Source.left c.args.source.now) c.in_ok-bytes.bytes.items (Err c.in_err-exif.field-0.0) _
     c.in_ok-bytes.ensures.gives c.in_err-exif.ensures.reads)
 
@@ -24,7 +25,7 @@ returns-in_err-exif-clause-bounded g c =
 
 pub returns-clause-reads : goal.returns-clause-reads
 returns-clause-reads g c =
-    container_reads_from (raw_answer c.args.self.now.lenient c.args.self.now.limit)
+    given_reads (raw_answer c.args.self.now.lenient c.args.self.now.limit) container_answer
     (g.R.Source.left c.args.source.now) c.in_ok-bytes.bytes.items (Ok c.in_ok-exif.exif) _
     c.in_ok-bytes.ensures.gives c.in_ok-exif.ensures.reads
 
