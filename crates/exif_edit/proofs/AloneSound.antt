@@ -33,9 +33,10 @@ use Rattle.exif_edit_base.proofs.CauseSteps.{passed}
 use Rattle.exif_edit_base.proofs.FindSteps.{header_named}
 use Rattle.exif_edit.specs.Changing.{ChangeEntry, ChangeOffsets, changes, covers}
 use Rattle.exif_edit.specs.Erasing.{erase_patches, gps_spans, is_gps}
-use Rattle.exif_edit.specs.GpsAlone.{all_kept, gps_stands_alone}
-use Rattle.exif_edit.specs.Setting.{answer_in, checked_patches, entry_text, names_offsets, room_of, room_text, set_patches, value_answer, value_patches, value_room}
-use Rattle.exif_edit.specs.Sharing.{all_beside, beside, changed_entry, fit_answer, meets, names_child, stands_alone, standing_at}
+use Rattle.exif_edit.specs.GpsAlone.{all_kept, gps_is_unshared}
+use Rattle.exif_edit_base.specs.Spans.{space_of, value_space}
+use Rattle.exif_edit.specs.Setting.{answer_in, checked_patches, entry_bytes, names_offsets, space_bytes, set_patches, value_answer, value_patches}
+use Rattle.exif_edit.specs.Sharing.{all_beside, beside, changed_entry, fit_answer, overlaps, names_child, is_unshared, standing_at}
 use Rattle.exif_edit.proofs.AloneSteps.{any_flat, any_kept, any_same}
 use Rattle.exif_edit.proofs.GpsUnshared.{gps_unshared}
 use Rattle.exif_edit.proofs.SetSound.{Fits, edit_fits_in, value_lengths, was_found}
@@ -51,73 +52,73 @@ or_turned true false = refl
 or_turned false true = refl
 or_turned false false = refl
 
-abbrev room_by : ℕ → ℕ → Bool → Span
-room_by offset size b =
+abbrev space_by : ℕ → ℕ → Bool → Span
+space_by offset size b =
     if b then record { offset = 0; len = 0 } else record { offset = offset; len = size }
 
--- a room of no bytes is nowhere, and meets nothing
-no_room : (offset size : ℕ) (t : Stretch) → ((room_of offset size).len == 0) ≡ true
-    → meets (room_of offset size) t ≡ false
-no_room offset size t h = by_test (nat_le size 4) refl h
+-- a space of no bytes is nowhere, and overlaps nothing
+no_space : (offset size : ℕ) (t : Stretch) → ((space_of offset size).len == 0) ≡ true
+    → overlaps (space_of offset size) t ≡ false
+no_space offset size t h = by_test (nat_le size 4) refl h
   where
-    by_test : (b : Bool) → nat_le size 4 ≡ b → ((room_by offset size b).len == 0) ≡ true
-        → meets (room_by offset size b) t ≡ false
+    by_test : (b : Bool) → nat_le size 4 ≡ b → ((space_by offset size b).len == 0) ≡ true
+        → overlaps (space_by offset size b) t ≡ false
     by_test true e h = let z : nat_lt t.offset 0 ≡ false = grind (arith, nat_tests) in rw z refl
     by_test false e h = absurd (grind (arith, nat_tests))
 
 module _ (order : Order) (value : Value) (e : ℕ) (bytes : List ℕ) (ps : List Patch)
     (f : Fits order value e bytes ps) (t : Stretch) where
-  abbrev room : Span
-  room = value_room (number_of order) bytes e
+  abbrev space : Span
+  space = value_space (number_of order) bytes e
 
-  abbrev text : List ℕ
-  text = encode order value
+  abbrev encoded : List ℕ
+  encoded = encode order value
 
   abbrev entry : Patch
-  entry = record { offset = e + 2; bytes = entry_text order value room.offset text }
+  entry = record { offset = e + 2; bytes = entry_bytes order value space.offset encoded }
 
   abbrev filled : Patch
-  filled = record { offset = room.offset; bytes = room_text room.len text }
+  filled = record { offset = space.offset; bytes = space_bytes space.len encoded }
 
-  entry_covers : covers t entry ≡ meets (changed_entry e) t
+  entry_covers : covers t entry ≡ overlaps (changed_entry e) t
   entry_covers =
-      ap (λ n. meets (record { offset = e + 2; len = n }) t) (value_lengths order value room f.text).1
+      ap (λ n. overlaps (record { offset = e + 2; len = n }) t) (value_lengths order value space f.encoded).1
 
-  room_covers : covers t filled ≡ meets room t
-  room_covers =
-      ap (λ n. meets (record { offset = room.offset; len = n }) t)
-      (value_lengths order value room f.text).0
+  space_covers : covers t filled ≡ overlaps space t
+  space_covers =
+      ap (λ n. overlaps (record { offset = space.offset; len = n }) t)
+      (value_lengths order value space f.encoded).0
 
-  by_test : (b : Bool) → (room.len == 0) ≡ b
+  by_test : (b : Bool) → (space.len == 0) ≡ b
       → changes ((if b then [] else filled ∷ []) ++ entry ∷ []) t
-      ≡ (meets (changed_entry e) t || meets room t)
+      ≡ (overlaps (changed_entry e) t || overlaps space t)
   by_test true h =
-      let none : meets room t ≡ false =
-      no_room (number_at (number_of order) 4 bytes (e + 8))
+      let none : overlaps space t ≡ false =
+      no_space (number_at (number_of order) 4 bytes (e + 8))
       (known_length (type_of (number_at (number_of order) 2 bytes (e + 2)))
       * number_at (number_of order) 4 bytes (e + 4)) t h in
-      ap (λ b. b || false) entry_covers ∙ ap (λ b. meets (changed_entry e) t || b) (sym none)
+      ap (λ b. b || false) entry_covers ∙ ap (λ b. overlaps (changed_entry e) t || b) (sym none)
   by_test false h =
-      ap (λ b. b || (covers t entry || false)) room_covers
-      ∙ (ap (λ b. meets room t || b) (or-false (covers t entry) ∙ entry_covers)
-      ∙ or_turned (meets room t) (meets (changed_entry e) t))
+      ap (λ b. b || (covers t entry || false)) space_covers
+      ∙ (ap (λ b. overlaps space t || b) (or-false (covers t entry) ∙ entry_covers)
+      ∙ or_turned (overlaps space t) (overlaps (changed_entry e) t))
 
-  value_changed : changes ps t ≡ (meets (changed_entry e) t || meets room t)
-  value_changed = ap (λ qs. changes qs t) f.is ∙ by_test (room.len == 0) refl
+  value_changed : changes ps t ≡ (overlaps (changed_entry e) t || overlaps space t)
+  value_changed = ap (λ qs. changes qs t) f.is ∙ by_test (space.len == 0) refl
 
--- the patches of a value change its entry and its room
+-- the patches of a value change its entry and its space
 pub value_changes : (order : Order) (value : Value) (e : ℕ) (bytes : List ℕ) (ps : List Patch)
     → Fits order value e bytes ps → ChangeEntry (number_of order) bytes e ps
 value_changes order value e bytes ps f t = value_changed order value e bytes ps f t
 
 -- zeros over spans change these
 zeros_change : (ss : List Span) (t : Stretch)
-    → changes (map zeros_over ss) t ≡ list_any (λ s. meets s t) ss
+    → changes (map zeros_over ss) t ≡ list_any (λ s. overlaps s t) ss
 zeros_change [] t = refl
 zeros_change (s ∷ ss) t =
     let n : length (replicate {A = ℕ} s.len 0) ≡ s.len = length-replicate s.len 0 in
-    ap (λ x. meets (record { offset = s.offset; len = x }) t || changes (map zeros_over ss) t) n
-    ∙ ap (λ b. meets s t || b) (zeros_change ss t)
+    ap (λ x. overlaps (record { offset = s.offset; len = x }) t || changes (map zeros_over ss) t) n
+    ∙ ap (λ b. overlaps s t || b) (zeros_change ss t)
 
 -- zeros over GPS directories and their values change bytes of these, and no others
 pub offsets_change : (number : Reading) (bytes : List ℕ) (ps : List Patch)
@@ -158,7 +159,7 @@ pub beside_found : (bytes : List ℕ) (order : Order) (ps : List Patch) (e : ℕ
     || list_any (λ (d : DirectoryOffset). list_any (changes ps)
     (beside (number_of order) bytes e d.offset)) w.directories)
     ≡ list_any
-    (λ t. meets (changed_entry e) t || meets (value_room (number_of order) bytes e) t)
+    (λ t. overlaps (changed_entry e) t || overlaps (value_space (number_of order) bytes e) t)
     (all_beside (number_of order) bytes e)
 beside_found bytes order ps e w h f c =
     ap (λ b. changes ps (record { offset = 0; len = 8 }) || b)
@@ -167,7 +168,7 @@ beside_found bytes order ps e w h f c =
     ∙ ap (λ qs. list_any (changes ps) (flat_map (beside (number_of order) bytes e) qs))
     (walked_offsets bytes order w h f))
     ∙ any_same (changes ps)
-    (λ t. meets (changed_entry e) t || meets (value_room (number_of order) bytes e) t)
+    (λ t. overlaps (changed_entry e) t || overlaps (value_space (number_of order) bytes e) t)
     (all_beside (number_of order) bytes e) c
 
 -- the same of what is kept where GPS data are erased
@@ -176,7 +177,7 @@ pub kept_found : (bytes : List ℕ) (order : Order) (ps : List Patch) (w : Walke
     → (changes ps (record { offset = 0; len = 8 })
     || list_any (λ (d : DirectoryOffset). not (is_gps d.context)
     && list_any (changes ps) (looked_at (number_of order) bytes d.offset)) w.directories)
-    ≡ list_any (λ t. list_any (λ s. meets s t) (gps_spans (number_of order) bytes))
+    ≡ list_any (λ t. list_any (λ s. overlaps s t) (gps_spans (number_of order) bytes))
     (all_kept (number_of order) bytes)
 kept_found bytes order ps w h f c =
     ap (λ b. changes ps (record { offset = 0; len = 8 }) || b)
@@ -187,7 +188,7 @@ kept_found bytes order ps w h f c =
     (kept_of w.directories)
     ∙ ap (λ qs. list_any (changes ps) (flat_map (looked_at (number_of order) bytes) qs))
     (walked_kept bytes order w h f)))
-    ∙ any_same (changes ps) (λ t. list_any (λ s. meets s t) (gps_spans (number_of order) bytes))
+    ∙ any_same (changes ps) (λ t. list_any (λ s. overlaps s t) (gps_spans (number_of order) bytes))
     (all_kept (number_of order) bytes) c
 
 -- whether the entry stands alone, by its parts
@@ -197,16 +198,16 @@ pub alone_parts : (bytes : List ℕ) (order : Order) (ps : List Patch) (e : ℕ)
     (changes ps (record { offset = 0; len = 8 })
     || list_any (λ (d : DirectoryOffset). list_any (changes ps)
     (beside (number_of order) bytes e d.offset)) w.directories)
-    && (not (meets (value_room (number_of order) bytes e) (record { offset = e; len = 12 }))
+    && (not (overlaps (value_space (number_of order) bytes e) (record { offset = e; len = 12 }))
     && (length (filter (λ (p : EntryOffset). p.entry == e) w.entries) == 1)))
-    ≡ stands_alone (number_of order) bytes e
+    ≡ is_unshared (number_of order) bytes e
 alone_parts bytes order ps e w h f c =
-    let near = meets (value_room (number_of order) bytes e) (record { offset = e; len = 12 }) in
+    let near = overlaps (value_space (number_of order) bytes e) (record { offset = e; len = 12 }) in
     ap (λ b. not b
     && (not near && (length (filter (λ (p : EntryOffset). p.entry == e) w.entries) == 1)))
     (beside_found bytes order ps e w h f c)
     ∙ ap (λ b. not
-    (list_any (λ t. meets (changed_entry e) t || meets (value_room (number_of order) bytes e) t)
+    (list_any (λ t. overlaps (changed_entry e) t || overlaps (value_space (number_of order) bytes e) t)
     (all_beside (number_of order) bytes e)) && (not near && b)) (once_found bytes w e f)
 
 -- the first part that says no settles it
@@ -233,7 +234,7 @@ pub offsets_parts : (bytes : List ℕ) (order : Order) (ps : List Patch) (w : Wa
     → changes ps (record { offset = 0; len = 8 }) ≡ false
     → list_any (λ (d : DirectoryOffset). not (is_gps d.context)
     && list_any (changes ps) (looked_at (number_of order) bytes d.offset)) w.directories ≡ false
-    → gps_stands_alone (number_of order) bytes ≡ true
+    → gps_is_unshared (number_of order) bytes ≡ true
 offsets_parts bytes order ps w h f c p q =
     ap not (sym (kept_found bytes order ps w h f c)
     ∙ (ap (λ b. b || list_any (λ (d : DirectoryOffset). not (is_gps d.context)
@@ -252,7 +253,7 @@ few_told : (order : Order) (value : Value) (e : ℕ) (bytes : List ℕ) (ps : Li
     → value_answer order value e bytes ≡ Ok ps → nat_lt (2 ^ 32 - 1) (count_of value) ≡ false
 unfolding value_answer
 few_told order value e bytes ps h =
-    let s = value_room (number_of order) bytes e in
+    let s = value_space (number_of order) bytes e in
     let long = nat_lt (max 4 s.len) (length (encode order value)) in
     let a = passed (nat_lt (length bytes) (e + 12)) shared
     (λ u. answer_in order value e s (length bytes)) ps h in
@@ -265,12 +266,12 @@ few_told order value e bytes ps h =
 fit_told : (order : Order) (tag : Tag) (value : Value) (e : ℕ) (bytes : List ℕ) (ps : List Patch)
     → value_answer order value e bytes ≡ Ok ps → names_offsets tag ≡ false
     → is_unknown value ≡ false
-    → fit_answer order tag value e (value_room (number_of order) bytes e) ≡ Ok ps
+    → fit_answer order tag value e (value_space (number_of order) bytes e) ≡ Ok ps
 fit_told order tag value e bytes ps h n u =
     let few = few_told order value e bytes ps h in
     let f = edit_fits_in order value e bytes ps h in
-    let text = f.text in
-    let fits : nat_lt (max 4 (value_room (number_of order) bytes e).len)
+    let encoded = f.encoded in
+    let fits : nat_lt (max 4 (value_space (number_of order) bytes e).len)
     (length (encode order value)) ≡ false = grind (arith, nat_tests) in
     rw (n, u, few, fits) (ap (λ qs. Ok qs) (sym f.is))
 
@@ -280,23 +281,23 @@ pub set_alone : (bytes : List ℕ) (tag : Tag) (k : In) (value : Value) (read : 
     → find_answer bytes tag k ≡ Ok (read, e) → order ≡ order_named read.little
     → value_answer order value e bytes ≡ Ok ps → names_offsets tag ≡ false
     → is_unknown value ≡ false → names_child tag.1 ≡ false → IsRanged value → HasPlainTexts value
-    → stands_alone (number_of order) bytes e ≡ true → checked_patches bytes tag k value ≡ Ok ps
+    → is_unshared (number_of order) bytes e ≡ true → checked_patches bytes tag k value ≡ Ok ps
 set_alone bytes tag k value read e order ps h o v n u childless ranged plain alone =
     let w = was_found bytes tag k (read, e) h in
     let head : header bytes ≡ Ok order =
     header_found bytes tag k read e h ∙ ap (λ x. Ok x) (sym o) in
     let law = set_unshared tag k value bytes order w.at head w.last
-    (subst (λ x. stands_alone (number_of order) bytes x ≡ true) (sym w.entry) alone) childless ranged
+    (subst (λ x. is_unshared (number_of order) bytes x ≡ true) (sym w.entry) alone) childless ranged
     plain in
     let law_at : set_patches bytes tag k value
-    ≡ fit_answer order tag value e (value_room (number_of order) bytes e) =
+    ≡ fit_answer order tag value e (value_space (number_of order) bytes e) =
     subst (λ x. set_patches bytes tag k value
-    ≡ fit_answer order tag value x (value_room (number_of order) bytes x)) w.entry law in
+    ≡ fit_answer order tag value x (value_space (number_of order) bytes x)) w.entry law in
     set_known bytes tag k value n u ∙ (law_at ∙ fit_told order tag value e bytes ps v n u)
 
 -- GPS data that stand alone are erased
 pub erase_alone : (bytes : List ℕ) (order : Order) (ps : List Patch) → header bytes ≡ Ok order
     → ps ≡ map zeros_over (gps_spans (number_of order) bytes)
-    → gps_stands_alone (number_of order) bytes ≡ true → erase_patches bytes ≡ Ok ps
+    → gps_is_unshared (number_of order) bytes ≡ true → erase_patches bytes ≡ Ok ps
 erase_alone bytes order ps h z alone =
     gps_unshared bytes order h alone ∙ ap (λ qs. Ok qs) (sym z)

@@ -14,8 +14,7 @@ use Rattle.exif_edit_base.specs.Patches.{FitsIn}
 use Rattle.exif_edit_base.specs.declared.patch.Patch.{Patch}
 use Rattle.exif_edit_base.specs.declared.patch.Span.{Span}
 use Rattle.exif_edit.specs.Changing.{changes, covers}
-use Rattle.exif_edit.specs.Erasing.{nowhere, value_span, within}
-use Rattle.exif_edit.specs.Setting.{value_room}
+use Rattle.exif_edit_base.specs.Spans.{nowhere, value_span, within, value_space}
 
 -- ---- loops over entries
 
@@ -92,8 +91,8 @@ module _ (ps : List Patch) (number : Reading) (bytes : List ℕ) (e : ℕ) where
 pub value_near : (number : Reading) (bytes : List ℕ) (e : ℕ)
     → (value_span number bytes e).offset + (value_span number bytes e).len ≤ length bytes
 value_near number bytes e =
-    by_test (value_room number bytes e) (nat_le ((value_room number bytes e).offset +
-    (value_room number bytes e).len) (length bytes)) refl
+    by_test (value_space number bytes e) (nat_le ((value_space number bytes e).offset +
+    (value_space number bytes e).len) (length bytes)) refl
   where
     by_test : (s : Span) (b : Bool) → nat_le (s.offset + s.len) (length bytes) ≡ b
         → (if b then s else nowhere).offset + (if b then s else nowhere).len ≤ length bytes

@@ -24,7 +24,7 @@ use Rattle.exif_edit_base.specs.Patches.{FitsIn, patched, put_at, zeros_over}
 use Rattle.exif_edit_base.specs.declared.patch.Patch.{Patch}
 use Rattle.exif_edit_base.proofs.CauseSteps.{bound, data_read, ok_same}
 use Rattle.exif_edit_base.proofs.PatchSteps.{length-put_at, put_before, put_on, put_zero}
-use Rattle.exif_edit_base.proofs.ReadSteps.{header_room}
+use Rattle.exif_edit_base.proofs.ReadSteps.{header_space}
 use Rattle.exif_edit.specs.Clearing.{IsCleared, clear_patches, clearing, empty_offset}
 use Rattle.exif_reader.proofs.TiffAnswers.{raw_right}
 
@@ -179,25 +179,25 @@ small_offset n = by_test (nat_lt n 14)
 made : (order : Order) (xs : List ℕ) → 8 ≤ length xs
     → Made order xs (patched (clearing order (length xs)) xs)
 made order xs h =
-    let text = spelled order 4 (empty_offset (length xs)) in
+    let encoded = spelled order 4 (empty_offset (length xs)) in
     let zs : List ℕ = replicate (length xs - 8) 0 in
-    let ls : length text ≡ 4 = length_spelled order 4 (empty_offset (length xs)) in
+    let ls : length encoded ≡ 4 = length_spelled order 4 (empty_offset (length xs)) in
     let lz : length zs ≡ length xs - 8 = length-replicate (length xs - 8) 0 in
-    let a = put_at 4 text xs in
-    let fa : 4 + length text ≤ length xs = omega arith in
-    let la : length a ≡ length xs = length-put_at 4 text xs fa in
+    let a = put_at 4 encoded xs in
+    let fa : 4 + length encoded ≤ length xs = omega arith in
+    let la : length a ≡ length xs = length-put_at 4 encoded xs fa in
     let fz : 8 + length zs ≤ length a = omega arith in
     let fn : 8 + (length xs - 8) ≤ length a = omega arith in
     let ln : length (put_at 8 zs a) ≡ length xs = length-put_at 8 zs a fz ∙ la in
     record {
       as_long = ln;
-      front = λ k l. put_before 8 zs a k fz (omega arith) ∙ put_before 4 text xs k fa l;
+      front = λ k l. put_before 8 zs a k fz (omega arith) ∙ put_before 4 encoded xs k fa l;
       first =
-          number_same order 4 (drop 4 (put_at 8 zs a)) text
+          number_same order 4 (drop 4 (put_at 8 zs a)) encoded
           (λ k l. at_behind (put_at 8 zs a) 4 k
           ∙ (put_before 8 zs a (4 + k) fz (omega arith)
-          ∙ (put_on 4 text xs (4 + k) fa (omega arith) (omega arith)
-          ∙ ap (λ j. get_or text j 0) (less_four k))))
+          ∙ (put_on 4 encoded xs (4 + k) fa (omega arith) (omega arith)
+          ∙ ap (λ j. get_or encoded j 0) (less_four k))))
           ∙ number_back order 4 (empty_offset (length xs)) (small_offset (length xs));
       zeros = λ i l. by_test i l (nat_lt i (length xs)) refl a la fn ln;
     }
@@ -248,7 +248,7 @@ pub clear_sound : (old : List ℕ) (order : Order) → header old ≡ Ok order
     → IsCleared old (patched (clearing order (length old)) old)
 clear_sound old order h =
     let new = patched (clearing order (length old)) old in
-    let m = made order old (header_room old order h).0 in
+    let m = made order old (header_space old order h).0 in
     let same = header_same new old m.as_long m.front in
     record {
       as_long = m.as_long;
@@ -262,11 +262,11 @@ clear_sound old order h =
 -- the patches lie in the data
 clearing_fits : (order : Order) (n : ℕ) → 8 ≤ n → All (FitsIn n) (clearing order n)
 clearing_fits order n h =
-    let text = spelled order 4 (empty_offset n) in
+    let encoded = spelled order 4 (empty_offset n) in
     let zs = zeros_over (record { offset = 8; len = n - 8 }) in
-    let ls : length text ≡ 4 = length_spelled order 4 (empty_offset n) in
+    let ls : length encoded ≡ 4 = length_spelled order 4 (empty_offset n) in
     let lz : length zs.bytes ≡ n - 8 = length-replicate (n - 8) 0 in
-    All-cons (FitsIn n) (record { offset = 4; bytes = text }) (zs ∷ []) (omega arith)
+    All-cons (FitsIn n) (record { offset = 4; bytes = encoded }) (zs ∷ []) (omega arith)
     (All-cons (FitsIn n) zs [] (omega arith) (All-nil (FitsIn n)))
 
 -- what answered patches are
@@ -283,7 +283,7 @@ pub clear_fits : (bytes : List ℕ) (ps : List Patch) → clear_patches bytes �
 clear_fits bytes ps e =
     let w = was_cleared bytes ps e in
     subst (λ qs. All (FitsIn (length bytes)) qs) w.2
-    (clearing_fits w.0 (length bytes) (header_room bytes w.0 w.1).0)
+    (clearing_fits w.0 (length bytes) (header_space bytes w.0 w.1).0)
 
 -- what the two steps in place make
 pub cleared_bytes : (order : Order) (xs a new : List ℕ) (p : ℕ) → p ≡ empty_offset (length xs)

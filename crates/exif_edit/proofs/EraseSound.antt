@@ -23,9 +23,10 @@ use Rattle.exif_edit_base.specs.declared.patch.Span.{Span}
 use Rattle.exif_edit_base.proofs.CauseSteps.{bound, data_read, tested}
 use Rattle.exif_edit_base.proofs.FindSteps.{header_named}
 use Rattle.exif_edit_base.proofs.PatchSteps.{AllWithin, length-patched, zeroed_at}
-use Rattle.exif_edit.specs.Erasing.{cleared, clears, clipped, directory_spans, erase_patches, gps_room, gps_spans, gps_value_span, kept, nowhere, value_span, within, without_gps}
+use Rattle.exif_edit_base.specs.Rereading.{clears}
+use Rattle.exif_edit_base.specs.Spans.{nowhere, value_span, within, value_space}
+use Rattle.exif_edit.specs.Erasing.{cleared, clipped, directory_spans, erase_patches, gps_space, gps_spans, gps_value_span, kept, without_gps}
 use Rattle.exif_edit.specs.Promises.{IsErased, ReadAs}
-use Rattle.exif_edit.specs.Setting.{value_room}
 use Rattle.exif_edit.proofs.ReadSound.{reads_are}
 
 -- ---- the spans lie in the data
@@ -60,14 +61,14 @@ pub values_within : (number : Reading) (bytes es : List ℕ)
     → AllWithin (length bytes) (map (value_span number bytes) es)
 values_within number bytes [] = tt
 values_within number bytes (e ∷ es) =
-    (within_within (length bytes) (value_room number bytes e), values_within number bytes es)
+    (within_within (length bytes) (value_space number bytes e), values_within number bytes es)
 
 -- so do those of entries of GPS directories
 gps_values_within : (number : Reading) (bytes es : List ℕ)
     → AllWithin (length bytes) (map (gps_value_span number bytes) es)
 gps_values_within number bytes [] = tt
 gps_values_within number bytes (e ∷ es) =
-    (clipped_within (length bytes) (gps_room number bytes e), gps_values_within number bytes es)
+    (clipped_within (length bytes) (gps_space number bytes e), gps_values_within number bytes es)
 
 directories_within : (number : Reading) (bytes qs : List ℕ)
     → AllWithin (length bytes) (flat_map (directory_spans number bytes) qs)

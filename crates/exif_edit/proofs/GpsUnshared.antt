@@ -29,19 +29,20 @@ use Rattle.exif_edit_base.specs.declared.patch.Patch.{Patch}
 use Rattle.exif_edit_base.specs.declared.patch.Span.{Span}
 use Rattle.exif_edit_base.proofs.OffsetSteps.{noted_holds}
 use Rattle.exif_edit_base.proofs.PatchSteps.{length-patched, zeroed_at}
-use Rattle.exif_edit.specs.Erasing.{clears, clipped, directory_spans, erase_patches, gps_spans, kept}
-use Rattle.exif_edit.specs.GpsAlone.{AreErasedUnshared, all_kept, gps_stands_alone}
-use Rattle.exif_edit.specs.Sharing.{meets}
+use Rattle.exif_edit_base.specs.Rereading.{clears}
+use Rattle.exif_edit.specs.Erasing.{clipped, directory_spans, erase_patches, gps_spans, kept}
+use Rattle.exif_edit.specs.GpsAlone.{AreErasedUnshared, all_kept, gps_is_unshared}
+use Rattle.exif_edit.specs.Sharing.{overlaps}
 use Rattle.exif_edit.proofs.EraseSound.{spans_within, zeros_fit}
 use Rattle.exif_edit.proofs.GpsKept.{Emptied, ordered_kept}
 use Rattle.exif_edit.proofs.Unshared.{missed, named_order, read_in, reading_in}
 
--- a stretch that no span meets has no byte of them
-missed_all : (ss : List Span) (t : Stretch) (i : ℕ) → list_any (λ s. meets s t) ss ≡ false
+-- a stretch that no span overlaps has no byte of them
+missed_all : (ss : List Span) (t : Stretch) (i : ℕ) → list_any (λ s. overlaps s t) ss ≡ false
     → t.offset ≤ i → i < t.offset + t.len → list_any (inside i) ss ≡ false
 missed_all [] t i h low high = refl
 missed_all (s ∷ ss) t i h low high =
-    let a = or_parts (meets s t) (list_any (λ x. meets x t) ss) h in
+    let a = or_parts (overlaps s t) (list_any (λ x. overlaps x t) ss) h in
     let one = missed s t i a.0 low high in
     let rest = missed_all ss t i a.1 low high in
     rw (one, rest) refl
@@ -78,7 +79,7 @@ clears_by : (x : Result Read Fault) (found want : Read) → x ≡ Ok found
 clears_by x found want e l f g = rw (e, l, f, g) refl
 
 module _ (order : Order) (bytes : List ℕ) (head : header bytes ≡ Ok order)
-    (alone : gps_stands_alone (number_of order) bytes ≡ true) where
+    (alone : gps_is_unshared (number_of order) bytes ≡ true) where
   abbrev number : Reading
   number = number_of order
 
@@ -100,7 +101,7 @@ module _ (order : Order) (bytes : List ℕ) (head : header bytes ≡ Ok order)
   byte_at i = zeroed_at spans bytes i (spans_within number bytes)
 
   abbrev met : Stretch → Bool
-  met t = list_any (λ s. meets s t) spans
+  met t = list_any (λ s. overlaps s t) spans
 
   stretch_same : (t : Stretch) → met t ≡ false → Agree bytes out t
   stretch_same t m =

@@ -17,11 +17,11 @@ use Rattle.exif_edit_base.proofs.FindSteps.{header_named}
 abbrev pub IsMarked : List ℕ → Type 0
 IsMarked bytes = (take 4 bytes ≡ codes "MM\0*") ⊎ (take 4 bytes ≡ codes "II*\0")
 
-text_of_order : (a b c d : ℕ) (rest : List ℕ) (x : Order)
+encoded_of_order : (a b c d : ℕ) (rest : List ℕ) (x : Order)
     → order_of (a ∷ b ∷ c ∷ d ∷ rest) ≡ Some x
     → number_at (number_of x) 2 (a ∷ b ∷ c ∷ d ∷ rest) 2 ≡ 42
     → IsMarked (a ∷ b ∷ c ∷ d ∷ rest)
-text_of_order a b c d rest x o n = by_big ((a == 77) && (b == 77)) refl o
+encoded_of_order a b c d rest x o n = by_big ((a == 77) && (b == 77)) refl o
   where
     bytes : List ℕ
     bytes = a ∷ b ∷ c ∷ d ∷ rest
@@ -65,7 +65,7 @@ text_of_order a b c d rest x o n = by_big ((a == 77) && (b == 77)) refl o
 
 marked : (bytes : List ℕ) (order : Order) → 8 ≤ length bytes → order_of bytes ≡ Some order
     → number_at (number_of order) 2 bytes 2 ≡ 42 → IsMarked bytes
-marked (a ∷ b ∷ c ∷ d ∷ rest) order h o n = text_of_order a b c d rest order o n
+marked (a ∷ b ∷ c ∷ d ∷ rest) order h o n = encoded_of_order a b c d rest order o n
 marked [] order h o n = absurd (omega arith)
 marked (a ∷ []) order h o n = absurd (omega arith)
 marked (a ∷ b ∷ []) order h o n = absurd (omega arith)

@@ -23,7 +23,8 @@ use Rattle.exif_edit_base.proofs.CauseSteps.{bound, ok_same}
 use Rattle.exif_edit_base.proofs.FindSteps.{header_named}
 use Rattle.exif_edit_base.proofs.PatchSteps.{Misses, fit_behind, fit_in, length-patched, patched_outside, put_before, put_behind, put_on}
 use Rattle.exif_edit.specs.Promises.{SetsBack}
-use Rattle.exif_edit.specs.Setting.{entry_text, room_text, set_answer, set_patches, value_patches, value_room}
+use Rattle.exif_edit_base.specs.Spans.{value_space}
+use Rattle.exif_edit.specs.Setting.{entry_bytes, space_bytes, set_answer, set_patches, value_patches}
 use Rattle.exif_edit.proofs.SetSound.{Fits, WasSet, both, value_fits, value_lengths, was_set}
 
 -- whether a patch touches the byte at i
@@ -64,32 +65,32 @@ same_at (q ∷ qs) xs ys i l f k =
     by_touch (inr a) fx fy m =
         put_on q.offset q.bytes xs i fx a.0 a.1 ∙ sym (put_on q.offset q.bytes ys i fy a.0 a.1)
 
--- ---- patches of one room and one entry
+-- ---- patches of one space and one entry
 
 -- what holds of all holds of each
 parts : (P : Patch → Type 0) (order : Order) (value : Value) (e : ℕ) (s : Span)
     → All P (value_patches order value e s)
     → ((s.len == 0) ≡ false
-    → P (record { offset = s.offset; bytes = room_text s.len (encode order value) }))
-    × P (record { offset = e + 2; bytes = entry_text order value s.offset (encode order value) })
+    → P (record { offset = s.offset; bytes = space_bytes s.len (encode order value) }))
+    × P (record { offset = e + 2; bytes = entry_bytes order value s.offset (encode order value) })
 parts P order value e s h =
     by_test (s.len == 0) refl
-    (record { offset = s.offset; bytes = room_text s.len (encode order value) })
-    (record { offset = e + 2; bytes = entry_text order value s.offset (encode order value) }) h
+    (record { offset = s.offset; bytes = space_bytes s.len (encode order value) })
+    (record { offset = e + 2; bytes = entry_bytes order value s.offset (encode order value) }) h
   where
-    by_test : (z : Bool) → (s.len == 0) ≡ z → (room entry : Patch)
-        → All P ((if z then [] else room ∷ []) ++ entry ∷ [])
-        → ((s.len == 0) ≡ false → P room) × P entry
-    by_test true e room entry h = (λ f. absurd (false≢true (sym f ∙ e)), All-head P entry [] h)
-    by_test false e room entry h =
-        (λ f. All-head P room (entry ∷ []) h, All-head P entry [] (All-tail P room (entry ∷ []) h))
+    by_test : (z : Bool) → (s.len == 0) ≡ z → (space entry : Patch)
+        → All P ((if z then [] else space ∷ []) ++ entry ∷ [])
+        → ((s.len == 0) ≡ false → P space) × P entry
+    by_test true e space entry h = (λ f. absurd (false≢true (sym f ∙ e)), All-head P entry [] h)
+    by_test false e space entry h =
+        (λ f. All-head P space (entry ∷ []) h, All-head P entry [] (All-tail P space (entry ∷ []) h))
 
--- a byte that one value's patches miss is missed by another's of the same room
+-- a byte that one value's patches miss is missed by another's of the same space
 misses_too : (order : Order) (first value : Value) (e : ℕ) (s : Span) (i : ℕ)
-    → length (room_text s.len (encode order first)) ≡ s.len
-    → length (room_text s.len (encode order value)) ≡ s.len
-    → length (entry_text order first s.offset (encode order first)) ≡ 10
-    → length (entry_text order value s.offset (encode order value)) ≡ 10
+    → length (space_bytes s.len (encode order first)) ≡ s.len
+    → length (space_bytes s.len (encode order value)) ≡ s.len
+    → length (entry_bytes order first s.offset (encode order first)) ≡ 10
+    → length (entry_bytes order value s.offset (encode order value)) ≡ 10
     → All (Misses i) (value_patches order first e s)
     → All (Misses i) (value_patches order value e s)
 misses_too order first value e s i a b c d h =
@@ -132,7 +133,7 @@ fits_at bytes ps tag k value order at w h l =
     subst (λ (x : Located). Fits order value x.entry bytes ps) a
     (subst (λ x. Fits x value w.at.entry bytes ps) o w.fits)
 
--- patches put over others of the same room make what they make of the bytes before
+-- patches put over others of the same space make what they make of the bytes before
 overwritten : (order : Order) (first value : Value) (e : ℕ) (old : List ℕ) (ps rs : List Patch)
     → Fits order first e old rs → Fits order value e old ps
     → patched rs (patched ps old) ≡ patched rs old
@@ -141,9 +142,9 @@ overwritten order first value e old ps rs f g =
     let fp = value_fits order value e old ps g in
     let l = length-patched ps old fp in
     let frp = fit_in (length old) (length (patched ps old)) rs (sym l) fr in
-    let s = value_room (number_of order) old e in
-    let a = value_lengths order first s f.text in
-    let b = value_lengths order value s g.text in
+    let s = value_space (number_of order) old e in
+    let a = value_lengths order first s f.encoded in
+    let b = value_lengths order value s g.encoded in
     ext_get_or 0 (patched rs (patched ps old)) (patched rs old)
     (length-patched rs (patched ps old) frp ∙ (l ∙ sym (length-patched rs old fr)))
     (λ i h. same_at rs (patched ps old) old i l frp (λ m. patched_outside ps old i fp
@@ -165,8 +166,8 @@ set_back old tag k value first new back h0 h1 keep h2 =
     let f2 = fits_at new q.0 tag k first keep.order keep.now (was_set new q.0 tag k first q.1)
     keep.after keep.is in
     let same : q.0 ≡ r.0 =
-    f2.is ∙ (ap (λ x. value_patches keep.order first x (value_room (number_of keep.order) new x))
+    f2.is ∙ (ap (λ x. value_patches keep.order first x (value_space (number_of keep.order) new x))
     keep.entry
-    ∙ (ap (λ s. value_patches keep.order first keep.at.entry s) keep.room ∙ sym f0.is)) in
+    ∙ (ap (λ s. value_patches keep.order first keep.at.entry s) keep.space ∙ sym f0.is)) in
     sym q.2 ∙ (ap (λ ps. patched ps new) same ∙ (ap (λ xs. patched r.0 xs) (sym p.2)
     ∙ (overwritten keep.order first value keep.at.entry old p.0 r.0 f0 f1 ∙ r.2)))

@@ -3,12 +3,11 @@ pub mod AloneSteps
 pub mod ClearSound
 pub mod EraseSound
 pub mod EraseSteps
+pub mod GpsKept
+pub mod GpsUnshared
 pub mod HeaderMarks
 pub mod LawsSetting
 pub mod NewEntry
-pub mod GpsKept
-pub mod GpsUnshared
-pub mod PlanSteps
 pub mod ReadSound
 pub mod RemoveSound
 pub mod RemoveSteps

@@ -29,7 +29,8 @@ use Rattle.exif_edit_base.specs.Walked.{entry_of}
 use Rattle.exif_edit_base.proofs.PatchSteps.{AllWithin, Misses, length-patched, outside_offset, patched_outside, zeroed_at}
 use Rattle.exif_edit.specs.Erasing.{directory_span}
 use Rattle.exif_edit.specs.Promises.{IsFieldErased, ReadAs, named_directories, told_by}
-use Rattle.exif_edit.specs.Removing.{directories_with, directory_patches, directory_without, entries_with, field_patches, named_removals, named_spans, named_values, read_without, removals, removals_from, still_reads, taken_spans, untold, without_named}
+use Rattle.exif_edit_base.specs.Rereading.{still_reads, without_entry_offsets}
+use Rattle.exif_edit.specs.Removing.{directories_with, directory_patches, directory_without, entries_with, field_patches, named_removals, named_spans, named_values, read_without, removals, removals_from, taken_spans, without_named}
 use Rattle.exif_edit.specs.Setting.{names_offsets}
 use Rattle.exif_edit_base.proofs.LawsLocated.{located_fields}
 use Rattle.exif_edit.proofs.EraseSound.{values_within, within-append, zeros_fit}
@@ -185,23 +186,23 @@ stays_outside order bytes n ps i h =
 read_by : (x : (Result Read Fault)) (read : Read)
     → (elim x [
       | Ok found ↦ beq found.little read.little
-          && (pointwise field_eq (untold found.fields) (untold read.fields)
+          && (pointwise field_eq (without_entry_offsets found.fields) (without_entry_offsets read.fields)
           && nat_le (length found.faults) (length read.faults))
       | Err fault ↦ false
     ]) ≡ true
-    → (found : Read) × (x ≡ Ok found) × (untold found.fields ≡ untold read.fields)
+    → (found : Read) × (x ≡ Ok found) × (without_entry_offsets found.fields ≡ without_entry_offsets read.fields)
     × (length found.faults ≤ length read.faults)
 read_by (Ok found) read e =
     let p = and_parts (beq found.little read.little)
-    (pointwise field_eq (untold found.fields) (untold read.fields)
+    (pointwise field_eq (without_entry_offsets found.fields) (without_entry_offsets read.fields)
     && nat_le (length found.faults) (length read.faults)) e in
-    let q = and_parts (pointwise field_eq (untold found.fields) (untold read.fields))
+    let q = and_parts (pointwise field_eq (without_entry_offsets found.fields) (without_entry_offsets read.fields))
     (nat_le (length found.faults) (length read.faults)) p.1 in
     let t = q.1 in (
       found,
       refl,
-      (slice_eq-Decides field_Decides (untold found.fields) (untold read.fields)
-          (pointwise field_eq (untold found.fields) (untold read.fields)) refl).0 q.0,
+      (slice_eq-Decides field_Decides (without_entry_offsets found.fields) (without_entry_offsets read.fields)
+          (pointwise field_eq (without_entry_offsets found.fields) (without_entry_offsets read.fields)) refl).0 q.0,
       grind (arith, nat_tests),
     )
 read_by (Err fault) read e = absurd (false≢true e)
@@ -214,7 +215,7 @@ pub record WasRemoved (bytes : List ℕ) (tag : Tag) (k : In) (ps : List Patch) 
   pub are : ps ≡ removals (order_named read.little) bytes tag.1
       (directories_with tag k read.fields (map entry_of (located bytes)))
   pub reads_new : reading (patched ps bytes) ≡ Ok found
-  pub fields : untold found.fields ≡ untold (without_named tag k read.fields)
+  pub fields : without_entry_offsets found.fields ≡ without_entry_offsets (without_named tag k read.fields)
   pub fewer : length found.faults ≤ length read.faults
 
 from_offsets : (bytes : List ℕ) (tag : Tag) (k : In) (read : Read) (qs : List ℕ) (ps : List Patch)
@@ -274,11 +275,11 @@ field_fits bytes tag k ps e = named_fits bytes tag k ps (named_of_field bytes ta
 
 -- the fields that are read are those that are left, as their entries tell them
 fields_told : (new : List ℕ) (found : Read) (gs : List Field) → reading new ≡ Ok found
-    → untold found.fields ≡ untold gs → found.fields ≡ told_by (located new) gs
+    → without_entry_offsets found.fields ≡ without_entry_offsets gs → found.fields ≡ told_by (located new) gs
 fields_told new found gs r u =
     let f : found.fields ≡ map field_of (located new) =
     (reads_are new found r).1 ∙ sym (located_fields new) in
-    let v : untold (map field_of (located new)) ≡ untold gs = ap untold (sym f) ∙ u in
+    let v : without_entry_offsets (map field_of (located new)) ≡ without_entry_offsets gs = ap without_entry_offsets (sym f) ∙ u in
     f ∙ sym (settled (located new) gs (located_tells new) v)
 
 -- with answered patches the fields of a name are gone, and their values are zeros

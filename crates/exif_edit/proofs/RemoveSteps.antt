@@ -27,7 +27,7 @@ use Rattle.exif_edit_base.specs.Walked.{entry_of}
 use Rattle.exif_edit_base.specs.Patches.{padded, zeros_over}
 use Rattle.exif_edit_base.specs.declared.patch.Span.{Span}
 use Rattle.exif_edit_base.proofs.FindSteps.{field_of, fields_read}
-use Rattle.exif_edit.specs.Removing.{checked_removals, directories_with, directory_without, entries_text, field_patches, has_tag, named_removals, next_text, read_without, removals, removals_from, without_named}
+use Rattle.exif_edit.specs.Removing.{checked_removals, directories_with, directory_without, entries_bytes, field_patches, has_tag, named_removals, next_offset_bytes, read_without, removals, removals_from, without_named}
 use Rattle.exif_edit.specs.Setting.{names_offsets}
 use Rattle.exif_edit.proofs.SetSound.{length-padded}
 use Rattle.exif_tiff.specs.declared.offset.EntryOffset.{EntryOffset}
@@ -84,59 +84,59 @@ few_passed t (x ∷ xs) = by_test (t x) (few_passed t xs)
     by_test false h = omega arith
 
 -- the bytes of entries are no more than twelve each
-pub few_bytes : (bytes : List ℕ) (es : List ℕ) → length (entries_text bytes es) ≤ 12 * length es
+pub few_bytes : (bytes : List ℕ) (es : List ℕ) → length (entries_bytes bytes es) ≤ 12 * length es
 few_bytes bytes [] = omega arith
 few_bytes bytes (e ∷ es) =
     let h = few_bytes bytes es in
     let l : length (bytes_at 12 bytes e) ≤ 12 = grind (arith, common_steps) in
-    let a = length-append (bytes_at 12 bytes e) (entries_text bytes es) in
+    let a = length-append (bytes_at 12 bytes e) (entries_bytes bytes es) in
     omega arith
 
--- entries of a directory have their room in it
-pub text_fits : (order : Order) (bytes : List ℕ) (t : ℕ → Bool) (p n count : ℕ) (next : List ℕ)
-    → length (spelled order 2 count ++ (entries_text bytes (filter t (spaced p 12 n)) ++ next)) ≤ 2
+-- entries of a directory have their space in it
+pub encoded_fits : (order : Order) (bytes : List ℕ) (t : ℕ → Bool) (p n count : ℕ) (next : List ℕ)
+    → length (spelled order 2 count ++ (entries_bytes bytes (filter t (spaced p 12 n)) ++ next)) ≤ 2
     + 12 * n + length next
-text_fits order bytes t p n count next =
+encoded_fits order bytes t p n count next =
     let es = filter t (spaced p 12 n) in
     let a = few_bytes bytes es in
     let b = few_passed t (spaced p 12 n) in
     let l = length-spaced p 12 n in
     let s = length_spelled order 2 count in
-    let x = length-append (entries_text bytes es) next in
-    let y = length-append (spelled order 2 count) (entries_text bytes es ++ next) in
+    let x = length-append (entries_bytes bytes es) next in
+    let y = length-append (spelled order 2 count) (entries_bytes bytes es ++ next) in
     omega arith
 
--- the count, the entries that are kept and the next offset have room in the old directory
+-- the count, the entries that are kept and the next offset have space in the old directory
 pub whole_fits : (order : Order) (bytes : List ℕ) (number offset count kept : ℕ)
-    (text next whole : List ℕ)
-    → text ≡ entries_text bytes
+    (encoded next whole : List ℕ)
+    → encoded ≡ entries_bytes bytes
     (filter (λ e. not (has_tag (number_of order) bytes number e)) (spaced (offset + 2) 12 count))
-    → whole ≡ spelled order 2 kept ++ (text ++ next)
+    → whole ≡ spelled order 2 kept ++ (encoded ++ next)
     → length whole ≤ 2 + 12 * count + length next
-whole_fits order bytes number offset count kept text next whole t w =
+whole_fits order bytes number offset count kept encoded next whole t w =
     let test : ℕ → Bool = λ e. not (has_tag (number_of order) bytes number e) in
-    let fits = text_fits order bytes test (offset + 2) count kept next in
+    let fits = encoded_fits order bytes test (offset + 2) count kept next in
     let z : whole ≡ spelled order 2 kept
-    ++ (entries_text bytes (filter test (spaced (offset + 2) 12 count)) ++ next) =
+    ++ (entries_bytes bytes (filter test (spaced (offset + 2) 12 count)) ++ next) =
     w ∙ ap (λ xs. spelled order 2 kept ++ (xs ++ next)) t in
     rw z fits
 
 -- the parts, put together with zeros behind, are the directory without its entries of a tag
 pub directory_made : (order : Order) (bytes : List ℕ) (number offset count kept : ℕ)
-    (text next whole new : List ℕ)
+    (encoded next whole new : List ℕ)
     → count ≡ whole_entries (number_of order) bytes offset
     → kept ≡ length
     (filter (λ e. not (has_tag (number_of order) bytes number e)) (spaced (offset + 2) 12 count))
-    → text ≡ entries_text bytes
+    → encoded ≡ entries_bytes bytes
     (filter (λ e. not (has_tag (number_of order) bytes number e)) (spaced (offset + 2) 12 count))
-    → next ≡ next_text order (directory_end (number_of order) bytes offset)
-    → whole ≡ spelled order 2 kept ++ (text ++ next)
+    → next ≡ next_offset_bytes order (directory_end (number_of order) bytes offset)
+    → whole ≡ spelled order 2 kept ++ (encoded ++ next)
     → new ≡ padded (2 + 12 * count + length next) whole
     → new ≡ directory_without order bytes number offset
-directory_made order bytes number offset count kept text next whole new c k t n w p =
+directory_made order bytes number offset count kept encoded next whole new c k t n w p =
     p ∙ rw (w, k, t, n, c) refl
 
-next_length : (order : Order) (x : Result ℕ Fault) → length (next_text order x) ≤ 4
+next_length : (order : Order) (x : Result ℕ Fault) → length (next_offset_bytes order x) ≤ 4
 next_length order (Ok next) = let l = length_spelled order 4 next in omega arith
 next_length order (Err fault) = omega arith
 
@@ -147,11 +147,11 @@ pub directory_length : (order : Order) (bytes : List ℕ) (n p : ℕ)
 directory_length order bytes n p =
     let test : ℕ → Bool = λ e. not (has_tag (number_of order) bytes n e) in
     let count = whole_entries (number_of order) bytes p in
-    let next = next_text order (directory_end (number_of order) bytes p) in
+    let next = next_offset_bytes order (directory_end (number_of order) bytes p) in
     let es = filter test (spaced (p + 2) 12 count) in
-    let text = spelled order 2 (length es) ++ (entries_text bytes es ++ next) in
-    let f = text_fits order bytes test (p + 2) count (length es) next in
-    let l = length-padded (2 + 12 * count + length next) text f in
+    let encoded = spelled order 2 (length es) ++ (entries_bytes bytes es ++ next) in
+    let f = encoded_fits order bytes test (p + 2) count (length es) next in
+    let l = length-padded (2 + 12 * count + length next) encoded f in
     let m = next_length order (directory_end (number_of order) bytes p) in
     omega arith
 

@@ -20,7 +20,8 @@ use Rattle.exif_edit_base.proofs.FindSteps.{any_map, field_of}
 use Rattle.exif_edit_base.proofs.ReadSteps.{is_refused, not_refused, unshown, unshown_shown}
 use Rattle.exif_edit_base.proofs.LawsLocated.{located_fields}
 use Rattle.exif_edit.specs.Promises.{FindsNone, FindsValue, IsFieldErased, IsSet, ReadAs, told_by}
-use Rattle.exif_edit.specs.Removing.{told_at, without_named}
+use Rattle.exif_edit_base.specs.Rereading.{field_at_entry}
+use Rattle.exif_edit.specs.Removing.{without_named}
 
 -- ---- the last of a name
 
@@ -231,7 +232,7 @@ told_none tag k [] gs h = refl
 told_none tag k (l ∷ ls) [] h = refl
 told_none tag k (l ∷ ls) (g ∷ gs) h =
     let p = or_parts (is_named tag k g) (list_any (is_named tag k) gs) h in
-    let t : is_named tag k (told_at l.entry g) ≡ false = p.0 in
+    let t : is_named tag k (field_at_entry l.entry g) ≡ false = p.0 in
     rw t (told_none tag k ls gs p.1)
 
 -- once the fields of a name were erased, a look-up of the name finds nothing

@@ -25,44 +25,45 @@ use Rattle.exif_edit_base.proofs.CauseSteps.{bound, data_read, ok_same, option_t
 use Rattle.exif_edit_base.proofs.FindSteps.{header_named}
 use Rattle.exif_edit_base.proofs.PatchSteps.{Misses, length-patched, outside_offset, patched_outside}
 use Rattle.exif_edit.specs.Promises.{IsSet, ReadAs}
-use Rattle.exif_edit.specs.Setting.{answer_in, checked, checked_patches, entry_text, expected, is_small, names_offsets, room_patches, room_text, set_patches, set_offset, value_answer, value_patches, value_room}
+use Rattle.exif_edit_base.specs.Spans.{value_space}
+use Rattle.exif_edit.specs.Setting.{answer_in, checked, checked_patches, entry_bytes, expected, is_small, names_offsets, space_patches, space_bytes, set_patches, set_offset, value_answer, value_patches}
 use Rattle.exif_edit.proofs.ReadSound.{reads_are, reads_so}
 
--- ---- the texts of the patches are as long as their rooms
+-- ---- the texts of the patches are as long as their spaces
 
--- a text that is no longer than n has n bytes once it is padded to n
-pub length-padded : (n : ℕ) (text : List ℕ) → length text ≤ n → length (padded n text) ≡ n
-length-padded n text h =
-    let l : length (replicate {A = ℕ} (n - length text) 0) ≡ n - length text =
-    length-replicate (n - length text) 0 in
-    let a = length-append text (replicate (n - length text) 0) in
+-- a encoded that is no longer than n has n bytes once it is padded to n
+pub length-padded : (n : ℕ) (encoded : List ℕ) → length encoded ≤ n → length (padded n encoded) ≡ n
+length-padded n encoded h =
+    let l : length (replicate {A = ℕ} (n - length encoded) 0) ≡ n - length encoded =
+    length-replicate (n - length encoded) 0 in
+    let a = length-append encoded (replicate (n - length encoded) 0) in
     omega arith
 
-length-room : (len : ℕ) (text : List ℕ) → length text ≤ max 4 len
-    → length (room_text len text) ≡ len
-length-room len text h = by_test (is_small text) refl
+length-space : (len : ℕ) (encoded : List ℕ) → length encoded ≤ max 4 len
+    → length (space_bytes len encoded) ≡ len
+length-space len encoded h = by_test (is_small encoded) refl
   where
-    by_test : (b : Bool) → is_small text ≡ b → length (padded len (if b then [] else text)) ≡ len
+    by_test : (b : Bool) → is_small encoded ≡ b → length (padded len (if b then [] else encoded)) ≡ len
     by_test true e = length-padded len [] (omega arith)
     by_test false e =
-        length-padded len text (let l : 4 < length text = grind (arith, nat_tests) in omega arith)
+        length-padded len encoded (let l : 4 < length encoded = grind (arith, nat_tests) in omega arith)
 
-length-entry : (order : Order) (value : Value) (offset : ℕ) (text : List ℕ)
-    → length (entry_text order value offset text) ≡ 10
-length-entry order value offset text = by_test (is_small text) refl
+length-entry : (order : Order) (value : Value) (offset : ℕ) (encoded : List ℕ)
+    → length (entry_bytes order value offset encoded) ≡ 10
+length-entry order value offset encoded = by_test (is_small encoded) refl
   where
-    by_test : (b : Bool) → is_small text ≡ b
+    by_test : (b : Bool) → is_small encoded ≡ b
         → length (spelled order 2 (type_number value)
         ++ (spelled order 4 (count_of value)
-        ++ (if b then padded 4 text else spelled order 4 offset))) ≡ 10
+        ++ (if b then padded 4 encoded else spelled order 4 offset))) ≡ 10
     by_test true e =
-        let s : length text ≤ 4 = grind (arith, nat_tests) in
+        let s : length encoded ≤ 4 = grind (arith, nat_tests) in
         let a = length_spelled order 2 (type_number value) in
         let b = length_spelled order 4 (count_of value) in
-        let c = length-padded 4 text s in
-        let x = length-append (spelled order 4 (count_of value)) (padded 4 text) in
+        let c = length-padded 4 encoded s in
+        let x = length-append (spelled order 4 (count_of value)) (padded 4 encoded) in
         let y = length-append (spelled order 2 (type_number value))
-        (spelled order 4 (count_of value) ++ padded 4 text) in
+        (spelled order 4 (count_of value) ++ padded 4 encoded) in
         omega arith
     by_test false e =
         let a = length_spelled order 2 (type_number value) in
@@ -75,14 +76,14 @@ length-entry order value offset text = by_test (is_small text) refl
 
 -- ---- an edit that fits
 
--- the entry at e and its room lie in the data, the value fits there, and these patches put it
+-- the entry at e and its space lie in the data, the value fits there, and these patches put it
 pub record Fits (order : Order) (value : Value) (e : ℕ) (bytes : List ℕ) (ps : List Patch) : Type 0
   where
     pub whole : e + 12 ≤ length bytes
-    pub far : (value_room (number_of order) bytes e).offset +
-        (value_room (number_of order) bytes e).len ≤ length bytes
-    pub text : length (encode order value) ≤ max 4 (value_room (number_of order) bytes e).len
-    pub is : ps ≡ value_patches order value e (value_room (number_of order) bytes e)
+    pub far : (value_space (number_of order) bytes e).offset +
+        (value_space (number_of order) bytes e).len ≤ length bytes
+    pub encoded : length (encode order value) ≤ max 4 (value_space (number_of order) bytes e).len
+    pub is : ps ≡ value_patches order value e (value_space (number_of order) bytes e)
 
 fits_in : (order : Order) (value : Value) (e : ℕ) (s : Span) (n : ℕ) (ps : List Patch)
     → answer_in order value e s n ≡ Ok ps
@@ -112,34 +113,34 @@ pub edit_fits_in : (order : Order) (value : Value) (e : ℕ) (bytes : List ℕ) 
 unfolding value_answer
 edit_fits_in order value e bytes ps h =
     let a = passed (nat_lt (length bytes) (e + 12)) shared
-    (λ u. answer_in order value e (value_room (number_of order) bytes e) (length bytes)) ps h in
+    (λ u. answer_in order value e (value_space (number_of order) bytes e) (length bytes)) ps h in
     let p = a.0 in
-    let c = fits_in order value e (value_room (number_of order) bytes e) (length bytes) ps a.1 in
-    record { whole = grind (arith, nat_tests); far = c.0; text = c.1; is = c.2 }
+    let c = fits_in order value e (value_space (number_of order) bytes e) (length bytes) ps a.1 in
+    record { whole = grind (arith, nat_tests); far = c.0; encoded = c.1; is = c.2 }
 
 -- what holds of both patches holds of all
 pub both : (P : Patch → Type 0) (order : Order) (value : Value) (e : ℕ) (s : Span)
     → ((s.len == 0) ≡ false
-    → P (record { offset = s.offset; bytes = room_text s.len (encode order value) }))
-    → P (record { offset = e + 2; bytes = entry_text order value s.offset (encode order value) })
+    → P (record { offset = s.offset; bytes = space_bytes s.len (encode order value) }))
+    → P (record { offset = e + 2; bytes = entry_bytes order value s.offset (encode order value) })
     → All P (value_patches order value e s)
 both P order value e s a b =
-    All-append P (room_patches s (encode order value)) _ (by_test (s.len == 0) refl)
+    All-append P (space_patches s (encode order value)) _ (by_test (s.len == 0) refl)
     (All-cons P _ [] b (All-nil P))
   where
     by_test : (z : Bool) → (s.len == 0) ≡ z
         → All P (if z then [] else record
-        { offset = s.offset; bytes = room_text s.len (encode order value) } ∷ [])
+        { offset = s.offset; bytes = space_bytes s.len (encode order value) } ∷ [])
     by_test true e = All-nil P
     by_test false e = All-cons P _ [] (a e) (All-nil P)
 
--- the texts are as long as their rooms
+-- the texts are as long as their spaces
 pub value_lengths : (order : Order) (value : Value) (s : Span)
     → length (encode order value) ≤ max 4 s.len
-    → (length (room_text s.len (encode order value)) ≡ s.len)
-    × (length (entry_text order value s.offset (encode order value)) ≡ 10)
+    → (length (space_bytes s.len (encode order value)) ≡ s.len)
+    × (length (entry_bytes order value s.offset (encode order value)) ≡ 10)
 value_lengths order value s h = (
-  length-room s.len (encode order value) h,
+  length-space s.len (encode order value) h,
   length-entry order value s.offset
       (encode order value),
 )
@@ -148,22 +149,22 @@ value_lengths order value s h = (
 pub value_fits : (order : Order) (value : Value) (e : ℕ) (bytes : List ℕ) (ps : List Patch)
     → Fits order value e bytes ps → All (FitsIn (length bytes)) ps
 value_fits order value e bytes ps f =
-    let s = value_room (number_of order) bytes e in
-    let lo = length-room s.len (encode order value) f.text in
+    let s = value_space (number_of order) bytes e in
+    let lo = length-space s.len (encode order value) f.encoded in
     let li = length-entry order value s.offset (encode order value) in
     let far = f.far in
     let whole = f.whole in
     subst (λ qs. All (FitsIn (length bytes)) qs) (sym f.is)
     (both (FitsIn (length bytes)) order value e s (λ z. omega arith) (omega arith))
 
--- the bytes of neither the room nor the entry
+-- the bytes of neither the space nor the entry
 pub value_misses : (order : Order) (value : Value) (e : ℕ) (bytes : List ℕ) (ps : List Patch) (i : ℕ)
     → Fits order value e bytes ps
     → inside i (record { offset = e + 2; len = 10 }) ≡ false
-    → inside i (value_room (number_of order) bytes e) ≡ false → All (Misses i) ps
+    → inside i (value_space (number_of order) bytes e) ≡ false → All (Misses i) ps
 value_misses order value e bytes ps i f a b =
-    let s = value_room (number_of order) bytes e in
-    let lo = length-room s.len (encode order value) f.text in
+    let s = value_space (number_of order) bytes e in
+    let lo = length-space s.len (encode order value) f.encoded in
     let li = length-entry order value s.offset (encode order value) in
     let x = subst (λ n. (i < s.offset) ⊎ (s.offset + n ≤ i)) (sym lo) (outside_offset i s b) in
     let y = subst (λ n. (i < e + 2) ⊎ (e + 2 + n ≤ i)) (sym li)
@@ -264,7 +265,7 @@ set_sound old ps tag k value h =
     let fit = value_fits order value w.at.entry old ps w.fits in
     let r = reads_are old w.read w.reads in
     let s = reads_are (patched ps old) (expected tag k value w.at.entry old w.read) w.reads_new in
-    let offset = set_offset (value_room (number_of order) old w.at.entry).offset w.at.entry
+    let offset = set_offset (value_space (number_of order) old w.at.entry).offset w.at.entry
     (encode order value) in
     record {
       order = order;
@@ -281,13 +282,3 @@ set_sound old ps tag k value h =
       outside = λ i x y. patched_outside ps old i fit
           (value_misses order value w.at.entry old ps i w.fits x y);
     }
-
--- the answer is what the patches make
-pub answer_made : (f : Result (List Patch) Cause) (bytes : List ℕ) (ps : List Patch) → f ≡ Ok ps
-    → (f >>= λ qs. Ok (patched qs bytes)) ≡ Ok (patched ps bytes)
-answer_made f bytes ps h = rw h refl
-
--- where the patches are refused, the edited data are refused for the same cause
-pub answer_refused : (f : Result (List Patch) Cause) (bytes : List ℕ) (c : Cause) → f ≡ Err c
-    → ◌≡◌ {A = Result (List ℕ) Cause} (f >>= λ qs. Ok (patched qs bytes)) (Err c)
-answer_refused f bytes c h = rw h refl

@@ -16,7 +16,8 @@ use Rattle.exif_edit_base.specs.Finding.{find_answer, replaced}
 use Rattle.exif_edit_base.specs.Readings.{Read}
 use Rattle.exif_edit_base.specs.declared.patch.Patch.{Patch}
 use Rattle.exif_edit_base.specs.declared.patch.Span.{Span}
-use Rattle.exif_edit.specs.Setting.{answer_in, checked, checked_patches, expected, names_offsets, set_patches, set_offset, value_answer, value_patches, value_room}
+use Rattle.exif_edit_base.specs.Spans.{value_space}
+use Rattle.exif_edit.specs.Setting.{answer_in, checked, checked_patches, expected, names_offsets, set_patches, set_offset, value_answer, value_patches}
 
 -- ---- one edit
 
@@ -29,17 +30,17 @@ edit_outside order value e bytes l =
 
 edit_inside : (order : Order) (value : Value) (e : ℕ) (bytes : List ℕ) (s : Span)
     → e + 12 ≤ length bytes
-    → s ≡ value_room (number_of order) bytes e
+    → s ≡ value_space (number_of order) bytes e
     → value_answer order value e bytes ≡ answer_in order value e s (length bytes)
 unfolding value_answer
 edit_inside order value e bytes s l w =
     let t : nat_lt (length bytes) (e + 12) ≡ false = grind (arith, nat_tests) in
     rw t (ap (λ x. answer_in order value e x (length bytes)) (sym w))
 
--- a value is refused as shared where its old room does not lie in the data
+-- a value is refused as shared where its old space does not lie in the data
 pub edit_far : (order : Order) (value : Value) (e : ℕ) (bytes : List ℕ) (s : Span)
     → e + 12 ≤ length bytes
-    → s ≡ value_room (number_of order) bytes e → length bytes < s.offset + s.len
+    → s ≡ value_space (number_of order) bytes e → length bytes < s.offset + s.len
     → value_answer order value e bytes ≡ Err shared
 edit_far order value e bytes s l w f =
     let t : nat_lt (length bytes) (s.offset + s.len) ≡ true = grind (arith, nat_tests) in
@@ -48,17 +49,17 @@ edit_far order value e bytes s l w f =
 -- a value of more than 2^32 - 1 items is too long
 pub edit_many : (order : Order) (value : Value) (e : ℕ) (bytes : List ℕ) (s : Span)
     → e + 12 ≤ length bytes
-    → s ≡ value_room (number_of order) bytes e → s.offset + s.len ≤ length bytes
+    → s ≡ value_space (number_of order) bytes e → s.offset + s.len ≤ length bytes
     → 4294967295 < count_of value → value_answer order value e bytes ≡ Err too_long
 edit_many order value e bytes s l w f m =
     let t : nat_lt (length bytes) (s.offset + s.len) ≡ false = grind (arith, nat_tests) in
     let v : nat_lt (2 ^ 32 - 1) (count_of value) ≡ true = grind (arith, nat_tests) in
     edit_inside order value e bytes s l w ∙ rw (t, v) refl
 
--- a value of more bytes than its old room, and more than four, is too long
+-- a value of more bytes than its old space, and more than four, is too long
 pub edit_long : (order : Order) (value : Value) (e : ℕ) (bytes : List ℕ) (s : Span)
     → e + 12 ≤ length bytes
-    → s ≡ value_room (number_of order) bytes e → s.offset + s.len ≤ length bytes
+    → s ≡ value_space (number_of order) bytes e → s.offset + s.len ≤ length bytes
     → count_of value ≤ 4294967295 → max 4 s.len < length (encode order value)
     → value_answer order value e bytes ≡ Err too_long
 edit_long order value e bytes s l w f m g =
@@ -67,10 +68,10 @@ edit_long order value e bytes s l w f m g =
     let u : nat_lt (max 4 s.len) (length (encode order value)) ≡ true = grind (arith, nat_tests) in
     edit_inside order value e bytes s l w ∙ rw (t, v, u) refl
 
--- a value that fits an entry and a room in the data is answered with its patches
+-- a value that fits an entry and a space in the data is answered with its patches
 pub edit_fits : (order : Order) (value : Value) (e : ℕ) (bytes : List ℕ) (ps : List Patch)
     (s : Span)
-    → e + 12 ≤ length bytes → s ≡ value_room (number_of order) bytes e
+    → e + 12 ≤ length bytes → s ≡ value_space (number_of order) bytes e
     → s.offset + s.len ≤ length bytes → count_of value ≤ 4294967295
     → length (encode order value) ≤ max 4 s.len → ps ≡ value_patches order value e s
     → value_answer order value e bytes ≡ Ok ps
@@ -127,7 +128,7 @@ set_checked bytes ps tag k value read e h g = rw (h, g) refl
 expected_is : (bytes : List ℕ) (tag : Tag) (k : In) (value moved : Value) (read : Read)
     (e offset : ℕ) (fs : List Field)
     → fs ≡ replaced tag k moved read.fields → moved ≡ moved_to offset value
-    → offset ≡ set_offset (value_room (number_of (order_named read.little)) bytes e).offset e
+    → offset ≡ set_offset (value_space (number_of (order_named read.little)) bytes e).offset e
     (encode (order_named read.little) value)
     → ◌≡◌ {A = Read} (record { little = read.little; fields = fs; faults = read.faults })
     (expected tag k value e bytes read)
@@ -139,12 +140,12 @@ pub set_wanted : (bytes : List ℕ) (ps : List Patch) (tag : Tag) (k : In) (valu
     → find_answer bytes tag k ≡ Ok (read, e) → order ≡ order_named read.little
     → value_answer order value e bytes ≡ Ok ps
     → fs ≡ replaced tag k moved read.fields → moved ≡ moved_to offset value
-    → offset ≡ set_offset (value_room (number_of order) bytes e).offset e (encode order value)
+    → offset ≡ set_offset (value_space (number_of order) bytes e).offset e (encode order value)
     → checked (record { little = read.little; fields = fs; faults = read.faults }) bytes ps
     ≡ checked_patches bytes tag k value
 set_wanted bytes ps tag k value moved read e offset fs order h o g f m p =
     let g1 : value_answer (order_named read.little) value e bytes ≡ Ok ps = rw o at g in
-    let p1 : offset ≡ set_offset (value_room (number_of (order_named read.little)) bytes e).offset e
+    let p1 : offset ≡ set_offset (value_space (number_of (order_named read.little)) bytes e).offset e
     (encode (order_named read.little) value) = rw o at p in
     ap (λ r. checked r bytes ps) (expected_is bytes tag k value moved read e offset fs f m p1)
     ∙ sym (set_checked bytes ps tag k value read e h g1)

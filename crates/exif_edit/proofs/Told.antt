@@ -18,7 +18,7 @@ use Rattle.exif_edit_base.specs.Locations.{Located, located}
 use Rattle.exif_edit_base.proofs.FindSteps.{field_of}
 use Rattle.exif_edit_base.proofs.LocatedEntries.{AreSaid, ordered_said}
 use Rattle.exif_edit.specs.Promises.{told_by}
-use Rattle.exif_edit.specs.Removing.{told_at, told_in, untold}
+use Rattle.exif_edit_base.specs.Rereading.{field_at_entry, value_at_entry, without_entry_offsets}
 use Rattle.exif_edit_base.proofs.PutBack.{length-bytes_at}
 
 -- ---- a value of an entry
@@ -35,7 +35,7 @@ valued_as number o type count bytes offset =
 
 -- one that stands in the entry
 tells_inside : (number : Reading) (o : Option FieldType) (type count : ℕ) (bytes : List ℕ) (e : ℕ)
-    → told_in e (valued_as number o type count bytes (e + 8))
+    → value_at_entry e (valued_as number o type count bytes (e + 8))
     ≡ valued_as number o type count bytes (e + 8)
 tells_inside number None type count bytes e = refl
 tells_inside number (Some field_type.Byte) type count bytes e = refl
@@ -67,7 +67,7 @@ far_offset count bytes e offset h k =
 -- one that stands outside
 tells_outside : (number : Reading) (o : Option FieldType) (type count : ℕ) (bytes : List ℕ)
     (e offset : ℕ) → 4 < known_length o * count → offset + known_length o * count ≤ length bytes
-    → told_in e (valued_as number o type count bytes offset)
+    → value_at_entry e (valued_as number o type count bytes offset)
     ≡ valued_as number o type count bytes offset
 tells_outside number None type count bytes e offset a b = absurd (omega arith)
 tells_outside number (Some field_type.Byte) type count bytes e offset a b = refl
@@ -85,7 +85,7 @@ tells_outside number (Some field_type.Float) type count bytes e offset a b = ref
 tells_outside number (Some field_type.Double) type count bytes e offset a b = refl
 
 tells : (number : Reading) (bytes : List ℕ) (e : ℕ) (v : Value)
-    → entry_value number bytes e ≡ Some v → told_in e v ≡ v
+    → entry_value number bytes e ≡ Some v → value_at_entry e v ≡ v
 tells number bytes e v h = by_size (nat_le size 4) refl h
   where
     type : ℕ
@@ -103,15 +103,15 @@ tells number bytes e v h = by_size (nat_le size 4) refl h
     some_same : (x : Value) → ◌≡◌ {A = Option Value} (Some x) (Some v) → x ≡ v
     some_same x p = cc
 
-    by_room : (b : Bool) → nat_le (offset + size) (length bytes) ≡ b → nat_le size 4 ≡ false
+    by_space : (b : Bool) → nat_le (offset + size) (length bytes) ≡ b → nat_le size 4 ≡ false
         → (if b then Some (decode number type count bytes offset) else None) ≡ Some v
-        → told_in e v ≡ v
-    by_room true r s p =
+        → value_at_entry e v ≡ v
+    by_space true r s p =
         let a : 4 < size = grind (arith, nat_tests) in
         let c : offset + size ≤ length bytes = grind (arith, nat_tests) in
         rw (some_same (decode number type count bytes offset) p) at
         (tells_outside number (type_of type) type count bytes e offset a c)
-    by_room false r s p = absurd (none_some p)
+    by_space false r s p = absurd (none_some p)
       where
         none_some : ◌≡◌ {A = Option Value} None (Some v) → ⊥
         none_some p = cc
@@ -119,18 +119,18 @@ tells number bytes e v h = by_size (nat_le size 4) refl h
     by_size : (b : Bool) → nat_le size 4 ≡ b
         → (if b then Some (decode number type count bytes (e + 8)) else
         (if nat_le (offset + size) (length bytes) then Some (decode number type count bytes offset)
-        else None)) ≡ Some v → told_in e v ≡ v
+        else None)) ≡ Some v → value_at_entry e v ≡ v
     by_size true s p =
         rw (some_same (decode number type count bytes (e + 8)) p) at
         (tells_inside number (type_of type) type count bytes e)
-    by_size false s p = by_room (nat_le (offset + size) (length bytes)) refl s p
+    by_size false s p = by_space (nat_le (offset + size) (length bytes)) refl s p
 
 -- ---- all that is located
 
 -- each field is as its entry tells it
 abbrev pub AllTell : List Located → Type 0
 AllTell [] = Unit {0}
-AllTell (l ∷ ls) = (told_at l.entry l.field ≡ l.field) × AllTell ls
+AllTell (l ∷ ls) = (field_at_entry l.entry l.field ≡ l.field) × AllTell ls
 
 nodes_tell : (number : Reading) (bytes : List ℕ) (nodes : List Node) → AreSaid number bytes nodes
     → AllTell (located_of nodes)
@@ -165,7 +165,7 @@ located_tells bytes = by_header (header bytes) bytes
 -- ---- fields that are alike but for their entries
 
 -- what an entry tells anew
-told_twice : (e d : ℕ) (v : Value) → told_in e (told_in d v) ≡ told_in e v
+told_twice : (e d : ℕ) (v : Value) → value_at_entry e (value_at_entry d v) ≡ value_at_entry e v
 told_twice e d (value.Undefined xs offset) = by_test (nat_le (length xs) 4)
   where
     by_test : (b : Bool)
@@ -176,24 +176,24 @@ told_twice e d (value.Undefined xs offset) = by_test (nat_le (length xs) 4)
 told_twice e d (value.Unknown type count offset) = refl
 told_twice e d _ = refl
 
-settle_one : (l : Located) (g : Field) → told_at l.entry l.field ≡ l.field
-    → told_at 0 l.field ≡ told_at 0 g → told_at l.entry g ≡ l.field
+settle_one : (l : Located) (g : Field) → field_at_entry l.entry l.field ≡ l.field
+    → field_at_entry 0 l.field ≡ field_at_entry 0 g → field_at_entry l.entry g ≡ l.field
 settle_one l g t u =
-    let twice : (f : Field) → told_at l.entry (told_at 0 f) ≡ told_at l.entry f =
+    let twice : (f : Field) → field_at_entry l.entry (field_at_entry 0 f) ≡ field_at_entry l.entry f =
     λ f. ap (λ (v : Value). ◌-with f v) (told_twice l.entry 0 f.value) in
-    sym (twice g) ∙ (ap (told_at l.entry) (sym u) ∙ (twice l.field ∙ t))
+    sym (twice g) ∙ (ap (field_at_entry l.entry) (sym u) ∙ (twice l.field ∙ t))
   where
     ◌-with : Field → Value → Field
     ◌-with f v = record { tag = f.tag; ifd_num = f.ifd_num; value = v }
 
 -- fields like the located ones but for their entries are the same once these entries tell them
 pub settled : (ls : List Located) (gs : List Field) → AllTell ls
-    → untold (map field_of ls) ≡ untold gs → told_by ls gs ≡ map field_of ls
+    → without_entry_offsets (map field_of ls) ≡ without_entry_offsets gs → told_by ls gs ≡ map field_of ls
 settled [] [] h u = refl
 settled [] (g ∷ gs) h u = refl
 settled (l ∷ ls) [] h u = absurd (cons_nil u)
   where
-    cons_nil : ◌≡◌ {A = List Field} (told_at 0 l.field ∷ untold (map field_of ls)) [] → ⊥
+    cons_nil : ◌≡◌ {A = List Field} (field_at_entry 0 l.field ∷ without_entry_offsets (map field_of ls)) [] → ⊥
     cons_nil u = cc
 settled (l ∷ ls) (g ∷ gs) h u =
     let p = heads u in
@@ -201,7 +201,7 @@ settled (l ∷ ls) (g ∷ gs) h u =
     let b = settled ls gs h.1 p.1 in
     rw (a, b) refl
   where
-    heads : ◌≡◌ {A = List Field} (told_at 0 l.field ∷ untold (map field_of ls))
-        (told_at 0 g ∷ untold gs)
-        → (told_at 0 l.field ≡ told_at 0 g) × (untold (map field_of ls) ≡ untold gs)
+    heads : ◌≡◌ {A = List Field} (field_at_entry 0 l.field ∷ without_entry_offsets (map field_of ls))
+        (field_at_entry 0 g ∷ without_entry_offsets gs)
+        → (field_at_entry 0 l.field ≡ field_at_entry 0 g) × (without_entry_offsets (map field_of ls) ≡ without_entry_offsets gs)
     heads u = (cc, cc)

@@ -43,9 +43,10 @@ use Rattle.exif_edit_base.specs.declared.patch.Span.{Span}
 use Rattle.exif_edit_base.proofs.FindSteps.{any_map, field_of}
 use Rattle.exif_edit_base.proofs.LocatedEntries.{IsSaid, last_said}
 use Rattle.exif_edit_base.proofs.PatchSteps.{length-patched, patched_outside}
-use Rattle.exif_edit_base.proofs.ReadSteps.{header_room, reading_by}
-use Rattle.exif_edit.specs.Setting.{checked, checked_patches, expected, names_offsets, set_patches, set_offset, value_answer, value_patches, value_room}
-use Rattle.exif_edit.specs.Sharing.{IsSetUnshared, all_beside, changed_entry, meets, names_child, standing_at, stands_alone}
+use Rattle.exif_edit_base.proofs.ReadSteps.{header_space, reading_by}
+use Rattle.exif_edit_base.specs.Spans.{value_space}
+use Rattle.exif_edit.specs.Setting.{checked, checked_patches, expected, names_offsets, set_patches, set_offset, value_answer, value_patches}
+use Rattle.exif_edit.specs.Sharing.{IsSetUnshared, all_beside, changed_entry, overlaps, names_child, standing_at, is_unshared}
 use Rattle.exif_edit.proofs.NewEntry.{new_value}
 use Rattle.exif_edit.proofs.ReadSound.{fault_Decides}
 use Rattle.exif_edit.proofs.Renewed.{ordered_told, renewed}
@@ -54,7 +55,7 @@ use Rattle.exif_edit.proofs.SetSound.{Fits, value_fits, value_misses}
 -- ---- tests that fail
 
 -- bytes of a stretch that is not met are not those of the span
-pub missed : (s : Span) (t : Stretch) (i : ℕ) → meets s t ≡ false → t.offset ≤ i → i < t.offset + t.len
+pub missed : (s : Span) (t : Stretch) (i : ℕ) → overlaps s t ≡ false → t.offset ≤ i → i < t.offset + t.len
     → inside i s ≡ false
 missed s t i m low high = by_tests (nat_le s.offset i) (nat_lt i (s.offset + s.len)) refl refl
   where
@@ -228,13 +229,13 @@ pub named_order : (order : Order) → order_named (is_little order) ≡ order
 named_order Big = refl
 named_order Little = refl
 
--- the room of a value that lies in the data lies there
-abbrev room_by : Bool → ℕ → ℕ → Span
-room_by s offset size = if s then record { offset = 0; len = 0 } else record { offset = offset; len = size }
+-- the space of a value that lies in the data lies there
+abbrev space_by : Bool → ℕ → ℕ → Span
+space_by s offset size = if s then record { offset = 0; len = 0 } else record { offset = offset; len = size }
 
 far_by : (s t : Bool) (offset size total : ℕ) (x y v : Value) → nat_le (offset + size) total ≡ t
     → (if s then Some x else (if t then Some y else None)) ≡ Some v
-    → (room_by s offset size).offset + (room_by s offset size).len ≤ total
+    → (space_by s offset size).offset + (space_by s offset size).len ≤ total
 far_by true t offset size total x y v n h = omega arith
 far_by false true offset size total x y v n h = grind (arith, nat_tests)
 far_by false false offset size total x y v n h = absurd (none_some h)
@@ -242,11 +243,11 @@ far_by false false offset size total x y v n h = absurd (none_some h)
     none_some : ◌≡◌ {A = Option Value} None (Some v) → ⊥
     none_some h = cc
 
-room_far : (order : Order) (bytes : List ℕ) (e : ℕ) (v : Value)
+space_far : (order : Order) (bytes : List ℕ) (e : ℕ) (v : Value)
     → entry_value (number_of order) bytes e ≡ Some v
-    → (value_room (number_of order) bytes e).offset + (value_room (number_of order) bytes e).len
+    → (value_space (number_of order) bytes e).offset + (value_space (number_of order) bytes e).len
     ≤ length bytes
-room_far order bytes e v h =
+space_far order bytes e v h =
     let type = number_at (number_of order) 2 bytes (e + 2) in
     let count = number_at (number_of order) 4 bytes (e + 4) in
     let size = known_length (type_of type) * count in
@@ -260,16 +261,16 @@ room_far order bytes e v h =
 module _ (order : Order) (bytes : List ℕ) (tag : Tag) (k : In) (value : Value) (at : Located)
     (head : header bytes ≡ Ok order)
     (last : last_located tag k (located bytes) ≡ Some at)
-    (alone : stands_alone (number_of order) bytes at.entry ≡ true)
+    (alone : is_unshared (number_of order) bytes at.entry ≡ true)
     (childless : names_child tag.1 ≡ false) where
   abbrev e : ℕ
   e = at.entry
 
-  abbrev room : Span
-  room = value_room (number_of order) bytes e
+  abbrev space : Span
+  space = value_space (number_of order) bytes e
 
   abbrev touched : Stretch → Bool
-  touched t = meets (changed_entry e) t || meets room t
+  touched t = overlaps (changed_entry e) t || overlaps space t
 
   abbrev itself : Stretch
   itself = record { offset = e; len = 12 }
@@ -280,14 +281,14 @@ module _ (order : Order) (bytes : List ℕ) (tag : Tag) (k : In) (value : Value)
       (subst (λ ls. last_located tag k ls ≡ Some at) (located_in bytes order head) last)
 
   alone_by : (list_any touched (all_beside (number_of order) bytes e) ≡ false)
-      × ((meets room itself ≡ false) × (length (standing_at e (located bytes)) ≡ 1))
+      × ((overlaps space itself ≡ false) × (length (standing_at e (located bytes)) ≡ 1))
   alone_by =
       let a = and_parts (not (list_any touched (all_beside (number_of order) bytes e)))
-      (not (meets room itself) && (length (standing_at e (located bytes)) == 1)) alone in
-      let b = and_parts (not (meets room itself)) (length (standing_at e (located bytes)) == 1) a.1 in
+      (not (overlaps space itself) && (length (standing_at e (located bytes)) == 1)) alone in
+      let b = and_parts (not (overlaps space itself)) (length (standing_at e (located bytes)) == 1) a.1 in
       let one = b.1 in (
         not-true (list_any touched (all_beside (number_of order) bytes e)) a.0,
-        (not-true (meets room itself) b.0, grind (arith, nat_tests)),
+        (not-true (overlaps space itself) b.0, grind (arith, nat_tests)),
       )
 
   module _ (ps : List Patch) (f : Fits order value e bytes ps) where
@@ -300,17 +301,17 @@ module _ (order : Order) (bytes : List ℕ) (tag : Tag) (k : In) (value : Value)
     as_long : length bytes ≡ length out
     as_long = sym (length-patched ps bytes fit)
 
-    byte_same : (i : ℕ) → inside i (changed_entry e) ≡ false → inside i room ≡ false
+    byte_same : (i : ℕ) → inside i (changed_entry e) ≡ false → inside i space ≡ false
         → slice_index bytes i ≡ slice_index out i
     byte_same i x y =
         sym (patched_outside ps bytes i fit (value_misses order value e bytes ps i f x y))
 
     stretch_same : (t : Stretch) → touched t ≡ false → Agree bytes out t
     stretch_same t m =
-        let a = or_parts (meets (changed_entry e) t) (meets room t) m in
+        let a = or_parts (overlaps (changed_entry e) t) (overlaps space t) m in
         bytes_same bytes out t.offset t.len as_long
         (λ i low high. byte_same i (missed (changed_entry e) t i a.0 low high)
-        (missed room t i a.1 low high))
+        (missed space t i a.1 low high))
 
     all_same : (ts : List Stretch) → list_any touched ts ≡ false → AllByRecursion (Agree bytes out) ts
     all_same [] h = tt
@@ -324,7 +325,7 @@ module _ (order : Order) (bytes : List ℕ) (tag : Tag) (k : In) (value : Value)
     tag_same : number_at (number_of order) 2 out e ≡ number_at (number_of order) 2 bytes e
     tag_same =
         sym (number_same order 2 bytes out e
-        (λ i low high. byte_same i (before i high) (missed room itself i alone_by.1.0 low (omega arith))))
+        (λ i low high. byte_same i (before i high) (missed space itself i alone_by.1.0 low (omega arith))))
       where
         before : (i : ℕ) → i < e + 2 → inside i (changed_entry e) ≡ false
         before i high =
@@ -334,24 +335,24 @@ module _ (order : Order) (bytes : List ℕ) (tag : Tag) (k : In) (value : Value)
     head_out : header out ≡ Ok order
     head_out = sym (header_same bytes out as_long (same_of bytes out 0 8 agree.0)) ∙ head
 
-    apart : (room.len ≡ 0) ⊎ ((room.offset + room.len ≤ e) ⊎ (e + 12 ≤ room.offset))
-    apart = by_tests (nat_lt e (room.offset + room.len)) (nat_lt room.offset (e + 12)) refl refl alone_by.1.0
+    apart : (space.len ≡ 0) ⊎ ((space.offset + space.len ≤ e) ⊎ (e + 12 ≤ space.offset))
+    apart = by_tests (nat_lt e (space.offset + space.len)) (nat_lt space.offset (e + 12)) refl refl alone_by.1.0
       where
-        by_tests : (x y : Bool) → nat_lt e (room.offset + room.len) ≡ x → nat_lt room.offset (e + 12) ≡ y
-            → (x && y) ≡ false → (room.len ≡ 0) ⊎ ((room.offset + room.len ≤ e) ⊎ (e + 12 ≤ room.offset))
+        by_tests : (x y : Bool) → nat_lt e (space.offset + space.len) ≡ x → nat_lt space.offset (e + 12) ≡ y
+            → (x && y) ≡ false → (space.len ≡ 0) ⊎ ((space.offset + space.len ≤ e) ⊎ (e + 12 ≤ space.offset))
         by_tests false y p q h = inr (inl (grind (arith, nat_tests)))
         by_tests true false p q h = inr (inr (grind (arith, nat_tests)))
         by_tests true true p q h = absurd (false≢true (sym h))
 
     abbrev new : Value
-    new = moved_to (set_offset room.offset e (encode order value)) value
+    new = moved_to (set_offset space.offset e (encode order value)) value
 
     reads_new : (ranged : IsRanged value) (plain : HasPlainTexts value) (known : is_unknown value ≡ false)
         (few : count_of value < 2 ^ 32)
         → reading out ≡ Ok (expected tag k value e bytes (read_in order bytes))
     reads_new ranged plain known few =
         let s = said.0 in
-        let small = (header_room bytes order head).1 in
+        let small = (header_space bytes order head).1 in
         let tags = (tag_Decides at.field.tag tag).0
         (and_parts (tag_eq at.field.tag tag) (at.field.ifd_num.0 == k.0) said.1).0 in
         let n : number_at (number_of order) 2 bytes e ≡ tag.1 = s.tag ∙ ap (λ (t : Tag). t.1) tags in
@@ -377,14 +378,14 @@ module _ (order : Order) (bytes : List ℕ) (tag : Tag) (k : In) (value : Value)
 module _ (tag : Tag) (k : In) (value : Value) (bytes : List ℕ) (order : Order) (at : Located)
     (head : header bytes ≡ Ok order)
     (last : last_located tag k (located bytes) ≡ Some at)
-    (alone : stands_alone (number_of order) bytes at.entry ≡ true)
+    (alone : is_unshared (number_of order) bytes at.entry ≡ true)
     (childless : names_child tag.1 ≡ false) (ranged : IsRanged value) (plain : HasPlainTexts value)
     (known : is_unknown value ≡ false) where
-  abbrev room_at : Span
-  room_at = value_room (number_of order) bytes at.entry
+  abbrev space_at : Span
+  space_at = value_space (number_of order) bytes at.entry
 
   abbrev made : List Patch
-  made = value_patches order value at.entry room_at
+  made = value_patches order value at.entry space_at
 
   abbrev wanted : Read
   wanted = expected tag k value at.entry bytes (read_in order bytes)
@@ -400,14 +401,14 @@ module _ (tag : Tag) (k : In) (value : Value) (bytes : List ℕ) (order : Order)
   found_so = let named = named_order order in rw (found_is, named) refl
 
   checked_right : nat_lt (2 ^ 32 - 1) (count_of value) ≡ false
-      → nat_lt (max 4 room_at.len) (length (encode order value)) ≡ false
+      → nat_lt (max 4 space_at.len) (length (encode order value)) ≡ false
       → checked wanted bytes made ≡ Ok made
   checked_right few fits =
       let s = (said order bytes tag k value at head last alone childless).0 in
       let f : Fits order value at.entry bytes made = record {
         whole = s.whole;
-        far = room_far order bytes at.entry at.field.value s.value;
-        text = grind (arith, nat_tests);
+        far = space_far order bytes at.entry at.field.value s.value;
+        encoded = grind (arith, nat_tests);
         is = refl;
       } in
       let reads = reads_right (patched made bytes) wanted
@@ -421,17 +422,17 @@ module _ (tag : Tag) (k : In) (value : Value) (bytes : List ℕ) (order : Order)
 
   answered : (value_answer order value at.entry bytes >>= λ qs. checked wanted bytes qs)
       ≡ fitting (nat_lt (2 ^ 32 - 1) (count_of value))
-      (nat_lt (max 4 room_at.len) (length (encode order value)))
+      (nat_lt (max 4 space_at.len) (length (encode order value)))
   unfolding value_answer
   answered =
       by_tests (nat_lt (length bytes) (at.entry + 12))
-      (nat_lt (length bytes) (room_at.offset + room_at.len)) (nat_lt (2 ^ 32 - 1) (count_of value))
-      (nat_lt (max 4 room_at.len) (length (encode order value))) refl refl refl refl
+      (nat_lt (length bytes) (space_at.offset + space_at.len)) (nat_lt (2 ^ 32 - 1) (count_of value))
+      (nat_lt (max 4 space_at.len) (length (encode order value))) refl refl refl refl
     where
       by_tests : (w x y z : Bool) → nat_lt (length bytes) (at.entry + 12) ≡ w
-          → nat_lt (length bytes) (room_at.offset + room_at.len) ≡ x
+          → nat_lt (length bytes) (space_at.offset + space_at.len) ≡ x
           → nat_lt (2 ^ 32 - 1) (count_of value) ≡ y
-          → nat_lt (max 4 room_at.len) (length (encode order value)) ≡ z
+          → nat_lt (max 4 space_at.len) (length (encode order value)) ≡ z
           → ((unless w shared >>= λ a. (unless x shared >>= λ b. fitting y z))
           >>= λ qs. checked wanted bytes qs) ≡ fitting y z
       by_tests true x y z p q r t =
@@ -439,7 +440,7 @@ module _ (tag : Tag) (k : In) (value : Value) (bytes : List ℕ) (order : Order)
           absurd (grind (arith, nat_tests))
       by_tests false true y z p q r t =
           let s = (said order bytes tag k value at head last alone childless).0 in
-          let far = room_far order bytes at.entry at.field.value s.value in
+          let far = space_far order bytes at.entry at.field.value s.value in
           absurd (grind (arith, nat_tests))
       by_tests false false true z p q r t = refl
       by_tests false false false true p q r t = refl
@@ -457,9 +458,9 @@ set_unshared tag k value bytes order at head last alone childless ranged plain =
         ≡ (unless n offset_named >>= λ a. (unless u unknown_type >>= λ b.
         (unless (nat_lt (2 ^ 32 - 1) (count_of value)) too_long >>= λ c.
         (unless
-        (nat_lt (max 4 (value_room (number_of order) bytes at.entry).len) (length (encode order value)))
+        (nat_lt (max 4 (value_space (number_of order) bytes at.entry).len) (length (encode order value)))
         too_long
-        >>= λ d. Ok (value_patches order value at.entry (value_room (number_of order) bytes at.entry))))))
+        >>= λ d. Ok (value_patches order value at.entry (value_space (number_of order) bytes at.entry))))))
     by_tests true u known = refl
     by_tests false true known = refl
     by_tests false false known =

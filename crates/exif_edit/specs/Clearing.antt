@@ -8,7 +8,7 @@ use Rattle.exif_edit_base.specs.Causes.{Cause, of_data, ◌>>=◌}
 use Rattle.exif_edit_base.specs.Patches.{patched, zeros_over}
 use Rattle.exif_edit_base.specs.declared.patch.Patch.{Patch}
 
--- where the directory of the chain stands then: behind the header, or nowhere where there is no room
+-- the offset of the directory of the chain then: behind the header, or 0 if there is no space
 -- for its count and its next offset
 abbrev pub empty_offset : ℕ → ℕ
 empty_offset total = if nat_lt total 14 then 0 else 8

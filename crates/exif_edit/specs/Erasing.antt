@@ -17,25 +17,14 @@ use Rattle.exif_edit_base.specs.Patches.{patched, zeros_over}
 use Rattle.exif_edit_base.specs.Readings.{Read, reading}
 use Rattle.exif_edit_base.specs.declared.patch.Patch.{Patch}
 use Rattle.exif_edit_base.specs.declared.patch.Span.{Span}
-use Rattle.exif_edit.specs.Setting.{room_of, value_room}
-
--- no span
-abbrev pub nowhere : Span
-nowhere = record { offset = 0; len = 0 }
+use Rattle.exif_edit_base.specs.Rereading.{clears}
+use Rattle.exif_edit_base.specs.Spans.{nowhere, space_of}
 
 -- what of a span lies in data of a length
 abbrev pub clipped : ℕ → Span → Span
 clipped total s =
     if nat_le s.offset total then record { offset = s.offset; len = min s.len (total - s.offset) }
     else nowhere
-
--- a span that lies in data of a length; else none
-abbrev pub within : ℕ → Span → Span
-within total s = if nat_le (s.offset + s.len) total then s else nowhere
-
--- where the value of the entry at e stands outside of it, if it lies in the data
-abbrev pub value_span : Reading → List ℕ → ℕ → Span
-value_span number bytes e = within (length bytes) (value_room number bytes e)
 
 -- the directory at q: its count, entries and next offset
 abbrev pub directory_span : Reading → List ℕ → ℕ → Span
@@ -48,14 +37,14 @@ abbrev pub item_len : ℕ → ℕ
 item_len t = if t == 129 then 1 else (if t == 13 then 4 else known_length (type_of t))
 
 -- where the value of the entry at e of a GPS directory is, outside of the entry
-abbrev pub gps_room : Reading → List ℕ → ℕ → Span
-gps_room number bytes e =
-    room_of (number_at number 4 bytes (e + 8))
+abbrev pub gps_space : Reading → List ℕ → ℕ → Span
+gps_space number bytes e =
+    space_of (number_at number 4 bytes (e + 8))
     (item_len (number_at number 2 bytes (e + 2)) * number_at number 4 bytes (e + 4))
 
 -- so much of it as lies in the data
 abbrev pub gps_value_span : Reading → List ℕ → ℕ → Span
-gps_value_span number bytes e = clipped (length bytes) (gps_room number bytes e)
+gps_value_span number bytes e = clipped (length bytes) (gps_space number bytes e)
 
 -- the directory at q and the values of its entries
 abbrev pub directory_spans : Reading → List ℕ → ℕ → List Span
@@ -82,15 +71,6 @@ without_gps fields = filter (λ (f : Field). not (is_gps f.tag.0)) fields
 abbrev pub kept : Read → Read
 kept read =
     record { little = read.little; fields = without_gps read.fields; faults = read.faults }
-
--- whether the data are read so, with no more faults
-abbrev pub clears : List ℕ → Read → Bool
-clears bytes read = elim (reading bytes) [
-  | Ok found ↦ beq found.little read.little
-      && (pointwise field_eq found.fields read.fields
-      && nat_le (length found.faults) (length read.faults))
-  | Err fault ↦ false
-]
 
 -- patches, if what they make is read so
 abbrev pub cleared : Read → List ℕ → List Patch → Result (List Patch) Cause

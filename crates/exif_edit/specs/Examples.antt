@@ -11,8 +11,8 @@ use Rattle.exif_edit_base.specs.GpsOffsets.{all_directories, chain_from, childre
 use Rattle.exif_edit_base.specs.Readings.{reading}
 use Rattle.exif_edit_base.specs.Locations.{directory_offsets, visited_gps, located}
 use Rattle.exif_edit.specs.Erasing.{erase_answer, erase_patches, gps_spans}
-use Rattle.exif_edit.specs.GpsAlone.{gps_stands_alone}
-use Rattle.exif_edit.specs.Sharing.{stands_alone}
+use Rattle.exif_edit.specs.GpsAlone.{gps_is_unshared}
+use Rattle.exif_edit.specs.Sharing.{is_unshared}
 use Rattle.exif_edit.specs.Setting.{checked_patches, set_answer, set_patches, value_answer}
 
 -- one description of 7 bytes, behind its directory
@@ -35,8 +35,8 @@ shorter : set_answer described (record { 0 = Tiff; 1 = 0x10e }) (record { 0 = 0 
 unfolding set_patches checked_patches find_answer value_answer reading located trace ordered_trace
 shorter = refl
 
--- its entry, at 10, stands alone
-alone : stands_alone (number_of Big) described 10 ≡ true
+-- its entry, at 10, is unshared
+alone : is_unshared (number_of Big) described 10 ≡ true
 unfolding located trace ordered_trace
 alone = refl
 
@@ -50,11 +50,11 @@ sharing =
     ∷ 0 ∷ 0 ∷ 0 ∷ 0
     ∷ 83 ∷ 97 ∷ 109 ∷ 112 ∷ 108 ∷ 101 ∷ 0 ∷ []
 
-not_alone : stands_alone (number_of Big) sharing 10 ≡ false
+not_alone : is_unshared (number_of Big) sharing 10 ≡ false
 unfolding located trace ordered_trace
 not_alone = refl
 
--- one that stands in the entry then: its old room is zeros
+-- one that is in the entry then: its old space is zeros
 inline : set_answer described (record { 0 = Tiff; 1 = 0x10e }) (record { 0 = 0 })
     (value.Ascii (codes "Hi" ∷ []))
     ≡ Ok (77 ∷ 77 ∷ 0 ∷ 42 ∷ 0 ∷ 0 ∷ 0 ∷ 8
@@ -82,7 +82,7 @@ strips : set_answer described (record { 0 = Tiff; 1 = 0x111 }) (record { 0 = 0 }
 unfolding set_patches
 strips = refl
 
--- one directory with a width and a pointer to a GPS directory at 38, whose one value stands at 56
+-- one directory with a width and a pointer to a GPS directory at 38, whose one value is at 56
 abbrev placed : List ℕ
 placed =
     77 ∷ 77 ∷ 0 ∷ 42 ∷ 0 ∷ 0 ∷ 0 ∷ 8
@@ -97,7 +97,7 @@ placed =
     ∷ 9 ∷ []
 
 -- nothing else is looked at there
-gps_alone : gps_stands_alone (number_of Big) placed ≡ true
+gps_alone : gps_is_unshared (number_of Big) placed ≡ true
 unfolding visited_gps gps_spans gps_offsets gps_pointers all_directories children_from chain_from pointers directory_offsets trace ordered_trace
 gps_alone = refl
 

@@ -9,7 +9,7 @@ use Rattle.exif_tiff.specs.Footprint.{Below, Stretch, entry_directories, followi
 use Rattle.exif_tiff.specs.Trace.{depth_of, directory_end, entry_offsets, header}
 use Rattle.exif_edit_base.specs.Patches.{zeros_over}
 use Rattle.exif_edit.specs.Erasing.{erase_patches, gps_spans, is_gps}
-use Rattle.exif_edit.specs.Sharing.{meets}
+use Rattle.exif_edit.specs.Sharing.{overlaps}
 
 -- the directories below, but those of GPS data
 abbrev pub below_kept : Below → Below
@@ -38,13 +38,13 @@ all_kept number bytes =
     ∷ flat_map (looked_at number bytes) (chain_kept 8 number bytes (number_at number 4 bytes 4))
 
 -- whether it looks there at no byte of GPS directories and their values
-abbrev pub gps_stands_alone : Reading → List ℕ → Bool
-gps_stands_alone number bytes =
+abbrev pub gps_is_unshared : Reading → List ℕ → Bool
+gps_is_unshared number bytes =
     not
-    (list_any (λ t. list_any (λ s. meets s t) (gps_spans number bytes)) (all_kept number bytes))
+    (list_any (λ t. list_any (λ s. overlaps s t) (gps_spans number bytes)) (all_kept number bytes))
 
--- where GPS data stand alone, they are erased
+-- unshared GPS data are erased
 abbrev pub AreErasedUnshared : List ℕ → Type 0
 AreErasedUnshared bytes =
-    (order : Order) → header bytes ≡ Ok order → gps_stands_alone (number_of order) bytes ≡ true
+    (order : Order) → header bytes ≡ Ok order → gps_is_unshared (number_of order) bytes ≡ true
     → erase_patches bytes ≡ Ok (map zeros_over (gps_spans (number_of order) bytes))

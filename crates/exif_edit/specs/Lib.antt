@@ -4,7 +4,6 @@ pub mod Edits
 pub mod Erasing
 pub mod Examples
 pub mod GpsAlone
-pub mod Plans
 pub mod Promises
 pub mod Removing
 pub mod Setting

@@ -16,8 +16,10 @@ use Rattle.exif_edit_base.specs.Finding.{last_located, replaced}
 use Rattle.exif_edit_base.specs.Patches.{inside}
 use Rattle.exif_edit_base.specs.Locations.{Located, located}
 use Rattle.exif_edit.specs.Erasing.{gps_spans, without_gps}
-use Rattle.exif_edit.specs.Removing.{directories_with, named_spans, named_values, told_at, without_named}
-use Rattle.exif_edit.specs.Setting.{set_answer, value_room}
+use Rattle.exif_edit_base.specs.Rereading.{field_at_entry}
+use Rattle.exif_edit.specs.Removing.{directories_with, named_spans, named_values, without_named}
+use Rattle.exif_edit_base.specs.Spans.{value_space}
+use Rattle.exif_edit.specs.Setting.{set_answer}
 use Rattle.exif_edit_base.specs.Walked.{entry_of}
 
 -- in both modes the data are read as these fields and faults
@@ -38,7 +40,7 @@ pub record IsSet (old : List ℕ) (tag : Tag) (k : In) (value : Value) (new : Li
   pub found : last_located tag k (located old) ≡ Some at
   pub as_long : length new ≡ length old
   pub outside : (i : ℕ) → inside i (record { offset = at.entry + 2; len = 10 }) ≡ false
-      → inside i (value_room (number_of order) old at.entry) ≡ false
+      → inside i (value_space (number_of order) old at.entry) ≡ false
       → slice_index new i ≡ slice_index old i
 
 -- a look-up of the name in what is read gives the value
@@ -60,9 +62,9 @@ pub record IsErased (old new : List ℕ) : Type 0 where
   pub reads : ReadAs new (without_gps (fields_of (trace old))) faults
   pub fewer : length faults ≤ length (faults_of (trace old))
 
--- the fields, each as the entry tells it in which it stands
+-- the fields, each as its entry gives it
 abbrev pub told_by : List Located → List Field → List Field
-told_by (l ∷ ls) (f ∷ fs) = told_at l.entry f ∷ told_by ls fs
+told_by (l ∷ ls) (f ∷ fs) = field_at_entry l.entry f ∷ told_by ls fs
 told_by _ _ = []
 
 -- the directories that have fields of a name
@@ -70,7 +72,7 @@ abbrev pub named_directories : List ℕ → Tag → In → List ℕ
 named_directories bytes tag k =
     directories_with tag k (fields_of (trace bytes)) (map entry_of (located bytes))
 
--- the fields of a name are gone, their values are zero bytes, and all that stands neither there nor
+-- the fields of a name are gone, their values are zero bytes, and all bytes that are neither there nor
 -- in their directories is as it was
 pub record IsFieldErased (old : List ℕ) (tag : Tag) (k : In) (new : List ℕ) : Type 0 where
   pub order : Order
@@ -95,7 +97,7 @@ FindsNone tag k bytes =
 
 -- ---- laws
 
--- the last field of a name stands where it stood, and its value has the same room
+-- the last field of a name is where it was, and its value has the same space
 pub record KeepsOffset (tag : Tag) (k : In) (old new : List ℕ) : Type 0 where
   pub order : Order
   pub before : header old ≡ Ok order
@@ -105,9 +107,9 @@ pub record KeepsOffset (tag : Tag) (k : In) (old new : List ℕ) : Type 0 where
   pub now : Located
   pub is : last_located tag k (located new) ≡ Some now
   pub entry : now.entry ≡ at.entry
-  pub room : value_room (number_of order) new at.entry ≡ value_room (number_of order) old at.entry
+  pub space : value_space (number_of order) new at.entry ≡ value_space (number_of order) old at.entry
 
--- a value that is what stands there, set again after another, gives the bytes from before
+-- the value that is there, set again after another, gives the bytes from before
 abbrev pub SetsBack : Tag → In → Value → Value → List ℕ → Type 0
 SetsBack tag k value first old =
     (new back : List ℕ) → set_answer old tag k first ≡ Ok old → set_answer old tag k value ≡ Ok new

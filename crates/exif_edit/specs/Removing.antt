@@ -21,10 +21,12 @@ use Rattle.exif_edit_base.specs.Finding.{with_value}
 use Rattle.exif_edit_base.specs.Patches.{padded, patched, zeros_over}
 use Rattle.exif_edit_base.specs.Locations.{located}
 use Rattle.exif_edit_base.specs.Readings.{Read, reading}
+use Rattle.exif_edit_base.specs.Rereading.{still_reads}
 use Rattle.exif_edit_base.specs.declared.patch.Patch.{Patch}
 use Rattle.exif_edit_base.specs.declared.patch.Span.{Span}
 use Rattle.exif_edit_base.specs.Walked.{entry_of}
-use Rattle.exif_edit.specs.Erasing.{directory_span, value_span}
+use Rattle.exif_edit_base.specs.Spans.{value_span}
+use Rattle.exif_edit.specs.Erasing.{directory_span}
 use Rattle.exif_edit.specs.Setting.{names_offsets}
 use Rattle.exif_tiff.specs.declared.offset.EntryOffset.{EntryOffset}
 
@@ -44,27 +46,27 @@ entries_without number bytes n p =
     filter (λ e. not (has_tag number bytes n e)) (entry_offsets number bytes p)
 
 -- the bytes of entries
-abbrev pub entries_text : List ℕ → List ℕ → List ℕ
-entries_text bytes entries = flat_map (bytes_at 12 bytes) entries
+abbrev pub entries_bytes : List ℕ → List ℕ → List ℕ
+entries_bytes bytes entries = flat_map (bytes_at 12 bytes) entries
 
--- the offset of the next directory, where there is one to be told
-abbrev pub next_text : Order → Result ℕ Fault → List ℕ
-next_text order (Ok next) = spelled order 4 next
-next_text order (Err fault) = []
+-- the offset of the next directory, if the directory has one
+abbrev pub next_offset_bytes : Order → Result ℕ Fault → List ℕ
+next_offset_bytes order (Ok next) = spelled order 4 next
+next_offset_bytes order (Err fault) = []
 
 -- the directory with these entries: how many they are, the entries and the next offset, and zeros up
 -- to a length
-abbrev pub directory_text : Order → List ℕ → ℕ → List ℕ → List ℕ → List ℕ
-directory_text order bytes count entries next =
+abbrev pub directory_bytes : Order → List ℕ → ℕ → List ℕ → List ℕ → List ℕ
+directory_bytes order bytes count entries next =
     padded (2 + 12 * count + length next)
-    (spelled order 2 (length entries) ++ (entries_text bytes entries ++ next))
+    (spelled order 2 (length entries) ++ (entries_bytes bytes entries ++ next))
 
 -- the directory at p without its entries of the tag n
 abbrev pub directory_without : Order → List ℕ → ℕ → ℕ → List ℕ
 directory_without order bytes n p =
     let number = number_of order in
-    directory_text order bytes (whole_entries number bytes p) (entries_without number bytes n p)
-    (next_text order (directory_end number bytes p))
+    directory_bytes order bytes (whole_entries number bytes p) (entries_without number bytes n p)
+    (next_offset_bytes order (directory_end number bytes p))
 
 -- a patch that lies in data of a length; else none
 abbrev pub if_within : ℕ → Patch → List Patch
@@ -75,7 +77,7 @@ abbrev pub directory_patches : Order → List ℕ → ℕ → ℕ → List Patch
 directory_patches order bytes n p =
     if_within (length bytes) (record { offset = p; bytes = directory_without order bytes n p })
 
--- where the values of these entries stand outside of them
+-- where the values of these entries are outside of them
 abbrev pub taken_spans : Reading → List ℕ → ℕ → ℕ → List Span
 taken_spans number bytes n p = map (value_span number bytes) (entries_with number bytes n p)
 
@@ -113,29 +115,6 @@ directories_with tag k _ _ = []
 -- the fields but those of a name
 abbrev pub without_named : Tag → In → List Field → List Field
 without_named tag k fields = filter (λ f. not (is_named tag k f)) fields
-
--- a value as the entry at e tells it: one that stands in its entry tells the entry's offset
-abbrev pub told_in : ℕ → Value → Value
-told_in e (Undefined xs offset) = Undefined xs (if nat_le (length xs) 4 then e + 8 else offset)
-told_in e (Unknown type count offset) = Unknown type count (e + 8)
-told_in e value = value
-
--- a field with its value as the entry at e tells it
-abbrev pub told_at : ℕ → Field → Field
-told_at e f = with_value (told_in e f.value) f
-
--- the fields as they are told in whichever entries they stand
-abbrev pub untold : List Field → List Field
-untold fields = map (told_at 0) fields
-
--- whether the data are read so, wherever the entries stand, with no more faults
-abbrev pub still_reads : List ℕ → Read → Bool
-still_reads bytes read = elim (reading bytes) [
-  | Ok found ↦ beq found.little read.little
-      && (pointwise field_eq (untold found.fields) (untold read.fields)
-      && nat_le (length found.faults) (length read.faults))
-  | Err fault ↦ false
-]
 
 -- ---- the whole
 

@@ -16,10 +16,11 @@ use Rattle.exif_edit_base.specs.Causes.{Cause, offset_named, shared, too_long, u
 use Rattle.exif_edit_base.specs.Finding.{find_answer, replaced}
 use Rattle.exif_edit_base.specs.Patches.{padded, patched}
 use Rattle.exif_edit_base.specs.Readings.{Read, reads_as}
+use Rattle.exif_edit_base.specs.Spans.{value_space}
 use Rattle.exif_edit_base.specs.declared.patch.Patch.{Patch}
 use Rattle.exif_edit_base.specs.declared.patch.Span.{Span}
 
--- the tags of context Tiff whose values say where other bytes stand, or how many: strips, free
+-- the tags of context Tiff whose values are offsets or lengths of other bytes: strips, free
 -- bytes, tiles, child directories, thumbnails and their tables (TIFF 6.0, sections 8, 15, 22 and its
 -- index of tags; TIFF/EP, SubIFDs; Exif 2.32, 4.6.3)
 abbrev pub offset_tags : List ℕ
@@ -27,7 +28,7 @@ offset_tags =
     0x111 ∷ 0x117 ∷ 0x120 ∷ 0x121 ∷ 0x144 ∷ 0x145 ∷ 0x14a ∷ 0x201 ∷ 0x202 ∷ 0x207 ∷ 0x208 ∷ 0x209
     ∷ 0x8769 ∷ 0x8825 ∷ []
 
--- whether the values of a tag say where other bytes stand, or how many
+-- whether the values of a tag are offsets or lengths of other bytes
 abbrev pub names_offsets : Tag → Bool
 names_offsets tag = elim tag.0 [
   | Tiff ↦ list_any (λ n. tag.1 == n) offset_tags
@@ -36,75 +37,64 @@ names_offsets tag = elim tag.0 [
   | Interop ↦ false
 ]
 
--- the room of a value of this size at an offset: nothing where the value stands in its entry
-abbrev pub room_of : ℕ → ℕ → Span
-room_of offset size =
-    if nat_le size 4 then record { offset = 0; len = 0 } else record { offset = offset; len = size }
-
--- where the value of the entry at e stands outside of it
-abbrev pub value_room : Reading → List ℕ → ℕ → Span
-value_room number bytes e =
-    room_of (number_at number 4 bytes (e + 8))
-    (known_length (type_of (number_at number 2 bytes (e + 2))) * number_at number 4 bytes (e + 4))
-
--- whether a value of these bytes stands in its entry
+-- whether a value of these bytes is in its entry
 abbrev pub is_small : List ℕ → Bool
-is_small text = nat_le (length text) 4
+is_small encoded = nat_le (length encoded) 4
 
--- where it stands then
+-- its offset then
 abbrev pub set_offset : ℕ → ℕ → List ℕ → ℕ
-set_offset old e text = if is_small text then e + 8 else old
+set_offset old e encoded = if is_small encoded then e + 8 else old
 
--- the last four bytes of an entry: those of its value, or the offset where they stand
-abbrev pub element_text : Order → ℕ → List ℕ → List ℕ
-element_text order offset text = if is_small text then padded 4 text else spelled order 4 offset
+-- the last four bytes of an entry: those of its value, or their offset
+abbrev pub element_bytes : Order → ℕ → List ℕ → List ℕ
+element_bytes order offset encoded = if is_small encoded then padded 4 encoded else spelled order 4 offset
 
 -- the 10 bytes behind the tag of an entry
-abbrev pub entry_text : Order → Value → ℕ → List ℕ → List ℕ
-entry_text order value offset text =
+abbrev pub entry_bytes : Order → Value → ℕ → List ℕ → List ℕ
+entry_bytes order value offset encoded =
     spelled order 2 (type_number value)
-    ++ (spelled order 4 (count_of value) ++ element_text order offset text)
+    ++ (spelled order 4 (count_of value) ++ element_bytes order offset encoded)
 
--- the bytes in the old room
-abbrev pub room_text : ℕ → List ℕ → List ℕ
-room_text len text = padded len (if is_small text then [] else text)
+-- the bytes in the old space
+abbrev pub space_bytes : ℕ → List ℕ → List ℕ
+space_bytes len encoded = padded len (if is_small encoded then [] else encoded)
 
--- what is put over the old room, if there is one
-abbrev pub room_patches : Span → List ℕ → List Patch
-room_patches room text =
-    if room.len == 0 then []
-    else record { offset = room.offset; bytes = room_text room.len text } ∷ []
+-- what is put over the old space, if there is one
+abbrev pub space_patches : Span → List ℕ → List Patch
+space_patches space encoded =
+    if space.len == 0 then []
+    else record { offset = space.offset; bytes = space_bytes space.len encoded } ∷ []
 
--- what puts a value over that of the entry at e, which has this room
+-- what puts a value over that of the entry at e, which has this space
 abbrev pub value_patches : Order → Value → ℕ → Span → List Patch
-value_patches order value e room =
-    let text = encode order value in
-    room_patches room text
-    ++ record { offset = e + 2; bytes = entry_text order value room.offset text } ∷ []
+value_patches order value e space =
+    let encoded = encode order value in
+    space_patches space encoded
+    ++ record { offset = e + 2; bytes = entry_bytes order value space.offset encoded } ∷ []
 
 -- the same, if the value fits there
 abbrev pub answer_in : Order → Value → ℕ → Span → ℕ → Result (List Patch) Cause
-answer_in order value e room total = do
-  a ← unless (nat_lt total (room.offset + room.len)) shared
+answer_in order value e space total = do
+  a ← unless (nat_lt total (space.offset + space.len)) shared
   b ← unless (nat_lt (2 ^ 32 - 1) (count_of value)) too_long
-  c ← unless (nat_lt (max 4 room.len) (length (encode order value))) too_long
-  Ok (value_patches order value e room)
+  c ← unless (nat_lt (max 4 space.len) (length (encode order value))) too_long
+  Ok (value_patches order value e space)
 
 -- the same for the entry at e of data
 unfoldable pub value_answer : Order → Value → ℕ → List ℕ → Result (List Patch) Cause
 value_answer order value e bytes = do
   a ← unless (nat_lt (length bytes) (e + 12)) shared
-  answer_in order value e (value_room (number_of order) bytes e) (length bytes)
+  answer_in order value e (value_space (number_of order) bytes e) (length bytes)
 
 -- what reading the edited data must give
 abbrev pub expected : Tag → In → Value → ℕ → List ℕ → Read → Read
 expected tag k value e bytes read =
     let order = order_named read.little in
-    let room = value_room (number_of order) bytes e in
+    let space = value_space (number_of order) bytes e in
     record {
       little = read.little;
       fields =
-          replaced tag k (moved_to (set_offset room.offset e (encode order value)) value) read.fields;
+          replaced tag k (moved_to (set_offset space.offset e (encode order value)) value) read.fields;
       faults = read.faults;
     }
 

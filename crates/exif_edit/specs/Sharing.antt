@@ -19,11 +19,12 @@ use Rattle.exif_edit_base.specs.Causes.{Cause, offset_named, too_long, unknown_t
 use Rattle.exif_edit_base.specs.Finding.{last_located}
 use Rattle.exif_edit_base.specs.declared.patch.Patch.{Patch}
 use Rattle.exif_edit_base.specs.declared.patch.Span.{Span}
-use Rattle.exif_edit.specs.Setting.{names_offsets, set_patches, value_patches, value_room}
+use Rattle.exif_edit_base.specs.Spans.{value_space}
+use Rattle.exif_edit.specs.Setting.{names_offsets, set_patches, value_patches}
 
 -- whether a stretch has a byte of a span
-abbrev pub meets : Span → Stretch → Bool
-meets s t = nat_lt t.offset (s.offset + s.len) && nat_lt s.offset (t.offset + t.len)
+abbrev pub overlaps : Span → Stretch → Bool
+overlaps s t = nat_lt t.offset (s.offset + s.len) && nat_lt s.offset (t.offset + t.len)
 
 -- the bytes of the entry at e that a new value changes
 abbrev pub changed_entry : ℕ → Span
@@ -49,38 +50,38 @@ all_beside number bytes e =
     ∷ flat_map (beside number bytes e)
     (chain_directories 8 number bytes (number_at number 4 bytes 4))
 
--- the fields that stand in the entry at e
+-- the fields of the entry at e
 abbrev pub standing_at : ℕ → List Located → List Located
 standing_at e ls = filter (λ (l : Located). l.entry == e) ls
 
 -- whether the entry at e holds one field, and no byte that a new value changes is looked at as
 -- anything else
-abbrev pub stands_alone : Reading → List ℕ → ℕ → Bool
-stands_alone number bytes e =
+abbrev pub is_unshared : Reading → List ℕ → ℕ → Bool
+is_unshared number bytes e =
     not
-    (list_any (λ t. meets (changed_entry e) t || meets (value_room number bytes e) t)
+    (list_any (λ t. overlaps (changed_entry e) t || overlaps (value_space number bytes e) t)
     (all_beside number bytes e))
-    && (not (meets (value_room number bytes e) (record { offset = e; len = 12 }))
+    && (not (overlaps (value_space number bytes e) (record { offset = e; len = 12 }))
     && (length (standing_at e (located bytes)) == 1))
 
 -- whether a tag number is that of a child directory
 abbrev pub names_child : ℕ → Bool
 names_child n = (n == 0x8769) || ((n == 0x8825) || (n == 0xa005))
 
--- what puts a value over that of an entry which has this room, if only it fits there
+-- what puts a value over that of an entry which has this space, if only it fits there
 abbrev pub fit_answer : Order → Tag → Value → ℕ → Span → Result (List Patch) Cause
-fit_answer order tag value e room = do
+fit_answer order tag value e space = do
   a ← unless (names_offsets tag) offset_named
   b ← unless (is_unknown value) unknown_type
   c ← unless (nat_lt (2 ^ 32 - 1) (count_of value)) too_long
-  d ← unless (nat_lt (max 4 room.len) (length (encode order value))) too_long
-  Ok (value_patches order value e room)
+  d ← unless (nat_lt (max 4 space.len) (length (encode order value))) too_long
+  Ok (value_patches order value e space)
 
--- where the entry stands alone, a value that reads back as it was is set if it fits
+-- if the entry is unshared, a value that reads back as it was is set if it fits
 abbrev pub IsSetUnshared : Tag → In → Value → List ℕ → Type 0
 IsSetUnshared tag k value bytes =
     (order : Order) (at : Located) → header bytes ≡ Ok order
     → last_located tag k (located bytes) ≡ Some at
-    → stands_alone (number_of order) bytes at.entry ≡ true → names_child tag.1 ≡ false
+    → is_unshared (number_of order) bytes at.entry ≡ true → names_child tag.1 ≡ false
     → IsRanged value → HasPlainTexts value → set_patches bytes tag k value
-    ≡ fit_answer order tag value at.entry (value_room (number_of order) bytes at.entry)
+    ≡ fit_answer order tag value at.entry (value_space (number_of order) bytes at.entry)

@@ -10,14 +10,13 @@ ghost use Rattle.exif_edit_base.specs.Walked.{Finds};
 ghost use Rattle.exif_edit_base.specs.Patches.{FitsIn};
 ghost use Rattle.exif_edit.specs.Changing.{ChangeEntry, ChangeOffsets, changes, covers};
 ghost use Rattle.exif_edit.specs.Erasing.{is_gps};
-ghost use Rattle.exif_edit.specs.GpsAlone.{gps_stands_alone};
-ghost use Rattle.exif_edit.specs.Sharing.{beside, other_entry, stands_alone};
+ghost use Rattle.exif_edit.specs.GpsAlone.{gps_is_unshared};
+ghost use Rattle.exif_edit.specs.Sharing.{beside, other_entry, is_unshared};
 
-use crate::erase::value_span;
-use crate::set::value_room;
 use exif_base::Order;
 use exif_edit_base::offsets::whole_entries;
 use exif_edit_base::patch::Patch;
+use exif_edit_base::spans::{value_space, value_span};
 use exif_edit_base::{DirectoryOffset, EntryOffset, Walk};
 use exif_types::Context;
 
@@ -26,7 +25,7 @@ use exif_types::Context;
 const MAX_PAIRS: usize = 100_000;
 
 // Whether two stretches have a byte in common.
-fn meets(start: usize, count: usize, offset: usize, len: usize) -> bool
+fn overlaps(start: usize, count: usize, offset: usize, len: usize) -> bool
     requires first { start + count < 2 ^ 40 }
     requires second { offset + len < 2 ^ 40 }
     ensures { result ≡ (nat_lt offset (start + count) && nat_lt start (offset + len)) }
@@ -41,14 +40,14 @@ fn changes(patches: &[Patch], offset: usize, len: usize) -> bool
     ensures { result ≡ changes patches.now (record { offset = offset; len = len }) }
 {
     for patch in patches {
-        if meets(patch.offset as usize, patch.bytes.len(), offset, len) {
+        if overlaps(patch.offset as usize, patch.bytes.len(), offset, len) {
             return true;
         }
     }
     false
 }
 
-// Whether they have one of the value of the entry at an offset, where that stands outside of it.
+// Whether they have one of the value of the entry at an offset, where that is outside of it.
 fn changes_value(order: Order, bytes: &[u8], patches: &[Patch], at: usize) -> bool
     requires patches { All (FitsIn (2 ^ 32)) patches.now }
     requires whole { at + 12 ≤ length bytes.now }
@@ -144,7 +143,7 @@ fn changes_any_beside(
 }
 
 // Whether the entry at an offset holds exactly one field.
-fn stands_once(entries: &[EntryOffset], entry: u32) -> bool
+fn occurs_once(entries: &[EntryOffset], entry: u32) -> bool
     ensures { result ≡ (length (filter (λ p. p.entry == entry) entries.now) == 1) }
 {
     let mut count: usize = 0;
@@ -158,14 +157,14 @@ fn stands_once(entries: &[EntryOffset], entry: u32) -> bool
 
 /// Whether the entry at an offset holds one field, and the patches that set its value change nothing
 /// that is looked at as anything else.
-pub fn stands_alone(order: Order, bytes: &[u8], patches: &[Patch], entry: u32, walk: &Walk) -> bool
+pub fn is_unshared(order: Order, bytes: &[u8], patches: &[Patch], entry: u32, walk: &Walk) -> bool
     requires header { header bytes.now ≡ Ok order }
     requires small { length bytes.now < 2 ^ 32 }
     requires whole { entry + 12 ≤ length bytes.now }
     requires found { Finds bytes.now walk.now }
     requires patches { All (FitsIn (2 ^ 32)) patches.now }
     requires set { ChangeEntry (number_of order) bytes.now entry patches.now }
-    ensures { result ≡ stands_alone (number_of order) bytes.now entry }
+    ensures { result ≡ is_unshared (number_of order) bytes.now entry }
 {
     if changes(patches, 0, 8) {
         return false;
@@ -173,11 +172,11 @@ pub fn stands_alone(order: Order, bytes: &[u8], patches: &[Patch], entry: u32, w
     if changes_any_beside(order, bytes, patches, entry, walk.directories()) {
         return false;
     }
-    let room = value_room(order, bytes, entry);
-    if meets(room.offset as usize, room.len, entry as usize, 12) {
+    let space = value_space(order, bytes, entry);
+    if overlaps(space.offset as usize, space.len, entry as usize, 12) {
         return false;
     }
-    stands_once(walk.entries(), entry)
+    occurs_once(walk.entries(), entry)
 }
 
 // ---- GPS data erased
@@ -234,14 +233,14 @@ fn are_few(order: Order, bytes: &[u8], patches: &[Patch], directories: &[Directo
 }
 
 /// Whether the patches that erase GPS data change nothing that is looked at as anything else. Where
-/// that would take long to tell, the answer is no.
-pub fn gps_stands_alone(order: Order, bytes: &[u8], patches: &[Patch], walk: &Walk) -> bool
+/// that would take long, the answer is no.
+pub fn gps_is_unshared(order: Order, bytes: &[u8], patches: &[Patch], walk: &Walk) -> bool
     requires header { header bytes.now ≡ Ok order }
     requires small { length bytes.now < 2 ^ 32 }
     requires found { Finds bytes.now walk.now }
     requires patches { All (FitsIn (2 ^ 32)) patches.now }
     requires erased { ChangeOffsets (number_of order) bytes.now patches.now }
-    ensures { result ≡ true → gps_stands_alone (number_of order) bytes.now ≡ true }
+    ensures { result ≡ true → gps_is_unshared (number_of order) bytes.now ≡ true }
 {
     if !are_few(order, bytes, patches, walk.directories()) {
         return false;

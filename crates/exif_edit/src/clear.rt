@@ -13,8 +13,8 @@ use exif_layout::item::spelled_u32;
 use exif_reader::tiff::header;
 use std::alloc::{AllocError, Global};
 
-// Where the directory of the chain stands in data of a length: behind the header, if there is
-// room for its count and its next offset.
+// The offset of the directory of the chain in data of a length: behind the header, if there is
+// space for its count and its next offset.
 fn empty_offset(total: usize) -> u32
     ensures { result ≡ empty_offset total }
 {
@@ -46,11 +46,11 @@ fn zero_behind(bytes: &mut [u8])
 fn clearing(alloc: Global, order: Order, total: usize) -> Result<Vec<Patch>, AllocError>
     ensures { IfOk result (λ ps. ps.items ≡ clearing order total) }
 {
-    let text = Vec::from_slice(alloc, &spelled_u32(order, empty_offset(total)))?;
+    let encoded = Vec::from_slice(alloc, &spelled_u32(order, empty_offset(total)))?;
     let mut patches = Vec::with_capacity(alloc, 2)?;
     patches.push(Patch {
         offset: 4,
-        bytes: Items::from_vec(text),
+        bytes: Items::from_vec(encoded),
     })?;
     let behind = Span {
         offset: 8,

@@ -8,16 +8,17 @@ ghost use Rattle.exif_edit_base.specs.Causes.{Edits, Makes};
 ghost use Rattle.exif_edit_base.specs.Locations.{visited_gps};
 ghost use Rattle.exif_edit_base.specs.Patches.{FitsIn, zeros_over};
 ghost use Rattle.exif_edit_base.specs.Readings.{read_of};
-ghost use Rattle.exif_edit.specs.Erasing.{clears, clipped, directory_spans, erase_answer, erase_patches, gps_room, gps_spans, gps_value_span, is_gps, item_len, value_span, without_gps};
-ghost use Rattle.exif_edit.specs.Plans.{Plans};
+ghost use Rattle.exif_edit_base.specs.Rereading.{clears};
+ghost use Rattle.exif_edit_base.specs.Spans.{value_span};
+ghost use Rattle.exif_edit.specs.Erasing.{clipped, directory_spans, erase_answer, erase_patches, gps_space, gps_spans, gps_value_span, is_gps, item_len, without_gps};
+ghost use Rattle.exif_edit_base.specs.Plans.{Plans};
 ghost use Rattle.exif_edit.specs.Promises.{IsErased};
 
-use crate::alone::gps_stands_alone;
-use crate::plan::{Plan, Wanted, carry_out, try_on_copy};
-use crate::set::value_room;
+use crate::alone::gps_is_unshared;
 use exif_base::Order;
 use exif_edit_base::offsets::{gps_offsets, whole_entries};
 use exif_edit_base::patch::{Patch, Span, zeros};
+use exif_edit_base::plan::{Plan, Wanted, carry_out, try_on_copy};
 use exif_edit_base::read::{locate, number16, number32, order_named, read};
 use exif_edit_base::{Error, Located};
 use exif_reader::stop::Stop;
@@ -41,19 +42,6 @@ fn clipped(total: usize, span: Span) -> Span
     }
 }
 
-/// Where the value of the entry at an offset stands outside of it, if it lies in the data.
-pub fn value_span(order: Order, bytes: &[u8], entry: u32) -> Span
-    requires { entry + 12 ≤ length bytes.now }
-    ensures { result ≡ value_span (number_of order) bytes.now entry }
-{
-    let room = value_room(order, bytes, entry);
-    if room.offset as usize + room.len <= bytes.len() {
-        room
-    } else {
-        Span { offset: 0, len: 0 }
-    }
-}
-
 // How many bytes an item of a type takes, also where reading does not know the type.
 fn item_len(field_type: u16) -> usize
     ensures value { result ≡ item_len field_type }
@@ -70,9 +58,9 @@ fn item_len(field_type: u16) -> usize
 }
 
 // Where the value of an entry of a GPS directory is, outside of the entry.
-fn gps_room(order: Order, bytes: &[u8], entry: u32) -> Span
+fn gps_space(order: Order, bytes: &[u8], entry: u32) -> Span
     requires { entry + 12 ≤ length bytes.now }
-    ensures value { result ≡ gps_room (number_of order) bytes.now entry }
+    ensures value { result ≡ gps_space (number_of order) bytes.now entry }
     ensures bound { result.len < 2 ^ 36 }
 {
     let at = entry as usize;
@@ -91,7 +79,7 @@ fn gps_value_span(order: Order, bytes: &[u8], entry: u32) -> Span
     requires { entry + 12 ≤ length bytes.now }
     ensures { result ≡ gps_value_span (number_of order) bytes.now entry }
 {
-    clipped(bytes.len(), gps_room(order, bytes, entry))
+    clipped(bytes.len(), gps_space(order, bytes, entry))
 }
 
 // Adds zeros over the values of the entries of a GPS directory.
@@ -104,7 +92,7 @@ fn add_values(
     patches: &mut Vec<Patch>,
 ) -> Result<(), AllocError>
     requires small { length bytes.now < 2 ^ 32 }
-    requires room { 0 < count → first + 12 * count ≤ length bytes.now }
+    requires space { 0 < count → first + 12 * count ≤ length bytes.now }
     requires bound { first + 12 * count < 2 ^ 40 }
     ensures { OnOk result (patches.new.items ≡ patches.old.items ++ map zeros_over
         (map (gps_value_span (number_of order) bytes.now) (spaced first 12 count))) }
@@ -165,7 +153,7 @@ fn zeros_over_gps(
     bytes: &[u8],
     visited: &[u32],
 ) -> Result<Vec<Patch>, AllocError>
-    requires room { 8 ≤ length bytes.now }
+    requires space { 8 ≤ length bytes.now }
     requires small { length bytes.now < 2 ^ 32 }
     requires visited { visited.now ≡ visited_gps bytes.now }
     ensures { IfOk result (λ ps. ps.items
@@ -190,22 +178,7 @@ fn drop_gps(fields: &mut Vec<Field>)
     fields.retain(|field| is_kept(field));
 }
 
-/// Whether data are read so, with no more faults.
-pub fn clears(alloc: Global, bytes: &[u8], wanted: &Parsed) -> Result<bool, AllocError>
-    ensures { IfOk result (λ same. same ≡ clears bytes.now (read_of wanted.now)) }
-{
-    match read(alloc, bytes) {
-        Ok(found) => Ok(
-            found.little_endian == wanted.little_endian
-                && found.fields.as_slice() == wanted.fields.as_slice()
-                && found.faults.len() <= wanted.faults.len(),
-        ),
-        Err(Stop::Fault(_)) => Ok(false),
-        Err(Stop::OutOfMemory) => Err(AllocError),
-    }
-}
-
-// What erases GPS data, and how the data must be read then: as anything where they stand alone.
+// What erases GPS data, and how the data must be read then: as anything if they are unshared.
 fn plan(alloc: Global, bytes: &[u8]) -> Result<Plan, Error>
     ensures answer { Plans result bytes.now (erase_patches bytes.now) }
     ensures within { IfOk result (λ p. All (FitsIn (length bytes.now)) p.patches.items) }
@@ -213,7 +186,7 @@ fn plan(alloc: Global, bytes: &[u8]) -> Result<Plan, Error>
     let Located { mut parsed, walk } = locate(alloc, bytes)?;
     let order = order_named(parsed.little_endian);
     let patches = zeros_over_gps(alloc, order, bytes, walk.gps())?;
-    if gps_stands_alone(order, bytes, patches.as_slice(), &walk) {
+    if gps_is_unshared(order, bytes, patches.as_slice(), &walk) {
         return Ok(Plan {
             patches,
             wanted: Wanted::Anything,
@@ -244,7 +217,7 @@ pub fn erase_gps_patches(alloc: Global, bytes: &[u8]) -> Result<Vec<Patch>, Erro
 /// empty directories. Locations in XMP, in maker notes and in bytes that nothing points to stay
 /// too; [`leftovers`](exif_edit_base::leftovers) says where GPS pointers lead that are not followed.
 ///
-/// Refusals are `Header` and `SharedBytes`, which GPS data that stand alone never get (see
+/// Refusals are `Header` and `SharedBytes`, which unshared GPS data never get (see
 /// [`laws`](crate::laws)). It takes the memory of one reading and of the zeros; and where bytes are
 /// shared, of a second reading and no copy.
 pub fn erase_gps(alloc: Global, bytes: &mut [u8]) -> Result<(), Error>

@@ -8,7 +8,7 @@ ghost use Rattle.exif_edit.specs.GpsAlone.{AreErasedUnshared};
 ghost use Rattle.exif_edit.specs.Promises.{SetsBack};
 ghost use Rattle.exif_edit.specs.Sharing.{IsSetUnshared};
 
-/// Where the value that stood there is set again, the bytes are as they were before, if the room
+/// If the value that was there is set again, the bytes are as they were before, if the space
 /// of the value is the same: so it is where the new value was as long.
 pub fn the_old_value_is_set_back()
     ensures { (bytes : List ℕ) (tag : Name) (k : Ifd) (value first : Content)

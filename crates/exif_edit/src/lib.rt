@@ -13,7 +13,6 @@ mod clear;
 mod edits;
 mod erase;
 pub mod laws;
-mod plan;
 pub mod remove;
 pub mod set;
 pub mod spell;

@@ -10,20 +10,21 @@ ghost use Rattle.exif_layout.specs.Encoding.{spelled};
 ghost use Rattle.exif_edit_base.specs.Causes.{Edits, Makes};
 ghost use Rattle.exif_edit_base.specs.Patches.{FitsIn, zeros_over};
 ghost use Rattle.exif_edit_base.specs.Readings.{read_of};
-ghost use Rattle.exif_edit.specs.Erasing.{value_span};
-ghost use Rattle.exif_edit.specs.Plans.{Plans};
+ghost use Rattle.exif_edit_base.specs.Spans.{value_span};
+ghost use Rattle.exif_edit_base.specs.Plans.{Plans};
 ghost use Rattle.exif_edit.specs.Promises.{FindsNone, IsFieldErased};
-ghost use Rattle.exif_edit.specs.Removing.{directories_with, directory_patches, directory_text, directory_without, entries_text, field_answer, field_patches, has_tag, named_removals, next_text, noted, removals, still_reads, taken_spans, told_at, untold, without_named};
+ghost use Rattle.exif_edit_base.specs.Rereading.{still_reads, field_at_entry, without_entry_offsets};
+ghost use Rattle.exif_edit.specs.Removing.{directories_with, directory_patches, directory_bytes, directory_without, entries_bytes, field_answer, field_patches, has_tag, named_removals, next_offset_bytes, noted, removals, taken_spans, without_named};
 ghost use Rattle.exif_edit.specs.declared.remove.Kept.{Kept};
 
-use crate::erase::value_span;
-use crate::plan::{Plan, Wanted, carry_out, try_on_copy};
 use crate::set::names_offsets;
 use exif_base::{BigEndian, Items, LittleEndian, Order};
 use exif_edit_base::find::is_named;
 use exif_edit_base::offsets::whole_entries;
 use exif_edit_base::patch::{Patch, padded, zeros};
+use exif_edit_base::plan::{Plan, Wanted, carry_out, try_on_copy};
 use exif_edit_base::read::{locate, number16, order_named, read};
+use exif_edit_base::spans::value_span;
 use exif_edit_base::{EntryOffset, Error, Located};
 use exif_layout::item::{spelled_u16, spelled_u32};
 use exif_reader::directory::directory_end;
@@ -36,7 +37,7 @@ use std::alloc::{AllocError, Global};
 #[derive(Drop)]
 struct Kept {
     count: usize,
-    text: Vec<u8>,
+    encoded: Vec<u8>,
 }
 
 // Notes an offset, once.
@@ -94,16 +95,16 @@ fn keep(
     at: usize,
     kept: &mut Kept,
 ) -> Result<(), AllocError>
-    requires room { at + 12 ≤ length bytes.now }
+    requires space { at + 12 ≤ length bytes.now }
     requires small { kept.old.count < 65536 }
     ensures count { OnOk result (kept.new.count ≡ kept.old.count
         + length (filter (λ e. not (has_tag (number_of order) bytes.now number e)) (at ∷ []))) }
-    ensures text { OnOk result (kept.new.text.items ≡ kept.old.text.items
-        ++ entries_text bytes.now
+    ensures encoded { OnOk result (kept.new.encoded.items ≡ kept.old.encoded.items
+        ++ entries_bytes bytes.now
         (filter (λ e. not (has_tag (number_of order) bytes.now number e)) (at ∷ []))) }
 {
     if number16(order, bytes, at) != number {
-        kept.text.extend_from_slice(&bytes[at..at + 12])?;
+        kept.encoded.extend_from_slice(&bytes[at..at + 12])?;
         kept.count += 1;
     }
     Ok(())
@@ -118,18 +119,18 @@ fn entries_without(
     first: usize,
     count: usize,
 ) -> Result<Kept, AllocError>
-    requires room { 0 < count → first + 12 * count ≤ length bytes.now }
+    requires space { 0 < count → first + 12 * count ≤ length bytes.now }
     requires bound { first + 12 * count < 2 ^ 40 }
     requires small { count < 65536 }
     ensures count { IfOk result (λ kept. kept.count ≡ length (filter
         (λ e. not (has_tag (number_of order) bytes.now number e)) (spaced first 12 count))) }
-    ensures text { IfOk result (λ kept. kept.text.items ≡ entries_text bytes.now (filter
+    ensures encoded { IfOk result (λ kept. kept.encoded.items ≡ entries_bytes bytes.now (filter
         (λ e. not (has_tag (number_of order) bytes.now number e)) (spaced first 12 count))) }
     ensures few { IfOk result (λ kept. kept.count ≤ count) }
 {
     let mut kept = Kept {
         count: 0,
-        text: Vec::new(alloc),
+        encoded: Vec::new(alloc),
     };
     let mut at = first;
     for _ in 0..count {
@@ -139,10 +140,15 @@ fn entries_without(
     Ok(kept)
 }
 
-// The offset of the next directory, where there is one to be told.
-fn next_text(alloc: Global, order: Order, bytes: &[u8], offset: u32) -> Result<Vec<u8>, AllocError>
+// The offset of the next directory, if the directory has one.
+fn next_offset_bytes(
+    alloc: Global,
+    order: Order,
+    bytes: &[u8],
+    offset: u32,
+) -> Result<Vec<u8>, AllocError>
     ensures { IfOk result (λ v. v.items
-        ≡ next_text order (directory_end (number_of order) bytes.now offset)) }
+        ≡ next_offset_bytes order (directory_end (number_of order) bytes.now offset)) }
 {
     let end = match order {
         Order::Big => directory_end::<BigEndian>(bytes, offset),
@@ -158,12 +164,12 @@ fn next_text(alloc: Global, order: Order, bytes: &[u8], offset: u32) -> Result<V
 fn joined(alloc: Global, order: Order, kept: &Kept, next: &[u8]) -> Result<Vec<u8>, AllocError>
     requires { kept.now.count < 65536 }
     ensures { IfOk result (λ v. v.items
-        ≡ spelled order 2 kept.now.count ++ (kept.now.text.items ++ next.now)) }
+        ≡ spelled order 2 kept.now.count ++ (kept.now.encoded.items ++ next.now)) }
 {
-    let mut text = Vec::from_slice(alloc, &spelled_u16(order, kept.count as u16))?;
-    text.extend_from_slice(kept.text.as_slice())?;
-    text.extend_from_slice(next)?;
-    Ok(text)
+    let mut encoded = Vec::from_slice(alloc, &spelled_u16(order, kept.count as u16))?;
+    encoded.extend_from_slice(kept.encoded.as_slice())?;
+    encoded.extend_from_slice(next)?;
+    Ok(encoded)
 }
 
 // The directory at an offset without its entries of a tag.
@@ -178,10 +184,10 @@ fn directory_without(
 {
     let count = whole_entries(order, bytes, offset);
     let kept = entries_without(alloc, order, bytes, number, offset as usize + 2, count)?;
-    let next = next_text(alloc, order, bytes, offset)?;
+    let next = next_offset_bytes(alloc, order, bytes, offset)?;
     let next = next.as_slice();
-    let text = joined(alloc, order, &kept, next)?;
-    let directory = padded(alloc, 2 + 12 * count + next.len(), text.as_slice())?;
+    let encoded = joined(alloc, order, &kept, next)?;
+    let directory = padded(alloc, 2 + 12 * count + next.len(), encoded.as_slice())?;
     Ok(directory)
 }
 
@@ -198,11 +204,11 @@ fn add_directory(
     ensures { OnOk result (patches.new.items
         ≡ patches.old.items ++ directory_patches order bytes.now number offset) }
 {
-    let text = directory_without(alloc, order, bytes, number, offset)?;
-    if text.len() <= bytes.len() && offset as usize <= bytes.len() - text.len() {
+    let encoded = directory_without(alloc, order, bytes, number, offset)?;
+    if encoded.len() <= bytes.len() && offset as usize <= bytes.len() - encoded.len() {
         patches.push(Patch {
             offset: offset as u64,
-            bytes: Items::from_vec(text),
+            bytes: Items::from_vec(encoded),
         })?;
     }
     Ok(())
@@ -217,7 +223,7 @@ fn add_value(
     at: usize,
     patches: &mut Vec<Patch>,
 ) -> Result<(), AllocError>
-    requires room { at + 12 ≤ length bytes.now }
+    requires space { at + 12 ≤ length bytes.now }
     requires small { length bytes.now < 2 ^ 32 }
     ensures { OnOk result (patches.new.items ≡ patches.old.items
         ++ map zeros_over (map (value_span (number_of order) bytes.now)
@@ -287,49 +293,6 @@ pub fn drop_named(fields: &mut Vec<Field>, tag: Tag, ifd_num: In)
     fields.retain(|field| is_other(field, tag, ifd_num));
 }
 
-// The field as an entry at offset 0 would tell it.
-fn untell_one(field: &mut Field)
-    ensures { field.new ≡ told_at 0 field.old }
-{
-    match &mut field.value {
-        Value::Undefined(bytes, offset) => {
-            if bytes.len() <= 4 {
-                *offset = 8;
-            }
-        }
-        Value::Unknown(_, _, offset) => *offset = 8,
-        _ => {}
-    }
-}
-
-/// The fields without the offsets of small values, which are those of their entries.
-pub fn untell(fields: &mut [Field])
-    ensures { fields.new ≡ untold fields.old }
-{
-    for field in fields.iter_mut() {
-        untell_one(field);
-    }
-}
-
-/// Whether data are read so, wherever the entries stand, with no more faults.
-pub fn still_reads(alloc: Global, bytes: &[u8], mut wanted: Parsed) -> Result<bool, AllocError>
-    ensures { IfOk result (λ same. same ≡ still_reads bytes.now (read_of wanted)) }
-{
-    untell(wanted.fields.as_mut_slice());
-    match read(alloc, bytes) {
-        Ok(mut found) => {
-            untell(found.fields.as_mut_slice());
-            Ok(
-                found.little_endian == wanted.little_endian
-                    && found.fields.as_slice() == wanted.fields.as_slice()
-                    && found.faults.len() <= wanted.faults.len(),
-            )
-        }
-        Err(Stop::Fault(_)) => Ok(false),
-        Err(Stop::OutOfMemory) => Err(AllocError),
-    }
-}
-
 // What takes the fields of a name out of their directories, and how the data must be read then.
 fn plan_removals(alloc: Global, bytes: &[u8], tag: Tag, ifd_num: In) -> Result<Plan, Error>
     ensures answer { Plans result bytes.now (named_removals bytes.now tag ifd_num) }
@@ -356,7 +319,7 @@ fn plan_removals(alloc: Global, bytes: &[u8], tag: Tag, ifd_num: In) -> Result<P
     })
 }
 
-// The same, unless the field says where other bytes stand.
+// The same, unless the field holds offsets of other bytes.
 fn plan(alloc: Global, bytes: &[u8], tag: Tag, ifd_num: In) -> Result<Plan, Error>
     ensures answer { Plans result bytes.now (field_patches bytes.now tag ifd_num) }
     ensures within { IfOk result (λ p. All (FitsIn (length bytes.now)) p.patches.items) }

@@ -13,32 +13,34 @@ ghost use Rattle.exif_layout.specs.Refused.{is_unknown};
 ghost use Rattle.exif_edit_base.specs.Causes.{Edits, Makes};
 ghost use Rattle.exif_edit_base.specs.Finding.{IsLastAt, replaced};
 ghost use Rattle.exif_edit_base.specs.Patches.{FitsIn};
-ghost use Rattle.exif_edit.specs.Plans.{Plans};
+ghost use Rattle.exif_edit_base.specs.Plans.{Plans};
 ghost use Rattle.exif_edit.specs.Promises.{FindsValue, IsSet};
-ghost use Rattle.exif_edit.specs.Setting.{checked_patches, names_offsets, room_patches, set_answer, set_patches, set_offset, value_answer, value_patches, value_room};
-ghost use Rattle.exif_edit.specs.Sharing.{names_child, stands_alone};
+ghost use Rattle.exif_edit_base.specs.Spans.{value_space};
+ghost use Rattle.exif_edit.specs.Setting.{checked_patches, names_offsets, space_patches, set_answer, set_patches, set_offset, value_answer, value_patches};
+ghost use Rattle.exif_edit.specs.Sharing.{names_child, is_unshared};
 ghost use Rattle.exif_edit.specs.declared.set.Edit.{Edit};
 
-use crate::alone::stands_alone;
-use crate::plan::{Plan, Wanted, carry_out, try_on_copy};
-use crate::spell::{encode, entry_text, is_unknown};
+use crate::alone::is_unshared;
+use crate::spell::{encode, entry_bytes, is_unknown};
 use exif_base::{Items, Order};
 use exif_edit_base::Error;
 use exif_edit_base::find::{Found, find};
 use exif_edit_base::patch::{Patch, Span, padded};
-use exif_edit_base::read::{number16, number32, order_named};
+use exif_edit_base::plan::{Plan, Wanted, carry_out, try_on_copy};
+use exif_edit_base::read::order_named;
+use exif_edit_base::spans::value_space;
 use exif_layout::show_value_fits;
 use exif_types::{Context, Field, FieldType, In, Tag, Value};
 use std::alloc::{AllocError, Global};
 
-/// What sets a value, and where the value stands then.
+/// What sets a value, and the offset of the value then.
 #[derive(Drop)]
 struct Edit {
     patches: Vec<Patch>,
     offset: u32,
 }
 
-/// Whether the values of a tag say where other bytes stand, or how many.
+/// Whether the values of a tag are offsets or lengths of other bytes.
 pub fn names_offsets(tag: Tag) -> bool
     ensures { result ≡ names_offsets tag }
 {
@@ -65,65 +67,48 @@ pub fn names_offsets(tag: Tag) -> bool
     }
 }
 
-/// Where the value of the entry at an offset stands outside of it.
-pub fn value_room(order: Order, bytes: &[u8], entry: u32) -> Span
-    requires { entry + 12 ≤ length bytes.now }
-    ensures value { result ≡ value_room (number_of order) bytes.now entry }
-    ensures near { result.offset < 2 ^ 32 }
-    ensures bound { result.len < 2 ^ 36 }
-{
-    let at = entry as usize;
-    let count = number32(order, bytes, at + 4);
-    let offset = number32(order, bytes, at + 8);
-    let size = match FieldType::of(number16(order, bytes, at + 2)) {
-        None => 0,
-        Some(field_type) => field_type.unit_length() as usize * count as usize,
-    };
-    if size <= 4 {
-        Span { offset: 0, len: 0 }
-    } else {
-        Span { offset, len: size }
-    }
-}
-
-// What is put over the old value, where it stood outside of its entry.
-fn room_patches(alloc: Global, room: Span, text: &[u8]) -> Result<Vec<Patch>, AllocError>
-    requires { length text.now ≤ max 4 room.len }
-    ensures { IfOk result (λ ps. ps.items ≡ room_patches room text.now) }
+// What is put over the old value, where it was outside of its entry.
+fn space_patches(alloc: Global, space: Span, encoded: &[u8]) -> Result<Vec<Patch>, AllocError>
+    requires { length encoded.now ≤ max 4 space.len }
+    ensures { IfOk result (λ ps. ps.items ≡ space_patches space encoded.now) }
 {
     let mut patches = Vec::with_capacity(alloc, 2)?;
-    if room.len == 0 {
+    if space.len == 0 {
         return Ok(patches);
     }
     let none: &[u8] = &[];
-    let text = padded(alloc, room.len, if text.len() <= 4 { none } else { text })?;
+    let encoded = padded(
+        alloc,
+        space.len,
+        if encoded.len() <= 4 { none } else { encoded },
+    )?;
     patches.push(Patch {
-        offset: room.offset as u64,
-        bytes: Items::from_vec(text),
+        offset: space.offset as u64,
+        bytes: Items::from_vec(encoded),
     })?;
     Ok(patches)
 }
 
-// What puts a value, whose bytes are these, over the value of an entry that has this room.
+// What puts a value, whose bytes are these, over the value of an entry that has this space.
 fn value_patches(
     alloc: Global,
     order: Order,
     value: &Value,
     count: u32,
     entry: u32,
-    room: Span,
-    text: &[u8],
+    space: Span,
+    encoded: &[u8],
 ) -> Result<Vec<Patch>, AllocError>
-    requires text { text.now ≡ encode order value.now }
+    requires encoded { encoded.now ≡ encode order value.now }
     requires count { count ≡ count_of value.now }
-    requires fits { length text.now ≤ max 4 room.len }
-    ensures { IfOk result (λ ps. ps.items ≡ value_patches order value.now entry room) }
+    requires fits { length encoded.now ≤ max 4 space.len }
+    ensures { IfOk result (λ ps. ps.items ≡ value_patches order value.now entry space) }
 {
-    let mut patches = room_patches(alloc, room, text)?;
-    let text = entry_text(alloc, order, value, count, room.offset, text)?;
+    let mut patches = space_patches(alloc, space, encoded)?;
+    let encoded = entry_bytes(alloc, order, value, count, space.offset, encoded)?;
     patches.push(Patch {
         offset: entry as u64 + 2,
-        bytes: Items::from_vec(text),
+        bytes: Items::from_vec(encoded),
     })?;
     Ok(patches)
 }
@@ -141,29 +126,29 @@ fn make_edit(
         (value_answer order value.now entry bytes.now) }
     ensures within { IfOk result (λ e. All (FitsIn (length bytes.now)) e.patches.items) }
     ensures offset { IfOk result (λ e. e.offset
-        ≡ set_offset (value_room (number_of order) bytes.now entry).offset entry
+        ≡ set_offset (value_space (number_of order) bytes.now entry).offset entry
         (encode order value.now)) }
 {
     if bytes.len() < entry as usize + 12 {
         return Err(Error::SharedBytes);
     }
-    let room = value_room(order, bytes, entry);
-    if bytes.len() < room.offset as usize + room.len {
+    let space = value_space(order, bytes, entry);
+    if bytes.len() < space.offset as usize + space.len {
         return Err(Error::SharedBytes);
     }
     let Some(count) = value.count() else {
         return Err(Error::ValueTooLong);
     };
-    let text = encode(alloc, order, value)?;
-    if room.len.max(4) < text.len() {
+    let encoded = encode(alloc, order, value)?;
+    if space.len.max(4) < encoded.len() {
         return Err(Error::ValueTooLong);
     }
-    let offset = if text.len() <= 4 {
+    let offset = if encoded.len() <= 4 {
         entry + 8
     } else {
-        room.offset
+        space.offset
     };
-    let patches = value_patches(alloc, order, value, count, entry, room, text.as_slice())?;
+    let patches = value_patches(alloc, order, value, count, entry, space, encoded.as_slice())?;
     Ok(Edit { patches, offset })
 }
 
@@ -195,10 +180,10 @@ fn names_child(number: u16) -> bool
 }
 
 // Whether a text holds no zero byte.
-fn is_plain(text: &[u8]) -> bool
-    ensures { result ≡ true → All (λ b. b ≢ 0) text.now }
+fn is_plain(encoded: &[u8]) -> bool
+    ensures { result ≡ true → All (λ b. b ≢ 0) encoded.now }
 {
-    text.iter().all(|byte| *byte != 0)
+    encoded.iter().all(|byte| *byte != 0)
 }
 
 // Whether no text of a value holds a zero byte.
@@ -209,7 +194,7 @@ fn has_plain_texts(value: &Value) -> bool
         Value::Ascii(texts) => texts
             .as_slice()
             .iter()
-            .all(|text| is_plain(text.as_slice())),
+            .all(|encoded| is_plain(encoded.as_slice())),
         _ => true,
     }
 }
@@ -232,7 +217,7 @@ fn is_alone(order: Order, bytes: &[u8], tag: Tag, value: &Value, found: &Found, 
     requires edit { value_answer order value.now found.now.entry bytes.now
         ≡ Ok edit.now.patches.items }
     ensures alone { result ≡ true
-        → stands_alone (number_of order) bytes.now found.now.entry ≡ true }
+        → is_unshared (number_of order) bytes.now found.now.entry ≡ true }
     ensures childless { result ≡ true → names_child tag.1 ≡ false }
     ensures ranged { result ≡ true → IsRanged value.now }
     ensures plain { result ≡ true → HasPlainTexts value.now }
@@ -240,7 +225,7 @@ fn is_alone(order: Order, bytes: &[u8], tag: Tag, value: &Value, found: &Found, 
     if !reads_back(tag, value) {
         return false;
     }
-    stands_alone(
+    is_unshared(
         order,
         bytes,
         edit.patches.as_slice(),
@@ -263,7 +248,7 @@ fn plan(alloc: Global, bytes: &[u8], tag: Tag, ifd_num: In, value: &Value) -> Re
     plan_known(alloc, bytes, tag, ifd_num, value)
 }
 
-// The same of a value that may be set: they need no reading where the entry stands alone.
+// The same of a value that may be set: they need no reading if the entry is unshared.
 fn plan_known(
     alloc: Global,
     bytes: &[u8],
@@ -311,11 +296,11 @@ pub fn set_value_patches(
 }
 
 /// Puts a value in the place of the last one of a name: into its entry where it takes at most four
-/// bytes, else where the old one stands. The type, the count and the offset of the entry follow, and
+/// bytes, else where the old one is. The type, the count and the offset of the entry follow, and
 /// spare bytes become zero.
 ///
 /// Refusals are `NamesOffsets`, `UnknownType`, `Header`, `FieldNotFound`, `ValueTooLong` and
-/// `SharedBytes`, which a value whose entry stands alone never gets (see [`laws`](crate::laws)). It
+/// `SharedBytes`, which a value of an unshared entry never gets (see [`laws`](crate::laws)). It
 /// takes the memory of one reading; and where bytes are shared, of a second reading and no copy.
 pub fn set_value(
     alloc: Global,

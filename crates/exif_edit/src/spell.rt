@@ -1,7 +1,7 @@
 //! Values and entries as bytes.
 
 ghost use Rattle.std.specs.Prelude.{◌≡◌, IfOk};
-ghost use Rattle.exif_edit.specs.Setting.{entry_text};
+ghost use Rattle.exif_edit.specs.Setting.{entry_bytes};
 ghost use Rattle.exif_types.specs.ValueTypes.{count_of};
 ghost use Rattle.exif_layout.specs.Encoding.{encode};
 ghost use Rattle.exif_layout.specs.Refused.{is_unknown};
@@ -24,23 +24,23 @@ pub fn encode(alloc: Global, order: Order, value: &Value) -> Result<Vec<u8>, All
 }
 
 /// The 10 bytes behind the tag of an entry: the type of the value, how many items it has, and the
-/// bytes of the value, or the offset where they stand.
-pub fn entry_text(
+/// bytes of the value, or their offset.
+pub fn entry_bytes(
     alloc: Global,
     order: Order,
     value: &Value,
     count: u32,
     offset: u32,
-    text: &[u8],
+    encoded: &[u8],
 ) -> Result<Vec<u8>, AllocError>
     requires { count ≡ count_of value.now }
-    ensures { IfOk result (λ v. v.items ≡ entry_text order value.now offset text.now) }
+    ensures { IfOk result (λ v. v.items ≡ entry_bytes order value.now offset encoded.now) }
 {
     let mut out = Vec::with_capacity(alloc, 10)?;
     out.extend_from_slice(&spelled_u16(order, value.type_number()))?;
     out.extend_from_slice(&spelled_u32(order, count))?;
-    if text.len() <= 4 {
-        out.extend_from_slice(padded(alloc, 4, text)?.as_slice())?;
+    if encoded.len() <= 4 {
+        out.extend_from_slice(padded(alloc, 4, encoded)?.as_slice())?;
     } else {
         out.extend_from_slice(&spelled_u32(order, offset))?;
     }

@@ -8,6 +8,7 @@ pub mod LimitSteps
 pub mod LocatedEntries
 pub mod OffsetSteps
 pub mod PatchSteps
+pub mod PlanSteps
 pub mod PutBack
 pub mod ReadFaults
 pub mod ReadSteps

@@ -54,7 +54,7 @@ offsets_near t n l at' h k = by_test (t == 3) h
     by_test true h = omega arith
     by_test false h = omega arith
 
--- there is room for those behind the one at hand
+-- there is space for those behind the one at hand
 pub offsets_behind : (t n i l at' : ℕ) → i < n → at' + offset_len t * (n - i) ≤ l
     → at' + offset_len t + offset_len t * (n - (i + 1)) ≤ l
 offsets_behind t n i l at' h k = by_test (t == 3) k

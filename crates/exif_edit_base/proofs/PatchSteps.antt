@@ -14,14 +14,14 @@ use Rattle.exif_edit_base.specs.declared.patch.Span.{Span}
 -- ---- one patch
 
 -- a byte before it, or behind it, stays
-pub put_before : (offset : ℕ) (text bytes : List ℕ) (i : ℕ) → offset + length text ≤ length bytes
-    → i < offset → get_or (put_at offset text bytes) i 0 ≡ get_or bytes i 0
-put_before offset text bytes i h l = grind (arith, common_steps)
+pub put_before : (offset : ℕ) (encoded bytes : List ℕ) (i : ℕ) → offset + length encoded ≤ length bytes
+    → i < offset → get_or (put_at offset encoded bytes) i 0 ≡ get_or bytes i 0
+put_before offset encoded bytes i h l = grind (arith, common_steps)
 
--- a byte behind a text that was put is as it was
-pub put_behind : (offset : ℕ) (text bytes : List ℕ) (i : ℕ) → offset + length text ≤ length bytes
-    → offset + length text ≤ i → get_or (put_at offset text bytes) i 0 ≡ get_or bytes i 0
-put_behind offset text bytes i h l = grind (arith, common_steps)
+-- a byte behind a encoded that was put is as it was
+pub put_behind : (offset : ℕ) (encoded bytes : List ℕ) (i : ℕ) → offset + length encoded ≤ length bytes
+    → offset + length encoded ≤ i → get_or (put_at offset encoded bytes) i 0 ≡ get_or bytes i 0
+put_behind offset encoded bytes i h l = grind (arith, common_steps)
 
 -- a byte that zeros were put over is zero
 pub put_zero : (offset len : ℕ) (bytes : List ℕ) (i : ℕ) → offset + len ≤ length bytes → offset ≤ i
@@ -29,15 +29,15 @@ pub put_zero : (offset len : ℕ) (bytes : List ℕ) (i : ℕ) → offset + len 
 put_zero offset len bytes i h l m = grind (arith, common_steps)
 
 -- a byte of it is there
-pub put_on : (offset : ℕ) (text bytes : List ℕ) (i : ℕ) → offset + length text ≤ length bytes
+pub put_on : (offset : ℕ) (encoded bytes : List ℕ) (i : ℕ) → offset + length encoded ≤ length bytes
     → offset ≤ i
-    → i < offset + length text → get_or (put_at offset text bytes) i 0 ≡ get_or text (i - offset) 0
-put_on offset text bytes i h l m = grind (arith, common_steps)
+    → i < offset + length encoded → get_or (put_at offset encoded bytes) i 0 ≡ get_or encoded (i - offset) 0
+put_on offset encoded bytes i h l m = grind (arith, common_steps)
 
--- a text that is put within bytes leaves them as long as they were
-pub length-put_at : (offset : ℕ) (text bytes : List ℕ) → offset + length text ≤ length bytes
-    → length (put_at offset text bytes) ≡ length bytes
-length-put_at offset text bytes h = grind (arith, common_steps)
+-- a encoded that is put within bytes leaves them as long as they were
+pub length-put_at : (offset : ℕ) (encoded bytes : List ℕ) → offset + length encoded ≤ length bytes
+    → length (put_at offset encoded bytes) ≡ length bytes
+length-put_at offset encoded bytes h = grind (arith, common_steps)
 
 -- ---- patches
 

@@ -16,18 +16,18 @@ pub length-bytes_at : (n offset : ℕ) (bytes : List ℕ) → offset + n ≤ len
     → length (bytes_at n bytes offset) ≡ n
 length-bytes_at n offset bytes h = grind (arith, common_steps)
 
--- a text in the place of one as long
-pub put_over : (front text rest new : List ℕ) (offset : ℕ) → length front ≡ offset
-    → length new ≡ length text
-    → put_at offset new (front ++ (text ++ rest)) ≡ front ++ (new ++ rest)
-put_over front text rest new offset f e =
-    let l : length (front ++ text) ≡ offset + length new =
-    omega (arith, length-append front text) in
-    let t : take offset (front ++ (text ++ rest)) ≡ front = take_at front (text ++ rest) offset f in
-    let d : drop (offset + length new) (front ++ (text ++ rest)) ≡ rest =
-    ap (λ xs. drop (offset + length new) xs) (sym (append_assoc front text rest))
-    ∙ drop_at (front ++ text) rest (offset + length new) l in
-    ap (λ xs. xs ++ (new ++ drop (offset + length new) (front ++ (text ++ rest)))) t
+-- a encoded in the place of one as long
+pub put_over : (front encoded rest new : List ℕ) (offset : ℕ) → length front ≡ offset
+    → length new ≡ length encoded
+    → put_at offset new (front ++ (encoded ++ rest)) ≡ front ++ (new ++ rest)
+put_over front encoded rest new offset f e =
+    let l : length (front ++ encoded) ≡ offset + length new =
+    omega (arith, length-append front encoded) in
+    let t : take offset (front ++ (encoded ++ rest)) ≡ front = take_at front (encoded ++ rest) offset f in
+    let d : drop (offset + length new) (front ++ (encoded ++ rest)) ≡ rest =
+    ap (λ xs. drop (offset + length new) xs) (sym (append_assoc front encoded rest))
+    ∙ drop_at (front ++ encoded) rest (offset + length new) l in
+    ap (λ xs. xs ++ (new ++ drop (offset + length new) (front ++ (encoded ++ rest)))) t
     ∙ ap (λ xs. front ++ (new ++ xs)) d
 
 -- the bytes before, in and behind a stretch
@@ -39,24 +39,24 @@ in_three offset n bytes =
     ∙ take-append-drop offset bytes)
 
 -- the old bytes put over the new ones are there again
-pub put_twice : (offset : ℕ) (text bytes : List ℕ) → offset + length text ≤ length bytes
-    → put_at offset (bytes_at (length text) bytes offset) (put_at offset text bytes) ≡ bytes
-put_twice offset text bytes h =
-    let l = length-bytes_at (length text) offset bytes h in
+pub put_twice : (offset : ℕ) (encoded bytes : List ℕ) → offset + length encoded ≤ length bytes
+    → put_at offset (bytes_at (length encoded) bytes offset) (put_at offset encoded bytes) ≡ bytes
+put_twice offset encoded bytes h =
+    let l = length-bytes_at (length encoded) offset bytes h in
     let f : length (take offset bytes) ≡ offset = grind (arith, common_steps) in
-    put_over (take offset bytes) text (drop (offset + length text) bytes)
-    (bytes_at (length text) bytes offset) offset f l
-    ∙ in_three offset (length text) bytes
+    put_over (take offset bytes) encoded (drop (offset + length encoded) bytes)
+    (bytes_at (length encoded) bytes offset) offset f l
+    ∙ in_three offset (length encoded) bytes
 
--- and what they take the place of is the text
-pub text_there : (offset : ℕ) (text bytes : List ℕ) → offset + length text ≤ length bytes
-    → bytes_at (length text) (put_at offset text bytes) offset ≡ text
-text_there offset text bytes h = grind (arith, common_steps)
+-- and what they take the place of is the encoded
+pub encoded_there : (offset : ℕ) (encoded bytes : List ℕ) → offset + length encoded ≤ length bytes
+    → bytes_at (length encoded) (put_at offset encoded bytes) offset ≡ encoded
+encoded_there offset encoded bytes h = grind (arith, common_steps)
 
 taken_twice : (p : Patch) (bytes : List ℕ) → FitsIn (length bytes) p
     → taken (put_at p.offset p.bytes bytes) (taken bytes p) ≡ p
 taken_twice p bytes h =
-    rw (length-bytes_at (length p.bytes) p.offset bytes h, text_there p.offset p.bytes bytes h) refl
+    rw (length-bytes_at (length p.bytes) p.offset bytes h, encoded_there p.offset p.bytes bytes h) refl
 
 taken_fits : (n : ℕ) (p : Patch) (bytes : List ℕ) → n ≡ length bytes → FitsIn n p
     → FitsIn n (taken bytes p)

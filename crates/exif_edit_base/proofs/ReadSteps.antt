@@ -119,9 +119,9 @@ passed true fault r order e = absurd (err_ok e)
 passed false fault r order e = (refl, e)
 
 -- data with a good header have 8 bytes at least, and fewer than 2^32
-pub header_room : (bytes : List ℕ) (order : Order) → header bytes ≡ Ok order
+pub header_space : (bytes : List ℕ) (order : Order) → header bytes ≡ Ok order
     → (8 ≤ length bytes) × (length bytes < 2 ^ 32)
-header_room bytes order e =
+header_space bytes order e =
     let a = passed (nat_lt (2 ^ 32 - 1) (length bytes)) DataTooLarge
     (if nat_lt (length bytes) 8 then Err TruncatedHeader else elim (order_of bytes) [
       | None ↦ Err InvalidByteOrder

@@ -28,7 +28,7 @@ abbrev no_data_by : Option Refusal → Option Cause
 no_data_by (Some r) = Some (no_data r)
 no_data_by None = None
 
--- the cause that an error tells; out of memory is none
+-- the cause that an error names; out of memory is none
 abbrev pub cause_of : Error → Option Cause
 cause_of error.FieldNotFound = Some no_field
 cause_of error.NoDirectory = Some no_directory
@@ -96,7 +96,7 @@ of_container (Err r) = Err (no_data r)
 
 -- ---- what calls say
 
--- an error tells the answer's cause, or memory ran out
+-- an error names the answer's cause, or memory ran out
 abbrev pub Fails : {Y : Type 0} → Error → Result Y Cause → Type 0
 Fails e answer = MatchOption (cause_of e) (e ≡ error.OutOfMemory) (λ c. answer ≡ Err c)
 

@@ -28,7 +28,7 @@ replaced tag k value (f ∷ fs) =
     if list_any (is_named tag k) fs then f ∷ replaced tag k value fs
     else ((if is_named tag k f then with_value value f else f) ∷ fs)
 
--- the last field of a name stands at this index
+-- the last field of a name is at this index
 abbrev pub IsLastAt : Tag → In → List Field → ℕ → Type 0
 IsLastAt tag k fields i =
     MatchOption (slice_get fields i) ⊥ (λ f. is_named tag k f ≡ true)

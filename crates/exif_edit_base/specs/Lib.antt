@@ -4,6 +4,9 @@ pub mod Finding
 pub mod GpsOffsets
 pub mod Locations
 pub mod Patches
+pub mod Plans
 pub mod Readings
+pub mod Rereading
 pub mod Results
+pub mod Spans
 pub mod Walked

@@ -1,4 +1,4 @@
--- Where the fields of TIFF data and their directories stand (TIFF 6.0, section 2; Exif 2.32,
+-- The offsets of the fields of TIFF data and of their directories (TIFF 6.0, section 2; Exif 2.32,
 -- 4.6.3).
 use Rattle.std.specs.Prelude.{◌≡◌, ℕ, List, [], ◌∷◌, map}
 use Rattle.std.specs.List.{flat_map}

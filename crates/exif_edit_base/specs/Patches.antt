@@ -4,9 +4,9 @@ use Rattle.exif_base.specs.Bytes.{bytes_at}
 use Rattle.exif_edit_base.specs.declared.patch.Patch.{Patch}
 use Rattle.exif_edit_base.specs.declared.patch.Span.{Span}
 
--- the bytes with a text in the place of those that stand there
+-- the bytes with others in place of those that are there
 abbrev pub put_at : ℕ → List ℕ → List ℕ → List ℕ
-put_at offset text bytes = take offset bytes ++ (text ++ drop (offset + length text) bytes)
+put_at offset encoded bytes = take offset bytes ++ (encoded ++ drop (offset + length encoded) bytes)
 
 -- the bytes with patches put over them, one after another
 abbrev pub patched : List Patch → List ℕ → List ℕ
@@ -44,6 +44,6 @@ inside i s = nat_le s.offset i && nat_lt i (s.offset + s.len)
 abbrev pub zeros_over : Span → Patch
 zeros_over s = record { offset = s.offset; bytes = replicate s.len 0 }
 
--- a text, and zeros behind it up to a length
+-- bytes, and zeros behind them up to a length
 abbrev pub padded : ℕ → List ℕ → List ℕ
-padded n text = text ++ replicate (n - length text) 0
+padded n encoded = encoded ++ replicate (n - length encoded) 0

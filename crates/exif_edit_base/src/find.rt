@@ -1,4 +1,4 @@
-//! The last field of a name, and where its entry stands.
+//! The last field of a name, and the offset of its entry.
 
 ghost use Rattle.std.specs.Prelude.{◌≡◌, ◌<◌, ◌^◌, All, length, false, slice_get, Some, IfOk, OnOk, MatchOption};
 ghost use Rattle.exif_types.specs.Lookup.{is_named};

@@ -8,7 +8,10 @@ pub mod laws;
 pub mod limit;
 pub mod offsets;
 pub mod patch;
+pub mod plan;
 pub mod read;
+pub mod reread;
+pub mod spans;
 pub mod unerased;
 mod walk;
 

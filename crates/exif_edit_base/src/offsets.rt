@@ -31,7 +31,7 @@ pub enum Target {
 /// How many entries of the directory at an offset are whole.
 pub fn whole_entries(order: Order, bytes: &[u8], offset: u32) -> usize
     ensures value { result ≡ whole_entries (number_of order) bytes.now offset }
-    ensures room { 0 < result → offset + 2 + 12 * result ≤ length bytes.now }
+    ensures space { 0 < result → offset + 2 + 12 * result ≤ length bytes.now }
     ensures small { result < 65536 }
 {
     match order {
@@ -100,13 +100,13 @@ fn values_count(order: Order, bytes: &[u8], entry: usize) -> usize
     requires small { length bytes.now < 2 ^ 32 }
     ensures value { result ≡ values_count (number_of order) bytes.now entry }
 {
-    let room = bytes
+    let space = bytes
         .len()
         .saturating_sub(values_offset(order, bytes, entry));
     let fitting = if number16(order, bytes, entry + 2) == 3 {
-        room / 2
+        space / 2
     } else {
-        room / 4
+        space / 4
     };
     let count = number32(order, bytes, entry + 4) as usize;
     count.min(MAX_POINTERS).min(fitting)
@@ -265,7 +265,7 @@ fn note_children(
 
 /// The directories of the whole chain, and all to which they point, but for GPS directories.
 pub fn all_directories(alloc: Global, order: Order, bytes: &[u8]) -> Result<Vec<u32>, AllocError>
-    requires room { 8 ≤ length bytes.now }
+    requires space { 8 ≤ length bytes.now }
     requires small { length bytes.now < 2 ^ 32 }
     ensures { IfOk result (λ v. v.items ≡ all_directories (number_of order) bytes.now) }
 {
@@ -306,7 +306,7 @@ pub fn gps_offsets(
     bytes: &[u8],
     visited: &[u32],
 ) -> Result<Vec<u32>, AllocError>
-    requires room { 8 ≤ length bytes.now }
+    requires space { 8 ≤ length bytes.now }
     requires small { length bytes.now < 2 ^ 32 }
     requires visited { visited.now ≡ visited_gps bytes.now }
     ensures { IfOk result (λ v. v.items ≡ gps_offsets (number_of order) bytes.now) }

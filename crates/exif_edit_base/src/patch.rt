@@ -23,13 +23,13 @@ pub struct Patch {
     pub bytes: Items<u8>,
 }
 
-/// Puts a text over the bytes at an offset.
-pub fn put(bytes: &mut [u8], offset: usize, text: &[u8])
-    requires { offset + length text.now ≤ length bytes.old }
-    ensures value { bytes.new ≡ put_at offset text.now bytes.old }
+/// Puts bytes over those at an offset.
+pub fn put(bytes: &mut [u8], offset: usize, encoded: &[u8])
+    requires { offset + length encoded.now ≤ length bytes.old }
+    ensures value { bytes.new ≡ put_at offset encoded.now bytes.old }
     ensures len { length bytes.new ≡ length bytes.old }
 {
-    bytes[offset..offset + text.len()].copy_from_slice(text);
+    bytes[offset..offset + encoded.len()].copy_from_slice(encoded);
 }
 
 /// Puts patches over the bytes, one after another.
@@ -43,20 +43,20 @@ pub fn apply(patches: &[Patch], bytes: &mut [u8])
     }
 }
 
-// Puts a patch over the bytes, and what stood there into the patch.
+// Puts a patch over the bytes, and what was there into the patch.
 fn exchange_one(alloc: Global, bytes: &mut [u8], patch: &mut Patch)
     requires { FitsIn (length bytes.old) patch.old }
     ensures value { bytes.new ≡ put_at patch.old.offset patch.old.bytes bytes.old }
     ensures len { length bytes.new ≡ length bytes.old }
     ensures taken { patch.new ≡ taken bytes.old patch.old }
 {
-    let mut text = mem::replace(&mut patch.bytes, Items::from_vec(Vec::new(alloc))).into_vec();
+    let mut encoded = mem::replace(&mut patch.bytes, Items::from_vec(Vec::new(alloc))).into_vec();
     let offset = patch.offset as usize;
-    bytes[offset..offset + text.len()].swap_with_slice(text.as_mut_slice());
-    patch.bytes = Items::from_vec(text);
+    bytes[offset..offset + encoded.len()].swap_with_slice(encoded.as_mut_slice());
+    patch.bytes = Items::from_vec(encoded);
 }
 
-/// Puts patches over the bytes, one after another, and what stood there into the patches. It takes
+/// Puts patches over the bytes, one after another, and what was there into the patches. It takes
 /// no memory, and [`put_back`] undoes it.
 pub fn exchange(alloc: Global, bytes: &mut [u8], patches: &mut [Patch])
     requires { All (FitsIn (length bytes.old)) patches.old }
@@ -93,14 +93,14 @@ pub fn patched(alloc: Global, patches: &[Patch], bytes: &[u8]) -> Result<Vec<u8>
     Ok(out)
 }
 
-/// A text, and zeros behind it up to a length.
-pub fn padded(alloc: Global, len: usize, text: &[u8]) -> Result<Vec<u8>, AllocError>
-    requires { length text.now ≤ len }
-    ensures { IfOk result (λ v. v.items ≡ padded len text.now) }
+/// Bytes, and zeros behind them up to a length.
+pub fn padded(alloc: Global, len: usize, encoded: &[u8]) -> Result<Vec<u8>, AllocError>
+    requires { length encoded.now ≤ len }
+    ensures { IfOk result (λ v. v.items ≡ padded len encoded.now) }
 {
     let mut out = Vec::with_capacity(alloc, len)?;
-    out.extend_from_slice(text)?;
-    for _ in 0..len - text.len() {
+    out.extend_from_slice(encoded)?;
+    for _ in 0..len - encoded.len() {
         out.push(0)?;
     }
     Ok(out)
@@ -110,9 +110,9 @@ pub fn padded(alloc: Global, len: usize, text: &[u8]) -> Result<Vec<u8>, AllocEr
 pub fn zeros(alloc: Global, span: Span) -> Result<Patch, AllocError>
     ensures { IfOk result (λ p. p ≡ zeros_over span) }
 {
-    let text = vec![in alloc; 0u8; span.len]?;
+    let encoded = vec![in alloc; 0u8; span.len]?;
     Ok(Patch {
         offset: span.offset as u64,
-        bytes: Items::from_vec(text),
+        bytes: Items::from_vec(encoded),
     })
 }

@@ -18,17 +18,17 @@ use std::alloc::{AllocError, Global};
 /// Reads data leniently.
 pub fn read(alloc: Global, bytes: &[u8]) -> Result<Parsed, Stop>
     ensures reads { ReadsTo result (reading bytes.now) }
-    ensures room { OnOk result (8 ≤ length bytes.now) }
+    ensures space { OnOk result (8 ≤ length bytes.now) }
     ensures small { OnOk result (length bytes.now < 2 ^ 32) }
 {
     parse(alloc, bytes, true, None)
 }
 
-/// Reads data leniently, and tells where what is read stands.
+/// Reads data leniently, and answers the offsets of what is read.
 pub fn locate(alloc: Global, bytes: &[u8]) -> Result<Located, Stop>
     ensures reads { ReadsTo (parsed_of result) (reading bytes.now) }
     ensures offsets { IfOk result (λ located. Finds bytes.now located.walk) }
-    ensures room { OnOk result (8 ≤ length bytes.now) }
+    ensures space { OnOk result (8 ≤ length bytes.now) }
     ensures small { OnOk result (length bytes.now < 2 ^ 32) }
 {
     read_located(alloc, bytes)

@@ -1,4 +1,4 @@
-//! A reading that tells where fields and directories stand.
+//! A reading that answers the offsets of fields and directories.
 
 ghost use Rattle.std.specs.Prelude.{◌≡◌, ◌++◌, None, true, IfOk, OnOk};
 ghost use Rattle.exif_tiff.specs.Answers.{raw_answer};
@@ -34,7 +34,7 @@ impl Model for Walk {
     } };
 }
 
-/// What was read, and where it stands.
+/// What was read, and its offsets.
 #[derive(Drop)]
 pub struct Located {
     pub parsed: Parsed,
@@ -87,7 +87,7 @@ fn gps_of(alloc: Global, directories: &[DirectoryOffset]) -> Result<Vec<u32>, Al
     Ok(offsets)
 }
 
-/// Reads TIFF data leniently, and tells where what is read stands.
+/// Reads TIFF data leniently, and answers the offsets of what is read.
 pub fn read_located(alloc: Global, bytes: &[u8]) -> Result<Located, Stop>
     ensures says { Says (parsed_of result) (raw_answer true None bytes.now) }
     ensures order { SaysOrder (parsed_of result) bytes.now }

@@ -12,8 +12,8 @@ use Rattle.exif_containers.specs.Located.{Located, in_one, located_answer, locat
 use Rattle.exif_containers.specs.declared.container.Format.{Format}
 use Rattle.exif_containers.specs.declared.container.Format.TheVariants.{Tiff, Jpeg, Heif, WebP}
 use Rattle.exif_containers.proofs.ContainerSteps.{head-first}
-use Rattle.exif_containers.specs.Jpeg.{jpeg_answer}
-use Rattle.exif_containers.specs.Webp.{webp_answer}
+use Rattle.exif_segments.specs.Jpeg.{jpeg_answer}
+use Rattle.exif_segments.specs.Webp.{webp_answer}
 use Rattle.exif_isobmff.specs.Extents.{located_exif}
 use Rattle.exif_containers.proofs.Replacing.{heif_format, is_heif, none_located, piece_format, tiff_format}
 use Rattle.exif_edit_base.specs.Causes.{Cause, Fails as FailsAs, Makes, Stops, cause_of, no_data, of_container}
@@ -113,12 +113,12 @@ pub interrupted : {Y : Type 0} (f : Failure) (e : Error) (a : Option (List ℕ))
 interrupted f e None answer s h = tt
 interrupted (failure.Io cause) e (Some bytes) answer s h = rw s tt
 interrupted failure.OutOfMemory e (Some bytes) answer s h = rw s tt
-interrupted (failure.InvalidFormat text) e (Some bytes) answer s h = absurd h
-interrupted (failure.NotFound text) e (Some bytes) answer s h = absurd h
-interrupted (failure.BlankValue text) e (Some bytes) answer s h = absurd h
-interrupted (failure.TooBig text) e (Some bytes) answer s h = absurd h
-interrupted (failure.NotSupported text) e (Some bytes) answer s h = absurd h
-interrupted (failure.UnexpectedValue text) e (Some bytes) answer s h = absurd h
+interrupted (failure.InvalidFormat encoded) e (Some bytes) answer s h = absurd h
+interrupted (failure.NotFound encoded) e (Some bytes) answer s h = absurd h
+interrupted (failure.BlankValue encoded) e (Some bytes) answer s h = absurd h
+interrupted (failure.TooBig encoded) e (Some bytes) answer s h = absurd h
+interrupted (failure.NotSupported encoded) e (Some bytes) answer s h = absurd h
+interrupted (failure.UnexpectedValue encoded) e (Some bytes) answer s h = absurd h
 interrupted (failure.PartialResult partial) e (Some bytes) answer s h = absurd h
 
 -- the container's error, or an interruption
@@ -126,17 +126,17 @@ pub unlocated : (limit : Option ℕ) (edit : Edit) (f : Failure) (e : Error) (a 
     → Stops f e → IfSome a (λ file. Fails f (located_answer file))
     → IfSome a (λ file. has_item file ≡ false → FailsOrStops e (file_patches limit edit file))
 unlocated limit edit f e None s h = tt
-unlocated limit edit (failure.InvalidFormat text) e (Some file) s h =
+unlocated limit edit (failure.InvalidFormat encoded) e (Some file) s h =
     λ t. rw s (file_unlocated limit edit file _ (ap of_container h))
-unlocated limit edit (failure.NotFound text) e (Some file) s h =
+unlocated limit edit (failure.NotFound encoded) e (Some file) s h =
     λ t. rw s (file_unlocated limit edit file _ (ap of_container h))
-unlocated limit edit (failure.BlankValue text) e (Some file) s h =
+unlocated limit edit (failure.BlankValue encoded) e (Some file) s h =
     λ t. rw s (file_unlocated limit edit file _ (ap of_container h))
-unlocated limit edit (failure.TooBig text) e (Some file) s h =
+unlocated limit edit (failure.TooBig encoded) e (Some file) s h =
     λ t. rw s (file_unlocated limit edit file _ (ap of_container h))
-unlocated limit edit (failure.NotSupported text) e (Some file) s h =
+unlocated limit edit (failure.NotSupported encoded) e (Some file) s h =
     λ t. rw s (file_unlocated limit edit file _ (ap of_container h))
-unlocated limit edit (failure.UnexpectedValue text) e (Some file) s h =
+unlocated limit edit (failure.UnexpectedValue encoded) e (Some file) s h =
     λ t. rw s (file_unlocated limit edit file _ (ap of_container h))
 unlocated limit edit (failure.Io cause) e (Some file) s h = λ t. rw s h
 unlocated limit edit (failure.PartialResult partial) e (Some file) s h = λ t. absurd h

@@ -108,11 +108,11 @@ spread_misses file i es (p ∷ ps) s w a =
 
 -- ---- data in one extent
 
-no_bytes : (offset : ℕ) (text bytes : List ℕ) → length text ≡ 0 → bytes ≡ put_at offset text bytes
+no_bytes : (offset : ℕ) (encoded bytes : List ℕ) → length encoded ≡ 0 → bytes ≡ put_at offset encoded bytes
 no_bytes offset [] bytes e =
     let n : offset + 0 ≡ offset = omega arith in
     sym (ap (λ k. take offset bytes ++ drop k bytes) n ∙ take-append-drop offset bytes)
-no_bytes offset (b ∷ text) bytes e = absurd (omega arith)
+no_bytes offset (b ∷ encoded) bytes e = absurd (omega arith)
 
 one_patch : (e : Extent) (p : Patch) (file : List ℕ) → p.offset + length p.bytes ≤ e.len
     → patched (spread_one (e ∷ []) p) file
@@ -133,23 +133,23 @@ one_patch e p file f = by_behind (nat_le e.len p.offset) refl
         no_bytes (u64_saturate (e.offset + p.offset)) p.bytes file (omega arith)
     by_behind false t = rw (within t) refl
 
-put_front : (front p rest text : List ℕ) (offset : ℕ) → offset + length text ≤ length p
-    → put_at (length front + offset) text (front ++ (p ++ rest)) ≡ front
-    ++ (put_at offset text p ++ rest)
-put_front front p rest text offset h =
-    let n = offset + length text in
+put_front : (front p rest encoded : List ℕ) (offset : ℕ) → offset + length encoded ≤ length p
+    → put_at (length front + offset) encoded (front ++ (p ++ rest)) ≡ front
+    ++ (put_at offset encoded p ++ rest)
+put_front front p rest encoded offset h =
+    let n = offset + length encoded in
     let a : take (length front + offset) (front ++ (p ++ rest)) ≡ front ++ take offset p =
     take-append-add front (p ++ rest) offset
     ∙ ap (λ xs. front ++ xs) (take-append-le offset p rest (omega arith)) in
-    let k : length front + offset + length text ≡ length front + n = omega arith in
-    let b : drop (length front + offset + length text) (front ++ (p ++ rest)) ≡ drop n p ++ rest =
+    let k : length front + offset + length encoded ≡ length front + n = omega arith in
+    let b : drop (length front + offset + length encoded) (front ++ (p ++ rest)) ≡ drop n p ++ rest =
     ap (λ i. drop i (front ++ (p ++ rest))) k
     ∙ (drop-append-add front (p ++ rest) n ∙ drop-append-le n p rest h) in
     rw (a, b)
-    (append_assoc front (take offset p) (text ++ (drop n p ++ rest))
+    (append_assoc front (take offset p) (encoded ++ (drop n p ++ rest))
     ∙ ap (λ xs. front ++ xs)
-    (ap (λ xs. take offset p ++ xs) (sym (append_assoc text (drop n p) rest))
-    ∙ sym (append_assoc (take offset p) (text ++ drop n p) rest)))
+    (ap (λ xs. take offset p ++ xs) (sym (append_assoc encoded (drop n p) rest))
+    ∙ sym (append_assoc (take offset p) (encoded ++ drop n p) rest)))
 
 -- patches of data between a front and a rest change what is between them as they change the data
 pub spread_front : (ps : List Patch) (front p rest : List ℕ) → length front + length p < 2 ^ 64

@@ -10,10 +10,10 @@ ghost use Rattle.exif_edit_files.specs.Sources.{MakesOrStops, has_item, is_devic
 use crate::file::{data_patches, patches_in_memory};
 use crate::spread::spread;
 use exif_base::{Blocks, Source};
-use exif_containers::container::{BLOCK, Format, format_of, read_head};
+use exif_containers::container::{BLOCK, Format, format_of, read_signature};
 use exif_containers::find_exif;
-use exif_containers::util::read_all;
 use exif_edit::{Edit, Error, Patch};
+use exif_segments::util::read_all;
 use std::alloc::Global;
 
 // Whether a head is that of a container whose data are an item.
@@ -76,7 +76,7 @@ pub fn patches_in<R: Source>(
     ensures counts { Counts R.Source source.old source.new (is_device result) }
 {
     let mut block = [0u8; BLOCK];
-    let filled = match read_head(source, &mut block) {
+    let filled = match read_signature(source, &mut block) {
         Ok(filled) => filled,
         Err(error) => return Err(Error::Container(exif_types::Error::Io(error))),
     };

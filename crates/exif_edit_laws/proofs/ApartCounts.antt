@@ -8,7 +8,7 @@ use Rattle.exif_tiff.specs.Apart.{are_apart, overlap}
 use Rattle.exif_tiff.specs.Footprint.{Stretch}
 use Rattle.exif_tiff.proofs.ApartLists.{IsApart}
 use Rattle.exif_edit_base.specs.declared.patch.Span.{Span}
-use Rattle.exif_edit.specs.Sharing.{meets}
+use Rattle.exif_edit.specs.Sharing.{overlaps}
 
 -- one where a stretch has the byte at i, else none
 pub has : ℕ → Stretch → ℕ
@@ -222,7 +222,7 @@ all_apart s (t ∷ ts) some others h = (
 
 -- a span that stands apart from a stretch does not meet it
 pub apart_misses : (s : Span) (t : Stretch) → IsApart (record { offset = s.offset; len = s.len }) t
-    → meets s t ≡ false
+    → overlaps s t ≡ false
 apart_misses s t h =
     by_tests (nat_lt t.offset (s.offset + s.len)) (nat_lt s.offset (t.offset + t.len)) refl refl h
   where

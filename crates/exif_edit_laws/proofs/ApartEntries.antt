@@ -12,7 +12,7 @@ use Rattle.exif_tiff.specs.Trace.{entry_offsets, whole_entries}
 use Rattle.exif_tiff.proofs.ApartLists.{IsApart}
 use Rattle.exif_tiff.proofs.Members.{all_append}
 use Rattle.exif_edit_base.specs.declared.patch.Span.{Span}
-use Rattle.exif_edit.specs.Sharing.{all_beside, beside, meets, other_entry}
+use Rattle.exif_edit.specs.Sharing.{all_beside, beside, overlaps, other_entry}
 use Rattle.exif_edit_laws.proofs.ApartCounts.{HaveBytes, Lacks, all_apart, apart_holders, apart_misses, apart_of, has, has_inside, has_parts, holders, holders-append, holders_more, holders_none}
 
 -- ---- a number for each time that an entry is among some
@@ -312,33 +312,33 @@ module _ (number : Reading) (bytes : List ℕ) where
           (all_beside_has e) entry_lacks
 
       -- its value, where that stands outside of it
-      module _ (room : Stretch) (some : 0 < room.len)
-          (is : value_stretch number bytes e ≡ room ∷ []) where
-        room_has : (i : ℕ) → room.offset ≤ i → i < room.offset + room.len
+      module _ (space : Stretch) (some : 0 < space.len)
+          (is : value_stretch number bytes e ≡ space ∷ []) where
+        space_has : (i : ℕ) → space.offset ≤ i → i < space.offset + space.len
             → holders i (value_stretch number bytes e) ≡ 1
-        room_has i low high =
+        space_has i low high =
             let a = ap (holders i) is in
-            let b = holders_more i room [] in
+            let b = holders_more i space [] in
             let c = holders_none i in
-            let d = has_inside i room low high in
+            let d = has_inside i space low high in
             omega arith
 
-        room_lacks : Lacks room (all_beside number bytes e)
-        room_lacks i low high =
+        space_lacks : Lacks space (all_beside number bytes e)
+        space_lacks i low high =
             let a = lone i in
             let b = own_parts i in
-            let c = room_has i low high in
+            let c = space_has i low high in
             omega arith
 
         -- its value, outside of it, is apart from all that is looked at but for the entry
-        pub room_apart : AllByRecursion (IsApart room) (all_beside number bytes e)
-        room_apart = all_apart room (all_beside number bytes e) some (all_beside_has e) room_lacks
+        pub space_apart : AllByRecursion (IsApart space) (all_beside number bytes e)
+        space_apart = all_apart space (all_beside number bytes e) some (all_beside_has e) space_lacks
 
         -- its value, outside of it, is apart from the entry itself
-        pub room_beside : IsApart room itself
-        room_beside =
-            apart_of room itself some (omega arith)
-            (λ i low high. none i (lone i) (own_parts i) (room_has i low high))
+        pub space_beside : IsApart space itself
+        space_beside =
+            apart_of space itself some (omega arith)
+            (λ i low high. none i (lone i) (own_parts i) (space_has i low high))
           where
             none : (i : ℕ) → holders i (all_beside number bytes e) + own i e ≤ 1
                 → own i e ≡ has i itself + holders i (value_stretch number bytes e)
@@ -347,10 +347,10 @@ module _ (number : Reading) (bytes : List ℕ) where
 
 -- ---- the tests
 
--- a span that meets none of some
+-- a span that overlaps none of some
 pub none_met : (s : Span) (ts : List Stretch)
     → AllByRecursion (IsApart (record { offset = s.offset; len = s.len })) ts
-    → list_any (meets s) ts ≡ false
+    → list_any (overlaps s) ts ≡ false
 none_met s [] h = refl
 none_met s (t ∷ ts) h = rw (apart_misses s t h.0, none_met s ts h.1) refl
 
@@ -368,6 +368,6 @@ neither_any S T (x ∷ xs) h k =
     by_tests true b c d h k r = cc
     by_tests false true c d h k r = cc
 
--- no span of nothing at 0 meets anything
-pub nothing_met : (t : Stretch) → meets (record { offset = 0; len = 0 }) t ≡ false
+-- no span of nothing at 0 overlaps anything
+pub nothing_met : (t : Stretch) → overlaps (record { offset = 0; len = 0 }) t ≡ false
 nothing_met t = let a : nat_lt t.offset 0 ≡ false = grind (arith, nat_tests) in rw a refl

@@ -27,13 +27,13 @@ use Rattle.exif_edit_base.specs.Locations.{Located, located}
 use Rattle.exif_edit_base.specs.Finding.{last_located}
 use Rattle.exif_edit_base.specs.declared.patch.Span.{Span}
 use Rattle.exif_edit_base.proofs.LocatedEntries.{AreSaid, IsSaid, last_said, ordered_said}
-use Rattle.exif_edit.specs.Setting.{value_room}
-use Rattle.exif_edit.specs.Sharing.{all_beside, changed_entry, meets, standing_at, stands_alone}
+use Rattle.exif_edit_base.specs.Spans.{value_space}
+use Rattle.exif_edit.specs.Sharing.{all_beside, changed_entry, overlaps, standing_at, is_unshared}
 use Rattle.exif_edit.proofs.GpsUnshared.{gps_unshared}
 use Rattle.exif_edit.proofs.Unshared.{last_stands, located_in, set_unshared}
 use Rattle.exif_edit_laws.specs.Apart.{AreErasedApart, AreErasedInImage, EachStandsAlone, IsSetApart, IsSetInImage, LastStandsAlone, GpsStandsAlone}
 use Rattle.exif_edit_laws.proofs.ApartCounts.{apart_misses}
-use Rattle.exif_edit_laws.proofs.ApartEntries.{all_entries, all_looked, entry_apart, neither_any, none_met, nothing_met, once, room_apart, room_beside, times}
+use Rattle.exif_edit_laws.proofs.ApartEntries.{all_entries, all_looked, entry_apart, neither_any, none_met, nothing_met, once, space_apart, space_beside, times}
 use Rattle.exif_edit_laws.proofs.ApartLocated.{located_times, one_more}
 use Rattle.exif_edit_laws.proofs.ApartOffsets.{offsets_apart}
 
@@ -47,17 +47,17 @@ looked_apart bytes order head apart =
       | Err fault ↦ []
     ])) head) ∙ apart
 
-none_of_nothing : (ts : List Stretch) → list_any (meets (record { offset = 0; len = 0 })) ts ≡ false
+none_of_nothing : (ts : List Stretch) → list_any (overlaps (record { offset = 0; len = 0 })) ts ≡ false
 none_of_nothing [] = refl
 none_of_nothing (t ∷ ts) = rw (nothing_met t, none_of_nothing ts) refl
 
 module _ (number : Reading) (bytes : List ℕ) (e : ℕ)
     (apart : are_apart (all_looked number bytes) ≡ true)
     (there : 0 < times 1 e (all_entries number bytes)) where
-  -- a room that is looked at as nothing else
-  record IsFree (room : Span) : Type 0 where
-    beside : list_any (meets room) (all_beside number bytes e) ≡ false
-    entry : meets room (record { offset = e; len = 12 }) ≡ false
+  -- a space that is looked at as nothing else
+  record IsFree (space : Span) : Type 0 where
+    beside : list_any (overlaps space) (all_beside number bytes e) ≡ false
+    entry : overlaps space (record { offset = e; len = 12 }) ≡ false
 
   nothing_free : IsFree (record { offset = 0; len = 0 })
   nothing_free = record {
@@ -65,22 +65,22 @@ module _ (number : Reading) (bytes : List ℕ) (e : ℕ)
     entry = nothing_met (record { offset = e; len = 12 });
   }
 
-  outside_free : (room : Span) → 0 < room.len
-      → value_stretch number bytes e ≡ record { offset = room.offset; len = room.len } ∷ []
-      → IsFree room
-  outside_free room some is =
-      let stretch : Stretch = record { offset = room.offset; len = room.len } in
+  outside_free : (space : Span) → 0 < space.len
+      → value_stretch number bytes e ≡ record { offset = space.offset; len = space.len } ∷ []
+      → IsFree space
+  outside_free space some is =
+      let stretch : Stretch = record { offset = space.offset; len = space.len } in
       record {
-        beside = none_met room (all_beside number bytes e)
-            (room_apart number bytes e apart there stretch some is);
-        entry = apart_misses room (record { offset = e; len = 12 })
-            (room_beside number bytes e apart there stretch some is);
+        beside = none_met space (all_beside number bytes e)
+            (space_apart number bytes e apart there stretch some is);
+        entry = apart_misses space (record { offset = e; len = 12 })
+            (space_beside number bytes e apart there stretch some is);
       }
 
-  -- the room of a value that lies in the data
-  room_free : (v : Value) → entry_value number bytes e ≡ Some v
-      → IsFree (value_room number bytes e)
-  room_free v lies =
+  -- the space of a value that lies in the data
+  space_free : (v : Value) → entry_value number bytes e ≡ Some v
+      → IsFree (value_space number bytes e)
+  space_free v lies =
       by_tests (nat_le size 4) (nat_lt 4 size) (nat_le (offset + size) (length bytes)) refl refl refl
       lies
     where
@@ -112,17 +112,17 @@ module _ (number : Reading) (bytes : List ℕ) (e : ℕ)
           (rw (q, r) refl)
 
   abbrev touched : Stretch → Bool
-  touched t = meets (changed_entry e) t || meets (value_room number bytes e) t
+  touched t = overlaps (changed_entry e) t || overlaps (value_space number bytes e) t
 
-  free_alone : IsFree (value_room number bytes e) → length (standing_at e (located bytes)) ≡ 1
-      → stands_alone number bytes e ≡ true
+  free_alone : IsFree (value_space number bytes e) → length (standing_at e (located bytes)) ≡ 1
+      → is_unshared number bytes e ≡ true
   free_alone free one =
       let a = none_met (changed_entry e) (all_beside number bytes e)
       (entry_apart number bytes e apart there) in
-      let b = neither_any (meets (changed_entry e)) (meets (value_room number bytes e))
+      let b = neither_any (overlaps (changed_entry e)) (overlaps (value_space number bytes e))
       (all_beside number bytes e) a free.beside in
       by_parts (list_any touched (all_beside number bytes e))
-      (meets (value_room number bytes e) (record { offset = e; len = 12 }))
+      (overlaps (value_space number bytes e) (record { offset = e; len = 12 }))
       (length (standing_at e (located bytes))) b free.entry one
     where
       by_parts : (x y : Bool) (n : ℕ) → x ≡ false → y ≡ false → n ≡ 1
@@ -142,7 +142,7 @@ module _ (bytes : List ℕ) (order : Order) (head : header bytes ≡ Ok order)
   Held l = 0 < length (standing_at l.entry (located bytes))
 
   abbrev Alone : Located → Type 0
-  Alone l = stands_alone (number_of order) bytes l.entry ≡ true
+  Alone l = is_unshared (number_of order) bytes l.entry ≡ true
 
   one_alone : (l : Located) → Said l → Held l → Alone l
   one_alone l said some =
@@ -153,7 +153,7 @@ module _ (bytes : List ℕ) (order : Order) (head : header bytes ≡ Ok order)
       let there : 0 < times 1 l.entry (all_entries (number_of order) bytes) = omega arith in
       let one : length (standing_at l.entry (located bytes)) ≡ 1 = omega arith in
       free_alone (number_of order) bytes l.entry looked there
-      (room_free (number_of order) bytes l.entry looked there l.field.value said.value) one
+      (space_free (number_of order) bytes l.entry looked there l.field.value said.value) one
 
   all_said : (nodes : List Node) → AreSaid (number_of order) bytes nodes
       → AllByRecursion Said (located_of nodes)

@@ -19,9 +19,10 @@ use Rattle.exif_tiff.proofs.ApartLists.{IsApart}
 use Rattle.exif_edit_base.specs.Locations.{directory_offsets, gps_of, visited_gps, located}
 use Rattle.exif_edit_base.specs.Walked.{Finds, Walked}
 use Rattle.exif_edit_base.specs.declared.patch.Span.{Span}
-use Rattle.exif_edit.specs.Erasing.{clipped, gps_spans, nowhere, value_span, within}
-use Rattle.exif_edit.specs.GpsAlone.{all_kept, chain_kept, gps_stands_alone}
-use Rattle.exif_edit.specs.Sharing.{meets}
+use Rattle.exif_edit_base.specs.Spans.{nowhere, value_span, within}
+use Rattle.exif_edit.specs.Erasing.{clipped, gps_spans}
+use Rattle.exif_edit.specs.GpsAlone.{all_kept, chain_kept, gps_is_unshared}
+use Rattle.exif_edit.specs.Sharing.{overlaps}
 use Rattle.exif_edit.proofs.WalkedDirectories.{kept_of, offsets_of, walked_kept, walked_offsets}
 use Rattle.exif_edit_laws.specs.Apart.{AreGpsDataVisited, visited_directory_spans, visited_spans}
 use Rattle.exif_edit_laws.proofs.ApartCounts.{HaveBytes, Lacks, apart_holders, apart_misses, apart_of, Where, behind, before, has, has_before, has_behind, has_inside, inside, stands, holders, holders-append, holders_more, holders_none}
@@ -113,7 +114,7 @@ module _ (number : Reading) (bytes : List ℕ) where
     -- so the directory, as far as it lies in the data
     clipped_misses : (q n : ℕ) (ss : List Stretch) → 0 < n
         → Free (record { offset = q; len = n } ∷ ss)
-        → meets (clipped (length bytes) (record { offset = q; len = n })) t ≡ false
+        → overlaps (clipped (length bytes) (record { offset = q; len = n })) t ≡ false
     clipped_misses q n ss more h = by_test (nat_le q (length bytes))
         (one_apart (record { offset = q; len = n }) ss more h)
       where
@@ -123,7 +124,7 @@ module _ (number : Reading) (bytes : List ℕ) where
         shorter m few (inr k) = inr k
 
         by_test : (b : Bool) → IsApart (record { offset = q; len = n }) t
-            → meets (if b then record { offset = q; len = min n (length bytes - q) } else nowhere) t
+            → overlaps (if b then record { offset = q; len = min n (length bytes - q) } else nowhere) t
             ≡ false
         by_test true k =
             apart_misses (record { offset = q; len = min n (length bytes - q) }) t
@@ -132,7 +133,7 @@ module _ (number : Reading) (bytes : List ℕ) where
 
     -- and the value of an entry
     value_misses : (e : ℕ) → Free (value_stretch number bytes e)
-        → meets (value_span number bytes e) t ≡ false
+        → overlaps (value_span number bytes e) t ≡ false
     value_misses e h =
         by_tests (nat_le size 4) (nat_lt 4 size) (nat_le (offset + size) (length bytes)) refl refl refl h
       where
@@ -142,14 +143,14 @@ module _ (number : Reading) (bytes : List ℕ) where
         offset : ℕ
         offset = number_at number 4 bytes (e + 8)
 
-        none_within : (d : Bool) → meets (if d then nowhere else nowhere) t ≡ false
+        none_within : (d : Bool) → overlaps (if d then nowhere else nowhere) t ≡ false
         none_within true = nothing_met t
         none_within false = nothing_met t
 
         by_tests : (a b c : Bool) → nat_le size 4 ≡ a → nat_lt 4 size ≡ b
             → nat_le (offset + size) (length bytes) ≡ c
             → Free (if b && c then record { offset = offset; len = size } ∷ [] else [])
-            → meets
+            → overlaps
             (within (length bytes)
             (if a then nowhere else record { offset = offset; len = size })) t ≡ false
         by_tests true b c p q r h = none_within (nat_le (0 + 0) (length bytes))
@@ -159,7 +160,7 @@ module _ (number : Reading) (bytes : List ℕ) where
         by_tests false true false p q r h = rw r (nothing_met t)
 
     none_met : (es : List ℕ) → Free (flat_map (value_stretch number bytes) es)
-        → list_any (λ s. meets s t) (map (value_span number bytes) es) ≡ false
+        → list_any (λ s. overlaps s t) (map (value_span number bytes) es) ≡ false
     none_met [] h = refl
     none_met (e ∷ es) h =
         let a = value_misses e
@@ -169,7 +170,7 @@ module _ (number : Reading) (bytes : List ℕ) where
         rw (a, b) refl
 
     spans_missed : (q : ℕ) → Free (looked_at number bytes q)
-        → list_any (λ s. meets s t) (visited_directory_spans number bytes q) ≡ false
+        → list_any (λ s. overlaps s t) (visited_directory_spans number bytes q) ≡ false
     spans_missed q h =
         let values = flat_map (value_stretch number bytes) (entry_offsets number bytes q) in
         let a = clipped_misses q (2 + 12 * whole_entries number bytes q + 4) values (omega arith) h in
@@ -177,21 +178,21 @@ module _ (number : Reading) (bytes : List ℕ) where
         (right_free (directory_stretch number bytes q ∷ []) values h) in
         rw (a, b) refl
 
-    -- a stretch of no byte that is looked at of directories meets neither them nor their values
+    -- a stretch of no byte that is looked at of directories overlaps neither them nor their values
     pub all_missed : (qs : List ℕ) → Free (looked qs)
-        → list_any (λ s. meets s t) (flat_map (visited_directory_spans number bytes) qs) ≡ false
+        → list_any (λ s. overlaps s t) (flat_map (visited_directory_spans number bytes) qs) ≡ false
     all_missed [] h = refl
     all_missed (q ∷ qs) h =
         let a = spans_missed q (left_free (looked_at number bytes q) (looked qs) h) in
         let b = all_missed qs (right_free (looked_at number bytes q) (looked qs) h) in
-        let c = list_any-append (λ (s : Span). meets s t) (visited_directory_spans number bytes q)
+        let c = list_any-append (λ (s : Span). overlaps s t) (visited_directory_spans number bytes q)
         (flat_map (visited_directory_spans number bytes) qs) in
         c ∙ rw (a, b) refl
 
   -- of stretches that share no byte with them
   none_any : (qs : List ℕ) (ts : List Stretch) → HaveBytes ts
       → ((i : ℕ) → holders i ts + holders i (looked qs) ≤ 1)
-      → list_any (λ t. list_any (λ s. meets s t) (flat_map (visited_directory_spans number bytes) qs)) ts
+      → list_any (λ t. list_any (λ s. overlaps s t) (flat_map (visited_directory_spans number bytes) qs)) ts
       ≡ false
   none_any qs [] some h = refl
   none_any qs (t ∷ ts) some h =
@@ -213,11 +214,11 @@ module _ (number : Reading) (bytes : List ℕ) where
 pub offsets_apart : (bytes : List ℕ) (order : Order) → header bytes ≡ Ok order
     → AreGpsDataVisited (number_of order) bytes
     → are_apart (all_looked (number_of order) bytes) ≡ true
-    → gps_stands_alone (number_of order) bytes ≡ true
+    → gps_is_unshared (number_of order) bytes ≡ true
 unfolding visited_spans visited_gps walk
 offsets_apart bytes order head visited apart =
     ap
-    (λ ss. not (list_any (λ t. list_any (λ (s : Span). meets s t) ss) (all_kept number bytes)))
+    (λ ss. not (list_any (λ t. list_any (λ (s : Span). overlaps s t) ss) (all_kept number bytes)))
     visited
     ∙ ap not (none_any number bytes (gps_of ds) (all_kept number bytes) have few)
   where

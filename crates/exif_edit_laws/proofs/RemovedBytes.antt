@@ -18,7 +18,8 @@ use Rattle.exif_tiff.proofs.Members.{all_append, all_left, all_right}
 use Rattle.exif_edit_base.specs.Patches.{inside, patched}
 use Rattle.exif_edit_base.specs.declared.patch.Span.{Span}
 use Rattle.exif_edit_base.proofs.PatchSteps.{length-patched}
-use Rattle.exif_edit.specs.Erasing.{directory_span, nowhere, value_span, within}
+use Rattle.exif_edit_base.specs.Spans.{nowhere, value_span, within}
+use Rattle.exif_edit.specs.Erasing.{directory_span}
 use Rattle.exif_edit.specs.Removing.{entries_with, has_tag, named_spans, named_values, removals, taken_spans}
 use Rattle.exif_edit.proofs.RemoveSound.{removals_fit, stays_outside}
 use Rattle.exif_edit_laws.proofs.RemovedLists.{all_members, each_flat, each_turned, filter_all, filter_member, has, member_all, piece, pieces}

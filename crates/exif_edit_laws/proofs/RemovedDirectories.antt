@@ -26,12 +26,12 @@ use Rattle.exif_layout.specs.Encoding.{spelled}
 use Rattle.exif_layout.specs.Layout.{Stands}
 use Rattle.exif_layout.proofs.Images.Standing.{number_read, stands_left, stands_right, length_spelled}
 use Rattle.exif_edit_base.proofs.LocatedEntries.{offsets_whole}
-use Rattle.exif_edit.specs.Removing.{entries_text, entries_without, has_tag, next_text}
+use Rattle.exif_edit.specs.Removing.{entries_bytes, entries_without, has_tag, next_offset_bytes}
 use Rattle.exif_edit.proofs.SetSound.{length-padded}
 use Rattle.exif_edit_base.proofs.PutBack.{length-bytes_at}
 use Rattle.exif_edit_laws.proofs.RemovedBytes.{as_long, directory_stays, made, value_stays}
 use Rattle.exif_edit_laws.proofs.RemovedLists.{all_members, all_pass, fewer_left, filter_member, has}
-use Rattle.exif_edit_laws.proofs.RemovedTexts.{text_stands}
+use Rattle.exif_edit_laws.proofs.RemovedTexts.{encoded_is_there}
 use Rattle.exif_edit_laws.proofs.ShrunkNodes.{EndsBetter, Follow, Lacks, left}
 
 -- ---- numbers of bytes
@@ -169,23 +169,23 @@ module _ (order : Order) (a : List ℕ) (tag : Tag) (k : In) (ps ds : List ℕ)
   -- ---- a directory without entries
 
   -- entries that stand one behind the other
-  follow_text : (es : List ℕ) (q : ℕ) → Stands b q (entries_text a es)
+  follow_bytes : (es : List ℕ) (q : ℕ) → Stands b q (entries_bytes a es)
       → AllByRecursion (λ e. e + 12 ≤ length a) es → AllByRecursion ValueAlike es → AreFollowing es q
-  follow_text [] q s w v = tt
-  follow_text (e ∷ es) q s w v =
+  follow_bytes [] q s w v = tt
+  follow_bytes (e ∷ es) q s w v =
       let l = length-bytes_at 12 e a w.0 in
-      let one = stands_left b (bytes_at 12 a e) (entries_text a es) q s in
-      let rest = stands_right b (bytes_at 12 a e) (entries_text a es) q (q + 12) s (omega (arith, l)) in (
+      let one = stands_left b (bytes_at 12 a e) (entries_bytes a es) q s in
+      let rest = stands_right b (bytes_at 12 a e) (entries_bytes a es) q (q + 12) s (omega (arith, l)) in (
         (sym (ap (λ x. bytes_at x b q) (sym l) ∙ one.there), v.0),
-        follow_text es (q + 12) rest w.1 v.1,
+        follow_bytes es (q + 12) rest w.1 v.1,
       )
 
   length-entries : (es : List ℕ) → AllByRecursion (λ e. e + 12 ≤ length a) es
-      → length (entries_text a es) ≡ 12 * length es
+      → length (entries_bytes a es) ≡ 12 * length es
   length-entries [] h = refl
   length-entries (e ∷ es) h =
       let l = length-bytes_at 12 e a h.0 in
-      let more = length-append (bytes_at 12 a e) (entries_text a es) in
+      let more = length-append (bytes_at 12 a e) (entries_bytes a es) in
       let rest = length-entries es h.1 in
       omega (arith, l, more, rest)
 
@@ -198,7 +198,7 @@ module _ (order : Order) (a : List ℕ) (tag : Tag) (k : In) (ps ds : List ℕ)
     es = entries_without number a tag.1 p
 
     abbrev next : List ℕ
-    next = next_text order (directory_end number a p)
+    next = next_offset_bytes order (directory_end number a p)
 
     few : length es < whole
     few =
@@ -206,8 +206,8 @@ module _ (order : Order) (a : List ℕ) (tag : Tag) (k : In) (ps ds : List ℕ)
         let l = length-spaced (p + 2) 12 whole in
         omega (arith, f, l)
 
-    room : p + 2 + 12 * whole ≤ length a
-    room =
+    space : p + 2 + 12 * whole ≤ length a
+    space =
         let f = few in
         let some : 1 ≤ whole = omega arith in
         let less : whole ≤ (length a - p - 2) / 12 = omega arith in
@@ -227,7 +227,7 @@ module _ (order : Order) (a : List ℕ) (tag : Tag) (k : In) (ps ds : List ℕ)
 
     -- what stands there: the count, the entries, the next offset and zeros
     abbrev front : List ℕ
-    front = spelled order 2 (length es) ++ (entries_text a es ++ next)
+    front = spelled order 2 (length es) ++ (entries_bytes a es ++ next)
 
     abbrev zeros : List ℕ
     zeros = replicate (2 + 12 * whole + length next - length front) 0
@@ -236,14 +236,14 @@ module _ (order : Order) (a : List ℕ) (tag : Tag) (k : In) (ps ds : List ℕ)
     front_long =
         let s = length_spelled order 2 (length es) in
         let t = length-entries es are_whole in
-        let x = length-append (entries_text a es) next in
-        let y = length-append (spelled order 2 (length es)) (entries_text a es ++ next) in
+        let x = length-append (entries_bytes a es) next in
+        let y = length-append (spelled order 2 (length es)) (entries_bytes a es ++ next) in
         omega (arith, s, t, x, y)
 
     -- in the new data stand the count of the entries left, these, the next offset and zeros
     pub record Standing : Type 0 where
       pub count : number_at number 2 b p ≡ length es
-      pub entries : Stands b (p + 2) (entries_text a es)
+      pub entries : Stands b (p + 2) (entries_bytes a es)
       pub next : Stands b (p + 2 + 12 * length es) next
       pub zeros : Stands b (p + length front) zeros
 
@@ -252,42 +252,42 @@ module _ (order : Order) (a : List ℕ) (tag : Tag) (k : In) (ps ds : List ℕ)
         let f = few in
         let l = front_long in
         let padded_long = length-padded (2 + 12 * whole + length next) front (omega (arith, f, l)) in
-        let whole_text = text_stands order a tag.1 ps ds apart known p m (omega (arith, padded_long)) mine in
-        let fronts = stands_left b front zeros p whole_text in
+        let whole_bytes = encoded_is_there order a tag.1 ps ds apart known p m (omega (arith, padded_long)) mine in
+        let fronts = stands_left b front zeros p whole_bytes in
         let s = length_spelled order 2 (length es) in
         let t = length-entries es are_whole in
-        let behind = stands_right b (spelled order 2 (length es)) (entries_text a es ++ next) p (p + 2)
+        let behind = stands_right b (spelled order 2 (length es)) (entries_bytes a es ++ next) p (p + 2)
         fronts (omega (arith, s)) in
         let short = number_fits order 2 a p are_bytes in
         let bound : length es < 256 ^ 2 = omega (arith, f, short) in
         record {
           count = number_read order 2 (length es) p b bound
-              (stands_left b (spelled order 2 (length es)) (entries_text a es ++ next) p fronts);
-          entries = stands_left b (entries_text a es) next (p + 2) behind;
-          next = stands_right b (entries_text a es) next (p + 2) (p + 2 + 12 * length es) behind
+              (stands_left b (spelled order 2 (length es)) (entries_bytes a es ++ next) p fronts);
+          entries = stands_left b (entries_bytes a es) next (p + 2) behind;
+          next = stands_right b (entries_bytes a es) next (p + 2) (p + 2 + 12 * length es) behind
               (omega (arith, t));
-          zeros = stands_right b front zeros p (p + length front) whole_text refl;
+          zeros = stands_right b front zeros p (p + length front) whole_bytes refl;
         }
 
     lacking : Standing → EndsBetter (directory_end number a p) (directory_end number b p)
         → AreLacking p
     lacking s ends =
         let f = few in
-        let r = room in
+        let r = space in
         let same = long in
         let count = s.count in
         let w : whole_entries number b p ≡ length es = omega (arith, f, r, same, count) in
         record {
           offsets = ap (spaced (p + 2) 12) (w ∙ sym (ap (λ xs. length xs) are_left));
           entries = subst (λ xs. AreFollowing xs (p + 2)) (sym are_left)
-              (follow_text es (p + 2) s.entries are_whole values);
+              (follow_bytes es (p + 2) s.entries are_whole values);
           end = ends;
         }
 
     near : p + 2 + 12 * length es + 4 ≤ length b
     near =
         let f = few in
-        let r = room in
+        let r = space in
         let same = long in
         omega (arith, f, r, same)
 
@@ -299,21 +299,21 @@ module _ (order : Order) (a : List ℕ) (tag : Tag) (k : In) (ps ds : List ℕ)
         let at' = ends_at number a p offset e in
         let whole_is = at'.whole in
         let within = at'.within in
-        let text : next ≡ spelled order 4 offset = ap (next_text order) e in
-        let four : length next ≡ 4 = ap (λ xs. length xs) text ∙ length_spelled order 4 offset in
+        let encoded : next ≡ spelled order 4 offset = ap (next_offset_bytes order) e in
+        let four : length next ≡ 4 = ap (λ xs. length xs) encoded ∙ length_spelled order 4 offset in
         let s = stands (omega (arith, whole_is, within, four)) in
         let fits = subst (λ x. x < 256 ^ 4) (sym at'.offset)
         (number_fits order 4 a (p + 2 + 12 * number_at number 2 a p) are_bytes) in
         let read = number_read order 4 offset (p + 2 + 12 * length es) b fits
-        (subst (λ xs. Stands b (p + 2 + 12 * length es) xs) text s.next) in
+        (subst (λ xs. Stands b (p + 2 + 12 * length es) xs) encoded s.next) in
         lacking s (inl (e ∙ sym (ended s ∙ ap (λ x. Ok x) read)))
 
     with_fault : (fault : Fault) → directory_end number a p ≡ Err fault → AreLacking p
     with_fault fault e =
         let f = few in
-        let r = room in
-        let text : next ≡ [] = ap (next_text order) e in
-        let none : length next ≡ 0 = ap (λ xs. length xs) text in
+        let r = space in
+        let encoded : next ≡ [] = ap (next_offset_bytes order) e in
+        let none : length next ≡ 0 = ap (λ xs. length xs) encoded in
         let l = front_long in
         let s = stands (omega (arith, r, none)) in
         let more : ℕ = 2 + 12 * whole + length next - length front - 4 in

@@ -33,34 +33,34 @@ module _ (order : Order) (a : List ℕ) (n : ℕ) (ps ds : List ℕ)
   abbrev number : Reading
   number = number_of order
 
-  abbrev text : List ℕ
-  text = directory_without order a n p
+  abbrev encoded : List ℕ
+  encoded = directory_without order a n p
 
   abbrev here : Stretch
   here = directory_stretch number a p
 
-  is_here : (i : ℕ) → i < length text → IsIn (p + i) here
+  is_here : (i : ℕ) → i < length encoded → IsIn (p + i) here
   is_here i low =
       let l = directory_length order a n p in (omega arith, omega arith)
 
   -- ---- the directories, one after another
 
-  own_put : (i : ℕ) → i < length text → (bytes : List ℕ) → length bytes ≡ length a
-      → get_or (patched (directory_patches order a n p) bytes) (p + i) 0 ≡ get_or text i 0
-  own_put i low bytes l = by_fit (nat_le (p + length text) (length a)) refl
+  own_put : (i : ℕ) → i < length encoded → (bytes : List ℕ) → length bytes ≡ length a
+      → get_or (patched (directory_patches order a n p) bytes) (p + i) 0 ≡ get_or encoded i 0
+  own_put i low bytes l = by_fit (nat_le (p + length encoded) (length a)) refl
     where
       patch : Patch
-      patch = record { offset = p; bytes = text }
+      patch = record { offset = p; bytes = encoded }
 
-      by_fit : (b : Bool) → nat_le (p + length text) (length a) ≡ b
-          → get_or (patched (if b then patch ∷ [] else []) bytes) (p + i) 0 ≡ get_or text i 0
+      by_fit : (b : Bool) → nat_le (p + length encoded) (length a) ≡ b
+          → get_or (patched (if b then patch ∷ [] else []) bytes) (p + i) 0 ≡ get_or encoded i 0
       by_fit true e =
           let s : p + i - p ≡ i = omega arith in
-          put_on p text bytes (p + i) (omega (arith, l)) (omega arith) (omega arith)
-          ∙ ap (λ j. get_or text j 0) s
+          put_on p encoded bytes (p + i) (omega (arith, l)) (omega arith) (omega arith)
+          ∙ ap (λ j. get_or encoded j 0) s
       by_fit false e = absurd (grind (arith, nat_tests))
 
-  other_put : (i q : ℕ) → i < length text → has ds q ≡ true → p ≢ q → (bytes : List ℕ)
+  other_put : (i q : ℕ) → i < length encoded → has ds q ≡ true → p ≢ q → (bytes : List ℕ)
       → length bytes ≡ length a
       → get_or (patched (directory_patches order a n q) bytes) (p + i) 0 ≡ get_or bytes (p + i) 0
   other_put i q low k ne bytes l =
@@ -70,28 +70,28 @@ module _ (order : Order) (a : List ℕ) (n : ℕ) (ps ds : List ℕ)
       (outside_directory number a q (p + i) here (is_here i low)
       (pieces (looked_at number a) ds p q apart m k ne).0.0))
 
-  one_put : (i q : ℕ) → i < length text → has ds q ≡ true → (bytes : List ℕ)
+  one_put : (i q : ℕ) → i < length encoded → has ds q ≡ true → (bytes : List ℕ)
       → length bytes ≡ length a
       → get_or (patched (directory_patches order a n q) bytes) (p + i) 0
-      ≡ (if q == p then get_or text i 0 else get_or bytes (p + i) 0)
+      ≡ (if q == p then get_or encoded i 0 else get_or bytes (p + i) 0)
   one_put i q low k bytes l = by_test (q == p) refl
     where
       by_test : (t : Bool) → (q == p) ≡ t
           → get_or (patched (directory_patches order a n q) bytes) (p + i) 0
-          ≡ (if t then get_or text i 0 else get_or bytes (p + i) 0)
+          ≡ (if t then get_or encoded i 0 else get_or bytes (p + i) 0)
       by_test true e =
           let same : p ≡ q = grind (arith, nat_tests) in
-          subst (λ x. get_or (patched (directory_patches order a n x) bytes) (p + i) 0 ≡ get_or text i 0)
+          subst (λ x. get_or (patched (directory_patches order a n x) bytes) (p + i) 0 ≡ get_or encoded i 0)
           same (own_put i low bytes l)
       by_test false e = other_put i q low k (unlike e) bytes l
         where
           unlike : (q == p) ≡ false → p ≢ q
           unlike e same = absurd (grind (arith, nat_tests))
 
-  all_put : (i : ℕ) → i < length text → (qs : List ℕ) → AllByRecursion (λ q. has ds q ≡ true) qs
+  all_put : (i : ℕ) → i < length encoded → (qs : List ℕ) → AllByRecursion (λ q. has ds q ≡ true) qs
       → (bytes : List ℕ) → length bytes ≡ length a
       → get_or (patched (flat_map (directory_patches order a n) qs) bytes) (p + i) 0
-      ≡ (if has qs p then get_or text i 0 else get_or bytes (p + i) 0)
+      ≡ (if has qs p then get_or encoded i 0 else get_or bytes (p + i) 0)
   all_put i low [] h bytes l = refl
   all_put i low (q ∷ qs) h bytes l =
       let next = patched (directory_patches order a n q) bytes in
@@ -101,8 +101,8 @@ module _ (order : Order) (a : List ℕ) (n : ℕ) (ps ds : List ℕ)
       ap (λ xs. get_or xs (p + i) 0)
       (patched-append (directory_patches order a n q) (flat_map (directory_patches order a n) qs) bytes)
       ∙ (all_put i low qs h.1 next len
-      ∙ (ap (λ x. if has qs p then get_or text i 0 else x) (one_put i q low h.0 bytes l)
-      ∙ one_of (q == p) (has qs p) (get_or text i 0) (get_or bytes (p + i) 0)))
+      ∙ (ap (λ x. if has qs p then get_or encoded i 0 else x) (one_put i q low h.0 bytes l)
+      ∙ one_of (q == p) (has qs p) (get_or encoded i 0) (get_or bytes (p + i) 0)))
 
   -- ---- the values behind them
 
@@ -125,9 +125,9 @@ module _ (order : Order) (a : List ℕ) (n : ℕ) (ps ds : List ℕ)
           unlike : (p == q) ≡ false → p ≢ q
           unlike e same = absurd (grind (arith, nat_tests))
 
-  text_at : has ps p ≡ true → (i : ℕ) → i < length text
-      → get_or (made order a n ps) (p + i) 0 ≡ get_or text i 0
-  text_at mine i low =
+  encoded_at : has ps p ≡ true → (i : ℕ) → i < length encoded
+      → get_or (made order a n ps) (p + i) 0 ≡ get_or encoded i 0
+  encoded_at mine i low =
       let far = each_flat (here ∷ []) (λ q. flat_map (value_stretch number a) (entries_with number a n q)) ps
       (all_members
       (λ q. EachApart (here ∷ []) (flat_map (value_stretch number a) (entries_with number a n q))) ps
@@ -137,18 +137,18 @@ module _ (order : Order) (a : List ℕ) (n : ℕ) (ps ds : List ℕ)
       ∙ (ap (λ x. if x then 0 else get_or front (p + i) 0)
       (named_missed number a n (p + i) here (is_here i low) ps far.0)
       ∙ (all_put i low ps known a refl
-      ∙ ap (λ x. if x then get_or text i 0 else get_or a (p + i) 0) mine))
+      ∙ ap (λ x. if x then get_or encoded i 0 else get_or a (p + i) 0) mine))
 
   -- a changed directory stands where it stood, without its entries of the tag, if that fits
-  pub text_stands : has ps p ≡ true → Stands (made order a n ps) p text
-  text_stands mine =
+  pub encoded_is_there : has ps p ≡ true → Stands (made order a n ps) p encoded
+  encoded_is_there mine =
       let b = made order a n ps in
       let same = as_long order a n ps in
-      let long : length (bytes_at (length text) b p) ≡ length text =
-      length-take-le (length text) (drop p b) (omega (arith, same, length-drop p b)) in
+      let long : length (bytes_at (length encoded) b p) ≡ length encoded =
+      length-take-le (length encoded) (drop p b) (omega (arith, same, length-drop p b)) in
       record {
         within = omega (arith, same);
-        there = ext_get_or 0 (bytes_at (length text) b p) text long
-            (λ i low. get_or-take (length text) (drop p b) i 0 (omega (arith, long))
-            ∙ (get_or-drop p b i 0 ∙ text_at mine i (omega (arith, long))));
+        there = ext_get_or 0 (bytes_at (length encoded) b p) encoded long
+            (λ i low. get_or-take (length encoded) (drop p b) i 0 (omega (arith, long))
+            ∙ (get_or-drop p b i 0 ∙ encoded_at mine i (omega (arith, long))));
       }

@@ -34,7 +34,8 @@ use Rattle.exif_edit_base.specs.Causes.{shared}
 use Rattle.exif_edit_base.specs.Patches.{patched}
 use Rattle.exif_edit_base.specs.Readings.{Read, reading}
 use Rattle.exif_edit.specs.Promises.{named_directories}
-use Rattle.exif_edit.specs.Removing.{checked_removals, directories_with, field_patches, has_tag, noted, read_without, removals, removals_from, still_reads, untold}
+use Rattle.exif_edit_base.specs.Rereading.{still_reads, without_entry_offsets}
+use Rattle.exif_edit.specs.Removing.{checked_removals, directories_with, field_patches, has_tag, noted, read_without, removals, removals_from}
 use Rattle.exif_edit.specs.Setting.{names_offsets}
 use Rattle.exif_edit.proofs.RemoveSteps.{field_else, named_from}
 use Rattle.exif_edit.proofs.Unshared.{located_in, named_order, read_in, reading_in}
@@ -151,11 +152,11 @@ and_itself false = refl
 
 still_by : (x : Result Read Fault) (found want : Read) → x ≡ Ok found
     → beq found.little want.little ≡ true
-    → pointwise field_eq (untold found.fields) (untold want.fields) ≡ true
+    → pointwise field_eq (without_entry_offsets found.fields) (without_entry_offsets want.fields) ≡ true
     → nat_le (length found.faults) (length want.faults) ≡ true
     → (elim x [
       | Ok r ↦ beq r.little want.little
-          && (pointwise field_eq (untold r.fields) (untold want.fields)
+          && (pointwise field_eq (without_entry_offsets r.fields) (without_entry_offsets want.fields)
           && nat_le (length r.faults) (length want.faults))
       | Err fault ↦ false
     ]) ≡ true
@@ -335,9 +336,9 @@ module _ (tag : Tag) (k : In) (order : Order) (a : List ℕ) (head : header a �
       let few = s.1 in
       let l : beq found.little want.little ≡ true =
       (booleans_Decides found.little want.little).1 refl in
-      let f : pointwise field_eq (untold found.fields) (untold want.fields) ≡ true =
-      (slice_eq-Decides field_Decides (untold found.fields) (untold want.fields)
-      (pointwise field_eq (untold found.fields) (untold want.fields)) refl).1 s.0 in
+      let f : pointwise field_eq (without_entry_offsets found.fields) (without_entry_offsets want.fields) ≡ true =
+      (slice_eq-Decides field_Decides (without_entry_offsets found.fields) (without_entry_offsets want.fields)
+      (pointwise field_eq (without_entry_offsets found.fields) (without_entry_offsets want.fields)) refl).1 s.0 in
       let g : nat_le (length found.faults) (length want.faults) ≡ true = grind (arith, nat_tests) in
       still_by (reading b) found want (reading_in b order head_out) l f g
 

@@ -24,7 +24,8 @@ use Rattle.exif_tiff.specs.Footprint.{Agree, value_stretch}
 use Rattle.exif_tiff.specs.Trace.{Node, Opens, Visit, Found, Met, Directory, field_of, chain_after, chain_nodes, child_end, child_of, depth_of, directory_end, directory_nodes, entry_nodes, entry_offsets, entry_value, fields_of, faults_of, ordered_trace, pointer_nodes, tagged_nodes, valued_nodes}
 use Rattle.exif_tiff.proofs.Members.{all_left, all_right}
 use Rattle.exif_tiff.proofs.ReportBound.{faults-append, fields-append}
-use Rattle.exif_edit.specs.Removing.{has_tag, told_at, told_in, untold, without_named}
+use Rattle.exif_edit_base.specs.Rereading.{field_at_entry, value_at_entry, without_entry_offsets}
+use Rattle.exif_edit.specs.Removing.{has_tag, without_named}
 use Rattle.exif_edit_laws.proofs.RemovedLists.{has}
 use Rattle.exif_edit_laws.proofs.ShrunkValues.{AreTold, IsMoved, number_in_told, number_moved, value_moved}
 
@@ -34,7 +35,7 @@ use Rattle.exif_edit_laws.proofs.ShrunkValues.{AreTold, IsMoved, number_in_told,
 -- more faults
 abbrev pub Shrinks : Tag → In → List Node → List Node → Type 0
 Shrinks tag k ns ms =
-    (untold (fields_of ms) ≡ untold (without_named tag k (fields_of ns)))
+    (without_entry_offsets (fields_of ms) ≡ without_entry_offsets (without_named tag k (fields_of ns)))
     × (length (faults_of ms) ≤ length (faults_of ns))
 
 joined : (tag : Tag) (k : In) (ns os ms ps : List Node) → Shrinks tag k ns ms → Shrinks tag k os ps
@@ -47,8 +48,8 @@ joined tag k ns os ms ps h l =
     let a = length-append (faults_of ms) (faults_of ps) in
     let b = length-append (faults_of ns) (faults_of os) in
     let kept = filter-append (λ (x : Field). not (is_named tag k x)) (fields_of ns) (fields_of os) in
-    let left = map-append (told_at 0) (fields_of ms) (fields_of ps) in
-    let right = map-append (told_at 0) (without_named tag k (fields_of ns)) (without_named tag k (fields_of os)) in (
+    let left = map-append (field_at_entry 0) (fields_of ms) (fields_of ps) in
+    let right = map-append (field_at_entry 0) (without_named tag k (fields_of ns)) (without_named tag k (fields_of os)) in (
       rw (fields-append ms ps, fields-append ns os, kept, left, right, f, g) refl,
       rw (faults-append ms ps, faults-append ns os) (omega (arith, a, b)),
     )
@@ -121,15 +122,15 @@ module _ (order : Order) (a b : List ℕ) (as_long : length a ≡ length b) (tag
         (child_shrinks tag k (directory_end number a q) (directory_end number b q) (ends d q here))
 
     -- a field that stays
-    field_stays : (c : Context) (j n : ℕ) (v w : Value) → told_in 0 v ≡ told_in 0 w → (t : Bool)
+    field_stays : (c : Context) (j n : ℕ) (v w : Value) → value_at_entry 0 v ≡ value_at_entry 0 w → (t : Bool)
         → t ≡ false
-        → untold (field_of c j n w ∷ [])
-        ≡ untold (if not t then field_of c j n v ∷ [] else [])
+        → without_entry_offsets (field_of c j n w ∷ [])
+        ≡ without_entry_offsets (if not t then field_of c j n v ∷ [] else [])
     field_stays c j n v w s true e = absurd (false≢true (sym e))
     field_stays c j n v w s false e = ap (λ x. field_of c j n x ∷ []) (sym s)
 
     tagged_shrinks : (c : Context) (j p n e q : ℕ) (v w : Value) (o : Option Context)
-        → told_in 0 v ≡ told_in 0 w → (has ps p && (n == tag.1)) ≡ false
+        → value_at_entry 0 v ≡ value_at_entry 0 w → (has ps p && (n == tag.1)) ≡ false
         → AllByRecursion Fine (tagged_nodes f number a c j p n e v o)
         → Shrinks tag k (tagged_nodes f number a c j p n e v o) (tagged_nodes g number b c j p n q w o)
     tagged_shrinks c j p n e q v w None s stays h =
@@ -161,7 +162,7 @@ module _ (order : Order) (a b : List ℕ) (as_long : length a ≡ length b) (tag
         (entry_value number b q) (value_moved order a b e q as_long m v) stays h.1)
 
     -- a field that is taken out
-    field_goes : (f : Field) (t : Bool) → t ≡ true → [] ≡ untold (if not t then f ∷ [] else [])
+    field_goes : (f : Field) (t : Bool) → t ≡ true → [] ≡ without_entry_offsets (if not t then f ∷ [] else [])
     field_goes f true e = refl
     field_goes f false e = absurd (false≢true e)
 

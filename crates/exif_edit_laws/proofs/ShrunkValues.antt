@@ -23,7 +23,7 @@ use Rattle.exif_text.specs.declared.field_type.FieldType.{FieldType}
 use Rattle.exif_text.specs.declared.field_type.FieldType.TheVariants as field_type
 use Rattle.exif_types.specs.declared.value.Value.{Value}
 use Rattle.exif_types.specs.declared.value.Value.TheVariants as value
-use Rattle.exif_edit.specs.Removing.{told_in}
+use Rattle.exif_edit_base.specs.Rereading.{value_at_entry}
 
 -- ---- bytes that stand elsewhere
 
@@ -116,7 +116,7 @@ srational_shifted order a b p q h =
 
 -- a short value tells the offset of its entry alone
 short_offset : (count : ℕ) (bytes : List ℕ) (p q : ℕ) → count ≤ 4
-    → told_in 0 (value.Undefined (bytes_at count bytes p) q)
+    → value_at_entry 0 (value.Undefined (bytes_at count bytes p) q)
     ≡ value.Undefined (bytes_at count bytes p) 8
 short_offset count bytes p q h =
     let t : nat_le (length (bytes_at count bytes p)) 4 ≡ true = grind (arith, common_steps, nat_tests) in
@@ -124,8 +124,8 @@ short_offset count bytes p q h =
 
 type_moved : (order : Order) (t : FieldType) (count : ℕ) (a b : List ℕ) (e q : ℕ) → IsMoved a b e q
     → unit_length t * count ≤ 4
-    → told_in 0 (decode_as (number_of order) t count a (e + 8))
-    ≡ told_in 0 (decode_as (number_of order) t count b (q + 8))
+    → value_at_entry 0 (decode_as (number_of order) t count a (e + 8))
+    ≡ value_at_entry 0 (decode_as (number_of order) t count b (q + 8))
 type_moved order field_type.Byte count a b e q m h =
     ap value.Byte (bytes_moved a b e q count (omega arith) m)
 type_moved order field_type.Ascii count a b e q m h =
@@ -176,9 +176,9 @@ type_moved order field_type.Double count a b e q m h =
 
 known_moved : (order : Order) (o : Option FieldType) (type count : ℕ) (a b : List ℕ) (e q : ℕ)
     → IsMoved a b e q → known_length o * count ≤ 4
-    → told_in 0 (elim o as (λ x. Value)
+    → value_at_entry 0 (elim o as (λ x. Value)
     [ Some t ↦ decode_as (number_of order) t count a (e + 8) | None ↦ value.Unknown type count (e + 8) ])
-    ≡ told_in 0 (elim o as (λ x. Value)
+    ≡ value_at_entry 0 (elim o as (λ x. Value)
     [ Some t ↦ decode_as (number_of order) t count b (q + 8) | None ↦ value.Unknown type count (q + 8) ])
 known_moved order None type count a b e q m h = refl
 known_moved order (Some t) type count a b e q m h = type_moved order t count a b e q m h
@@ -187,16 +187,16 @@ known_moved order (Some t) type count a b e q m h = type_moved order t count a b
 
 -- both are one value but for the offset of its entry, or none
 abbrev pub AreTold : Option Value → Option Value → Type 0
-AreTold (Some v) (Some w) = told_in 0 v ≡ told_in 0 w
+AreTold (Some v) (Some w) = value_at_entry 0 v ≡ value_at_entry 0 w
 AreTold None None = Unit {0}
 AreTold _ _ = ⊥
 
-told_by_tests : (s t : Bool) (v w x y : Value) → (s ≡ true → told_in 0 v ≡ told_in 0 w)
+told_by_tests : (s t : Bool) (v w x y : Value) → (s ≡ true → value_at_entry 0 v ≡ value_at_entry 0 w)
     → (s ≡ false → t ≡ true → x ≡ y)
     → AreTold (if s then Some v else (if t then Some x else None))
     (if s then Some w else (if t then Some y else None))
 told_by_tests true t v w x y h k = h refl
-told_by_tests false true v w x y h k = ap (told_in 0) (k refl refl)
+told_by_tests false true v w x y h k = ap (value_at_entry 0) (k refl refl)
 told_by_tests false false v w x y h k = tt
 
 outside_same : (a b : List ℕ) (s t : Bool) (offset size : ℕ) → s ≡ true → t ≡ true
@@ -228,11 +228,11 @@ value_moved order a b e q as_long m v =
     (grind (arith, nat_tests)) t v)))
 
 -- the number in it is the same
-number_told : (v : Value) → number_in (told_in 0 v) 0 ≡ number_in v 0
+number_told : (v : Value) → number_in (value_at_entry 0 v) 0 ≡ number_in v 0
 number_told (value.Undefined xs offset) = refl
 number_told (value.Unknown type count offset) = refl
 number_told _ = refl
 
 -- values that differ only in the place of their entries have the same first number
-pub number_in_told : (v w : Value) → told_in 0 v ≡ told_in 0 w → number_in v 0 ≡ number_in w 0
+pub number_in_told : (v w : Value) → value_at_entry 0 v ≡ value_at_entry 0 w → number_in v 0 ≡ number_in w 0
 number_in_told v w h = sym (number_told v) ∙ (ap (λ x. number_in x 0) h ∙ number_told w)

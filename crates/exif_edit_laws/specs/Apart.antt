@@ -17,10 +17,11 @@ use Rattle.exif_edit_base.specs.Locations.{Located, visited_gps, located}
 use Rattle.exif_edit_base.specs.Finding.{last_located}
 use Rattle.exif_edit_base.specs.Patches.{zeros_over}
 use Rattle.exif_edit_base.specs.declared.patch.Span.{Span}
-use Rattle.exif_edit.specs.Erasing.{directory_span, erase_patches, gps_spans, value_span}
-use Rattle.exif_edit.specs.GpsAlone.{gps_stands_alone}
-use Rattle.exif_edit.specs.Setting.{set_patches, value_room}
-use Rattle.exif_edit.specs.Sharing.{fit_answer, names_child, stands_alone}
+use Rattle.exif_edit_base.specs.Spans.{value_span, value_space}
+use Rattle.exif_edit.specs.Erasing.{directory_span, erase_patches, gps_spans}
+use Rattle.exif_edit.specs.GpsAlone.{gps_is_unshared}
+use Rattle.exif_edit.specs.Setting.{set_patches}
+use Rattle.exif_edit.specs.Sharing.{fit_answer, names_child, is_unshared}
 
 -- the directory at q, and the values of its entries at which reading looks
 abbrev pub visited_directory_spans : Reading → List ℕ → ℕ → List Span
@@ -36,25 +37,25 @@ visited_spans number bytes = flat_map (visited_directory_spans number bytes) (vi
 abbrev pub AreGpsDataVisited : Reading → List ℕ → Type 0
 AreGpsDataVisited number bytes = gps_spans number bytes ≡ visited_spans number bytes
 
--- each field stands alone then
+-- each field is unshared then
 abbrev pub EachStandsAlone : List ℕ → Type 0
 EachStandsAlone bytes =
     (order : Order) → header bytes ≡ Ok order
     → looks_apart bytes ≡ true
-    → All (λ (l : Located). stands_alone (number_of order) bytes l.entry ≡ true) (located bytes)
+    → All (λ (l : Located). is_unshared (number_of order) bytes l.entry ≡ true) (located bytes)
 
 -- so the last of a name does
 abbrev pub LastStandsAlone : Tag → In → List ℕ → Type 0
 LastStandsAlone tag k bytes =
     (order : Order) (at : Located) → header bytes ≡ Ok order
     → last_located tag k (located bytes) ≡ Some at
-    → looks_apart bytes ≡ true → stands_alone (number_of order) bytes at.entry ≡ true
+    → looks_apart bytes ≡ true → is_unshared (number_of order) bytes at.entry ≡ true
 
 -- and GPS data do, if reading looks at all of them
 abbrev pub GpsStandsAlone : List ℕ → Type 0
 GpsStandsAlone bytes =
     (order : Order) → header bytes ≡ Ok order → AreGpsDataVisited (number_of order) bytes
-    → looks_apart bytes ≡ true → gps_stands_alone (number_of order) bytes ≡ true
+    → looks_apart bytes ≡ true → gps_is_unshared (number_of order) bytes ≡ true
 
 -- a value that reads back as it was is set if only it fits
 abbrev pub IsSetApart : Tag → In → Value → List ℕ → Type 0
@@ -63,7 +64,7 @@ IsSetApart tag k value bytes =
     → last_located tag k (located bytes) ≡ Some at → looks_apart bytes ≡ true
     → names_child tag.1 ≡ false → IsRanged value → HasPlainTexts value
     → set_patches bytes tag k value
-    ≡ fit_answer order tag value at.entry (value_room (number_of order) bytes at.entry)
+    ≡ fit_answer order tag value at.entry (value_space (number_of order) bytes at.entry)
 
 -- GPS data are erased, if reading looks at all of them
 abbrev pub AreErasedApart : List ℕ → Type 0
@@ -79,7 +80,7 @@ IsSetInImage tag k value order groups =
     → names_child tag.1 ≡ false → IsRanged value → HasPlainTexts value
     → set_patches (image order groups) tag k value
     ≡ fit_answer order tag value at.entry
-    (value_room (number_of order) (image order groups) at.entry)
+    (value_space (number_of order) (image order groups) at.entry)
 
 -- GPS data are erased in an image, if reading looks at all of them
 abbrev pub AreErasedInImage : Order → List Group → Type 0

@@ -22,7 +22,7 @@ described =
 once : looks_apart described ≡ true
 once = refl
 
--- the width is left alone: its entry stands where it stood, and zeros where the description was
+-- the width is left alone: its entry is where it was, and zeros where the description was
 erased : field_answer described (record { 0 = Tiff; 1 = 0x10e }) (record { 0 = 0 })
     ≡ Ok (77 ∷ 77 ∷ 0 ∷ 42 ∷ 0 ∷ 0 ∷ 0 ∷ 8
     ∷ 0 ∷ 1
@@ -33,7 +33,7 @@ erased : field_answer described (record { 0 = Tiff; 1 = 0x10e }) (record { 0 = 0
 unfolding field_patches named_removals reading located trace ordered_trace
 erased = refl
 
--- a description and a maker's name that share one text
+-- a description and a maker's name that share one encoded
 abbrev sharing : List ℕ
 sharing =
     77 ∷ 77 ∷ 0 ∷ 42 ∷ 0 ∷ 0 ∷ 0 ∷ 8

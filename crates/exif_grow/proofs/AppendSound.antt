@@ -25,7 +25,8 @@ use Rattle.exif_edit_base.proofs.CauseSteps.{bound, passed}
 use Rattle.exif_edit_base.proofs.FindSteps.{header_named}
 use Rattle.exif_edit_base.proofs.PatchSteps.{Misses, length-patched, outside_offset}
 use Rattle.exif_edit.specs.Promises.{ReadAs}
-use Rattle.exif_edit.specs.Setting.{entry_text, is_small, names_offsets, value_room}
+use Rattle.exif_edit_base.specs.Spans.{value_space}
+use Rattle.exif_edit.specs.Setting.{entry_bytes, is_small, names_offsets}
 use Rattle.exif_edit.proofs.ReadSound.{reads_are, reads_so}
 use Rattle.exif_edit.proofs.SetSound.{value_lengths, was_found}
 use Rattle.exif_grow.specs.Appending.{append_answer, append_fault, appended, appended_at, appended_offset, entry_patch, expected_appended, span_cleared, value_added, value_tail}
@@ -67,7 +68,7 @@ fits_appended order value e span n h =
     last true e = cc
 
 length-entry : (order : Order) (value : Value) (offset : ℕ)
-    → length (entry_text order value offset (encode order value)) ≡ 10
+    → length (entry_bytes order value offset (encode order value)) ≡ 10
 length-entry order value offset =
     (value_lengths order value (record { offset = offset; len = length (encode order value) })
     (omega arith)).1
@@ -128,9 +129,9 @@ pub record WasAppended (bytes : List ℕ) (tag : Tag) (k : In) (value : Value) (
     pub last : last_located tag k (located bytes) ≡ Some at
     pub clear : Bool
     pub fits : FitsAppended (order_named read.little) value at.entry
-        (value_room (number_of (order_named read.little)) bytes at.entry) (length bytes)
+        (value_space (number_of (order_named read.little)) bytes at.entry) (length bytes)
     pub is : value_added clear (order_named read.little) value at.entry
-        (value_room (number_of (order_named read.little)) bytes at.entry) (length bytes) ≡ a
+        (value_space (number_of (order_named read.little)) bytes at.entry) (length bytes) ≡ a
     pub reads_new : reading (grown a bytes) ≡ Ok (expected_appended tag k value at.entry bytes read)
 
 -- what is added at an entry
@@ -138,9 +139,9 @@ record At (tag : Tag) (k : In) (value : Value) (e : ℕ) (bytes : List ℕ) (rea
     : Type 0 where
   clear : Bool
   fits : FitsAppended (order_named read.little) value e
-      (value_room (number_of (order_named read.little)) bytes e) (length bytes)
+      (value_space (number_of (order_named read.little)) bytes e) (length bytes)
   is : value_added clear (order_named read.little) value e
-      (value_room (number_of (order_named read.little)) bytes e) (length bytes) ≡ a
+      (value_space (number_of (order_named read.little)) bytes e) (length bytes) ≡ a
   reads_new : reading (grown a bytes) ≡ Ok (expected_appended tag k value e bytes read)
 
 at_entry : (tag : Tag) (k : In) (value : Value) (e : ℕ) (bytes : List ℕ) (read : Read) (a : Added)
@@ -148,7 +149,7 @@ at_entry : (tag : Tag) (k : In) (value : Value) (e : ℕ) (bytes : List ℕ) (re
 unfolding appended_at
 at_entry tag k value e bytes read a h =
     let order = order_named read.little in
-    let span = value_room (number_of order) bytes e in
+    let span = value_space (number_of order) bytes e in
     let n = length bytes in
     let b = bound (append_fault order value e span n)
     (λ u. first_read (expected_appended tag k value e bytes read) bytes
@@ -199,7 +200,7 @@ append_fits bytes a tag k value h =
     let w = was_appended bytes a tag k value h in
     subst (λ x. All (FitsIn (length bytes)) x.patches) w.is
     (added_fits w.clear (order_named w.read.little) value w.at.entry
-    (value_room (number_of (order_named w.read.little)) bytes w.at.entry) (length bytes) w.fits)
+    (value_space (number_of (order_named w.read.little)) bytes w.at.entry) (length bytes) w.fits)
 
 -- with what is added the last field of a name has the value, and all else is as it was
 pub append_sound : (old : List ℕ) (a : Added) (tag : Tag) (k : In) (value : Value)
@@ -208,7 +209,7 @@ pub append_sound : (old : List ℕ) (a : Added) (tag : Tag) (k : In) (value : Va
 append_sound old a tag k value small h =
     let w = was_appended old a tag k value h in
     let order = order_named w.read.little in
-    let span = value_room (number_of order) old w.at.entry in
+    let span = value_space (number_of order) old w.at.entry in
     let fit = append_fits old a tag k value h in
     let r = reads_are old w.read w.reads in
     let s = reads_are (grown a old) (expected_appended tag k value w.at.entry old w.read)

@@ -15,7 +15,8 @@ use Rattle.exif_edit_base.specs.Causes.{Cause, offset_named, shared, unknown_typ
 use Rattle.exif_edit_base.specs.Finding.{find_answer, replaced}
 use Rattle.exif_edit_base.specs.Readings.{Read}
 use Rattle.exif_edit_base.specs.declared.patch.Span.{Span}
-use Rattle.exif_edit.specs.Setting.{names_offsets, set_offset, value_room}
+use Rattle.exif_edit_base.specs.Spans.{value_space}
+use Rattle.exif_edit.specs.Setting.{names_offsets, set_offset}
 use Rattle.exif_grow.specs.Appending.{append_answer, append_fault, appended, appended_at, expected_appended, value_added}
 use Rattle.exif_grow.specs.Growing.{Added, first_read}
 
@@ -31,13 +32,13 @@ append_outside tag k value e bytes read l =
 -- a value that can't be appended is refused
 pub append_refused : (tag : Tag) (k : In) (value : Value) (e : ℕ) (bytes : List ℕ) (read : Read)
     (order : Order) (span : Span) (c : Cause)
-    → order ≡ order_named read.little → span ≡ value_room (number_of order) bytes e
+    → order ≡ order_named read.little → span ≡ value_space (number_of order) bytes e
     → append_fault order value e span (length bytes) ≡ Err c
     → appended_at tag k value e bytes read ≡ Err c
 unfolding appended_at
 append_refused tag k value e bytes read order span c o r h =
     let g : append_fault (order_named read.little) value e
-    (value_room (number_of (order_named read.little)) bytes e) (length bytes) ≡ Err c =
+    (value_space (number_of (order_named read.little)) bytes e) (length bytes) ≡ Err c =
     rw o at (rw (r) at h) in
     rw g refl
 
@@ -52,7 +53,7 @@ expected_is tag k value moved e bytes read offset fs f m p = rw (f, m, p) refl
 -- any other is appended by the first of two growths that is read with it
 pub append_passed : (tag : Tag) (k : In) (value moved : Value) (e : ℕ) (bytes : List ℕ)
     (read : Read) (order : Order) (span : Span) (offset : ℕ) (fs : List Field) (a b : Added)
-    → order ≡ order_named read.little → span ≡ value_room (number_of order) bytes e
+    → order ≡ order_named read.little → span ≡ value_space (number_of order) bytes e
     → append_fault order value e span (length bytes) ≡ Ok tt
     → a ≡ value_added true order value e span (length bytes)
     → b ≡ value_added false order value e span (length bytes)
@@ -64,7 +65,7 @@ unfolding appended_at
 append_passed tag k value moved e bytes read order span offset fs a b o r h x y f m p =
     let n = length bytes in
     let order' = order_named read.little in
-    let span' = value_room (number_of order') bytes e in
+    let span' = value_space (number_of order') bytes e in
     let first = value_added true order' value e span' n in
     let second = value_added false order' value e span' n in
     let wanted = expected_appended tag k value e bytes read in
@@ -72,13 +73,13 @@ append_passed tag k value moved e bytes read order span offset fs a b o r h x y 
     p ∙ ap (λ w. set_offset (even n) e (encode w value)) o in
     let g : append_fault order' value e span' n ≡ Ok tt =
     sym (ap (λ y. append_fault order value e y n) r
-    ∙ ap (λ w. append_fault w value e (value_room (number_of w) bytes e) n) o) ∙ h in
+    ∙ ap (λ w. append_fault w value e (value_space (number_of w) bytes e) n) o) ∙ h in
     let x1 : a ≡ first =
     x ∙ (ap (λ y. value_added true order value e y n) r
-    ∙ ap (λ w. value_added true w value e (value_room (number_of w) bytes e) n) o) in
+    ∙ ap (λ w. value_added true w value e (value_space (number_of w) bytes e) n) o) in
     let y1 : b ≡ second =
     y ∙ (ap (λ y. value_added false order value e y n) r
-    ∙ ap (λ w. value_added false w value e (value_room (number_of w) bytes e) n) o) in
+    ∙ ap (λ w. value_added false w value e (value_space (number_of w) bytes e) n) o) in
     ap (λ w. first_read w bytes a b)
     (expected_is tag k value moved e bytes read offset fs f m p1)
     ∙ (ap (λ z. first_read wanted bytes z b) x1

@@ -22,7 +22,8 @@ use Rattle.exif_edit_base.proofs.CauseSteps.{bound, data_read, option_told, pass
 use Rattle.exif_edit_base.proofs.FindSteps.{header_named}
 use Rattle.exif_edit_base.proofs.PatchSteps.{Misses, outside_offset}
 use Rattle.exif_edit.specs.Promises.{ReadAs}
-use Rattle.exif_edit.specs.Removing.{untold, without_named}
+use Rattle.exif_edit_base.specs.Rereading.{without_entry_offsets}
+use Rattle.exif_edit.specs.Removing.{without_named}
 use Rattle.exif_edit.specs.Setting.{names_offsets}
 use Rattle.exif_edit.proofs.ReadSound.{reads_are}
 use Rattle.exif_grow.specs.Growing.{Added, grown}
@@ -208,7 +209,7 @@ create_sound old a tag k value h =
           subst (λ xs. ReadAs (grown a old) (fields_of (trace (grown a old))) xs)
           (w.with.faults ∙ r.2)
           (subst (λ xs. ReadAs (grown a old) xs w.found.faults) s.1 s.0);
-      others = ap (λ xs. untold (without_named tag k xs)) (sym s.1) ∙ (w.with.others ∙ ap untold r.1);
+      others = ap (λ xs. without_entry_offsets (without_named tag k xs)) (sym s.1) ∙ (w.with.others ∙ ap without_entry_offsets r.1);
       only = ap (filter (is_named tag k)) (sym s.1) ∙ w.with.only;
       small = header_small (grown a old) (order_named w.found.little)
           (header_named (grown a old) w.found w.reads_new);

@@ -92,7 +92,7 @@ some_whole number bytes s p n e f z h =
     let t : nat_le (p + 12 * n + 6) (length bytes) ≡ true = grind (arith, nat_tests) in
     rw (sym e, sym f, a, t) refl
 
--- the entry at hand has another tag, and there is room for those that are left
+-- the entry at hand has another tag, and there is space for those that are left
 pub slot_next : (number : Reading) (bytes : List ℕ) (n left e m : ℕ) → 0 < left
     → m ≡ number_at number 2 bytes e → m ≢ n
     → tag_slot number bytes n left e ≡ tag_slot number bytes n (left - 1) (e + 12)

@@ -14,7 +14,8 @@ use Rattle.exif_edit_base.specs.Patches.{FitsIn, patched}
 use Rattle.exif_edit_base.specs.declared.patch.Patch.{Patch}
 use Rattle.exif_edit_base.proofs.FindSteps.{header_named}
 use Rattle.exif_edit.specs.Promises.{FindsValue, ReadAs}
-use Rattle.exif_edit.specs.Setting.{expected, set_patches, set_offset, value_room}
+use Rattle.exif_edit_base.specs.Spans.{value_space}
+use Rattle.exif_edit.specs.Setting.{expected, set_patches, set_offset}
 use Rattle.exif_edit.proofs.ReadSound.{reads_are}
 use Rattle.exif_edit.proofs.SetFound.{set_found}
 use Rattle.exif_edit.proofs.SetSound.{set_fits, set_sound, was_set}
@@ -52,7 +53,7 @@ set_promised old ps tag k value h =
     let wanted = expected tag k value w.at.entry old w.read in
     let r = reads_are old w.read w.reads in
     let s = reads_are new wanted w.reads_new in
-    let offset = set_offset (value_room (number_of order) old w.at.entry).offset w.at.entry
+    let offset = set_offset (value_space (number_of order) old w.at.entry).offset w.at.entry
     (encode order value) in
     let g : IsGrown old tag k value new = record {
       reads =

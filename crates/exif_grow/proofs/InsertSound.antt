@@ -30,7 +30,8 @@ use Rattle.exif_edit_base.proofs.CauseSteps.{bound, data_read, ok_same, option_t
 use Rattle.exif_edit_base.proofs.FindSteps.{header_named}
 use Rattle.exif_edit_base.proofs.PatchSteps.{Misses, outside_offset}
 use Rattle.exif_edit.specs.Promises.{ReadAs}
-use Rattle.exif_edit.specs.Removing.{untold, without_named}
+use Rattle.exif_edit_base.specs.Rereading.{without_entry_offsets}
+use Rattle.exif_edit.specs.Removing.{without_named}
 use Rattle.exif_edit.specs.Setting.{names_offsets}
 use Rattle.exif_edit.proofs.ReadSound.{fault_Decides, reads_are}
 use Rattle.exif_grow.specs.Growing.{Added, grown}
@@ -77,7 +78,7 @@ only_one tag k field seen (f ∷ fs) h =
 -- what was read with one more field
 pub record IsWith (tag : Tag) (k : In) (field : Field) (wanted found : Read) : Type 0 where
   pub only : filter (is_named tag k) found.fields ≡ field ∷ []
-  pub others : untold (without_named tag k found.fields) ≡ wanted.fields
+  pub others : without_entry_offsets (without_named tag k found.fields) ≡ wanted.fields
   pub faults : found.faults ≡ wanted.faults
 
 is_with_so : (tag : Tag) (k : In) (field : Field) (wanted found : Read)
@@ -85,19 +86,19 @@ is_with_so : (tag : Tag) (k : In) (field : Field) (wanted found : Read)
 is_with_so tag k field wanted found h =
     let a = and_parts (is_only tag k field false found.fields)
     (beq found.little wanted.little
-    && (pointwise field_eq (untold (without_named tag k found.fields)) wanted.fields
+    && (pointwise field_eq (without_entry_offsets (without_named tag k found.fields)) wanted.fields
     && pointwise fault_eq found.faults wanted.faults)) h in
     let b = and_parts (beq found.little wanted.little)
-    (pointwise field_eq (untold (without_named tag k found.fields)) wanted.fields
+    (pointwise field_eq (without_entry_offsets (without_named tag k found.fields)) wanted.fields
     && pointwise fault_eq found.faults wanted.faults) a.1 in
     let d = and_parts
-    (pointwise field_eq (untold (without_named tag k found.fields)) wanted.fields)
+    (pointwise field_eq (without_entry_offsets (without_named tag k found.fields)) wanted.fields)
     (pointwise fault_eq found.faults wanted.faults) b.1 in
     record {
       only = only_one tag k field false found.fields a.0;
-      others = (slice_eq-Decides field_Decides (untold (without_named tag k found.fields))
+      others = (slice_eq-Decides field_Decides (without_entry_offsets (without_named tag k found.fields))
           wanted.fields
-          (pointwise field_eq (untold (without_named tag k found.fields)) wanted.fields) refl).0
+          (pointwise field_eq (without_entry_offsets (without_named tag k found.fields)) wanted.fields) refl).0
           d.0;
       faults = (slice_eq-Decides fault_Decides found.faults wanted.faults
           (pointwise fault_eq found.faults wanted.faults) refl).0 d.1;
@@ -304,7 +305,7 @@ insert_sound old a tag k value h =
           subst (λ xs. ReadAs (grown a old) (fields_of (trace (grown a old))) xs)
           (w.with.faults ∙ r.2)
           (subst (λ xs. ReadAs (grown a old) xs w.found.faults) s.1 s.0);
-      others = ap (λ xs. untold (without_named tag k xs)) (sym s.1) ∙ (w.with.others ∙ ap untold r.1);
+      others = ap (λ xs. without_entry_offsets (without_named tag k xs)) (sym s.1) ∙ (w.with.others ∙ ap without_entry_offsets r.1);
       only = ap (filter (is_named tag k)) (sym s.1) ∙ w.with.only;
       small = header_small (grown a old) (order_named w.found.little)
           (header_named (grown a old) w.found w.reads_new);

@@ -15,13 +15,14 @@ use Rattle.exif_edit_base.specs.Patches.{zeros_over}
 use Rattle.exif_edit_base.specs.Readings.{Read}
 use Rattle.exif_edit_base.specs.declared.patch.Patch.{Patch}
 use Rattle.exif_edit_base.specs.declared.patch.Span.{Span}
-use Rattle.exif_edit.specs.Setting.{entry_text, is_small, names_offsets, set_offset, value_room}
+use Rattle.exif_edit_base.specs.Spans.{value_space}
+use Rattle.exif_edit.specs.Setting.{entry_bytes, is_small, names_offsets, set_offset}
 use Rattle.exif_grow.specs.Growing.{Added, aligned, first_read}
 
 -- what puts a value, whose bytes are at an offset, into the entry at e
 abbrev pub entry_patch : Order → Value → ℕ → ℕ → Patch
 entry_patch order value e offset =
-    record { offset = e + 2; bytes = entry_text order value offset (encode order value) }
+    record { offset = e + 2; bytes = entry_bytes order value offset (encode order value) }
 
 -- what follows data of a length: the bytes of a value, unless its entry holds them
 abbrev pub value_tail : ℕ → List ℕ → List ℕ
@@ -66,7 +67,7 @@ unfoldable pub appended_at : Tag → In → Value → ℕ → List ℕ → Read 
 appended_at tag k value e bytes read =
     let order = order_named read.little in
     let n = length bytes in
-    let span = value_room (number_of order) bytes e in
+    let span = value_space (number_of order) bytes e in
     append_fault order value e span n
     >>= λ u. first_read (expected_appended tag k value e bytes read) bytes
     (value_added true order value e span n) (value_added false order value e span n)

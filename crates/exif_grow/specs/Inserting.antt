@@ -20,8 +20,9 @@ use Rattle.exif_edit_base.specs.Causes.{Cause, full_directory, no_directory, of_
 use Rattle.exif_edit_base.specs.Readings.{Read, fault_eq, reading}
 use Rattle.exif_edit_base.specs.declared.patch.Patch.{Patch}
 use Rattle.exif_edit_base.specs.declared.patch.Span.{Span}
-use Rattle.exif_edit.specs.Removing.{untold, without_named}
-use Rattle.exif_edit.specs.Setting.{entry_text, is_small, names_offsets, set_offset}
+use Rattle.exif_edit_base.specs.Rereading.{without_entry_offsets}
+use Rattle.exif_edit.specs.Removing.{without_named}
+use Rattle.exif_edit.specs.Setting.{entry_bytes, is_small, names_offsets, set_offset}
 use Rattle.exif_grow.specs.Appending.{span_cleared}
 use Rattle.exif_grow.specs.Directories.{directory_named, leading_in}
 use Rattle.exif_grow.specs.Growing.{Added, aligned, grown}
@@ -32,7 +33,7 @@ use Rattle.exif_grow.specs.declared.directories.Directory.{Directory}
 -- an entry of the tag n, with a value whose bytes are at an offset
 abbrev pub new_entry : Order → ℕ → Value → ℕ → List ℕ
 new_entry order n value offset =
-    spelled order 2 n ++ entry_text order value offset (encode order value)
+    spelled order 2 n ++ entry_bytes order value offset (encode order value)
 
 -- the bytes of a directory with one more entry, after j of its own
 abbrev pub directory_bytes : Order → List ℕ → Directory → ℕ → List ℕ → List ℕ
@@ -97,7 +98,7 @@ abbrev pub is_with : Tag → In → Field → Read → Read → Bool
 is_with tag k field wanted found =
     is_only tag k field false found.fields
     && (beq found.little wanted.little
-    && (pointwise field_eq (untold (without_named tag k found.fields)) wanted.fields
+    && (pointwise field_eq (without_entry_offsets (without_named tag k found.fields)) wanted.fields
     && pointwise fault_eq found.faults wanted.faults))
 
 -- whether data read as wanted, with one more field
@@ -111,7 +112,7 @@ reads_with tag k field wanted bytes = elim (reading bytes) [
 abbrev pub read_without_offsets : Read → Read
 read_without_offsets read = record {
   little = read.little;
-  fields = untold read.fields;
+  fields = without_entry_offsets read.fields;
   faults = read.faults;
 }
 

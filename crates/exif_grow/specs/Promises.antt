@@ -15,8 +15,9 @@ use Rattle.exif_edit_base.specs.Locations.{Located, located}
 use Rattle.exif_edit_base.specs.Patches.{inside}
 use Rattle.exif_edit_base.specs.declared.patch.Patch.{Patch}
 use Rattle.exif_edit.specs.Promises.{ReadAs}
-use Rattle.exif_edit.specs.Removing.{untold, without_named}
-use Rattle.exif_edit.specs.Setting.{value_room}
+use Rattle.exif_edit_base.specs.Rereading.{without_entry_offsets}
+use Rattle.exif_edit.specs.Removing.{without_named}
+use Rattle.exif_edit_base.specs.Spans.{value_space}
 use Rattle.exif_grow.specs.Appending.{appended_offset}
 use Rattle.exif_grow.specs.Creating.{child_field, parent_of}
 use Rattle.exif_grow.specs.Directories.{directory_named, leading_in}
@@ -41,7 +42,7 @@ pub record IsAppended (old : List ℕ) (tag : Tag) (k : In) (value : Value) (new
     pub small : length new < 2 ^ 32
     pub outside : (i : ℕ) → i < length old
         → inside i (record { offset = at.entry + 2; len = 10 }) ≡ false
-        → inside i (value_room (number_of order) old at.entry) ≡ false
+        → inside i (value_space (number_of order) old at.entry) ≡ false
         → slice_index new i ≡ slice_index old i
 
 -- one more field is read, and all others and the faults are as they were, but for the offsets of
@@ -54,8 +55,8 @@ pub record IsInserted (old : List ℕ) (tag : Tag) (k : In) (value : Value) (new
     pub at : Directory
     pub found : directory_named (number_of order) old tag.0 k.0 ≡ Some at
     pub reads : ReadAs new (fields_of (trace new)) (faults_of (trace old))
-    pub others : untold (without_named tag k (fields_of (trace new)))
-        ≡ untold (fields_of (trace old))
+    pub others : without_entry_offsets (without_named tag k (fields_of (trace new)))
+        ≡ without_entry_offsets (fields_of (trace old))
     pub only : filter (is_named tag k) (fields_of (trace new))
         ≡ new_field order tag k value at (leading_in (number_of order) old tag.1 at) (length old)
         ∷ []
@@ -78,8 +79,8 @@ pub record IsCreated (old : List ℕ) (tag : Tag) (k : In) (value : Value) (new 
     pub at : Directory
     pub found : directory_named (number_of order) old parent.context k.0 ≡ Some at
     pub reads : ReadAs new (fields_of (trace new)) (faults_of (trace old))
-    pub others : untold (without_named tag k (fields_of (trace new)))
-        ≡ untold (fields_of (trace old))
+    pub others : without_entry_offsets (without_named tag k (fields_of (trace new)))
+        ≡ without_entry_offsets (fields_of (trace old))
     pub only : filter (is_named tag k) (fields_of (trace new))
         ≡ child_field order tag k value at (length old) ∷ []
     pub small : length new < 2 ^ 32
@@ -101,7 +102,7 @@ pub record IsAdded (tag : Tag) (k : In) (value : Value) (old new : List Field) :
   pub offset : ℕ
   pub only : filter (is_named tag k) new
       ≡ record { tag = tag; ifd_num = k; value = moved_to offset value } ∷ []
-  pub others : untold (without_named tag k new) ≡ untold old
+  pub others : without_entry_offsets (without_named tag k new) ≡ without_entry_offsets old
 
 -- reading gives the old fields with that one replaced or added, and the same faults
 pub record IsGrown (old : List ℕ) (tag : Tag) (k : In) (value : Value) (new : List ℕ) : Type 0

@@ -11,19 +11,21 @@ ghost use Rattle.exif_edit_base.specs.Causes.{Makes};
 ghost use Rattle.exif_edit_base.specs.Patches.{FitsIn};
 ghost use Rattle.exif_edit_base.specs.Finding.{IsLastAt};
 ghost use Rattle.exif_edit_base.specs.Readings.{read_of};
-ghost use Rattle.exif_edit.specs.Setting.{is_small, names_offsets, set_offset, value_room};
+ghost use Rattle.exif_edit_base.specs.Spans.{value_space};
+ghost use Rattle.exif_edit.specs.Setting.{is_small, names_offsets, set_offset};
 ghost use Rattle.exif_grow.specs.Appending.{append_answer, append_fault, appended, appended_at, entry_patch, span_cleared, value_added, value_tail};
 ghost use Rattle.exif_grow.specs.Growing.{added_of, grown};
 ghost use Rattle.exif_grow.specs.Promises.{IsAppended};
 
 use crate::growth::{Growth, aligned, even, first_read};
 use exif_base::{Items, Order};
-use exif_edit::set::{moved, names_offsets, set_field, value_room};
-use exif_edit::spell::{encode, entry_text, is_unknown};
+use exif_edit::set::{moved, names_offsets, set_field};
+use exif_edit::spell::{encode, entry_bytes, is_unknown};
 use exif_edit_base::Error;
 use exif_edit_base::find::{Found, find};
 use exif_edit_base::patch::{Patch, Span, zeros};
 use exif_edit_base::read::order_named;
+use exif_edit_base::spans::value_space;
 use exif_types::{In, Tag, Value};
 use std::alloc::{AllocError, Global};
 
@@ -52,10 +54,10 @@ fn entry_patch(
     requires count { count ≡ count_of value.now }
     ensures { IfOk result (λ p. p ≡ entry_patch order value.now entry offset) }
 {
-    let text = entry_text(alloc, order, value, count, offset, encoded)?;
+    let encoded = entry_bytes(alloc, order, value, count, offset, encoded)?;
     Ok(Patch {
         offset: entry as u64 + 2,
-        bytes: Items::from_vec(text),
+        bytes: Items::from_vec(encoded),
     })
 }
 
@@ -179,7 +181,7 @@ fn append_at(
     }
     let mut wanted = found.parsed;
     let order = order_named(wanted.little_endian);
-    let span = value_room(order, bytes, entry);
+    let span = value_space(order, bytes, entry);
     let encoded = encoded_for(alloc, order, value, entry, span, len)?;
     let cleared = growth(alloc, true, order, value, &encoded, entry, span, len)?;
     let kept = growth(alloc, false, order, value, &encoded, entry, span, len)?;

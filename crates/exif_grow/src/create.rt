@@ -98,7 +98,8 @@ fn child_and_value(
     entry: &[u8],
     encoded: &[u8],
 ) -> Result<Vec<u8>, AllocError>
-    ensures { IfOk result (λ v. v.items ≡ child_bytes order entry.now ++ outer_bytes encoded.now) }
+    ensures { IfOk result
+        (λ v. v.items ≡ child_bytes order entry.now ++ outer_bytes encoded.now) }
 {
     let mut out = child_bytes(alloc, order, entry)?;
     add_outer(&mut out, encoded)?;

@@ -23,7 +23,7 @@ use crate::growth::{Growth, aligned, even};
 use crate::reread::{first_with, without_offsets};
 use exif_base::{Items, Order};
 use exif_edit::set::{moved, names_offsets};
-use exif_edit::spell::{encode, entry_text, is_unknown};
+use exif_edit::spell::{encode, entry_bytes, is_unknown};
 use exif_edit_base::Error;
 use exif_edit_base::patch::{Patch, Span};
 use exif_edit_base::read::{order_named, read};
@@ -48,7 +48,7 @@ pub fn new_entry(
     ensures { IfOk result (λ v. v.items ≡ new_entry order number value.now offset) }
 {
     let mut entry = Vec::from_slice(alloc, &spelled_u16(order, number))?;
-    let rest = entry_text(
+    let rest = entry_bytes(
         alloc,
         order,
         value,
@@ -126,10 +126,10 @@ pub fn slot_patch(
     requires { even len < 2 ^ 32 }
     ensures { IfOk result (λ p. p ≡ slot_patch order directory len) }
 {
-    let text = Vec::from_slice(alloc, &spelled_u32(order, even(len) as u32))?;
+    let encoded = Vec::from_slice(alloc, &spelled_u32(order, even(len) as u32))?;
     Ok(Patch {
         offset: directory.slot as u64,
-        bytes: Items::from_vec(text),
+        bytes: Items::from_vec(encoded),
     })
 }
 

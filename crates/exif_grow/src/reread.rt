@@ -9,10 +9,11 @@ ghost use Rattle.exif_grow.specs.Growing.{added_of, grown};
 ghost use Rattle.exif_grow.specs.Inserting.{first_with, is_only, is_with, read_without_offsets, reads_with};
 
 use crate::growth::{Growth, grown};
-use exif_edit::remove::{drop_named, untell};
+use exif_edit::remove::drop_named;
 use exif_edit_base::Error;
 use exif_edit_base::find::is_named;
 use exif_edit_base::read::{read, same_faults};
+use exif_edit_base::reread::forget_entry_offsets;
 use exif_reader::stop::Stop;
 use exif_reader::tiff::Parsed;
 use exif_types::{Field, In, Tag};
@@ -52,7 +53,7 @@ fn is_with(mut found: Parsed, tag: Tag, ifd_num: In, field: &Field, wanted: &Par
         return false;
     }
     drop_named(&mut found.fields, tag, ifd_num);
-    untell(found.fields.as_mut_slice());
+    forget_entry_offsets(found.fields.as_mut_slice());
     found.little_endian == wanted.little_endian
         && found.fields.as_slice() == wanted.fields.as_slice()
         && same_faults(found.faults.as_slice(), wanted.faults.as_slice())
@@ -109,6 +110,6 @@ pub fn first_with(
 pub fn without_offsets(mut parsed: Parsed) -> Parsed
     ensures { read_of result ≡ read_without_offsets (read_of parsed) }
 {
-    untell(parsed.fields.as_mut_slice());
+    forget_entry_offsets(parsed.fields.as_mut_slice());
     parsed
 }

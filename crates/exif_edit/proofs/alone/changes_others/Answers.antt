@@ -7,7 +7,7 @@ use Rattle.exif_edit.proofs.alone.changes_others.Goals as goal
 
 pub loop-preserved : goal.loop-preserved
 loop-preserved c = record {
-  room = λ h. omega (arith, c.loop.invariant.room);
+  space = λ h. omega (arith, c.loop.invariant.space);
   follows = entry_on (changes c.args.patches.now)
       (other_entry (number_of c.args.order) c.args.bytes.now c.args.entry) c.loop.at
       c.whole_entries-end.result c.loop.counter c.changes_other.result _ c.loop-test.true

@@ -12,7 +12,7 @@ abbrev pub invariant-loop : goal.invariant-loop
 invariant-loop l =
     let other = other_entry (number_of l.order) l.bytes l.entry in
     record {
-      room : l.counter < l.end → l.at + 12 * (l.end - l.counter) ≤ length l.bytes;
+      space : l.counter < l.end → l.at + 12 * (l.end - l.counter) ≤ length l.bytes;
       follows : list_any (changes l.patches)
           (flat_map other (spaced l.at 12 (l.end - l.counter)))
           ≡ list_any (changes l.patches)

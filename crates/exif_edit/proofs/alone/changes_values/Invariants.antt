@@ -12,7 +12,7 @@ abbrev pub invariant-loop : goal.invariant-loop
 invariant-loop l =
     let value = value_stretch (number_of l.order) l.bytes in
     record {
-      room : l.counter < l.end → l.at + 12 * (l.end - l.counter) ≤ length l.bytes;
+      space : l.counter < l.end → l.at + 12 * (l.end - l.counter) ≤ length l.bytes;
       follows : list_any (changes l.patches)
           (flat_map value (spaced l.at 12 (l.end - l.counter)))
           ≡ list_any (changes l.patches)

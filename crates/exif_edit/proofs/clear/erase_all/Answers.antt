@@ -1,6 +1,6 @@
 use Rattle.std.proofs.Common.{sym, ap, subst, ◌∙◌, Ok, refl, length}
 use Rattle.exif_edit.specs.Clearing.{IsCleared, clear_patches, clearing}
-use Rattle.exif_edit.proofs.SetSound.{answer_made, answer_refused}
+use Rattle.exif_edit_base.proofs.PlanSteps.{answer_made, answer_refused}
 use Rattle.exif_edit.proofs.ClearSound.{clear_is, clear_refused, clear_sound, cleared_bytes}
 use Rattle.exif_edit.proofs.clear.erase_all.Goals as goal
 

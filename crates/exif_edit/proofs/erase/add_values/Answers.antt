@@ -7,7 +7,7 @@ use Rattle.exif_edit.proofs.erase.add_values.Goals as goal
 
 pub loop-preserved : goal.loop-preserved
 loop-preserved c = record {
-  room = λ h. omega (arith, c.loop.invariant.room);
+  space = λ h. omega (arith, c.loop.invariant.space);
   bound = omega (arith, c.loop.invariant.bound);
   rest = value_on (gps_value_span (number_of c.args.order) c.args.bytes.now) c.loop.at c.args.count
       c.loop.counter c.loop.patches.items c.push.new.self.items _ c.loop-test.true

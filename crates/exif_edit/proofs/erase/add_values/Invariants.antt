@@ -8,7 +8,7 @@ use Rattle.exif_edit.proofs.erase.add_values.Given as goal
 -- what is left of the entries adds what all of them do
 abbrev pub invariant-loop : goal.invariant-loop
 invariant-loop l = record {
-  room : l.counter < l.count → l.at + 12 * (l.count - l.counter) ≤ length l.bytes;
+  space : l.counter < l.count → l.at + 12 * (l.count - l.counter) ≤ length l.bytes;
   bound : l.at ≡ l.first + 12 * l.counter;
   rest : l.patches.items
       ++ map zeros_over

@@ -1,6 +1,6 @@
 use Rattle.exif_edit.specs.Erasing.{erase_patches}
 use Rattle.exif_edit.specs.Promises.{IsErased}
-use Rattle.exif_edit.proofs.PlanSteps.{carried_sound}
+use Rattle.exif_edit_base.proofs.PlanSteps.{carried_sound}
 use Rattle.exif_edit.proofs.EraseSound.{erased_sound}
 use Rattle.exif_edit.proofs.erase.erase_gps.Goals as goal
 

@@ -6,15 +6,15 @@ pub padded-requires : goal.padded-requires
 padded-requires c =
     rw c.as_slice.ensures.value
     (whole_fits c.args.order c.args.bytes.now c.args.number c.args.offset
-    c.whole_entries-count.result c.in_ok-kept.kept.count c.in_ok-kept.kept.text.items
-    c.as_slice-next.result.now c.in_ok-text.text.items
-    c.in_ok-kept.ensures.text c.in_ok-text.ensures)
+    c.whole_entries-count.result c.in_ok-kept.kept.count c.in_ok-kept.kept.encoded.items
+    c.as_slice-next.result.now c.in_ok-encoded.encoded.items
+    c.in_ok-kept.ensures.encoded c.in_ok-encoded.ensures)
 
 pub returns : goal.returns
 returns c =
     directory_made c.args.order c.args.bytes.now c.args.number c.args.offset
-    c.whole_entries-count.result c.in_ok-kept.kept.count c.in_ok-kept.kept.text.items
-    c.as_slice-next.result.now c.in_ok-text.text.items c.in_ok-directory.directory.items
-    c.whole_entries-count.ensures.value c.in_ok-kept.ensures.count c.in_ok-kept.ensures.text
-    (c.as_slice-next.ensures.value ∙ c.in_ok-next.ensures) c.in_ok-text.ensures
+    c.whole_entries-count.result c.in_ok-kept.kept.count c.in_ok-kept.kept.encoded.items
+    c.as_slice-next.result.now c.in_ok-encoded.encoded.items c.in_ok-directory.directory.items
+    c.whole_entries-count.ensures.value c.in_ok-kept.ensures.count c.in_ok-kept.ensures.encoded
+    (c.as_slice-next.ensures.value ∙ c.in_ok-next.ensures) c.in_ok-encoded.ensures
     (rw c.as_slice.ensures.value at c.in_ok-directory.ensures)

@@ -1,7 +1,7 @@
 use Rattle.exif_edit_base.specs.Patches.{patched}
 use Rattle.exif_edit.specs.Promises.{FindsNone, IsFieldErased}
 use Rattle.exif_edit.specs.Removing.{field_patches}
-use Rattle.exif_edit.proofs.PlanSteps.{carried_sound}
+use Rattle.exif_edit_base.proofs.PlanSteps.{carried_sound}
 use Rattle.exif_edit.proofs.RemoveSound.{field_sound}
 use Rattle.exif_edit.proofs.SetFound.{none_found}
 use Rattle.exif_edit.proofs.remove.erase_field.Goals as goal

@@ -1,7 +1,7 @@
 use Rattle.std.proofs.Common.{sym, ◌∙◌}
 use Rattle.std.proofs.lemmas.Result.{err_from_is_err_and}
 use Rattle.exif_edit_base.specs.Readings.{read_of}
-use Rattle.exif_edit.specs.Plans.{planned}
+use Rattle.exif_edit_base.specs.Plans.{planned}
 use Rattle.exif_edit.proofs.RemoveSteps.{as_many, none_named, remove_fault, remove_wanted}
 use Rattle.exif_edit.proofs.RemoveSound.{removals_fit}
 use Rattle.exif_edit.proofs.remove.plan_removals.Goals as goal

@@ -3,10 +3,10 @@ use Rattle.std.proofs.lemmas.Result.{err_from_is_err_and}
 use Rattle.exif_edit_base.specs.Readings.{read_of}
 use Rattle.exif_edit_base.specs.Finding.{find_answer}
 use Rattle.exif_edit_base.proofs.CauseSteps.{refused_on}
-use Rattle.exif_edit.specs.Plans.{planned}
+use Rattle.exif_edit_base.specs.Plans.{planned}
 use Rattle.exif_edit.specs.Setting.{checked_patches, value_answer}
 use Rattle.exif_edit.proofs.AloneSound.{header_found, set_alone}
-use Rattle.exif_edit.proofs.PlanSteps.{any_planned}
+use Rattle.exif_edit_base.proofs.PlanSteps.{any_planned}
 use Rattle.exif_edit.proofs.SetSteps.{set_find, set_edit, set_wanted}
 use Rattle.exif_edit.proofs.set.plan_known.Goals as goal
 

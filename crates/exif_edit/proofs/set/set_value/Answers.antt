@@ -1,7 +1,7 @@
 use Rattle.exif_edit_base.specs.Patches.{patched}
 use Rattle.exif_edit.specs.Promises.{FindsValue, IsSet}
 use Rattle.exif_edit.specs.Setting.{set_patches}
-use Rattle.exif_edit.proofs.PlanSteps.{carried_sound}
+use Rattle.exif_edit_base.proofs.PlanSteps.{carried_sound}
 use Rattle.exif_edit.proofs.SetSound.{set_sound}
 use Rattle.exif_edit.proofs.SetFound.{set_found}
 use Rattle.exif_edit.proofs.set.set_value.Goals as goal

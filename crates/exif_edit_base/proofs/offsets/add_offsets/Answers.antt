@@ -17,9 +17,9 @@ loop-preserved c =
     let number = number_of c.args.order in
     record {
       few = grind (arith, common_steps);
-      room = λ h. rw c.offset_len-at.ensures.value
+      space = λ h. rw c.offset_len-at.ensures.value
           (offsets_behind t c.values_count-end.result c.loop.counter _ c.loop.at c.loop-test.true
-          (c.loop.invariant.room c.loop-test.true));
+          (c.loop.invariant.space c.loop-test.true));
       rest = rw c.offset_len-at.ensures.value
           (offset_on 256 c.values_count-end.result c.loop.counter c.loop.at (offset_len t)
           (number_at number (offset_len t) c.args.bytes.now) c.loop.pointers.items

@@ -10,7 +10,7 @@ invariant-loop l =
     let len = offset_len l.field_type in
     record {
       few : length l.pointers.items ≤ 256;
-      room : l.counter < l.end → l.at + len * (l.end - l.counter) ≤ length l.bytes;
+      space : l.counter < l.end → l.at + len * (l.end - l.counter) ≤ length l.bytes;
       rest : take max_pointers
           (l.pointers.items
           ++ map (number_at (number_of l.order) len l.bytes)

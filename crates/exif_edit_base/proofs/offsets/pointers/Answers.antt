@@ -8,7 +8,7 @@ use Rattle.exif_edit_base.proofs.offsets.pointers.Goals as goal
 pub loop-preserved : goal.loop-preserved
 loop-preserved c = record {
   few = rw c.in_ok-add_pointers.ensures (take_short 256 _);
-  room = λ h. omega (arith, c.loop.invariant.room);
+  space = λ h. omega (arith, c.loop.invariant.space);
   rest = entry_on 256 c.whole_entries-end.result c.loop.counter c.loop.at
       (pointers_in c.args.target (number_of c.args.order) c.args.bytes.now) c.loop.pointers.items
       c.add_pointers.new.pointers.items _ c.loop-test.true c.in_ok-add_pointers.ensures

@@ -12,7 +12,7 @@ invariant-loop l =
     let within = pointers_in l.target (number_of l.order) l.bytes in
     record {
       few : length l.pointers.items ≤ 256;
-      room : l.counter < l.end → l.at + 12 * (l.end - l.counter) ≤ length l.bytes;
+      space : l.counter < l.end → l.at + 12 * (l.end - l.counter) ≤ length l.bytes;
       rest : take max_pointers
           (l.pointers.items ++ flat_map within (spaced l.at 12 (l.end - l.counter)))
           ≡ take max_pointers

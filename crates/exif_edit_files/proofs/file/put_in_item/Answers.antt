@@ -1,5 +1,5 @@
 use Rattle.std.proofs.Common.{refl}
-use Rattle.exif_edit.proofs.PlanSteps.{exchanged_back, exchanged_within}
+use Rattle.exif_edit_base.proofs.PlanSteps.{exchanged_back, exchanged_within}
 use Rattle.exif_edit_files.proofs.FileSteps.{not_served}
 use Rattle.exif_edit_files.proofs.file.put_in_item.Goals as goal
 use Rattle.exif_edit_files.proofs.file.put_in_item.Goals.{in-Ok-false, in-Err}

@@ -23,8 +23,8 @@ returns-in_err-patches-2-clause-answer g c =
     rw (p.1, p.2)
     (whole_file_of
     (λ file. FailsOrStops c.in_err-patches-2.field-0.0
-    (file_patches c.args.limit c.args.edit.now file)) c.in-Ok.filled c.read_head.new.block _
-    (g.R.Source.left c.args.source.now) (g.R.Source.left c.read_head.new.source) _
+    (file_patches c.args.limit c.args.edit.now file)) c.in-Ok.filled c.read_signature.new.block _
+    (g.R.Source.left c.args.source.now) (g.R.Source.left c.read_signature.new.source) _
     (has_head _ _ _ _ _ _ head.taken head.bound head.most (search rules) head.end
     (search rules) (search rules)) c.in_err-patches-2.ensures.answer)
 
@@ -33,8 +33,8 @@ returns-clause-answer g c =
     let head = c.in-Ok.ensures in
     whole_file_of
     (λ file. file_patches c.args.limit c.args.edit.now file ≡ Ok c.in_ok-patches-2.patches.items)
-    c.in-Ok.filled c.read_head.new.block _
-    (g.R.Source.left c.args.source.now) (g.R.Source.left c.read_head.new.source) _
+    c.in-Ok.filled c.read_signature.new.block _
+    (g.R.Source.left c.args.source.now) (g.R.Source.left c.read_signature.new.source) _
     (has_head _ _ _ _ _ _ head.taken head.bound head.most (search rules) head.end
     (search rules) (search rules)) c.in_ok-patches-2.ensures.answer
 

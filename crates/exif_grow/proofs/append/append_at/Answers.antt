@@ -22,13 +22,13 @@ returns-in_err-encoded c =
       answer = rw (p.1, p.2)
           (refused_on c.in_err-encoded.field-0.0
           (append_fault c.order_named-order.result c.args.value.now c.args.found.entry
-          c.value_room-span.result (length c.args.bytes.now))
+          c.value_space-span.result (length c.args.bytes.now))
           (appended_at c.args.tag c.args.ifd_num c.args.value.now c.args.found.entry
           c.args.bytes.now (read_of c.args.found.parsed))
           c.in_err-encoded.ensures.answer
           (λ r h. append_refused c.args.tag c.args.ifd_num c.args.value.now c.args.found.entry
           c.args.bytes.now (read_of c.args.found.parsed) c.order_named-order.result
-          c.value_room-span.result r c.order_named-order.ensures c.value_room-span.ensures.value
+          c.value_space-span.result r c.order_named-order.ensures c.value_space-span.ensures.value
           h));
     }
 
@@ -36,9 +36,9 @@ pub returns : goal.returns
 returns c = record {
   answer = rw (sym (append_passed c.args.tag c.args.ifd_num c.args.value.now c.in_ok-moved.moved
       c.args.found.entry c.args.bytes.now (read_of c.args.found.parsed)
-      c.order_named-order.result c.value_room-span.result c.offset_of.result
+      c.order_named-order.result c.value_space-span.result c.offset_of.result
       c.set_field.new.fields.items (added_of c.in_ok-cleared.cleared)
-      (added_of c.in_ok-kept.kept) c.order_named-order.ensures c.value_room-span.ensures.value
+      (added_of c.in_ok-kept.kept) c.order_named-order.ensures c.value_space-span.ensures.value
       c.in_ok-encoded.ensures.answer c.in_ok-cleared.ensures.added c.in_ok-kept.ensures.added
       c.set_field.ensures c.in_ok-moved.ensures.answer
       (c.offset_of.ensures ∙ ap (λ (t : List ℕ). set_offset (even (length c.args.bytes.now))

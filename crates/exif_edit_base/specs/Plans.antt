@@ -5,11 +5,10 @@ use Rattle.exif_edit_base.specs.Patches.{patched}
 use Rattle.exif_edit_base.specs.Readings.{read_of, reads_as}
 use Rattle.exif_edit_base.specs.declared.error.Error.{Error}
 use Rattle.exif_edit_base.specs.declared.patch.Patch.{Patch}
-use Rattle.exif_edit.specs.Erasing.{clears}
-use Rattle.exif_edit.specs.Removing.{still_reads}
-use Rattle.exif_edit.specs.declared.plan.Plan.{Plan}
-use Rattle.exif_edit.specs.declared.plan.Wanted.{Wanted}
-use Rattle.exif_edit.specs.declared.plan.Wanted.TheVariants.{Anything, Same, Cleared, Left}
+use Rattle.exif_edit_base.specs.Rereading.{clears, still_reads}
+use Rattle.exif_edit_base.specs.declared.plan.Plan.{Plan}
+use Rattle.exif_edit_base.specs.declared.plan.Wanted.{Wanted}
+use Rattle.exif_edit_base.specs.declared.plan.Wanted.TheVariants.{Anything, Same, Cleared, Left}
 
 -- whether data are read as it is wanted
 abbrev pub is_read : List ℕ → Wanted → Bool

@@ -1,7 +1,7 @@
 use Rattle.std.proofs.Common.{refl}
-use Rattle.exif_edit.proofs.PlanSteps.{exchanged_back, exchanged_within, read_carried}
-use Rattle.exif_edit.proofs.plan.carry_out.Goals as goal
-use Rattle.exif_edit.proofs.plan.carry_out.Goals.{in-Ok-false, in-Err}
+use Rattle.exif_edit_base.proofs.PlanSteps.{exchanged_back, exchanged_within, read_carried}
+use Rattle.exif_edit_base.proofs.plan.carry_out.Goals as goal
+use Rattle.exif_edit_base.proofs.plan.carry_out.Goals.{in-Ok-false, in-Err}
 
 pub returns-in-Ok-true : goal.returns-in-Ok-true
 returns-in-Ok-true c =

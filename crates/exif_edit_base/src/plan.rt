@@ -3,13 +3,12 @@
 ghost use Rattle.std.specs.Prelude.{◌≡◌, All, length, IfOk};
 ghost use Rattle.exif_edit_base.specs.Causes.{Edits, Makes};
 ghost use Rattle.exif_edit_base.specs.Patches.{FitsIn};
-ghost use Rattle.exif_edit.specs.Plans.{carried_out, is_read, planned};
+ghost use Rattle.exif_edit_base.specs.Plans.{carried_out, is_read, planned};
 
-use crate::erase::clears;
-use crate::remove::still_reads;
-use exif_edit_base::Error;
-use exif_edit_base::patch::{Patch, exchange, patched, put_back};
-use exif_edit_base::read::reads_as;
+use crate::Error;
+use crate::patch::{Patch, exchange, patched, put_back};
+use crate::read::reads_as;
+use crate::reread::{clears, still_reads};
 use exif_reader::tiff::Parsed;
 use std::alloc::{AllocError, Global};
 
@@ -22,7 +21,7 @@ pub enum Wanted {
     Same(Parsed),
     /// As this, with no more faults.
     Cleared(Parsed),
-    /// As this, wherever the entries stand, with no more faults.
+    /// As this, wherever the entries are, with no more faults.
     Left(Parsed),
 }
 
@@ -66,7 +65,7 @@ pub fn try_on_copy(alloc: Global, bytes: &[u8], plan: Plan) -> Result<Vec<Patch>
     }
 }
 
-/// Carries a plan out over the data, reads them where they stand, and puts back what stood there if
+/// Carries a plan out over the data, reads them, and puts back what was there if
 /// they are not read as it is wanted. It takes the memory of that reading.
 pub fn carry_out(alloc: Global, bytes: &mut [u8], plan: Plan) -> Result<(), Error>
     requires { All (FitsIn (length bytes.old)) plan.patches.items }

@@ -1,6 +1,6 @@
 use Rattle.std.proofs.Common.{arith}
 use Rattle.std.proofs.lemmas.Grind.{common_steps}
-use Rattle.exif_edit.proofs.remove.still_reads.Goals as goal
+use Rattle.exif_edit_base.proofs.reread.still_reads.Goals as goal
 
 pub returns-in-Ok : goal.returns-in-Ok
 returns-in-Ok c = grind (arith, common_steps)

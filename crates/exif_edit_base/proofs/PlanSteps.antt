@@ -1,17 +1,26 @@
 -- The steps of trying a plan.
-use Rattle.std.proofs.Common.{◌≡◌, Bool, true, false, ℕ, List, length, All, Result, Ok, Err, sym, ap, subst, ◌∙◌}
+use Rattle.std.proofs.Common.{◌≡◌, Bool, true, false, ℕ, List, length, All, Result, Ok, Err, refl, sym, ap, subst, ◌∙◌}
 use Rattle.std.specs.Prelude.{if◌then◌else◌, OnOk}
-use Rattle.exif_edit_base.specs.Causes.{Cause, Edits, shared}
+use Rattle.exif_edit_base.specs.Causes.{Cause, Edits, shared, ◌>>=◌}
 use Rattle.exif_edit_base.specs.Patches.{FitsIn, patched, put_back, swapped}
 use Rattle.exif_edit_base.specs.declared.error.Error.{Error}
 use Rattle.exif_edit_base.specs.declared.patch.Patch.{Patch}
 use Rattle.exif_edit_base.proofs.CauseSteps.{bound, ok_same}
 use Rattle.exif_edit_base.proofs.PatchSteps.{fit_in, length-patched}
 use Rattle.exif_edit_base.proofs.PutBack.{bytes_put_back, swapped_fit}
-use Rattle.exif_edit.specs.Plans.{carried_out, if_read, is_read, planned}
-use Rattle.exif_edit.specs.declared.plan.Plan.{Plan}
-use Rattle.exif_edit.specs.declared.plan.Wanted.TheVariants.{Anything}
-use Rattle.exif_edit.proofs.SetSound.{answer_made, answer_refused}
+use Rattle.exif_edit_base.specs.Plans.{carried_out, if_read, is_read, planned}
+use Rattle.exif_edit_base.specs.declared.plan.Plan.{Plan}
+use Rattle.exif_edit_base.specs.declared.plan.Wanted.TheVariants.{Anything}
+
+-- the answer is what the patches make
+pub answer_made : (f : Result (List Patch) Cause) (bytes : List ℕ) (ps : List Patch) → f ≡ Ok ps
+    → (f >>= λ qs. Ok (patched qs bytes)) ≡ Ok (patched ps bytes)
+answer_made f bytes ps h = rw h refl
+
+-- where the patches are refused, the edited data are refused for the same cause
+pub answer_refused : (f : Result (List Patch) Cause) (bytes : List ℕ) (c : Cause) → f ≡ Err c
+    → ◌≡◌ {A = Result (List ℕ) Cause} (f >>= λ qs. Ok (patched qs bytes)) (Err c)
+answer_refused f bytes c h = rw h refl
 
 -- where nothing is wanted the patches are the answer
 pub any_planned : (bytes : List ℕ) (plan : Plan) → plan.wanted ≡ Anything

@@ -1,7 +1,7 @@
 use Rattle.std.proofs.Common.{◌≡◌, ◌≤◌, ◌==◌, length, take}
 use Rattle.std.specs.List.{filter}
 use Rattle.exif_tiff.specs.declared.offset.EntryOffset.{EntryOffset}
-use Rattle.exif_edit.proofs.alone.stands_once.Given as goal
+use Rattle.exif_edit.proofs.alone.occurs_once.Given as goal
 
 -- so many were found so far
 abbrev pub invariant-loop-offset : goal.invariant-loop-offset

@@ -1,5 +1,5 @@
-use Rattle.exif_edit.proofs.PlanSteps.{any_planned, read_planned}
-use Rattle.exif_edit.proofs.plan.try_on_copy.Goals as goal
+use Rattle.exif_edit_base.proofs.PlanSteps.{any_planned, read_planned}
+use Rattle.exif_edit_base.proofs.plan.try_on_copy.Goals as goal
 
 pub returns-in-Anything-clause-answer : goal.returns-in-Anything-clause-answer
 returns-in-Anything-clause-answer c =

@@ -1,7 +1,7 @@
 use Rattle.std.proofs.Common.{sym, ◌∙◌}
 use Rattle.std.proofs.lemmas.Bool.{not-true}
 use Rattle.exif_edit.proofs.AloneSound.{offsets_parts}
-use Rattle.exif_edit.proofs.alone.gps_stands_alone.Goals as goal
+use Rattle.exif_edit.proofs.alone.gps_is_unshared.Goals as goal
 
 pub returns : goal.returns
 returns c h =
