@@ -2,6 +2,8 @@
 //! A.2.1).
 #![tactic(auto)]
 
+mod closed;
+mod entries;
 mod exif;
 mod extents;
 mod file;
@@ -15,12 +17,14 @@ mod ranges;
 mod splitter;
 mod tables;
 
+pub use closed::are_closed;
+pub use entries::{Entry, ExifFields, item_fields};
 pub use exif::{ExifItem, exif_of_file, find_exif};
 pub use extents::{MAX_EXIF_SIZE, after_header, extent_front, item_bytes};
 pub use file::{Meta, is_heif, pass};
 pub use front::{header_of, settled_meta};
 pub use kind::Kind;
 pub use located::{LocatedExif, locate, located_in};
-pub use locations::{Extent, Location};
+pub use locations::{Extent, Location, Sizes};
 pub use ranges::item_ranges;
 pub use splitter::{BoxSplitter, Header};
