@@ -1,6 +1,5 @@
 pub mod BehindLast
 pub mod BehindMeta
-pub mod ClosedBoxes
 pub mod EntryTimes
 pub mod ExifNames
 pub mod ExtentRanges

@@ -1,15 +1,12 @@
-//! Where the fields of the Exif item are in a file.
+//! Where the entry of the Exif item is in a file.
 
 ghost use Rattle.std.specs.Prelude.{◌≡◌, false, None, option_to_list};
 ghost use Rattle.exif_types.specs.Refusals.{Gives, TakesIfRoom, is_io, last_read};
 ghost use Rattle.exif_isobmff.specs.Boxes.{times_joined};
-ghost use Rattle.exif_isobmff.specs.Entries.{entries, entry_at, entry_offset, exif_entry, fields_view, item_fields};
+ghost use Rattle.exif_isobmff.specs.Entries.{entries, entry_at, entry_offset, exif_entry};
 
-use crate::exif::find_exif;
-use crate::extents::{after_header, item_bytes};
-use crate::file::meta_of;
-use crate::locations::{Extent, Sizes, next_location, number, sizes_of};
-use crate::ranges::{behind_last, item_ranges};
+use crate::locations::{Sizes, next_location, number, sizes_of};
+use crate::ranges::behind_last;
 use crate::tables::{Tables, meta_tables};
 use crate::{BoxSplitter, Kind};
 use exif_types::Error;
@@ -24,19 +21,6 @@ pub struct Entry {
     pub version: u8,
     /// How many bytes its fields take.
     pub sizes: Sizes,
-}
-
-/// The Exif item of a file, as an edit needs it that moves the item.
-#[derive(Drop)]
-pub struct ExifFields {
-    /// The bytes of the item before the Exif data: their offset, and what it skips.
-    pub header: Vec<u8>,
-    /// The ranges of the file that hold the item, in order.
-    pub ranges: Vec<Extent>,
-    /// The offset of its entry in the file.
-    pub offset: u64,
-    /// Its entry in `iloc`.
-    pub entry: Entry,
 }
 
 // The next entry, where it is that of the wanted item.
@@ -106,9 +90,10 @@ fn item_entry(alloc: Global, mut body: BoxSplitter, wanted: u32) -> Result<Optio
     )
 }
 
-// The entry of the Exif item of the body of a `meta`.
+/// The entry of the Exif item of the body of a `meta`. Refusals are those of
+/// [`find_exif`](crate::find_exif).
 #[tactic(auto, unfolding(crate::specs::Entries::exif_entry))]
-fn exif_entry(alloc: Global, meta: &[u8]) -> Result<Entry, Error>
+pub fn exif_entry(alloc: Global, meta: &[u8]) -> Result<Entry, Error>
     ensures gives { Gives (λ e. e) result (exif_entry meta.now) }
     ensures no_io { is_io result ≡ false }
 {
@@ -129,33 +114,11 @@ fn exif_entry(alloc: Global, meta: &[u8]) -> Result<Entry, Error>
     Ok(entry)
 }
 
-// The offset of an entry of the last `iloc` of a `meta` that ends at an offset.
-fn entry_offset(end: u64, meta: &[u8], entry: Entry) -> u64
+/// The offset of an entry of the last `iloc` of a `meta` that ends at an offset.
+pub fn entry_offset(end: u64, meta: &[u8], entry: Entry) -> u64
     ensures { result ≡ entry_offset end meta.now entry }
 {
     let boxes = &meta[meta.len().min(4)..];
     end.saturating_sub(behind_last(Kind::ItemLocation, boxes).len() as u64)
         .saturating_sub(entry.left as u64)
-}
-
-/// The Exif item of a file in memory: its header, its ranges, and its entry in `iloc`. Refusals are
-/// those of [`exif_of_file`](crate::exif_of_file). It takes the memory of the item twice.
-#[tactic(auto, unfolding(crate::specs::Entries::item_fields))]
-pub fn item_fields(alloc: Global, file: &[u8]) -> Result<ExifFields, Error>
-    ensures gives { Gives fields_view result (item_fields file.now) }
-    ensures no_io { is_io result ≡ false }
-{
-    let meta = meta_of(file)?;
-    let item = find_exif(alloc, meta.body)?;
-    let block = item_bytes(alloc, file, item.idat, &item.location)?;
-    let data = after_header(alloc, &block)?;
-    let entry = exif_entry(alloc, meta.body)?;
-    let header = block.len().saturating_sub(data.len());
-    let end = file.len().saturating_sub(meta.behind.len()) as u64;
-    Ok(ExifFields {
-        header: Vec::from_slice(alloc, &block[..header])?,
-        ranges: item_ranges(alloc, file.len() as u64, end, meta.body, &item)?,
-        offset: entry_offset(end, meta.body, entry),
-        entry,
-    })
 }

@@ -1,10 +1,9 @@
 //! Whether a box can follow the boxes of a file.
 
 ghost use Rattle.std.specs.Prelude.{◌≡◌};
-ghost use Rattle.exif_isobmff.specs.Entries.{are_closed};
+ghost use Rattle.exif_grow_files.specs.Fields.{are_closed};
 
-use crate::BoxSplitter;
-use crate::front::sizes_itself;
+use exif_isobmff::{BoxSplitter, sizes_itself};
 
 /// Whether all boxes of a file say their sizes and are whole: none runs to the end of the file, or
 /// past it. A box can follow them then.

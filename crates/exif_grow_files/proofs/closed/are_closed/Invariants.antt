@@ -1,6 +1,6 @@
 use Rattle.std.proofs.Common.{◌≡◌, length}
-use Rattle.exif_isobmff.specs.Entries.{are_closed}
-use Rattle.exif_isobmff.proofs.closed.are_closed.Given as goal
+use Rattle.exif_grow_files.specs.Fields.{are_closed}
+use Rattle.exif_grow_files.proofs.closed.are_closed.Given as goal
 
 -- whether the boxes that are left are closed is whether all are
 abbrev pub invariant-loop-rest : goal.invariant-loop-rest

@@ -4,7 +4,7 @@ use Rattle.exif_types.specs.Failures.{Failure}
 use Rattle.exif_types.specs.Refusals.{Refusal, Front, Refuses, refusal_of}
 use Rattle.exif_isobmff.specs.HeifRefusals.{broken_file}
 use Rattle.exif_isobmff.specs.Boxes.{Part, all_boxes, and_then, box_at, sizes_itself}
-use Rattle.exif_isobmff.specs.Entries.{are_closed, closed_box_at, is_none}
+use Rattle.exif_grow_files.specs.Fields.{are_closed, closed_box_at, is_none}
 use Rattle.exif_isobmff.proofs.SplitterBoxes.{Shortens, all_boxes_end, all_boxes_more, box_shorter, when_ok}
 
 closed_shorter : Shortens closed_box_at

@@ -3,8 +3,8 @@ use Rattle.std.proofs.lemmas.Bool.Decides.{nat_tests}
 use Rattle.std.proofs.lemmas.Grind.{common_steps}
 use Rattle.exif_isobmff.specs.Boxes.{sizes_itself, whole_part}
 use Rattle.exif_isobmff.proofs.SplitterBoxes.{box_shorter}
-use Rattle.exif_isobmff.proofs.ClosedBoxes.{closed_done, closed_on, cut_cut, open_cut}
-use Rattle.exif_isobmff.proofs.closed.are_closed.Goals as goal
+use Rattle.exif_grow_files.proofs.ClosedBoxes.{closed_done, closed_on, cut_cut, open_cut}
+use Rattle.exif_grow_files.proofs.closed.are_closed.Goals as goal
 
 pub returns-then-not-sizes_itself : goal.returns-then-not-sizes_itself
 returns-then-not-sizes_itself c =
