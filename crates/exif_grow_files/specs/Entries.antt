@@ -1,5 +1,5 @@
 -- The entry of an item in `iloc`, for an item that is moved (ISO/IEC 14496-12:2015, 8.11.3).
-use Rattle.std.specs.Prelude.{ℕ, ◌+◌, ◌^◌, ◌==◌, ◌&&◌, nat_lt, if◌then◌else◌, List, [], ◌∷◌, ◌++◌, replicate, Result, Ok, Err}
+use Rattle.std.specs.Prelude.{ℕ, ◌^◌, ◌==◌, ◌&&◌, nat_lt, if◌then◌else◌, List, [], ◌∷◌, ◌++◌, replicate, Result, Ok, Err}
 use Rattle.std.specs.Int.{to_be_bytes, w32, w64}
 use Rattle.exif_isobmff.specs.declared.entries.Entry.{Entry}
 use Rattle.exif_isobmff.specs.declared.locations.Sizes.{Sizes}
@@ -29,13 +29,18 @@ number_len version = if version == 2 then 4 else 2
 abbrev pub method_len : ℕ → ℕ
 method_len version = if version == 0 then 2 else 4
 
--- the bytes of an entry behind the item's number, for an item of one extent: it is put together
--- from the file (construction method 0), its data are in it (data reference 0), and its extents
--- are one
+-- what an entry says behind the item's number of an item of one extent, whose base, offset and
+-- length have these bytes: it is put together from the file (construction method 0), its data are in
+-- the file (data reference 0), and it has one extent
+abbrev pub one_extent : Entry → List ℕ → List ℕ → List ℕ → List ℕ
+one_extent e base offset size =
+    replicate (method_len e.version) 0
+    ++ (base ++ ((0 ∷ 1 ∷ []) ++ (replicate e.sizes.index 0 ++ (offset ++ size))))
+
+-- the bytes of an entry behind the item's number, for an item at an offset
 unfoldable pub moved_entry : Entry → ℕ → ℕ → Result (List ℕ) Cause
 moved_entry e from len = do
   base ← field_text e.sizes.base (base_for e.sizes from)
   offset ← field_text e.sizes.offset (offset_for e.sizes from)
   size ← field_text e.sizes.len len
-  Ok (replicate (method_len e.version) 0
-  ++ (base ++ (0 ∷ 1 ∷ [] ++ (replicate e.sizes.index 0 ++ (offset ++ size)))))
+  Ok (one_extent e base offset size)

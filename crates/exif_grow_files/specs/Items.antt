@@ -8,7 +8,7 @@ use Rattle.exif_edit_base.specs.declared.patch.Patch.{Patch}
 use Rattle.exif_edit_files.specs.InFiles.{holds}
 use Rattle.exif_grow.specs.Growing.{Added, grown}
 use Rattle.exif_grow_files.specs.Entries.{moved_entry, number_len}
-use Rattle.exif_grow_files.specs.Refusals.{large, narrow, open, several}
+use Rattle.exif_grow_files.specs.Refusals.{large, narrow, open_ended, several}
 
 -- a box of media data (ISO/IEC 14496-12:2015, 8.1.1) that holds an item
 abbrev pub media_box : List ℕ → List ℕ
@@ -18,6 +18,10 @@ media_box item = to_be_bytes w32 (8 + length item) ++ (codes "mdat" ++ item)
 abbrev pub range_cleared : Bool → Extent → List Patch
 range_cleared true e = record { offset = e.offset; bytes = replicate e.len 0 } ∷ []
 range_cleared false e = []
+
+-- the text of an entry at its offset
+abbrev pub entry_patch : ℕ → List ℕ → Patch
+entry_patch offset text = record { offset = offset; bytes = text }
 
 -- what moves an item out of a range: a patch of its entry, and a box that holds it
 abbrev pub item_added : Bool → Extent → Patch → List ℕ → Added
@@ -55,13 +59,17 @@ item_moved file new fields range =
       text ← moved_entry fields.entry (length file + 8) (length item)
       past ← unless (nat_lt (length file) (offset + length text)) shared
       out ← unless (nat_lt (length file) (range.offset + range.len)) shared
-      let entry = record { offset = offset; bytes = text }
+      let entry = entry_patch offset text
       first_held file new (item_added true range entry item) (item_added false range entry item)
 
 -- what makes a file hold new Exif data, or why that is refused
 unfoldable pub item_growth : List ℕ → List ℕ → Result Added Cause
 item_growth file new = do
   fields ← of_container (item_fields file)
-  ended ← unless (not (are_closed file)) open
+  ended ← unless (not (are_closed file)) open_ended
   range ← one_range fields.ranges
   item_moved file new fields range
+
+-- the file with it
+unfoldable pub item_grown : List ℕ → List ℕ → Result (List ℕ) Cause
+item_grown file new = item_growth file new >>= λ a. Ok (grown a file)

@@ -1,4 +1,5 @@
 pub mod Entries
+pub mod Examples
 pub mod Fields
 pub mod Items
 pub mod Promises

@@ -1,6 +1,6 @@
 -- Why an item is not moved.
 use Rattle.std.specs.Prelude.{codes}
-use Rattle.exif_types.specs.Refusals.{Refusal, not_supported, too_big}
+use Rattle.exif_types.specs.Refusals.{not_supported, too_big}
 use Rattle.exif_edit_base.specs.Causes.{Cause, no_data}
 
 -- a field of `iloc` has too few bytes for its new number
@@ -12,8 +12,8 @@ abbrev pub several : Cause
 several = no_data (not_supported (codes "Exif item in several extents"))
 
 -- the last box runs to the end of the file or past it, and what is appended would be its own
-abbrev pub open : Cause
-open = no_data (not_supported (codes "Last box of the file has no end"))
+abbrev pub open_ended : Cause
+open_ended = no_data (not_supported (codes "Last box of the file has no end"))
 
 -- the item would have more bytes than are read
 abbrev pub large : Cause

@@ -5,7 +5,8 @@ ghost use Rattle.exif_types.specs.Refusals.{Gives, is_io};
 ghost use Rattle.exif_grow_files.specs.Fields.{fields_view, item_fields};
 
 use exif_isobmff::{
-    Entry, Extent, after_header, entry_offset, exif_entry, find_exif, item_bytes, item_ranges, meta_of,
+    Entry, Extent, after_header, entry_offset, exif_entry, find_exif, item_bytes, item_ranges,
+    meta_of,
 };
 use exif_types::Error;
 use std::alloc::Global;

@@ -1,12 +1,12 @@
 //! A HEIF file with new Exif data, whose item is appended.
 
-ghost use Rattle.std.specs.Prelude.{◌≡◌, ◌≤◌, ◌+◌, ◌++◌, ◌∷◌, [], nat_lt, All, length, IfOk};
+ghost use Rattle.std.specs.Prelude.{◌≡◌, ◌≤◌, ◌+◌, ◌++◌, ◌∷◌, [], All, length, IfOk};
 ghost use Rattle.exif_edit_base.specs.Causes.{Makes};
 ghost use Rattle.exif_edit_base.specs.Patches.{FitsIn};
 ghost use Rattle.exif_edit_files.specs.InFiles.{holds};
 ghost use Rattle.exif_grow.specs.Growing.{added_of, grown};
 ghost use Rattle.exif_grow_files.specs.Fields.{fields_view};
-ghost use Rattle.exif_grow_files.specs.Items.{first_held, item_added, item_growth, item_moved, media_box, one_range, range_cleared};
+ghost use Rattle.exif_grow_files.specs.Items.{first_held, item_added, item_grown, item_growth, item_moved, media_box, one_range, range_cleared};
 ghost use Rattle.exif_grow_files.specs.Promises.{IsItemMoved};
 
 use crate::closed::are_closed;
@@ -91,13 +91,6 @@ fn first_held(
     Err(Error::SharedBytes)
 }
 
-// Whether so many bytes at an offset end past the end of a file.
-fn ends_past(total: usize, offset: u64, len: u64) -> bool
-    ensures { result ≡ nat_lt total (offset + len) }
-{
-    (total as u128) < offset as u128 + len as u128
-}
-
 // What moves an item out of a range of the file.
 fn item_moved(
     alloc: Global,
@@ -116,16 +109,15 @@ fn item_moved(
     };
     let header = fields.header.as_slice();
     if header.len() as u128 + new.len() as u128 > MAX_EXIF_SIZE as u128 {
-        return Err(Error::Container(exif_types::Error::TooBig(
-            "Exif item over 65,535 bytes",
-        )));
+        return Err(Error::Container(exif_types::Error::TooBig("Exif item over 65,535 bytes")));
     }
     let len = (header.len() + new.len()) as u64;
     let text = moved_entry(alloc, fields.entry, from, len)?;
     let before = number_len(fields.entry.version);
-    if ends_past(file.len(), fields.offset, before + text.len() as u64)
-        || ends_past(file.len(), range.offset, range.len)
-    {
+    if (file.len() as u128) < fields.offset as u128 + before as u128 + text.len() as u128 {
+        return Err(Error::SharedBytes);
+    }
+    if (file.len() as u128) < range.offset as u128 + range.len as u128 {
         return Err(Error::SharedBytes);
     }
     let offset = fields.offset + before;
@@ -146,9 +138,7 @@ fn one_range(ranges: &[Extent]) -> Result<Extent, Error>
 {
     match ranges {
         [range] => Ok(*range),
-        _ => Err(Error::Container(exif_types::Error::NotSupported(
-            "Exif item in several extents",
-        ))),
+        _ => Err(Error::Container(exif_types::Error::NotSupported("Exif item in several extents"))),
     }
 }
 
@@ -177,4 +167,13 @@ pub fn grow_item(alloc: Global, file: &[u8], new: &[u8]) -> Result<Growth, Error
     }
     let range = one_range(fields.ranges.as_slice())?;
     item_moved(alloc, file, new, &fields, range)
+}
+
+/// A HEIF file with new Exif data of any length, as [`grow_item`] makes it, with its refusals.
+pub fn with_data(alloc: Global, file: &[u8], new: &[u8]) -> Result<Vec<u8>, Error>
+    ensures answer { Makes (λ v. v.items) result (item_grown file.now new.now) }
+    ensures moved { IfOk result (λ v. IsItemMoved file.now new.now v.items) }
+{
+    let growth = grow_item(alloc, file, new)?;
+    Ok(grown(alloc, &growth, file)?)
 }

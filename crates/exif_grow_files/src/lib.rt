@@ -2,12 +2,12 @@
 //! moves.
 //!
 //! [`grow_item`] answers what makes a file hold new Exif data: patches over its bytes, and a box that
-//! follows them. A program that writes into a file appends the box first.
+//! follows them; [`with_data`] answers the new file. A program that writes into a file appends the box
+//! first.
 //!
 //! ```
 //! let data = set_fields(alloc, old, fields)?;
-//! let growth = grow_item(alloc, file, data.as_slice())?;
-//! let new = grown(alloc, &growth, file)?;
+//! let new = with_data(alloc, file, data.as_slice())?;
 //! ```
 #![tactic(auto)]
 
@@ -17,4 +17,4 @@ mod fields;
 mod item;
 
 pub use exif_grow::{Error, Growth, grown};
-pub use item::grow_item;
+pub use item::{grow_item, with_data};
