@@ -145,8 +145,8 @@ fn one_range(ranges: &[Extent]) -> Result<Extent, Error>
 /// What makes a HEIF file hold new Exif data, of any length: the item that holds them is put into a
 /// media data box (`mdat`) that follows the file, with the bytes that were before its data, and its
 /// entry in `iloc` says so. The item is one of the file then (construction method 0), and has one
-/// extent. Its old bytes become zeros, unless the file would hold other data then. No other byte of
-/// the file changes, and none moves.
+/// extent. Its old bytes become zeros, unless the file would hold other data then; another item that
+/// has some of these bytes loses them. No other byte of the file changes, and none moves.
 ///
 /// Refusals are `Container`, with the refusal of the file, or `NotSupported` where the item has
 /// several extents, where a field of `iloc` is too narrow for the new offset or length, and where the
