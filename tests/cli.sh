@@ -143,8 +143,11 @@ check "the thumbnail is there" test "$(wc -c <work/thumbnail.jpg)" = 4
 gives "and to a TIFF file" 0 "$mexaldor" set -i work/whole.tif "ImageDescription=A text that is longer than the old one was"
 "$mexaldor" show work/whole.tif >out
 holds "which has the longer text" "longer than the old one"
-gives "a longer text does not fit a HEIF file" 1 "$mexaldor" set -i work/whole.heic "ImageDescription=A text that is longer than the old one was"
-says "the message says why" "too long"
+gives "and to a HEIF file" 0 "$mexaldor" set -i work/whole.heic "ImageDescription=A text that is longer than the old one was"
+"$mexaldor" show work/whole.heic >out
+holds "which has the longer text, too" "longer than the old one"
+gives "an Exif item has an end" 1 "$mexaldor" set -i work/whole.heic "ImageDescription=$(printf %070000d 0)"
+says "the message says so" "Exif item over 65,535 bytes"
 gives "a JPEG segment has an end" 1 "$mexaldor" set -i work/whole.jpg "ImageDescription=$(printf %070000d 0)" Orientation=1 Artist=A
 says "the message names the field" "ImageDescription is too long: the Exif data of a JPEG file have at most 65,527 bytes"
 gives "a picture without data gets some" 0 "$mexaldor" set -i work/plain.jpg work/plain.webp Artist=Somebody "DateTimeOriginal=2024-05-01T12:30:00" ExposureTime=1/125 FNumber=2.8

@@ -91,9 +91,10 @@ if has exiv2; then
 fi
 
 # others FILE TAG: what exiftool reads of a file, and the thumbnail itself, but for one tag, the size and
-# the thumbnail's offset in the file. A rewritten WebP file has its Exif data last.
+# the thumbnail's offset in the file, and where the last media data box of a HEIF file is. A rewritten WebP
+# file has its Exif data last.
 others() {
-    seen "$1" 2>/dev/null | grep -v -e "FileSize" -e "ThumbnailOffset" -e "MPImageStart" -e "MPImageLength" -e "MPF" -e "^\[[A-Za-z0-9]*\] *$2 " | sort
+    seen "$1" 2>/dev/null | grep -v -e "FileSize" -e "ThumbnailOffset" -e "MPImageStart" -e "MPImageLength" -e "MPF" -e "MediaData" -e "^\[[A-Za-z0-9]*\] *$2 " | sort
     exiftool -b -ThumbnailImage "$1" 2>/dev/null | cksum
 }
 
@@ -214,6 +215,31 @@ if has djpeg; then
     djpeg work/rich.jpg >old
     djpeg work/new.jpg >new
     check "djpeg gives the same pixels" cmp old new
+fi
+
+# HEIC and AVIF files, whose item is moved behind the file, and once more.
+if has heif-enc heif-convert; then
+    heif-enc work/all.jpg -o work/all.heic >/dev/null 2>&1
+    heif-enc -A work/all.jpg -o work/all.avif >/dev/null 2>&1
+    for file in work/all.heic work/all.avif; do
+        if [ ! -s "$file" ]; then
+            echo "skipped, heif-enc has no encoder for $file"
+            continue
+        fi
+        new=work/new.${file##*.}
+        for tag in ImageDescription Artist LensMake; do
+            grows "$file" "$tag" "$long about $tag"
+            heif-convert "$file" old.y4m >/dev/null 2>&1
+            heif-convert "$new" new.y4m >/dev/null 2>&1
+            check "$file: heif-convert gives the same pixels behind $tag" cmp old.y4m new.y4m
+        done
+        "$mexaldor" set "$file" work/once.heic "Artist=$long"
+        "$mexaldor" set work/once.heic "$new" "Artist=$long, twice" "LensMake=$long"
+        check "$file: a value that has grown grows again" test "$(exiftool -s3 -Artist "$new")" = "$long, twice"
+        others "$file" "[A-Z][a-z]*\(Make\|st\)" >old
+        others "$new" "[A-Z][a-z]*\(Make\|st\)" >new
+        check "$file: and all else is as before" cmp old new
+    done
 fi
 
 ends

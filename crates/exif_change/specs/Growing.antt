@@ -11,6 +11,7 @@ use Rattle.exif_edit_base.specs.Causes.{Cause}
 use Rattle.exif_layout.specs.Image.{image}
 use Rattle.exif_layout.specs.Rewriting.{pushed_all}
 use Rattle.exif_grow.specs.Setting.{fields_grown}
+use Rattle.exif_grow_files.specs.Items.{item_grown}
 use Rattle.exif_change.specs.Changes.{IsRewritten}
 
 -- whether the Exif data of a file of this format can become longer
@@ -18,7 +19,7 @@ abbrev pub can_grow : Option Format → Bool
 can_grow (Some Tiff) = true
 can_grow (Some Jpeg) = true
 can_grow (Some WebP) = true
-can_grow (Some Heif) = false
+can_grow (Some Heif) = true
 can_grow None = false
 
 -- new Exif data that hold these fields alone, big endian
@@ -36,7 +37,7 @@ abbrev pub IsReplacedIn : Option Format → ℕ → List ℕ → List ℕ → Li
 IsReplacedIn (Some Tiff) n data' old out = out ≡ data'
 IsReplacedIn (Some Jpeg) n data' old out = IsPutInto n data' old out
 IsReplacedIn (Some WebP) n data' old out = IsPutInto n data' old out
-IsReplacedIn (Some Heif) n data' old out = ⊥
+IsReplacedIn (Some Heif) n data' old out = item_grown old data' ≡ Ok out
 IsReplacedIn None n data' old out = ⊥
 
 -- the same with Exif data that have grown, unless their growth is refused

@@ -15,6 +15,7 @@ use exif::{Counted, Error, Field, Tag};
 use exif_containers::container::Format;
 use exif_containers::exif_attr_of_stream;
 use exif_grow::set_fields;
+use exif_grow_files::with_data;
 use exif_rewrite::{Remove, rewrite};
 use std::alloc::Global;
 
@@ -25,7 +26,10 @@ const SHORTEST_BLOCK: usize = 8;
 pub fn can_grow(format: Format) -> bool
     ensures { result ≡ can_grow (Some format) }
 {
-    matches!(format, Format::Tiff | Format::Jpeg | Format::WebP)
+    matches!(
+        format,
+        Format::Tiff | Format::Jpeg | Format::WebP | Format::Heif
+    )
 }
 
 /// The file with fields set in its Exif data by [`set_fields`], or in new Exif data if it has none.
@@ -65,7 +69,7 @@ fn replaced(
     match format {
         Format::Tiff => Ok(exif),
         Format::Jpeg | Format::WebP => { put_alone(alloc, file, old_len, exif.as_slice(), fields) }
-        Format::Heif => Err(Refusal::Editing(exif_edit::Error::ValueTooLong)),
+        Format::Heif => Ok(with_data(alloc, file, exif.as_slice())?),
     }
 }
 

@@ -15,8 +15,8 @@ use std::alloc::Global;
 
 /// The file with values set. A value that fits is written over the old one; another one, or a new
 /// field, is appended to the Exif data, in which no old byte moves: maker notes, previews and
-/// thumbnails keep their offsets. JPEG and WebP files that have no Exif data get new ones; those of
-/// HEIF files cannot become longer. Of two values of one tag the last is set. A field that the file
+/// thumbnails keep their offsets. Those of a HEIF file are then put behind the file. JPEG and WebP
+/// files that have no Exif data get new ones; HEIF files without them are refused. Of two values of one tag the last is set. A field that the file
 /// has keeps its type; one that it lacks has the type of the standard.
 ///
 /// It takes the memory of the file, of the new one, and of what

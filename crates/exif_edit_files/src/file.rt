@@ -30,8 +30,8 @@ fn locate(alloc: Global, file: &[u8]) -> Result<Located, Error>
     }
 }
 
-// Whether a file holds these data.
-fn holds(alloc: Global, file: &[u8], bytes: &[u8]) -> Result<bool, AllocError>
+/// Whether a file in memory holds exactly these Exif data; data that are refused are none.
+pub fn holds(alloc: Global, file: &[u8], bytes: &[u8]) -> Result<bool, AllocError>
     ensures { IfOk result (λ held. held ≡ holds file.now bytes.now) }
 {
     match exif_attr_of_stream(alloc, &mut Counted::new(file)) {

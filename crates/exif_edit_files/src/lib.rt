@@ -20,5 +20,5 @@ mod source;
 mod spread;
 
 pub use exif_edit::{Edit, Error, Patch};
-pub use file::apply_in_file;
+pub use file::{apply_in_file, holds};
 pub use source::patches_in;

@@ -1,7 +1,7 @@
 -- Where the first `meta` of a file is: what comes before its body, the body, and what follows.
-use Rattle.std.proofs.Common.{◌≡◌, ℕ, zero, suc, ◌-◌, ◌<◌, ◌≤◌, Bool, true, false, cond, leb, ltb, eqb, List, [], ◌∷◌, ◌++◌, length, take, drop, Result, Ok, Err, ap, sym, ◌∙◌, refl, arith, append_assoc}
+use Rattle.std.proofs.Common.{◌≡◌, ℕ, zero, suc, ◌<◌, ◌≤◌, Bool, true, false, cond, leb, ltb, List, [], ◌∷◌, ◌++◌, length, take, drop, Ok, Err, ap, sym, ◌∙◌, refl, arith, append_assoc}
 use Rattle.std.proofs.lemmas.List.{take-append-drop}
-use Rattle.exif_types.specs.Refusals.{Refusal, ◌>>=◌, Front}
+use Rattle.exif_types.specs.Refusals.{Refusal, Front}
 use Rattle.exif_isobmff.specs.declared.kind.Kind.{Kind}
 use Rattle.exif_isobmff.specs.declared.kind.Kind.TheVariants.{FileType, Meta, ItemData, ItemInfo, ItemInfoEntry, ItemLocation, Other}
 use Rattle.exif_isobmff.specs.HeifRefusals.{broken_file, meta_before_ftyp}

@@ -4,19 +4,18 @@ use Rattle.std.specs.List.{All}
 use Rattle.std.specs.Io.Iter.{u64_saturate}
 use Rattle.std.proofs.Math.Nat.{min-eq_left, min-le_right}
 use Rattle.std.proofs.Math.Seq.{drop-append-add, take-length}
-use Rattle.std.proofs.lemmas.Bool.{cases_lt, leb-false, lt-ltb, le-ltb, ltb-false, eq-eqb}
-use Rattle.std.proofs.lemmas.Bool.Decides.{nat_tests}
+use Rattle.std.proofs.lemmas.Bool.{cases_lt, leb-false, lt-ltb, le-ltb, ltb-false}
 use Rattle.std.proofs.lemmas.List.{append-nil, drop-append-le, drop-drop, drop-take, length-take, length-take-le}
 use Rattle.std.proofs.lemmas.List.Elements.{All-cons, All-head, All-nil, All-tail}
 use Rattle.exif_base.specs.Bytes.{bytes_at}
-use Rattle.exif_types.specs.Refusals.{Refusal, ◌>>=◌}
+use Rattle.exif_types.specs.Refusals.{Refusal}
 use Rattle.exif_isobmff.specs.HeifRefusals.{broken_file, data_too_large, invalid_length, invalid_offset, out_of_idat}
 use Rattle.exif_isobmff.specs.ItemLocations.{extent_bytes, file_extent, gathered, idat_extent}
 use Rattle.exif_isobmff.specs.declared.extents.Within.{Within}
 use Rattle.exif_isobmff.specs.declared.extents.Within.TheVariants.{File, ItemDataBox}
 use Rattle.exif_isobmff.proofs.SplitterBoxes.{bind_ok}
 use Rattle.exif_isobmff.specs.declared.locations.Extent.{Extent}
-use Rattle.exif_isobmff.specs.Extents.{range_bytes, joined_bytes, without_first, range_of, moved_by, IsWhole}
+use Rattle.exif_isobmff.specs.Extents.{range_bytes, joined_bytes, without_first, range_of, IsWhole}
 
 -- the end of a range
 range-end : (file : List ℕ) (offset len n : ℕ) → n ≤ len → drop n (bytes_at len file offset) ≡ bytes_at (len - n) file (offset + n)

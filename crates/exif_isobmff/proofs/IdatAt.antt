@@ -1,15 +1,15 @@
 -- The body of the last `idat` of a `meta` is at its offset.
-use Rattle.std.proofs.Common.{◌≡◌, ℕ, zero, suc, ◌<◌, ◌≤◌, Bool, true, false, cond, leb, ltb, List, [], ◌∷◌, ◌++◌, length, map, take, drop, Option, None, Some, Result, Ok, Err, ap, sym, ◌∙◌, refl, subst, arith, append_assoc}
-use Rattle.std.specs.List.{filter, last_or}
+use Rattle.std.proofs.Common.{◌≡◌, ℕ, zero, suc, ◌<◌, ◌≤◌, Bool, true, false, cond, leb, ltb, List, [], ◌∷◌, ◌++◌, length, take, drop, Option, None, Some, Ok, Err, ap, sym, ◌∙◌, refl, subst, arith, append_assoc}
+use Rattle.std.specs.List.{last_or}
 use Rattle.std.proofs.lemmas.List.{take-append-drop}
-use Rattle.exif_types.specs.Refusals.{Refusal, Front, ◌>>=◌}
+use Rattle.exif_types.specs.Refusals.{Front}
 use Rattle.exif_isobmff.specs.declared.kind.Kind.TheVariants.{ItemData}
 use Rattle.exif_isobmff.specs.HeifRefusals.{too_small}
 use Rattle.exif_isobmff.specs.Kinds.{same_kind}
-use Rattle.exif_isobmff.specs.Boxes.{Part, Parts, all_boxes, and_then, before, bodies, box_at, bytes_at, children, header_at, header_len, whole_part}
-use Rattle.exif_isobmff.specs.Extents.{behind_idat}
-use Rattle.exif_isobmff.proofs.SplitterBoxes.{all_boxes_end, all_boxes_more, bind_ok, box_shorter, header_rest, ok_same, unless_ok, when_ok}
-use Rattle.exif_isobmff.proofs.BehindIdat.{idat_went_on, step-of}
+use Rattle.exif_isobmff.specs.Boxes.{Part, Parts, all_boxes, and_then, before, bodies, box_at, bytes_at, children, header_at, header_len}
+use Rattle.exif_isobmff.specs.Extents.{behind_last}
+use Rattle.exif_isobmff.proofs.SplitterBoxes.{all_boxes_end, all_boxes_more, bind_ok, box_shorter, header_rest, ok_same, when_ok}
+use Rattle.exif_isobmff.proofs.BehindLast.{last_went_on, step-of}
 use Rattle.exif_isobmff.proofs.BehindMeta.{IsAt}
 
 -- a body, if there is one, and what follows it end the bytes
@@ -64,29 +64,29 @@ behind-box pre text p rest parts =
 
 -- one box more
 at-step : (all pre text : List ℕ) (f : Option (List ℕ)) (g : List ℕ) (r : Front Part) → 0 < length text → box_at text ≡ r → all ≡ pre ++ text → MayBeAt all f g
-    → ((pre rest : List ℕ) (f : Option (List ℕ)) (g : List ℕ) → length rest < length text → all ≡ pre ++ rest → MayBeAt all f g → MayBeAt all (last_or f (bodies ItemData (children rest))) (behind_idat g rest))
-    → MayBeAt all (last_or f (bodies ItemData (children text))) (behind_idat g text)
+    → ((pre rest : List ℕ) (f : Option (List ℕ)) (g : List ℕ) → length rest < length text → all ≡ pre ++ rest → MayBeAt all f g → MayBeAt all (last_or f (bodies ItemData (children rest))) (behind_last ItemData g rest))
+    → MayBeAt all (last_or f (bodies ItemData (children text))) (behind_last ItemData g text)
 at-step all pre text f g (Ok p) some e whole h ih =
     let parts = box-parts text p.0 p.1 e in
     let more : children text ≡ before p.0 (children p.1) = all_boxes_more box_at box_shorter text some ∙ ap (λ b. and_then b (all_boxes box_at)) e in
     let bodies-same : last_or f (bodies ItemData (children text)) ≡ last_or (last-with f p.0) (bodies ItemData (children p.1)) =
     ap (λ ps. last_or f (bodies ItemData ps)) more ∙ last-before f p.0 (children p.1) in
-    let behind-same = idat_went_on g text p.1 p.0 some e in
-    subst (λ o. MayBeAt all o (behind_idat g text)) (sym bodies-same)
+    let behind-same = last_went_on ItemData g text p.1 p.0 some e in
+    subst (λ o. MayBeAt all o (behind_last ItemData g text)) (sym bodies-same)
     (subst (λ t. MayBeAt all (last_or (last-with f p.0) (bodies ItemData (children p.1))) t) (sym behind-same)
     (ih (pre ++ (parts.0 ++ p.0.body)) p.1 (last-with f p.0) (cond (same_kind ItemData p.0.kind) p.1 g) (box_shorter text p.0 p.1 e)
     (whole ∙ behind-box pre text p.0 p.1 parts) (with-box (same_kind ItemData p.0.kind) all pre text p.1 p.0 f g whole parts h)))
 at-step all pre text f g (Err r) some e whole h ih =
     let none = all_boxes_more box_at box_shorter text some ∙ ap (λ b. and_then b (all_boxes box_at)) e in
-    subst (λ o. MayBeAt all o (behind_idat g text)) (sym (ap (λ ps. last_or f (bodies ItemData ps)) none))
+    subst (λ o. MayBeAt all o (behind_last ItemData g text)) (sym (ap (λ ps. last_or f (bodies ItemData ps)) none))
     (subst (λ t. MayBeAt all f t) (sym (cut text some e)) h)
   where
-    cut : (text : List ℕ) → 0 < length text → box_at text ≡ Err r → behind_idat g text ≡ g
+    cut : (text : List ℕ) → 0 < length text → box_at text ≡ Err r → behind_last ItemData g text ≡ g
     cut [] some e = absurd (omega arith)
-    cut (b ∷ text) some e = ap (λ q. step-of (length text) g q) e
+    cut (b ∷ text) some e = ap (λ q. step-of ItemData (length text) g q) e
 
 at-boxes : (n : ℕ) (all pre text : List ℕ) (f : Option (List ℕ)) (g : List ℕ) → length text ≤ n → all ≡ pre ++ text → MayBeAt all f g
-    → MayBeAt all (last_or f (bodies ItemData (children text))) (behind_idat g text)
+    → MayBeAt all (last_or f (bodies ItemData (children text))) (behind_last ItemData g text)
 at-boxes n all pre [] f g le whole h =
     rw (all_boxes_end box_at [] refl) h
 at-boxes zero all pre (b ∷ text) f g le whole h = absurd (omega arith)
@@ -94,5 +94,5 @@ at-boxes (suc n) all pre (b ∷ text) f g le whole h =
     at-step all pre (b ∷ text) f g (box_at (b ∷ text)) (omega arith) refl whole h (λ pre rest f g lt w k. at-boxes n all pre rest f g (omega arith) w k)
 
 -- the last `idat` among boxes is at its offset
-pub idat_is_at : (all pre text : List ℕ) → all ≡ pre ++ text → MayBeAt all (last_or None (bodies ItemData (children text))) (behind_idat [] text)
+pub idat_is_at : (all pre text : List ℕ) → all ≡ pre ++ text → MayBeAt all (last_or None (bodies ItemData (children text))) (behind_last ItemData [] text)
 idat_is_at all pre text whole = at-boxes (length text) all pre text None [] (omega arith) whole tt

@@ -1,28 +1,27 @@
 -- The Exif data of a file are the bytes of its ranges.
-use Rattle.std.proofs.Common.{◌≡◌, ℕ, zero, suc, ◌^◌, ◌+◌, ◌-◌, ◌<◌, ◌≤◌, ◌⊎◌, inl, inr, Bool, true, false, cond, eqb, ltb, List, [], ◌∷◌, ◌++◌, length, map, take, drop, Option, None, Some, Result, Ok, Err, ap, sym, ◌∙◌, refl, subst, arith, append_assoc, length-append, length-drop, slice_index, take-append-drop, ltb-false, unwrap_or}
+use Rattle.std.proofs.Common.{◌≡◌, ℕ, ◌^◌, ◌+◌, ◌-◌, ◌<◌, ◌≤◌, ◌⊎◌, inl, inr, Bool, true, false, cond, eqb, ltb, List, [], ◌∷◌, ◌++◌, length, map, take, drop, Option, None, Some, Result, Ok, Err, ap, sym, ◌∙◌, refl, subst, arith, append_assoc, length-append, length-drop, slice_index, take-append-drop, ltb-false, unwrap_or}
 use Rattle.std.specs.List.{All, last_or}
 use Rattle.std.specs.Io.Iter.{u64_saturate}
 use Rattle.std.proofs.Math.Seq.{drop-append-add}
 use Rattle.std.proofs.lemmas.Bool.{cases_lt}
 use Rattle.std.proofs.lemmas.List.{drop-append-le, take-append-le}
 use Rattle.std.proofs.lemmas.List.Elements.{All-cons, All-head, All-nil, All-tail}
-use Rattle.exif_base.specs.Bytes.{bytes_at}
 use Rattle.byteorder.specs.Endian.{big_number}
 use Rattle.exif_types.specs.Refusals.{Refusal, ◌>>=◌, last_read, or_refuse}
-use Rattle.exif_isobmff.specs.declared.kind.Kind.TheVariants.{ItemData, ItemInfo, ItemLocation}
+use Rattle.exif_isobmff.specs.declared.kind.Kind.TheVariants.{ItemData, ItemInfo}
 use Rattle.exif_isobmff.specs.declared.extents.Within.TheVariants.{File, ItemDataBox}
 use Rattle.exif_isobmff.specs.declared.locations.Extent.{Extent}
 use Rattle.exif_isobmff.specs.HeifRefusals.{block_too_small, by_item_offset, invalid_header_offset, invalid_method, no_exif, no_iloc, no_idat, no_matching_item, too_small, unsupported_meta}
 use Rattle.exif_isobmff.specs.Boxes.{bodies, children, read_each, version_at}
 use Rattle.exif_isobmff.specs.Items.{exif_numbers}
 use Rattle.exif_isobmff.specs.HeifFile.{meta_body}
-use Rattle.exif_isobmff.specs.ItemLocations.{ItemExtents, extent_bytes, gathered, item_bytes, locations}
+use Rattle.exif_isobmff.specs.ItemLocations.{extent_bytes, gathered, item_bytes, locations}
 use Rattle.exif_isobmff.specs.Heif.{FoundItem, Tables, after_header, exif_block, exif_of, exif_item, meta_tables, tables_of}
-use Rattle.exif_isobmff.specs.Extents.{ExifIsLocated, IsLocated, IsWhole, Located, behind_idat, behind_meta, idat_offset, item_ranges, joined_bytes, located_exif, located_in, meta_end, moved_by, range_beside, range_bytes, range_of, ranges_with, without_first}
+use Rattle.exif_isobmff.specs.Extents.{ExifIsLocated, IsLocated, IsWhole, behind_last, behind_meta, idat_offset, item_ranges, joined_bytes, located_exif, located_in, meta_end, moved_by, range_beside, range_bytes, range_of}
 use Rattle.exif_isobmff.proofs.ExifNames.{Only, after_header_only, exif_item_only, item_bytes_only, meta_body_only, only_then}
 use Rattle.exif_isobmff.proofs.SplitterBoxes.{bind_ok, ok_same}
 use Rattle.exif_isobmff.proofs.BehindMeta.{IsAt, meta_is_at}
-use Rattle.exif_isobmff.proofs.IdatAt.{MayBeAt, idat_is_at}
+use Rattle.exif_isobmff.proofs.IdatAt.{idat_is_at}
 use Rattle.exif_isobmff.proofs.ExtentRanges.{AreRanges, gathered_ranges, range_fits, small, without_first_bytes, without_first_whole}
 
 -- ---- the ranges of an `idat`
@@ -94,7 +93,7 @@ item-idat meta found e =
     let matched = bind_ok (or_refuse all.0 no_matching_item) _ found all.2 in
     sym (ap (λ f. f.idat) (ok_same matched.2)) ∙ tables-idat meta t.0 t.1
 
-idat-in : (meta idat : List ℕ) (found : FoundItem) → exif_item meta ≡ Ok found → found.idat ≡ Some idat → IsAt meta idat (behind_idat [] (drop 4 meta))
+idat-in : (meta idat : List ℕ) (found : FoundItem) → exif_item meta ≡ Ok found → found.idat ≡ Some idat → IsAt meta idat (behind_last ItemData [] (drop 4 meta))
 idat-in meta idat found e some =
     let all : take 4 meta ++ drop 4 meta ≡ meta = take-append-drop 4 meta in
     let at = idat_is_at meta (take 4 meta) (drop 4 meta) (sym all) in
@@ -112,7 +111,7 @@ idat-in-file file meta idat found m e some =
     let a = meta_is_at file meta m in
     let b = idat-in meta idat found e some in
     let bm : List ℕ = behind_meta file in
-    let bi : List ℕ = behind_idat [] (drop 4 meta) in
+    let bi : List ℕ = behind_last ItemData [] (drop 4 meta) in
     let la : length file ≡ length a.front + (length meta + length bm) =
     ap length a.whole ∙ length-append a.front (meta ++ bm) ∙ ap (λ n. length a.front + n) (length-append meta bm) in
     let lb : length meta ≡ length b.front + (length idat + length bi) =

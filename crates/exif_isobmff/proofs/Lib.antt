@@ -1,5 +1,6 @@
-pub mod BehindIdat
+pub mod BehindLast
 pub mod BehindMeta
+pub mod EntryTimes
 pub mod ExifNames
 pub mod ExtentRanges
 pub mod FileBoxes

@@ -1,12 +1,12 @@
 -- Where the bytes of an item are in a file: ranges, each an offset and a length (ISO/IEC
 -- 14496-12:2015, 8.11.3).
-use Rattle.std.specs.Prelude.{◌≡◌, ℕ, zero, suc, ◌+◌, ◌-◌, ◌^◌, ◌==◌, ◌<◌, nat_lt, if◌then◌else◌, List, [], ◌∷◌, ◌++◌, length, drop, map, Option, None, Some, unwrap_or, Result, Ok, Err}
+use Rattle.std.specs.Prelude.{◌≡◌, ℕ, zero, suc, ◌+◌, ◌-◌, ◌^◌, ◌==◌, ◌<◌, nat_lt, if◌then◌else◌, List, [], ◌∷◌, ◌++◌, length, drop, map, unwrap_or, Result, Ok, Err}
 use Rattle.std.specs.List.{All}
 use Rattle.std.specs.Io.Iter.{u64_saturate}
-use Rattle.byteorder.specs.Endian.{big_number}
 use Rattle.exif_base.specs.Bytes.{bytes_at}
 use Rattle.exif_types.specs.Refusals.{Refusal, Front, ◌>>=◌}
 use Rattle.exif_isobmff.specs.declared.locations.Extent.{Extent}
+use Rattle.exif_isobmff.specs.declared.kind.Kind.{Kind}
 use Rattle.exif_isobmff.specs.declared.kind.Kind.TheVariants.{ItemData}
 use Rattle.exif_isobmff.specs.Boxes.{Part, box_at}
 use Rattle.exif_isobmff.specs.Kinds.{same_kind}
@@ -69,19 +69,19 @@ behind_within (suc n) (b ∷ file) = behind_this (file_box_at (b ∷ file)) (beh
 abbrev pub behind_meta : List ℕ → List ℕ
 behind_meta file = behind_within (length file) file
 
--- what follows the last `idat` among at most n boxes, or followed one before
-abbrev pub behind_last : ℕ → List ℕ → List ℕ → List ℕ
-behind_last zero found text = found
-behind_last (suc n) found [] = found
-behind_last (suc n) found (b ∷ text) =
+-- what follows the last box of a type among at most n boxes, or followed one before
+abbrev pub last_within : Kind → ℕ → List ℕ → List ℕ → List ℕ
+last_within kind zero found text = found
+last_within kind (suc n) found [] = found
+last_within kind (suc n) found (b ∷ text) =
     elim (box_at (b ∷ text)) [
-      | Ok p ↦ behind_last n (if same_kind ItemData p.0.kind then p.1 else found) p.1
+      | Ok p ↦ last_within kind n (if same_kind kind p.0.kind then p.1 else found) p.1
       | Err r ↦ found
     ]
 
--- what follows the last `idat` among boxes; each has a byte
-abbrev pub behind_idat : List ℕ → List ℕ → List ℕ
-behind_idat found text = behind_last (length text) found text
+-- what follows the last box of a type among boxes; each has a byte
+abbrev pub behind_last : Kind → List ℕ → List ℕ → List ℕ
+behind_last kind found text = last_within kind (length text) found text
 
 -- ---- the ranges of the Exif data
 
@@ -91,7 +91,7 @@ meta_end file = length file - length (behind_meta file)
 
 -- the offset of the body of the last `idat` of a `meta` that ends at an offset
 abbrev pub idat_offset : ℕ → List ℕ → List ℕ → ℕ
-idat_offset end meta idat = end - length (behind_idat [] (drop 4 meta)) - length idat
+idat_offset end meta idat = end - length (behind_last ItemData [] (drop 4 meta)) - length idat
 
 -- the range of an extent of the `idat` whose body is at an offset
 abbrev pub range_beside : ℕ → List ℕ → ℕ → Extent → Extent

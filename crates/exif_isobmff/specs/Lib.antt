@@ -1,5 +1,6 @@
 pub mod BoxGrammar
 pub mod Boxes
+pub mod Entries
 pub mod Extents
 pub mod FileBoxView
 pub mod FileGrammar

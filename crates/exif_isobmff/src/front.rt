@@ -9,8 +9,8 @@ use crate::file::{Meta, pass};
 use crate::{BoxSplitter, Header, Kind};
 use byteorder::{BigEndian, ByteOrder};
 
-// Whether a box says its size, and does not run to the end of the file.
-fn sizes_itself(bytes: &[u8]) -> bool
+/// Whether a box says its size, and does not run to the end of the file.
+pub fn sizes_itself(bytes: &[u8]) -> bool
     ensures { result ≡ sizes_itself bytes.now }
 {
     bytes.len() >= 4 && BigEndian::read_u32(bytes) != 0

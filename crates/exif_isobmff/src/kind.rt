@@ -1,7 +1,7 @@
 //! The types of boxes that are read.
 
 ghost use Rattle.std.specs.Prelude.{◌≡◌};
-ghost use Rattle.exif_isobmff.specs.Kinds.{kind_of};
+ghost use Rattle.exif_isobmff.specs.Kinds.{kind_of, same_kind};
 
 /// The type of a box.
 #[derive(Clone, Copy, Debug, PartialEq, Eq)]
@@ -36,5 +36,11 @@ impl Kind {
             b"iloc" => Kind::ItemLocation,
             _ => Kind::Other,
         }
+    }
+    /// Whether two types are the same.
+    pub fn is_same(self, other: Kind) -> bool
+        ensures { result ≡ same_kind self other }
+    {
+        self == other
     }
 }

@@ -43,8 +43,8 @@ pub struct Location {
     pub extents: Vec<Extent>,
 }
 
-// The sizes that 16 bits say.
-fn sizes_of(version: u8, packed: u16) -> Sizes
+/// The sizes that 16 bits say.
+pub fn sizes_of(version: u8, packed: u16) -> Sizes
     ensures { result ≡ sizes version packed }
 {
     Sizes {
@@ -59,8 +59,8 @@ fn sizes_of(version: u8, packed: u16) -> Sizes
     }
 }
 
-// An item's number, or how many items there are.
-fn number(body: &mut BoxSplitter, version: u8) -> Result<u32, Error>
+/// An item's number, or how many items there are.
+pub fn number(body: &mut BoxSplitter, version: u8) -> Result<u32, Error>
     ensures { Takes (λ n. n) result body.new (number_at (item_width version) body.old) }
 {
     if version == 2 {
@@ -148,9 +148,9 @@ fn item_head(body: &mut BoxSplitter, version: u8, sizes: Sizes) -> Result<ItemHe
     })
 }
 
-// The next item, where it is the wanted one.
+/// The next item, where it is the wanted one.
 #[tactic(auto, unfolding(crate::specs::ItemLocations::location_at))]
-fn next_location(
+pub fn next_location(
     alloc: Global,
     body: &mut BoxSplitter,
     wanted: u32,

@@ -2,7 +2,7 @@
 
 ghost use Rattle.std.specs.Prelude.{◌≡◌, [], unwrap_or, map, IfOk};
 ghost use Rattle.std.specs.Option.{option_map};
-ghost use Rattle.exif_isobmff.specs.Extents.{behind_idat, idat_offset, range_beside, range_in, ranges_with, without_first, without_front};
+ghost use Rattle.exif_isobmff.specs.Extents.{behind_last, idat_offset, range_beside, range_in, ranges_with, without_first, without_front};
 ghost use Rattle.exif_isobmff.specs.ItemLocations.{location_view};
 
 use crate::exif::ExifItem;
@@ -10,9 +10,9 @@ use crate::locations::Extent;
 use crate::{BoxSplitter, Kind};
 use std::alloc::{AllocError, Global};
 
-// What follows the last `idat` among boxes; nothing where there is none.
-fn behind_idat(boxes: &[u8]) -> &[u8]
-    ensures { result.now ≡ behind_idat [] boxes.now }
+/// What follows the last box of a type among boxes; nothing where there is none.
+pub fn behind_last(wanted: Kind, boxes: &[u8]) -> &[u8]
+    ensures { result.now ≡ behind_last wanted [] boxes.now }
 {
     let mut rest = BoxSplitter::new(boxes);
     let mut found: &[u8] = &boxes[boxes.len()..];
@@ -20,7 +20,7 @@ fn behind_idat(boxes: &[u8]) -> &[u8]
         let Ok((kind, _body)) = rest.child_box() else {
             return found;
         };
-        if let Kind::ItemData = kind {
+        if wanted.is_same(kind) {
             found = rest.rest();
         }
     }
@@ -32,7 +32,7 @@ fn idat_offset(end: u64, meta: &[u8], idat: &[u8]) -> u64
     ensures { result ≡ idat_offset end meta.now idat.now }
 {
     let boxes = &meta[meta.len().min(4)..];
-    end.saturating_sub(behind_idat(boxes).len() as u64)
+    end.saturating_sub(behind_last(Kind::ItemData, boxes).len() as u64)
         .saturating_sub(idat.len() as u64)
 }
 

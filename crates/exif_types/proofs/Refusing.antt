@@ -2,7 +2,6 @@
 use Rattle.std.proofs.Common.{◌≡◌, Option, None, Some, Result, Err, MatchOption, ap, ◌∙◌}
 use Rattle.exif_types.specs.Failures.{Failure}
 use Rattle.exif_types.specs.Refusals.{Refusal, refusal_of, IsInterrupted, Refuses, Fails}
-use Rattle.exif_types.specs.declared.error.Error.TheVariants as error
 
 -- a definition hands a refusal of its part on
 abbrev pub Keeps : {A B : Type 0} → (Result A Refusal → Result B Refusal) → Type 0

@@ -1,4 +1,4 @@
-use Rattle.std.proofs.Common.{◌≡◌, [], ◌∷◌, ◌-◌, ap, sym, ◌∙◌, cond, rules}
+use Rattle.std.proofs.Common.{◌≡◌, ◌∷◌, ◌-◌, ap, sym, ◌∙◌, cond, rules}
 use Rattle.std.proofs.lemmas.Bool.{lt-ltb}
 use Rattle.exif_isobmff.specs.Extents.{without_first, without_front}
 use Rattle.exif_isobmff.proofs.ranges.without_first.Goals as goal

@@ -1,0 +1,3 @@
+pub mod ClosedBoxes
+pub mod ItemSound
+pub mod ItemSteps
