@@ -1,26 +1,18 @@
 -- What is promised of one edit of data, whichever it is.
-use Rattle.std.proofs.Common.{◌≡◌, ℕ, Bool, true, false, List, length, All, Option, Result, Ok, Err, refl, sym, ap, subst, ◌∙◌, inl, inr}
-use Rattle.std.specs.Prelude.{codes, ◌||◌}
-use Rattle.exif_tiff.specs.Trace.{header}
-use Rattle.exif_text.specs.declared.ifd.In.{In}
-use Rattle.exif_types.specs.declared.tag.Tag.{Tag}
-use Rattle.exif_types.specs.declared.value.Value.{Value}
+use Rattle.std.proofs.Common.{◌≡◌, ℕ, Bool, true, false, List, length, All, Option, Ok, refl, subst, inl, inr}
 use Rattle.exif_containers.specs.Container.{begins_tiff}
 use Rattle.exif_containers.specs.Replacing.{CanStandIn}
 use Rattle.exif_containers.specs.declared.container.Format.{Format}
 use Rattle.exif_containers.specs.declared.container.Format.TheVariants.{Tiff, Jpeg, Heif, WebP}
 use Rattle.exif_containers.proofs.Replacing.{is_heif}
-use Rattle.exif_edit_base.specs.Causes.{Cause, wrong_header, ◌>>=◌}
+use Rattle.exif_edit_base.specs.Causes.{wrong_header}
 use Rattle.exif_edit_base.specs.Patches.{FitsIn, patched}
 use Rattle.exif_edit_base.specs.Readings.{Read, reading}
 use Rattle.exif_edit_base.specs.declared.patch.Patch.{Patch}
 use Rattle.exif_edit_base.proofs.CauseSteps.{passed}
 use Rattle.exif_tiff.specs.declared.fault.Fault.TheVariants.{TooManyEntries}
-use Rattle.exif_edit.specs.Clearing.{IsCleared, clear_patches, clearing}
+use Rattle.exif_edit.specs.Clearing.{IsCleared}
 use Rattle.exif_edit.specs.Edits.{IsEdited, edit_patches, limited_edit, limited_patches, reads_past}
-use Rattle.exif_edit.specs.Erasing.{erase_patches}
-use Rattle.exif_edit.specs.Removing.{field_patches}
-use Rattle.exif_edit.specs.Setting.{set_patches}
 use Rattle.exif_edit.specs.declared.edits.Edit.{Edit}
 use Rattle.exif_edit.specs.declared.edits.Edit.TheVariants.{Set, EraseGps, EraseField, EraseAll}
 use Rattle.exif_edit.proofs.ClearSound.{clear_fits, clear_sound, was_cleared}

@@ -1,13 +1,11 @@
 -- The steps of an edit in a file.
-use Rattle.std.proofs.Common.{◌≡◌, ◌<◌, ◌+◌, ◌^◌, ℕ, Bool, true, false, List, [], ◌∷◌, ◌++◌, length, All, Option, Result, Ok, Err, refl, sym, ap, subst, ◌∙◌, arith, append-nil}
-use Rattle.exif_types.specs.Refusals.{Refusal}
-use Rattle.exif_isobmff.specs.declared.locations.Extent.{Extent}
+use Rattle.std.proofs.Common.{◌≡◌, ◌<◌, ◌^◌, ℕ, Bool, true, false, List, [], ◌∷◌, length, All, Option, Result, Ok, Err, refl, sym, ap, subst, ◌∙◌, arith, append-nil}
 use Rattle.exif_containers.specs.Container.{begins_tiff}
 use Rattle.exif_containers.specs.Located.{Located, in_one, located_answer}
 use Rattle.exif_containers.specs.declared.container.Format.{Format}
 use Rattle.exif_containers.specs.declared.container.Format.TheVariants.{Tiff, Jpeg, Heif, WebP}
 use Rattle.exif_containers.proofs.Replacing.{data_are_located, is_heif, tiff_located}
-use Rattle.exif_edit_base.specs.Causes.{Cause, Edits, no_data, of_container, picture, shared, unless, wrong_header, ◌>>=◌}
+use Rattle.exif_edit_base.specs.Causes.{Cause, Edits, of_container, picture, shared, unless, wrong_header, ◌>>=◌}
 use Rattle.exif_edit_base.specs.Patches.{FitsIn, patched}
 use Rattle.exif_edit_base.specs.declared.error.Error.{Error}
 use Rattle.exif_edit_base.specs.declared.patch.Patch.{Patch}

@@ -1,26 +1,24 @@
 -- What an answered edit in a file promises.
-use Rattle.std.proofs.Common.{◌≡◌, ◌≤◌, ◌<◌, ◌+◌, ◌^◌, ℕ, Bool, true, false, List, [], ◌∷◌, ◌++◌, length, All, Option, Result, Ok, Err, refl, sym, ap, subst, ◌∙◌, arith, append-nil, length-append}
+use Rattle.std.proofs.Common.{◌≡◌, ◌<◌, ◌^◌, ℕ, Bool, true, false, List, [], ◌∷◌, ◌++◌, length, All, Option, Result, Ok, Err, refl, sym, ap, subst, ◌∙◌, arith, length-append}
 use Rattle.std.specs.Prelude.{OnOk}
 use Rattle.std.specs.Str.{bytes_eq}
 use Rattle.std.proofs.lemmas.Bool.{false≢true}
 use Rattle.std.proofs.lemmas.Slice.Eq.{bytes_eq-Decides}
 use Rattle.exif_types.specs.Refusals.{Refusal}
-use Rattle.exif_isobmff.specs.Extents.{IsWhole}
-use Rattle.exif_isobmff.specs.declared.locations.Extent.{Extent}
-use Rattle.exif_containers.specs.Container.{begins_tiff, container_answer}
+use Rattle.exif_containers.specs.Container.{container_answer}
 use Rattle.exif_containers.specs.Located.{Located, in_one, located_answer}
 use Rattle.exif_containers.specs.declared.container.Format.{Format}
 use Rattle.exif_containers.specs.declared.container.Format.TheVariants.{Tiff, Jpeg, Heif, WebP}
-use Rattle.exif_containers.proofs.Replacing.{Around, data_are_located, is_heif, located_around, tiff_located}
-use Rattle.exif_edit_base.specs.Causes.{Cause, Edits, of_container, picture, unless, ◌>>=◌}
+use Rattle.exif_containers.proofs.Replacing.{Around, data_are_located, is_heif, located_around}
+use Rattle.exif_edit_base.specs.Causes.{Cause, Edits, of_container, picture, ◌>>=◌}
 use Rattle.exif_edit_base.specs.Patches.{FitsIn, patched}
 use Rattle.exif_edit_base.specs.declared.error.Error.{Error}
 use Rattle.exif_edit_base.specs.declared.patch.Patch.{Patch}
 use Rattle.exif_edit_base.proofs.CauseSteps.{bound, data_held, ok_same, passed}
 use Rattle.exif_edit_base.proofs.PatchSteps.{Misses, length-patched, patched_outside}
-use Rattle.exif_edit.specs.Edits.{IsEdited, limited_edit, limited_patches}
+use Rattle.exif_edit.specs.Edits.{limited_patches}
 use Rattle.exif_edit.specs.declared.edits.Edit.{Edit}
-use Rattle.exif_edit_files.specs.InFiles.{Avoids, IsEditedIn, data_patches, edited_file, file_patches, holds, if_served, placed, serves, takes_picture}
+use Rattle.exif_edit_files.specs.InFiles.{IsEditedIn, data_patches, edited_file, file_patches, if_served, placed, serves, takes_picture}
 use Rattle.exif_edit_files.specs.Spreading.{spread}
 use Rattle.exif_edit_files.proofs.EditsSound.{edit_fits, edit_sound, edit_stands_in, limited_made, unlimited}
 use Rattle.exif_edit_files.proofs.Spreads.{spread_fits, spread_front, spread_misses}

@@ -1,14 +1,13 @@
 -- Edits of files that are read from a source.
-use Rattle.std.proofs.Common.{◌≡◌, ◌≤◌, ◌<◌, ◌-◌, ◌^◌, ℕ, Bool, true, false, List, ◌++◌, length, min, take, All, Option, Some, None, Result, Ok, Err, IfOk, IfSome, refl, sym, ap, subst, ◌∙◌, arith}
+use Rattle.std.proofs.Common.{◌≡◌, ◌≤◌, ◌<◌, ◌-◌, ◌^◌, ℕ, Bool, false, List, ◌++◌, length, min, take, All, Option, Some, None, Result, Ok, Err, IfSome, sym, ap, subst, ◌∙◌, arith}
 use Rattle.std.specs.Prelude.{MatchOption}
 use Rattle.std.proofs.lemmas.List.{length-take-le}
 use Rattle.std.specs.Io.KnownBytes.{Consumes, IsAtEnd, prepend_known}
 use Rattle.exif_types.specs.Failures.{Failure}
-use Rattle.exif_types.specs.Refusals.{Fails, IsInterrupted, Refusal}
+use Rattle.exif_types.specs.Refusals.{Fails, IsInterrupted}
 use Rattle.exif_types.specs.declared.error.Error.TheVariants as failure
-use Rattle.exif_isobmff.specs.declared.locations.Extent.{Extent}
 use Rattle.exif_containers.specs.Container.{format_in, unknown_format}
-use Rattle.exif_containers.specs.Located.{Located, in_one, located_answer, located_as}
+use Rattle.exif_containers.specs.Located.{Located, located_answer, located_as}
 use Rattle.exif_containers.specs.declared.container.Format.{Format}
 use Rattle.exif_containers.specs.declared.container.Format.TheVariants.{Tiff, Jpeg, Heif, WebP}
 use Rattle.exif_containers.proofs.ContainerSteps.{head-first}
@@ -16,14 +15,14 @@ use Rattle.exif_segments.specs.Jpeg.{jpeg_answer}
 use Rattle.exif_segments.specs.Webp.{webp_answer}
 use Rattle.exif_isobmff.specs.Extents.{located_exif}
 use Rattle.exif_containers.proofs.Replacing.{heif_format, is_heif, none_located, piece_format, tiff_format}
-use Rattle.exif_edit_base.specs.Causes.{Cause, Fails as FailsAs, Makes, Stops, cause_of, no_data, of_container}
+use Rattle.exif_edit_base.specs.Causes.{Cause, Fails as FailsAs, Stops, cause_of, of_container}
 use Rattle.exif_edit_base.specs.Patches.{FitsIn, patched}
 use Rattle.exif_edit_base.specs.declared.error.Error.{Error}
 use Rattle.exif_edit_base.specs.declared.error.Error.TheVariants as error
 use Rattle.exif_edit_base.specs.declared.patch.Patch.{Patch}
 use Rattle.exif_edit.specs.declared.edits.Edit.{Edit}
-use Rattle.exif_edit_files.specs.InFiles.{IsEditedIn, data_patches, file_patches, placed}
-use Rattle.exif_edit_files.specs.Sources.{FailsOrStops, IsStopped, MakesOrStops, has_item, is_item}
+use Rattle.exif_edit_files.specs.InFiles.{IsEditedIn, data_patches, file_patches}
+use Rattle.exif_edit_files.specs.Sources.{FailsOrStops, IsStopped, has_item, is_item}
 use Rattle.exif_edit_files.specs.Spreading.{spread}
 use Rattle.exif_edit_files.proofs.FileSteps.{file_placed, file_unedited, file_unlocated, piece_placed}
 use Rattle.exif_edit_files.proofs.FilesSound.{file_fits, file_sound}

@@ -1,4 +1,4 @@
-use Rattle.std.proofs.Common.{rules, ◌≡◌, ◌<◌, ◌^◌, ◌∙◌, length, refl, subst, sym}
+use Rattle.std.proofs.Common.{rules, ◌<◌, ◌^◌, ◌∙◌, length, refl, subst, sym}
 use Rattle.exif_edit_base.specs.Causes.{Edits}
 use Rattle.exif_edit_files.proofs.FileSteps.{tiff_edited, tiff_kept}
 use Rattle.exif_edit_files.proofs.file.apply_in_tiff.Goals as goal

@@ -1,4 +1,4 @@
-use Rattle.std.proofs.Common.{rules, ◌≡◌, ◌<◌, ◌^◌, ◌∙◌, Ok, All, length, sym}
+use Rattle.std.proofs.Common.{rules, ◌<◌, ◌^◌, length}
 use Rattle.std.proofs.lemmas.Result.{err_from_is_err_and}
 use Rattle.exif_containers.specs.Located.{located_answer, located_view}
 use Rattle.exif_edit_base.specs.Causes.{of_container}

@@ -1,5 +1,4 @@
-use Rattle.std.proofs.Common.{rules, ◌<◌, ◌^◌, All, length, subst, sym}
-use Rattle.exif_edit_base.specs.Patches.{FitsIn}
+use Rattle.std.proofs.Common.{rules, ◌<◌, ◌^◌, length}
 use Rattle.exif_containers.specs.Located.{located_view}
 use Rattle.exif_edit_files.proofs.FileSteps.{located_fits}
 use Rattle.exif_edit_files.proofs.file.put_in_file.Goals as goal

@@ -1,4 +1,4 @@
-use Rattle.std.proofs.Common.{rules, ◌≡◌, Ok, arith}
+use Rattle.std.proofs.Common.{rules, ◌≡◌, Ok}
 use Rattle.std.proofs.lemmas.Result.{err_from_is_err_and}
 use Rattle.exif_edit_files.specs.InFiles.{file_patches}
 use Rattle.exif_edit_files.specs.Sources.{FailsOrStops}

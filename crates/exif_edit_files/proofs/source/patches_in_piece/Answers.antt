@@ -1,4 +1,3 @@
-use Rattle.std.proofs.Common.{rules}
 use Rattle.std.proofs.lemmas.Result.{err_from_is_err_and}
 use Rattle.exif_containers.specs.Located.{located_view}
 use Rattle.exif_edit_files.proofs.SourceSteps.{edited_piece, unedited, unlocated}
