@@ -2,11 +2,12 @@
 
 ghost use Rattle.std.specs.Prelude.{◌≡◌, false};
 ghost use Rattle.exif_types.specs.Refusals.{Gives, is_io};
-ghost use Rattle.exif_grow_files.specs.Fields.{fields_view, item_fields};
+ghost use Rattle.exif_grow_files.specs.Fields.{fields_view, is_open, item_fields};
+ghost use Rattle.exif_isobmff.specs.ItemLocations.{location_view};
 
 use exif_isobmff::{
-    Entry, Extent, after_header, entry_offset, exif_entry, find_exif, item_bytes, item_ranges,
-    meta_of,
+    Entry, Extent, Location, after_header, entry_offset, exif_entry, find_exif, item_bytes,
+    item_ranges, meta_of,
 };
 use exif_types::Error;
 use std::alloc::Global;
@@ -24,8 +25,16 @@ pub struct ExifFields {
     pub entry: Entry,
 }
 
+// Whether an extent of an item has no length, and so runs to the end of the file.
+fn is_open(location: &Location) -> bool
+    ensures { result ≡ is_open (location_view location.now) }
+{
+    location.extents.iter().any(|extent| extent.len == 0)
+}
+
 /// The Exif item of a file in memory: its header, its ranges, and its entry in `iloc`. Refusals are
-/// those of `exif_isobmff::exif_of_file`. It takes the memory of the item twice.
+/// those of `exif_isobmff::exif_of_file`, and `NotSupported` where an extent has no length. It takes the
+/// memory of the item twice.
 #[tactic(auto, unfolding(crate::specs::Fields::item_fields))]
 pub fn item_fields(alloc: Global, file: &[u8]) -> Result<ExifFields, Error>
     ensures gives { Gives fields_view result (item_fields file.now) }
@@ -36,6 +45,9 @@ pub fn item_fields(alloc: Global, file: &[u8]) -> Result<ExifFields, Error>
     let block = item_bytes(alloc, file, item.idat, &item.location)?;
     let data = after_header(alloc, &block)?;
     let entry = exif_entry(alloc, meta.body)?;
+    if is_open(&item.location) {
+        return Err(Error::NotSupported("Exif item without a length"));
+    }
     let header = block.len().saturating_sub(data.len());
     let end = file.len().saturating_sub(meta.behind.len()) as u64;
     Ok(ExifFields {

@@ -149,7 +149,7 @@ fn one_range(ranges: &[Extent]) -> Result<Extent, Error>
 /// has some of these bytes loses them. No other byte of the file changes, and none moves.
 ///
 /// Refusals are `Container`, with the refusal of the file, or `NotSupported` where the item has
-/// several extents, where a field of `iloc` is too narrow for the new offset or length, and where the
+/// several extents, or one without a length, where a field of `iloc` is too narrow for the new offset or length, and where the
 /// last box of the file runs to its end or past it, or `TooBig` where the item would have more than
 /// 65,535 bytes; and `SharedBytes`, if the file does not hold the new data then, as where the item's
 /// bytes also say where the item is. It takes the memory of the file twice.
