@@ -21,7 +21,7 @@ extern "C" {
 /* The result of a call. mexaldor_error gives the text of a status. */
 enum mexaldor_status {
     MEXALDOR_OK = 0,
-    MEXALDOR_FAULTS = 1,            /* read, but faults were skipped: the JSON lists them */
+    MEXALDOR_FAULTS = 1,            /* done, but faults were skipped: JSON lists them */
     MEXALDOR_INVALID_FORMAT = 2,    /* an unknown file format, or Exif data with a fault */
     MEXALDOR_NOT_FOUND = 3,         /* the file has no Exif data */
     MEXALDOR_BLANK_VALUE = 4,
@@ -39,7 +39,11 @@ enum mexaldor_status {
     MEXALDOR_NO_DIRECTORY = 24,     /* there is no directory to put the field into */
     MEXALDOR_FULL_DIRECTORY = 25,   /* the directory has no space for an entry */
     MEXALDOR_NO_ASSIGNMENT = 32,    /* not TAG=VALUE in UTF-8, or an unknown tag */
-    MEXALDOR_NOT_OF_ITS_TYPE = 33   /* the text is not a value of the type of the field */
+    MEXALDOR_NOT_OF_ITS_TYPE = 33,  /* the text is not a value of the type of the field */
+    MEXALDOR_SECOND_EXIF = 34,      /* a second block of Exif data would be lost */
+    MEXALDOR_NO_DATE = 35,          /* the file has no date to shift */
+    MEXALDOR_OUT_OF_RANGE = 36,     /* the standard does not have this value for the tag */
+    MEXALDOR_NO_THUMBNAIL = 38      /* 37 is not used */
 };
 
 /* The status of a call, and the length of its complete output in bytes. */
@@ -60,13 +64,15 @@ struct mexaldor_answer mexaldor_read(const uint8_t *file, size_t length, bool le
                                      uint64_t limit, uint8_t *out, size_t room);
 
 /* Erases the GPS data of Exif: their bytes become zero, and no other byte changes. The file keeps
- * its length. Locations in XMP and in maker notes stay. A refused file is not changed. */
+ * its length. Locations in XMP, in maker notes and in data that no directory of the file points to
+ * stay. A refused file is not changed. */
 uint32_t mexaldor_erase_gps(uint8_t *file, size_t length);
 
 /* Writes a copy of a file without its metadata to `out`. JPEG and WebP files lose all metadata; the
  * colour profile and what decoders need stay. In a HEIF file only the Exif fields are erased, and
  * XMP stays. A TIFF file is refused. The new file is not longer than the old one, except that a
- * WebP file may gain a missing pad byte: `room == length + 1` is always enough. After a refusal
+ * WebP file may gain a missing pad byte: `room == length + 1` is always enough. A JPEG stream that
+ * ends before its picture does is written as far as it goes, with MEXALDOR_FAULTS. After a refusal
  * `out` is not changed. */
 struct mexaldor_answer mexaldor_scrub(const uint8_t *file, size_t length, uint8_t *out,
                                       size_t room);

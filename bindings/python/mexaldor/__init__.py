@@ -49,6 +49,10 @@ class Status(enum.IntEnum):
     FULL_DIRECTORY = 25
     NO_ASSIGNMENT = 32
     NOT_OF_ITS_TYPE = 33
+    SECOND_EXIF = 34
+    NO_DATE = 35
+    OUT_OF_RANGE = 36
+    NO_THUMBNAIL = 38
 
 
 class Refused(Exception):
@@ -107,9 +111,11 @@ def read(source: Source, *, strict: bool = False, limit: int = 0) -> Dict[str, A
 
     `source` is a path or the bytes of a file. Faults in directories and values are skipped and
     listed under "faults"; with `strict`, the first fault raises `Refused`. `limit` is the most
-    directory entries to read, for untrusted files; 0 means 1,000,000. `Refused` is raised if the
-    file cannot be read.
+    directory entries to read, for untrusted files, below 2**64; 0 means 1,000,000. `Refused` is
+    raised if the file cannot be read.
     """
+    if not 0 <= limit < 2**64:
+        raise ValueError("limit must be at least 0 and below 2**64")
     data = _bytes(source)
     room = ctypes.create_string_buffer(max(4096, len(data) // 4))
     while True:
@@ -128,12 +134,13 @@ def scrub(source: Source) -> bytes:
     """Return a copy of a file without its metadata.
 
     JPEG and WebP files lose all metadata; the colour profile and what decoders need stay. In HEIF
-    files only the Exif fields are erased, and XMP stays. TIFF files are refused.
+    files only the Exif fields are erased, and XMP stays. TIFF files are refused. A JPEG stream that
+    ends before its picture does is copied as far as it goes.
     """
     data = _bytes(source)
     room = ctypes.create_string_buffer(len(data) + 1)
     answer = _mexaldor.mexaldor_scrub(data, len(data), room, len(room))
-    if answer.status != Status.OK:
+    if answer.status > Status.FAULTS:
         raise _refused(answer.status)
     return room.raw[: answer.length]
 
@@ -141,7 +148,8 @@ def scrub(source: Source) -> bytes:
 def erase_gps(source: Source) -> bytes:
     """Return a copy of a file, of the same length, with the GPS data of Exif erased.
 
-    Locations in XMP and in maker notes stay.
+    Erased are the GPS directories that the directories of the Exif data point to, with their
+    values. Locations in XMP, in maker notes and in data that nothing points to stay.
     """
     room, length = _room(_bytes(source))
     status = _mexaldor.mexaldor_erase_gps(room, length)

@@ -56,6 +56,11 @@ class Pictures(unittest.TestCase):
         self.refused(Status.INVALID_FORMAT, mexaldor.read, self.folder / "faulty.jpg", strict=True)
         self.assertEqual(len(mexaldor.read(self.folder / "whole.jpg", limit=3)["faults"]), 1)
 
+    def test_a_limit_has_64_bits(self):
+        for limit in [-1, 2**64]:
+            with self.assertRaises(ValueError):
+                mexaldor.read(self.folder / "whole.jpg", limit=limit)
+
     def test_what_is_no_picture_is_refused(self):
         self.assertEqual(self.refused(Status.INVALID_FORMAT, mexaldor.read, b""), "Unknown image format")
         self.refused(Status.INVALID_FORMAT, mexaldor.scrub, b"no picture")
@@ -63,7 +68,7 @@ class Pictures(unittest.TestCase):
         self.refused(Status.INVALID_FORMAT, mexaldor.erase_gps, b"")
         self.assertEqual(
             self.refused(Status.NOT_FOUND, mexaldor.read, self.folder / "plain.jpg"),
-            "No Exif data found in JPEG",
+            "No Exif data found",
         )
 
     def test_gps_data_are_erased(self):

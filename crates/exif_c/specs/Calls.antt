@@ -1,5 +1,5 @@
 -- What the calls of the library for C do.
-use Rattle.std.specs.Prelude.{◌≡◌, ◌≢◌, ◌⊎◌, ◌==◌, ℕ, Bool, List, [], Some, Result, Ok, Err, if◌then◌else◌, unwrap_or}
+use Rattle.std.specs.Prelude.{◌≡◌, ◌⊎◌, ◌==◌, ℕ, Bool, List, [], Option, Some, None, Result, Ok, Err, if◌then◌else◌, unwrap_or}
 use Rattle.exif_types.specs.Contents.{ExifContents}
 use Rattle.exif_types.specs.Failures.{Failure}
 use Rattle.exif_types.specs.declared.tag.Tag.{Tag}
@@ -9,11 +9,11 @@ use Rattle.exif_containers.specs.declared.container.Format.TheVariants.{Tiff}
 use Rattle.exif_reader.specs.Files.{ReadsContainer}
 use Rattle.exif_json.specs.Answers.{Tells}
 use Rattle.exif_edit_base.specs.Causes.{Cause}
-use Rattle.exif_change.specs.Changes as changes
-use Rattle.exif_change.specs.Setting.{IsSetHere}
-use Rattle.exif_change.specs.declared.scrubbing.Removed.TheVariants.{Metadata}
+use Rattle.exif_change.specs.Changed.{Change}
+use Rattle.exif_change.specs.Refusals.{Why}
+use Rattle.exif_change.specs.Setting.{set_here}
 use Rattle.exif_c.specs.Buffers.{Gives, GivesNothing}
-use Rattle.exif_c.specs.Statuses.{cause_status, error_status, number_of}
+use Rattle.exif_c.specs.Statuses.{cause_status, error_status, number_of, undone_status, why_status}
 use Rattle.exif_c.specs.declared.status.Status.{Status}
 use Rattle.exif_c.specs.declared.status.Status.TheVariants as status
 use Rattle.exif_c.specs.declared.buffer.Answer.{Answer}
@@ -46,11 +46,16 @@ IsRead lenient limit file old new answer =
     IsReadInto lenient limit file old new answer
     ⊎ (GivesNothing (number_of status.OutOfMemory) answer × (new ≡ old))
 
--- a file stands in the buffer without its metadata, or the buffer is as it was
-abbrev pub IsScrubbed : List ℕ → List ℕ → List ℕ → Answer → Type 0
-IsScrubbed file old new answer =
-    ((text : List ℕ) × changes.IsScrubbed Metadata file text × Gives 0 text old new answer)
-    ⊎ ((number : ℕ) × GivesNothing number answer × (number ≢ 0) × (new ≡ old))
+-- a changed file is in the buffer, which its status tells, or memory ran out and the buffer is as it
+-- was; a refusal tells its number
+abbrev pub Puts : Answer → List ℕ → List ℕ → Result Change Why → Type 0
+Puts answer old new (Ok change) =
+    Gives (number_of (undone_status change.undone)) change.file old new answer
+    ⊎ (GivesNothing (number_of status.OutOfMemory) answer × (new ≡ old))
+Puts answer old new (Err why) =
+    (new ≡ old)
+    × (GivesNothing (number_of (why_status why)) answer
+    ⊎ GivesNothing (number_of status.OutOfMemory) answer)
 
 -- bytes are edited as the answer says, which the status tells, or memory ran out and they are as
 -- they were
@@ -61,7 +66,16 @@ Ends number old new (Err cause) =
     (new ≡ old)
     × ((number ≡ number_of (cause_status cause)) ⊎ (number ≡ number_of status.OutOfMemory))
 
--- a field is set where it stands, or the bytes are as they were
-abbrev pub SetsHere : List ℕ → List ℕ → ℕ → Type 0
-SetsHere old new number =
-    ((number ≡ 0) × (tag : Tag) × IsSetHere tag old new) ⊎ ((number ≢ 0) × (new ≡ old))
+-- bytes are changed as the answer says, which the status tells, or memory ran out and they are as
+-- they were
+abbrev pub EndsBy : ℕ → List ℕ → List ℕ → Result (List ℕ) Why → Type 0
+EndsBy number old new (Ok changed) =
+    ((number ≡ 0) × (new ≡ changed)) ⊎ ((number ≡ number_of status.OutOfMemory) × (new ≡ old))
+EndsBy number old new (Err why) =
+    (new ≡ old)
+    × ((number ≡ number_of (why_status why)) ⊎ (number ≡ number_of status.OutOfMemory))
+
+-- a field is set by the tag and the text that are assigned, or there are none
+abbrev pub SetsBy : ℕ → List ℕ → List ℕ → Option (Tag × List ℕ) → Type 0
+SetsBy number old new (Some parts) = EndsBy number old new (set_here parts old)
+SetsBy number old new None = (number ≡ number_of status.NoAssignment) × (new ≡ old)

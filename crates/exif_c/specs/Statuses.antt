@@ -7,6 +7,9 @@ use Rattle.exif_types.specs.declared.error.Error.TheVariants as error
 use Rattle.exif_edit_base.specs.Causes.{Cause, no_field, no_directory, full_directory, unknown_type, too_long, offset_named, shared, picture, wrong_header, no_data}
 use Rattle.exif_edit_base.specs.declared.error.Error.{Error}
 use Rattle.exif_edit_base.specs.declared.error.Error.TheVariants as edit
+use Rattle.exif_change.specs.Changed.{Undone}
+use Rattle.exif_change.specs.Refusals.{Why, editing, no_date, no_thumbnail, not_of_its_type, out_of_range, picture_data, reading, second_exif, unknown_format}
+use Rattle.exif_change.specs.Refusals as why
 use Rattle.exif_change.specs.declared.refusal.Refusal.{Refusal}
 use Rattle.exif_change.specs.declared.refusal.Refusal.TheVariants as change
 use Rattle.exif_c.specs.declared.status.Status.{Status}
@@ -36,8 +39,7 @@ number_of status.NoAssignment = 32
 number_of status.NotOfItsType = 33
 number_of status.SecondExif = 34
 number_of status.NoDate = 35
-number_of status.InvalidDate = 36
-number_of status.DateOutOfRange = 37
+number_of status.OutOfRange = 36
 number_of status.NoThumbnail = 38
 
 -- its text
@@ -64,8 +66,7 @@ text_of status.NoAssignment = codes "Expected TAG=VALUE with a known tag"
 text_of status.NotOfItsType = codes "Invalid value for the type of the field"
 text_of status.SecondExif = codes "The file has more than one block of Exif data, and only one would be left"
 text_of status.NoDate = codes "No date to shift"
-text_of status.InvalidDate = codes "Invalid date"
-text_of status.DateOutOfRange = codes "The shifted date is out of range"
+text_of status.OutOfRange = codes "The tag cannot have this value"
 text_of status.NoThumbnail = codes "No thumbnail"
 
 -- all of them
@@ -77,7 +78,7 @@ all =
     status.SharedBytes ∷ status.PictureData ∷ status.InvalidHeader ∷
     status.NoDirectory ∷ status.FullDirectory ∷
     status.NoAssignment ∷ status.NotOfItsType ∷ status.SecondExif ∷ status.NoDate ∷
-    status.InvalidDate ∷ status.DateOutOfRange ∷ status.NoThumbnail ∷ []
+    status.OutOfRange ∷ status.NoThumbnail ∷ []
 
 -- the one of a number
 abbrev pub named : ℕ → Option Status
@@ -143,11 +144,29 @@ refusal_status (change.Editing cause) = edit_status cause
 refusal_status change.UnknownFormat = status.InvalidFormat
 refusal_status change.FieldNotFound = status.FieldNotFound
 refusal_status change.PictureData = status.PictureData
-refusal_status change.NotOfItsType = status.NotOfItsType
+refusal_status (change.NotOfItsType tag) = status.NotOfItsType
+refusal_status (change.OutOfRange tag) = status.OutOfRange
 refusal_status change.SecondExif = status.SecondExif
 refusal_status (change.TooLong tag) = status.TooBig
 refusal_status change.NoDate = status.NoDate
-refusal_status change.InvalidDate = status.InvalidDate
-refusal_status change.DateOutOfRange = status.DateOutOfRange
 refusal_status change.NoThumbnail = status.NoThumbnail
 refusal_status change.OutOfMemory = status.OutOfMemory
+
+-- that of why a file is not changed
+abbrev pub why_status : Why → Status
+why_status (reading refusal) = kind_status refusal
+why_status (editing cause) = cause_status cause
+why_status unknown_format = status.InvalidFormat
+why_status picture_data = status.PictureData
+why_status second_exif = status.SecondExif
+why_status (why.too_long tag) = status.TooBig
+why_status why.no_field = status.FieldNotFound
+why_status (not_of_its_type tag) = status.NotOfItsType
+why_status (out_of_range tag) = status.OutOfRange
+why_status no_date = status.NoDate
+why_status no_thumbnail = status.NoThumbnail
+
+-- that of a file that was changed: faults are skipped where something was left undone
+abbrev pub undone_status : List (Option Undone) → Status
+undone_status [] = status.Well
+undone_status (one ∷ others) = status.Faults

@@ -1,13 +1,19 @@
 //! Files changed.
 
-ghost use Rattle.std.specs.Prelude.{Some};
+ghost use Rattle.std.specs.Prelude.{◌≡◌, None, Some, IsUtf8};
+ghost use Rattle.exif_assign.specs.Assigning.{assigned_in, parts_of};
 ghost use Rattle.exif_edit.specs.declared.edits.Edit.TheVariants.{EraseGps};
 ghost use Rattle.exif_edit_files.specs.InFiles.{edited_file};
-ghost use Rattle.exif_c.specs.Calls.{Ends, IsScrubbed, SetsHere, entry_limit};
+ghost use Rattle.exif_change.specs.Changed.{change_of};
+ghost use Rattle.exif_change.specs.Changes.{scrubbed};
+ghost use Rattle.exif_change.specs.Setting.{set_here};
+ghost use Rattle.exif_change.specs.declared.scrubbing.Removed.TheVariants.{Metadata};
+ghost use Rattle.exif_c.specs.Calls.{Ends, EndsBy, Puts, SetsBy, entry_limit};
+ghost use Rattle.exif_c.specs.Statuses.{undone_status};
 
 use crate::buffer::{Answer, given, nothing};
 use crate::status::{Status, edit_status, refusal_status};
-use exif_change::{Assignment, ENTRY_LIMIT, Removed, scrub, set_here};
+use exif_change::{Assignment, Changed, ENTRY_LIMIT, Removed, scrub, set_here};
 use exif_edit_files::{Edit, apply_in_file};
 use std::alloc::Global;
 
@@ -26,36 +32,58 @@ pub extern "C" fn mexaldor_erase_gps(alloc: Global, file: &mut [u8]) -> u32
 
 /// Puts a file without its metadata into a buffer: JPEG and WebP lose them, in HEIF files the fields
 /// of the Exif data are erased where they stand, TIFF data are refused. It is no longer than it
-/// was, but for a WebP file whose last payload lacks its pad byte, which it gets. After a refusal
-/// the buffer is as it was.
+/// was, but for a WebP file whose last payload lacks its pad byte, which it gets. A JPEG stream that
+/// ends before its picture does is written as far as it goes, with the status 1. After a refusal the
+/// buffer is as it was.
 #[unsafe(no_mangle)]
 pub extern "C" fn mexaldor_scrub(alloc: Global, file: &[u8], out: &mut [u8]) -> Answer
-    ensures { IsScrubbed file.now out.old out.new result }
+    ensures { Puts result out.old out.new (scrubbed Metadata file.now) }
 {
     let Ok(file) = Vec::from_slice(alloc, file) else {
         return nothing(Status::OutOfMemory);
     };
     match scrub(alloc, file, Removed::Metadata) {
-        Ok(new) => given(out, &new, Status::Well),
+        Ok(new) => given(out, &new.file, status_of(&new)),
         Err(refusal) => nothing(refusal_status(&refusal)),
     }
 }
 
-/// Sets one field of the primary image where it stands, in the caller's buffer, by `TAG=VALUE`, as
+// The status of a changed file.
+fn status_of(changed: &Changed) -> Status
+    ensures { result ≡ undone_status (change_of changed.now).undone }
+{
+    if changed.left.is_empty() {
+        Status::Well
+    } else {
+        Status::Faults
+    }
+}
+
+// Sets a field by an assignment.
+fn set_by(alloc: Global, file: &mut [u8], assignment: &Assignment<'_>) -> u32
+    ensures { EndsBy result file.old file.new
+        (set_here (parts_of assignment.now) file.old) }
+{
+    match set_here(alloc, file, assignment) {
+        Ok(()) => Status::Well.number(),
+        Err(refusal) => refusal_status(&refusal).number(),
+    }
+}
+
+/// Sets one field of the primary image in place, in the caller's buffer, by `TAG=VALUE`, as
 /// `Orientation=6` or `DateTime=2024-05-01T12:30:00`: its length stays. After a refusal the buffer
 /// is as it was.
 #[unsafe(no_mangle)]
 pub extern "C" fn mexaldor_set(alloc: Global, file: &mut [u8], assignment: &[u8]) -> u32
-    ensures { SetsHere file.old file.new result }
+    ensures text { IsUtf8 assignment.now
+        → SetsBy result file.old file.new (assigned_in assignment.now) }
+    ensures no_text { ¬ IsUtf8 assignment.now → SetsBy result file.old file.new None }
 {
     let Ok(word) = str::from_utf8(assignment) else {
         return Status::NoAssignment.number();
     };
-    let Some(assignment) = Assignment::parse(word) else {
-        return Status::NoAssignment.number();
-    };
-    match set_here(alloc, file, &assignment) {
-        Ok(()) => Status::Well.number(),
-        Err(refusal) => refusal_status(&refusal).number(),
+    match Assignment::parse(word) {
+        Some(assignment) => set_by(alloc, file, &assignment),
+        None => Status::NoAssignment.number(),
     }
 }

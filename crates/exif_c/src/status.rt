@@ -40,8 +40,7 @@ pub enum Status {
     NamesOffsets,
     /// The bytes are those of something else too.
     SharedBytes,
-    /// The Exif data are not contiguous.
-    /// A TIFF file: the picture stands in the same data.
+    /// A TIFF file: the picture is in the same data.
     PictureData,
     /// Invalid header of the Exif data.
     InvalidHeader,
@@ -57,10 +56,8 @@ pub enum Status {
     SecondExif,
     /// There is no date to shift.
     NoDate,
-    /// A date is none of the calendar.
-    InvalidDate,
-    /// A shifted date has no year of four digits.
-    DateOutOfRange,
+    /// The standard does not have this value for the tag.
+    OutOfRange,
     /// There is no thumbnail.
     NoThumbnail,
 }
@@ -93,8 +90,7 @@ impl Status {
             Status::NotOfItsType => 33,
             Status::SecondExif => 34,
             Status::NoDate => 35,
-            Status::InvalidDate => 36,
-            Status::DateOutOfRange => 37,
+            Status::OutOfRange => 36,
             Status::NoThumbnail => 38,
         }
     }
@@ -127,8 +123,7 @@ impl Status {
             Status::SecondExif =>
                 "The file has more than one block of Exif data, and only one would be left",
             Status::NoDate => "No date to shift",
-            Status::InvalidDate => "Invalid date",
-            Status::DateOutOfRange => "The shifted date is out of range",
+            Status::OutOfRange => "The tag cannot have this value",
             Status::NoThumbnail => "No thumbnail",
         }
     }
@@ -160,8 +155,7 @@ impl Status {
             Status::NotOfItsType,
             Status::SecondExif,
             Status::NoDate,
-            Status::InvalidDate,
-            Status::DateOutOfRange,
+            Status::OutOfRange,
             Status::NoThumbnail,
         ]
     }
@@ -222,12 +216,11 @@ pub fn refusal_status(refusal: &Refusal) -> Status
         Refusal::UnknownFormat => Status::InvalidFormat,
         Refusal::FieldNotFound => Status::FieldNotFound,
         Refusal::PictureData => Status::PictureData,
-        Refusal::NotOfItsType => Status::NotOfItsType,
+        Refusal::NotOfItsType(_) => Status::NotOfItsType,
+        Refusal::OutOfRange(_) => Status::OutOfRange,
         Refusal::SecondExif => Status::SecondExif,
         Refusal::TooLong(_) => Status::TooBig,
         Refusal::NoDate => Status::NoDate,
-        Refusal::InvalidDate => Status::InvalidDate,
-        Refusal::DateOutOfRange => Status::DateOutOfRange,
         Refusal::NoThumbnail => Status::NoThumbnail,
         Refusal::OutOfMemory => Status::OutOfMemory,
     }

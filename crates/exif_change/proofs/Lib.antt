@@ -1,4 +1,3 @@
-pub mod Assigned
-pub mod Dated
-pub mod Fitting
-pub mod Written
+pub mod ReadLemmas
+pub mod Refused
+pub mod Steps

@@ -1,32 +1,34 @@
--- What the program makes of files.
-use Rattle.std.specs.Prelude.{◌≡◌, ◌⊎◌, ℕ, List, Option, None, Some, Ok, Err}
+-- Metadata taken out of files.
+use Rattle.std.specs.Prelude.{ℕ, List, [], ◌∷◌, Option, None, Some, Result, Ok, Err}
+use Rattle.exif_table.specs.declared.context.Context.TheVariants as context
+use Rattle.exif_types.specs.Refusals.{Refusal, not_found}
 use Rattle.exif_containers.specs.Container.{container_answer, format_in}
 use Rattle.exif_containers.specs.declared.container.Format.{Format}
 use Rattle.exif_containers.specs.declared.container.Format.TheVariants.{Tiff, Jpeg, Heif, WebP}
-use Rattle.exif_edit_base.specs.Causes.{no_data}
+use Rattle.exif_segments.specs.declared.remove.Remove.TheVariants.{Metadata}
+use Rattle.exif_edit_base.specs.Causes.{Cause, no_data}
 use Rattle.exif_edit_base.specs.GpsOffsets.{Left, leftovers}
 use Rattle.exif_edit.specs.declared.edits.Edit.{Edit}
 use Rattle.exif_edit.specs.declared.edits.Edit.TheVariants.{EraseAll, EraseGps}
 use Rattle.exif_edit_files.specs.InFiles.{edited_file}
-use Rattle.exif_change.specs.InPlace.{entry_limit}
-use Rattle.exif_rewrite.specs.RewrittenFile.{file_rewriting}
-use Rattle.exif_segments.specs.declared.remove.Remove.{Remove}
-use Rattle.exif_segments.specs.declared.remove.Remove.TheVariants.{Metadata}
-use Rattle.exif_rewrite_jpeg.specs.Rewriting.{ends, finished}
+use Rattle.exif_rewrite.specs.ScrubbedExif.{scrubbed_answer, wanted}
+use Rattle.exif_types.specs.declared.tag.Tag.{Tag}
+use Rattle.exif_change.specs.Changed.{Change, whole}
+use Rattle.exif_change.specs.Reading.{Contents, entry_limit, file_contents}
+use Rattle.exif_change.specs.Refusals.{Why, as_read, editing, picture_data, unknown_format, ◌>>=◌}
+use Rattle.exif_change.specs.Rewriting.{rewritten}
 use Rattle.exif_change.specs.declared.scrubbing.Removed.{Removed}
 use Rattle.exif_change.specs.declared.scrubbing.Removed.TheVariants as removed
-use Rattle.exif_types.specs.Refusals.{not_found}
 
--- a file written again, with these Exif data put into it
-abbrev pub IsRewritten : Remove → Option (List ℕ) → List ℕ → List ℕ → Type 0
-IsRewritten remove put old new = file_rewriting remove put old ≡ ends finished new
+-- a file whose Exif data were edited, or that has none and is as it was
+abbrev pub if_edited : List ℕ → Result (List ℕ) Cause → Result Change Why
+if_edited old (Ok new) = Ok (whole new)
+if_edited old (Err (no_data (not_found what))) = Ok (whole old)
+if_edited old (Err cause) = Err (editing cause)
 
--- a file whose Exif data were edited in place, or that has none and is as it was
-abbrev pub IsErased : Edit → List ℕ → List ℕ → Type 0
-IsErased edit old new =
-    (edited_file entry_limit edit old ≡ Ok new)
-    ⊎ ((new ≡ old) × (what : List ℕ)
-    × (edited_file entry_limit edit old ≡ Err (no_data (not_found what))))
+-- a file with its fields erased by an edit
+abbrev pub erased : Edit → List ℕ → Result Change Why
+erased edit file = if_edited file (edited_file entry_limit edit file)
 
 -- what may be GPS data of a file and is not erased with them, if it has Exif data
 abbrev pub left_in : List ℕ → Option Left
@@ -35,18 +37,40 @@ left_in file = elim (container_answer file) [
   | Err refusal ↦ None
 ]
 
--- a file without its metadata, by its format: rewritten, or edited; of TIFF data there is none
-abbrev pub IsEmptied : Option Format → Option (List ℕ) → List ℕ → List ℕ → Type 0
-IsEmptied (Some Jpeg) put old new = IsRewritten Metadata put old new
-IsEmptied (Some WebP) put old new = IsRewritten Metadata put old new
-IsEmptied (Some Heif) put old new = IsErased EraseAll old new
-IsEmptied (Some Tiff) put old new = ⊥
-IsEmptied None put old new = ⊥
+-- what a picture needs to be shown upright: its orientation (Exif 2.32, 4.6.4 A)
+abbrev pub upright : List Tag
+upright = (context.Tiff, 0x112) ∷ []
 
--- a file without what is taken out; where the orientation is kept, data that hold nothing else may
--- stand in it
-abbrev pub IsScrubbed : Removed → List ℕ → List ℕ → Type 0
-IsScrubbed removed.Gps old new = IsErased EraseGps old new
-IsScrubbed removed.Metadata old new = IsEmptied (format_in old) None old new
-IsScrubbed removed.AllButOrientation old new =
-    (put : Option (List ℕ)) × IsEmptied (format_in old) put old new
+-- Exif data that hold the orientation alone, if the file tells it
+abbrev pub orientation_in : Result Contents Refusal → Result (Option (List ℕ)) Refusal
+orientation_in (Ok contents) = scrubbed_answer contents.order (wanted upright contents.fields)
+orientation_in (Err refusal) = Ok None
+
+-- what is put in place of the metadata that are taken out
+abbrev pub kept : Removed → List ℕ → Result (Option (List ℕ)) Why
+kept removed.AllButOrientation file = as_read (orientation_in (file_contents file))
+kept removed.Metadata file = Ok None
+kept removed.Gps file = Ok None
+
+-- a JPEG or WebP file without its metadata, but for what is kept
+abbrev pub without_metadata : Format → Removed → List ℕ → Result Change Why
+without_metadata format removed file =
+    kept removed file >>= λ put. as_read (rewritten format Metadata put file)
+
+-- a file without its metadata, by its format: rewritten, or edited; those of TIFF data stay
+abbrev pub emptied : Format → Removed → List ℕ → Result Change Why
+emptied Jpeg removed file = without_metadata Jpeg removed file
+emptied WebP removed file = without_metadata WebP removed file
+emptied Heif removed file = erased EraseAll file
+emptied Tiff removed file = Err picture_data
+
+-- a file of a format without what is taken out
+abbrev pub scrubbed_as : Format → Removed → List ℕ → Result Change Why
+scrubbed_as format removed.Gps file = erased EraseGps file
+scrubbed_as format removed.Metadata file = emptied format removed.Metadata file
+scrubbed_as format removed.AllButOrientation file = emptied format removed.AllButOrientation file
+
+-- a file without what is taken out
+abbrev pub scrubbed : Removed → List ℕ → Result Change Why
+scrubbed removed file =
+    elim (format_in file) [ Some format ↦ scrubbed_as format removed file | None ↦ Err unknown_format ]

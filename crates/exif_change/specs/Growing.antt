@@ -1,58 +1,111 @@
 -- Files with fields set in their Exif data, which become longer, or in new ones.
-use Rattle.std.specs.Prelude.{◌≡◌, ℕ, ◌+◌, ◌<◌, Bool, true, false, List, [], length, Option, Some, None, Result, Ok, Err}
+use Rattle.std.specs.Prelude.{ℕ, ◌+◌, ◌^◌, nat_le, nat_lt, if◌then◌else◌, Bool, true, false, List, [], ◌∷◌, length, Option, Some, None, Result, Ok, Err}
 use Rattle.exif_base.specs.Orders.{order_named}
-use Rattle.exif_types.specs.Refusals.{Refusal, not_found}
+use Rattle.exif_types.specs.Refusals as types
+use Rattle.exif_types.specs.Refusals.{not_found, too_big}
+use Rattle.exif_types.specs.ValueTypes.{count_of}
 use Rattle.exif_types.specs.declared.field.Field.{Field}
+use Rattle.exif_types.specs.declared.tag.Tag.{Tag}
 use Rattle.exif_containers.specs.Container.{container_answer}
 use Rattle.exif_containers.specs.declared.container.Format.{Format}
 use Rattle.exif_containers.specs.declared.container.Format.TheVariants.{Tiff, Jpeg, Heif, WebP}
 use Rattle.exif_segments.specs.declared.remove.Remove.TheVariants.{Exif}
-use Rattle.exif_edit_base.specs.Causes.{Cause}
 use Rattle.exif_layout.specs.Image.{image}
+use Rattle.exif_layout.specs.Refused.{write_fault}
 use Rattle.exif_layout.specs.Rewriting.{pushed_all}
+use Rattle.exif_layout.specs.WriteFaults.{write_refusal}
+use Rattle.exif_layout.specs.declared.write_fault.WriteFault.{WriteFault}
 use Rattle.exif_grow.specs.Setting.{fields_grown}
 use Rattle.exif_grow_files.specs.Items.{item_grown}
-use Rattle.exif_change.specs.Changes.{IsRewritten}
+use Rattle.exif_change.specs.Changed.{Change, whole}
+use Rattle.exif_change.specs.Refusals.{Why, as_edited, as_read, reading, second_exif, too_long, ◌>>=◌}
+use Rattle.exif_change.specs.Rewriting.{rewritten}
 
--- whether the Exif data of a file of this format can become longer
-abbrev pub can_grow : Option Format → Bool
-can_grow (Some Tiff) = true
-can_grow (Some Jpeg) = true
-can_grow (Some WebP) = true
-can_grow (Some Heif) = true
-can_grow None = false
+-- data, unless they can't be written
+abbrev pub unless_fault : Option WriteFault → List ℕ → Result (List ℕ) types.Refusal
+unless_fault None bytes = Ok bytes
+unless_fault (Some fault) bytes = Err (write_refusal fault)
 
 -- new Exif data that hold these fields alone, big endian
-abbrev pub new_data : List Field → List ℕ
-new_data fields = image (order_named false) (pushed_all fields [])
+abbrev pub new_data : List Field → Result (List ℕ) types.Refusal
+new_data fields =
+    let groups = pushed_all fields [] in
+    unless_fault (write_fault groups) (image (order_named false) groups)
 
--- a file that is written again with new Exif data in place of its own, of which there are n bytes;
--- it has no others, which would be lost
-pub record IsPutInto (n : ℕ) (data' old out : List ℕ) : Type 0 where
-  pub put : IsRewritten Exif (Some data') old out
-  pub alone : length old + length data' < length out + n + 8
+-- how many items a value has, if 32 bits hold the number
+abbrev pub counted : Field → ℕ
+counted field =
+    if nat_lt (count_of field.value) (2 ^ 32) then count_of field.value else 0
+
+-- of fields, the tag of the first one whose value has more items than a number, or another tag
+abbrev pub longest_after : List Field → Tag → ℕ → Tag
+longest_after [] tag most = tag
+longest_after (field ∷ fields) tag most =
+    if nat_lt most (counted field) then longest_after fields field.tag (counted field)
+    else longest_after fields tag most
+
+-- the tag of the first field whose value has most items
+abbrev pub longest : List Field → Option Tag
+longest [] = None
+longest (field ∷ fields) = Some (longest_after fields field.tag (counted field))
+
+-- why data are too long: by the tag of a field, if there is one
+abbrev pub too_long_for : Option Tag → List ℕ → Why
+too_long_for (Some tag) text = too_long tag
+too_long_for None text = reading (too_big text)
+
+-- new data that are too long are refused by the tag of the longest field
+abbrev pub naming : Option Tag → Result Change types.Refusal → Result Change Why
+naming tag (Err (too_big text)) = Err (too_long_for tag text)
+naming tag answer = as_read answer
+
+-- the JPEG or WebP file with new Exif data, in which these fields were set
+abbrev pub put : Format → List ℕ → List Field → List ℕ → Result Change Why
+put format data' fields file = naming (longest fields) (rewritten format Exif (Some data') file)
+
+-- the file with new Exif data in place of its own, of which there are n bytes
+abbrev pub put_alone : Format → ℕ → List ℕ → List Field → List ℕ → Result Change Why
+put_alone format n data' fields file =
+    put format data' fields file
+    >>= λ new. if nat_le (length new.file + n + 8) (length file + length data')
+    then Err second_exif else Ok new
+
+-- a HEIF file with new Exif data, whose item is put behind the file
+abbrev pub item_moved : List ℕ → List ℕ → Result Change Why
+item_moved data' file = as_edited (item_grown file data') >>= λ new. Ok (whole new)
 
 -- a file with new Exif data in place of its own, of which there are n bytes
-abbrev pub IsReplacedIn : Option Format → ℕ → List ℕ → List ℕ → List ℕ → Type 0
-IsReplacedIn (Some Tiff) n data' old out = out ≡ data'
-IsReplacedIn (Some Jpeg) n data' old out = IsPutInto n data' old out
-IsReplacedIn (Some WebP) n data' old out = IsPutInto n data' old out
-IsReplacedIn (Some Heif) n data' old out = item_grown old data' ≡ Ok out
-IsReplacedIn None n data' old out = ⊥
+abbrev pub replaced : Format → ℕ → List ℕ → List Field → List ℕ → Result Change Why
+replaced Tiff n data' fields file = Ok (whole data')
+replaced Jpeg n data' fields file = put_alone Jpeg n data' fields file
+replaced WebP n data' fields file = put_alone WebP n data' fields file
+replaced Heif n data' fields file = item_moved data' file
 
--- the same with Exif data that have grown, unless their growth is refused
-abbrev pub HoldsGrown : Option Format → ℕ → Result (List ℕ) Cause → List ℕ → List ℕ → Type 0
-HoldsGrown format n (Ok data') old out = IsReplacedIn format n data' old out
-HoldsGrown format n (Err cause) old out = ⊥
+-- a file with fields set in the Exif data that it has
+abbrev pub grown_in : Format → List Field → List ℕ → List ℕ → Result Change Why
+grown_in format fields bytes file =
+    as_edited (fields_grown fields bytes)
+    >>= λ data'. replaced format (length bytes) data' fields file
+
+-- a file with new Exif data that hold fields
+abbrev pub created_in : Format → List Field → List ℕ → Result Change Why
+created_in format fields file =
+    as_read (new_data fields) >>= λ data'. put format data' fields file
+
+-- so by the format of a file that has no Exif data: the `meta` of a HEIF file would have to grow
+abbrev pub created_for : Format → List ℕ → List Field → List ℕ → Result Change Why
+created_for Heif what fields file = Err (reading (not_found what))
+created_for Jpeg what fields file = created_in Jpeg fields file
+created_for WebP what fields file = created_in WebP fields file
+created_for Tiff what fields file = created_in Tiff fields file
 
 -- a file with fields set in its Exif data, or in new ones where it has none
-abbrev pub HasGrownBy : Option Format → List Field → Result (List ℕ) Refusal → List ℕ → List ℕ → Type 0
-HasGrownBy format fields (Ok bytes) old out =
-    HoldsGrown format (length bytes) (fields_grown fields bytes) old out
-HasGrownBy format fields (Err (not_found what)) old out =
-    IsRewritten Exif (Some (new_data fields)) old out
-HasGrownBy format fields (Err refusal) old out = ⊥
+abbrev pub grown_by : Format → List Field → Result (List ℕ) types.Refusal → List ℕ
+    → Result Change Why
+grown_by format fields (Ok bytes) file = grown_in format fields bytes file
+grown_by format fields (Err (not_found what)) file = created_for format what fields file
+grown_by format fields (Err refusal) file = Err (reading refusal)
 
 -- the same, by what the file is answered with
-abbrev pub HasGrown : Option Format → List Field → List ℕ → List ℕ → Type 0
-HasGrown format fields old out = HasGrownBy format fields (container_answer old) old out
+unfoldable pub grown_file : Format → List Field → List ℕ → Result Change Why
+grown_file format fields file = grown_by format fields (container_answer file) file

@@ -1,5 +1,5 @@
 -- Values set in a file in place.
-use Rattle.std.specs.Prelude.{ℕ, ◌&&◌, Bool, true, false, List, [], ◌∷◌, Option, Some, None, Result, Ok, Err, if◌then◌else◌}
+use Rattle.std.specs.Prelude.{ℕ, ◌&&◌, Bool, true, false, List, [], ◌∷◌, ◌++◌, Option, Some, None, Result, Ok, Err, if◌then◌else◌}
 use Rattle.exif_types.specs.Refusals.{not_found}
 use Rattle.exif_types.specs.declared.field.Field.{Field}
 use Rattle.exif_edit_base.specs.Causes.{Cause, cause_of, no_data, no_field, shared, too_long, ◌>>=◌}
@@ -7,10 +7,8 @@ use Rattle.exif_edit_base.specs.declared.error.Error.{Error}
 use Rattle.exif_edit.specs.declared.edits.Edit.{Edit}
 use Rattle.exif_edit.specs.declared.edits.Edit.TheVariants.{Set, EraseGps, EraseField, EraseAll}
 use Rattle.exif_edit_files.specs.InFiles.{edited_file}
-
--- how many entries of a file are read at most
-abbrev pub entry_limit : Option ℕ
-entry_limit = Some 1000000
+use Rattle.exif_change.specs.Reading.{entry_limit}
+use Rattle.exif_change.specs.declared.in_place.Fitted.{Fitted}
 
 -- the edit that sets a field
 abbrev pub setting : Field → Edit
@@ -32,11 +30,6 @@ abbrev pub listed : Option Field → List Field
 listed (Some field) = field ∷ []
 listed None = []
 
--- fields set so, one after the other
-abbrev pub all_set : List Field → List ℕ → Result (List ℕ) Cause
-all_set [] file = Ok file
-all_set (field ∷ fields) file = field_set field file >>= all_set fields
-
 -- whether longer Exif data would do what is refused in place
 abbrev pub needs_space : Cause → Bool
 needs_space no_field = true
@@ -49,17 +42,24 @@ needs_space _ = false
 abbrev pub error_needs_space : Error → Bool
 error_needs_space error = elim (cause_of error) [ Some cause ↦ needs_space cause | None ↦ false ]
 
--- a field is left over too
-abbrev pub left_over :
-    Field → Result (List ℕ × List Field) Cause → Result (List ℕ × List Field) Cause
-left_over field answer = answer >>= λ made. Ok (made.0, field ∷ made.1)
+-- what becomes of a file and of fields that are left over with one field more: it is set in place,
+-- or left over too, if it needs space
+abbrev pub fit_by : Field → Result (List ℕ) Cause → List ℕ × List Field
+    → Result (List ℕ × List Field) Cause
+fit_by field (Ok new) (file, left) = Ok (new, left)
+fit_by field (Err cause) (file, left) =
+    if needs_space cause then Ok (file, left ++ field ∷ []) else Err cause
 
--- fields set in place, one after the other, and those that are left over: if they may be, those
--- that need space
-abbrev pub fitting_set : Bool → List Field → List ℕ → Result (List ℕ × List Field) Cause
-fitting_set may [] file = Ok (file, [])
-fitting_set may (field ∷ fields) file = elim (field_set field file) [
-  | Ok new ↦ fitting_set may fields new
-  | Err cause ↦
-      if may && needs_space cause then left_over field (fitting_set may fields file) else Err cause
-]
+-- so by the edit of the file
+abbrev pub fit_one : Field → List ℕ × List Field → Result (List ℕ × List Field) Cause
+fit_one field (file, left) = fit_by field (field_set field file) (file, left)
+
+-- so with fields one after the other
+abbrev pub fitting_set : List Field → List ℕ × List Field
+    → Result (List ℕ × List Field) Cause
+fitting_set [] made = Ok made
+fitting_set (field ∷ fields) made = fit_one field made >>= fitting_set fields
+
+-- what the program answers
+abbrev pub fitted_of : Fitted → List ℕ × List Field
+fitted_of fitted = (fitted.file.items, fitted.left.items)

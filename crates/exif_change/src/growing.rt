@@ -1,55 +1,83 @@
 //! Files with fields set in their Exif data, which become longer, or in new ones.
 
-ghost use Rattle.std.specs.Prelude.{◌≡◌, ◌<◌, ◌+◌, [], Some, Ok, length, IfOk, OnOk};
-ghost use Rattle.exif_base.specs.Orders.{order_named};
-ghost use Rattle.exif_layout.specs.Image.{image};
+ghost use Rattle.std.specs.Prelude.{◌≡◌, OnOk, IfErr};
+ghost use Rattle.exif_types.specs.Refusals.{Gives};
 ghost use Rattle.exif_layout.specs.Rewriting.{pushed_all};
-ghost use Rattle.exif_segments.specs.Removing.{payload_of};
-ghost use Rattle.exif_change.specs.Changes.{IsRewritten};
-ghost use Rattle.exif_segments.specs.declared.remove.Remove.TheVariants.{Exif};
-ghost use Rattle.exif_change.specs.Growing.{HasGrown, IsReplacedIn, can_grow, new_data};
+ghost use Rattle.exif_change.specs.Changed.{change_of};
+ghost use Rattle.exif_change.specs.Growing.{counted, created_for, created_in, grown_file, grown_in, item_moved, longest, longest_after, new_data, put, put_alone, replaced};
+ghost use Rattle.exif_change.specs.Refusals.{Answers};
 
 use crate::Refusal;
+use crate::changed::Changed;
+use crate::rewriting::rewritten;
 use exif::experimental::Writer;
 use exif::{Counted, Error, Field, Tag};
 use exif_containers::container::Format;
 use exif_containers::exif_attr_of_stream;
 use exif_grow::set_fields;
 use exif_grow_files::with_data;
-use exif_rewrite::{Remove, rewrite};
+use exif_rewrite::Remove;
 use std::alloc::Global;
 
 // No segment or chunk of Exif data has fewer bytes, its header included.
-const SHORTEST_BLOCK: usize = 8;
-
-/// Whether the Exif data of a file of this format can become longer.
-pub fn can_grow(format: Format) -> bool
-    ensures { result ≡ can_grow (Some format) }
-{
-    matches!(
-        format,
-        Format::Tiff | Format::Jpeg | Format::WebP | Format::Heif
-    )
-}
+const SHORTEST_BLOCK: u128 = 8;
 
 /// The file with fields set in its Exif data by [`set_fields`], or in new Exif data if it has none.
-pub fn with_fields(
+#[tactic(auto, unfolding(crate::specs::Growing::grown_file))]
+pub(crate) fn grown_file(
     alloc: Global,
     format: Format,
-    file: &[u8],
     fields: &[Field],
-) -> Result<Vec<u8>, Refusal>
-    ensures { IfOk result (λ new. HasGrown (Some format) fields.now file.now new.items) }
+    file: &[u8],
+) -> Result<Changed, Refusal>
+    ensures { Answers change_of result (grown_file format fields.now file.now) }
 {
     match exif_attr_of_stream(alloc, &mut Counted::new(file)) {
-        Ok(old) => {
-            let data = set_fields(alloc, old.as_slice(), fields)?;
-            replaced(alloc, format, file, old.len(), data, fields)
-        }
-        Err(Error::NotFound(_)) => {
-            let data = new_data(alloc, fields)?;
-            put(alloc, file, data.as_slice(), fields)
-        }
+        Ok(old) => grown(alloc, format, fields, old.as_slice(), file),
+        Err(Error::NotFound(what)) => created_for(alloc, format, what, fields, file),
+        Err(error) => Err(Refusal::Reading(error)),
+    }
+}
+
+// The file with fields set in the Exif data that it has.
+fn grown(
+    alloc: Global,
+    format: Format,
+    fields: &[Field],
+    old: &[u8],
+    file: &[u8],
+) -> Result<Changed, Refusal>
+    ensures { Answers change_of result (grown_in format fields.now old.now file.now) }
+{
+    match set_fields(alloc, old, fields) {
+        Ok(data) => replaced(alloc, format, old.len(), data, fields, file),
+        Err(error) => Err(Refusal::Editing(error)),
+    }
+}
+
+// The file, which has no Exif data, with new ones that hold fields. The `meta` of a HEIF file would have
+// to grow.
+fn created_for(
+    alloc: Global,
+    format: Format,
+    what: &'static str,
+    fields: &[Field],
+    file: &[u8],
+) -> Result<Changed, Refusal>
+    ensures { Answers change_of result (created_for format what.now fields.now file.now) }
+{
+    match format {
+        Format::Heif => Err(Refusal::Reading(Error::NotFound(what))),
+        Format::Jpeg | Format::WebP | Format::Tiff => created(alloc, format, fields, file),
+    }
+}
+
+// The file with new Exif data that hold fields.
+fn created(alloc: Global, format: Format, fields: &[Field], file: &[u8]) -> Result<Changed, Refusal>
+    ensures { Answers change_of result (created_in format fields.now file.now) }
+{
+    match new_data(alloc, fields) {
+        Ok(data) => put(alloc, format, data.as_slice(), fields, file),
         Err(error) => Err(Refusal::Reading(error)),
     }
 }
@@ -58,18 +86,30 @@ pub fn with_fields(
 fn replaced(
     alloc: Global,
     format: Format,
-    file: &[u8],
     old_len: usize,
     exif: Vec<u8>,
     fields: &[Field],
-) -> Result<Vec<u8>, Refusal>
-    ensures { IfOk result
-        (λ new. IsReplacedIn (Some format) old_len exif.items file.now new.items) }
+    file: &[u8],
+) -> Result<Changed, Refusal>
+    ensures { Answers change_of result
+        (replaced format old_len exif.items fields.now file.now) }
 {
     match format {
-        Format::Tiff => Ok(exif),
-        Format::Jpeg | Format::WebP => { put_alone(alloc, file, old_len, exif.as_slice(), fields) }
-        Format::Heif => Ok(with_data(alloc, file, exif.as_slice())?),
+        Format::Tiff => Ok(Changed::whole(alloc, exif)),
+        Format::Jpeg | Format::WebP => {
+            put_alone(alloc, format, old_len, exif.as_slice(), fields, file)
+        }
+        Format::Heif => item_moved(alloc, exif.as_slice(), file),
+    }
+}
+
+// The HEIF file with new Exif data, whose item is put behind the file.
+fn item_moved(alloc: Global, exif: &[u8], file: &[u8]) -> Result<Changed, Refusal>
+    ensures { Answers change_of result (item_moved exif.now file.now) }
+{
+    match with_data(alloc, file, exif) {
+        Ok(new) => Ok(Changed::whole(alloc, new)),
+        Err(error) => Err(Refusal::Editing(error)),
     }
 }
 
@@ -77,20 +117,19 @@ fn replaced(
 // be lost.
 fn put_alone(
     alloc: Global,
-    file: &[u8],
+    format: Format,
     old_len: usize,
     exif: &[u8],
     fields: &[Field],
-) -> Result<Vec<u8>, Refusal>
-    ensures put { IfOk result
-        (λ new. IsRewritten Exif (Some exif.now) file.now new.items) }
-    ensures alone { IfOk result
-        (λ new. length file.now + length exif.now < length new.items + old_len + 8) }
+    file: &[u8],
+) -> Result<Changed, Refusal>
+    ensures { Answers change_of result
+        (put_alone format old_len exif.now fields.now file.now) }
 {
-    let new = put(alloc, file, exif, fields)?;
+    let new = put(alloc, format, exif, fields, file)?;
+    let after = new.file.len() as u128 + old_len as u128 + SHORTEST_BLOCK;
     let before = file.len() as u128 + exif.len() as u128;
-    let after = new.len() as u128 + old_len as u128;
-    if before >= after + SHORTEST_BLOCK as u128 {
+    if after <= before {
         return Err(Refusal::SecondExif);
     }
     Ok(new)
@@ -98,10 +137,16 @@ fn put_alone(
 
 // The JPEG or WebP file with new Exif data, in which these fields were set. Data that are too long are
 // refused with the name of the longest field.
-fn put(alloc: Global, file: &[u8], exif: &[u8], fields: &[Field]) -> Result<Vec<u8>, Refusal>
-    ensures { IfOk result (λ new. IsRewritten Exif (Some exif.now) file.now new.items) }
+fn put(
+    alloc: Global,
+    format: Format,
+    exif: &[u8],
+    fields: &[Field],
+    file: &[u8],
+) -> Result<Changed, Refusal>
+    ensures { Answers change_of result (put format exif.now fields.now file.now) }
 {
-    match written(alloc, file, Some(exif), Remove::Exif) {
+    match rewritten(alloc, format, file, Some(exif), Remove::Exif) {
         Ok(new) => Ok(new),
         Err(Error::TooBig(text)) => match longest(fields) {
             Some(tag) => Err(Refusal::TooLong(tag)),
@@ -111,23 +156,43 @@ fn put(alloc: Global, file: &[u8], exif: &[u8], fields: &[Field]) -> Result<Vec<
     }
 }
 
-// The tag of the first field whose value has the most units.
-fn longest(fields: &[Field]) -> Option<Tag> {
-    let mut found = None;
-    let mut most = 0;
+// How many items a value has, if 32 bits hold the number.
+fn counted(field: &Field) -> u32
+    ensures { result ≡ counted field.now }
+{
+    field.value.count().unwrap_or(0)
+}
+
+// Of fields, the tag of the first one whose value has more items than a number, or another tag.
+fn longest_after(fields: &[Field], tag: Tag, most: u32) -> Tag
+    ensures { result ≡ longest_after fields.now tag most }
+{
+    let mut found = tag;
+    let mut most = most;
     for field in fields {
-        let count = field.value.count().unwrap_or(0);
-        if found.is_none() || most < count {
-            found = Some(field.tag);
+        let count = counted(field);
+        if most < count {
+            found = field.tag;
             most = count;
         }
     }
     found
 }
 
+// The tag of the first field whose value has the most items.
+fn longest(fields: &[Field]) -> Option<Tag>
+    ensures { result ≡ longest fields.now }
+{
+    if fields.is_empty() {
+        return None;
+    }
+    let most = counted(&fields[0]);
+    Some(longest_after(&fields[1..], fields[0].tag, most))
+}
+
 // New Exif data that hold these fields alone, big endian.
 fn new_data(alloc: Global, fields: &[Field]) -> Result<Vec<u8>, Error>
-    ensures { IfOk result (λ bytes. bytes.items ≡ new_data fields.now) }
+    ensures { Gives (λ bytes. bytes.items) result (new_data fields.now) }
 {
     let mut writer = Writer::new(alloc);
     push_all(&mut writer, fields)?;
@@ -138,25 +203,11 @@ fn new_data(alloc: Global, fields: &[Field]) -> Result<Vec<u8>, Error>
 
 // Pushes fields.
 fn push_all<'a>(writer: &mut Writer<'a>, fields: &'a [Field]) -> Result<(), Error>
-    ensures { OnOk result (writer.new ≡ pushed_all fields.now writer.old) }
+    ensures pushed { OnOk result (writer.new ≡ pushed_all fields.now writer.old) }
+    ensures memory { IfErr result (λ e. e ≡ Error.OutOfMemory) }
 {
     for field in fields {
         writer.push_field(field)?;
     }
     Ok(())
-}
-
-/// The JPEG or WebP file with new Exif data in place of its own.
-pub fn written(
-    alloc: Global,
-    file: &[u8],
-    exif: Option<&[u8]>,
-    remove: Remove,
-) -> Result<Vec<u8>, Error>
-    ensures { IfOk result
-        (λ new. IsRewritten remove (payload_of exif.entry) file.now new.items) }
-{
-    let mut out = Counted::new(Vec::new(alloc));
-    rewrite(alloc, &mut Counted::new(file), &mut out, exif, remove)?;
-    Ok(out.into_inner())
 }

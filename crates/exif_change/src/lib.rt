@@ -1,21 +1,22 @@
 //! What the program changes of a file, in memory: metadata taken out, values set, dates shifted,
-//! the thumbnail. Each call answers the whole new file, and a refusal by its cause.
+//! the thumbnail. Each call answers the whole new file and what was left undone in it, or a refusal
+//! by its cause.
 #![tactic(auto)]
 
-mod assignment;
-mod clock;
+mod changed;
+mod dates;
 mod growing;
 mod in_place;
-mod new_fields;
 mod reading;
 mod refusal;
+mod rewriting;
 mod scrubbing;
 mod setting;
 mod thumbnails;
-mod value_text;
 
-pub use assignment::Assignment;
-pub use clock::{ClockShift, Dates, shift};
+pub use changed::{Changed, Left};
+pub use dates::{Dates, shift};
+pub use exif_assign::{Assignment, ClockShift, Unmoved};
 pub use exif_edit::Unerased;
 pub use reading::{ENTRY_LIMIT, read};
 pub use refusal::Refusal;

@@ -1,5 +1,8 @@
 //! Why a file is not changed.
 
+ghost use Rattle.std.specs.Prelude.{◌≡◌};
+ghost use Rattle.exif_change.specs.declared.refusal.Refusal.TheVariants.{Editing, OutOfMemory, Reading};
+
 use exif::Tag;
 use std::alloc::{AllocError, AllocFailed};
 use std::fmt;
@@ -9,11 +12,11 @@ use std::fmt;
 pub enum Refusal {
     /// The file is none that is read, or its Exif data are refused.
     Reading(exif::Error),
-    /// The edit in place is refused.
+    /// The edit is refused.
     Editing(exif_edit::Error),
     /// The file is neither TIFF, JPEG, HEIF nor WebP.
     UnknownFormat,
-    /// The metadata of TIFF data can't be taken out: the picture stands in them.
+    /// The metadata of TIFF data can't be taken out: the picture is in the same data.
     PictureData,
     /// The file has more than one block of Exif data, and only one would be left.
     SecondExif,
@@ -21,14 +24,12 @@ pub enum Refusal {
     TooLong(Tag),
     /// The file has no such field, and the standard's type of it is not known here.
     FieldNotFound,
-    /// Invalid value for the type of the field.
-    NotOfItsType,
-    /// No date stands in the file.
+    /// The text is no value of the type that the field of this tag has.
+    NotOfItsType(Tag),
+    /// The standard does not have this value for the tag.
+    OutOfRange(Tag),
+    /// There is no date in the file.
     NoDate,
-    /// A date of the file is no date of the calendar.
-    InvalidDate,
-    /// A shifted date falls out of the years 0 to 9999.
-    DateOutOfRange,
     /// The file has no thumbnail.
     NoThumbnail,
     /// There was no memory.
@@ -36,24 +37,32 @@ pub enum Refusal {
 }
 
 impl From<AllocError> for Refusal {
+    ghost from_gives = { λ _ r. r ≡ OutOfMemory };
+
     fn from(_e: AllocError) -> Refusal {
         Refusal::OutOfMemory
     }
 }
 
 impl<T: Drop> From<AllocFailed<T>> for Refusal {
+    ghost from_gives = { λ _ r. r ≡ OutOfMemory };
+
     fn from(_e: AllocFailed<T>) -> Refusal {
         Refusal::OutOfMemory
     }
 }
 
 impl From<exif::Error> for Refusal {
+    ghost from_gives = { λ e r. r ≡ Reading e };
+
     fn from(e: exif::Error) -> Refusal {
         Refusal::Reading(e)
     }
 }
 
 impl From<exif_edit::Error> for Refusal {
+    ghost from_gives = { λ e r. r ≡ Editing e };
+
     fn from(e: exif_edit::Error) -> Refusal {
         Refusal::Editing(e)
     }
@@ -82,10 +91,9 @@ impl fmt::Display for Refusal {
                 "{tag} is too long: the Exif data of a JPEG file have at most 65,527 bytes"
             ),
             Refusal::FieldNotFound => write!(f, "No such field, and it cannot be created"),
-            Refusal::NotOfItsType => write!(f, "Invalid value for the type of the field"),
+            Refusal::NotOfItsType(tag) => write!(f, "Invalid value for the type of {tag}"),
+            Refusal::OutOfRange(tag) => write!(f, "{tag} cannot have this value"),
             Refusal::NoDate => write!(f, "No date to shift"),
-            Refusal::InvalidDate => write!(f, "Invalid date"),
-            Refusal::DateOutOfRange => write!(f, "The shifted date is out of range"),
             Refusal::NoThumbnail => write!(f, "No thumbnail"),
             Refusal::OutOfMemory => write!(f, "Out of memory"),
         }

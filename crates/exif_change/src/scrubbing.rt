@@ -1,11 +1,16 @@
 //! Metadata taken out of a file.
 
 ghost use Rattle.std.specs.Prelude.{◌≡◌, IfOk};
-ghost use Rattle.exif_change.specs.Changes.{IsErased, IsScrubbed, left_in};
-ghost use Rattle.exif_edit.specs.declared.edits.Edit.TheVariants.{EraseAll, EraseGps};
+ghost use Rattle.std.specs.Option.{option_map};
+ghost use Rattle.exif_types.specs.Refusals.{Gives};
+ghost use Rattle.exif_change.specs.Changed.{change_of};
+ghost use Rattle.exif_change.specs.Changes.{erased, kept, left_in, orientation_in, scrubbed, scrubbed_as, without_metadata};
+ghost use Rattle.exif_change.specs.Reading.{file_contents};
+ghost use Rattle.exif_change.specs.Refusals.{Answers};
 
-use crate::growing::written;
+use crate::changed::Changed;
 use crate::reading::ENTRY_LIMIT;
+use crate::rewriting::rewritten;
 use crate::{Refusal, read};
 use exif::Counted;
 use exif_containers::container::{Format, format_of};
@@ -27,34 +32,81 @@ pub enum Removed {
 }
 
 /// The file without its metadata. JPEG and WebP lose them; in HEIF files the fields of the Exif
-/// data are erased where they stand; TIFF data are refused, but for their GPS data. A file that has
-/// no Exif data stays as it is where only those would change. It takes the memory of the file and
-/// of the new one.
-pub fn scrub(alloc: Global, file: Vec<u8>, removed: Removed) -> Result<Vec<u8>, Refusal>
-    ensures { IfOk result (λ new. IsScrubbed removed file.items new.items) }
+/// data are erased where they are; TIFF data are refused, but for their GPS data. A file that has
+/// no Exif data stays as it is where only those would change. Of a JPEG stream that ends before its
+/// picture does what is there is kept. It takes the memory of the file and of the new one.
+pub fn scrub(alloc: Global, file: Vec<u8>, removed: Removed) -> Result<Changed, Refusal>
+    ensures { Answers change_of result (scrubbed removed file.items) }
 {
-    match (removed, format_of(file.as_slice())) {
-        (_, None) => Err(Refusal::UnknownFormat),
-        (Removed::Gps, Some(_)) => erased(alloc, file, Edit::EraseGps),
-        (_, Some(Format::Tiff)) => Err(Refusal::PictureData),
-        (_, Some(Format::Heif)) => erased(alloc, file, Edit::EraseAll),
-        (Removed::Metadata, Some(Format::Jpeg | Format::WebP)) => {
-            Ok(written(alloc, &file, None, Remove::Metadata)?)
-        }
-        (Removed::AllButOrientation, Some(Format::Jpeg | Format::WebP)) => {
-            let kept = orientation_of(alloc, &file)?;
-            Ok(written(alloc, &file, kept.as_deref(), Remove::Metadata)?)
-        }
+    match format_of(file.as_slice()) {
+        Some(format) => scrubbed_as(alloc, format, file, removed),
+        None => Err(Refusal::UnknownFormat),
+    }
+}
+
+// The file of a format without what is taken out.
+fn scrubbed_as(
+    alloc: Global,
+    format: Format,
+    file: Vec<u8>,
+    removed: Removed,
+) -> Result<Changed, Refusal>
+    ensures { Answers change_of result (scrubbed_as format removed file.items) }
+{
+    match (removed, format) {
+        (Removed::Gps, _) => erased(alloc, file, &Edit::EraseGps),
+        (_, Format::Tiff) => Err(Refusal::PictureData),
+        (_, Format::Heif) => erased(alloc, file, &Edit::EraseAll),
+        (_, Format::Jpeg | Format::WebP) => emptied(alloc, format, file.as_slice(), removed),
     }
 }
 
 // The file with its fields erased by an edit, or as it is where it has no Exif data.
-fn erased(alloc: Global, mut file: Vec<u8>, edit: Edit) -> Result<Vec<u8>, Refusal>
-    ensures { IfOk result (λ new. IsErased edit file.items new.items) }
+fn erased(alloc: Global, mut file: Vec<u8>, edit: &Edit) -> Result<Changed, Refusal>
+    ensures { Answers change_of result (erased edit.now file.items) }
 {
-    match apply_in_file(alloc, &edit, Some(ENTRY_LIMIT), file.as_mut_slice()) {
-        Ok(()) | Err(Error::Container(exif::Error::NotFound(_))) => Ok(file),
+    match apply_in_file(alloc, edit, Some(ENTRY_LIMIT), file.as_mut_slice()) {
+        Ok(()) | Err(Error::Container(exif::Error::NotFound(_))) => Ok(Changed::whole(alloc, file)),
         Err(error) => Err(Refusal::Editing(error)),
+    }
+}
+
+// The JPEG or WebP file without its metadata, but for what is kept.
+fn emptied(alloc: Global, format: Format, file: &[u8], removed: Removed) -> Result<Changed, Refusal>
+    ensures { Answers change_of result (without_metadata format removed file.now) }
+{
+    let kept = kept(alloc, file, removed)?;
+    let exif = kept.as_deref();
+    match rewritten(alloc, format, file, exif, Remove::Metadata) {
+        Ok(changed) => Ok(changed),
+        Err(error) => Err(Refusal::Reading(error)),
+    }
+}
+
+// What is put in place of the metadata of a file.
+fn kept(alloc: Global, file: &[u8], removed: Removed) -> Result<Option<Vec<u8>>, Refusal>
+    ensures { Answers (option_map (λ made. made.items)) result (kept removed file.now) }
+{
+    match removed {
+        Removed::AllButOrientation => match orientation_of(alloc, file) {
+            Ok(kept) => Ok(kept),
+            Err(error) => Err(Refusal::Reading(error)),
+        },
+        Removed::Metadata | Removed::Gps => Ok(None),
+    }
+}
+
+// Exif data that hold the orientation of a file's picture alone, if it is told.
+fn orientation_of(alloc: Global, file: &[u8]) -> Result<Option<Vec<u8>>, exif::Error>
+    ensures { Gives (option_map (λ made. made.items)) result
+        (orientation_in (file_contents file.now)) }
+{
+    match read(alloc, file) {
+        Ok(exif) => scrubbed_exif(alloc, &exif, UPRIGHT),
+        Err(exif::Error::OutOfMemory | exif::Error::Io(_) | exif::Error::PartialResult(_)) => {
+            Err(exif::Error::OutOfMemory)
+        }
+        Err(_no_fields) => Ok(None),
     }
 }
 
@@ -74,14 +126,5 @@ pub fn unerased(alloc: Global, file: &[u8]) -> Result<Option<Unerased>, AllocErr
         Ok(left) => Ok(Some(left)),
         Err(Error::OutOfMemory) => Err(AllocError),
         Err(_) => Ok(None),
-    }
-}
-
-// Exif data that hold the orientation of a file's picture alone, if it is told.
-fn orientation_of(alloc: Global, file: &[u8]) -> Result<Option<Vec<u8>>, Refusal> {
-    match read(alloc, file) {
-        Ok(exif) => Ok(scrubbed_exif(alloc, &exif, UPRIGHT)?),
-        Err(exif::Error::OutOfMemory) => Err(Refusal::OutOfMemory),
-        Err(_no_fields) => Ok(None),
     }
 }

@@ -1,95 +1,139 @@
 //! Values set in a file.
 
-ghost use Rattle.std.specs.Prelude.{◌≡◌, ◌<◌, ◌+◌, ◌++◌, drop, length, map, IfOk, OnOk, OnErr};
-ghost use Rattle.std.specs.List.{All};
-ghost use Rattle.exif_change.specs.Setting.{IsSet, IsSetHere, WasThere, assigned_tags, is_assigned};
+ghost use Rattle.std.specs.Prelude.{◌≡◌, []};
+ghost use Rattle.exif_assign.specs.Assigning.{parts_of};
+ghost use Rattle.exif_change.specs.Changed.{change_of};
+ghost use Rattle.exif_change.specs.Refusals.{Answers, Changes};
+ghost use Rattle.exif_change.specs.Setting.{assigned_behind, assigned_fields, field_for, field_here, fields_read, is_assigned, known_type, set_as, set_file, set_here, set_rest, type_for, with_assigned};
 
-use crate::growing::{can_grow, with_fields};
-use crate::in_place::{set_field, set_what_fits};
-use crate::new_fields::type_of_new;
-use crate::value_text::value_of;
-use crate::{Assignment, Refusal, read};
+use crate::changed::Changed;
+use crate::growing::grown_file;
+use crate::in_place::{Fitted, set_field, set_what_fits};
+use crate::{Refusal, read};
 use exif::{Exif, Field, In, Tag};
-use exif_containers::container::format_of;
+use exif_assign::{Assignment, ValueError, type_of_new, value_of};
+use exif_containers::container::{Format, format_of};
+use exif_types::FieldType;
 use std::alloc::Global;
 
 /// The file with values set. A value that fits is written over the old one; another one, or a new
 /// field, is appended to the Exif data, in which no old byte moves: maker notes, previews and
 /// thumbnails keep their offsets. Those of a HEIF file are then put behind the file. JPEG and WebP
-/// files that have no Exif data get new ones; HEIF files without them are refused. Of two values of one tag the last is set. A field that the file
-/// has keeps its type; one that it lacks has the type of the standard.
+/// files that have no Exif data get new ones; HEIF files without them are refused. Of two values of one tag the last is set, and of two fields of
+/// one name the last. A field that the file has keeps its type; one that it lacks has the type of
+/// the standard.
 ///
 /// It takes the memory of the file, of the new one, and of what
 /// [`set_fields`](exif_grow::set_fields) takes.
-pub fn set(alloc: Global, file: Vec<u8>, assignments: &[Assignment<'_>]) -> Result<Vec<u8>, Refusal>
-    ensures { IfOk result (λ new. IsSet assignments.now file.items new.items) }
+pub fn set(alloc: Global, file: Vec<u8>, assignments: &[Assignment<'_>]) -> Result<Changed, Refusal>
+    ensures { Answers change_of result (set_file assignments.now file.items) }
 {
-    let Some(format) = format_of(file.as_slice()) else {
-        return Err(Refusal::UnknownFormat);
-    };
-    let fields = assigned(alloc, &file, assignments)?;
-    let fitted = set_what_fits(alloc, file, fields, can_grow(format))?;
-    if fitted.left.is_empty() {
-        return Ok(fitted.file);
+    match format_of(file.as_slice()) {
+        Some(format) => set_as(alloc, format, assignments, file),
+        None => Err(Refusal::UnknownFormat),
     }
-    with_fields(
+}
+
+// The file of a format with values set.
+fn set_as(
+    alloc: Global,
+    format: Format,
+    assignments: &[Assignment<'_>],
+    file: Vec<u8>,
+) -> Result<Changed, Refusal>
+    ensures { Answers change_of result (set_as format assignments.now file.items) }
+{
+    let fields = assigned_fields(alloc, &file, assignments)?;
+    let fitted = set_what_fits(alloc, file, fields)?;
+    set_rest(alloc, format, fitted)
+}
+
+// The file with the fields set that were left over.
+fn set_rest(alloc: Global, format: Format, fitted: Fitted) -> Result<Changed, Refusal>
+    ensures { Answers change_of result
+        (set_rest format (fitted.file.items, fitted.left.items)) }
+{
+    if fitted.left.is_empty() {
+        return Ok(Changed::whole(alloc, fitted.file));
+    }
+    grown_file(
         alloc,
         format,
-        fitted.file.as_slice(),
         fitted.left.as_slice(),
+        fitted.file.as_slice(),
     )
 }
 
-/// Sets one field of the primary image of a file in place: the file keeps its length. After a refusal
-/// it is as it was.
+/// Sets one field of the primary image of a file in place: the file keeps its length. Of two fields
+/// of its name the last is set. After a refusal the file is as it was.
 pub fn set_here(alloc: Global, file: &mut [u8], assignment: &Assignment<'_>) -> Result<(), Refusal>
-    ensures set { OnOk result (IsSetHere assignment.now.tag file.old file.new) }
-    ensures kept { OnErr result (file.new ≡ file.old) }
+    ensures { Changes result file.old file.new (set_here (parts_of assignment.now) file.old) }
 {
-    let exif = read(alloc, file)?;
-    let field = field_for(alloc, Some(&exif), assignment)?;
-    set_field(alloc, file, field)
+    let field = field_here(alloc, file, assignment)?;
+    match set_field(alloc, file, field) {
+        Ok(()) => Ok(()),
+        Err(error) => Err(Refusal::Editing(error)),
+    }
+}
+
+// The field that is to be set in a file that has Exif data.
+fn field_here(alloc: Global, file: &[u8], assignment: &Assignment<'_>) -> Result<Field, Refusal>
+    ensures { Answers (λ field. field) result (field_here (parts_of assignment.now) file.now) }
+{
+    match read(alloc, file) {
+        Ok(exif) => field_for(alloc, Some(&exif), assignment),
+        Err(error) => Err(Refusal::Reading(error)),
+    }
 }
 
 // The fields that are to be set in a file, of those of one tag the last.
-fn assigned(
+fn assigned_fields(
     alloc: Global,
     file: &[u8],
     assignments: &[Assignment<'_>],
 ) -> Result<Vec<Field>, Refusal>
-    ensures named { IfOk result
-        (λ fields. map (λ f. f.tag) fields.items ≡ assigned_tags assignments.now) }
-    ensures primary { IfOk result (λ fields. All (λ f. f.ifd_num.0 ≡ 0) fields.items) }
+    ensures { Answers (λ sets. sets.items) result (assigned_fields file.now assignments.now) }
 {
-    let exif = if_there(read(alloc, file))?;
-    let mut fields = Vec::new(alloc);
-    for index in 0..assignments.len() {
-        add_assigned(alloc, exif.as_ref(), assignments, index, &mut fields)?;
+    match read(alloc, file) {
+        Ok(exif) => assigned(alloc, Some(&exif), assignments),
+        Err(exif::Error::NotFound(_)) => assigned(alloc, None, assignments),
+        Err(error) => Err(Refusal::Reading(error)),
     }
-    Ok(fields)
+}
+
+// The fields that are to be set in a file where these were read.
+fn assigned(
+    alloc: Global,
+    exif: Option<&Exif>,
+    assignments: &[Assignment<'_>],
+) -> Result<Vec<Field>, Refusal>
+    ensures { Answers (λ sets. sets.items) result
+        (assigned_behind (fields_read exif.entry) assignments.now []) }
+{
+    let mut sets = Vec::new(alloc);
+    for index in 0..assignments.len() {
+        let later = &assignments[index + 1..];
+        add_assigned(alloc, exif, &assignments[index], later, &mut sets)?;
+    }
+    Ok(sets)
 }
 
 // Adds the field of an assignment, unless a later one has its tag.
 fn add_assigned(
     alloc: Global,
     exif: Option<&Exif>,
-    assignments: &[Assignment<'_>],
-    index: usize,
-    fields: &mut Vec<Field>,
+    assignment: &Assignment<'_>,
+    later: &[Assignment<'_>],
+    sets: &mut Vec<Field>,
 ) -> Result<(), Refusal>
-    requires { index < length assignments.now }
-    ensures named { OnOk result
-        (map (λ f. f.tag) fields.new.items ++ assigned_tags (drop (index + 1) assignments.now)
-        ≡ map (λ f. f.tag) fields.old.items ++ assigned_tags (drop index assignments.now)) }
-    ensures primary { OnOk result (All (λ f. f.ifd_num.0 ≡ 0) fields.old.items
-        → All (λ f. f.ifd_num.0 ≡ 0) fields.new.items) }
+    ensures { Answers (λ done. sets.new.items) result
+        (with_assigned (fields_read exif.entry) assignment.now later.now sets.old.items) }
 {
-    let assignment = &assignments[index];
-    if is_assigned(&assignments[index + 1..], assignment.tag) {
+    if is_assigned(later, assignment.tag) {
         return Ok(());
     }
     let field = field_for(alloc, exif, assignment)?;
-    fields.push(field)?;
+    sets.push(field)?;
     Ok(())
 }
 
@@ -100,15 +144,22 @@ fn is_assigned(assignments: &[Assignment<'_>], tag: Tag) -> bool
     assignments.iter().any(|other| tag == other.tag)
 }
 
-// What was read of a file, if it holds Exif data.
-fn if_there(answer: Result<Exif, exif::Error>) -> Result<Option<Exif>, Refusal>
-    ensures { IfOk result (λ found. WasThere answer.entry found) }
+// The type that a field has in a file, or that a new one has.
+fn type_for(exif: Option<&Exif>, tag: Tag) -> Option<FieldType>
+    ensures { result ≡ type_for (fields_read exif.entry) tag }
 {
-    match answer {
-        Ok(exif) => Ok(Some(exif)),
-        Err(exif::Error::NotFound(_)) => Ok(None),
-        Err(error) => Err(Refusal::Reading(error)),
+    match known_type(exif, tag) {
+        Some(field_type) => Some(field_type),
+        None => type_of_new(tag),
     }
+}
+
+// The type that a field has in a file.
+fn known_type(exif: Option<&Exif>, tag: Tag) -> Option<FieldType>
+    ensures { result ≡ known_type (fields_read exif.entry) tag }
+{
+    let field = exif?.get_field(tag, In::PRIMARY)?;
+    field.value.field_type()
 }
 
 // The field that is to be set.
@@ -117,18 +168,21 @@ fn field_for(
     exif: Option<&Exif>,
     assignment: &Assignment<'_>,
 ) -> Result<Field, Refusal>
-    ensures named { IfOk result (λ field. field.tag ≡ assignment.now.tag) }
-    ensures primary { IfOk result (λ field. field.ifd_num.0 ≡ 0) }
+    ensures { Answers (λ field. field) result
+        (field_for (fields_read exif.entry) (parts_of assignment.now)) }
 {
     let tag = assignment.tag;
-    let old = exif.and_then(|exif| exif.get_field(tag, In::PRIMARY));
-    let known = old.and_then(|field| field.value.field_type());
-    let Some(field_type) = known.or(type_of_new(tag)) else {
+    let Some(field_type) = type_for(exif, tag) else {
         return Err(Refusal::FieldNotFound);
     };
-    Ok(Field {
-        tag,
-        ifd_num: In::PRIMARY,
-        value: value_of(alloc, tag, field_type, assignment.text)?,
-    })
+    match value_of(alloc, tag, field_type, assignment.text) {
+        Ok(value) => Ok(Field {
+            tag,
+            ifd_num: In::PRIMARY,
+            value,
+        }),
+        Err(ValueError::NotOfItsType) => Err(Refusal::NotOfItsType(tag)),
+        Err(ValueError::OutOfRange) => Err(Refusal::OutOfRange(tag)),
+        Err(ValueError::OutOfMemory) => Err(Refusal::OutOfMemory),
+    }
 }

@@ -5,7 +5,7 @@ use crate::replace::replace;
 use crate::request::{Change, Keeping, Target};
 use exif::{Error, Sink};
 use exif_base::send_all;
-use exif_change::{Refusal, Removed, Unerased, scrub, set, shift, unerased};
+use exif_change::{Changed, Refusal, Removed, Unerased, scrub, set, shift, unerased};
 use std::alloc::Global;
 use std::{fmt, io};
 
@@ -97,9 +97,11 @@ fn left_in(alloc: Global, change: &Change<'_>, new: &[u8]) -> Result<Option<Left
 // The changed file.
 fn changed(alloc: Global, change: &Change<'_>, old: &Vec<u8>) -> Result<Vec<u8>, Refusal> {
     let file = Vec::from_slice(alloc, old.as_slice())?;
-    match change {
-        Change::Scrub(removed) => scrub(alloc, file, *removed),
-        Change::Shift(by, dates) => shift(alloc, file, *by, *dates),
-        Change::Set(values) => set(alloc, file, values.as_slice()),
-    }
+    let changed = match change {
+        Change::Scrub(removed) => scrub(alloc, file, *removed)?,
+        Change::Shift(by, dates) => shift(alloc, file, *by, *dates)?,
+        Change::Set(values) => set(alloc, file, values.as_slice())?,
+    };
+    let Changed { file, left: _left } = changed;
+    Ok(file)
 }

@@ -17,7 +17,7 @@ use Rattle.exif_types.specs.ValueTypes.{count_of}
 use Rattle.exif_json.specs.Prints.{Prints}
 use Rattle.exif_containers.specs.declared.container.Format.{Format}
 use Rattle.exif_json.specs.Fields.{count_json, field_json}
-use Rattle.exif_json.specs.Files.{answer_json, fault_json, refusal_json}
+use Rattle.exif_json.specs.Files.{answer_json, empty_json, fault_json, refusal_json}
 use Rattle.exif_json.specs.Coordinates.{Degrees}
 use Rattle.exif_json.specs.Summaries.{camera_members, date_json, degrees_json, maybe, location_members, size_members, standing_members, summary_json}
 use Rattle.exif_json.specs.Texts.{latin1_json, text_json}
@@ -115,3 +115,7 @@ answer_shallow path format exif faults =
 -- the JSON of a refusal nests no deeper than JSON that is read may
 pub refusal_shallow : (path said : List ℕ) → depth (refusal_json path said) ≤ max_depth
 refusal_shallow path said = omega (arith, text_shallow path)
+
+-- the JSON of a file without Exif data nests no deeper than JSON that is read may
+pub empty_shallow : (path : List ℕ) (format : Format) → depth (empty_json path format) ≤ max_depth
+empty_shallow path format = omega (arith, text_shallow path)

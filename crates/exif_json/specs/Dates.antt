@@ -1,6 +1,6 @@
 -- When a picture was taken (Exif 2.32, 4.6.5: DateTimeOriginal, SubSecTimeOriginal and
 -- OffsetTimeOriginal), as ISO 8601 writes it.
-use Rattle.std.specs.Prelude.{ℕ, ℤ, unsigned_abs, ◌/◌, ◌%◌, nat_lt, Bool, ◌&&◌, List, [], ◌++◌, codes, Option, Some, None, Result, Ok, Err, if◌then◌else◌, option_and_then}
+use Rattle.std.specs.Prelude.{ℕ, ℤ, unsigned_abs, ◌/◌, ◌%◌, ◌==◌, nat_le, nat_lt, Bool, not, ◌&&◌, ◌||◌, List, [], ◌++◌, codes, Option, Some, None, Result, Ok, Err, if◌then◌else◌, option_and_then}
 use Rattle.std.specs.Fmt.{decimal}
 use Rattle.std.specs.Int.{is_negative}
 use Rattle.exif_text.specs.Clock.{date_text, time_text}
@@ -34,10 +34,21 @@ iso_text d =
     date_text (calendar_date d)
     ++ (codes "T" ++ (time_text (time_of_day d) ++ (fraction_text d.nanosecond ++ offset_text d.offset)))
 
+-- every fourth year has 366 days, but of the centuries only every fourth
+abbrev pub is_leap : ℕ → Bool
+is_leap year = (year % 4 == 0) && (not (year % 100 == 0) || (year % 400 == 0))
+
+-- thirty days have September, April, June and November
+abbrev pub days_in_month : ℕ → ℕ → ℕ
+days_in_month year month =
+    if month == 2 then (if is_leap year then 29 else 28)
+    else (if (month == 4) || ((month == 6) || ((month == 9) || (month == 11))) then 30 else 31)
+
 -- whether the parts of a date are those of the calendar and of the clock (a leap second counts)
 abbrev pub is_in_range : DateTime → Bool
 is_in_range d =
-    nat_lt 0 d.month && (nat_lt d.month 13 && (nat_lt 0 d.day && (nat_lt d.day 32
+    nat_lt 0 d.month && (nat_lt d.month 13 && (nat_lt 0 d.day
+    && (nat_le d.day (days_in_month d.year d.month)
     && (nat_lt d.hour 24 && (nat_lt d.minute 60 && nat_lt d.second 61)))))
 
 -- a date, if it is one

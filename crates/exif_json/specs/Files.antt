@@ -48,6 +48,15 @@ abbrev pub answer_json : List ℕ → Format → ExifContents → List Failure �
 answer_json path format exif faults =
     object (path_members path ++ answer_members format exif faults)
 
+-- a file without Exif data
+abbrev pub empty_members : Format → List (List ℕ × Json)
+empty_members format =
+    (codes "format", J.string (format_name format))
+    ∷ (codes "fields", array []) ∷ (codes "faults", array []) ∷ []
+
+abbrev pub empty_json : List ℕ → Format → Json
+empty_json path format = object (path_members path ++ empty_members format)
+
 -- a file that was refused, with what is said of it
 abbrev pub refusal_json : List ℕ → List ℕ → Json
 refusal_json path said = object (path_members path ++ ((codes "error", J.string said) ∷ []))

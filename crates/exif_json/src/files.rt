@@ -1,15 +1,15 @@
 //! The object of a file.
 
-ghost use Rattle.std.specs.Prelude.{◌≡◌, ◌++◌, All, IfOk, IfSome, OnOk, Some, List, ℕ};
+ghost use Rattle.std.specs.Prelude.{◌≡◌, ◌++◌, [], All, IfOk, IfSome, OnOk, Some, List, ℕ};
 ghost use Rattle.std.specs.Str.{IsUtf8};
 ghost use Rattle.json.specs.Json.{document};
 ghost use Rattle.json.specs.Print.{print};
 ghost use Rattle.json.specs.Tree.{json_tokens};
 ghost use Rattle.exif_types.specs.Failures.{IsInvalidFormat, error_text};
-ghost use Rattle.exif_json.specs.Files.{answer_json, answer_members, fault_json, faults_json, format_name, order_name, path_members, refusal_json};
+ghost use Rattle.exif_json.specs.Files.{answer_json, answer_members, empty_json, empty_members, fault_json, faults_json, format_name, order_name, path_members, refusal_json};
 ghost use Rattle.exif_json.specs.Answers.{Tells};
 ghost use Rattle.exif_json.specs.Prints.{Prints};
-ghost use Rattle.exif_json.specs.Trees.{parts_tokens};
+ghost use Rattle.exif_json.specs.Trees.{array, parts_tokens};
 
 use crate::fields::write_fields;
 use crate::printer::Printer;
@@ -109,6 +109,36 @@ fn write_read(
     printer.out.end_object()
 }
 
+/// Writes an array without members.
+fn write_empty(printer: &mut Printer) -> Result<(), AllocError>
+    ensures { Prints result printer.old.out printer.new.out (json_tokens (array [])) }
+{
+    write_faults(printer, &[])
+}
+
+/// Writes the members that tell that there are no Exif data.
+fn write_none(printer: &mut Printer, format: Format) -> Result<(), AllocError>
+    ensures { Prints result printer.old.out printer.new.out
+        (parts_tokens (empty_members format)) }
+{
+    printer.text_member("format", name_of(format))?;
+    printer.out.key("fields")?;
+    write_empty(printer)?;
+    printer.out.key("faults")?;
+    write_empty(printer)
+}
+
+/// Writes the object of a file without Exif data.
+fn write_file_of_none(printer: &mut Printer, path: &[u8], format: Format) -> Result<(), AllocError>
+    ensures { Prints result printer.old.out printer.new.out
+        (json_tokens (empty_json path.now format)) }
+{
+    printer.out.begin_object()?;
+    write_path(printer, path)?;
+    write_none(printer, format)?;
+    printer.out.end_object()
+}
+
 /// Writes the object of a file that was refused.
 fn write_refusal(printer: &mut Printer, path: &[u8], error: &Error) -> Result<(), AllocError>
     ensures prints { IfSome (error_text error.now)
@@ -143,6 +173,20 @@ pub fn read_json(
     Ok(printer.finish())
 }
 
+/// The JSON object (RFC 8259) of a file without Exif data: its path, what it is, and no fields. The
+/// only error is out of memory.
+pub fn empty_json(alloc: Global, path: &[u8], format: Format) -> Result<Vec<u8>, AllocError>
+    ensures text { IfOk result (λ text. text.items
+        ≡ print (json_tokens (empty_json path.now format))) }
+    ensures reads_back { IfOk result (λ text. document text.items
+        ≡ Some (empty_json path.now format)) }
+    ensures utf8 { IfOk result (λ text. IsUtf8 text.items) }
+{
+    let mut printer = Printer::new(alloc);
+    write_file_of_none(&mut printer, path, format)?;
+    Ok(printer.finish())
+}
+
 /// The JSON object (RFC 8259) of a file that was refused: its path and the error's text. The only
 /// error is out of memory.
 pub fn refusal_json(alloc: Global, path: &[u8], error: &Error) -> Result<Vec<u8>, AllocError>
@@ -158,7 +202,7 @@ pub fn refusal_json(alloc: Global, path: &[u8], error: &Error) -> Result<Vec<u8>
 }
 
 /// The JSON object of what a reader answered of a file: of what was read, with the faults that were
-/// passed over, or of the refusal. The only error is out of memory.
+/// skipped, of a file without Exif data, or of the refusal. The only error is out of memory.
 pub fn told_json(
     alloc: Global,
     path: &[u8],
@@ -174,6 +218,7 @@ pub fn told_json(
             let (exif, faults) = partial.into_inner();
             read_json(alloc, path, format, &exif, &faults)
         }
+        Err(Error::NotFound(_)) => empty_json(alloc, path, format),
         Err(error) => refusal_json(alloc, path, &error),
     }
 }

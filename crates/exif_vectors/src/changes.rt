@@ -3,10 +3,9 @@
 use crate::calls::{end_of, end_of_error, send};
 use exif::{Sink, Source};
 use exif_cases::{Call, Case, CaseError};
-use exif_change::{Assignment, ClockShift, Dates, Refusal, Removed, read, thumbnail};
+use exif_change::{Assignment, Changed, ClockShift, Dates, Refusal, Removed, read, thumbnail};
 use exif_segments::util::read_all;
 use std::alloc::{AllocError, Global};
-use std::fmt::Display;
 
 /// Reads a file, changes it, and sends what it is then. A refusal sends nothing but the old file.
 pub fn change<R: Source, W: Sink>(
@@ -37,15 +36,22 @@ fn changed<W: Sink>(
     sent(alloc, file, answer, out)
 }
 
-// Sends the new file, or the old one and the text of the refusal.
-fn sent<E: Display + Drop, W: Sink>(
+// Sends the new file, and answers what was left undone first, or the old one and the text of the
+// refusal.
+fn sent<W: Sink>(
     alloc: Global,
     old: Vec<u8>,
-    answer: Result<Vec<u8>, E>,
+    answer: Answer,
     out: &mut W,
 ) -> Result<String, CaseError> {
     match answer {
-        Ok(new) => end_of(alloc, send(out, new.as_slice())),
+        Ok(new) => {
+            let end = end_of(alloc, send(out, new.file.as_slice()))?;
+            match new.left.first() {
+                Some(left) if end.is_empty() => Ok(format!(in alloc; "{left}")?),
+                _ => Ok(end),
+            }
+        }
         Err(refusal) => {
             let end = end_of_error(alloc, refusal)?;
             let failure = end_of(alloc, send(out, old.as_slice()))?;
@@ -68,15 +74,15 @@ fn removed(case: &Case) -> Removed {
     }
 }
 
-type Answer = Result<Vec<u8>, Refusal>;
+type Answer = Result<Changed, Refusal>;
 
 fn assigned(alloc: Global, case: &Case, old: Vec<u8>) -> Result<Answer, CaseError> {
     let mut assignments = Vec::new(alloc);
     for word in case.words.as_slice() {
-        let Some(assignment) = Assignment::parse(word.as_str()) else {
+        let Some(parsed) = Assignment::parse_all(alloc, word.as_str())? else {
             return Err(CaseError::Line("no assignment"));
         };
-        assignments.push(assignment)?;
+        assignments.extend_from_slice(parsed.as_slice())?;
     }
     Ok(exif_change::set(alloc, old, assignments.as_slice()))
 }
@@ -96,7 +102,10 @@ fn shifted(alloc: Global, case: &Case, old: Vec<u8>) -> Result<Answer, CaseError
 // The thumbnail of a file; nothing where there is none.
 fn thumbnail_of(alloc: Global, file: Vec<u8>) -> Result<Answer, CaseError> {
     match read(alloc, file.as_slice()) {
-        Ok(exif) => Ok(Ok(copy_of(alloc, thumbnail(&exif))?)),
+        Ok(exif) => Ok(Ok(Changed {
+            file: copy_of(alloc, thumbnail(&exif))?,
+            left: Vec::new(alloc),
+        })),
         Err(error) => Ok(Err(Refusal::from(error))),
     }
 }

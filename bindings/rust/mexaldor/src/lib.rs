@@ -55,6 +55,14 @@ impl Refused {
     pub const NO_ASSIGNMENT: Refused = Refused(32);
     /// The text is not a value of the type of the field.
     pub const NOT_OF_ITS_TYPE: Refused = Refused(33);
+    /// A second block of Exif data would be lost.
+    pub const SECOND_EXIF: Refused = Refused(34);
+    /// The file has no date to shift.
+    pub const NO_DATE: Refused = Refused(35);
+    /// The standard does not have this value for the tag.
+    pub const OUT_OF_RANGE: Refused = Refused(36);
+    /// The file has no thumbnail.
+    pub const NO_THUMBNAIL: Refused = Refused(38);
 
     /// The status number of `mexaldor.h`.
     pub fn number(self) -> u32 {
@@ -126,7 +134,10 @@ pub fn scrub(file: &[u8]) -> Result<Vec<u8>, Refused> {
     // SAFETY: both have their lengths, and `new` is held by nobody else.
     let answer =
         unsafe { sys::mexaldor_scrub(file.as_ptr(), file.len(), new.as_mut_ptr(), new.len()) };
-    ended(answer.status)?;
+    // 1: the stream ends before its picture does, and was copied as far as it goes.
+    if answer.status != 1 {
+        ended(answer.status)?;
+    }
     new.truncate(answer.length);
     Ok(new)
 }

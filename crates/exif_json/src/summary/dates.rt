@@ -4,7 +4,7 @@ ghost use Rattle.std.specs.Prelude.{◌≡◌, ◌++◌, Some, codes};
 ghost use Rattle.std.specs.Fmt.{WritesOnOk};
 ghost use Rattle.exif_text.specs.Clock.{date_text, time_text};
 ghost use Rattle.exif_datetime.specs.Dates.{calendar_date, time_of_day};
-ghost use Rattle.exif_json.specs.Dates.{date_taken, fraction_text, is_in_range, iso_text, minutes_text, offset_text};
+ghost use Rattle.exif_json.specs.Dates.{date_taken, days_in_month, fraction_text, is_in_range, is_leap, iso_text, minutes_text, offset_text};
 
 use super::looking::find_text;
 use exif::{DateTime, Exif, Tag};
@@ -72,6 +72,24 @@ fn write_minutes<W: fmt::Write>(
     write!(f, "{sign}{:02}:{:02}", minutes / 60, minutes % 60)
 }
 
+/// Whether a year has 366 days.
+fn is_leap(year: u16) -> bool
+    ensures { result ≡ is_leap year }
+{
+    year % 4 == 0 && (year % 100 != 0 || year % 400 == 0)
+}
+
+/// The days of a month.
+fn days_in_month(year: u16, month: u8) -> u8
+    ensures { result ≡ days_in_month year month }
+{
+    match month {
+        2 => { if is_leap(year) { 29 } else { 28 } }
+        4 | 6 | 9 | 11 => 30,
+        _ => 31,
+    }
+}
+
 /// Whether the parts of a date are those of the calendar and of the clock.
 fn is_in_range(d: DateTime) -> bool
     ensures { result ≡ is_in_range d }
@@ -79,7 +97,7 @@ fn is_in_range(d: DateTime) -> bool
     0 < d.month
         && d.month < 13
         && 0 < d.day
-        && d.day < 32
+        && d.day <= days_in_month(d.year, d.month)
         && d.hour < 24
         && d.minute < 60
         && d.second < 61

@@ -1,11 +1,9 @@
-use Rattle.std.proofs.Common.{◌≡◌, ◌++◌, drop, map}
-use Rattle.std.specs.List.{All}
-use Rattle.exif_change.specs.Setting.{assigned_tags}
+use Rattle.std.proofs.Common.{◌≡◌, [], drop}
+use Rattle.exif_change.specs.Setting.{assigned_behind, fields_read}
 use Rattle.exif_change.proofs.setting.assigned.Given as goal
 
--- the tags of the fields, and those that are left, are those of all
+-- the assignments that are left make the same fields
 abbrev pub invariant-loop-index : goal.invariant-loop-index
-invariant-loop-index l = record {
-  named : map (λ f. f.tag) l.fields.items ++ assigned_tags (drop l.index l.assignments) ≡ assigned_tags l.assignments;
-  primary : All (λ f. f.ifd_num.0 ≡ 0) l.fields.items;
-}
+invariant-loop-index l =
+    assigned_behind (fields_read l.exif) (drop l.index l.assignments) l.sets.items
+    ≡ assigned_behind (fields_read l.exif) l.assignments []

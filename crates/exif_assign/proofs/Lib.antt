@@ -1,0 +1,5 @@
+pub mod CalendarSteps
+pub mod Inverse
+pub mod Naming
+pub mod NumberSteps
+pub mod Powers

@@ -1,0 +1,7 @@
+pub mod Assigning
+pub mod Calendar
+pub mod Numbers
+pub mod Rules
+pub mod Shift
+pub mod Texts
+pub mod Values

@@ -1,0 +1,17 @@
+//! What people write to change fields: tags with values, and shifts of a clock.
+#![tactic(auto)]
+
+mod assignment;
+mod calendar;
+pub mod laws;
+mod numbers;
+mod rules;
+mod shift;
+mod spelled;
+mod values;
+
+pub use assignment::Assignment;
+pub use rules::type_of_new;
+pub use shift::{ClockShift, Unmoved, moved_value};
+pub use spelled::ValueError;
+pub use values::value_of;

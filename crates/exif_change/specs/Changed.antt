@@ -1,0 +1,34 @@
+-- What the program makes of a file: the new bytes, and what it left undone.
+use Rattle.std.specs.Prelude.{ℕ, List, [], ◌∷◌, map, Option, Some, None, Result, Ok}
+use Rattle.std.specs.Option.{option_map}
+use Rattle.exif_types.specs.declared.tag.Tag.{Tag}
+use Rattle.exif_edit_base.specs.Causes.{Cause, cause_of}
+use Rattle.exif_assign.specs.declared.shift.Unmoved.{Unmoved}
+use Rattle.exif_change.specs.declared.changed.Changed.{Changed}
+use Rattle.exif_change.specs.declared.changed.Left.{Left}
+use Rattle.exif_change.specs.declared.changed.Left.TheVariants as left
+
+-- what was left undone, as plain data
+pub data Undone : Type 0 where
+  unmoved : Tag → Unmoved → Undone
+  unset : Tag → Cause → Undone
+  cut_off : Undone
+
+-- what the program says of it; a refused edit has a cause
+abbrev pub undone_of : Left → Option Undone
+undone_of (left.Date tag why) = Some (unmoved tag why)
+undone_of (left.Edit tag e) = option_map (unset tag) (cause_of e)
+undone_of left.CutOff = Some cut_off
+
+-- the new bytes of a file, and what was left undone
+pub record Change : Type 0 where
+  pub file : List ℕ
+  pub undone : List (Option Undone)
+
+-- those that a call answers
+abbrev pub change_of : Changed → Change
+change_of changed = record { file = changed.file.items; undone = map undone_of changed.left.items }
+
+-- a file of which nothing was left undone
+abbrev pub whole : List ℕ → Change
+whole file = record { file = file; undone = [] }

@@ -1,0 +1,57 @@
+//! What a change makes of a file.
+
+ghost use Rattle.std.specs.Prelude.{◌≡◌};
+ghost use Rattle.exif_change.specs.Changed.{change_of, whole};
+
+use exif::Tag;
+use exif_assign::Unmoved;
+use std::alloc::Global;
+use std::fmt;
+
+/// A changed file, and what was left undone in it.
+#[derive(Drop)]
+pub struct Changed {
+    /// The new bytes.
+    pub file: Vec<u8>,
+    /// What a program is to report: nothing where all was done.
+    pub left: Vec<Left>,
+}
+
+impl Changed {
+    // A file of which nothing was left undone.
+    pub(crate) fn whole(alloc: Global, file: Vec<u8>) -> Changed
+        ensures { change_of result ≡ whole file.items }
+    {
+        Changed {
+            file,
+            left: Vec::new(alloc),
+        }
+    }
+}
+
+/// What was left undone in a changed file.
+#[derive(Debug, Drop)]
+pub enum Left {
+    /// A date that is not moved.
+    Date(Tag, Unmoved),
+    /// A date that is not set, since its edit was refused.
+    Edit(Tag, exif_edit::Error),
+    /// The JPEG stream ends before its picture does, and was written as far as it goes.
+    CutOff,
+}
+
+impl fmt::Display for Left {
+    fn fmt<W: fmt::Write>(&self, f: &mut fmt::Formatter<W>) -> fmt::Result {
+        match self {
+            Left::Date(tag, Unmoved::Blank) => write!(f, "{tag} is blank and was not moved"),
+            Left::Date(tag, Unmoved::Invalid) => {
+                write!(f, "{tag} is not a date of the calendar and was not moved")
+            }
+            Left::Date(tag, Unmoved::OutOfRange) => {
+                write!(f, "{tag} would leave the years 0 to 9999 and was not moved")
+            }
+            Left::Edit(tag, cause) => write!(f, "{tag} was not moved: {cause}"),
+            Left::CutOff => write!(f, "The JPEG stream ends before its picture does"),
+        }
+    }
+}

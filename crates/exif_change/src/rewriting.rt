@@ -1,0 +1,61 @@
+//! JPEG and WebP files written again.
+
+ghost use Rattle.exif_types.specs.Refusals.{Gives};
+ghost use Rattle.exif_segments.specs.Removing.{payload_of};
+ghost use Rattle.exif_change.specs.Changed.{change_of};
+ghost use Rattle.exif_change.specs.Rewriting.{rewritten, rewritten_jpeg, rewritten_webp};
+
+use crate::changed::{Changed, Left};
+use exif::{Counted, Error};
+use exif_containers::container::Format;
+use exif_rewrite::{Ended, Remove, rewrite_jpeg_as_it_stands, rewrite_webp};
+use std::alloc::Global;
+
+// A JPEG stream, as far as it goes, with other Exif data in place of what is taken out.
+fn rewritten_jpeg(
+    alloc: Global,
+    file: &[u8],
+    exif: Option<&[u8]>,
+    remove: Remove,
+) -> Result<Changed, Error>
+    ensures { Gives change_of result (rewritten_jpeg remove (payload_of exif.entry) file.now) }
+{
+    let mut out = Counted::new(Vec::new(alloc));
+    let ended = rewrite_jpeg_as_it_stands(&mut Counted::new(file), &mut out, exif, remove)?;
+    let mut changed = Changed::whole(alloc, out.into_inner());
+    if let Ended::Cut = ended {
+        changed.left.push(Left::CutOff)?;
+    }
+    Ok(changed)
+}
+
+// A WebP file likewise.
+fn rewritten_webp(
+    alloc: Global,
+    file: &[u8],
+    exif: Option<&[u8]>,
+    remove: Remove,
+) -> Result<Changed, Error>
+    ensures { Gives change_of result (rewritten_webp remove (payload_of exif.entry) file.now) }
+{
+    let mut out = Counted::new(Vec::new(alloc));
+    rewrite_webp(alloc, &mut Counted::new(file), &mut out, exif, remove)?;
+    Ok(Changed::whole(alloc, out.into_inner()))
+}
+
+/// The JPEG or WebP file with other Exif data in place of what is taken out.
+pub(crate) fn rewritten(
+    alloc: Global,
+    format: Format,
+    file: &[u8],
+    exif: Option<&[u8]>,
+    remove: Remove,
+) -> Result<Changed, Error>
+    ensures { Gives change_of result
+        (rewritten format remove (payload_of exif.entry) file.now) }
+{
+    match format {
+        Format::Jpeg => rewritten_jpeg(alloc, file, exif, remove),
+        Format::WebP | Format::Heif | Format::Tiff => rewritten_webp(alloc, file, exif, remove),
+    }
+}
