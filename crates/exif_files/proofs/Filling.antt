@@ -55,9 +55,16 @@ run_times_if times source name a b m =
     (λ s t h. record {
       file = λ g is.
           let same : h.file.0 ≡ g = cc in
-          let new = h.file.4 in
-          (new.0, new.1, (new.2.0 ∙ ap (λ (x : Entry). x.bytes) same, new.2.1.1 ∙ ap (λ (x : Entry). x.mode) same, new.2.1.2 ∙ ap (λ (x : Entry). x.owner) same,
-          λ yes. (h.file.2, h.file.3, new.2.1.0)));
+          let new = h.file.4 in (
+            new.0,
+            new.1,
+            (
+              new.2.0 ∙ ap (λ (x : Entry). x.bytes) same,
+              new.2.1.1 ∙ ap (λ (x : Entry). x.mode) same,
+              new.2.1.2 ∙ ap (λ (x : Entry). x.owner) same,
+              λ yes. (h.file.2, h.file.3, new.2.1.0),
+            ),
+          );
       others = h.others;
     })
 
@@ -105,12 +112,22 @@ times_more source name times calm apart s t u x y = record {
       let o = g.2.3 yes in
       let back : t.at source ≡ s.at source = source_same source name apart s t x.others in
       let one : o.0 ≡ h.0 = cc in
-      o.2 ∙ ap (λ (e : Entry). e.times) one in
-      (h.0, h.1, (g.0, g.1, (g.2.0 ∙ new.2.0, record {
-        same_mode = g.2.1 ∙ new.2.1;
-        same_times = kept;
-        same_owner = λ yes. g.2.2 ∙ new.2.2 yes;
-      })));
+      o.2 ∙ ap (λ (e : Entry). e.times) one in (
+        h.0,
+        h.1,
+        (
+          g.0,
+          g.1,
+          (
+            g.2.0 ∙ new.2.0,
+            record {
+              same_mode = g.2.1 ∙ new.2.1;
+              same_times = kept;
+              same_owner = λ yes. g.2.2 ∙ new.2.2 yes;
+            },
+          ),
+        ),
+      );
   others = elsewhere_then name s t u x.others y.others;
 }
 

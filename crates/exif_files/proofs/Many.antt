@@ -73,9 +73,10 @@ module _ (answer : List ℕ → List ℕ → Type 0) (backup times : Bool) where
   answered_still s t u [] rest name (r ∷ results) e among still all = cc
   answered_still s t u (x ∷ front) rest name [] e among still all = cc
   answered_still s t u (x ∷ front) rest name (r ∷ results) e among still all =
-      let parts = or_false (bytes_eq x name) (is_among name front) among in
-      (λ done old is. let a = all.0 done old is in (a.0, still x a.0 (other_name x name parts.0) a.1, a.2),
-      answered_still s t u front rest name results (omega arith) parts.1 still all.1)
+      let parts = or_false (bytes_eq x name) (is_among name front) among in (
+        λ done old is. let a = all.0 done old is in (a.0, still x a.0 (other_name x name parts.0) a.1, a.2),
+        answered_still s t u front rest name results (omega arith) parts.1 still all.1,
+      )
 
   -- a file that is there keeps its name while another is changed
   still : (name : List ℕ) (t u : State) → IsWholeChange answer name (backup_if backup name) times false t u → (n : List ℕ) (f : Entry) → n ≢ name → t.at n ≡ Some f → u.at n ≡ Some f
@@ -123,6 +124,7 @@ module _ (answer : List ℕ → List ℕ → Type 0) (backup times : Bool) where
       at_name n old e is =
           let P : List ℕ → Type 0 = λ x. (u.at x ≡ Some old) ⊎ IsAnswered answer times old (u.at x) in
           subst P (sym e) (file_whole name t u old (left old (sym (ap s.at e) ∙ is)) w.file)
+
       not_own : (n : List ℕ) → (IsHidden n → ⊥) → (backup ≡ true → (m : List ℕ) → n ≢ backup_of m) → IsHidden n ⊎ (backup_if backup name ≡ Some n) → ⊥
       not_own n hid bak (inl h) = hid h
       not_own n hid bak (inr e) = let p = backup_named backup name n e in bak p.0 name p.1

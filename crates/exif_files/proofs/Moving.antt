@@ -146,11 +146,23 @@ synced name beside bytes times calm s t u x y =
     let g = y.file.2 in
     let like = f.2.1 in
     record {
-      file = (x.file.0, x.file.1, (g.0, g.1, (g.2.bytes ∙ ap (λ (h : Entry). h.bytes) same ∙ f.2.0, record {
-        same_mode = g.2.mode ∙ ap (λ (h : Entry). h.mode) same ∙ like.same_mode;
-        same_times = λ yes. g.2.times ∙ ap (λ (h : Entry). h.times) same ∙ like.same_times yes;
-        same_owner = λ yes. g.2.owner ∙ ap (λ (h : Entry). h.owner) same ∙ like.same_owner yes;
-      }, λ yes. g.2.kept)));
+      file = (
+        x.file.0,
+        x.file.1,
+        (
+          g.0,
+          g.1,
+          (
+            g.2.bytes ∙ ap (λ (h : Entry). h.bytes) same ∙ f.2.0,
+            record {
+              same_mode = g.2.mode ∙ ap (λ (h : Entry). h.mode) same ∙ like.same_mode;
+              same_times = λ yes. g.2.times ∙ ap (λ (h : Entry). h.times) same ∙ like.same_times yes;
+              same_owner = λ yes. g.2.owner ∙ ap (λ (h : Entry). h.owner) same ∙ like.same_owner yes;
+            },
+            λ yes. g.2.kept,
+          ),
+        ),
+      );
       others = elsewhere_then beside s t u x.others y.others;
     }
 

@@ -97,4 +97,4 @@ abbrev pub Takes : (List ℕ → List ℕ → Type 0) → List ℕ → Option (L
 Takes answer name backup times old new among results results' =
     ((among ≡ true) × (new ≡ old) × (results' ≡ results ++ None ∷ []))
     ⊎ ((among ≡ false) × ((status : Status) × (results' ≡ results ++ Some status ∷ [])
-        × Run (IsWholeChange answer name backup times false) (IsOutcome answer name backup times status) old new))
+    × Run (IsWholeChange answer name backup times false) (IsOutcome answer name backup times status) old new))

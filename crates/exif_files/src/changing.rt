@@ -105,27 +105,35 @@ fn write_over<F: FileSystem>(
 ) -> Result<(), WriteError>
     ensures done { OnOk result (Run
         (IsWhole name.now (backup_if keeping.backup name.now) bytes.now keeping.times
-            (none_failed (F.failures files.old) (F.failures files.new)))
+        (none_failed (F.failures files.old) (F.failures files.new)))
         (IsReplacedForGood name.now (backup_if keeping.backup name.now) bytes.now keeping.times
-            (none_failed (F.failures files.old) (F.failures files.new)))
+        (none_failed (F.failures files.old) (F.failures files.new)))
         (F.states files.old) (F.states files.new)) }
     ensures failed { IfErr result (λ e. Run
         (IsWhole name.now (backup_if keeping.backup name.now) bytes.now keeping.times
-            (none_failed (F.failures files.old) (F.failures files.new)))
+        (none_failed (F.failures files.old) (F.failures files.new)))
         (IsGivenUp name.now (backup_if keeping.backup name.now) bytes.now keeping.times
-            (none_failed (F.failures files.old) (F.failures files.new))
-            (FailedToRemove e (F.failures files.old) (F.failures files.new)))
+        (none_failed (F.failures files.old) (F.failures files.new))
+        (FailedToRemove e (F.failures files.old) (F.failures files.new)))
         (F.states files.old) (F.states files.new)) }
 {
     if !keeping.backup {
         return replace(alloc, files, name, None, keeping.times, bytes);
     }
     let backup = backup_name(alloc, name)?;
-    replace(alloc, files, name, Some(backup.as_str()), keeping.times, bytes)
+    replace(
+        alloc,
+        files,
+        name,
+        Some(backup.as_str()),
+        keeping.times,
+        bytes,
+    )
 }
 
-/// Changes a file in place, and answers what was left undone: the bytes at Ok are an answer of the edit
-/// to those that were there. In every state of the run the old file is there or the new one, whole.
+/// Changes a file in place, and answers what was left undone: the bytes at Ok are an answer of the
+/// edit to those that were there. In every state of the run the old file is there or the new one,
+/// whole.
 ///
 /// A file that is its own answer is not written, nor is one that is refused. It takes the memory of
 /// the old file and of the new one, and what the edit takes.
@@ -138,16 +146,16 @@ pub fn change<F: FileSystem, E: Edit>(
 ) -> Result<Vec<E::Left>, Failure<E::Refusal>>
     ensures done { OnOk result (Run
         (IsWholeChange (E.answer edit.now) name.now (backup_if keeping.backup name.now)
-            keeping.times (none_failed (F.failures files.old) (F.failures files.new)))
+        keeping.times (none_failed (F.failures files.old) (F.failures files.new)))
         (IsChanged (E.answer edit.now) name.now (backup_if keeping.backup name.now)
-            keeping.times (none_failed (F.failures files.old) (F.failures files.new)))
+        keeping.times (none_failed (F.failures files.old) (F.failures files.new)))
         (F.states files.old) (F.states files.new)) }
     ensures failed { IfErr result (λ e. Run
         (IsWholeChange (E.answer edit.now) name.now (backup_if keeping.backup name.now)
-            keeping.times (none_failed (F.failures files.old) (F.failures files.new)))
+        keeping.times (none_failed (F.failures files.old) (F.failures files.new)))
         (IsNotChanged (E.answer edit.now) name.now (backup_if keeping.backup name.now)
-            keeping.times (none_failed (F.failures files.old) (F.failures files.new))
-            (FailedInWriting e (F.failures files.old) (F.failures files.new)))
+        keeping.times (none_failed (F.failures files.old) (F.failures files.new))
+        (FailedInWriting e (F.failures files.old) (F.failures files.new)))
         (F.states files.old) (F.states files.new)) }
     ensures refused { IfErr result (λ e. IfRefused e (F.states files.new ≡ F.states files.old)) }
 {

@@ -16,8 +16,8 @@ use std::alloc::Global;
 const USUAL: u32 = 0o666;
 
 /// Makes a file with these bytes under a name that must be free: first in the same folder under a
-/// hidden name, and then in one step. Those may use it who may use new files. It takes the memory of
-/// a name.
+/// hidden name, and then in one step. Those may use it who may use new files. It takes the memory
+/// of a name.
 ///
 /// In every state of the run the name has what it had or the whole new file, and every other name
 /// what it had.
@@ -31,7 +31,7 @@ pub fn create_new<F: FileSystem>(
         (IsCreatedForGood name.now bytes.now USUAL) (F.states files.old) (F.states files.new)) }
     ensures failed { IfErr result (λ e. Run (IsWholeNew name.now bytes.now USUAL)
         (IsNotCreated name.now bytes.now USUAL
-            (FailedToRemove e (F.failures files.old) (F.failures files.new)))
+        (FailedToRemove e (F.failures files.old) (F.failures files.new)))
         (F.states files.old) (F.states files.new)) }
     // `Taken` is of the name.
     ensures taken { IfErr result (λ e. e ≡ Taken

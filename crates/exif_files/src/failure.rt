@@ -48,7 +48,10 @@ impl fmt::Display for WriteError {
         match self {
             WriteError::Io(cause) => write!(f, "{cause}"),
             WriteError::Taken => write!(f, "file exists"),
-            WriteError::Crowded => write!(f, "too many temporary files named .mexaldor-N; delete them"),
+            WriteError::Crowded => write!(
+                f,
+                "too many temporary files named .mexaldor-N; delete them"
+            ),
             WriteError::OutOfMemory => write!(f, "out of memory"),
         }
     }

@@ -126,14 +126,16 @@ impl MemoryFiles {
 
     /// What a name has.
     pub fn find(&self, name: &str) -> io::Result<Option<Stored>>
-        ensures { IfOk result (λ file. Now (states_of self.now.steps.items) (λ s. s.at name.now ≡ entry_if file)) }
+        ensures { IfOk result (λ file. Now (states_of self.now.steps.items)
+            (λ s. s.at name.now ≡ entry_if file)) }
     {
         Ok(look_through(self.alloc, self.steps.as_slice(), name.as_bytes())?)
     }
 
     // The file of a name.
     fn get(&self, name: &str) -> io::Result<Stored>
-        ensures { IfOk result (λ file. Now (states_of self.now.steps.items) (λ s. s.at name.now ≡ Some (entry file))) }
+        ensures { IfOk result (λ file. Now (states_of self.now.steps.items)
+            (λ s. s.at name.now ≡ Some (entry file))) }
     {
         match self.find(name)? {
             Some(file) => Ok(file),
@@ -143,7 +145,8 @@ impl MemoryFiles {
 
     // Whether nothing has the name.
     fn is_absent(&self, name: &str) -> io::Result<bool>
-        ensures { IfOk result (λ free. Now (states_of self.now.steps.items) (λ s. IsTrue free ↔ (s.at name.now ≡ None))) }
+        ensures { IfOk result (λ free. Now (states_of self.now.steps.items)
+            (λ s. IsTrue free ↔ (s.at name.now ≡ None))) }
     {
         Ok(self.find(name)?.is_none())
     }
@@ -173,7 +176,8 @@ impl MemoryFiles {
 
     // Puts a file, or nothing, under a name.
     fn put(&mut self, name: &str, file: Option<Stored>) -> io::Result<()>
-        ensures { Tries (Puts name.now (entry_if file)) self.old.steps.items self.new.steps.items self.old.failures self.new.failures result }
+        ensures { Tries (Puts name.now (entry_if file))
+            self.old.steps.items self.new.steps.items self.old.failures self.new.failures result }
     {
         let mut puts = Vec::new(self.alloc);
         let name = name.as_bytes().to_vec(self.alloc)?;
@@ -185,7 +189,8 @@ impl MemoryFiles {
     // Puts a file under one name, and nothing under another, in one step.
     fn put_two(&mut self, gone: &str, name: &str, file: Stored) -> io::Result<()>
         requires { gone.now ≢ name.now }
-        ensures { Tries (PutsTwo gone.now name.now (entry file)) self.old.steps.items self.new.steps.items self.old.failures self.new.failures result }
+        ensures { Tries (PutsTwo gone.now name.now (entry file))
+            self.old.steps.items self.new.steps.items self.old.failures self.new.failures result }
     {
         let mut puts = Vec::new(self.alloc);
         let gone = gone.as_bytes().to_vec(self.alloc)?;
@@ -203,7 +208,8 @@ impl MemoryFiles {
     }
 
     fn try_create(&mut self, name: &str, mode: u32) -> io::Result<bool>
-        ensures { TriesIfFree name.now (Creates name.now mode) self.old.steps.items self.new.steps.items self.old.failures self.new.failures result }
+        ensures { TriesIfFree name.now (Creates name.now mode)
+            self.old.steps.items self.new.steps.items self.old.failures self.new.failures result }
     {
         self.begin()?;
         if !self.is_absent(name)? {
@@ -221,7 +227,8 @@ impl MemoryFiles {
     }
 
     fn try_copy_owner(&mut self, source: &str, name: &str) -> io::Result<()>
-        ensures { Tries (Copies HasOwner source.now name.now) self.old.steps.items self.new.steps.items self.old.failures self.new.failures result }
+        ensures { Tries (Copies HasOwner source.now name.now)
+            self.old.steps.items self.new.steps.items self.old.failures self.new.failures result }
     {
         self.begin()?;
         let old = self.get(source)?;
@@ -231,7 +238,8 @@ impl MemoryFiles {
     }
 
     fn try_copy_mode(&mut self, source: &str, name: &str) -> io::Result<()>
-        ensures { Tries (Copies HasMode source.now name.now) self.old.steps.items self.new.steps.items self.old.failures self.new.failures result }
+        ensures { Tries (Copies HasMode source.now name.now)
+            self.old.steps.items self.new.steps.items self.old.failures self.new.failures result }
     {
         self.begin()?;
         let old = self.get(source)?;
@@ -241,7 +249,8 @@ impl MemoryFiles {
     }
 
     fn try_copy_times(&mut self, source: &str, name: &str) -> io::Result<()>
-        ensures { Tries (Copies HasTimes source.now name.now) self.old.steps.items self.new.steps.items self.old.failures self.new.failures result }
+        ensures { Tries (Copies HasTimes source.now name.now)
+            self.old.steps.items self.new.steps.items self.old.failures self.new.failures result }
     {
         self.begin()?;
         let old = self.get(source)?;
@@ -251,7 +260,8 @@ impl MemoryFiles {
     }
 
     fn try_sync(&mut self, name: &str) -> io::Result<()>
-        ensures { Tries (Syncs name.now) self.old.steps.items self.new.steps.items self.old.failures self.new.failures result }
+        ensures { Tries (Syncs name.now)
+            self.old.steps.items self.new.steps.items self.old.failures self.new.failures result }
     {
         self.begin()?;
         let file = self.get(name)?;
@@ -259,7 +269,8 @@ impl MemoryFiles {
     }
 
     fn try_link(&mut self, source: &str, name: &str) -> io::Result<bool>
-        ensures { TriesIfFree name.now (Links source.now name.now) self.old.steps.items self.new.steps.items self.old.failures self.new.failures result }
+        ensures { TriesIfFree name.now (Links source.now name.now)
+            self.old.steps.items self.new.steps.items self.old.failures self.new.failures result }
     {
         self.begin()?;
         if !self.is_absent(name)? {
@@ -272,7 +283,8 @@ impl MemoryFiles {
 
     fn try_rename(&mut self, source: &str, name: &str) -> io::Result<()>
         requires { source.now ≢ name.now }
-        ensures { Tries (Renames source.now name.now) self.old.steps.items self.new.steps.items self.old.failures self.new.failures result }
+        ensures { Tries (Renames source.now name.now)
+            self.old.steps.items self.new.steps.items self.old.failures self.new.failures result }
     {
         self.begin()?;
         let file = self.get(source)?;
@@ -280,7 +292,8 @@ impl MemoryFiles {
     }
 
     fn try_remove(&mut self, name: &str) -> io::Result<()>
-        ensures { Tries (Removes name.now) self.old.steps.items self.new.steps.items self.old.failures self.new.failures result }
+        ensures { Tries (Removes name.now)
+            self.old.steps.items self.new.steps.items self.old.failures self.new.failures result }
     {
         self.begin()?;
         let _file = self.get(name)?;
@@ -288,7 +301,8 @@ impl MemoryFiles {
     }
 
     fn try_settle(&mut self, name: &str) -> io::Result<()>
-        ensures { Tries (Settles name.now) self.old.steps.items self.new.steps.items self.old.failures self.new.failures result }
+        ensures { Tries (Settles name.now)
+            self.old.steps.items self.new.steps.items self.old.failures self.new.failures result }
     {
         self.begin()?;
         let _name = name;
@@ -298,7 +312,8 @@ impl MemoryFiles {
     }
 
     fn try_is_free(&mut self, name: &str) -> io::Result<bool>
-        ensures free { IfOk result (λ free. Now (states_of self.old.steps.items) (λ s. IsTrue free ↔ (s.at name.now ≡ None))) }
+        ensures free { IfOk result (λ free. Now (states_of self.old.steps.items)
+            (λ s. IsTrue free ↔ (s.at name.now ≡ None))) }
         ensures same { self.new.steps ≡ self.old.steps }
         ensures count { self.new.failures ≡ self.old.failures }
     {
@@ -307,7 +322,8 @@ impl MemoryFiles {
     }
 
     fn try_read(&mut self, alloc: Global, name: &str) -> io::Result<Vec<u8>>
-        ensures bytes { IfOk result (λ bytes. Now (states_of self.old.steps.items) (λ s. Holds s name.now (λ f. f.bytes ≡ bytes.items))) }
+        ensures bytes { IfOk result (λ bytes. Now (states_of self.old.steps.items)
+            (λ s. Holds s name.now (λ f. f.bytes ≡ bytes.items))) }
         ensures same { self.new.steps ≡ self.old.steps }
         ensures count { self.new.failures ≡ self.old.failures }
     {
@@ -317,7 +333,8 @@ impl MemoryFiles {
     }
 
     fn try_append(&mut self, name: &str, bytes: &[u8]) -> io::Result<()>
-        ensures { Tries (Appends name.now bytes.now) self.old.steps.items self.new.steps.items self.old.failures self.new.failures result }
+        ensures { Tries (Appends name.now bytes.now)
+            self.old.steps.items self.new.steps.items self.old.failures self.new.failures result }
     {
         self.begin()?;
         let mut file = self.get(name)?;

@@ -17,10 +17,10 @@ use std::io;
 // Who may use a file that replaces another, while it is written: its owner alone.
 const PRIVATE: u32 = 0o600;
 
-/// Puts a file with these bytes in the place of the one of this name: first in the same folder under
-/// a hidden name, and then in one step. It has the mode of the old one, its owner if the system allows
-/// that, and its times if `times` says so. The old one stays under the name `backup`, which must be
-/// free. It takes the memory of a name.
+/// Puts a file with these bytes in the place of the one of this name: first in the same folder
+/// under a hidden name, and then in one step. It has the mode of the old one, its owner if the
+/// system allows that, and its times if `times` says so. The old one stays under the name `backup`,
+/// which must be free. It takes the memory of a name.
 ///
 /// In every state of the run the name has the old file or the new one, whole and kept by the disk,
 /// and every other name what it had: whoever kills the process or takes its power finds one of the
@@ -37,17 +37,17 @@ pub fn replace<F: FileSystem>(
     // At Ok the name has the new file, for good, and every other name what it had.
     ensures done { OnOk result (Run
         (IsWhole name.now (name_if backup.entry) bytes.now times
-            (none_failed (F.failures files.old) (F.failures files.new)))
+        (none_failed (F.failures files.old) (F.failures files.new)))
         (IsReplacedForGood name.now (name_if backup.entry) bytes.now times
-            (none_failed (F.failures files.old) (F.failures files.new)))
+        (none_failed (F.failures files.old) (F.failures files.new)))
         (F.states files.old) (F.states files.new)) }
     // An error leaves all as it was, but for the exceptions that `IsGivenUp` names.
     ensures failed { IfErr result (λ e. Run
         (IsWhole name.now (name_if backup.entry) bytes.now times
-            (none_failed (F.failures files.old) (F.failures files.new)))
+        (none_failed (F.failures files.old) (F.failures files.new)))
         (IsGivenUp name.now (name_if backup.entry) bytes.now times
-            (none_failed (F.failures files.old) (F.failures files.new))
-            (FailedToRemove e (F.failures files.old) (F.failures files.new)))
+        (none_failed (F.failures files.old) (F.failures files.new))
+        (FailedToRemove e (F.failures files.old) (F.failures files.new)))
         (F.states files.old) (F.states files.new)) }
     // `Taken` is of the backup's name.
     ensures taken { IfErr result (λ e. e ≡ Taken
@@ -82,15 +82,15 @@ fn fill_and_move<F: FileSystem>(
     requires empty { Now (F.states files.old) (λ s. Holds s beside.now (λ f. f.bytes ≡ [])) }
     ensures done { OnOk result (Run
         (IsPutting name.now beside.now (name_if backup.entry) bytes.now times
-            (none_failed (F.failures files.old) (F.failures files.new)))
+        (none_failed (F.failures files.old) (F.failures files.new)))
         (IsPut name.now beside.now (name_if backup.entry) bytes.now times
-            (none_failed (F.failures files.old) (F.failures files.new)))
+        (none_failed (F.failures files.old) (F.failures files.new)))
         (F.states files.old) (F.states files.new)) }
     ensures failed { OnErr result (Run
         (IsPutting name.now beside.now (name_if backup.entry) bytes.now times
-            (none_failed (F.failures files.old) (F.failures files.new)))
+        (none_failed (F.failures files.old) (F.failures files.new)))
         (IsNotPut beside.now (name_if backup.entry)
-            (FailedTwice (F.failures files.old) (F.failures files.new)))
+        (FailedTwice (F.failures files.old) (F.failures files.new)))
         (F.states files.old) (F.states files.new)) }
     ensures taken { IfErr result (λ e. e ≡ Taken
         → Now (F.states files.old) (IsTakenIf (name_if backup.entry))) }
@@ -116,7 +116,7 @@ fn copy_access<F: FileSystem>(
     requires { source.now ≢ name.now }
     ensures done { OnOk result (Run (Elsewhere name.now)
         (HasAccess source.now name.now times
-            (none_failed (F.failures files.old) (F.failures files.new)))
+        (none_failed (F.failures files.old) (F.failures files.new)))
         (F.states files.old) (F.states files.new)) }
     ensures failed { OnErr result (Run (Elsewhere name.now) (Elsewhere name.now)
         (F.states files.old) (F.states files.new)) }
@@ -134,7 +134,7 @@ fn copy_access<F: FileSystem>(
 fn try_copy_owner<F: FileSystem>(files: &mut F, source: &str, name: &str)
     ensures done { Run (Elsewhere name.now)
         (MayHaveOwner source.now name.now
-            (none_failed (F.failures files.old) (F.failures files.new)))
+        (none_failed (F.failures files.old) (F.failures files.new)))
         (F.states files.old) (F.states files.new) }
     ensures count { FailsOnceOrNot (F.failures files.old) (F.failures files.new) }
 {
@@ -175,7 +175,7 @@ fn link_and_rename<F: FileSystem>(
     ensures failed { OnErr result (Run
         (IsMoving name.now beside.now (name_if backup.entry))
         (IsNotMoved (name_if backup.entry)
-            (FailedTwice (F.failures files.old) (F.failures files.new)))
+        (FailedTwice (F.failures files.old) (F.failures files.new)))
         (F.states files.old) (F.states files.new)) }
     ensures taken { IfErr result (λ e. e ≡ Taken
         → Now (F.states files.old) (IsTakenIf (name_if backup.entry))) }

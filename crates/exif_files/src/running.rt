@@ -1,4 +1,5 @@
-//! Many files that are changed in place, each once; a file that is refused does not stop the others.
+//! Many files that are changed in place, each once; a file that is refused does not stop the
+//! others.
 
 ghost use Rattle.std.specs.Prelude.{◌≡◌, ◌==◌, ℕ, List, map, not, true, false, if◌then◌else◌, length, IfOk, OnOk, OnErr, string_bytes};
 ghost use Rattle.std.specs.BTreeSet.{contains_text};
@@ -22,12 +23,12 @@ pub trait Reporter<L, R> {
     fn report(&mut self, index: usize, outcome: Result<Vec<L>, Failure<R>>);
 }
 
-/// Changes the files of these names in place, each once however often it is named, and reports each.
-/// Answers what became of each name's file, and nothing for a name that came before. A file that is
-/// refused does not stop the others.
+/// Changes the files of these names in place, each once however often it is named, and reports
+/// each. Answers what became of each name's file, and nothing for a name that came before. A file
+/// that is refused does not stop the others.
 ///
-/// In every state of the run each file is the old one or its answer, whole: also where the process is
-/// killed, and where memory runs out, which alone ends the run.
+/// In every state of the run each file is the old one or its answer, whole: also where the process
+/// is killed, and where memory runs out, which alone ends the run.
 pub fn change_all<F: FileSystem, E: Edit, P: Reporter<E::Left, E::Refusal>>(
     alloc: Global,
     files: &mut F,
@@ -43,16 +44,26 @@ pub fn change_all<F: FileSystem, E: Edit, P: Reporter<E::Left, E::Refusal>>(
         AreOnce (map string_bytes names.now) results.items) }
     ensures done { IfOk result (λ results.
         Run (IsEachWhole (E.answer edit.now) keeping.backup keeping.times)
-            (IsEachDone (E.answer edit.now) keeping.times (map string_bytes names.now)
-                results.items)
-            (F.states files.old) (F.states files.new)) }
+        (IsEachDone (E.answer edit.now) keeping.times (map string_bytes names.now)
+        results.items)
+        (F.states files.old) (F.states files.new)) }
 {
     let mut seen: BTreeSet<String> = BTreeSet::new(alloc);
     let mut results = Vec::new(alloc);
     for (index, name) in names.iter().enumerate() {
         let name = name.as_str();
         let seen = &mut seen;
-        change_next(alloc, files, edit, name, keeping, index, reporter, seen, &mut results)?;
+        change_next(
+            alloc,
+            files,
+            edit,
+            name,
+            keeping,
+            index,
+            reporter,
+            seen,
+            &mut results,
+        )?;
     }
     Ok(results)
 }
@@ -78,9 +89,9 @@ fn change_next<F: FileSystem, E: Edit, P: Reporter<E::Left, E::Refusal>>(
     ensures same { contains_text seen.old name.now ≡ true
         → F.states files.new ≡ F.states files.old }
     ensures whole { Run (IsWholeChange (E.answer edit.now) name.now
-            (backup_if keeping.backup name.now) keeping.times false)
+        (backup_if keeping.backup name.now) keeping.times false)
         (IsWholeChange (E.answer edit.now) name.now
-            (backup_if keeping.backup name.now) keeping.times false)
+        (backup_if keeping.backup name.now) keeping.times false)
         (F.states files.old) (F.states files.new) }
 {
     if !insert(alloc, seen, name)? {
@@ -112,9 +123,9 @@ fn change_one<F: FileSystem, E: Edit, P: Reporter<E::Left, E::Refusal>>(
     reporter: &mut P,
 ) -> Status
     ensures { Run (IsWholeChange (E.answer edit.now) name.now
-            (backup_if keeping.backup name.now) keeping.times false)
+        (backup_if keeping.backup name.now) keeping.times false)
         (IsOutcome (E.answer edit.now) name.now (backup_if keeping.backup name.now)
-            keeping.times result)
+        keeping.times result)
         (F.states files.old) (F.states files.new) }
 {
     let changed = change(alloc, files, edit, name, keeping);

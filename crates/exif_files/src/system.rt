@@ -34,8 +34,8 @@ pub trait FileSystem {
         ensures same { states self.new ≡ states self.old }
         ensures count { failures self.new ≡ count_after (is_err result) (failures self.old) };
 
-    /// Makes a file without bytes if the name is free, and answers whether it was. Those may use the
-    /// file whom the mode names, but for whom the system's mask leaves out.
+    /// Makes a file without bytes if the name is free, and answers whether it was. Those may use
+    /// the file whom the mode names, but for whom the system's mask leaves out.
     fn create(&mut self, name: &str, mode: u32) -> io::Result<bool>
         ensures does { DoesIfFree name.now (Creates name.now mode) (states self.old)
             (states self.new) (failures self.old) (failures self.new) result };

@@ -69,7 +69,9 @@ fn stored(alloc: Global, bytes: &[u8]) -> Result<Stored, Fail> {
 fn has(files: &MemoryFiles, name: &str, bytes: &[u8]) -> Result<bool, Fail> {
     match files.find(name)? {
         None => Ok(bytes.is_empty()),
-        Some(file) => Ok(file.bytes.as_slice() == bytes && file.mode == 0o640 && file.times == 1234),
+        Some(file) => Ok(
+            file.bytes.as_slice() == bytes && file.mode == 0o640 && file.times == 1234,
+        ),
     }
 }
 
@@ -90,8 +92,14 @@ fn each_call_fails_in_turn(rt: HostRuntime) -> Result<(), Fail> {
         // read, create, append, owner, mode, times, sync, link, rename, settle
         assert_eq!(rt; is_ok, calls == 3 || calls >= 10, "at {calls}");
         let is_new = calls == 3 || calls >= 9;
-        assert!(rt; has(&files, "/a.jpg", if is_new { NEW } else { OLD })?, "at {calls}");
-        assert!(rt; has(&files, "/a.jpg.orig", if is_new { OLD } else { b"" })?, "at {calls}");
+        assert!(rt;
+            has(&files, "/a.jpg", if is_new { NEW } else { OLD })?,
+            "at {calls}"
+        );
+        assert!(rt;
+            has(&files, "/a.jpg.orig", if is_new { OLD } else { b"" })?,
+            "at {calls}"
+        );
         assert!(rt; files.find("/.mexaldor-0")?.is_none(), "at {calls}");
     }
     Ok(())

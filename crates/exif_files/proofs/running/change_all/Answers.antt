@@ -9,7 +9,7 @@ pub loop-index-init : goal.loop-index-init
 loop-index-init g c =
     let none : c.new-seen.result.keys ≡ [] = search rules in
     let P : List (Option Status) → Type 0 = λ rs. SoFar (g.E.Edit.answer c.args.edit.now) c.args.keeping.backup c.args.keeping.times (map string_bytes c.args.names.now) [] rs
-        (g.F.FileSystem.states c.args.files.now) (g.F.FileSystem.states c.args.files.now) in
+    (g.F.FileSystem.states c.args.files.now) (g.F.FileSystem.states c.args.files.now) in
     record {
       seen = λ q. rw none refl;
       so_far = subst P (sym c.new-results.ensures.items) (so_far_none (g.E.Edit.answer c.args.edit.now) c.args.keeping.backup c.args.keeping.times (map string_bytes c.args.names.now) _);
