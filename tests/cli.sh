@@ -9,15 +9,19 @@ holds "help names each subcommand" thumbnail
 gives "--version prints the version" 0 "$mexaldor" --version
 gives "an unknown subcommand is refused" 2 "$mexaldor" nothing
 gives "show needs a file" 2 "$mexaldor" show
+says "an error shows the usage of its subcommand" "Usage: mexaldor show [OPTIONS] PATH..."
 gives "an unknown option is refused" 2 "$mexaldor" show --nothing files/whole.jpg
 gives "a limit is a number" 2 "$mexaldor" show --limit x files/whole.jpg
 gives "scrub needs two files" 2 "$mexaldor" scrub files/whole.jpg
+says "the message says what is expected" "expected FILE OUT, or --in-place FILE..."
 gives "set needs a value" 2 "$mexaldor" set --in-place files/whole.jpg
 gives "shift needs a time" 2 "$mexaldor" shift soon files/whole.jpg
+says "the message shows a shift" "invalid shift 'soon'; expected e.g. +1:00 or -2d03:30"
 gives "two ways to scrub are refused" 2 "$mexaldor" scrub --places-only --keep-orientation files/whole.jpg x.jpg
 
 gives "a backup is of a file that is replaced" 2 "$mexaldor" scrub --backup files/whole.jpg x.jpg
 gives "many files don't go into one" 2 "$mexaldor" scrub -r files x.jpg
+says "the message says what is missing" "--recursive and --null require --in-place"
 check "nothing was written by these" test ! -e x.jpg
 
 # show
@@ -64,9 +68,9 @@ P
 printf 'files/whole.jpg\0files/whole.tif\0' >names
 gives "names are read from standard input" 0 sh -c '"$1" json --null <names >out' sh "$mexaldor"
 gives "a name that is no UTF-8 is refused" 1 sh -c 'printf "files/\377.jpg\0" | "$1" json --null' sh "$mexaldor"
-says "the refusal says why" "not UTF-8"
+says "the refusal says why" "files/\\xff.jpg: the name is not valid UTF-8"
 gives "an argument that is no UTF-8 is refused" 1 sh -c '"$1" json "$(printf "files/\377.jpg")"' sh "$mexaldor"
-says "that refusal says why" "not UTF-8"
+says "that refusal says why" "files/\\xff.jpg: the name is not valid UTF-8"
 
 gives "two hyphens end the options" 0 "$mexaldor" show -- files/whole.jpg
 if has exiftool; then
@@ -95,14 +99,14 @@ for file in whole.jpg whole.webp; do
     gives "scrub takes all out of $file" 0 "$mexaldor" scrub "work/$file" "work/new.$file"
     gives "nothing is left in $file" 1 "$mexaldor" show "work/new.$file"
     check "the old $file stays" cmp "files/$file" "work/$file"
-    gives "scrub keeps the orientation of $file" 0 "$mexaldor" scrub --keep-orientation "work/$file" "work/new.$file"
+    gives "scrub keeps the orientation of $file" 0 "$mexaldor" scrub --force --keep-orientation "work/$file" "work/new.$file"
     gives "one field is left in $file" 0 "$mexaldor" show "work/new.$file"
     check "it is alone" test "$(wc -l <out)" = 2
     holds "the orientation is printed" Orientation
 done
 check "no metadata is left in the JPEG" sh -c '! grep -aqE "xmpmeta|comment|behind" work/new.whole.jpg'
 check "no metadata is left in the WebP" sh -c '! grep -aq xmpmeta work/new.whole.webp'
-gives "scrub of a picture without metadata gives it again" 0 "$mexaldor" scrub files/plain.jpg work/plain.jpg
+gives "scrub of a picture without metadata gives it again" 0 "$mexaldor" scrub --force files/plain.jpg work/plain.jpg
 check "it is the same" cmp files/plain.jpg work/plain.jpg
 gives "TIFF files are refused" 1 "$mexaldor" scrub work/whole.tif work/new.tif
 says "the refusal names what there is" --places-only
@@ -219,9 +223,111 @@ def output_of(*words):
     ran.wait()
     return seen
 line = output_of("json", "-r", "thousands")
-assert b"files done" in line and line.endswith(b"\x1b[K"), line
-assert line.count(b"\r") < 100, line.count(b"\r")
+assert b"files done" in line, line
+assert line.endswith(b"\r\x1b[Kmexaldor: 10000 read, 0 refused, 0 skipped\r\n"), line[-200:]
+assert line.count(b"\r") < 102, line.count(b"\r")
 assert output_of("json", "-q", "-r", "thousands") == b""
 P
+
+# OUT is never another picture by accident
+fresh
+gives "scrub does not write over another picture" 1 "$mexaldor" scrub work/whole.jpg work/plain.jpg
+says "the message names OUT and what to do" "work/plain.jpg exists; use --force"
+check "the other picture stays" cmp files/plain.jpg work/plain.jpg
+gives "set does not either" 1 "$mexaldor" set work/whole.jpg work/plain.jpg Orientation=1
+gives "nor does thumbnail" 1 "$mexaldor" thumbnail work/whole.jpg work/plain.jpg
+check "it stays still" cmp files/plain.jpg work/plain.jpg
+gives "OUT can't be FILE" 1 "$mexaldor" scrub --force work/whole.jpg work/../work/whole.jpg
+says "the message says what to do then" "input and output are the same file; use --in-place"
+ln -s whole.jpg work/link.jpg
+gives "nor a link to it" 1 "$mexaldor" set --force work/whole.jpg work/link.jpg Orientation=1
+gives "nor can a thumbnail be" 1 "$mexaldor" thumbnail --force work/whole.jpg work/whole.jpg
+check "FILE stays" cmp files/whole.jpg work/whole.jpg
+gives "a link that leads nowhere is not replaced" 1 sh -c 'ln -s nowhere work/lost.jpg; "$1" scrub --force work/whole.jpg work/lost.jpg' sh "$mexaldor"
+gives "--force replaces another file" 0 "$mexaldor" scrub --force --keep-orientation work/whole.jpg work/plain.jpg
+check "which is the new one" sh -c '! cmp -s files/plain.jpg work/plain.jpg'
+nothing_beside "OUT"
+
+# words of set
+fresh
+gives "a mistyped tag is no file" 2 "$mexaldor" set work/whole.jpg Oreintation=6 Artist=Bob
+says "the nearest tag is named" "unknown tag 'Oreintation'; did you mean 'Orientation'?"
+check "no file has that name" sh -c '! ls | grep -q "="'
+gives "an unknown tag is reported" 2 "$mexaldor" set -i work/whole.jpg Nothing12345678=6
+says "the message says where names are" "mexaldor tags"
+gives "names of tags match in any case" 0 "$mexaldor" set -i work/whole.jpg orientation=3 ARTIST=Bob
+"$mexaldor" show work/whole.jpg >out
+holds "the orientation is set" "row 0 at bottom and column 0 at right"
+cp files/whole.jpg work/a=b.jpg
+gives "a name with = is given as a path" 0 "$mexaldor" set -i ./work/a=b.jpg Orientation=1
+(cd work && "$mexaldor" set -i ./a=b.jpg Orientation=3)
+"$mexaldor" show ./work/a=b.jpg >out
+holds "so is one in the folder" "row 0 at bottom and column 0 at right"
+gives "tags are listed" 0 "$mexaldor" tags
+check "each with its type and meaning" grep -qE '^Orientation +number +Orientation of image$' out
+check "and texts" grep -qE '^Artist +text +Person who created the image$' out
+
+# each file once, links, and the program's own files
+fresh
+mkdir work/links outside
+cp files/whole.jpg work/links/a.jpg
+cp files/whole.jpg outside/far.jpg
+ln -s a.jpg work/links/b.jpg
+ln -s ../../outside/far.jpg work/links/c.jpg
+cp files/whole.jpg work/links/a.jpg.orig
+cp files/whole.jpg work/links/.mexaldor-0
+gives "links and own files are skipped" 0 "$mexaldor" shift -r +1:00 work/links
+says "they are counted" "mexaldor: 1 changed, 0 refused, 4 skipped (2 symbolic links; 2 backup or temporary files)"
+"$mexaldor" show work/links/a.jpg >out
+check "the file was shifted once" test "$(grep -c '2020-02-29 00:30:00' out)" = 2
+check "a file outside of the folder stays" cmp files/whole.jpg outside/far.jpg
+check "a backup stays" cmp files/whole.jpg work/links/a.jpg.orig
+check "a hidden file stays" cmp files/whole.jpg work/links/.mexaldor-0
+cp files/whole.jpg work/links/a.jpg
+gives "a file named in four ways is shifted once" 0 "$mexaldor" shift +1:00 work/links/a.jpg work/links/a.jpg ./work/../work/links/b.jpg -r work/links
+"$mexaldor" show work/links/a.jpg >out
+check "once" test "$(grep -c '2020-02-29 00:30:00' out)" = 2
+
+# names that are no UTF-8, control characters
+fresh
+python3 -c 'import shutil; shutil.copy("files/whole.jpg", b"work/bad\xff.jpg")'
+gives "a bad name does not hide the others" 1 "$mexaldor" json -r work
+says "it is named" 'work/bad\xff.jpg: the name is not valid UTF-8'
+check "the others are there" grep -q '"path":"work/whole.jpg"' out
+python3 -c 'import shutil; shutil.copy("files/whole.jpg", "work/a\n\x1b[2Jb.jpg")'
+gives "a name with control characters is shown" 0 "$mexaldor" show "$(printf 'work/a\n\033[2Jb.jpg')"
+holds "escaped" 'work/a\n\x1b[2Jb.jpg:'
+gives "and reported" 1 "$mexaldor" scrub "$(printf 'work/none\033.jpg')" work/out.jpg
+says "escaped too" 'work/none\x1b.jpg: No such file'
+
+# long values
+"$mexaldor" set -i work/whole.jpg "ImageDescription=$(printf %0300d 0)"
+gives "a long value is shown in short" 0 "$mexaldor" show work/whole.jpg
+holds "with its length" "... (302 characters; --full shows all)"
+check "and not whole" sh -c '! grep -q 0000000000000000000000000000000000000000000000000000000000000000000000 out'
+gives "--full shows it" 0 "$mexaldor" show --full work/whole.jpg
+holds "whole" "$(printf %0300d 0)"
+
+# output that is closed or full
+fresh
+gives "a full standard output is reported" 1 sh -c '"$1" show files/whole.jpg >/dev/full' sh "$mexaldor"
+says "in words" "mexaldor: cannot write to standard output: No space left on device"
+gives "a closed standard output is reported" 1 sh -c '"$1" json files/whole.jpg >&-' sh "$mexaldor"
+says "in words too" "mexaldor: cannot write to standard output: Bad file descriptor"
+gives "so is that of tags" 1 sh -c '"$1" tags >/dev/full' sh "$mexaldor"
+gives "a closed standard error does not end the work" 1 sh -c '"$1" shift +1:00 files/absent.jpg work/whole.jpg 2>&-' sh "$mexaldor"
+"$mexaldor" show work/whole.jpg >out
+check "the other file was shifted" test "$(grep -c '2020-02-29 00:30:00' out)" = 2
+
+# the summary of a folder
+fresh
+printf '\211PNG\r\n\032\nrest' >work/a.png
+cp work/a.png work/b.png
+printf 'GIF89a' >work/a.gif
+rm work/faulty.jpg work/cut.jpg work/plain.jpg work/plain.webp
+gives "pictures that are not supported are counted" 3 "$mexaldor" json -r work
+says "by their formats" "mexaldor: 7 read, 0 refused, 3 skipped (2 PNG, 1 GIF: format not supported)"
+gives "a quiet run says nothing" 3 "$mexaldor" json -q -r work
+check "indeed" test ! -s err
 
 ends

@@ -10,6 +10,7 @@ comment = b"\xff\xfe" + (65535).to_bytes(2, "big") + b"c" * 65533
 open("files/long.jpg", "wb").write(data[:2] + comment * 50 + data[2:])
 P
 "$mexaldor" set files/long.jpg turned.jpg Orientation=1
+"$mexaldor" set files/whole.jpg turned.small Orientation=1
 
 # a disk that takes 1 MB of a file and then no more
 fresh
@@ -73,11 +74,34 @@ check "permissions stay" test "$(stat -c %a work/whole.jpg)" = 640
 check "times stay" test "$(stat -c %Y work/whole.jpg)" = "$(date -d "2001-02-03 04:05:06" +%s)"
 check "the backup is the old file" cmp files/whole.jpg work/whole.jpg.orig
 gives "a backup is not replaced" 1 "$mexaldor" set -i --backup work/whole.jpg Orientation=3
+says "the message names the backup" "/whole.jpg.orig exists"
 "$mexaldor" show work/whole.jpg >out
 holds "the file stays then" "row 0 at top and column 0 at left"
 gives "a change that changes nothing" 0 "$mexaldor" set -i work/whole.jpg Orientation=1
 check "does not replace the file" test "$(stat -c %Y work/whole.jpg)" = "$(date -d "2001-02-03 04:05:06" +%s)"
 nothing_beside links
+
+# a name as long as names can be
+fresh
+long=$(printf %0250d 0).jpg
+cp files/whole.jpg "work/$long"
+gives "a file with a long name is replaced" 0 "$mexaldor" set -i "work/$long" Orientation=1
+check "it is another now" sh -c '! cmp -s files/whole.jpg "$1"' sh "work/$long"
+nothing_beside "a long name"
+
+# a process that is killed before each of its calls that change files
+if has strace; then
+    calls=0
+    for step in $(seq 1 40); do
+        fresh
+        strace -f -o trace -e inject=openat,write,fchown,fchmod,utimensat,fsync,link,linkat,rename,renameat,renameat2,unlink,unlinkat:signal=KILL:when="$step" \
+            "$mexaldor" set -i --backup --keep-time work/whole.jpg Orientation=1 >out 2>err
+        [ $? = 137 ] && calls=$((calls + 1))
+        cmp -s files/whole.jpg work/whole.jpg || cmp -s turned.small work/whole.jpg || passes "killed before call $step" 1
+        [ ! -e work/whole.jpg.orig ] || cmp -s files/whole.jpg work/whole.jpg.orig || passes "the backup before call $step" 1
+    done
+    check "the program was killed at its steps" test "$calls" -ge 8
+fi
 
 # a process that is killed: at each time the old or the new file
 fresh

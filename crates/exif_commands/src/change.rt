@@ -1,107 +1,118 @@
-//! Files that are changed.
+//! What is done to one file, in memory.
 
-use crate::inputs::read_file;
-use crate::replace::replace;
-use crate::request::{Change, Keeping, Target};
-use exif::{Error, Sink};
-use exif_base::send_all;
-use exif_change::{Changed, Refusal, Removed, Unerased, scrub, set, shift, unerased};
-use std::alloc::Global;
-use std::{fmt, io};
+ghost use Rattle.std.specs.Prelude.{◌≡◌, IfOk, IfErr};
+ghost use Rattle.exif_change.specs.Changed.{change_of};
+ghost use Rattle.exif_change.specs.Refusals.{Answers, Fails};
+ghost use Rattle.exif_commands.specs.Answers.{IsAnswerOf, answer_of};
 
-/// Why a file was not changed.
+use crate::request::Change;
+use exif_change::{Refusal, Removed, Unerased, scrub, set, shift, unerased};
+use exif_files::{Edit, EditError, Edited};
+use std::alloc::{AllocError, Global};
+use std::fmt;
+
+/// A changed file, and what was left undone.
 #[derive(Drop)]
-pub enum Trouble {
-    /// It could not be read, or the new one could not be written.
-    Io(io::Error),
-    /// What it holds can't be changed so.
-    Refused(Refusal),
+pub struct Changed {
+    /// The bytes of the new file.
+    pub file: Vec<u8>,
+    /// What was left undone.
+    pub left: Vec<Left>,
 }
 
-impl From<io::Error> for Trouble {
-    fn from(e: io::Error) -> Trouble {
-        Trouble::Io(e)
-    }
+/// What was left undone in a changed file.
+#[derive(Drop)]
+pub enum Left {
+    /// What the change itself left.
+    Change(exif_change::Left),
+    /// What may be GPS data, in a file whose GPS data were erased.
+    Gps(Unerased),
 }
 
-impl From<Refusal> for Trouble {
-    fn from(e: Refusal) -> Trouble {
-        Trouble::Refused(e)
-    }
-}
-
-impl fmt::Display for Trouble {
+impl fmt::Display for Left {
     fn fmt<W: fmt::Write>(&self, f: &mut fmt::Formatter<W>) -> fmt::Result {
         match self {
-            Trouble::Io(cause) => write!(f, "{cause}"),
-            Trouble::Refused(refusal) => write!(f, "{refusal}"),
+            Left::Change(left) => write!(f, "{left}"),
+            Left::Gps(left) if left.pointers.is_empty() => {
+                write!(
+                    f,
+                    "GPS data may be left: the Exif data have too many directories"
+                )
+            }
+            Left::Gps(left) => {
+                let count = left.pointers.len();
+                write!(
+                    f,
+                    "GPS data may be left: GPS pointers lead out of the Exif data ({count})"
+                )
+            }
         }
     }
 }
 
-/// What may be GPS data and is left in a file whose GPS data were erased.
-#[derive(Drop)]
-pub struct LeftGps(Unerased);
+/// The changed file, and what was left undone in it.
+pub fn change_bytes(alloc: Global, change: &Change<'_>, old: &[u8]) -> Result<Changed, Refusal>
+    ensures answer { IfOk result (λ changed. IsAnswerOf change.now old.now changed.file.items) }
+    ensures refused { IfErr result (λ e. Fails e (answer_of change.now old.now)) }
+{
+    let made = made_of(alloc, change, old)?;
+    let left = left_in(alloc, change, made.file.as_slice(), made.left)?;
+    Ok(Changed {
+        file: made.file,
+        left,
+    })
+}
 
-impl fmt::Display for LeftGps {
-    fn fmt<W: fmt::Write>(&self, f: &mut fmt::Formatter<W>) -> fmt::Result {
-        let LeftGps(left) = self;
-        let count = left.pointers.len();
-        if count > 0 {
-            write!(
-                f,
-                "GPS data may be left: GPS pointers lead out of the Exif data ({count})"
-            )
-        } else {
-            write!(
-                f,
-                "GPS data may be left: the Exif data have too many directories"
-            )
-        }
+// What the change makes of a file.
+fn made_of(alloc: Global, change: &Change<'_>, old: &[u8]) -> Result<exif_change::Changed, Refusal>
+    ensures { Answers change_of result (answer_of change.now old.now) }
+{
+    let old = Vec::from_slice(alloc, old)?;
+    match change {
+        Change::Scrub(removed) => scrub(alloc, old, *removed),
+        Change::Shift(by, dates) => shift(alloc, old, *by, *dates),
+        Change::Set(values) => set(alloc, old, values.as_slice()),
     }
 }
 
-/// Changes a file, and puts the new one where it belongs. A file that stays as it is is not
-/// replaced by itself. Answers what is left of GPS data that were to be erased, if anything.
-pub fn change<W: Sink>(
-    rt: &HostRuntime,
+// What was left undone: by the change, and of GPS data that were to be erased.
+fn left_in(
+    alloc: Global,
     change: &Change<'_>,
-    target: Target<'_>,
-    path: &str,
-    out: &mut W,
-) -> Result<Option<LeftGps>, Trouble> {
-    let old = read_file(rt, path)?;
-    let new = changed(rt.alloc(), change, &old)?;
-    let bytes = new.as_slice();
-    match target {
-        Target::Out("-") => send_all(out, bytes)?,
-        Target::Out(to) => replace(rt, to, bytes, Keeping::NOTHING)?,
-        Target::InPlace(_) if path == "-" => send_all(out, bytes)?,
-        Target::InPlace(_) if bytes == old.as_slice() => {}
-        Target::InPlace(keeping) => replace(rt, path, bytes, keeping)?,
+    new: &[u8],
+    by_change: Vec<exif_change::Left>,
+) -> Result<Vec<Left>, AllocError> {
+    let mut all = Vec::new(alloc);
+    for left in by_change {
+        all.push(Left::Change(left))?;
     }
-    Ok(left_in(rt.alloc(), change, bytes)?)
+    if let Change::Scrub(Removed::Gps) = change {
+        match unerased(alloc, new)? {
+            Some(left) if left.meets_limit || !left.pointers.is_empty() => {
+                all.push(Left::Gps(left))?
+            }
+            Some(_) | None => {}
+        }
+    }
+    Ok(all)
 }
 
-// What is left of GPS data that were to be erased.
-fn left_in(alloc: Global, change: &Change<'_>, new: &[u8]) -> Result<Option<LeftGps>, Refusal> {
-    let Change::Scrub(Removed::Gps) = change else {
-        return Ok(None);
-    };
-    match unerased(alloc, new)? {
-        Some(left) if left.meets_limit || !left.pointers.is_empty() => Ok(Some(LeftGps(left))),
-        Some(_) | None => Ok(None),
-    }
-}
+/// A change as an edit of files.
+#[derive(Clone, Copy)]
+pub struct ChangeEdit<'c, 'a>(pub &'c Change<'a>);
 
-// The changed file.
-fn changed(alloc: Global, change: &Change<'_>, old: &Vec<u8>) -> Result<Vec<u8>, Refusal> {
-    let file = Vec::from_slice(alloc, old.as_slice())?;
-    let changed = match change {
-        Change::Scrub(removed) => scrub(alloc, file, *removed)?,
-        Change::Shift(by, dates) => shift(alloc, file, *by, *dates)?,
-        Change::Set(values) => set(alloc, file, values.as_slice())?,
-    };
-    let Changed { file, left: _left } = changed;
-    Ok(file)
+impl<'c, 'a> Edit for ChangeEdit<'c, 'a> {
+    type Left = Left;
+
+    type Refusal = Refusal;
+
+    ghost answer = { λ edit. IsAnswerOf edit.0.now };
+
+    fn apply(&self, alloc: Global, old: &[u8]) -> Result<Edited<Left>, EditError<Refusal>> {
+        match change_bytes(alloc, self.0, old) {
+            Ok(Changed { file, left }) => Ok(Edited { file, left }),
+            Err(Refusal::OutOfMemory) => Err(EditError::OutOfMemory),
+            Err(refusal) => Err(EditError::Refused(refusal)),
+        }
+    }
 }

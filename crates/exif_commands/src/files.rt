@@ -1,172 +1,244 @@
-//! Many files in turn: what is wrong with one is told, and the others go on.
+//! Many files, one after the other: what is wrong with one is reported, and the others go on.
 
-use crate::change::change;
-use crate::inputs::{is_picture, open};
+use crate::change::change_bytes;
+use crate::console::Console;
+use crate::counts::{Summary, status_of};
+use crate::formats::unsupported_of;
+use crate::in_place::change_in_place;
+use crate::inputs::{Head, head_of_file, open, read_file};
 use crate::json::object_of;
+use crate::output::{out_of, write_out};
 use crate::pending::{Next, Pending};
-use crate::progress::Progress;
-use crate::request::{Reading, Request, Task};
+use crate::request::{Change, Reading, Request, Target, Task};
 use crate::show::show;
-use crate::thumbnail::write_thumbnail;
-use exif::{Error, Sink};
+use crate::thumbnail::thumbnail_of;
+use exif::Sink;
 use exif_base::send_all;
+use exif_change::Refusal;
+use exif_files::Status;
+use std::alloc::{AllocError, AllocFailed};
 use std::fmt::Display;
-use std::io::{self, ErrorKind};
+use std::io;
 
-/// What became of a file, from the best to the worst.
-#[derive(Clone, Copy, PartialEq, Eq, PartialOrd, Ord)]
-pub enum Status {
-    /// All that was asked for was done.
-    Well,
-    /// So it was, but faults were skipped, or something was left undone and reported.
-    FaultsPassedOver,
-    /// The file was refused.
-    Refused,
+/// Why a run ended before its last file.
+#[derive(Drop)]
+pub enum Stop {
+    /// Standard output took no more.
+    Output(io::Error),
+    /// The names in standard input could not be read.
+    Input(io::Error),
+    /// Out of memory.
+    OutOfMemory,
 }
 
-impl Status {
-    fn code(self) -> u8 {
-        match self {
-            Status::Well => 0,
-            Status::FaultsPassedOver => 3,
-            Status::Refused => 1,
-        }
+impl From<AllocError> for Stop {
+    fn from(_e: AllocError) -> Stop {
+        Stop::OutOfMemory
     }
 }
 
-// What each file meets in its turn.
-#[derive(Drop)]
-struct Turns<'r, 'a, W, E> {
-    rt: &'r HostRuntime,
-    request: &'r Request<'a>,
-    progress: Progress,
-    out: &'r mut W,
-    err: &'r mut E,
+impl<T: Drop> From<AllocFailed<T>> for Stop {
+    fn from(_e: AllocFailed<T>) -> Stop {
+        Stop::OutOfMemory
+    }
 }
 
-/// Does what is asked for with each file. Answers the worst status of a file: 0, 3 where faults
-/// were passed over, 1 where one was refused. The error is one of `out`, `err` or standard input, or
-/// out of memory.
+// What a run needs for each file.
+#[derive(Drop)]
+pub struct Session<'r, 'a, W, E> {
+    pub rt: &'r HostRuntime,
+    pub request: &'r Request<'a>,
+    pub out: &'r mut W,
+    pub console: Console<'r, E>,
+    pub pending: Pending,
+}
+
+/// Does what is requested with each file. Answers the worst status of a file: 0, 3 where something
+/// was skipped or left undone, 1 where one was refused.
 pub fn run<'r, W: Sink, E: Sink>(
     rt: &'r HostRuntime,
     request: &'r Request<'_>,
     shows_progress: bool,
     out: &'r mut W,
     err: &'r mut E,
-) -> Result<u8, Error> {
+) -> Result<u8, Stop> {
     let mut pending = Pending::new(rt.alloc(), request.paths.as_slice(), request.recursive)?;
     if request.names_from_input {
-        pending.add_names(rt.alloc(), rt.stdin())?;
+        let added = pending.add_names(rt.alloc(), rt.stdin());
+        added.map_err(Stop::Input)?;
     }
-    let progress = Progress::new(shows_progress && !request.quiet);
-    let mut turns = Turns {
+    let console = Console::new(rt, err, shows_progress && !request.quiet);
+    let mut session = Session {
         rt,
         request,
-        progress,
         out,
-        err,
+        console,
+        pending,
     };
-    let worst = turns.take_all(&mut pending)?;
-    turns.finish()?;
-    Ok(worst.code())
+    let worst = match &request.task {
+        Task::Change(change, Target::InPlace(keeping)) => {
+            change_in_place(&mut session, change, *keeping)?
+        }
+        _ => session.process_all()?,
+    };
+    session.finish(worst)
 }
 
-impl<'r, 'a, W: Sink, E: Sink> Turns<'r, 'a, W, E> {
-    // Takes the line of progress away, and sends what is held back.
-    fn finish(&mut self) -> Result<(), Error> {
-        self.progress.clear(self.err)?;
-        self.out.flush()?;
-        Ok(())
+impl<'r, 'a, W: Sink, E: Sink> Session<'r, 'a, W, E> {
+    // Sends what is held back, writes the summary, and answers the status.
+    fn finish(&mut self, worst: Status) -> Result<u8, Stop> {
+        self.out.flush().map_err(Stop::Output)?;
+        self.console.clear();
+        if self.request.recursive && !self.request.quiet {
+            let verb = match &self.request.task {
+                Task::Change(..) => "changed",
+                _ => "read",
+            };
+            let counts = &self.pending.counts;
+            let summary = Summary { verb, counts };
+            let line = format!(in self.rt.alloc(); "mexaldor: {summary}\n")?;
+            self.console.write(line.as_str());
+        }
+        let status = status_of(worst, self.pending.counts.unsupported());
+        Ok(status.code())
     }
 
     // The worst status of all.
-    fn take_all(&mut self, pending: &mut Pending) -> Result<Status, Error> {
-        let mut worst = Status::Well;
+    fn process_all(&mut self) -> Result<Status, Stop> {
+        let mut worst = Status::Success;
         for _ in 0..u64::MAX {
-            let Some(next) = pending.next(self.rt)? else {
+            let Some(next) = self.pending.next(self.rt)? else {
                 break;
             };
-            worst = worst.max(self.take(next)?);
-            self.progress.step(self.rt, pending.len(), self.err)?;
+            worst = worst.or_worse(self.process_next(next)?);
+            self.console.step(self.pending.len());
         }
         Ok(worst)
     }
 
-    // A file that was found in a folder is passed over where it is no picture.
-    fn take(&mut self, next: Next) -> Result<Status, Error> {
+    fn process_next(&mut self, next: Next) -> Result<Status, Stop> {
         match next {
-            Next::Failed(path, cause) => self.refuse(&path, &reason(&path, cause)),
-            Next::File(path, is_named) if is_named || is_picture(self.rt, &path) => {
-                self.treat(&path)
+            Next::Failed(path, cause) => {
+                self.pending.counts.add(Status::Refused);
+                self.refuse(path.as_str(), &cause)
             }
-            Next::File(_no_picture, _) => Ok(Status::Well),
+            Next::Input => self.process("-"),
+            Next::Named(path) => self.process(path.as_str()),
+            Next::Found(path) if self.is_picture(path.as_str()) => self.process(path.as_str()),
+            Next::Found(_no_picture) => Ok(Status::Success),
         }
     }
 
-    // Does with a file what is asked for.
-    fn treat(&mut self, path: &str) -> Result<Status, Error> {
-        match &self.request.task {
-            Task::Show(reading) => self.show(*reading, path),
-            Task::Json(reading) => self.tell(*reading, path),
-            Task::Change(what, target) => {
-                match change(self.rt, what, *target, path, self.out) {
-                    Ok(None) => Ok(Status::Well),
-                    Ok(Some(left)) => self.report(path, &left),
-                    Err(trouble) => self.refuse(path, &trouble),
+    /// Whether a file that was found is a picture, or can't be read, which is reported then. A
+    /// picture in a format that is not supported is counted.
+    pub fn is_picture(&mut self, path: &str) -> bool {
+        match head_of_file(self.rt, path) {
+            Head::Picture | Head::Unreadable => true,
+            Head::Other(head) => {
+                if let Some(format) = unsupported_of(head.as_slice()) {
+                    self.pending.counts.skip(format);
                 }
-            }
-            Task::Thumbnail(to) => {
-                match write_thumbnail(self.rt, path, to, self.out) {
-                    Ok(()) => Ok(Status::Well),
-                    Err(trouble) => self.refuse(path, &trouble),
-                }
+                false
             }
         }
     }
 
-    fn show(&mut self, reading: Reading, path: &str) -> Result<Status, Error> {
-        match show(self.rt, reading, path, self.out) {
-            Ok(0) => Ok(Status::Well),
-            Ok(_faults) => Ok(Status::FaultsPassedOver),
+    fn process(&mut self, path: &str) -> Result<Status, Stop> {
+        let status = match &self.request.task {
+            Task::Show(reading) => self.show(*reading, path)?,
+            Task::Json(reading) => self.write_json(*reading, path)?,
+            Task::Change(what, Target::Out(to, force)) => self.change(what, path, to, *force)?,
+            Task::Change(what, Target::InPlace(_)) => self.change(what, path, "-", false)?,
+            Task::Thumbnail(to, force) => self.write_thumbnail(path, to, *force)?,
+        };
+        self.pending.counts.add(status);
+        Ok(status)
+    }
+
+    /// Changes standard input into standard output.
+    pub fn change_input(&mut self) -> Result<Status, Stop> {
+        self.process("-")
+    }
+
+    fn show(&mut self, reading: Reading, path: &str) -> Result<Status, Stop> {
+        match show(self.rt, reading, path, self.out)? {
+            Ok(0) => Ok(Status::Success),
+            Ok(_faults) => Ok(Status::Incomplete),
             Err(error) => self.refuse(path, &error),
         }
     }
 
     // Writes the object of a file in a line.
-    fn tell(&mut self, reading: Reading, path: &str) -> Result<Status, Error> {
+    fn write_json(&mut self, reading: Reading, path: &str) -> Result<Status, Stop> {
         let (mut text, status) = object_of(self.rt.alloc(), reading, path, open(self.rt, path))?;
         text.push(b'\n')?;
-        send_all(self.out, text.as_slice())?;
+        send_all(self.out, text.as_slice()).map_err(Stop::Output)?;
         Ok(status)
     }
 
-    // Reports what was left undone in a file that was changed.
-    fn report<T: Display>(&mut self, path: &str, what: &T) -> Result<Status, Error> {
-        self.say(path, what)?;
-        Ok(Status::FaultsPassedOver)
+    // Writes a changed file to OUT.
+    fn change(
+        &mut self,
+        what: &Change<'_>,
+        path: &str,
+        to: &str,
+        force: bool,
+    ) -> Result<Status, Stop> {
+        let destination = match out_of(self.rt, path, to, force)? {
+            Ok(destination) => destination,
+            Err(error) => return self.refuse(path, &error),
+        };
+        let old = match read_file(self.rt, path) {
+            Ok(old) => old,
+            Err(error) => return self.refuse(path, &error),
+        };
+        let new = match change_bytes(self.rt.alloc(), what, old.as_slice()) {
+            Ok(new) => new,
+            Err(Refusal::OutOfMemory) => return Err(Stop::OutOfMemory),
+            Err(refusal) => return self.refuse(path, &refusal),
+        };
+        match write_out(self.rt, to, destination, new.file.as_slice(), self.out)? {
+            Ok(()) => {}
+            Err(error) => return self.refuse(path, &error),
+        }
+        let mut status = Status::Success;
+        for left in new.left.iter() {
+            self.say(path, left)?;
+            status = Status::Incomplete;
+        }
+        Ok(status)
     }
 
-    // Tells why a file was refused.
-    fn refuse<T: Display>(&mut self, path: &str, cause: &T) -> Result<Status, Error> {
+    fn write_thumbnail(&mut self, path: &str, to: &str, force: bool) -> Result<Status, Stop> {
+        let destination = match out_of(self.rt, path, to, force)? {
+            Ok(destination) => destination,
+            Err(error) => return self.refuse(path, &error),
+        };
+        let file = match read_file(self.rt, path) {
+            Ok(file) => file,
+            Err(error) => return self.refuse(path, &error),
+        };
+        let jpeg = match thumbnail_of(self.rt.alloc(), file.as_slice()) {
+            Ok(jpeg) => jpeg,
+            Err(Refusal::OutOfMemory) => return Err(Stop::OutOfMemory),
+            Err(refusal) => return self.refuse(path, &refusal),
+        };
+        match write_out(self.rt, to, destination, jpeg.as_slice(), self.out)? {
+            Ok(()) => Ok(Status::Success),
+            Err(error) => self.refuse(path, &error),
+        }
+    }
+
+    /// Reports why a file was refused.
+    pub fn refuse<T: Display>(&mut self, path: &str, cause: &T) -> Result<Status, Stop> {
         self.say(path, cause)?;
         Ok(Status::Refused)
     }
 
-    // Writes a line about a file, behind all that was written before.
-    fn say<T: Display>(&mut self, path: &str, what: &T) -> Result<(), Error> {
-        self.out.flush()?;
-        self.progress.clear(self.err)?;
-        let line = format!(in self.rt.alloc(); "mexaldor: {path}: {what}\n")?;
-        send_all(self.err, line.as_bytes())?;
+    // Writes a message about a file, after all that was written before.
+    fn say<T: Display>(&mut self, path: &str, what: &T) -> Result<(), Stop> {
+        self.out.flush().map_err(Stop::Output)?;
+        self.console.say(path, what);
         Ok(())
-    }
-}
-
-// Why a name can't be followed.
-fn reason(path: &str, cause: io::Error) -> io::Error {
-    if cause.kind() == ErrorKind::NotFound && path.contains('\u{fffd}') {
-        io::Error::new(ErrorKind::InvalidFilename, "The name is not UTF-8")
-    } else {
-        cause
     }
 }

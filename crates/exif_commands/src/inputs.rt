@@ -46,19 +46,31 @@ pub fn read_file(rt: &HostRuntime, path: &str) -> io::Result<Vec<u8>> {
     read_all(rt.alloc(), File::open(rt, path)?)
 }
 
-/// Whether a file begins as a picture does, or can't be read, which its turn will tell.
-pub fn is_picture(rt: &HostRuntime, path: &str) -> bool {
+/// What the first bytes of a file show.
+#[derive(Drop)]
+pub enum Head {
+    /// A picture.
+    Picture,
+    /// Nothing, since the file can't be read.
+    Unreadable,
+    /// No picture that is supported: these bytes.
+    Other(Vec<u8>),
+}
+
+/// What the first bytes of a file show.
+pub fn head_of_file(rt: &HostRuntime, path: &str) -> Head {
     let head = match File::open(rt, path) {
         Ok(mut file) => head_of(rt.alloc(), &mut file),
         Err(cause) => Err(cause),
     };
     match head {
-        Ok(head) => format_of(head.as_slice()).is_some(),
-        Err(_cause) => true,
+        Ok(head) if format_of(head.as_slice()).is_some() => Head::Picture,
+        Ok(head) => Head::Other(head),
+        Err(_cause) => Head::Unreadable,
     }
 }
 
-// The first bytes of a file, which stands at its start again.
+// The first bytes of a file, which is at its start again.
 fn head_of(alloc: Global, file: &mut File) -> io::Result<Vec<u8>> {
     let mut head = Vec::new(alloc);
     file.take(HEAD as u64).read_to_end(&mut head)?;

@@ -1,10 +1,10 @@
 //! The JSON object of a file.
 
-use crate::files::Status;
 use crate::inputs::{Input, read};
 use crate::request::Reading;
 use exif::{Error, Exif, Reader};
 use exif_containers::container::Format;
+use exif_files::Status;
 use exif_json::told_json;
 use std::alloc::{AllocError, Global};
 use std::io;
@@ -36,8 +36,8 @@ fn answered(
     answer: Result<Exif, Error>,
 ) -> Result<(Vec<u8>, Status), AllocError> {
     let status = match &answer {
-        Ok(_) => Status::Well,
-        Err(Error::PartialResult(_)) => Status::FaultsPassedOver,
+        Ok(_) => Status::Success,
+        Err(Error::PartialResult(_)) => Status::Incomplete,
         Err(_) => Status::Refused,
     };
     let told = told_json(alloc, path, format.unwrap_or(Format::Tiff), answer)?;

@@ -1,15 +1,24 @@
 //! The files that are named, and those in folders, one after the other.
 
-use std::alloc::Global;
-use std::fs;
+use crate::counts::Counts;
+use crate::escaped::{is_unreadable, readable};
+use crate::rules::{Action, Kind, action_of, is_own_name};
+use std::alloc::{AllocError, Global};
+use std::fs::{self, Metadata};
 use std::io::{self, ErrorKind, Read};
+use std::rt::Files;
 
-/// The files that have not had their turn.
+// How many bytes of names are read at a time.
+const BLOCK: usize = 8192;
+
+/// The files that were not processed yet.
 #[derive(Drop)]
 pub struct Pending {
     // the last is the next
     waiting: Vec<Waiting>,
     recursive: bool,
+    /// What was skipped so far.
+    pub counts: Counts,
 }
 
 // A file or a folder.
@@ -19,18 +28,22 @@ struct Waiting {
     is_named: bool,
 }
 
-/// What has its turn.
+/// What is processed next.
 #[derive(Drop)]
 pub enum Next {
-    /// A file; whether it was named, and not found in a folder.
-    File(String, bool),
+    /// Standard input.
+    Input,
+    /// A file that was named.
+    Named(String),
+    /// A file that was found in a folder, and may be a picture.
+    Found(String),
     /// A name that can't be followed.
     Failed(String, io::Error),
 }
 
 impl Pending {
     /// The files of these names.
-    pub fn new(alloc: Global, paths: &[&str], recursive: bool) -> io::Result<Pending> {
+    pub fn new(alloc: Global, paths: &[&str], recursive: bool) -> Result<Pending, AllocError> {
         let mut waiting = Vec::new(alloc);
         for path in paths.iter().rev() {
             let path = String::from_str(alloc, path)?;
@@ -39,7 +52,11 @@ impl Pending {
                 is_named: true,
             })?;
         }
-        Ok(Pending { waiting, recursive })
+        Ok(Pending {
+            waiting,
+            recursive,
+            counts: Counts::new(),
+        })
     }
 
     /// Adds the names that a reader holds, each ended by a zero byte; the last may lack it.
@@ -48,7 +65,7 @@ impl Pending {
         reader.read_to_end(&mut names)?;
         for name in names.split(|byte| *byte == 0).rev() {
             if !name.is_empty() {
-                let path = String::from_utf8_lossy(alloc, name)?;
+                let path = readable(alloc, name)?;
                 self.waiting.push(Waiting {
                     path,
                     is_named: true,
@@ -58,20 +75,17 @@ impl Pending {
         Ok(())
     }
 
-    /// How many files and folders have not had their turn.
+    /// How many files and folders were not processed yet.
     pub fn len(&self) -> usize {
         self.waiting.len()
     }
 
     /// The next one, if there is one.
-    pub fn next(&mut self, rt: &HostRuntime) -> io::Result<Option<Next>> {
+    pub fn next(&mut self, rt: &HostRuntime) -> Result<Option<Next>, AllocError> {
         for _ in 0..u64::MAX {
             let Some(waiting) = self.waiting.pop() else {
                 return Ok(None);
             };
-            if waiting.path.as_str() == "-" && waiting.is_named {
-                return Ok(Some(Next::File(waiting.path, true)));
-            }
             if let Some(next) = self.follow(rt, waiting)? {
                 return Ok(Some(next));
             }
@@ -79,31 +93,49 @@ impl Pending {
         Ok(None)
     }
 
-    // What a name stands for: nothing where it is a folder, whose files wait then, or of a folder
-    // and no file. A link in a folder is followed to a file alone.
-    fn follow(&mut self, rt: &HostRuntime, waiting: Waiting) -> io::Result<Option<Next>> {
+    // What a name leads to: nothing where it is a folder, whose files wait then, or is skipped.
+    fn follow(&mut self, rt: &HostRuntime, waiting: Waiting) -> Result<Option<Next>, AllocError> {
         let Waiting { path, is_named } = waiting;
-        let kind = if is_named {
+        if path.as_str() == "-" && is_named {
+            return Ok(Some(Next::Input));
+        }
+        if is_unreadable(path.as_str()) {
+            let cause = io::Error::new(ErrorKind::InvalidFilename, "the name is not valid UTF-8");
+            return Ok(Some(Next::Failed(path, cause)));
+        }
+        let found = if is_named {
             fs::metadata(rt, path.as_str())
         } else {
             fs::symlink_metadata(rt, path.as_str())
         };
-        match kind {
-            Err(cause) => Ok(Some(Next::Failed(path, cause))),
-            Ok(kind) if kind.is_dir() => self.enter(rt, path),
-            Ok(kind) if is_named || kind.is_file() || is_file(rt, &path) => {
-                Ok(Some(Next::File(path, is_named)))
+        let kind = match found {
+            Err(cause) => return Ok(Some(Next::Failed(path, cause))),
+            Ok(found) => kind_of(&found),
+        };
+        let is_own = is_own_name(name_of(path.as_str()));
+        match action_of(kind, is_named, is_own, self.recursive) {
+            Action::Process => Ok(Some(Next::Named(path))),
+            Action::ProcessPicture => Ok(Some(Next::Found(path))),
+            Action::Enter => self.enter(rt, path),
+            Action::RefuseFolder => {
+                let cause = io::Error::new(ErrorKind::IsADirectory, "is a folder; use -r");
+                Ok(Some(Next::Failed(path, cause)))
             }
-            Ok(_no_file) => Ok(None),
+            Action::SkipLink => {
+                self.counts.links = self.counts.links.saturating_add(1);
+                Ok(None)
+            }
+            Action::SkipOwn => {
+                self.counts.own = self.counts.own.saturating_add(1);
+                Ok(None)
+            }
+            Action::Ignore => Ok(None),
         }
     }
 
     // Has the files of a folder wait, in the order of their names.
-    fn enter(&mut self, rt: &HostRuntime, path: String) -> io::Result<Option<Next>> {
-        if !self.recursive {
-            return Ok(Some(Next::Failed(path, io::Error::from(ErrorKind::IsADirectory))));
-        }
-        match names_in(rt, &path) {
+    fn enter(&mut self, rt: &HostRuntime, path: String) -> Result<Option<Next>, AllocError> {
+        match names_in(rt, path.as_str()) {
             Ok(names) => {
                 for path in names.into_iter().rev() {
                     self.waiting.push(Waiting {
@@ -118,21 +150,57 @@ impl Pending {
     }
 }
 
-// Whether a link leads to a file.
-fn is_file(rt: &HostRuntime, path: &String) -> bool {
-    match fs::metadata(rt, path.as_str()) {
-        Ok(kind) => kind.is_file(),
-        Err(_leads_nowhere) => false,
+fn kind_of(found: &Metadata) -> Kind {
+    if found.is_dir() {
+        Kind::Folder
+    } else if found.is_file() {
+        Kind::File
+    } else if found.is_symlink() {
+        Kind::Link
+    } else {
+        Kind::Other
     }
 }
 
-// The paths of what stands in a folder, sorted.
-fn names_in(rt: &HostRuntime, path: &String) -> io::Result<Vec<String>> {
-    let mut names = Vec::new(rt.alloc());
-    for entry in fs::read_dir(rt, path.as_str())? {
-        let entry = entry?;
-        names.push(String::from_str(rt.alloc(), entry.path().as_str())?)?;
+// The last part of a path.
+fn name_of(path: &str) -> &str {
+    match path.rsplit_once('/') {
+        Some((_, name)) => name,
+        None => path,
+    }
+}
+
+// The paths of what is in a folder, sorted. A name that is no UTF-8 is as `readable` writes it.
+fn names_in(rt: &HostRuntime, path: &str) -> io::Result<Vec<String>> {
+    let alloc = rt.alloc();
+    // a slash has the system follow a link
+    let slash = if path.ends_with('/') { "" } else { "/" };
+    let folder = format!(in alloc; "{path}{slash}")?;
+    let listing = listing_of(rt, folder.as_str())?;
+    let mut names = Vec::new(alloc);
+    for name in listing.split(|byte| *byte == 0) {
+        if !name.is_empty() && name != b".".as_slice() && name != b"..".as_slice() {
+            let mut path = String::from_str(alloc, folder.as_str())?;
+            path.push_str(readable(alloc, name)?.as_str())?;
+            names.push(path)?;
+        }
     }
     names.sort()?;
     Ok(names)
+}
+
+// The names of what is in a folder, each ended by a zero byte. The system gives whole names alone,
+// so each read has room for one.
+fn listing_of(rt: &HostRuntime, folder: &str) -> io::Result<Vec<u8>> {
+    let mut dir = rt.open_dir(folder)?;
+    let mut listing = Vec::new(rt.alloc());
+    let mut block = [0u8; BLOCK];
+    for _ in 0..u64::MAX {
+        let n = dir.read(&mut block)?;
+        if n == 0 {
+            break;
+        }
+        listing.extend_from_slice(&block[..n])?;
+    }
+    Ok(listing)
 }

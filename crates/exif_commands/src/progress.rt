@@ -5,10 +5,10 @@ use exif_base::send_all;
 use std::io;
 use std::time::{Duration, Instant};
 
-// How many milliseconds a line stands before it is written anew.
+// How many milliseconds pass before the line is written again.
 const PAUSE: u64 = 100;
 
-/// How many files were done, in a line of a terminal that is written anew.
+/// How many files were done, in a line of a terminal that is written over.
 #[derive(Drop)]
 pub struct Progress {
     is_shown: bool,
@@ -27,7 +27,7 @@ impl Progress {
         }
     }
 
-    /// Another file is done, and so many wait.
+    /// Another file is done, and so many are left.
     pub fn step<E: Sink>(
         &mut self,
         rt: &HostRuntime,
@@ -43,7 +43,7 @@ impl Progress {
         send_all(err, line.as_bytes())
     }
 
-    // Whether the line is to be written anew.
+    // Whether the line is to be written again.
     fn is_due(&mut self, rt: &HostRuntime) -> io::Result<bool> {
         let now = Instant::now(rt)?;
         let is_due = match self.written {
@@ -56,7 +56,7 @@ impl Progress {
         Ok(is_due)
     }
 
-    /// Takes the line away, so that another can be written.
+    /// Removes the line, so that another can be written.
     pub fn clear<E: Sink>(&mut self, err: &mut E) -> io::Result<()> {
         match self.written.take() {
             Some(_time) => send_all(err, b"\r\x1b[K"),

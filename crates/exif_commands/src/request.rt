@@ -1,19 +1,20 @@
-//! What the arguments ask for.
+//! What the arguments request.
 
 use exif_change::{Assignment, ClockShift, Dates, Removed};
+use exif_files::Keeping;
 
-/// What the arguments ask for.
+/// What the arguments request.
 #[derive(Drop)]
 pub struct Request<'a> {
     /// What is done with each file.
     pub task: Task<'a>,
     /// The files and folders, `-` for standard input.
     pub paths: Vec<&'a str>,
-    /// Whether more names stand in standard input, each ended by a zero byte.
+    /// Whether standard input has more names, each ended by a zero byte.
     pub names_from_input: bool,
-    /// Whether the pictures in folders are taken too.
+    /// Whether the pictures in folders are processed too.
     pub recursive: bool,
-    /// Whether no line of progress is written.
+    /// Whether neither progress nor a summary is written.
     pub quiet: bool,
 }
 
@@ -26,8 +27,8 @@ pub enum Task<'a> {
     Json(Reading),
     /// It is changed.
     Change(Change<'a>, Target<'a>),
-    /// Its thumbnail is written to a file.
-    Thumbnail(&'a str),
+    /// Its thumbnail is written to a file of this name; whether that may exist.
+    Thumbnail(&'a str, bool),
 }
 
 /// How a file is read.
@@ -37,12 +38,14 @@ pub struct Reading {
     pub strict: bool,
     /// How many entries are read at most.
     pub limit: u64,
+    /// Whether long values are shown whole.
+    pub full: bool,
 }
 
 /// How a file is changed.
 #[derive(Drop)]
 pub enum Change<'a> {
-    /// Metadata are taken out.
+    /// Metadata are removed.
     Scrub(Removed),
     /// Values are set.
     Set(Vec<Assignment<'a>>),
@@ -50,28 +53,11 @@ pub enum Change<'a> {
     Shift(ClockShift, Dates),
 }
 
-/// Where a changed file goes.
+/// Where a changed file is written.
 #[derive(Clone, Copy)]
 pub enum Target<'a> {
-    /// Into this file, `-` for standard output.
-    Out(&'a str),
+    /// To a file of this name, `-` for standard output; whether that file may exist.
+    Out(&'a str, bool),
     /// In place of the old one.
     InPlace(Keeping),
-}
-
-/// What is kept of a file that is replaced.
-#[derive(Clone, Copy)]
-pub struct Keeping {
-    /// Whether it stays beside the new one, with `.orig` behind its name.
-    pub backup: bool,
-    /// Whether the new one has its times.
-    pub times: bool,
-}
-
-impl Keeping {
-    /// Nothing is kept.
-    pub const NOTHING: Keeping = Keeping {
-        backup: false,
-        times: false,
-    };
 }

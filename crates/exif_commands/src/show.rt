@@ -1,25 +1,39 @@
 //! The report of a file, under a line with its name.
 
+use crate::escaped::Escaped;
+use crate::files::Stop;
 use crate::inputs::{Input, open};
+use crate::lines::Lines;
 use crate::request::Reading;
 use exif::{Counted, Error, Seekable, Sink};
 use exif_base::send_all;
 use exif_report::report_limited;
 use std::alloc::Global;
 
-/// Writes the report of a file under a line with its name: how many faults were passed over.
+/// Writes the report of a file under a line with its name: how many faults were skipped, or why the
+/// file was refused.
 pub fn show<W: Sink>(
     rt: &HostRuntime,
     reading: Reading,
     path: &str,
     out: &mut W,
-) -> Result<u64, Error> {
-    send_all(out, path.as_bytes())?;
-    send_all(out, b":\n")?;
-    report_input(rt.alloc(), reading, open(rt, path)?, out)
+) -> Result<Result<u64, Error>, Stop> {
+    let name = Escaped(path);
+    let line = format!(in rt.alloc(); "{name}:\n")?;
+    send_all(out, line.as_bytes()).map_err(Stop::Output)?;
+    let input = match open(rt, path) {
+        Ok(input) => input,
+        Err(error) => return Ok(Err(Error::Io(error))),
+    };
+    let mut lines = Counted::new(Lines::new(rt.alloc(), out, reading.full));
+    let result = report_input(rt.alloc(), reading, input, &mut lines);
+    match lines.into_inner().failed() {
+        Some(error) => Err(Stop::Output(error)),
+        None => Ok(result),
+    }
 }
 
-// The report of what was opened: how many faults were passed over.
+// The report of what was opened: how many faults were skipped.
 fn report_input<W: Sink>(
     alloc: Global,
     reading: Reading,

@@ -13,6 +13,14 @@ use std::io::{BufWriter, ErrorKind, Seek};
 use std::process::ExitCode;
 use std::{env, io};
 
+const HELP: &str =
+    "Print the Exif metadata of a picture (TIFF, JPEG, HEIF, WebP), one field per line.
+
+usage: exif_show [-c] FILE
+
+  -c      continue after faults, and report them
+  --help  print this help; for a file of that name, write ./--help";
+
 fn main(rt: HostRuntime) -> io::Result<ExitCode> {
     let words = match env::args(&rt) {
         Ok(words) => words,
@@ -25,6 +33,10 @@ fn main(rt: HostRuntime) -> io::Result<ExitCode> {
     let mut arguments = Vec::new(rt.alloc());
     for argument in words.skip(1) {
         arguments.push(argument)?;
+    }
+    if is_help(arguments.as_slice()) {
+        println!(rt; "{HELP}")?;
+        return Ok(ExitCode::from(0));
     }
     let Some((lenient, index)) = mode(arguments.as_slice()) else {
         eprintln!(rt; "usage: exif_show [-c] FILE")?;
@@ -47,6 +59,14 @@ fn main(rt: HostRuntime) -> io::Result<ExitCode> {
         show(rt.alloc(), &mut reader, &mut out, &mut err, lenient)
     };
     Ok(ExitCode::from(status))
+}
+
+// Whether help is requested.
+fn is_help(arguments: &[String]) -> bool {
+    match arguments {
+        [argument] => argument.as_str() == "--help",
+        _ => false,
+    }
 }
 
 // Whether the file seeks, which a pipe does not.

@@ -8,27 +8,59 @@ use std::alloc::{AllocError, Global};
 pub fn command<'a>(alloc: Global) -> Result<Command<'a>, AllocError> {
     Command::new(alloc, "mexaldor")
         .version("0.1.0")
-        .about("Exif metadata of pictures (TIFF, JPEG, HEIF, WebP)")
+        .about("Show, remove and edit the Exif metadata of pictures (TIFF, JPEG, HEIF, WebP)")
         .after_help(
-            "Exit status: 0 on success, 1 if a file was refused, 2 for wrong arguments, 3 if faults were skipped.",
+            "Exit status: 0 on success, 1 if a file could not be processed, 2 for invalid arguments, 3 if something was skipped or left undone.",
         )
         .subcommand_required(true)
         .arg_required_else_help(true)
-        .subcommand(reading(alloc, "show", "Print the fields of files, one per line")?)?
-        .subcommand(reading(alloc, "json", "Print one JSON object per file and line")?)?
+        .subcommand(show(alloc)?)?
+        .subcommand(json(alloc)?)?
         .subcommand(scrub(alloc)?)?
         .subcommand(set(alloc)?)?
         .subcommand(shift(alloc)?)?
-        .subcommand(thumbnail(alloc)?)
+        .subcommand(thumbnail(alloc)?)?
+        .subcommand(tags(alloc))
 }
 
-// A subcommand that reads files.
-fn reading<'a>(alloc: Global, name: &'a str, about: &'a str) -> Result<Command<'a>, AllocError> {
-    let command = Command::new(alloc, name)
-        .about(about)
+/// A subcommand by its name, for the usage that an error prints.
+pub fn subcommand<'a>(alloc: Global, name: &str) -> Result<Command<'a>, AllocError> {
+    match name {
+        "show" => show(alloc)?.bin_name("mexaldor show"),
+        "json" => json(alloc)?.bin_name("mexaldor json"),
+        "scrub" => scrub(alloc)?.bin_name("mexaldor scrub"),
+        "set" => set(alloc)?.bin_name("mexaldor set"),
+        "shift" => shift(alloc)?.bin_name("mexaldor shift"),
+        "thumbnail" => thumbnail(alloc)?.bin_name("mexaldor thumbnail"),
+        _ => command(alloc),
+    }
+}
+
+fn show<'a>(alloc: Global) -> Result<Command<'a>, AllocError> {
+    let command = Command::new(alloc, "show")
+        .about("Print the fields of files, one per line")
+        .override_usage("mexaldor show [OPTIONS] PATH...")
+        .arg(options::full(alloc))?;
+    reading(alloc, command)
+}
+
+fn json<'a>(alloc: Global) -> Result<Command<'a>, AllocError> {
+    let command = Command::new(alloc, "json")
+        .about("Print one JSON object per file, one per line")
+        .override_usage("mexaldor json [OPTIONS] PATH...");
+    reading(alloc, command)
+}
+
+// The options of a subcommand that reads files.
+fn reading<'a>(alloc: Global, command: Command<'a>) -> Result<Command<'a>, AllocError> {
+    let command = command
         .arg(options::strict(alloc))?
         .arg(options::limit(alloc))?;
-    many(alloc, command)?.arg(options::words(alloc, "PATH", "Files; - is standard input"))
+    many(alloc, command)?.arg(options::words(
+        alloc,
+        "PATH",
+        "Files, or with -r folders; - is standard input",
+    ))
 }
 
 // The options of a subcommand that takes many files.
@@ -39,15 +71,16 @@ fn many<'a>(alloc: Global, command: Command<'a>) -> Result<Command<'a>, AllocErr
         .arg(options::quiet(alloc))
 }
 
-// The options of a subcommand that changes a file into another one, or files in place.
+// The options of a subcommand that writes a new file, or replaces files.
 fn changing<'a>(alloc: Global, command: Command<'a>) -> Result<Command<'a>, AllocError> {
     many(alloc, command)?
+        .arg(options::force(alloc).conflicts_with("in-place")?)?
         .arg(options::in_place(alloc))?
         .arg(options::backup(alloc).requires_arg("in-place")?)?
         .arg(options::keep_time(alloc).requires_arg("in-place")?)
 }
 
-// The options of a subcommand that changes files in place.
+// The options of a subcommand that replaces files.
 fn replacing<'a>(alloc: Global, command: Command<'a>) -> Result<Command<'a>, AllocError> {
     many(alloc, command)?
         .arg(options::backup(alloc))?
@@ -56,14 +89,14 @@ fn replacing<'a>(alloc: Global, command: Command<'a>) -> Result<Command<'a>, All
 
 fn scrub<'a>(alloc: Global) -> Result<Command<'a>, AllocError> {
     let command = Command::new(alloc, "scrub")
-        .about("Remove metadata: FILE OUT, or --in-place FILE...")
-        .arg(options::flag(alloc, "keep-orientation", "Keep the orientation"))?
-        .arg(options::flag(
-            alloc,
-            "places-only",
-            "Only erase the GPS data of Exif, in place",
+        .about("Remove metadata from pictures")
+        .override_usage(
+            "mexaldor scrub [OPTIONS] FILE OUT\n       mexaldor scrub [OPTIONS] --in-place FILE...",
         )
-        .conflicts_with("keep-orientation")?)?;
+        .arg(options::flag(alloc, "keep-orientation", "Keep the orientation"))?
+        .arg(options::flag(alloc, "places-only", "Only erase the GPS data of Exif").conflicts_with(
+            "keep-orientation",
+        )?)?;
     changing(alloc, command)?.arg(options::words(
         alloc,
         "FILE",
@@ -73,20 +106,24 @@ fn scrub<'a>(alloc: Global) -> Result<Command<'a>, AllocError> {
 
 fn set<'a>(alloc: Global) -> Result<Command<'a>, AllocError> {
     let command = Command::new(alloc, "set")
-        .about("Set values: FILE OUT TAG=VALUE..., or --in-place FILE... TAG=VALUE...")
+        .about("Set fields to new values")
+        .override_usage(
+            "mexaldor set [OPTIONS] FILE OUT TAG=VALUE...\n       mexaldor set [OPTIONS] --in-place FILE... TAG=VALUE...",
+        )
         .after_help(
-            "A value that fits is written in place; otherwise the Exif data of JPEG and WebP files are rewritten. Write ./TAG=VALUE for a file whose name looks like an assignment.",
+            "An argument with '=' is an assignment. Write ./NAME for a file whose name has '='. Run 'mexaldor tags' for the names of tags.",
         );
     changing(alloc, command)?.arg(options::words(
         alloc,
-        "WORD",
+        "ARGUMENT",
         "Files, and values such as Orientation=6",
     ))
 }
 
 fn shift<'a>(alloc: Global) -> Result<Command<'a>, AllocError> {
     let command = Command::new(alloc, "shift")
-        .about("Move dates in place, to correct the camera's clock")
+        .about("Move the dates of pictures, to correct the clock of a camera")
+        .override_usage("mexaldor shift [OPTIONS] +|-[DAYSd]HH:MM[:SS] FILE...")
         .arg(options::flag(
             alloc,
             "exif",
@@ -94,22 +131,24 @@ fn shift<'a>(alloc: Global) -> Result<Command<'a>, AllocError> {
         ))?
         .arg(
             Arg::new(alloc, "by")
-                .value_name("+-[DAYSd]HH:MM[:SS]")
+                .value_name("SHIFT")
                 .required(true)
                 .allow_hyphen_values(true)
-                .help("How far, e.g. +1:00 or -2d03:30"),
+                .help("By how much, e.g. +1:00 or -2d03:30"),
         )?;
-    replacing(alloc, command)?.arg(options::words(alloc, "FILE", "Pictures"))
+    replacing(alloc, command)?.arg(options::words(alloc, "FILE", "Pictures, or with -r folders"))
 }
 
 fn thumbnail<'a>(alloc: Global) -> Result<Command<'a>, AllocError> {
     Command::new(alloc, "thumbnail")
         .about("Write the thumbnail of a picture to a file")
+        .override_usage("mexaldor thumbnail [OPTIONS] FILE OUT")
+        .arg(options::force(alloc))?
         .arg(
             Arg::new(alloc, "file")
                 .value_name("FILE")
                 .required(true)
-                .help("The picture"),
+                .help("The picture; - is standard input"),
         )?
         .arg(
             Arg::new(alloc, "out")
@@ -117,4 +156,10 @@ fn thumbnail<'a>(alloc: Global) -> Result<Command<'a>, AllocError> {
                 .required(true)
                 .help("The new file; - is standard output"),
         )
+}
+
+fn tags<'a>(alloc: Global) -> Command<'a> {
+    Command::new(alloc, "tags")
+        .about("List the names of tags, the types of their values, and what they mean")
+        .override_usage("mexaldor tags")
 }

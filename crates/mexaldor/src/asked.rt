@@ -1,123 +1,194 @@
-//! What the arguments ask for.
+//! What the arguments request.
 
+use crate::arguments::subcommand;
 use clap::error::ErrorKind;
-use clap::{ArgMatches, Command, Error};
+use clap::{ArgMatches, Error};
 use exif_change::{Assignment, ClockShift, Dates, ENTRY_LIMIT, Removed};
-use exif_commands::{Change, Keeping, Reading, Request, Target, Task};
+use exif_commands::{
+    Change, Escaped, Keeping, Reading, Request, Target, Task, is_assignment, nearest,
+};
 use std::alloc::{AllocError, Global};
 
-// What is missing, in words.
-type Missing = &'static str;
+/// What the arguments request.
+#[derive(Drop)]
+pub enum Asked<'a> {
+    /// The list of tags.
+    Tags,
+    /// A run over files.
+    Run(Request<'a>),
+}
 
-/// What the arguments ask for, or the error that tells how they are used.
-pub fn request_of<'a>(
-    alloc: Global,
-    command: &mut Command<'a>,
-    found: &ArgMatches<'a>,
-) -> Result<Request<'a>, Error> {
-    match asked(alloc, found)? {
-        Ok(request) => Ok(request),
-        Err(missing) => Err(command.error(ErrorKind::MissingRequiredArgument, missing)?),
+// What is wrong, in words.
+type Wrong = String;
+
+/// What the arguments request, or the error that shows how the subcommand is used.
+pub fn asked_of<'a>(alloc: Global, found: &ArgMatches<'a>) -> Result<Asked<'a>, Error> {
+    let Some((name, matches)) = found.subcommand() else {
+        return Err(subcommand(alloc, "")?.error(
+            ErrorKind::MissingSubcommand,
+            "expected a subcommand",
+        )?);
+    };
+    if name == "tags" {
+        return Ok(Asked::Tags);
+    }
+    match parsed(alloc, name, matches)? {
+        Ok(request) => Ok(Asked::Run(request)),
+        Err(wrong) => {
+            let mut command = subcommand(alloc, name)?;
+            Err(command.error(ErrorKind::ValueValidation, wrong.as_str())?)
+        }
     }
 }
 
-fn asked<'a>(
+fn parsed<'a>(
     alloc: Global,
-    found: &ArgMatches<'a>,
-) -> Result<Result<Request<'a>, Missing>, AllocError> {
-    let Some((name, matches)) = found.subcommand() else {
-        return Ok(Err("expected a subcommand"));
-    };
-    if name == "thumbnail" {
-        return thumbnail_of(alloc, matches);
+    name: &str,
+    matches: &ArgMatches<'a>,
+) -> Result<Result<Request<'a>, Wrong>, AllocError> {
+    match name {
+        "thumbnail" => thumbnail_of(alloc, matches),
+        "set" => set_of(alloc, matches),
+        "shift" => shift_of(alloc, matches),
+        "scrub" => {
+            let files = words_of(alloc, matches)?;
+            changing(alloc, Change::Scrub(removed_of(matches)), matches, files)
+        }
+        "json" => {
+            let files = words_of(alloc, matches)?;
+            request(alloc, Task::Json(reading_of(matches, true)), matches, files)
+        }
+        _ => {
+            let files = words_of(alloc, matches)?;
+            let reading = reading_of(matches, matches.get_flag("full"));
+            request(alloc, Task::Show(reading), matches, files)
+        }
     }
-    let mut files = Vec::from_slice(alloc, matches.get_strs("word").unwrap_or(&[]))?;
-    if name != "set" {
-        return Ok(without_values(name, matches, files));
-    }
+}
+
+fn words_of<'a>(alloc: Global, matches: &ArgMatches<'a>) -> Result<Vec<&'a str>, AllocError> {
+    Vec::from_slice(alloc, matches.get_strs("word").unwrap_or(&[]))
+}
+
+fn wrong<T: Drop>(alloc: Global, text: &str) -> Result<Result<T, Wrong>, AllocError> {
+    Ok(Err(String::from_str(alloc, text)?))
+}
+
+fn set_of<'a>(
+    alloc: Global,
+    matches: &ArgMatches<'a>,
+) -> Result<Result<Request<'a>, Wrong>, AllocError> {
+    let mut files = Vec::new(alloc);
     let mut values = Vec::new(alloc);
-    for word in &files {
-        if let Some(value) = Assignment::parse(word) {
+    for word in words_of(alloc, matches)? {
+        if !is_assignment(word) {
+            files.push(word)?;
+            continue;
+        }
+        let Some(assigned) = Assignment::parse_all(alloc, word)? else {
+            return Ok(Err(unknown_tag(alloc, word)?));
+        };
+        for value in assigned {
             values.push(value)?;
         }
     }
     if values.is_empty() {
-        return Ok(Err("expected TAG=VALUE with a known tag"));
+        return wrong(alloc, "expected TAG=VALUE, such as Orientation=6");
     }
-    files.retain(|word| Assignment::parse(word).is_none());
-    Ok(changing(Change::Set(values), matches, files))
+    changing(alloc, Change::Set(values), matches, files)
 }
 
-// The request of a subcommand whose words are files.
-fn without_values<'a>(
-    name: &str,
+// The message about a word whose tag is not known.
+fn unknown_tag(alloc: Global, word: &str) -> Result<String, AllocError> {
+    let name = match word.split_once('=') {
+        Some((name, _)) => name,
+        None => word,
+    };
+    let shown = Escaped(name);
+    match nearest(alloc, name)? {
+        Some(tag) => {
+            format!(in alloc;
+                "unknown tag '{shown}'; did you mean '{tag}'? (for a file, write ./{shown}=...)"
+            )
+        }
+        None => {
+            format!(in alloc;
+                "unknown tag '{shown}'; run 'mexaldor tags' for a list (for a file, write ./{shown}=...)"
+            )
+        }
+    }
+}
+
+fn shift_of<'a>(
+    alloc: Global,
     matches: &ArgMatches<'a>,
-    files: Vec<&'a str>,
-) -> Result<Request<'a>, Missing> {
-    match name {
-        "show" => request(Task::Show(reading_of(matches)), matches, files),
-        "json" => request(Task::Json(reading_of(matches)), matches, files),
-        "scrub" => changing(Change::Scrub(removed_of(matches)), matches, files),
-        _ => match matches.get_str("by").and_then(ClockShift::parse) {
-            Some(by) => {
-                let change = Change::Shift(by, dates_of(matches));
-                request(
-                    Task::Change(change, Target::InPlace(keeping_of(matches))),
-                    matches,
-                    files,
-                )
-            }
-            None => Err("invalid shift; expected e.g. +1:00 or -2d03:30"),
-        },
+) -> Result<Result<Request<'a>, Wrong>, AllocError> {
+    let text = matches.get_str("by").unwrap_or("");
+    match ClockShift::parse(text) {
+        Some(by) => {
+            let change = Change::Shift(by, dates_of(matches));
+            let task = Task::Change(change, Target::InPlace(keeping_of(matches)));
+            let files = words_of(alloc, matches)?;
+            request(alloc, task, matches, files)
+        }
+        None => {
+            let text = Escaped(text);
+            Ok(Err(format!(in alloc; "invalid shift '{text}'; expected e.g. +1:00 or -2d03:30")?))
+        }
     }
 }
 
 // The request for a change of a file into another one, or of files in place.
 fn changing<'a>(
+    alloc: Global,
     change: Change<'a>,
     matches: &ArgMatches<'a>,
     mut files: Vec<&'a str>,
-) -> Result<Request<'a>, Missing> {
-    let target = if matches.get_flag("in-place") {
-        Target::InPlace(keeping_of(matches))
-    } else if matches.get_flag("recursive") || matches.get_flag("null") {
-        return Err("--recursive and --null need --in-place");
-    } else {
-        match (files.pop(), files.len()) {
-            (Some(out), 1) => Target::Out(out),
-            _ => return Err("expected FILE OUT, or --in-place FILE..."),
+) -> Result<Result<Request<'a>, Wrong>, AllocError> {
+    if matches.get_flag("in-place") {
+        let task = Task::Change(change, Target::InPlace(keeping_of(matches)));
+        return request(alloc, task, matches, files);
+    }
+    if matches.get_flag("recursive") || matches.get_flag("null") {
+        return wrong(alloc, "--recursive and --null require --in-place");
+    }
+    match (files.pop(), files.len()) {
+        (Some(out), 1) => {
+            let target = Target::Out(out, matches.get_flag("force"));
+            request(alloc, Task::Change(change, target), matches, files)
         }
-    };
-    request(Task::Change(change, target), matches, files)
+        _ => wrong(alloc, "expected FILE OUT, or --in-place FILE..."),
+    }
 }
 
 fn request<'a>(
+    alloc: Global,
     task: Task<'a>,
     matches: &ArgMatches<'a>,
     paths: Vec<&'a str>,
-) -> Result<Request<'a>, Missing> {
+) -> Result<Result<Request<'a>, Wrong>, AllocError> {
     let names_from_input = matches.get_flag("null");
     if paths.is_empty() && !names_from_input {
-        return Err("expected a file");
+        return wrong(alloc, "expected a file");
     }
-    Ok(Request {
+    Ok(Ok(Request {
         task,
         paths,
         names_from_input,
         recursive: matches.get_flag("recursive"),
         quiet: matches.get_flag("quiet"),
-    })
+    }))
 }
 
 fn thumbnail_of<'a>(
     alloc: Global,
     matches: &ArgMatches<'a>,
-) -> Result<Result<Request<'a>, Missing>, AllocError> {
+) -> Result<Result<Request<'a>, Wrong>, AllocError> {
     let (Some(file), Some(out)) = (matches.get_str("file"), matches.get_str("out")) else {
-        return Ok(Err("expected FILE OUT"));
+        return wrong(alloc, "expected FILE OUT");
     };
     Ok(Ok(Request {
-        task: Task::Thumbnail(out),
+        task: Task::Thumbnail(out, matches.get_flag("force")),
         paths: Vec::from_slice(alloc, &[file])?,
         names_from_input: false,
         recursive: false,
@@ -125,10 +196,11 @@ fn thumbnail_of<'a>(
     }))
 }
 
-fn reading_of(matches: &ArgMatches<'_>) -> Reading {
+fn reading_of(matches: &ArgMatches<'_>, full: bool) -> Reading {
     Reading {
         strict: matches.get_flag("strict"),
         limit: matches.get_one::<u64>("limit").unwrap_or(ENTRY_LIMIT),
+        full,
     }
 }
 

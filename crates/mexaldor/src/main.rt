@@ -1,4 +1,4 @@
-//! Exif metadata of many files: shown, told as JSON, taken out, set and shifted.
+//! Exif metadata of many files: shown, written as JSON, removed, set and shifted.
 #![tactic(auto)]
 
 mod arguments;
@@ -7,10 +7,10 @@ mod line;
 mod options;
 
 use arguments::command;
-use asked::request_of;
+use asked::{Asked, asked_of};
 use clap::Error;
 use exif::Counted;
-use exif_commands::{Request, run};
+use exif_commands::{Request, Stop, run, write_tags};
 use line::words;
 use std::io::{self, BufWriter, ErrorKind, IsTerminal};
 use std::process::ExitCode;
@@ -18,32 +18,68 @@ use std::process::ExitCode;
 fn main(rt: HostRuntime) -> io::Result<ExitCode> {
     let words = words(&rt)?;
     let status = match answer(&rt, words.as_slice()) {
-        Ok(done) => done?,
+        Ok(status) => status,
         Err(error) => {
-            error.print(&rt)?;
-            if error.use_stderr() { 2 } else { 0 }
+            let is_mistake = error.use_stderr();
+            match error.print(&rt) {
+                Ok(()) if is_mistake => 2,
+                Ok(()) => 0,
+                Err(_) if is_mistake => 2,
+                Err(cause) => stopped(&rt, Stop::Output(cause)),
+            }
         }
     };
     Ok(ExitCode::from(status))
 }
 
-// Does what the words ask for.
-fn answer(rt: &HostRuntime, words: &[String]) -> Result<io::Result<u8>, Error> {
+// Does what the words request, and answers the status.
+fn answer(rt: &HostRuntime, words: &[String]) -> Result<u8, Error> {
     let mut command = command(rt.alloc())?;
     let found = command.try_get_matches_from_mut(words)?;
-    let request = request_of(rt.alloc(), &mut command, &found)?;
-    Ok(done(rt, &request))
+    match asked_of(rt.alloc(), &found)? {
+        Asked::Tags => Ok(tags(rt)),
+        Asked::Run(request) => Ok(done(rt, &request)),
+    }
 }
 
-// The status of the request. A closed pipe ends it without a word.
-fn done(rt: &HostRuntime, request: &Request<'_>) -> io::Result<u8> {
+// Lists the tags.
+fn tags(rt: &HostRuntime) -> u8 {
+    let written = match BufWriter::new(rt.alloc(), rt.stdout()) {
+        Ok(out) => write_tags(rt.alloc(), &mut Counted::new(out)),
+        Err(error) => Err(error),
+    };
+    match written {
+        Ok(()) => 0,
+        Err(error) => stopped(rt, Stop::Output(error)),
+    }
+}
+
+// Does what is requested with the files.
+fn done(rt: &HostRuntime, request: &Request<'_>) -> u8 {
     let shows_progress = rt.stderr().is_terminal() && !rt.stdout().is_terminal();
-    let mut out = Counted::new(BufWriter::new(rt.alloc(), rt.stdout())?);
+    let out = match BufWriter::new(rt.alloc(), rt.stdout()) {
+        Ok(out) => out,
+        Err(_) => return stopped(rt, Stop::OutOfMemory),
+    };
+    let mut out = Counted::new(out);
     let mut err = Counted::new(rt.stderr());
     match run(rt, request, shows_progress, &mut out, &mut err) {
-        Ok(status) => Ok(status),
-        Err(exif::Error::Io(cause)) if cause.kind() == ErrorKind::BrokenPipe => Ok(0),
-        Err(exif::Error::Io(cause)) => Err(cause),
-        Err(_) => Err(io::Error::from(ErrorKind::OutOfMemory)),
+        Ok(status) => status,
+        Err(stop) => stopped(rt, stop),
     }
+}
+
+// Reports why a run ended early, and answers the status. A closed pipe ends it without a message.
+fn stopped(rt: &HostRuntime, stop: Stop) -> u8 {
+    let _ = match stop {
+        Stop::Output(cause) if cause.kind() == ErrorKind::BrokenPipe => return 0,
+        Stop::Output(cause) => {
+            eprintln!(rt; "mexaldor: cannot write to standard output: {cause}")
+        }
+        Stop::Input(cause) => {
+            eprintln!(rt; "mexaldor: cannot read names from standard input: {cause}")
+        }
+        Stop::OutOfMemory => eprintln!(rt; "mexaldor: out of memory"),
+    };
+    1
 }

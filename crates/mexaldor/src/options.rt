@@ -16,7 +16,7 @@ pub fn strict<'a>(alloc: Global) -> Arg<'a> {
     flag(
         alloc,
         "strict",
-        "Refuse a file at its first fault, instead of reporting faults and continuing",
+        "Refuse a file at its first fault instead of skipping faults",
     )
 }
 
@@ -25,14 +25,14 @@ pub fn limit<'a>(alloc: Global) -> Arg<'a> {
         .long("limit")
         .value_name("N")
         .value_parser(ValueParser::Unsigned(0, u64::MAX))
-        .help("Read at most N directory entries of a file [default: 1000000]")
+        .help("Read at most N directory entries of each file [default: 1000000]")
 }
 
 pub fn recursive<'a>(alloc: Global) -> Arg<'a> {
     flag(
         alloc,
         "recursive",
-        "Process the pictures in folders, recursively",
+        "Process the pictures in folders and their subfolders",
     )
     .short('r')
 }
@@ -41,21 +41,30 @@ pub fn null<'a>(alloc: Global) -> Arg<'a> {
     flag(
         alloc,
         "null",
-        "Also read file names from standard input, each ended by a zero byte",
+        "Also read file names from standard input, separated by zero bytes",
     )
     .short('0')
 }
 
 pub fn quiet<'a>(alloc: Global) -> Arg<'a> {
-    flag(alloc, "quiet", "Do not show progress").short('q')
+    flag(alloc, "quiet", "Do not show progress or a summary").short('q')
 }
 
 pub fn in_place<'a>(alloc: Global) -> Arg<'a> {
-    flag(alloc, "in-place", "Replace each file").short('i')
+    flag(
+        alloc,
+        "in-place",
+        "Replace each FILE instead of writing OUT",
+    )
+    .short('i')
 }
 
 pub fn backup<'a>(alloc: Global) -> Arg<'a> {
-    flag(alloc, "backup", "Keep each old file as NAME.orig")
+    flag(
+        alloc,
+        "backup",
+        "Keep each old file as NAME.orig, which must not exist",
+    )
 }
 
 pub fn keep_time<'a>(alloc: Global) -> Arg<'a> {
@@ -66,7 +75,19 @@ pub fn keep_time<'a>(alloc: Global) -> Arg<'a> {
     )
 }
 
-/// The words behind the options.
+pub fn force<'a>(alloc: Global) -> Arg<'a> {
+    flag(alloc, "force", "Replace OUT if it exists").short('f')
+}
+
+pub fn full<'a>(alloc: Global) -> Arg<'a> {
+    flag(
+        alloc,
+        "full",
+        "Print values of more than 200 characters in full",
+    )
+}
+
+/// The words after the options.
 pub fn words<'a>(alloc: Global, name: &'a str, help: &'a str) -> Arg<'a> {
     Arg::new(alloc, "word")
         .value_name(name)

@@ -1,0 +1,24 @@
+-- What a change makes of a file.
+use Rattle.std.specs.Prelude.{◌≡◌, ℕ, List, Result, Ok, Err}
+use Rattle.exif_change.specs.Changed as changed
+use Rattle.exif_change.specs.Changes.{scrubbed}
+use Rattle.exif_change.specs.Refusals.{Why}
+use Rattle.exif_change.specs.Setting.{set_file}
+use Rattle.exif_change.specs.Shifting.{shifted}
+use Rattle.exif_commands.specs.declared.request.Change.{Change}
+use Rattle.exif_commands.specs.declared.request.Change.TheVariants.{Scrub, Set, Shift}
+
+-- the metadata are removed, the values are set, or the dates are moved; or why not
+abbrev pub answer_of : Change → List ℕ → Result changed.Change Why
+answer_of (Scrub removed) old = scrubbed removed old
+answer_of (Set values) old = set_file values.items old
+answer_of (Shift by dates) old = shifted by dates old
+
+-- the new bytes alone
+abbrev pub file_of : Result changed.Change Why → Result (List ℕ) Why
+file_of (Ok made) = Ok made.file
+file_of (Err why) = Err why
+
+-- the bytes of the new file are exactly these
+abbrev pub IsAnswerOf : Change → List ℕ → List ℕ → Type 0
+IsAnswerOf change old new = file_of (answer_of change old) ≡ Ok new

@@ -1,0 +1,179 @@
+//! Files that are changed in place, each once.
+
+use crate::change::{ChangeEdit, Left};
+use crate::console::Console;
+use crate::counts::Counts;
+use crate::escaped::Escaped;
+use crate::files::{Session, Stop};
+use crate::pending::Next;
+use crate::request::Change;
+use exif::Sink;
+use exif_change::Refusal;
+use exif_files::{Failure, HostFiles, Keeping, Reporter, Status, WriteError, change_all};
+use std::alloc::AllocError;
+use std::io::{self, ErrorKind};
+use std::{fmt, fs};
+
+// The files of a run, all found before the first is changed.
+#[derive(Drop)]
+struct Plan {
+    // as they were named or found
+    paths: Vec<String>,
+    // where their links end
+    keys: Vec<String>,
+}
+
+/// Changes each file that is named or found in place, once however often it is named, and answers
+/// the worst status.
+pub fn change_in_place<W: Sink, E: Sink>(
+    session: &mut Session<'_, '_, W, E>,
+    change: &Change<'_>,
+    keeping: Keeping,
+) -> Result<Status, Stop> {
+    let alloc = session.rt.alloc();
+    let mut plan = Plan {
+        paths: Vec::new(alloc),
+        keys: Vec::new(alloc),
+    };
+    let mut worst = Status::Success;
+    for _ in 0..u64::MAX {
+        let Some(next) = session.pending.next(session.rt)? else {
+            break;
+        };
+        worst = worst.or_worse(plan.add(session, next)?);
+    }
+    let Plan { paths, keys } = plan;
+    let results = change_files(
+        session.rt,
+        change,
+        keeping,
+        paths.as_slice(),
+        keys.as_slice(),
+        &mut session.console,
+        &mut session.pending.counts,
+    )?;
+    for status in results.iter().flatten() {
+        worst = worst.or_worse(*status);
+    }
+    Ok(worst)
+}
+
+// Changes the files, and reports each.
+fn change_files<'p, 'k, 'c, 'r, 'n, 'h, 'a, E: Sink>(
+    rt: &HostRuntime,
+    change: &'h Change<'a>,
+    keeping: Keeping,
+    paths: &'p [String],
+    keys: &'k [String],
+    console: &'c mut Console<'r, E>,
+    counts: &'n mut Counts,
+) -> Result<Vec<Option<Status>>, AllocError> {
+    let edit = ChangeEdit(change);
+    let mut files = HostFiles::new(rt);
+    let mut report = Report {
+        paths,
+        keys,
+        console,
+        counts,
+    };
+    change_all(rt.alloc(), &mut files, &edit, keys, keeping, &mut report)
+}
+
+impl Plan {
+    // Adds a file, or reports why it is none. Standard input is changed at once, into standard
+    // output.
+    fn add<W: Sink, E: Sink>(
+        &mut self,
+        session: &mut Session<'_, '_, W, E>,
+        next: Next,
+    ) -> Result<Status, Stop> {
+        match next {
+            Next::Input => session.change_input(),
+            Next::Failed(path, cause) => refuse(session, path.as_str(), &cause),
+            Next::Found(path) if !session.is_picture(path.as_str()) => {
+                drop(path);
+                Ok(Status::Success)
+            }
+            Next::Named(path) | Next::Found(path) => match key_of(session.rt, path.as_str()) {
+                Ok(key) => {
+                    self.paths.push(path)?;
+                    self.keys.push(key)?;
+                    Ok(Status::Success)
+                }
+                Err(cause) => refuse(session, path.as_str(), &cause),
+            },
+        }
+    }
+}
+
+fn refuse<W: Sink, E: Sink>(
+    session: &mut Session<'_, '_, W, E>,
+    path: &str,
+    cause: &io::Error,
+) -> Result<Status, Stop> {
+    session.pending.counts.add(Status::Refused);
+    session.refuse(path, cause)
+}
+
+// Where the links of a path end, if that is a regular file.
+fn key_of(rt: &HostRuntime, path: &str) -> io::Result<String> {
+    if !fs::metadata(rt, path)?.is_file() {
+        return Err(io::Error::new(ErrorKind::InvalidInput, "not a regular file"));
+    }
+    let path = fs::canonicalize(rt, path)?;
+    Ok(String::from_str(rt.alloc(), path.as_path().as_str())?)
+}
+
+// Reports each file.
+#[derive(Drop)]
+struct Report<'p, 'k, 'c, 'r, 'n, E> {
+    paths: &'p [String],
+    keys: &'k [String],
+    console: &'c mut Console<'r, E>,
+    counts: &'n mut Counts,
+}
+
+impl<'p, 'k, 'c, 'r, 'n, E: Sink> Reporter<Left, Refusal> for Report<'p, 'k, 'c, 'r, 'n, E> {
+    fn report(&mut self, index: usize, outcome: Result<Vec<Left>, Failure<Refusal>>) {
+        let (path, key) = match (self.paths.get(index), self.keys.get(index)) {
+            (Some(path), Some(key)) => (path.as_str(), key.as_str()),
+            _ => ("", ""),
+        };
+        match outcome {
+            Ok(left) => {
+                for left in left.iter() {
+                    self.console.say(path, left);
+                }
+                self.counts.add(Status::Success);
+            }
+            Err(failure) => {
+                self.console.say(path, &Cause { failure, key });
+                self.counts.add(Status::Refused);
+            }
+        }
+        self.console
+            .step(self.paths.len().saturating_sub(index).saturating_sub(1));
+    }
+}
+
+// Why a file was not changed, in words.
+#[derive(Drop)]
+struct Cause<'k> {
+    failure: Failure<Refusal>,
+    key: &'k str,
+}
+
+impl fmt::Display for Cause<'_> {
+    fn fmt<W: fmt::Write>(&self, f: &mut fmt::Formatter<W>) -> fmt::Result {
+        match &self.failure {
+            Failure::Reading(cause) => write!(f, "{cause}"),
+            Failure::Refused(refusal) => write!(f, "{refusal}"),
+            Failure::OutOfMemory => f.write_str("out of memory"),
+            Failure::Writing(WriteError::Taken) => {
+                let key = Escaped(self.key);
+                write!(f, "not changed: the backup {key}.orig exists")
+            }
+            Failure::Writing(cause) => write!(f, "cannot replace the file: {cause}"),
+        }
+    }
+}

@@ -1,0 +1,10 @@
+pub mod Counts
+pub mod Edits
+pub mod Filling
+pub mod MemorySteps
+pub mod Moving
+pub mod NewFiles
+pub mod Runs
+pub mod Whole
+pub mod Outcomes
+pub mod Many

@@ -1,0 +1,11 @@
+pub mod Changed
+pub mod Each
+pub mod Failed
+pub mod FromMemory
+pub mod Names
+pub mod Parts
+pub mod PowerLoss
+pub mod States
+pub mod Statuses
+pub mod Steps
+pub mod Written

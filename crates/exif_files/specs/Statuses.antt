@@ -1,0 +1,23 @@
+-- What becomes of a run.
+use Rattle.std.specs.Prelude.{ℕ, List, [], ◌∷◌, Option, None, Some}
+use Rattle.exif_files.specs.declared.outcome.Status.{Status}
+use Rattle.exif_files.specs.declared.outcome.Status.TheVariants.{Success, Incomplete, Refused}
+
+-- the status that a program ends with
+abbrev pub code : Status → ℕ
+code Success = 0
+code Incomplete = 3
+code Refused = 1
+
+abbrev pub worse : Status → Status → Status
+worse Success other = other
+worse Incomplete Refused = Refused
+worse Incomplete Success = Incomplete
+worse Incomplete Incomplete = Incomplete
+worse Refused other = Refused
+
+-- the worst of a run; a file that was named before has none of its own
+abbrev pub worst : List (Option Status) → Status
+worst [] = Success
+worst (None ∷ rest) = worst rest
+worst (Some status ∷ rest) = worse status (worst rest)

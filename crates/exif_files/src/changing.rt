@@ -1,0 +1,174 @@
+//! A file that is changed in place.
+
+ghost use Rattle.std.specs.Prelude.{◌≡◌, ℕ, List, IfOk, IfErr, OnOk, string_bytes};
+ghost use Rattle.exif_files.specs.States.{Run};
+ghost use Rattle.exif_files.specs.Names.{backup_of, backup_if};
+ghost use Rattle.exif_files.specs.Written.{IsWhole, IsReplacedForGood, IsGivenUp, FailedToRemove, none_failed};
+ghost use Rattle.exif_files.specs.Changed.{IsWholeChange, IsChanged, IsNotChanged};
+ghost use Rattle.exif_files.specs.Failed.{IfRefused, FailedInWriting};
+
+use crate::failure::WriteError;
+use crate::replacing::replace;
+use crate::system::FileSystem;
+use std::alloc::{AllocError, AllocFailed, Global};
+use std::io;
+
+/// A changed file, and what was left undone.
+#[derive(Drop)]
+pub struct Edited<L> {
+    /// The bytes of the new file.
+    pub file: Vec<u8>,
+    /// What was left undone and is to be reported.
+    pub left: Vec<L>,
+}
+
+/// Why there is no changed file.
+#[derive(Drop)]
+pub enum EditError<R> {
+    /// The file can't be changed so.
+    Refused(R),
+    /// Out of memory.
+    OutOfMemory,
+}
+
+/// What is done to the bytes of a file.
+pub trait Edit {
+    /// What may be left undone.
+    type Left: Drop;
+
+    /// Why a file is refused.
+    type Refusal: Drop;
+
+    /// What the edit may make of bytes.
+    ghost answer: { Self → List ℕ → List ℕ → Type 0 };
+
+    /// The new bytes. They depend on nothing but the old ones and the edit.
+    fn apply(
+        &self,
+        alloc: Global,
+        old: &[u8],
+    ) -> Result<Edited<Self::Left>, EditError<Self::Refusal>>
+        ensures answered { IfOk result (λ edited. answer self.now old.now edited.file.items) };
+}
+
+/// What is kept of a file that is replaced.
+#[derive(Clone, Copy)]
+pub struct Keeping {
+    /// Whether it stays in the same folder, with `.orig` after its name.
+    pub backup: bool,
+    /// Whether the new file has its times.
+    pub times: bool,
+}
+
+/// Why a file was not changed.
+#[derive(Drop)]
+pub enum Failure<R> {
+    /// It could not be read.
+    Reading(io::Error),
+    /// The new one could not be written.
+    Writing(WriteError),
+    /// It can't be changed so.
+    Refused(R),
+    /// Out of memory.
+    OutOfMemory,
+}
+
+impl<R> From<AllocError> for Failure<R> {
+    fn from(_e: AllocError) -> Failure<R> {
+        Failure::OutOfMemory
+    }
+}
+
+impl<R> From<EditError<R>> for Failure<R> {
+    fn from(e: EditError<R>) -> Failure<R> {
+        match e {
+            EditError::Refused(refusal) => Failure::Refused(refusal),
+            EditError::OutOfMemory => Failure::OutOfMemory,
+        }
+    }
+}
+
+// The name that an old file is kept by.
+fn backup_name(alloc: Global, name: &str) -> Result<String, AllocError>
+    ensures { IfOk result (λ text. string_bytes text ≡ backup_of name.now) }
+{
+    format!(in alloc; "{name}.orig")
+}
+
+// Puts bytes in the place of a file.
+fn write_over<F: FileSystem>(
+    alloc: Global,
+    files: &mut F,
+    name: &str,
+    keeping: Keeping,
+    bytes: &[u8],
+) -> Result<(), WriteError>
+    ensures done { OnOk result (Run
+        (IsWhole name.now (backup_if keeping.backup name.now) bytes.now keeping.times
+        (none_failed (F.failures files.old) (F.failures files.new)))
+        (IsReplacedForGood name.now (backup_if keeping.backup name.now) bytes.now keeping.times
+        (none_failed (F.failures files.old) (F.failures files.new)))
+        (F.states files.old) (F.states files.new)) }
+    ensures failed { IfErr result (λ e. Run
+        (IsWhole name.now (backup_if keeping.backup name.now) bytes.now keeping.times
+        (none_failed (F.failures files.old) (F.failures files.new)))
+        (IsGivenUp name.now (backup_if keeping.backup name.now) bytes.now keeping.times
+        (none_failed (F.failures files.old) (F.failures files.new))
+        (FailedToRemove e (F.failures files.old) (F.failures files.new)))
+        (F.states files.old) (F.states files.new)) }
+{
+    if !keeping.backup {
+        return replace(alloc, files, name, None, keeping.times, bytes);
+    }
+    let backup = backup_name(alloc, name)?;
+    replace(
+        alloc,
+        files,
+        name,
+        Some(backup.as_str()),
+        keeping.times,
+        bytes,
+    )
+}
+
+/// Changes a file in place, and answers what was left undone: the bytes at Ok are an answer of the
+/// edit to those that were there. In every state of the run the old file is there or the new one,
+/// whole.
+///
+/// A file that is its own answer is not written, nor is one that is refused. It takes the memory of
+/// the old file and of the new one, and what the edit takes.
+pub fn change<F: FileSystem, E: Edit>(
+    alloc: Global,
+    files: &mut F,
+    edit: &E,
+    name: &str,
+    keeping: Keeping,
+) -> Result<Vec<E::Left>, Failure<E::Refusal>>
+    ensures done { OnOk result (Run
+        (IsWholeChange (E.answer edit.now) name.now (backup_if keeping.backup name.now)
+        keeping.times (none_failed (F.failures files.old) (F.failures files.new)))
+        (IsChanged (E.answer edit.now) name.now (backup_if keeping.backup name.now)
+        keeping.times (none_failed (F.failures files.old) (F.failures files.new)))
+        (F.states files.old) (F.states files.new)) }
+    ensures failed { IfErr result (λ e. Run
+        (IsWholeChange (E.answer edit.now) name.now (backup_if keeping.backup name.now)
+        keeping.times (none_failed (F.failures files.old) (F.failures files.new)))
+        (IsNotChanged (E.answer edit.now) name.now (backup_if keeping.backup name.now)
+        keeping.times (none_failed (F.failures files.old) (F.failures files.new))
+        (FailedInWriting e (F.failures files.old) (F.failures files.new)))
+        (F.states files.old) (F.states files.new)) }
+    ensures refused { IfErr result (λ e. IfRefused e (F.states files.new ≡ F.states files.old)) }
+{
+    let old = match files.read(alloc, name) {
+        Ok(old) => old,
+        Err(error) => return Err(Failure::Reading(error)),
+    };
+    let Edited { file: new, left } = edit.apply(alloc, old.as_slice())?;
+    if new.as_slice() == old.as_slice() {
+        return Ok(left);
+    }
+    match write_over(alloc, files, name, keeping, new.as_slice()) {
+        Ok(()) => Ok(left),
+        Err(error) => Err(Failure::Writing(error)),
+    }
+}

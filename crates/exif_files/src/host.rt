@@ -1,0 +1,241 @@
+//! The file system of the host. What its files hold is not known to contracts.
+
+ghost use Rattle.std.specs.Prelude.{◌≡◌, ◌≤◌, ◌<◌, [], IfOk, length};
+ghost use Rattle.exif_files.specs.Steps.{count_after};
+
+use crate::system::FileSystem;
+use std::alloc::Global;
+use std::fs::{self, File, FileTimes, OpenOptions};
+use std::io::{self, ErrorKind, Write};
+use std::os::unix::fs::{MetadataExt, OpenOptionsExt, fchown};
+use std::path::Path;
+
+/// The file system of the host. A name is a path.
+#[derive(Drop)]
+pub struct HostFiles<'r> {
+    rt: &'r HostRuntime,
+    // the file that is being written
+    current: Option<Current>,
+    failures: u64,
+}
+
+#[derive(Drop)]
+struct Current {
+    name: String,
+    file: File,
+}
+
+/// The folder of a file.
+pub fn folder_of(name: &str) -> &str {
+    match name.rsplit_once('/') {
+        Some(("", _)) => "/",
+        Some((folder, _)) => folder,
+        None => ".",
+    }
+}
+
+impl<'r> HostFiles<'r> {
+    /// All files of the host.
+    pub fn new(rt: &'r HostRuntime) -> HostFiles<'r> {
+        HostFiles {
+            rt,
+            current: None,
+            failures: 0,
+        }
+    }
+
+    // Counts a call where it failed.
+    fn count(&mut self, failed: bool)
+        ensures { self.new.failures ≡ count_after failed self.old.failures }
+    {
+        if failed {
+            self.failures = self.failures.saturating_add(1);
+        }
+    }
+
+    fn try_create(&mut self, name: &str, mode: u32) -> io::Result<bool>
+        ensures { self.new.failures ≡ self.old.failures }
+    {
+        let text = String::from_str(self.rt.alloc(), name)?;
+        let created = OpenOptions::new()
+            .write(true)
+            .create_new(true)
+            .mode(mode)
+            .open(self.rt, name);
+        match created {
+            Ok(file) => {
+                self.current = Some(Current { name: text, file });
+                Ok(true)
+            }
+            Err(error) if error.kind() == ErrorKind::AlreadyExists => Ok(false),
+            Err(error) => Err(error),
+        }
+    }
+
+    // The file that is being written, which the caller gives back.
+    fn take_current(&mut self, name: &str) -> io::Result<Current>
+        ensures { self.new.failures ≡ self.old.failures }
+    {
+        match self.current.take() {
+            Some(current) if current.name.as_str() == name => Ok(current),
+            _ => {
+                let file = OpenOptions::new().append(true).open(self.rt, name)?;
+                let name = String::from_str(self.rt.alloc(), name)?;
+                Ok(Current { name, file })
+            }
+        }
+    }
+
+    fn try_append(&mut self, name: &str, bytes: &[u8]) -> io::Result<usize>
+        ensures bound { IfOk result (λ n. n ≤ length bytes.now) }
+        ensures some { 0 < length bytes.now → IfOk result (λ n. 0 < n) }
+        ensures count { self.new.failures ≡ self.old.failures }
+    {
+        let mut current = self.take_current(name)?;
+        let taken = current.file.write(bytes);
+        self.current = Some(current);
+        let n = taken?;
+        if n == 0 && !bytes.is_empty() {
+            return Err(io::Error::new(ErrorKind::WriteZero, "no byte was written"));
+        }
+        Ok(n)
+    }
+
+    fn try_copy_owner(&mut self, source: &str, name: &str) -> io::Result<()>
+        ensures { self.new.failures ≡ self.old.failures }
+    {
+        let old = fs::metadata(self.rt, source)?;
+        let current = self.take_current(name)?;
+        let copied = fchown(&current.file, Some(old.uid()), Some(old.gid()));
+        self.current = Some(current);
+        copied
+    }
+
+    fn try_copy_mode(&mut self, source: &str, name: &str) -> io::Result<()>
+        ensures { self.new.failures ≡ self.old.failures }
+    {
+        let old = fs::metadata(self.rt, source)?;
+        let current = self.take_current(name)?;
+        let copied = current.file.set_permissions(old.permissions());
+        self.current = Some(current);
+        copied
+    }
+
+    fn try_copy_times(&mut self, source: &str, name: &str) -> io::Result<()>
+        ensures { self.new.failures ≡ self.old.failures }
+    {
+        let old = fs::metadata(self.rt, source)?;
+        let times = FileTimes::new()
+            .set_accessed(old.accessed()?)
+            .set_modified(old.modified()?);
+        let current = self.take_current(name)?;
+        let copied = current.file.set_times(times);
+        self.current = Some(current);
+        copied
+    }
+
+    fn try_sync(&mut self, name: &str) -> io::Result<()>
+        ensures { self.new.failures ≡ self.old.failures }
+    {
+        let current = self.take_current(name)?;
+        current.file.sync_all()
+    }
+
+    fn try_is_free(&self, name: &str) -> io::Result<bool> {
+        match fs::symlink_metadata(self.rt, name) {
+            Ok(_) => Ok(false),
+            Err(error) if error.kind() == ErrorKind::NotFound => Ok(true),
+            Err(error) => Err(error),
+        }
+    }
+
+    fn try_link(&self, source: &str, name: &str) -> io::Result<bool> {
+        match fs::hard_link(self.rt, source, name) {
+            Ok(()) => Ok(true),
+            Err(error) if error.kind() == ErrorKind::AlreadyExists => Ok(false),
+            Err(error) => Err(error),
+        }
+    }
+
+    fn try_settle(&self, name: &str) -> io::Result<()> {
+        File::open(self.rt, Path::new(folder_of(name)))?.sync_all()
+    }
+}
+
+impl<'r> FileSystem for HostFiles<'r> {
+    ghost states = { λ _. [] };
+
+    ghost failures = { λ f. f.failures };
+
+    fn read(&mut self, _alloc: Global, name: &str) -> io::Result<Vec<u8>> {
+        let result = fs::read(self.rt, name);
+        self.count(result.is_err());
+        result
+    }
+
+    fn is_free(&mut self, name: &str) -> io::Result<bool> {
+        let result = self.try_is_free(name);
+        self.count(result.is_err());
+        result
+    }
+
+    fn create(&mut self, name: &str, mode: u32) -> io::Result<bool> {
+        let result = self.try_create(name, mode);
+        self.count(result.is_err());
+        result
+    }
+
+    fn append(&mut self, name: &str, bytes: &[u8]) -> io::Result<usize> {
+        let result = self.try_append(name, bytes);
+        self.count(result.is_err());
+        result
+    }
+
+    fn copy_owner(&mut self, source: &str, name: &str) -> io::Result<()> {
+        let result = self.try_copy_owner(source, name);
+        self.count(result.is_err());
+        result
+    }
+
+    fn copy_mode(&mut self, source: &str, name: &str) -> io::Result<()> {
+        let result = self.try_copy_mode(source, name);
+        self.count(result.is_err());
+        result
+    }
+
+    fn copy_times(&mut self, source: &str, name: &str) -> io::Result<()> {
+        let result = self.try_copy_times(source, name);
+        self.count(result.is_err());
+        result
+    }
+
+    fn sync(&mut self, name: &str) -> io::Result<()> {
+        let result = self.try_sync(name);
+        self.count(result.is_err());
+        result
+    }
+
+    fn link(&mut self, source: &str, name: &str) -> io::Result<bool> {
+        let result = self.try_link(source, name);
+        self.count(result.is_err());
+        result
+    }
+
+    fn rename(&mut self, source: &str, name: &str) -> io::Result<()> {
+        let result = fs::rename(self.rt, source, name);
+        self.count(result.is_err());
+        result
+    }
+
+    fn remove(&mut self, name: &str) -> io::Result<()> {
+        let result = fs::remove_file(self.rt, name);
+        self.count(result.is_err());
+        result
+    }
+
+    fn settle(&mut self, name: &str) -> io::Result<()> {
+        let result = self.try_settle(name);
+        self.count(result.is_err());
+        result
+    }
+}

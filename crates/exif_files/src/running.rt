@@ -1,0 +1,148 @@
+//! Many files that are changed in place, each once; a file that is refused does not stop the
+//! others.
+
+ghost use Rattle.std.specs.Prelude.{◌≡◌, ◌==◌, ℕ, List, map, not, true, false, if◌then◌else◌, length, IfOk, OnOk, OnErr, string_bytes};
+ghost use Rattle.std.specs.BTreeSet.{contains_text};
+ghost use Rattle.std.specs.Str.{bytes_eq};
+ghost use Rattle.exif_files.specs.declared.outcome.Status.TheVariants.{Success, Incomplete, Refused};
+ghost use Rattle.exif_files.specs.States.{Run};
+ghost use Rattle.exif_files.specs.Names.{backup_if};
+ghost use Rattle.exif_files.specs.Changed.{IsWholeChange, IsOutcome};
+ghost use Rattle.exif_files.specs.Parts.{Takes};
+ghost use Rattle.exif_files.specs.Each.{IsEachWhole, IsEachDone, AreOnce};
+
+use crate::changing::{Edit, Failure, Keeping, change};
+use crate::outcome::Status;
+use crate::system::FileSystem;
+use std::alloc::{AllocError, Global};
+use std::collections::BTreeSet;
+
+/// What hears of each file of a run.
+pub trait Reporter<L, R> {
+    /// The file of the name of this index was changed, and what was left undone; or it was not.
+    fn report(&mut self, index: usize, outcome: Result<Vec<L>, Failure<R>>);
+}
+
+/// Changes the files of these names in place, each once however often it is named, and reports
+/// each. Answers what became of each name's file, and nothing for a name that came before. A file
+/// that is refused does not stop the others.
+///
+/// In every state of the run each file is the old one or its answer, whole: also where the process
+/// is killed, and where memory runs out, which alone ends the run.
+pub fn change_all<F: FileSystem, E: Edit, P: Reporter<E::Left, E::Refusal>>(
+    alloc: Global,
+    files: &mut F,
+    edit: &E,
+    names: &[String],
+    keeping: Keeping,
+    reporter: &mut P,
+) -> Result<Vec<Option<Status>>, AllocError>
+    ensures whole { Run (IsEachWhole (E.answer edit.now) keeping.backup keeping.times)
+        (IsEachWhole (E.answer edit.now) keeping.backup keeping.times)
+        (F.states files.old) (F.states files.new) }
+    ensures once { IfOk result (λ results.
+        AreOnce (map string_bytes names.now) results.items) }
+    ensures done { IfOk result (λ results.
+        Run (IsEachWhole (E.answer edit.now) keeping.backup keeping.times)
+        (IsEachDone (E.answer edit.now) keeping.times (map string_bytes names.now)
+        results.items)
+        (F.states files.old) (F.states files.new)) }
+{
+    let mut seen: BTreeSet<String> = BTreeSet::new(alloc);
+    let mut results = Vec::new(alloc);
+    for (index, name) in names.iter().enumerate() {
+        let name = name.as_str();
+        let seen = &mut seen;
+        change_next(
+            alloc,
+            files,
+            edit,
+            name,
+            keeping,
+            index,
+            reporter,
+            seen,
+            &mut results,
+        )?;
+    }
+    Ok(results)
+}
+
+// Changes a file, unless its name was seen, and adds what became of it to the results.
+fn change_next<F: FileSystem, E: Edit, P: Reporter<E::Left, E::Refusal>>(
+    alloc: Global,
+    files: &mut F,
+    edit: &E,
+    name: &str,
+    keeping: Keeping,
+    index: usize,
+    reporter: &mut P,
+    seen: &mut BTreeSet<String>,
+    results: &mut Vec<Option<Status>>,
+) -> Result<(), AllocError>
+    ensures taken { OnOk result (Takes (E.answer edit.now) name.now
+        (backup_if keeping.backup name.now) keeping.times (F.states files.old)
+        (F.states files.new) (contains_text seen.old name.now) results.old.items
+        results.new.items) }
+    ensures more { OnOk result ((q : List ℕ) → contains_text seen.new q
+        ≡ (if bytes_eq name.now q then true else contains_text seen.old q)) }
+    ensures same { contains_text seen.old name.now ≡ true
+        → F.states files.new ≡ F.states files.old }
+    ensures whole { Run (IsWholeChange (E.answer edit.now) name.now
+        (backup_if keeping.backup name.now) keeping.times false)
+        (IsWholeChange (E.answer edit.now) name.now
+        (backup_if keeping.backup name.now) keeping.times false)
+        (F.states files.old) (F.states files.new) }
+{
+    if !insert(alloc, seen, name)? {
+        results.push(None)?;
+        return Ok(());
+    }
+    let status = change_one(alloc, files, edit, name, keeping, index, reporter);
+    results.push(Some(status))?;
+    Ok(())
+}
+
+// Adds a name to those that were seen, and answers whether it is new.
+fn insert(alloc: Global, seen: &mut BTreeSet<String>, name: &str) -> Result<bool, AllocError>
+    ensures new { IfOk result (λ new. new ≡ not (contains_text seen.old name.now)) }
+    ensures more { OnOk result ((q : List ℕ) → contains_text seen.new q
+        ≡ (if bytes_eq name.now q then true else contains_text seen.old q)) }
+{
+    Ok(seen.insert(String::from_str(alloc, name)?)?)
+}
+
+// Changes a file and reports it.
+fn change_one<F: FileSystem, E: Edit, P: Reporter<E::Left, E::Refusal>>(
+    alloc: Global,
+    files: &mut F,
+    edit: &E,
+    name: &str,
+    keeping: Keeping,
+    index: usize,
+    reporter: &mut P,
+) -> Status
+    ensures { Run (IsWholeChange (E.answer edit.now) name.now
+        (backup_if keeping.backup name.now) keeping.times false)
+        (IsOutcome (E.answer edit.now) name.now (backup_if keeping.backup name.now)
+        keeping.times result)
+        (F.states files.old) (F.states files.new) }
+{
+    let changed = change(alloc, files, edit, name, keeping);
+    let status = status_of(&changed);
+    reporter.report(index, changed);
+    status
+}
+
+// The status of a file: it is refused at an error, and incomplete where something was left undone.
+fn status_of<L, R>(changed: &Result<Vec<L>, Failure<R>>) -> Status
+    ensures ok { IfOk changed.now (λ left.
+        result ≡ (if length left.items == 0 then Success else Incomplete)) }
+    ensures err { OnErr changed.now (result ≡ Refused) }
+{
+    match changed {
+        Ok(left) if left.is_empty() => Status::Success,
+        Ok(_) => Status::Incomplete,
+        Err(_) => Status::Refused,
+    }
+}
