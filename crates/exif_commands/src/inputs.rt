@@ -1,14 +1,11 @@
 //! Files as they are read: a file that seeks costs what is read of it, anything else is taken into
 //! memory.
 
-use exif::{Counted, Error, Exif, Reader, Seekable};
-use exif_containers::container::{Format, format_of};
+use exif::{Counted, Error, Reader, Seekable, Sniffed};
+use exif_containers::container::{SNIFF_LEN, format_of};
 use std::alloc::Global;
 use std::fs::File;
 use std::io::{self, Read, Seek, SeekFrom};
-
-// How many bytes tell the format of a file.
-const HEAD: usize = 4096;
 
 /// What is read.
 #[derive(Drop)]
@@ -73,27 +70,15 @@ pub fn head_of_file(rt: &HostRuntime, path: &str) -> Head {
 // The first bytes of a file, which is at its start again.
 fn head_of(alloc: Global, file: &mut File) -> io::Result<Vec<u8>> {
     let mut head = Vec::new(alloc);
-    file.take(HEAD as u64).read_to_end(&mut head)?;
+    file.take(SNIFF_LEN as u64).read_to_end(&mut head)?;
     file.seek(SeekFrom::Start(0))?;
     Ok(head)
 }
 
-/// The format of what is read, and what a reader answers of it.
-pub fn read(
-    alloc: Global,
-    by: &Reader,
-    input: Input,
-) -> io::Result<(Option<Format>, Result<Exif, Error>)> {
+/// The format of what is read, and what a reader answers of it, in one pass.
+pub fn read(alloc: Global, by: &Reader, input: Input) -> Result<Sniffed, Error> {
     match input {
-        Input::Bytes(bytes) => {
-            let format = format_of(bytes.as_slice());
-            let answer = by.read_by_need(alloc, &mut Counted::new(bytes.as_slice()));
-            Ok((format, answer))
-        }
-        Input::File(mut file) => {
-            let format = format_of(head_of(alloc, &mut file)?.as_slice());
-            let answer = by.read_by_need(alloc, &mut Seekable::new(file));
-            Ok((format, answer))
-        }
+        Input::Bytes(bytes) => by.read_with_format(alloc, &mut Counted::new(bytes.as_slice())),
+        Input::File(file) => by.read_with_format(alloc, &mut Seekable::new(file)),
     }
 }

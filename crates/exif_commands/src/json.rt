@@ -2,7 +2,7 @@
 
 use crate::inputs::{Input, read};
 use crate::request::Reading;
-use exif::{Error, Exif, Reader};
+use exif::{Error, Exif, Reader, Sniffed};
 use exif_containers::container::Format;
 use exif_files::Status;
 use exif_json::told_json;
@@ -19,13 +19,13 @@ pub fn object_of(
     let mut by = Reader::new();
     by.continue_on_error(!reading.strict)
         .limit_entries(reading.limit);
-    let read = match input {
+    let sniffed = match input {
         Ok(input) => read(alloc, &by, input),
-        Err(cause) => Err(cause),
+        Err(cause) => Err(Error::Io(cause)),
     };
-    match read {
-        Ok((format, answer)) => answered(alloc, path.as_bytes(), format, answer),
-        Err(cause) => answered(alloc, path.as_bytes(), None, Err(Error::Io(cause))),
+    match sniffed {
+        Ok(Sniffed { format, answer }) => answered(alloc, path.as_bytes(), format, answer),
+        Err(error) => answered(alloc, path.as_bytes(), None, Err(error)),
     }
 }
 
