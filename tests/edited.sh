@@ -31,13 +31,13 @@ differ() {
 }
 
 seen work/all.jpg >old
-"$mexaldor" set work/all.jpg work/new.jpg Orientation=1
+"$mexaldor" set --force work/all.jpg work/new.jpg Orientation=1
 seen work/new.jpg >new
 check "exiftool reads the new orientation, and all else as before" test "$(diff old new | grep -c '^>')" = 1
 check "it is the one" grep -q 'Orientation.*: 1$' new
 check "one byte changed" test "$(differ work/all.jpg work/new.jpg)" = 1
 
-"$mexaldor" set work/all.jpg work/new.jpg "ImageDescription=Short"
+"$mexaldor" set --force work/all.jpg work/new.jpg "ImageDescription=Short"
 seen work/new.jpg >new
 check "exiftool reads the shorter text, and all else as before" test "$(diff old new | grep -c '^>')" = 1
 check "the length stays" test "$(wc -c <work/all.jpg)" = "$(wc -c <work/new.jpg)"
@@ -50,7 +50,7 @@ check "and all else as before" test "$(diff old new | grep '^>' | grep -vc 'Date
 "$mexaldor" shift -24:45 work/new.jpg
 check "moved back, the file is the old one" cmp work/all.jpg work/new.jpg
 
-"$mexaldor" scrub --places-only work/all.jpg work/new.jpg
+"$mexaldor" scrub --force --places-only work/all.jpg work/new.jpg
 check "exiftool reads no place" test -z "$(exiftool -s -GPS:all work/new.jpg)"
 seen work/new.jpg >new
 check "and all else as before" test "$(diff old new | grep -v '^[0-9]' | grep -vc 'GPS')" = 0
@@ -73,10 +73,10 @@ segment = b"\xff\xe1" + struct.pack(">H", len(data) + 8) + b"Exif\0\0" + data
 open(sys.argv[2], "wb").write(plain[:2] + segment + plain[2:])
 NOTED
 check "exiftool reads the camera's notes" test "$(exiftool -s3 -CanonImageType work/noted.jpg)" = "Canon PowerShot S30"
-"$mexaldor" set work/noted.jpg work/new.jpg Orientation=1
+"$mexaldor" set --force work/noted.jpg work/new.jpg Orientation=1
 check "and reads them behind a new orientation" test "$(exiftool -s3 -CanonImageType work/new.jpg)" = "Canon PowerShot S30"
 check "of which one byte changed" test "$(differ work/noted.jpg work/new.jpg)" = 1
-"$mexaldor" scrub --places-only work/noted.jpg work/new.jpg
+"$mexaldor" scrub --force --places-only work/noted.jpg work/new.jpg
 check "and behind erased places" test "$(exiftool -s3 -CanonImageType work/new.jpg)" = "Canon PowerShot S30"
 check "of which none is left" test -z "$(exiftool -s -GPS:all work/new.jpg)"
 
@@ -84,7 +84,7 @@ if has exiv2; then
     exiv2 -pe work/all.jpg | grep -v GPSInfo | grep -v GPSTag >old 2>/dev/null
     exiv2 -pe work/new.jpg >new 2>/dev/null
     check "exiv2 reads no place" sh -c '! grep -q GPSInfo new'
-    "$mexaldor" set work/all.jpg work/new.jpg Orientation=1
+    "$mexaldor" set --force work/all.jpg work/new.jpg Orientation=1
     exiv2 -pe work/all.jpg >old 2>/dev/null
     exiv2 -pe work/new.jpg >new 2>/dev/null
     check "exiv2 reads the new orientation, and all else as before" test "$(diff old new | grep -c '^>')" = 1
@@ -107,7 +107,7 @@ warnings() {
 grows() {
     new=work/new.${1##*.}
     rm -f "$new"
-    "$mexaldor" set "$1" "$new" "$2=$3"
+    "$mexaldor" set --force "$1" "$new" "$2=$3"
     check "$1: exiftool reads the new $2" test "$(exiftool -s3 -"$2" "$new")" = "$3"
     others "$1" "$2" >old
     others "$new" "$2" >new
@@ -206,10 +206,10 @@ done
 grows files/whole.tif GPSDateStamp "2020:02:28"
 
 if has tiffcmp; then
-    "$mexaldor" set work/rich.tif work/new.tif "LensMake=$long" "Copyright=$long"
+    "$mexaldor" set --force work/rich.tif work/new.tif "LensMake=$long" "Copyright=$long"
     check "tiffcmp finds the same pixels" sh -c 'tiffcmp work/rich.tif work/new.tif'
 fi
-"$mexaldor" set work/rich.jpg work/new.jpg "Artist=$long" "LensMake=$long"
+"$mexaldor" set --force work/rich.jpg work/new.jpg "Artist=$long" "LensMake=$long"
 check "the second picture is the same" sh -c 'exiftool -b -MPImage2 work/new.jpg | cmp - files/plain.jpg'
 if has djpeg; then
     djpeg work/rich.jpg >old

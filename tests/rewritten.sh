@@ -37,15 +37,15 @@ if has djpeg cjpeg jpegtran exiftool; then
     for file in baseline restart progressive arithmetic grey; do
         exiftool -q -overwrite_original -Orientation#=6 -Artist=Somebody -Comment=said -XMP:Title=titled \
             -GPSLatitude=33 -GPSLatitudeRef=S -IPTC:City=Town "work/$file.jpg"
-        gives "scrub takes all out of $file.jpg" 0 "$mexaldor" scrub "work/$file.jpg" "work/new.$file.jpg"
+        gives "scrub takes all out of $file.jpg" 0 "$mexaldor" scrub --force "work/$file.jpg" "work/new.$file.jpg"
         check "its pixels stay" same_pixels "$file.jpg" djpeg
         exiftool -q -s -EXIF:all -XMP:all -IPTC:all -File:Comment "work/new.$file.jpg" >left
         check "exiftool shows nothing more" test ! -s left
-        check "scrubbed once more it is the same" sh -c '"$1" scrub "work/new.$2" twice && cmp twice "work/new.$2"' sh "$mexaldor" "$file.jpg"
-        gives "scrub keeps the orientation of $file.jpg" 0 "$mexaldor" scrub --keep-orientation "work/$file.jpg" "work/new.$file.jpg"
+        check "scrubbed once more it is the same" sh -c '"$1" scrub --force "work/new.$2" twice && cmp twice "work/new.$2"' sh "$mexaldor" "$file.jpg"
+        gives "scrub keeps the orientation of $file.jpg" 0 "$mexaldor" scrub --force --keep-orientation "work/$file.jpg" "work/new.$file.jpg"
         exiftool -q -n -s -EXIF:all -XMP:all -IPTC:all "work/new.$file.jpg" >left
         check "exiftool shows it alone" test "$(tr -s ' ' <left)" = "Orientation : 6"
-        gives "a longer text is set in $file.jpg" 0 "$mexaldor" set "work/$file.jpg" "work/new.$file.jpg" "Artist=Somebody whose name is longer"
+        gives "a longer text is set in $file.jpg" 0 "$mexaldor" set --force "work/$file.jpg" "work/new.$file.jpg" "Artist=Somebody whose name is longer"
         check "its pixels stay then" same_pixels "$file.jpg" djpeg
         check "exiftool shows the text" test "$(exiftool -s3 -Artist "work/new.$file.jpg")" = "Somebody whose name is longer"
         check "and what else there was" test "$(exiftool -s3 -XMP:Title -IPTC:City -Comment -n -EXIF:Orientation "work/new.$file.jpg" | tr '\n' ' ')" = "titled Town said 6 "
@@ -58,21 +58,21 @@ if has cwebp dwebp webpmux exiftool; then
     cwebp -quiet -lossless -size 1000 picture.png -o work/small.webp
     for file in lossy lossless small; do
         exiftool -q -overwrite_original -Orientation#=6 -Artist=Somebody -XMP:Title=titled "work/$file.webp"
-        gives "scrub takes all out of $file.webp" 0 "$mexaldor" scrub "work/$file.webp" "work/new.$file.webp"
+        gives "scrub takes all out of $file.webp" 0 "$mexaldor" scrub --force "work/$file.webp" "work/new.$file.webp"
         check "its pixels stay" same_pixels "$file.webp" dwebp
         exiftool -q -s -EXIF:all -XMP:all "work/new.$file.webp" >left
         check "exiftool shows nothing more" test ! -s left
-        check "scrubbed once more it is the same" sh -c '"$1" scrub "work/new.$2" twice && cmp twice "work/new.$2"' sh "$mexaldor" "$file.webp"
-        gives "scrub keeps the orientation of $file.webp" 0 "$mexaldor" scrub --keep-orientation "work/$file.webp" "work/new.$file.webp"
+        check "scrubbed once more it is the same" sh -c '"$1" scrub --force "work/new.$2" twice && cmp twice "work/new.$2"' sh "$mexaldor" "$file.webp"
+        gives "scrub keeps the orientation of $file.webp" 0 "$mexaldor" scrub --force --keep-orientation "work/$file.webp" "work/new.$file.webp"
         check "exiftool shows it" test "$(exiftool -q -n -s3 -Orientation "work/new.$file.webp")" = 6
         check "webpmux reads the file" webpmux -info "work/new.$file.webp"
-        gives "a text is set in $file.webp" 0 "$mexaldor" set "work/$file.webp" "work/new.$file.webp" "Artist=Somebody whose name is longer"
+        gives "a text is set in $file.webp" 0 "$mexaldor" set --force "work/$file.webp" "work/new.$file.webp" "Artist=Somebody whose name is longer"
         check "its pixels stay then" same_pixels "$file.webp" dwebp
         check "exiftool shows the text" test "$(exiftool -s3 -Artist "work/new.$file.webp")" = "Somebody whose name is longer"
     done
     webpmux -frame work/lossy.webp +100 -frame work/lossless.webp +100 -loop 0 -o work/moving.webp 2>/dev/null
     exiftool -q -overwrite_original -Artist=Somebody work/moving.webp
-    gives "scrub takes all out of a moving picture" 0 "$mexaldor" scrub work/moving.webp work/new.moving.webp
+    gives "scrub takes all out of a moving picture" 0 "$mexaldor" scrub --force work/moving.webp work/new.moving.webp
     webpmux -get frame 2 work/moving.webp -o old.webp 2>/dev/null
     webpmux -get frame 2 work/new.moving.webp -o new.webp 2>/dev/null
     check "its frames stay" cmp old.webp new.webp
