@@ -64,7 +64,8 @@ pub(crate) fn set_what_fits(
     fields: Vec<Field>,
     may_move: bool,
 ) -> Result<Fitted, Refusal>
-    ensures { Answers fitted_of result (as_edited (fitting_set may_move fields.items (file.items, []))) }
+    ensures { Answers fitted_of result
+        (as_edited (fitting_set may_move fields.items (file.items, []))) }
 {
     let left = set_or_leave(alloc, file.as_mut_slice(), fields, may_move)?;
     Ok(Fitted { file, left })
