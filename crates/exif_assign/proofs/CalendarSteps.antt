@@ -1,5 +1,5 @@
 -- Years and months counted one after the other.
-use Rattle.std.proofs.Common.{◌≡◌, ◌<◌, ◌≤◌, ◌+◌, ◌-◌, ◌*◌, ◌∙◌, ℕ, suc, true, false, Some, None, Option, if◌then◌else◌, refl, sym, ap, arith}
+use Rattle.std.proofs.Common.{◌≡◌, ◌<◌, ◌≤◌, ◌+◌, ◌-◌, ◌∙◌, ℕ, suc, true, false, Some, None, if◌then◌else◌, refl, sym, ap, arith}
 use Rattle.std.specs.Prelude.{nat_lt}
 use Rattle.std.proofs.lemmas.Bool.Decides.{nat_tests}
 use Rattle.exif_assign.specs.Calendar.{days_before_month, days_before_year, days_in_month, days_in_year, month_from, year_from}

@@ -1,5 +1,5 @@
 -- Rows that are looked up by their name, and words cut at the first `=`.
-use Rattle.std.proofs.Common.{◌≡◌, ◌<◌, ◌+◌, ◌∙◌, ℕ, suc, true, false, List, [], ◌∷◌, length, get_or, drop, drop-cons, map, Option, Some, None, if◌then◌else◌, refl, sym, ap, arith}
+use Rattle.std.proofs.Common.{◌≡◌, ◌<◌, ◌+◌, ◌∙◌, ℕ, suc, true, false, List, ◌∷◌, length, get_or, drop, drop-cons, map, Some, if◌then◌else◌, sym, ap, arith}
 use Rattle.std.specs.List.{find}
 use Rattle.std.specs.Str.{bytes_eq}
 use Rattle.exif_table.specs.View.{row_view}

@@ -1,7 +1,7 @@
 -- Numbers read digit by digit, and texts cut at a byte.
-use Rattle.std.proofs.Common.{◌≡◌, ◌<◌, ◌+◌, ◌==◌, ◌∙◌, ℕ, suc, true, false, List, [], ◌∷◌, ◌++◌, length, get_or, take, drop, drop-cons, take-suc, Option, Some, None, if◌then◌else◌, refl, sym, ap, arith}
+use Rattle.std.proofs.Common.{◌≡◌, ◌<◌, ◌+◌, ◌==◌, ◌∙◌, ℕ, suc, true, false, List, [], ◌∷◌, ◌++◌, length, get_or, take, drop, drop-cons, take-suc, Some, None, if◌then◌else◌, refl, sym, ap, arith}
 use Rattle.std.specs.Option.{option_and_then}
-use Rattle.exif_assign.specs.Numbers.{cut, cut_behind, digits_below, next_below, number_below}
+use Rattle.exif_assign.specs.Numbers.{cut_behind, digits_below, next_below, number_below}
 
 -- what is left, by its first element
 pub rest_at : (xs : List ℕ) (i d : ℕ) → i < length xs → drop i xs ≡ get_or xs i d ∷ drop (i + 1) xs

@@ -86,7 +86,8 @@ fn character_code(text: &[u8]) -> [u8; 8]
 
 // A comment behind its character code (Exif 2.32, section 4.6.5, UserComment).
 fn comment(alloc: Global, text: &[u8]) -> Result<Value, AllocError>
-    ensures { IfOk result (λ value. value ≡ Value.Undefined (character_code text.now ++ text.now) 0) }
+    ensures { IfOk result
+        (λ value. value ≡ Value.Undefined (character_code text.now ++ text.now) 0) }
 {
     let mut bytes = Vec::from_slice(alloc, &character_code(text))?;
     bytes.extend_from_slice(text)?;

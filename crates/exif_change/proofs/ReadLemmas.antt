@@ -8,7 +8,7 @@ use Rattle.exif_types.specs.Failures.{Failure}
 use Rattle.exif_types.specs.Refusals.{Fails, Gives, IsInterrupted, Refusal, refusal_of, ◌>>=◌}
 use Rattle.exif_types.specs.declared.error.Error.TheVariants as error
 use Rattle.exif_types.specs.declared.field.Field.{Field}
-use Rattle.exif_tiff.specs.Answers.{Answer, Partial, Refused, Whole, raw_answer}
+use Rattle.exif_tiff.specs.Answers.{Answer, Refused, raw_answer}
 use Rattle.exif_tiff.specs.Faults.{refusal}
 use Rattle.exif_tiff.specs.Trace.{header}
 use Rattle.exif_tiff.specs.declared.fault.Fault.{Fault}

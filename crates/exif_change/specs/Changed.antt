@@ -1,5 +1,5 @@
 -- What the program makes of a file: the new bytes, and what it left undone.
-use Rattle.std.specs.Prelude.{ℕ, List, [], ◌∷◌, map, Option, Some, None, Result, Ok}
+use Rattle.std.specs.Prelude.{ℕ, List, [], map, Option, Some}
 use Rattle.std.specs.Option.{option_map}
 use Rattle.exif_types.specs.declared.tag.Tag.{Tag}
 use Rattle.exif_edit_base.specs.Causes.{Cause, cause_of}

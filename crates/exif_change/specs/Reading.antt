@@ -1,5 +1,5 @@
 -- What is read of a file before it is changed: all fields, whatever faults there are.
-use Rattle.std.specs.Prelude.{ℕ, true, List, Option, Some, None, Result, Ok, Err}
+use Rattle.std.specs.Prelude.{ℕ, true, List, Option, Some, Result, Ok, Err}
 use Rattle.exif_base.specs.Orders.{order_named}
 use Rattle.exif_base.specs.declared.endian.Order.{Order}
 use Rattle.exif_types.specs.Contents.{ExifContents}

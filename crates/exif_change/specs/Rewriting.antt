@@ -4,12 +4,11 @@ use Rattle.exif_types.specs.Refusals.{Refusal}
 use Rattle.exif_containers.specs.declared.container.Format.{Format}
 use Rattle.exif_containers.specs.declared.container.Format.TheVariants.{Tiff, Jpeg, Heif, WebP}
 use Rattle.exif_segments.specs.declared.remove.Remove.{Remove}
-use Rattle.exif_rewrite_jpeg.specs.Rewriting.{End, Rewriting, cut_off, finished, refused_by}
+use Rattle.exif_rewrite_jpeg.specs.Rewriting.{End, cut_off, finished, refused_by}
 use Rattle.exif_rewrite_jpeg.specs.RewrittenJpeg.{jpeg_rewriting}
 use Rattle.exif_rewrite_webp.specs.RewrittenWebp.{webp_rewriting}
 use Rattle.exif_change.specs.Changed.{Change, whole}
 use Rattle.exif_change.specs.Changed as undone
-use Rattle.exif_change.specs.Refusals.{Why, as_read}
 
 -- a JPEG stream that was written again; where it ends before its picture does, that is said, and new
 -- data that have no place yet are at its end

@@ -11,7 +11,7 @@ use Rattle.exif_assign.specs.declared.shift.ClockShift.{ClockShift}
 use Rattle.exif_assign.specs.declared.shift.Unmoved.{Unmoved}
 use Rattle.exif_change.specs.Changed.{Change, Undone, unmoved, unset, whole}
 use Rattle.exif_change.specs.InPlace.{field_set}
-use Rattle.exif_change.specs.Reading.{Contents, file_contents}
+use Rattle.exif_change.specs.Reading.{file_contents}
 use Rattle.exif_change.specs.Refusals.{Why, as_read, no_date, ◌>>=◌}
 use Rattle.exif_change.specs.Setting.{primary}
 use Rattle.exif_change.specs.declared.dates.Dates.{Dates}

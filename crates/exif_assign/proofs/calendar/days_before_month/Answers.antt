@@ -1,4 +1,4 @@
-use Rattle.std.proofs.Common.{◌+◌, arith, sym}
+use Rattle.std.proofs.Common.{arith, sym}
 use Rattle.exif_assign.proofs.CalendarSteps.{month_more, no_months}
 use Rattle.exif_assign.proofs.calendar.days_before_month.Goals as goal
 

@@ -1,4 +1,4 @@
-use Rattle.std.proofs.Common.{◌+◌, arith, sym}
+use Rattle.std.proofs.Common.{arith, sym}
 use Rattle.exif_assign.proofs.CalendarSteps.{none_before, year_more}
 use Rattle.exif_assign.proofs.calendar.days_before_year.Goals as goal
 

@@ -1,4 +1,4 @@
-use Rattle.std.proofs.Common.{◌≡◌, ◌<◌, ◌≤◌, ◌+◌, ◌-◌, ◌∙◌, sym, subst, ap}
+use Rattle.std.proofs.Common.{◌<◌, ◌≤◌, ◌+◌, ◌-◌, ◌∙◌, sym, subst, ap}
 use Rattle.exif_assign.specs.Calendar.{days_in_month, month_from}
 use Rattle.exif_assign.proofs.CalendarSteps.{month_found, month_passed, no_month}
 use Rattle.exif_assign.proofs.calendar.month_at.Goals as goal

@@ -1,4 +1,4 @@
-use Rattle.std.proofs.Common.{◌≡◌, ◌<◌, ◌≤◌, ◌+◌, ◌-◌, ◌∙◌, sym, subst, ap}
+use Rattle.std.proofs.Common.{◌<◌, ◌≤◌, ◌+◌, ◌-◌, ◌∙◌, sym, subst, ap}
 use Rattle.exif_assign.specs.Calendar.{days_in_year, year_from}
 use Rattle.exif_assign.proofs.CalendarSteps.{no_year, year_found, year_passed}
 use Rattle.exif_assign.proofs.calendar.year_at.Goals as goal
