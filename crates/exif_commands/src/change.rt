@@ -55,12 +55,9 @@ pub fn change_bytes(alloc: Global, change: &Change<'_>, old: &[u8]) -> Result<Ch
     ensures answer { IfOk result (λ changed. IsAnswerOf change.now old.now changed.file.items) }
     ensures refused { IfErr result (λ e. Fails e (answer_of change.now old.now)) }
 {
-    let made = made_of(alloc, change, old)?;
-    let left = left_in(alloc, change, made.file.as_slice(), made.left)?;
-    Ok(Changed {
-        file: made.file,
-        left,
-    })
+    let exif_change::Changed { file, left } = made_of(alloc, change, old)?;
+    let left = left_in(alloc, change, file.as_slice(), left)?;
+    Ok(Changed { file, left })
 }
 
 // What the change makes of a file.
