@@ -63,7 +63,7 @@ class Pictures(unittest.TestCase):
         self.refused(Status.INVALID_FORMAT, mexaldor.erase_gps, b"")
         self.assertEqual(
             self.refused(Status.NOT_FOUND, mexaldor.read, self.folder / "plain.jpg"),
-            "No Exif data found in JPEG",
+            "No Exif data found",
         )
 
     def test_gps_data_are_erased(self):

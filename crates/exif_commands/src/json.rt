@@ -5,7 +5,7 @@ use crate::inputs::{Input, read};
 use crate::request::Reading;
 use exif::{Error, Exif, Reader};
 use exif_containers::container::Format;
-use exif_json::told_json;
+use exif_json::json_of_answer;
 use std::alloc::{AllocError, Global};
 use std::io;
 
@@ -40,6 +40,6 @@ fn answered(
         Err(Error::PartialResult(_)) => Status::FaultsPassedOver,
         Err(_) => Status::Refused,
     };
-    let told = told_json(alloc, path, format.unwrap_or(Format::Tiff), answer)?;
+    let told = json_of_answer(alloc, path, format, answer)?;
     Ok((told, status))
 }
