@@ -1,13 +1,12 @@
 -- What the calls of the library for C do.
-use Rattle.std.specs.Prelude.{◌≡◌, ◌⊎◌, ◌==◌, ℕ, Bool, List, [], Option, Some, None, Result, Ok, Err, if◌then◌else◌, unwrap_or}
+use Rattle.std.specs.Prelude.{◌≡◌, ◌≢◌, ◌⊎◌, ◌==◌, ℕ, Bool, List, [], Option, Some, None, Result, Ok, Err, if◌then◌else◌}
 use Rattle.exif_types.specs.Contents.{ExifContents}
 use Rattle.exif_types.specs.Failures.{Failure}
 use Rattle.exif_types.specs.declared.tag.Tag.{Tag}
 use Rattle.exif_tiff.specs.Answers.{raw_answer}
 use Rattle.exif_containers.specs.Container.{container_answer, format_in}
-use Rattle.exif_containers.specs.declared.container.Format.TheVariants.{Tiff}
 use Rattle.exif_reader.specs.Files.{ReadsContainer}
-use Rattle.exif_json.specs.Answers.{Tells}
+use Rattle.exif_json.specs.Answers.{IsJsonOf}
 use Rattle.exif_edit_base.specs.Causes.{Cause}
 use Rattle.exif_change.specs.Changed.{Change}
 use Rattle.exif_change.specs.Refusals.{Why}
@@ -31,13 +30,13 @@ entry_limit = 1000000
 abbrev pub meant : ℕ → ℕ
 meant limit = if limit == 0 then entry_limit else limit
 
--- what a reader answers of a file is told as JSON in the buffer
+-- what a reader answers of a file is in the buffer as JSON
 pub record IsReadInto (lenient : Bool) (limit : ℕ) (file old new : List ℕ) (answer : Answer)
     : Type 0 where
   pub read : Result ExifContents Failure
   pub reads : ReadsContainer (raw_answer lenient (Some (meant limit))) (container_answer file) read
   pub text : List ℕ
-  pub told : Tells [] (unwrap_or (format_in file) Tiff) read text
+  pub json : IsJsonOf [] (format_in file) read text
   pub gives : Gives (number_of (answer_status read)) text old new answer
 
 -- so, or memory ran out, and the buffer is as it was

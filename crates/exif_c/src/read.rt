@@ -10,8 +10,8 @@ use crate::buffer::{Answer, given, nothing};
 use crate::status::{Status, error_status};
 use exif::{Counted, Error, Exif, Reader};
 use exif_change::ENTRY_LIMIT;
-use exif_containers::container::{Format, format_of};
-use exif_json::told_json;
+use exif_containers::container::format_of;
+use exif_json::json_of_answer;
 use std::alloc::Global;
 
 /// Reads the Exif data of a file and puts the JSON object of them, or of the refusal, into a buffer.
@@ -29,8 +29,7 @@ pub extern "C" fn mexaldor_read(
 {
     let answer = read(alloc, file, lenient, meant(limit));
     let status = status_of(&answer);
-    let format = format_of(file).unwrap_or(Format::Tiff);
-    match told_json(alloc, b"", format, answer) {
+    match json_of_answer(alloc, b"", format_of(file), answer) {
         Ok(text) => given(out, &text, status),
         Err(_no_memory) => nothing(Status::OutOfMemory),
     }

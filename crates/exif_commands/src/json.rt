@@ -5,7 +5,7 @@ use crate::request::Reading;
 use exif::{Error, Exif, Reader, Sniffed};
 use exif_containers::container::Format;
 use exif_files::Status;
-use exif_json::told_json;
+use exif_json::json_of_answer;
 use std::alloc::{AllocError, Global};
 use std::io;
 
@@ -36,10 +36,10 @@ fn answered(
     answer: Result<Exif, Error>,
 ) -> Result<(Vec<u8>, Status), AllocError> {
     let status = match &answer {
-        Ok(_) => Status::Success,
+        Ok(_) | Err(Error::NotFound(_)) => Status::Success,
         Err(Error::PartialResult(_)) => Status::Incomplete,
         Err(_) => Status::Refused,
     };
-    let told = told_json(alloc, path, format.unwrap_or(Format::Tiff), answer)?;
-    Ok((told, status))
+    let json = json_of_answer(alloc, path, format, answer)?;
+    Ok((json, status))
 }

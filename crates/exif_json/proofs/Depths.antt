@@ -1,5 +1,5 @@
 -- How deep the object of a file nests, and what its text is read as.
-use Rattle.std.proofs.Common.{◌≡◌, ℕ, List, [], ◌∷◌, ◌++◌, ◌≤◌, map, Some, None, Option, Ok, Result, option_and_then, Bool, true, false, if◌then◌else◌, nat_lt, ◌^◌, ap, sym, ◌∙◌, arith, append-nil}
+use Rattle.std.proofs.Common.{◌≡◌, ℕ, List, [], ◌∷◌, ◌++◌, ◌≤◌, map, Some, None, Option, Ok, Result, option_and_then, Bool, true, false, if◌then◌else◌, nat_lt, ◌^◌, ap, sym, subst, ◌∙◌, arith, append-nil, codes, option_map}
 use Rattle.std.specs.Str.{is_utf8}
 use Rattle.json.specs.Json as J
 use Rattle.json.specs.Json.{Json, document, if_last, max_depth, value}
@@ -12,13 +12,15 @@ use Rattle.exif_types.specs.declared.field.Field.{Field}
 use Rattle.exif_types.specs.declared.value.Value.{Value}
 use Rattle.exif_types.specs.declared.value.Value.TheVariants as V
 use Rattle.exif_types.specs.Contents.{ExifContents}
-use Rattle.exif_types.specs.Failures.{Failure}
+use Rattle.exif_types.specs.Failures.{Failure, error_text}
+use Rattle.exif_types.specs.declared.error.Error.TheVariants as error
 use Rattle.exif_types.specs.ValueTypes.{count_of}
 use Rattle.exif_json.specs.Prints.{Prints}
 use Rattle.exif_containers.specs.declared.container.Format.{Format}
 use Rattle.exif_json.specs.Fields.{count_json, field_json}
-use Rattle.exif_json.specs.Files.{answer_json, empty_json, fault_json, refusal_json}
+use Rattle.exif_json.specs.Files.{answer_json, error_json, exif_members, fault_json, file_members, format_json, no_exif_json, no_exif_members, refusal_json}
 use Rattle.exif_json.specs.Coordinates.{Degrees}
+use Rattle.exif_json.specs.Dates.{fraction_taken}
 use Rattle.exif_json.specs.Summaries.{camera_members, date_json, degrees_json, maybe, location_members, size_members, standing_members, summary_json}
 use Rattle.exif_json.specs.Texts.{latin1_json, text_json}
 use Rattle.exif_json.specs.Trees.{items_of, members_of, signed, unsigned}
@@ -100,22 +102,59 @@ texts_shallow name o = maybe_shallow 1 name text_json o text_shallow
 
 summary_shallow : (fields : List Field) → depth (summary_json fields) ≤ 2
 summary_shallow fields =
-    let standing : AreShallow 1 (standing_members fields) = both_shallow 1 _ _ (number_shallow _ _) (maybe_shallow 1 _ date_json _ (λ x. omega arith)) in
+    let standing : AreShallow 1 (standing_members fields) = both_shallow 1 _ _ (number_shallow _ _) (maybe_shallow 1 _ (date_json (fraction_taken fields)) _ (λ x. omega arith)) in
     let offset : AreShallow 1 (location_members fields) = both_shallow 1 _ _ (degrees_shallow _ _) (degrees_shallow _ _) in
     let camera : AreShallow 1 (camera_members fields) = both_shallow 1 _ _ (texts_shallow _ _) (texts_shallow _ _) in
     let size : AreShallow 1 (size_members fields) = both_shallow 1 _ _ (number_shallow _ _) (number_shallow _ _) in
     let all = both_shallow 1 _ _ standing (both_shallow 1 _ _ offset (both_shallow 1 _ _ camera size)) in
     omega (arith, all.within)
 
+-- the path and the format are shallow
+file_shallow : (path : List ℕ) (format : Option Format) → AreShallow 1 (file_members path format)
+file_shallow path format =
+    record { within = omega (arith, text_shallow path, (maybe_shallow 1 (codes "format") format_json format (λ x. omega arith)).within) }
+
 -- the JSON of an answer nests no deeper than JSON that is read may
-pub answer_shallow : (path : List ℕ) (format : Format) (exif : ExifContents) (faults : List Failure) → depth (answer_json path format exif faults) ≤ max_depth
+pub answer_shallow : (path : List ℕ) (format : Option Format) (exif : ExifContents) (faults : List Failure) → depth (answer_json path format exif faults) ≤ max_depth
 answer_shallow path format exif faults =
-    omega (arith, text_shallow path, summary_shallow exif.fields, items_shallow (field_json exif.fields) 3 (field_shallow exif.fields) exif.fields, items_shallow fault_json 0 (λ x. omega arith) faults)
+    let rest : AreShallow 4 (exif_members exif faults) = record {
+      within = omega (arith, summary_shallow exif.fields, items_shallow (field_json exif.fields) 3 (field_shallow exif.fields) exif.fields, items_shallow fault_json 0 (λ x. omega arith) faults);
+    } in
+    let file : AreShallow 4 (file_members path format) = record { within = omega (arith, (file_shallow path format).within) } in
+    omega (arith, (both_shallow 4 _ _ file rest).within)
+
+-- the JSON of a picture without Exif data nests no deeper than JSON that is read may
+no_exif_shallow : (path : List ℕ) (format : Option Format) → depth (no_exif_json path format) ≤ max_depth
+no_exif_shallow path format =
+    let rest : AreShallow 1 no_exif_members = record { within = omega arith } in
+    omega (arith, (both_shallow 1 _ _ (file_shallow path format) rest).within)
+
+-- the JSON of an error nests no deeper than JSON that is read may
+error_shallow : (path : List ℕ) (format : Option Format) (said : List ℕ) → depth (error_json path format said) ≤ max_depth
+error_shallow path format said =
+    let rest : AreShallow 1 ((codes "error", J.string said) ∷ []) = record { within = omega arith } in
+    omega (arith, (both_shallow 1 _ _ (file_shallow path format) rest).within)
+
+-- the value of an option that is there
+some_is : (x y : Json) → (let o : Option Json = Some x in o ≡ Some y) → x ≡ y
+some_is x y is = cc
+
+none_is_no_some : (y : Json) → (let o : Option Json = None in o ≡ Some y) → ⊥
+none_is_no_some y is = cc
+
+-- what is there of a shallow value is shallow
+mapped_shallow : (path : List ℕ) (format : Option Format) (o : Option (List ℕ)) (json : Json) → option_map (error_json path format) o ≡ Some json → depth json ≤ max_depth
+mapped_shallow path format None json is = absurd (none_is_no_some json is)
+mapped_shallow path format (Some said) json is = subst (λ (j : Json). depth j ≤ max_depth) (some_is _ _ is) (error_shallow path format said)
 
 -- the JSON of a refusal nests no deeper than JSON that is read may
-pub refusal_shallow : (path said : List ℕ) → depth (refusal_json path said) ≤ max_depth
-refusal_shallow path said = omega (arith, text_shallow path)
-
--- the JSON of a file without Exif data nests no deeper than JSON that is read may
-pub empty_shallow : (path : List ℕ) (format : Format) → depth (empty_json path format) ≤ max_depth
-empty_shallow path format = omega (arith, text_shallow path)
+pub refusal_shallow : (path : List ℕ) (format : Option Format) (e : Failure) (json : Json) → refusal_json path format e ≡ Some json → depth json ≤ max_depth
+refusal_shallow path format (error.NotFound what) json is = subst (λ (j : Json). depth j ≤ max_depth) (some_is _ _ is) (no_exif_shallow path format)
+refusal_shallow path format (error.InvalidFormat text) json is = mapped_shallow path format (error_text (error.InvalidFormat text)) json is
+refusal_shallow path format (error.Io cause) json is = mapped_shallow path format (error_text (error.Io cause)) json is
+refusal_shallow path format (error.BlankValue text) json is = mapped_shallow path format (error_text (error.BlankValue text)) json is
+refusal_shallow path format (error.TooBig text) json is = mapped_shallow path format (error_text (error.TooBig text)) json is
+refusal_shallow path format (error.NotSupported text) json is = mapped_shallow path format (error_text (error.NotSupported text)) json is
+refusal_shallow path format (error.UnexpectedValue text) json is = mapped_shallow path format (error_text (error.UnexpectedValue text)) json is
+refusal_shallow path format (error.PartialResult partial) json is = mapped_shallow path format (error_text (error.PartialResult partial)) json is
+refusal_shallow path format error.OutOfMemory json is = mapped_shallow path format (error_text error.OutOfMemory) json is

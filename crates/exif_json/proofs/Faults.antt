@@ -4,16 +4,16 @@ use Rattle.exif_types.specs.Failures.{Failure, IsInvalidFormat, bytes_of, error_
 use Rattle.exif_types.specs.declared.error.Error.TheVariants as error
 
 -- an error of an invalid format is shown as its text
-pub told : (e : Failure) → IsInvalidFormat e → error_text e ≡ Some (bytes_of (told_text e))
-told (error.InvalidFormat text) h = refl
-told (error.Io cause) h = absurd h
-told (error.NotFound text) h = absurd h
-told (error.BlankValue text) h = absurd h
-told (error.TooBig text) h = absurd h
-told (error.NotSupported text) h = absurd h
-told (error.UnexpectedValue text) h = absurd h
-told (error.PartialResult partial) h = absurd h
-told error.OutOfMemory h = absurd h
+pub shown_text : (e : Failure) → IsInvalidFormat e → error_text e ≡ Some (bytes_of (told_text e))
+shown_text (error.InvalidFormat text) h = refl
+shown_text (error.Io cause) h = absurd h
+shown_text (error.NotFound text) h = absurd h
+shown_text (error.BlankValue text) h = absurd h
+shown_text (error.TooBig text) h = absurd h
+shown_text (error.NotSupported text) h = absurd h
+shown_text (error.UnexpectedValue text) h = absurd h
+shown_text (error.PartialResult partial) h = absurd h
+shown_text error.OutOfMemory h = absurd h
 
 -- what holds of what is there
 pub if_some : {A : Type 0} (o : Option A) (P : A → Type 0) → ((x : A) → o ≡ Some x → P x) → IfSome o P

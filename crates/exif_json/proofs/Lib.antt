@@ -2,6 +2,7 @@ pub mod Depths
 pub mod Encodings
 pub mod Faults
 pub mod Numerals
+pub mod Partial
 pub mod Prints
 pub mod Rounding
-pub mod Told
+pub mod Determined

@@ -1,6 +1,6 @@
 -- A quotient in steps whose products stay small.
 use Rattle.std.proofs.Common.{◌≡◌, ℕ, ◌+◌, ◌*◌, ◌/◌, ◌%◌, ◌^◌, ◌<◌, ◌≤◌, sym, ap, ◌∙◌, arith}
-use Rattle.std.proofs.Math.Nat.{add-mul-div_left, div-add-mod, div-lt_iff_lt-mul, mod-lt}
+use Rattle.std.proofs.Math.Nat.{add-mul-div_left, div-add-mod, mod-lt}
 use Rattle.std.proofs.lemmas.Nat.{div_below}
 
 -- twice a number, and a product with a sum

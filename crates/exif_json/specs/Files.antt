@@ -1,15 +1,16 @@
 -- The JSON of a file.
-use Rattle.std.specs.Prelude.{ℕ, Bool, List, [], ◌∷◌, ◌++◌, codes, map, if◌then◌else◌}
+use Rattle.std.specs.Prelude.{ℕ, Bool, List, [], ◌∷◌, ◌++◌, codes, map, if◌then◌else◌, Option, Some, option_map}
 use Rattle.json.specs.Json as J
 use Rattle.json.specs.Json.{Json}
 use Rattle.exif_types.specs.Contents.{ExifContents}
-use Rattle.exif_types.specs.Failures.{Failure, told_text, bytes_of}
+use Rattle.exif_types.specs.Failures.{Failure, told_text, bytes_of, error_text}
+use Rattle.exif_types.specs.declared.error.Error.TheVariants as error
 use Rattle.exif_containers.specs.declared.container.Format.{Format}
 use Rattle.exif_containers.specs.declared.container.Format.TheVariants.{Tiff, Jpeg, Heif, WebP}
 use Rattle.exif_json.specs.Trees.{array, object}
 use Rattle.exif_json.specs.Texts.{text_json}
 use Rattle.exif_json.specs.Fields.{fields_json}
-use Rattle.exif_json.specs.Summaries.{summary_json}
+use Rattle.exif_json.specs.Summaries.{maybe, summary_json}
 
 -- the name of a format
 abbrev pub format_name : Format → List ℕ
@@ -18,45 +19,56 @@ format_name Jpeg = codes "JPEG"
 format_name Heif = codes "HEIF"
 format_name WebP = codes "WebP"
 
+-- a format as its name
+abbrev pub format_json : Format → Json
+format_json format = J.string (format_name format)
+
 -- the name of an order of bytes
 abbrev pub order_name : Bool → List ℕ
 order_name little = if little then codes "little" else codes "big"
 
--- the file's path, whose encoding is the system's
-abbrev pub path_members : List ℕ → List (List ℕ × Json)
-path_members path = (codes "path", text_json path) ∷ []
+-- the file's path, whose encoding is the system's, and its format, if it is known
+abbrev pub file_members : List ℕ → Option Format → List (List ℕ × Json)
+file_members path format =
+    (codes "path", text_json path) ∷ maybe (codes "format") format_json format
 
 -- the text of a fault
 abbrev pub fault_json : Failure → Json
 fault_json fault = J.string (bytes_of (told_text fault))
 
--- the texts of faults that were passed over
+-- the texts of faults that were skipped
 abbrev pub faults_json : List Failure → Json
 faults_json faults = array (map fault_json faults)
 
 -- what was read of a file
-abbrev pub answer_members : Format → ExifContents → List Failure → List (List ℕ × Json)
-answer_members format exif faults =
-    (codes "format", J.string (format_name format))
-    ∷ (codes "byte_order", J.string (order_name exif.little_endian))
+abbrev pub exif_members : ExifContents → List Failure → List (List ℕ × Json)
+exif_members exif faults =
+    (codes "byte_order", J.string (order_name exif.little_endian))
     ∷ (codes "summary", summary_json exif.fields)
     ∷ (codes "fields", fields_json exif.fields)
     ∷ (codes "faults", faults_json faults) ∷ []
 
 -- a file that was read
-abbrev pub answer_json : List ℕ → Format → ExifContents → List Failure → Json
+abbrev pub answer_json : List ℕ → Option Format → ExifContents → List Failure → Json
 answer_json path format exif faults =
-    object (path_members path ++ answer_members format exif faults)
+    object (file_members path format ++ exif_members exif faults)
 
--- a file without Exif data
-abbrev pub empty_members : Format → List (List ℕ × Json)
-empty_members format =
-    (codes "format", J.string (format_name format))
-    ∷ (codes "fields", array []) ∷ (codes "faults", array []) ∷ []
+-- no summary, no fields and no faults
+abbrev pub no_exif_members : List (List ℕ × Json)
+no_exif_members =
+    (codes "summary", object []) ∷ (codes "fields", array []) ∷ (codes "faults", array []) ∷ []
 
-abbrev pub empty_json : List ℕ → Format → Json
-empty_json path format = object (path_members path ++ empty_members format)
+-- a picture without Exif data
+abbrev pub no_exif_json : List ℕ → Option Format → Json
+no_exif_json path format = object (file_members path format ++ no_exif_members)
 
--- a file that was refused, with what is said of it
-abbrev pub refusal_json : List ℕ → List ℕ → Json
-refusal_json path said = object (path_members path ++ ((codes "error", J.string said) ∷ []))
+-- a file that could not be read, with the text of the error
+abbrev pub error_json : List ℕ → Option Format → List ℕ → Json
+error_json path format said =
+    object (file_members path format ++ ((codes "error", J.string said) ∷ []))
+
+-- a file of which nothing was read: one without Exif data is no error, and an error of a device
+-- has the system's text, which is not defined here
+abbrev pub refusal_json : List ℕ → Option Format → Failure → Option Json
+refusal_json path format (error.NotFound what) = Some (no_exif_json path format)
+refusal_json path format e = option_map (error_json path format) (error_text e)

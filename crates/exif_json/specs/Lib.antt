@@ -9,5 +9,5 @@ pub mod Fields
 pub mod Files
 pub mod Finding
 pub mod Coordinates
-pub mod Told
+pub mod Determined
 pub mod Answers

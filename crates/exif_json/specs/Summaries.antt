@@ -5,7 +5,7 @@ use Rattle.json.specs.Json.{Json}
 use Rattle.exif_table.specs.declared.context.Context.TheVariants.{Tiff, Exif}
 use Rattle.exif_types.specs.declared.field.Field.{Field}
 use Rattle.exif_datetime.specs.declared.datetime.DateTime.{DateTime}
-use Rattle.exif_json.specs.Dates.{date_taken, iso_text}
+use Rattle.exif_json.specs.Dates.{date_taken, fraction_taken, iso_text}
 use Rattle.exif_json.specs.Finding.{degrees_of, number_of, orientation_of, text_found}
 use Rattle.exif_json.specs.Coordinates.{Degrees, degrees_text, latitude, longitude}
 use Rattle.exif_json.specs.Texts.{text_json}
@@ -25,15 +25,15 @@ maybe name json (Some x) = (name, json x) ∷ []
 abbrev pub degrees_json : Degrees → Json
 degrees_json d = J.number (degrees_text d.negative d.units)
 
--- a date as a string of ISO 8601
-abbrev pub date_json : DateTime → Json
-date_json d = J.string (iso_text d)
+-- a date, with the digits of the fraction of its second, as a string of ISO 8601
+abbrev pub date_json : List ℕ → DateTime → Json
+date_json digits d = J.string (iso_text digits d)
 
 -- how it stands and when it was taken
 abbrev pub standing_members : List Field → List (List ℕ × Json)
 standing_members fields =
     maybe (codes "orientation") unsigned (orientation_of fields)
-    ++ maybe (codes "date_taken") date_json (date_taken fields)
+    ++ maybe (codes "date_taken") (date_json (fraction_taken fields)) (date_taken fields)
 
 -- where it was taken
 abbrev pub location_members : List Field → List (List ℕ × Json)

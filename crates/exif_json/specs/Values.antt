@@ -24,7 +24,7 @@ abbrev pub bits_json : ℕ → ℕ → Json
 bits_json k bits = J.string (bits_text k bits)
 
 -- numbers, fractions and texts are arrays of them, bytes of any meaning are hexadecimal digits,
--- and of a type that is not known nothing is told
+-- and a value of an unknown type is null
 abbrev pub value_json : Value → Json
 value_json (Byte xs) = array (map unsigned xs)
 value_json (Ascii xs) = array (map text_json xs)

@@ -1,15 +1,16 @@
 //! The object of a file.
 
-ghost use Rattle.std.specs.Prelude.{◌≡◌, ◌++◌, [], All, IfOk, IfSome, OnOk, Some, List, ℕ};
+ghost use Rattle.std.specs.Prelude.{◌≡◌, ◌++◌, codes, All, IfOk, IfSome, OnOk, Some, List, ℕ};
 ghost use Rattle.std.specs.Str.{IsUtf8};
 ghost use Rattle.json.specs.Json.{document};
 ghost use Rattle.json.specs.Print.{print};
 ghost use Rattle.json.specs.Tree.{json_tokens};
 ghost use Rattle.exif_types.specs.Failures.{IsInvalidFormat, error_text};
-ghost use Rattle.exif_json.specs.Files.{answer_json, answer_members, empty_json, empty_members, fault_json, faults_json, format_name, order_name, path_members, refusal_json};
-ghost use Rattle.exif_json.specs.Answers.{Tells};
+ghost use Rattle.exif_json.specs.Files.{answer_json, error_json, exif_members, fault_json, faults_json, file_members, format_json, format_name, no_exif_json, no_exif_members, order_name, refusal_json};
+ghost use Rattle.exif_json.specs.Answers.{IsJsonOf};
 ghost use Rattle.exif_json.specs.Prints.{Prints};
-ghost use Rattle.exif_json.specs.Trees.{array, parts_tokens};
+ghost use Rattle.exif_json.specs.Summaries.{maybe};
+ghost use Rattle.exif_json.specs.Trees.{parts_tokens};
 
 use crate::fields::write_fields;
 use crate::printer::Printer;
@@ -31,12 +32,25 @@ fn name_of(format: Format) -> &'static str
     }
 }
 
-/// Writes the members that name a file.
-fn write_path(printer: &mut Printer, path: &[u8]) -> Result<(), AllocError>
-    ensures { Prints result printer.old.out printer.new.out (parts_tokens (path_members path.now)) }
+/// Writes the member of a format, where it is known.
+fn write_format(printer: &mut Printer, format: Option<Format>) -> Result<(), AllocError>
+    ensures { Prints result printer.old.out printer.new.out
+        (parts_tokens (maybe (codes "format") format_json format)) }
+{
+    match format {
+        Some(known) => printer.text_member("format", name_of(known)),
+        None => Ok(()),
+    }
+}
+
+/// Writes the members that name a file and its format.
+fn write_file(printer: &mut Printer, path: &[u8], format: Option<Format>) -> Result<(), AllocError>
+    ensures { Prints result printer.old.out printer.new.out
+        (parts_tokens (file_members path.now format)) }
 {
     printer.out.key("path")?;
-    write_text(printer, path)
+    write_text(printer, path)?;
+    write_format(printer, format)
 }
 
 /// The name of the order of bytes.
@@ -70,18 +84,12 @@ fn write_faults(printer: &mut Printer, faults: &[Error]) -> Result<(), AllocErro
     printer.out.end_array()
 }
 
-/// Writes the members that tell what was read.
-fn write_answer(
-    printer: &mut Printer,
-    format: Format,
-    exif: &Exif,
-    faults: &[Error],
-) -> Result<(), AllocError>
+/// Writes the members of what was read.
+fn write_exif(printer: &mut Printer, exif: &Exif, faults: &[Error]) -> Result<(), AllocError>
     requires { All IsInvalidFormat faults.now }
     ensures { Prints result printer.old.out printer.new.out
-        (parts_tokens (answer_members format exif.now faults.now)) }
+        (parts_tokens (exif_members exif.now faults.now)) }
 {
-    printer.text_member("format", name_of(format))?;
     printer.text_member("byte_order", order_of(exif))?;
     printer.out.key("summary")?;
     write_summary(printer, exif)?;
@@ -95,7 +103,7 @@ fn write_answer(
 fn write_read(
     printer: &mut Printer,
     path: &[u8],
-    format: Format,
+    format: Option<Format>,
     exif: &Exif,
     faults: &[Error],
 ) -> Result<(), AllocError>
@@ -104,60 +112,83 @@ fn write_read(
         (json_tokens (answer_json path.now format exif.now faults.now)) }
 {
     printer.out.begin_object()?;
-    write_path(printer, path)?;
-    write_answer(printer, format, exif, faults)?;
+    write_file(printer, path, format)?;
+    write_exif(printer, exif, faults)?;
     printer.out.end_object()
 }
 
-/// Writes an array without members.
-fn write_empty(printer: &mut Printer) -> Result<(), AllocError>
-    ensures { Prints result printer.old.out printer.new.out (json_tokens (array [])) }
+/// Writes the members of a picture without Exif data.
+fn write_nothing(printer: &mut Printer) -> Result<(), AllocError>
+    ensures { Prints result printer.old.out printer.new.out (parts_tokens no_exif_members) }
 {
-    write_faults(printer, &[])
-}
-
-/// Writes the members that tell that there are no Exif data.
-fn write_none(printer: &mut Printer, format: Format) -> Result<(), AllocError>
-    ensures { Prints result printer.old.out printer.new.out
-        (parts_tokens (empty_members format)) }
-{
-    printer.text_member("format", name_of(format))?;
+    printer.out.key("summary")?;
+    printer.out.begin_object()?;
+    printer.out.end_object()?;
     printer.out.key("fields")?;
-    write_empty(printer)?;
+    printer.out.begin_array()?;
+    printer.out.end_array()?;
     printer.out.key("faults")?;
-    write_empty(printer)
+    printer.out.begin_array()?;
+    printer.out.end_array()
 }
 
-/// Writes the object of a file without Exif data.
-fn write_file_of_none(printer: &mut Printer, path: &[u8], format: Format) -> Result<(), AllocError>
+/// Writes the object of a picture without Exif data.
+fn write_no_exif(
+    printer: &mut Printer,
+    path: &[u8],
+    format: Option<Format>,
+) -> Result<(), AllocError>
     ensures { Prints result printer.old.out printer.new.out
-        (json_tokens (empty_json path.now format)) }
+        (json_tokens (no_exif_json path.now format)) }
 {
     printer.out.begin_object()?;
-    write_path(printer, path)?;
-    write_none(printer, format)?;
+    write_file(printer, path, format)?;
+    write_nothing(printer)?;
     printer.out.end_object()
 }
 
-/// Writes the object of a file that was refused.
-fn write_refusal(printer: &mut Printer, path: &[u8], error: &Error) -> Result<(), AllocError>
+/// Writes the object of a file that could not be read.
+fn write_error(
+    printer: &mut Printer,
+    path: &[u8],
+    format: Option<Format>,
+    error: &Error,
+) -> Result<(), AllocError>
     ensures prints { IfSome (error_text error.now)
         (λ said. Prints result printer.old.out printer.new.out
-        (json_tokens (refusal_json path.now said))) }
+        (json_tokens (error_json path.now format said))) }
     ensures before { OnOk result (printer.new.out.before ≡ printer.old.out.before) }
 {
     printer.out.begin_object()?;
-    write_path(printer, path)?;
+    write_file(printer, path, format)?;
     printer.shown_member("error", error)?;
     printer.out.end_object()
 }
 
-/// The JSON object (RFC 8259) of a file that was read: its path, what holds the data, their order
-/// of bytes, the fields and the faults that were passed over. The only error is out of memory.
-pub fn read_json(
+/// Writes the object of a file of which nothing was read.
+fn write_refusal(
+    printer: &mut Printer,
+    path: &[u8],
+    format: Option<Format>,
+    error: &Error,
+) -> Result<(), AllocError>
+    ensures prints { IfSome (refusal_json path.now format error.now)
+        (λ json. Prints result printer.old.out printer.new.out (json_tokens json)) }
+    ensures before { OnOk result (printer.new.out.before ≡ printer.old.out.before) }
+{
+    match error {
+        Error::NotFound(_) => write_no_exif(printer, path, format),
+        _ => write_error(printer, path, format, error),
+    }
+}
+
+/// The JSON object (RFC 8259) of a file that was read: its path, its format if it is known, the
+/// order of bytes, a summary, the fields and the faults that were skipped. The only error is out of
+/// memory.
+pub fn to_json(
     alloc: Global,
     path: &[u8],
-    format: Format,
+    format: Option<Format>,
     exif: &Exif,
     faults: &[Error],
 ) -> Result<Vec<u8>, AllocError>
@@ -173,52 +204,44 @@ pub fn read_json(
     Ok(printer.finish())
 }
 
-/// The JSON object (RFC 8259) of a file without Exif data: its path, what it is, and no fields. The
-/// only error is out of memory.
-pub fn empty_json(alloc: Global, path: &[u8], format: Format) -> Result<Vec<u8>, AllocError>
-    ensures text { IfOk result (λ text. text.items
-        ≡ print (json_tokens (empty_json path.now format))) }
-    ensures reads_back { IfOk result (λ text. document text.items
-        ≡ Some (empty_json path.now format)) }
+/// The JSON object (RFC 8259) of a file of which nothing was read. A picture without Exif data
+/// (`NotFound`) has its path, its format, and an empty summary, no fields and no faults. Otherwise
+/// the object has the path, the format if it is known, and the error's text. The only error is out
+/// of memory.
+pub fn refusal_json(
+    alloc: Global,
+    path: &[u8],
+    format: Option<Format>,
+    error: &Error,
+) -> Result<Vec<u8>, AllocError>
+    ensures text { IfSome (refusal_json path.now format error.now)
+        (λ json. IfOk result (λ text. text.items ≡ print (json_tokens json))) }
+    ensures reads_back { IfSome (refusal_json path.now format error.now)
+        (λ json. IfOk result (λ text. document text.items ≡ Some json)) }
     ensures utf8 { IfOk result (λ text. IsUtf8 text.items) }
 {
     let mut printer = Printer::new(alloc);
-    write_file_of_none(&mut printer, path, format)?;
-    Ok(printer.finish())
-}
-
-/// The JSON object (RFC 8259) of a file that was refused: its path and the error's text. The only
-/// error is out of memory.
-pub fn refusal_json(alloc: Global, path: &[u8], error: &Error) -> Result<Vec<u8>, AllocError>
-    ensures text { IfSome (error_text error.now) (λ said. IfOk result (λ text. text.items
-        ≡ print (json_tokens (refusal_json path.now said)))) }
-    ensures reads_back { IfSome (error_text error.now) (λ said. IfOk result (λ text.
-        document text.items ≡ Some (refusal_json path.now said))) }
-    ensures utf8 { IfOk result (λ text. IsUtf8 text.items) }
-{
-    let mut printer = Printer::new(alloc);
-    write_refusal(&mut printer, path, error)?;
+    write_refusal(&mut printer, path, format, error)?;
     Ok(printer.finish())
 }
 
 /// The JSON object of what a reader answered of a file: of what was read, with the faults that were
-/// skipped, of a file without Exif data, or of the refusal. The only error is out of memory.
-pub fn told_json(
+/// skipped, of a picture without Exif data, or of the error. The only error is out of memory.
+pub fn json_of_answer(
     alloc: Global,
     path: &[u8],
-    format: Format,
+    format: Option<Format>,
     answer: Result<Exif, Error>,
 ) -> Result<Vec<u8>, AllocError>
-    ensures told { IfOk result (λ text. Tells path.now format answer.entry text.items) }
+    ensures json { IfOk result (λ text. IsJsonOf path.now format answer.entry text.items) }
     ensures utf8 { IfOk result (λ text. IsUtf8 text.items) }
 {
     match answer {
-        Ok(exif) => read_json(alloc, path, format, &exif, &[]),
+        Ok(exif) => to_json(alloc, path, format, &exif, &[]),
         Err(Error::PartialResult(partial)) => {
             let (exif, faults) = partial.into_inner();
-            read_json(alloc, path, format, &exif, &faults)
+            to_json(alloc, path, format, &exif, &faults)
         }
-        Err(Error::NotFound(_)) => empty_json(alloc, path, format),
-        Err(error) => refusal_json(alloc, path, &error),
+        Err(error) => refusal_json(alloc, path, format, &error),
     }
 }

@@ -10,4 +10,4 @@ mod summary;
 mod texts;
 mod values;
 
-pub use files::{read_json, refusal_json, told_json};
+pub use files::{json_of_answer, refusal_json, to_json};

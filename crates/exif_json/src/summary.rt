@@ -19,7 +19,7 @@ mod looking;
 use crate::printer::Printer;
 use crate::texts::write_text;
 use angles::{Degrees, LATITUDE, LONGITUDE, print_degrees};
-use dates::{Iso, find_date};
+use dates::{Iso, find_date, find_fraction};
 use exif::{DateTime, Exif, Tag};
 use looking::{find_degrees, find_number, find_orientation, find_text};
 use std::alloc::AllocError;
@@ -67,13 +67,18 @@ fn write_degrees(
     }
 }
 
-/// Writes a member of a date, where there is one.
-fn write_date(printer: &mut Printer, name: &str, date: Option<DateTime>) -> Result<(), AllocError>
+/// Writes a member of a date and the digits of the fraction of its second, where there is one.
+fn write_date(
+    printer: &mut Printer,
+    name: &str,
+    date: Option<DateTime>,
+    fraction: &str,
+) -> Result<(), AllocError>
     ensures { Prints result printer.old.out printer.new.out
-        (parts_tokens (maybe name.now date_json date)) }
+        (parts_tokens (maybe name.now (date_json fraction.now) date)) }
 {
     match date {
-        Some(d) => printer.shown_member(name, Iso(d)),
+        Some(date) => printer.shown_member(name, Iso { date, fraction }),
         None => Ok(()),
     }
 }
@@ -95,7 +100,7 @@ fn write_standing(printer: &mut Printer, exif: &Exif) -> Result<(), AllocError>
         (parts_tokens (standing_members exif.now.fields)) }
 {
     write_number(printer, "orientation", find_orientation(exif))?;
-    write_date(printer, "date_taken", find_date(exif))
+    write_date(printer, "date_taken", find_date(exif), find_fraction(exif))
 }
 
 /// Writes where it was taken.

@@ -4,9 +4,9 @@ use crate::calls::{end_of_error, send};
 use exif::{Error, Exif, Field, Reader, Sink, Source, parse_exif};
 use exif_base::{Blocks, Counted};
 use exif_cases::{Case, CaseError, Kind};
-use exif_containers::container::{Format, format_of};
+use exif_containers::container::format_of;
 use exif_containers::{exif_attr_of_stream, isobmff};
-use exif_json::told_json;
+use exif_json::json_of_answer;
 use exif_report::{report, report_limited};
 use exif_segments::util::read_all;
 use exif_segments::{get_exif_attr_from_jpeg, jpeg, webp};
@@ -99,12 +99,12 @@ pub fn json<R: Source, W: Sink>(
     out: &mut W,
 ) -> Result<(), Error> {
     let file = read_all(alloc, source)?;
-    let format = format_of(file.as_slice()).unwrap_or(Format::Tiff);
+    let format = format_of(file.as_slice());
     let answer = match read(alloc, case, &mut Counted::new(file.as_slice())) {
         Err(Error::OutOfMemory) => return Err(Error::OutOfMemory),
         other => other,
     };
-    let text = told_json(alloc, case.path.as_slice(), format, answer)?;
+    let text = json_of_answer(alloc, case.path.as_slice(), format, answer)?;
     send(out, text.as_slice())
 }
 

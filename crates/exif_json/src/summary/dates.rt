@@ -1,27 +1,37 @@
 //! When a picture was taken, as ISO 8601 writes it.
 
-ghost use Rattle.std.specs.Prelude.{◌≡◌, ◌++◌, Some, codes};
+ghost use Rattle.std.specs.Prelude.{◌≡◌, ◌++◌, ◌≤◌, ◌==◌, length, not, Some, codes};
 ghost use Rattle.std.specs.Fmt.{WritesOnOk};
+ghost use Rattle.std.specs.Char.{is_ascii_digit};
+ghost use Rattle.std.specs.List.{list_all, prefix_len};
 ghost use Rattle.exif_text.specs.Clock.{date_text, time_text};
+ghost use Rattle.exif_text.specs.Subsec.{subsec_bytes};
 ghost use Rattle.exif_datetime.specs.Dates.{calendar_date, time_of_day};
-ghost use Rattle.exif_json.specs.Dates.{date_taken, days_in_month, fraction_text, is_in_range, is_leap, iso_text, minutes_text, offset_text};
+ghost use Rattle.exif_json.specs.Dates.{date_taken, days_in_month, fraction_digits, fraction_taken, fraction_text, is_calendar_day, is_clock_time, is_leap_year, iso_text, minutes_text, offset_text};
 
 use super::looking::find_text;
 use exif::{DateTime, Exif, Tag};
 use std::fmt;
 
-/// A date that is shown as `2016-05-04T03:02:01.500000000+09:00`, without what is not known.
-#[derive(Clone, Copy)]
-pub(crate) struct Iso(pub(crate) DateTime);
+/// How many minutes a day has.
+const DAY: u16 = 1440;
 
-impl fmt::Display for Iso {
-    ghost output = { λ d. Some (iso_text d.0) };
+/// A date that is shown as `2016-05-04T03:02:01.74+09:00`, without what is not known.
+#[derive(Clone, Copy)]
+pub(crate) struct Iso<'a> {
+    pub(crate) date: DateTime,
+    /// The digits of the fraction of its second.
+    pub(crate) fraction: &'a str,
+}
+
+impl fmt::Display for Iso<'_> {
+    ghost output = { λ d. Some (iso_text d.fraction.now d.date) };
 
     fn fmt<W: fmt::Write>(&self, f: &mut fmt::Formatter<W>) -> fmt::Result {
-        write_day(f, self.0)?;
-        write_clock(f, self.0)?;
-        write_fraction(f, self.0.nanosecond)?;
-        write_offset(f, self.0.offset)
+        write_day(f, self.date)?;
+        write_clock(f, self.date)?;
+        write_fraction(f, self.fraction)?;
+        write_offset(f, self.date.offset)
     }
 }
 
@@ -40,23 +50,26 @@ fn write_clock<W: fmt::Write>(f: &mut fmt::Formatter<W>, d: DateTime) -> fmt::Re
     write!(f, "T{:02}:{:02}:{:02}", d.hour, d.minute, d.second)
 }
 
-/// Writes `.500000000`.
-fn write_fraction<W: fmt::Write>(f: &mut fmt::Formatter<W>, nanosecond: Option<u32>) -> fmt::Result
-    ensures { WritesOnOk W.write_str_gives f.old result (fraction_text nanosecond) f.new }
+/// Writes `.74`.
+fn write_fraction<W: fmt::Write>(f: &mut fmt::Formatter<W>, digits: &str) -> fmt::Result
+    ensures { WritesOnOk W.write_str_gives f.old result (fraction_text digits.now) f.new }
 {
-    match nanosecond {
-        Some(n) => write!(f, ".{n:09}"),
-        None => Ok(()),
+    if digits.is_empty() {
+        Ok(())
+    } else {
+        write!(f, ".{digits}")
     }
 }
 
-/// Writes `+09:00`.
+/// Writes `+09:00`, if it is less than a day.
 fn write_offset<W: fmt::Write>(f: &mut fmt::Formatter<W>, offset: Option<i16>) -> fmt::Result
     ensures { WritesOnOk W.write_str_gives f.old result (offset_text offset) f.new }
 {
     match offset {
-        Some(minutes) => write_minutes(f, minutes < 0, minutes.unsigned_abs()),
-        None => Ok(()),
+        Some(minutes) if minutes.unsigned_abs() < DAY => {
+            write_minutes(f, minutes < 0, minutes.unsigned_abs())
+        }
+        _ => Ok(()),
     }
 }
 
@@ -72,35 +85,39 @@ fn write_minutes<W: fmt::Write>(
     write!(f, "{sign}{:02}:{:02}", minutes / 60, minutes % 60)
 }
 
-/// Whether a year has 366 days.
-fn is_leap(year: u16) -> bool
-    ensures { result ≡ is_leap year }
+/// Whether a year has a 29 February.
+fn is_leap_year(year: u16) -> bool
+    ensures { result ≡ is_leap_year year }
 {
     year % 4 == 0 && (year % 100 != 0 || year % 400 == 0)
 }
 
-/// The days of a month.
+/// How many days a month has.
 fn days_in_month(year: u16, month: u8) -> u8
     ensures { result ≡ days_in_month year month }
 {
-    match month {
-        2 => { if is_leap(year) { 29 } else { 28 } }
-        4 | 6 | 9 | 11 => 30,
-        _ => 31,
+    if month == 2 {
+        return if is_leap_year(year) { 29 } else { 28 };
+    }
+    if month == 4 || month == 6 || month == 9 || month == 11 {
+        30
+    } else {
+        31
     }
 }
 
-/// Whether the parts of a date are those of the calendar and of the clock.
-fn is_in_range(d: DateTime) -> bool
-    ensures { result ≡ is_in_range d }
+/// Whether the calendar has a day.
+fn is_calendar_day(d: DateTime) -> bool
+    ensures { result ≡ is_calendar_day d }
 {
-    0 < d.month
-        && d.month < 13
-        && 0 < d.day
-        && d.day <= days_in_month(d.year, d.month)
-        && d.hour < 24
-        && d.minute < 60
-        && d.second < 61
+    0 < d.month && d.month < 13 && 0 < d.day && d.day <= days_in_month(d.year, d.month)
+}
+
+/// Whether a day has a time, which may be a leap second.
+fn is_clock_time(d: DateTime) -> bool
+    ensures { result ≡ is_clock_time d }
+{
+    d.hour < 24 && d.minute < 60 && d.second < 61
 }
 
 /// When the picture was taken.
@@ -110,11 +127,58 @@ pub(crate) fn find_date(exif: &Exif) -> Option<DateTime>
     let Ok(mut date) = DateTime::from_ascii(find_text(exif, Tag::DateTimeOriginal)?) else {
         return None;
     };
-    if let Some(text) = find_text(exif, Tag::SubSecTimeOriginal) {
-        let _ = date.parse_subsec(text);
-    }
     if let Some(text) = find_text(exif, Tag::OffsetTimeOriginal) {
         let _ = date.parse_offset(text);
     }
-    if is_in_range(date) { Some(date) } else { None }
+    if is_calendar_day(date) && is_clock_time(date) {
+        Some(date)
+    } else {
+        None
+    }
+}
+
+/// The bytes that count of a fraction's text: up to nine, before the first space.
+fn subsec_bytes(text: &[u8]) -> &[u8]
+    ensures { result.now ≡ subsec_bytes text.now }
+{
+    let first = &text[..text.len().min(9)];
+    &first[..length_before_space(first)]
+}
+
+/// How many bytes are before the first space.
+fn length_before_space(bytes: &[u8]) -> usize
+    ensures len { result ≡ prefix_len (λ b. not (b == 32)) bytes.now }
+    ensures within { result ≤ length bytes.now }
+{
+    bytes.iter().take_while(|byte| **byte != b' ').count()
+}
+
+fn are_digits(bytes: &[u8]) -> bool
+    ensures { result ≡ list_all is_ascii_digit bytes.now }
+{
+    bytes.iter().all(|byte| byte.is_ascii_digit())
+}
+
+/// The digits of a fraction's text, none if other bytes are among those that count.
+fn fraction_digits(text: &[u8]) -> &str
+    ensures { result.now ≡ fraction_digits text.now }
+{
+    let bytes = subsec_bytes(text);
+    if !are_digits(bytes) {
+        return "";
+    }
+    match std::str::from_utf8(bytes) {
+        Ok(digits) => digits,
+        Err(_) => "",
+    }
+}
+
+/// The digits of the fraction of the second, as many as the file has.
+pub(crate) fn find_fraction(exif: &Exif) -> &str
+    ensures { result.now ≡ fraction_taken exif.now.fields }
+{
+    match find_text(exif, Tag::SubSecTimeOriginal) {
+        Some(text) => fraction_digits(text),
+        None => "",
+    }
 }

@@ -1,4 +1,3 @@
-use Rattle.exif_types.specs.Failures.{error_text}
 use Rattle.exif_json.specs.Files.{refusal_json}
 use Rattle.exif_json.proofs.Depths.{finished, refusal_shallow}
 use Rattle.exif_json.proofs.Faults.{if_some, of_some}
@@ -6,6 +5,6 @@ use Rattle.exif_json.proofs.files.refusal_json.Goals as goal
 
 pub returns-clause-reads_back : goal.returns-clause-reads_back
 returns-clause-reads_back c =
-    if_some (error_text c.args.error.now) _ (λ said is.
-    finished _ _ _ (refusal_json c.args.path.now said) c.new-printer.ensures.before c.new-printer.ensures.tokens (of_some _ _ said is c.in_ok-write_refusal.ensures.prints) c.finish.ensures.text c.finish.ensures.tokens
-    (refusal_shallow c.args.path.now said))
+    if_some (refusal_json c.args.path.now c.args.format c.args.error.now) _ (λ json is.
+    finished _ _ _ json c.new-printer.ensures.before c.new-printer.ensures.tokens (of_some _ _ json is c.in_ok-write_refusal.ensures.prints) c.finish.ensures.text c.finish.ensures.tokens
+    (refusal_shallow c.args.path.now c.args.format c.args.error.now json is))

@@ -1,4 +1,4 @@
--- What the JSON of a value tells of it.
+-- What the JSON of a value determines.
 use Rattle.std.specs.Prelude.{◌≡◌, ℕ, ℤ, ◌^◌, ◌<◌, List}
 use Rattle.std.specs.Int.Signed.{mag}
 use Rattle.std.specs.List.{All}
@@ -8,8 +8,8 @@ use Rattle.exif_types.specs.declared.value.Value.{Value}
 use Rattle.exif_json.specs.Values.{value_json}
 
 -- lists of items of a kind whose values have the same JSON are the same
-abbrev pub Tells : {A : Type 0} → (A → Type 0) → (List A → Value) → Type 0
-Tells {A = A} P kind =
+abbrev pub JsonDetermines : {A : Type 0} → (A → Type 0) → (List A → Value) → Type 0
+JsonDetermines {A = A} P kind =
     (xs ys : List A) → All P xs → All P ys → value_json (kind xs) ≡ value_json (kind ys) → xs ≡ ys
 
 -- a number of so many bits, one of 64 bits with its sign, and the two of a fraction

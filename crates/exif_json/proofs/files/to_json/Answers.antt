@@ -1,6 +1,6 @@
 use Rattle.exif_json.specs.Files.{answer_json}
 use Rattle.exif_json.proofs.Depths.{answer_shallow, finished}
-use Rattle.exif_json.proofs.files.read_json.Goals as goal
+use Rattle.exif_json.proofs.files.to_json.Goals as goal
 
 pub returns-clause-reads_back : goal.returns-clause-reads_back
 returns-clause-reads_back c =
