@@ -7,6 +7,7 @@ mod changed;
 mod dates;
 mod growing;
 mod in_place;
+pub mod laws;
 mod reading;
 mod refusal;
 mod rewriting;
