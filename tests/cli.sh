@@ -168,14 +168,15 @@ nothing_beside set
 
 # shift
 fresh
-gives "dates move" 0 "$mexaldor" shift +1d00:45 work/whole.jpg work/whole.tif work/whole.webp work/whole.heic
+gives "dates move; one is blank" 3 "$mexaldor" shift +1d00:45 work/whole.jpg work/whole.tif work/whole.webp work/whole.heic
+says "a blank date is reported" "work/whole.jpg: DateTimeDigitized is blank and was not moved"
 for file in whole.jpg whole.tif whole.webp whole.heic; do
     "$mexaldor" show "work/$file" >out
     check "both dates of $file moved" test "$(grep -c '2020-03-01 00:15:00' out)" = 2
 done
-gives "dates move back" 0 "$mexaldor" shift -24:45 work/whole.jpg
+gives "dates move back" 3 "$mexaldor" shift -24:45 work/whole.jpg
 check "the file is the old one" cmp files/whole.jpg work/whole.jpg
-gives "only the dates of Exif move" 0 "$mexaldor" shift --exif -0:30:01 work/whole.jpg
+gives "only the dates of Exif move" 3 "$mexaldor" shift --exif -0:30:01 work/whole.jpg
 "$mexaldor" show work/whole.jpg >out
 check "one date moved" test "$(grep -c '2020-02-28 22:59:59' out)" = 1
 gives "a file without dates is reported" 1 "$mexaldor" shift +1:00 work/undated.jpg
@@ -195,7 +196,7 @@ check "nothing is written then" test ! -e work/none.jpg
 mkdir -p many/a/b
 for number in 1 2 3; do cp files/whole.jpg "many/a/$number.jpg"; cp files/whole.jpg "many/a/b/$number.jpg"; done
 ln -s .. many/a/b/up
-gives "folders are shifted" 0 "$mexaldor" shift -q -r +1:00 many
+gives "folders are shifted" 3 "$mexaldor" shift -q -r +1:00 many
 "$mexaldor" show -r many >out
 check "each file was, once" test "$(grep -c '2020-02-29 00:30:00' out)" = 12
 python3 - <<'P'
@@ -277,7 +278,7 @@ ln -s a.jpg work/links/b.jpg
 ln -s ../../outside/far.jpg work/links/c.jpg
 cp files/whole.jpg work/links/a.jpg.orig
 cp files/whole.jpg work/links/.mexaldor-0
-gives "links and own files are skipped" 0 "$mexaldor" shift -r +1:00 work/links
+gives "links and own files are skipped" 3 "$mexaldor" shift -r +1:00 work/links
 says "they are counted" "mexaldor: 1 changed, 0 refused, 4 skipped (2 symbolic links; 2 backup or temporary files)"
 "$mexaldor" show work/links/a.jpg >out
 check "the file was shifted once" test "$(grep -c '2020-02-29 00:30:00' out)" = 2
@@ -285,7 +286,7 @@ check "a file outside of the folder stays" cmp files/whole.jpg outside/far.jpg
 check "a backup stays" cmp files/whole.jpg work/links/a.jpg.orig
 check "a hidden file stays" cmp files/whole.jpg work/links/.mexaldor-0
 cp files/whole.jpg work/links/a.jpg
-gives "a file named in four ways is shifted once" 0 "$mexaldor" shift +1:00 work/links/a.jpg work/links/a.jpg ./work/../work/links/b.jpg -r work/links
+gives "a file named in four ways is shifted once" 3 "$mexaldor" shift +1:00 work/links/a.jpg work/links/a.jpg ./work/../work/links/b.jpg -r work/links
 "$mexaldor" show work/links/a.jpg >out
 check "once" test "$(grep -c '2020-02-29 00:30:00' out)" = 2
 
