@@ -4,11 +4,6 @@
 //! [`grow_item`] answers what makes a file hold new Exif data: patches over its bytes, and a box that
 //! follows them; [`with_data`] answers the new file. A program that writes into a file appends the box
 //! first.
-//!
-//! ```
-//! let data = set_fields(alloc, old, fields)?;
-//! let new = with_data(alloc, file, data.as_slice())?;
-//! ```
 #![tactic(auto)]
 
 mod closed;
