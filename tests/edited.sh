@@ -115,14 +115,6 @@ grows() {
     warnings "$1" >old.warnings
     warnings "$new" >new.warnings
     check "$1: $2 brings no warning" cmp old.warnings new.warnings
-    case $1 in
-    *.avif)
-        # A known defect: exiv2 0.27 read the Exif data of heif-enc's AVIF files, and finds none once they have grown.
-        # Its cause is not settled; the item's offset moves from the base offset into the extent.
-        echo "skipped, exiv2 finds no Exif data in an AVIF file that has grown: $1"
-        return
-        ;;
-    esac
     if has exiv2; then
         exiv2 -PEkycv "$1" 2>old.errors | grep -v "\.$2 " | grep -v "Exif.*Tag " >old
         exiv2 -PEkycv "$new" 2>new.errors | grep -v "\.$2 " | grep -v "Exif.*Tag " >new

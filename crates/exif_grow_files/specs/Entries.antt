@@ -1,10 +1,14 @@
 -- The entry of an item in `iloc`, for an item that is moved (ISO/IEC 14496-12:2015, 8.11.3).
-use Rattle.std.specs.Prelude.{ℕ, ◌^◌, ◌==◌, ◌&&◌, nat_lt, if◌then◌else◌, List, [], ◌∷◌, ◌++◌, replicate, Result, Ok, Err}
+use Rattle.std.specs.Prelude.{ℕ, Bool, ◌^◌, ◌==◌, ◌&&◌, ◌||◌, nat_lt, if◌then◌else◌, List, [], ◌∷◌, ◌++◌, replicate, Result, Ok, Err}
 use Rattle.std.specs.Int.{to_be_bytes, w32, w64}
 use Rattle.exif_isobmff.specs.declared.entries.Entry.{Entry}
 use Rattle.exif_isobmff.specs.declared.locations.Sizes.{Sizes}
 use Rattle.exif_edit_base.specs.Causes.{Cause, ◌>>=◌}
 use Rattle.exif_grow_files.specs.Refusals.{narrow}
+
+-- whether there is a field of so many bytes, and it has space for a number
+abbrev pub has_space : ℕ → ℕ → Bool
+has_space width number = (width == 8) || ((width == 4) && nat_lt number (2 ^ 32))
 
 -- a number of so many bytes, if it has space in them
 abbrev pub field_text : ℕ → ℕ → Result (List ℕ) Cause
@@ -13,13 +17,13 @@ field_text width number =
     (if (width == 4) && nat_lt number (2 ^ 32) then Ok (to_be_bytes w32 number) else
     (if (width == 0) && (number == 0) then Ok [] else Err narrow))
 
--- the base of an item that is at an offset: none where its extent has a field for it
+-- the base of an item that is at an offset: the offset itself, if its field has space for it
 abbrev pub base_for : Sizes → ℕ → ℕ
-base_for s from = if s.offset == 0 then from else 0
+base_for s from = if has_space s.base from then from else 0
 
 -- the offset of its extent behind the base
 abbrev pub offset_for : Sizes → ℕ → ℕ
-offset_for s from = if s.offset == 0 then 0 else from
+offset_for s from = if has_space s.base from then 0 else from
 
 -- how many bytes an item's number takes
 abbrev pub number_len : ℕ → ℕ

@@ -70,7 +70,7 @@ version_0 : moved_entry (record {
 unfolding moved_entry
 version_0 = refl
 
--- version 1, with an index of 4 bytes and a base: method 0, data reference 0, base 0
+-- version 1, with an index of 4 bytes, and a base that is too narrow: method 0, data reference 0, base 0
 version_1 : moved_entry (record {
   left = 30;
   version = 1;
@@ -80,6 +80,16 @@ version_1 : moved_entry (record {
     ∷ 0 ∷ 0 ∷ 0 ∷ 1 ∷ 0 ∷ 0 ∷ 0 ∷ 2 ∷ 0 ∷ 0 ∷ 0 ∷ 0x3b ∷ [])
 unfolding moved_entry
 version_1 = refl
+
+-- the item tables that heif-enc writes for AVIF: the base is the offset, and the extent has 0
+with_base : moved_entry (record {
+  left = 16;
+  version = 0;
+  sizes = record { offset = 4; len = 4; base = 4; index = 0 };
+}) 0x96 0x3b
+    ≡ Ok (0 ∷ 0 ∷ 0 ∷ 0 ∷ 0 ∷ 0x96 ∷ 0 ∷ 1 ∷ 0 ∷ 0 ∷ 0 ∷ 0 ∷ 0 ∷ 0 ∷ 0 ∷ 0x3b ∷ [])
+unfolding moved_entry
+with_base = refl
 
 -- an extent without an offset: the base is the offset
 by_base : moved_entry (record {

@@ -2,7 +2,7 @@
 
 ghost use Rattle.std.specs.Prelude.{◌≡◌};
 ghost use Rattle.exif_edit_base.specs.Causes.{Makes};
-ghost use Rattle.exif_grow_files.specs.Entries.{base_for, field_text, method_len, moved_entry, number_len, offset_for};
+ghost use Rattle.exif_grow_files.specs.Entries.{base_for, field_text, has_space, method_len, moved_entry, number_len, offset_for};
 
 use exif_edit_base::Error;
 use exif_isobmff::{Entry, Sizes};
@@ -24,18 +24,26 @@ fn field_text(alloc: Global, width: u8, number: u64) -> Result<Vec<u8>, Error>
     }
 }
 
-// The base of an item that is at an offset: none where its extent has a field for it.
+// Whether there is a field of so many bytes, and it has space for a number.
+fn has_space(width: u8, number: u64) -> bool
+    ensures { result ≡ has_space width number }
+{
+    width == 8 || (width == 4 && number <= u32::MAX as u64)
+}
+
+// The base of an item that is at an offset: the offset itself, if its field has space for it. exiv2
+// reads no other field where there is a base.
 fn base_for(sizes: Sizes, from: u64) -> u64
     ensures { result ≡ base_for sizes from }
 {
-    if sizes.offset == 0 { from } else { 0 }
+    if has_space(sizes.base, from) { from } else { 0 }
 }
 
 // The offset of its extent behind the base.
 fn offset_for(sizes: Sizes, from: u64) -> u64
     ensures { result ≡ offset_for sizes from }
 {
-    if sizes.offset == 0 { 0 } else { from }
+    if has_space(sizes.base, from) { 0 } else { from }
 }
 
 /// How many bytes an item's number takes.
