@@ -1,4 +1,4 @@
--- One step after another on told bytes.
+-- One step after another on known bytes.
 use Rattle.std.proofs.Common.{◌≡◌, ℕ, ◌+◌, ◌-◌, ◌<◌, ◌≤◌, List, [], ◌++◌, length, take, drop, Option, None, Some, ap, subst, sym, ◌∙◌, refl, arith, append_assoc, append-nil, length-append, length-drop}
 use Rattle.std.proofs.Math.Seq.{take-add, take-append-add}
 use Rattle.std.proofs.lemmas.List.{length-take, length-take-le, take_at, take-take, take-append-le, drop-drop, drop_at}
@@ -43,7 +43,7 @@ fetched_none a b c old new buf m n h k z =
     let same : h.0 ++ take n buf ≡ h.0 = ap (λ t. h.0 ++ take t buf) z ∙ append-nil h.0 in
     (h.0, subst P same (consumes_append a b c h.0 (take n buf) h.1 k), h.2, h.3)
 
--- bytes were put at the end of a list, and then more, which stand at the front of a buffer
+-- bytes were put at the end of a list, and then more, which are at the front of a buffer
 pub fetched_buffer : (a b c : Option (List ℕ)) (old mid new buf rest : List ℕ) (m n k : ℕ)
     → IsFetchedOnto a b old mid m → Consumes b c (take n buf)
     → n ≤ length buf → new ≡ mid ++ take n (buf ++ rest) → m + n ≡ k → IsFetchedOnto a c old new k

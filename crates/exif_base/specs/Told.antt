@@ -1,10 +1,10 @@
--- What reads and writes do to the bytes of a reader or a writer, where those are told.
+-- What reads and writes do to the bytes of a reader or a writer, where those are known.
 use Rattle.std.specs.Prelude.{◌≡◌, ◌≢◌, ℕ, ◌<◌, ◌≤◌, List, ◌++◌, length, drop, ⊤, Option, None, Some}
 use Rattle.std.specs.Option.{option_map}
 use Rattle.std.specs.List.{All}
 use Rattle.std.specs.Io.KnownBytes.{Consumes}
 
--- P holds of the bytes told before and after; told bytes stay told
+-- P holds of the bytes known before and after; known bytes stay known
 abbrev pub WhereTold : Option (List ℕ) → Option (List ℕ) → (List ℕ → List ℕ → Type 0) → Type 0
 WhereTold None new P = ⊤
 WhereTold (Some xs) None P = ⊥
@@ -30,7 +30,7 @@ abbrev pub IsFetchedOnto : Option (List ℕ) → Option (List ℕ) → List ℕ 
 IsFetchedOnto before after old new n = (bytes : List ℕ) × Consumes before after bytes
     × (length bytes ≡ n) × (new ≡ old ++ bytes)
 
--- told bytes lose n at the front, none of which is `stop`
+-- known bytes lose n at the front, none of which is `stop`
 abbrev pub PassesOthers : Option (List ℕ) → Option (List ℕ) → ℕ → ℕ → Type 0
 PassesOthers old new stop n = (bytes : List ℕ) × Consumes old new bytes
     × (length bytes ≡ n) × All (λ b. b ≢ stop) bytes

@@ -70,7 +70,7 @@ impl<'a, R> Blocks<'a, R> {
         n
     }
 
-    // Copies as many bytes at hand as there is room for, and answers how many.
+    // Copies as many buffered bytes as there is space for, and returns how many.
     fn copy_at_hand(&self, to: &mut [u8]) -> usize
         ensures count { result ≡ min (self.now.end - self.now.at) (length to.old) }
         ensures len { length to.new ≡ length to.old }
@@ -219,7 +219,7 @@ impl<'a, R: Source> Feed for Blocks<'a, R> {
     }
 }
 
-// Copies as many bytes from `at` on and before `end` as there is room for, and answers how many.
+// Copies as many bytes from `at` on and before `end` as there is space for, and returns how many.
 fn copy_between(block: &[u8], at: usize, end: usize, to: &mut [u8]) -> usize
     requires start { at ≤ end }
     requires end { end ≤ length block.now }

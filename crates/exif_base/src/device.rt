@@ -14,9 +14,9 @@ use std::io::{Read, Write};
 // How many bytes a skip that reads takes at a time.
 const BLOCK: usize = 4096;
 
-/// What gives bytes. `Ok(0)` into room is the end.
+/// What gives bytes. `Ok(0)` into a buffer with space is the end.
 pub trait Source {
-    /// The bytes that fetches will give from here on, where they are told.
+    /// The bytes that fetches will give from here on, where they are known.
     ghost left: { Self → Option (List ℕ) };
 
     /// All bytes of the stream, of which offsets count, where they are known.
@@ -131,7 +131,7 @@ pub trait Source {
 
 /// What takes bytes. `Ok(0)` of some bytes is a failure.
 pub trait Sink {
-    /// The bytes that were taken so far, where they are told.
+    /// The bytes that were taken so far, where they are known.
     ghost taken: { Self → Option (List ℕ) };
 
     /// How many puts and flushes failed, up to 2^64 - 1.

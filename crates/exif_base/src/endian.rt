@@ -8,10 +8,10 @@ use byteorder::ByteOrder;
 
 /// A byte order, as the type of a reading or of a writing.
 pub trait Endian {
-    // The number in the first bytes of a list, as many as are asked for.
+    // The number in the first bytes of a list, as many as are requested.
     ghost number_of: { ℕ → List ℕ → ℕ };
 
-    // The bytes that spell a number, as many as are asked for.
+    // The bytes of a number, as many as are requested.
     ghost bytes_of: { ℕ → ℕ → List ℕ };
 
     // The bytes that spell a number are read as it.

@@ -9,7 +9,7 @@ use std::io;
 
 /// Bytes of which the next some are at hand.
 pub trait Feed {
-    /// The bytes that are left, where they are told.
+    /// The bytes that are left, where they are known.
     ghost left: { Self → Option (List ℕ) };
 
     /// The bytes at hand.

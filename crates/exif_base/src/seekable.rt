@@ -141,8 +141,8 @@ impl<T: AsBytes> ReadSeek for Cursor<T> {
 
 /// A reader that seeks over what is skipped, and how many of its calls failed.
 ///
-/// Each fetch is one read. A skip asks where the stream stands and where it ends, and seeks. What
-/// does not seek, as a pipe, stands in a `Counted`.
+/// Each fetch is one read. A skip asks where the stream is and where it ends, and seeks. What
+/// does not seek, as a pipe, is in a `Counted`.
 #[derive(Drop)]
 pub struct Seekable<R> {
     inner: R,
@@ -254,13 +254,13 @@ fn skip_in<R: ReadSeek>(stream: &mut R, len: u64) -> io::Result<u64>
     if n == len {
         return Ok(n);
     }
-    // Where the bytes seemed to end, a read tells: a file may have grown.
+    // Where the bytes seemed to end, a read decides: a file may have grown.
     let behind = read_over(stream, len - n)?;
     Ok(n + behind)
 }
 
 // Moves the offset on by `len` bytes, or to the end where there are fewer. Answers by how many: by
-// none where the stream does not tell its end.
+// none where the stream does not report its end.
 fn seek_over<R: ReadSeek>(stream: &mut R, len: u64) -> io::Result<u64>
     ensures bound { IfOk result (λ n. n ≤ len) }
     ensures bytes { IfOk result (Skips (R.remaining stream.old) (R.remaining stream.new)) }
@@ -301,7 +301,7 @@ fn read_over<R: ReadSeek>(reader: &mut R, len: u64) -> io::Result<u64>
     Ok(len)
 }
 
-// Where the stream is, where it tells that.
+// Where the stream is, if it reports that.
 fn offset_in<R: ReadSeek>(stream: &mut R) -> Option<u64>
     ensures found { IfSome result (λ at. R.remaining stream.new ≡ left_behind (Some at)
         (known_stream (R.stream_position stream.new) (R.stream_bytes stream.new))) }

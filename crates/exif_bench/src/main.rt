@@ -20,7 +20,7 @@ const USAGE: &str = "usage: exif_bench --sizes FILE
 --sizes FILE    says how many bytes and fields a file has
 FILE N [WORK]   times N calls on a file, of each work or of one";
 
-// What the program is asked for.
+// What is requested of the program.
 enum Request<'a> {
     Sizes(&'a str),
     Time(&'a str, u64, Option<Work>),
@@ -73,7 +73,7 @@ fn timed(
     Ok(line)
 }
 
-// Does what is asked for.
+// Does what is requested.
 fn serve(
     rt: &(impl Print + Files + Clock + AllocGlobal),
     request: Request<'_>,

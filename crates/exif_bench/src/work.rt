@@ -11,7 +11,7 @@ use std::io::Cursor;
 pub enum Work {
     /// All fields read, with their values; of TIFF data a front of them, where it says all.
     Read,
-    /// The same, and all the data handed on.
+    /// The same, and all the data passed on.
     Whole,
     /// All fields read, and the report of it written into memory.
     Report,

@@ -45,7 +45,7 @@ IsRead lenient limit file old new answer =
     IsReadInto lenient limit file old new answer
     ⊎ (GivesNothing (number_of status.OutOfMemory) answer × (new ≡ old))
 
--- a changed file is in the buffer, which its status tells, or memory ran out and the buffer is as it
+-- a changed file is in the buffer, which its status says, or memory ran out and the buffer is as it
 -- was; a refusal tells its number
 abbrev pub Puts : Answer → List ℕ → List ℕ → Result Change Why → Type 0
 Puts answer old new (Ok change) =

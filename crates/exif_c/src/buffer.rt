@@ -11,7 +11,7 @@ use crate::status::Status;
 #[repr(C)]
 #[derive(Clone, Copy)]
 pub struct Answer {
-    /// 0, or a number that `mexaldor_error` tells the text of.
+    /// 0, or a number that `mexaldor_error` has a text for.
     pub status: u32,
     /// The length of the whole answer.
     pub length: usize,

@@ -14,9 +14,10 @@ use exif_containers::container::format_of;
 use exif_json::json_of_answer;
 use std::alloc::Global;
 
-/// Reads the Exif data of a file and puts the JSON object of them, or of the refusal, into a buffer.
-/// Strictly the first fault is the refusal; leniently soft faults are passed over and told. A limit
-/// of 0 stands for 1,000,000 entries. Where memory runs out for the object, nothing is answered.
+/// Reads the Exif data of a file and puts the JSON object of them, or of the refusal, into a
+/// buffer. Strictly the first fault is the refusal; leniently soft faults are skipped and reported.
+/// A limit of 0 stands for 1,000,000 entries. Where memory runs out for the object, nothing is
+/// answered.
 #[unsafe(no_mangle)]
 pub extern "C" fn mexaldor_read(
     alloc: Global,

@@ -34,7 +34,7 @@ pub enum Status {
     FieldNotFound,
     /// The value is of an unknown type.
     UnknownType,
-    /// The new value takes more bytes than the old one's room.
+    /// The new value takes more bytes than the old one's space.
     ValueTooLong,
     /// The field holds offsets of other data.
     NamesOffsets,

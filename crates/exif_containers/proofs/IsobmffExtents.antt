@@ -119,7 +119,7 @@ only_one [] d h = absurd (omega arith)
 only_one (x ∷ []) d h = refl
 only_one (x ∷ y ∷ xs) d h = absurd (omega arith)
 
--- what stands from an offset on
+-- what is from an offset on
 pub rest_of : (start : ℕ) (now new : List ℕ) → now ≡ new → take (length now - start) (drop start now) ≡ drop start new
 rest_of start now new e = take_all (length now - start) (drop start now) (omega (arith, length-drop start now)) ∙ ap (drop start) e
 

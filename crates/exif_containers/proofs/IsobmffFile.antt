@@ -9,7 +9,7 @@ use Rattle.exif_isobmff.specs.Heif.{FoundItem, exif_item, exif_block, after_head
 use Rattle.exif_types.proofs.Refusing.{fails_along}
 use Rattle.exif_containers.specs.HeifSteps.{payload_at}
 
--- what follows for each file follows where one is told
+-- what follows for each file follows where one is known
 pub along : (a : Option (List ℕ)) (P Q : List ℕ → Type 0) → ((xs : List ℕ) → P xs → Q xs) → IfSome a P → IfSome a Q
 along None P Q f h = tt
 along (Some xs) P Q f h = f xs h
@@ -67,7 +67,7 @@ other_method file other idat p h = by (eqb p.method 0) refl
     by true e = absurd (h (eqb-true p.method 0 e))
     by false e = rw e refl
 
--- an item in the file has the same bytes whatever stands beside
+-- an item in the file has the same bytes whatever else the file holds
 pub no_matter : (file : List ℕ) (idat other : Option (List ℕ)) (p : ItemExtents) → p.method ≡ 0 → item_bytes file other p ≡ item_bytes file idat p
 unfolding item_bytes
 no_matter file idat other p h = rw h refl

@@ -1,4 +1,4 @@
--- What is read of a file stands behind what was read before.
+-- What is read of a file is behind what was read before.
 use Rattle.std.proofs.Common.{ℕ, List, ◌++◌, Option, None, Some, ap, sym, ◌∙◌, append_assoc}
 use Rattle.exif_base.specs.Told.{IsFetchedOnto}
 use Rattle.exif_containers.specs.HeifSteps.{GoesOn}

@@ -34,7 +34,7 @@ capital_of None otherwise = otherwise
 abbrev pub capital_text : Plain → List ℕ
 capital_text v = capital_of (letter_in (first_text v)) (plain_text v)
 
--- colons and digits stand as in `2016:05:04`
+-- colons and digits are as in `2016:05:04`
 abbrev pub is_date : List ℕ → Bool
 is_date text =
     nat_le 10 (length text)

@@ -17,7 +17,7 @@ abbrev pub version_text : (ℕ → List ℕ) → Option (ℕ × ℕ) → List �
 version_text shown None otherwise = otherwise
 version_text shown (Some version) otherwise = decimal version.0 ++ (codes "." ++ shown version.1)
 
--- in two places, but one where the second is 0
+-- in two digits, but one where the second is 0
 abbrev pub shortened : ℕ → List ℕ
 shortened n = if n % 10 == 0 then decimal (n / 10) else zero_filled 2 (decimal n)
 
@@ -25,7 +25,7 @@ shortened n = if n % 10 == 0 then decimal (n / 10) else zero_filled 2 (decimal n
 abbrev pub exif_version_text : Plain → List ℕ
 exif_version_text v = version_text shortened (version_in v) (plain_text v)
 
--- the version of interoperability, in two places
+-- the version of interoperability, in two digits
 abbrev pub interop_version_text : Plain → List ℕ
 interop_version_text v = version_text (λ n. zero_filled 2 (decimal n)) (version_in v) (plain_text v)
 

@@ -20,8 +20,8 @@ use exif_text::plain::write_plain;
 use exif_text::{Contents, DateFault};
 use std::fmt;
 
-/// Writes a value as the kind of its tag says; where the value is not as the kind asks, its plain
-/// text. Takes no notice of a width.
+/// Writes a value as the kind of its tag says; where the value is not as the kind requires, its
+/// plain text. Takes no notice of a width.
 pub fn write_value<W: fmt::Write>(
     f: &mut fmt::Formatter<W>,
     kind: TextKind,

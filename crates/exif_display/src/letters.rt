@@ -59,7 +59,7 @@ pub(crate) fn write_capital<W: fmt::Write>(
     }
 }
 
-/// Writes a date, whose digits stand between colons.
+/// Writes a date, whose digits are between colons.
 pub(crate) fn write_date_stamp<W: fmt::Write>(
     f: &mut fmt::Formatter<W>,
     contents: Contents<'_>,

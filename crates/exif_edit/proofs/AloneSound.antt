@@ -144,7 +144,7 @@ once_same e (l ∷ ls) = by_test (l.entry == e) (once_same e ls)
     by_test true h = ap (λ n. suc n) h
     by_test false h = h
 
--- whether one field stands at an entry is told by the entries that a walk has found
+-- whether one field is at an entry follows from the entries that a walk has found
 pub once_found : (bytes : List ℕ) (w : Walked) (e : ℕ) → Finds bytes w
     → (length (filter (λ (p : EntryOffset). p.entry == e) w.entries) == 1)
     ≡ (length (standing_at e (located bytes)) == 1)

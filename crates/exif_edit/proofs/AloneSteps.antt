@@ -25,7 +25,7 @@ either T f at' n i all h e =
     sym (list_any-append T (f at') (flat_map f (spaced (at' + 12) 12 (n - (i + 1)))))
     ∙ (rw (spaced_step n i at' 12 h) at e)
 
--- none of the entry at hand is changed: the rest tells
+-- none of the entry at hand is changed: the rest decides
 pub entry_on : (T : Stretch → Bool) (f : ℕ → List Stretch) (at' n i : ℕ) (b all : Bool) → i < n
     → b ≡ list_any T (f at') → b ≡ false
     → list_any T (flat_map f (spaced at' 12 (n - i))) ≡ all

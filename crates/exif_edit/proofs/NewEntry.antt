@@ -27,14 +27,14 @@ use Rattle.exif_edit_base.specs.Spans.{value_space}
 use Rattle.exif_edit.specs.Setting.{element_bytes, entry_bytes, is_small, space_patches, space_bytes, set_offset}
 use Rattle.exif_edit.proofs.SetSound.{Fits, value_lengths}
 
--- what was put stands
+-- the new data are in the file
 put_stands : (offset : ℕ) (encoded bytes : List ℕ) → offset + length encoded ≤ length bytes
     → Stands (put_at offset encoded bytes) offset encoded
 put_stands offset encoded bytes h =
     stands_of (put_at offset encoded bytes) (take offset bytes) encoded (drop (offset + length encoded) bytes)
     offset refl (length-take-le offset bytes (omega arith))
 
--- what stands elsewhere stands on
+-- data that were moved elsewhere
 stands_on : (offset : ℕ) (encoded bytes : List ℕ) (q : ℕ) (other : List ℕ)
     → offset + length encoded ≤ length bytes → (q + length other ≤ offset) ⊎ (offset + length encoded ≤ q)
     → Stands bytes q other → Stands (put_at offset encoded bytes) q other
@@ -113,7 +113,7 @@ module _ (order : Order) (value : Value) (e : ℕ) (bytes : List ℕ) (ps : List
   entry_stands : Stands out (e + 2) entry
   entry_stands = rw out_is (put_stands (e + 2) entry roomed entry_fits)
 
-  -- a long value stands in the space
+  -- a long value is in the space
   space_is_there : is_small encoded ≡ false → Stands out space.offset encoded
   space_is_there long =
       let fit = f.encoded in
@@ -135,7 +135,7 @@ module _ (order : Order) (value : Value) (e : ℕ) (bytes : List ℕ) (ps : List
       stands_left out encoded (replicate (space.len - length encoded) 0) space.offset
       (rw (out_is, ← spelt) here)
 
-  -- an entry has the readable value that was put into it, with the offset where its bytes now stand
+  -- an entry has the readable value that was put into it, with the offset where its bytes now are
   pub new_value : IsReadable value → length out < 256 ^ 4 → count_of value < 256 ^ 4
       → entry_value (number_of order) out e
       ≡ Some (moved_to (set_offset space.offset e encoded) value)

@@ -273,7 +273,7 @@ pub field_fits : (bytes : List ℕ) (tag : Tag) (k : In) (ps : List Patch)
     → field_patches bytes tag k ≡ Ok ps → All (FitsIn (length bytes)) ps
 field_fits bytes tag k ps e = named_fits bytes tag k ps (named_of_field bytes tag k ps e)
 
--- the fields that are read are those that are left, as their entries tell them
+-- the fields that are read are those that are left, as their entries give them
 fields_told : (new : List ℕ) (found : Read) (gs : List Field) → reading new ≡ Ok found
     → without_entry_offsets found.fields ≡ without_entry_offsets gs → found.fields ≡ told_by (located new) gs
 fields_told new found gs r u =

@@ -233,7 +233,7 @@ remove_wanted bytes tag k read es (p0 ∷ rest) ps fs order h w q o p f z =
     ∙ (ap (checked_removals (read_without tag k read) bytes) r
     ∙ sym (named_from bytes tag k read h ∙ ap (removals_from tag k read bytes) d))
 
--- a field whose values say where other bytes stand is not erased
+-- a field whose values say where other bytes are is not erased
 pub field_named : (bytes : List ℕ) (tag : Tag) (k : In) → names_offsets tag ≡ true
     → field_patches bytes tag k ≡ Err offset_named
 unfolding field_patches

@@ -22,7 +22,7 @@ use Rattle.exif_tiff.proofs.ReportBound.{faults-append, fields-append}
 use Rattle.exif_edit_base.specs.Finding.{with_value}
 use Rattle.exif_edit.specs.Sharing.{all_beside, beside, other_entry}
 
--- a located field, with the new value if it stands in the entry at e
+-- a located field, with the new value if it is in the entry at e
 abbrev pub renewed : ℕ → Value → Located → Field
 renewed e new l = if l.entry == e then with_value new l.field else l.field
 
@@ -94,7 +94,7 @@ module _ (order : Order) (a b : List ℕ) (as_long : length a ≡ length b) (e :
       end_by order a b as_long p (same_of a b p 2 h.0)
       (same_of a b (p + 2 + 12 * whole_entries number a p) 4 h.1.0)
 
-  -- a pointer or a field, where the directories below are told
+  -- a pointer or a field, where the directories below are known
   module _ (below : Below) (f g : Directory)
       (told : (d : Context) (q : ℕ) → AllByRecursion Alike (below d q) → Told (f d q) (g d q))
       (ends : (d : Context) (q : ℕ) → AllByRecursion Alike (below d q)

@@ -83,7 +83,7 @@ edit_fits order value e bytes ps s l w f m g d =
 
 -- ---- the whole
 
--- a field whose values say where other bytes stand is not set
+-- a field whose values say where other bytes are is not set
 pub set_named : (bytes : List ℕ) (tag : Tag) (k : In) (value : Value) → names_offsets tag ≡ true
     → set_patches bytes tag k value ≡ Err offset_named
 unfolding set_patches

@@ -1,4 +1,4 @@
--- Fields as the entries tell them in which they stand.
+-- Fields as their entries give them.
 use Rattle.std.proofs.Common.{◌≡◌, ◌≤◌, ◌<◌, ◌+◌, ◌*◌, ℕ, Bool, true, false, if◌then◌else◌, List, [], ◌∷◌, length, map, Option, Some, None, Result, Ok, Err, refl, sym, ap, ◌∙◌, arith}
 use Rattle.std.specs.Prelude.{nat_le}
 use Rattle.std.proofs.lemmas.Bool.Decides.{nat_tests}
@@ -33,7 +33,7 @@ abbrev valued_as : Reading → Option FieldType → ℕ → ℕ → List ℕ →
 valued_as number o type count bytes offset =
     elim o [ Some t ↦ decode_as number t count bytes offset | None ↦ value.Unknown type count offset ]
 
--- one that stands in the entry
+-- one that is in the entry
 tells_inside : (number : Reading) (o : Option FieldType) (type count : ℕ) (bytes : List ℕ) (e : ℕ)
     → value_at_entry e (valued_as number o type count bytes (e + 8))
     ≡ valued_as number o type count bytes (e + 8)
@@ -64,7 +64,7 @@ far_offset count bytes e offset h k =
     let t : nat_le (length (bytes_at count bytes offset)) 4 ≡ false = grind (arith, nat_tests) in
     rw t refl
 
--- one that stands outside
+-- one that is outside
 tells_outside : (number : Reading) (o : Option FieldType) (type count : ℕ) (bytes : List ℕ)
     (e offset : ℕ) → 4 < known_length o * count → offset + known_length o * count ≤ length bytes
     → value_at_entry e (valued_as number o type count bytes offset)
@@ -127,7 +127,7 @@ tells number bytes e v h = by_size (nat_le size 4) refl h
 
 -- ---- all that is located
 
--- each field is as its entry tells it
+-- each field is as its entry gives it
 abbrev pub AllTell : List Located → Type 0
 AllTell [] = Unit {0}
 AllTell (l ∷ ls) = (field_at_entry l.entry l.field ≡ l.field) × AllTell ls
@@ -157,14 +157,14 @@ by_header : (x : Result Order Fault) (bytes : List ℕ)
 by_header (Ok order) bytes = ordered_tell (number_of order) bytes
 by_header (Err fault) bytes = tt
 
--- each located field of the data is as its entry tells it
+-- each located field of the data is as its entry gives it
 pub located_tells : (bytes : List ℕ) → AllTell (located bytes)
 unfolding located trace
 located_tells bytes = by_header (header bytes) bytes
 
 -- ---- fields that are alike but for their entries
 
--- what an entry tells anew
+-- what an entry gives anew
 told_twice : (e d : ℕ) (v : Value) → value_at_entry e (value_at_entry d v) ≡ value_at_entry e v
 told_twice e d (value.Undefined xs offset) = by_test (nat_le (length xs) 4)
   where
@@ -186,7 +186,7 @@ settle_one l g t u =
     ◌-with : Field → Value → Field
     ◌-with f v = record { tag = f.tag; ifd_num = f.ifd_num; value = v }
 
--- fields like the located ones but for their entries are the same once these entries tell them
+-- fields like the located ones but for their entries are the same once these entries give them
 pub settled : (ls : List Located) (gs : List Field) → AllTell ls
     → without_entry_offsets (map field_of ls) ≡ without_entry_offsets gs → told_by ls gs ≡ map field_of ls
 settled [] [] h u = refl

@@ -99,7 +99,7 @@ none_standing e new (l ∷ ls) h = by_test (l.entry == e) refl (none_standing e 
         let rest = r h in
         rw (t, rest) refl
 
--- where the last field of a name is located, some field stands in its entry
+-- where the last field of a name is located, some field is in its entry
 pub last_stands : (tag : Tag) (k : In) (ls : List Located) (at : Located)
     → last_located tag k ls ≡ Some at → 0 < length (standing_at at.entry ls)
 last_stands tag k [] at h = absurd (none_some h)
@@ -150,7 +150,7 @@ replaced_renewed tag k new (l ∷ ls) at h one =
     none_some : ◌≡◌ {A = Option Located} None (Some at) → ⊥
     none_some h = cc
 
-    -- the last stands behind
+    -- the last is behind
     behind : (t : Bool) → (l.entry == at.entry) ≡ t → last_located tag k ls ≡ Some at
         → (length (standing_at at.entry ls) ≡ 1
         → replaced tag k new (map field_of ls) ≡ map (renewed at.entry new) ls)
@@ -186,7 +186,7 @@ replaced_renewed tag k new (l ∷ ls) at h one =
         rw (any, n) (first (l.entry == at.entry) refl (same h) one)
     by_tests false false s n r h = absurd (none_some h)
 
--- ---- what is read is told so
+-- ---- what is read is given so
 
 read_itself : (r : Read) → read_eq r r ≡ true
 read_itself r =
@@ -210,13 +210,13 @@ read_in order bytes =
     let nodes = ordered_trace (number_of order) bytes in
     record { little = is_little order; fields = fields_of nodes; faults = faults_of nodes }
 
--- with a good header the data are read as what stands in them in its byte order
+-- with a good header the data are read as what is in them in its byte order
 pub reading_in : (bytes : List ℕ) (order : Order) → header bytes ≡ Ok order
     → reading bytes ≡ Ok (read_in order bytes)
 unfolding reading
 reading_in bytes order h = ap (λ x. reading_by x bytes) h
 
--- with a good header the located fields are those that stand in the data in its byte order
+-- with a good header the located fields are those that are in the data in its byte order
 pub located_in : (bytes : List ℕ) (order : Order) → header bytes ≡ Ok order
     → located bytes ≡ located_of (ordered_trace (number_of order) bytes)
 unfolding located trace

@@ -23,7 +23,7 @@ use Rattle.exif_edit_base.specs.Walked.{Finds, Walked}
 use Rattle.exif_edit.specs.Erasing.{is_gps}
 use Rattle.exif_edit.specs.GpsAlone.{below_kept, chain_kept, directories_kept}
 
--- where directories stand
+-- where directories are
 abbrev pub offsets_of : List DirectoryOffset → List ℕ
 offsets_of ds = map (λ (d : DirectoryOffset). d.offset) ds
 
@@ -33,7 +33,7 @@ kept_of ds = filter (λ (d : DirectoryOffset). not (is_gps d.context)) ds
 
 -- ---- without those of GPS data
 
--- where the directories of nodes stand
+-- where the directories of nodes are
 abbrev kept_in : List Node → List ℕ
 kept_in nodes = offsets_of (kept_of (directories_of nodes))
 

@@ -1,4 +1,4 @@
--- One value put in the place of another.
+-- One value put over another.
 use Rattle.std.specs.Prelude.{ℕ, ◌+◌, ◌-◌, ◌*◌, ◌^◌, ◌==◌, max, nat_lt, nat_le, Bool, false, List, [], ◌∷◌, ◌++◌, length, Result, Ok, Err, if◌then◌else◌}
 use Rattle.std.specs.List.{list_any}
 use Rattle.exif_base.specs.Bytes.{Reading, number_at}

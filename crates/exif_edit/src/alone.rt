@@ -20,8 +20,8 @@ use exif_edit_base::spans::{value_space, value_span};
 use exif_edit_base::{DirectoryOffset, EntryOffset, Walk};
 use exif_types::Context;
 
-// So many pairs of a patch and a stretch are asked at most. Where offsets make more of them, a second
-// reading takes no longer.
+// At most so many pairs of a patch and a stretch are tested. Where offsets make more of them, a
+// second reading takes no longer.
 const MAX_PAIRS: usize = 100_000;
 
 // Whether two stretches have a byte in common.
@@ -155,8 +155,8 @@ fn occurs_once(entries: &[EntryOffset], entry: u32) -> bool
     count == 1
 }
 
-/// Whether the entry at an offset holds one field, and the patches that set its value change nothing
-/// that is looked at as anything else.
+/// Whether the entry at an offset holds one field, and the patches that set its value change
+/// nothing that is looked at as anything else.
 pub fn is_unshared(order: Order, bytes: &[u8], patches: &[Patch], entry: u32, walk: &Walk) -> bool
     requires header { header bytes.now ≡ Ok order }
     requires small { length bytes.now < 2 ^ 32 }

@@ -1,4 +1,4 @@
-//! One value put in the place of another.
+//! One value put over another.
 
 ghost use Rattle.std.specs.Prelude.{◌≡◌, ◌≢◌, ◌≤◌, ◌<◌, ◌+◌, ◌*◌, ◌^◌, All, [], ◌∷◌, max, length, true, false, Ok, IfOk, IfErr, OnOk};
 ghost use Rattle.exif_base.specs.Orders.{number_of};
@@ -234,7 +234,7 @@ fn is_alone(order: Order, bytes: &[u8], tag: Tag, value: &Value, found: &Found, 
     )
 }
 
-// What puts a value in the place of the last one of a name, and how the data must be read then.
+// What puts a value over the last one of a name, and how the data must be read then.
 fn plan(alloc: Global, bytes: &[u8], tag: Tag, ifd_num: In, value: &Value) -> Result<Plan, Error>
     ensures answer { Plans result bytes.now (set_patches bytes.now tag ifd_num value.now) }
     ensures within { IfOk result (λ p. All (FitsIn (length bytes.now)) p.patches.items) }
@@ -295,7 +295,7 @@ pub fn set_value_patches(
     try_on_copy(alloc, bytes, plan)
 }
 
-/// Puts a value in the place of the last one of a name: into its entry where it takes at most four
+/// Puts a value over the last one of a name: into its entry where it takes at most four
 /// bytes, else where the old one is. The type, the count and the offset of the entry follow, and
 /// spare bytes become zero.
 ///

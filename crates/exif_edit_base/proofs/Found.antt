@@ -1,11 +1,11 @@
--- The offsets that were told are found.
+-- The offsets that were noted are found.
 use Rattle.std.proofs.Common.{◌≡◌, ℕ, List, ap, ◌∙◌}
 use Rattle.exif_tiff.specs.Trace.{trace}
 use Rattle.exif_reader.specs.Noted.{Noted, TellsOffsets}
 use Rattle.exif_edit_base.specs.Locations.{directory_offsets, gps_of, visited_gps, located}
 use Rattle.exif_edit_base.specs.Walked.{Finds}
 
--- the offsets told of a trace, and the GPS ones among them, are those that the data have
+-- the offsets noted of a trace, and the GPS ones among them, are those that the data have
 pub found : (bytes : List ℕ) (p : Noted) (gps : List ℕ) → TellsOffsets (trace bytes) p
     → gps ≡ gps_of p.directories
     → Finds bytes (record { entries = p.entries; gps = gps; directories = p.directories })

@@ -1,4 +1,4 @@
--- Reading under a limit tells whether the data have more entries.
+-- Reading under a limit shows whether the data have more entries.
 use Rattle.std.proofs.Common.{◌≡◌, ◌≤◌, ◌<◌, ℕ, zero, suc, Bool, true, false, List, [], ◌∷◌, All, Some, None, Ok, Err, refl, sym, ap, subst, ◌∙◌, ⊎_elim, arith}
 use Rattle.std.specs.Prelude.{nat_lt}
 use Rattle.std.specs.List.{list_any}
@@ -41,7 +41,7 @@ all_unlimited (fault ∷ faults) h =
     let b = all_unlimited faults (All-tail (λ f. is_soft f ≡ true) fault faults h) in
     rw (a, b) refl
 
--- the fault is met exactly where the data have more entries
+-- the fault is found exactly where the data have more entries
 cut_tells : (n : ℕ) (bytes : List ℕ)
     → list_any is_limit_fault (faults_of (cut n (trace bytes))) ≡ has_more n bytes
 cut_tells n bytes = by_test (nat_lt n (visits_of (trace bytes))) refl
@@ -54,7 +54,7 @@ cut_tells n bytes = by_test (nat_lt n (visits_of (trace bytes))) refl
         ap (λ nodes. list_any is_limit_fault (faults_of nodes)) (kept_within n (trace bytes) low)
         ∙ all_unlimited (faults_of (trace bytes)) (faults_soft bytes)
 
--- the faults of an answer under a limit tell it
+-- the faults of an answer under a limit show it
 pub answer_tells : (n : ℕ) (bytes : List ℕ) (fields : List Field) (faults : List Fault)
     → raw_answer true (Some n) bytes ≡ shown fields faults
     → list_any is_limit_fault faults ≡ has_more n bytes

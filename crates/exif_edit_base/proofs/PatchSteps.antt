@@ -41,7 +41,7 @@ length-put_at offset encoded bytes h = grind (arith, common_steps)
 
 -- ---- patches
 
--- the lengths of the bytes may be told otherwise
+-- the lengths of the bytes may be given otherwise
 pub fit_in : (m n : ℕ) (ps : List Patch) → m ≡ n → All (FitsIn m) ps → All (FitsIn n) ps
 fit_in m n ps e h = subst (λ x. All (FitsIn x) ps) e h
 

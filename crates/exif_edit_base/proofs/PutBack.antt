@@ -11,12 +11,12 @@ use Rattle.exif_edit_base.proofs.PatchSteps.{fit_behind, fit_in, length-put_at}
 
 -- ---- one patch
 
--- as many bytes are taken from an offset as are asked for, if they lie in the data
+-- as many bytes are taken from an offset as are requested, if they lie in the data
 pub length-bytes_at : (n offset : ℕ) (bytes : List ℕ) → offset + n ≤ length bytes
     → length (bytes_at n bytes offset) ≡ n
 length-bytes_at n offset bytes h = grind (arith, common_steps)
 
--- a encoded in the place of one as long
+-- bytes put over as many others
 pub put_over : (front encoded rest new : List ℕ) (offset : ℕ) → length front ≡ offset
     → length new ≡ length encoded
     → put_at offset new (front ++ (encoded ++ rest)) ≡ front ++ (new ++ rest)
@@ -48,7 +48,7 @@ put_twice offset encoded bytes h =
     (bytes_at (length encoded) bytes offset) offset f l
     ∙ in_three offset (length encoded) bytes
 
--- and what they take the place of is the encoded
+-- and what they replace is the old bytes
 pub encoded_there : (offset : ℕ) (encoded bytes : List ℕ) → offset + length encoded ≤ length bytes
     → bytes_at (length encoded) (put_at offset encoded bytes) offset ≡ encoded
 encoded_there offset encoded bytes h = grind (arith, common_steps)
@@ -65,7 +65,7 @@ taken_fits n p bytes e h =
 
 -- ---- all of them, there and back
 
--- patches that lie in bytes lie there still once they are exchanged with what stood there
+-- patches that lie in bytes lie there still once they are exchanged with what was there
 pub swapped_fit : (ps : List Patch) (bytes : List ℕ) → All (FitsIn (length bytes)) ps
     → All (FitsIn (length bytes)) (swapped ps bytes)
 swapped_fit [] bytes h = All-nil (FitsIn (length bytes))

@@ -1,4 +1,4 @@
--- Bytes put in the place of others.
+-- Bytes put over others.
 use Rattle.std.specs.Prelude.{ℕ, ◌+◌, ◌-◌, ◌≤◌, ◌&&◌, nat_le, nat_lt, Bool, List, [], ◌∷◌, ◌++◌, length, take, drop, replicate}
 use Rattle.exif_base.specs.Bytes.{bytes_at}
 use Rattle.exif_edit_base.specs.declared.patch.Patch.{Patch}

@@ -1,4 +1,4 @@
-//! Bytes put in the place of others.
+//! Bytes put over others.
 
 ghost use Rattle.std.specs.Prelude.{◌≡◌, ◌≤◌, ◌+◌, All, length, IfOk};
 ghost use Rattle.exif_edit_base.specs.Patches.{FitsIn, padded, patched, put_at, put_back, swapped, swapped_back, taken, zeros_over};
@@ -14,7 +14,7 @@ pub struct Span {
     pub len: usize,
 }
 
-/// Bytes that an edit puts in the place of as many others.
+/// Bytes that an edit puts over as many others.
 #[derive(Debug, Drop)]
 pub struct Patch {
     /// Where they begin, counted from the first byte of the data or of the file.

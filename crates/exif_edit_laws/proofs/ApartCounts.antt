@@ -75,13 +75,13 @@ module _ (i : ℕ) (s : Stretch) where
       by_test true b h = rw h refl
       by_test false b h = refl
 
-  -- it has the byte, or it stands before or behind it
+  -- it has the byte, or it is before or behind it
   pub data Where : Type 0 where
     inside : s.offset ≤ i → i < s.offset + s.len → Where
     before : i < s.offset → Where
     behind : s.offset + s.len ≤ i → Where
 
-  -- each byte stands inside the stretch, before it or behind it
+  -- each byte is inside the stretch, before it or behind it
   pub stands : Where
   stands = by_tests (nat_le s.offset i) (nat_lt i (s.offset + s.len)) refl refl
     where
@@ -220,7 +220,7 @@ all_apart s (t ∷ ts) some others h = (
   all_apart s ts some others.1 (lacks_rest s t ts h),
 )
 
--- a span that stands apart from a stretch does not meet it
+-- a span that is apart from a stretch does not meet it
 pub apart_misses : (s : Span) (t : Stretch) → IsApart (record { offset = s.offset; len = s.len }) t
     → overlaps s t ≡ false
 apart_misses s t h =

@@ -1,5 +1,5 @@
 -- What reading looks at but for one entry, with what it looks at of that entry, is all that it looks
--- at: where it looks at each byte once, these stand apart.
+-- at: where it looks at each byte once, these are apart.
 use Rattle.std.proofs.Common.{◌≡◌, ◌≤◌, ◌<◌, ◌+◌, ◌*◌, ◌==◌, ℕ, zero, suc, Bool, true, false, if◌then◌else◌, List, [], ◌∷◌, ◌++◌, length, refl, ap, ◌∙◌, arith}
 use Rattle.std.specs.Prelude.{◌&&◌, ◌||◌, nat_le, nat_lt}
 use Rattle.std.specs.List.{AllByRecursion, flat_map, list_any}
@@ -311,7 +311,7 @@ module _ (number : Reading) (bytes : List ℕ) where
           all_apart (record { offset = e + 2; len = 10 }) (all_beside number bytes e) (omega arith)
           (all_beside_has e) entry_lacks
 
-      -- its value, where that stands outside of it
+      -- its value, where that is outside of it
       module _ (space : Stretch) (some : 0 < space.len)
           (is : value_stretch number bytes e ≡ space ∷ []) where
         space_has : (i : ℕ) → space.offset ≤ i → i < space.offset + space.len

@@ -133,11 +133,11 @@ module _ (number : Reading) (bytes : List ℕ) (e : ℕ)
 
 module _ (bytes : List ℕ) (order : Order) (head : header bytes ≡ Ok order)
     (apart : looks_apart bytes ≡ true) where
-  -- what its entry says stands there
+  -- what its entry says is there
   abbrev Said : Located → Type 0
   Said l = IsSaid (number_of order) bytes l.field l.entry
 
-  -- some field stands in its entry
+  -- some field is in its entry
   abbrev Held : Located → Type 0
   Held l = 0 < length (standing_at l.entry (located bytes))
 

@@ -1,4 +1,4 @@
--- Each field stands in an entry of a directory that is looked at, at most one in each time that the
+-- Each field is in an entry of a directory that is looked at, at most one in each time that the
 -- entry is among them.
 use Rattle.std.proofs.Common.{◌≡◌, ◌≤◌, ◌+◌, ◌==◌, ℕ, zero, suc, Bool, true, false, if◌then◌else◌, List, [], ◌∷◌, ◌++◌, length, Option, Some, None, Result, Ok, Err, refl, arith}
 use Rattle.std.specs.List.{flat_map}
@@ -15,11 +15,11 @@ use Rattle.exif_edit.specs.Sharing.{standing_at}
 use Rattle.exif_edit_laws.proofs.ApartEntries.{all_entries, times, times-append, times_more, times_none}
 
 module _ (e : ℕ) where
-  -- how many fields of nodes stand in the entry at e
+  -- how many fields of nodes are in the entry at e
   standing : List Node → ℕ
   standing nodes = length (standing_at e (located_of nodes))
 
-  -- one more field adds one where it stands in the entry at e, else nothing
+  -- one more field adds one where it is in the entry at e, else nothing
   pub one_more : (l : Located) (ls : List Located) → length (standing_at e (l ∷ ls))
       ≡ (if l.entry == e then 1 else 0) + length (standing_at e ls)
   one_more l ls = by_test (l.entry == e)
@@ -97,7 +97,7 @@ module _ (e : ℕ) where
           let c = h d q in
           omega arith
 
-      -- the field of the entry at f itself, or what stands below it
+      -- the field of the entry at f itself, or what is below it
       tagged : (c : Context) (k p n f : ℕ) (v : Value) (o : Option Context)
           → standing (tagged_nodes child number bytes c k p n f v o)
           ≤ times 1 e (f ∷ []) + entered (pointed below o (Some v))

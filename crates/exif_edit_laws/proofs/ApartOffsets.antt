@@ -1,4 +1,4 @@
--- What reading looks at of GPS directories stands apart from what it looks at of all others, where
+-- What reading looks at of GPS directories is apart from what it looks at of all others, where
 -- it looks at no byte as two things.
 use Rattle.std.proofs.Common.{◌≡◌, ◌≤◌, ◌<◌, ◌+◌, ◌-◌, ◌*◌, min, ℕ, Bool, true, false, if◌then◌else◌, List, [], ◌∷◌, ◌++◌, length, map, inl, inr, Ok, refl, ap, ◌∙◌, arith}
 use Rattle.std.specs.Prelude.{◌&&◌, nat_le, nat_lt, not}
@@ -93,7 +93,7 @@ module _ (number : Reading) (bytes : List ℕ) where
         let b = holders-append i ss ts in
         omega arith
 
-    -- a stretch that it lacks stands apart from it
+    -- a stretch that it lacks is apart from it
     one_apart : (s : Stretch) (ss : List Stretch) → 0 < s.len → Free (s ∷ ss) → IsApart s t
     one_apart s ss more h =
         apart_of s t more some (λ i low high. none i (λ near far. h i near far) low high)

@@ -1,5 +1,5 @@
 -- Where reading looks at no byte as two things, taking entries out changes no byte of what is left,
--- and the directories without them stand where they stood.
+-- and the directories without them are where they were.
 use Rattle.std.proofs.Common.{◌≡◌, ◌≢◌, ◌≤◌, ◌<◌, ◌+◌, ◌-◌, ◌*◌, ◌==◌, min, ℕ, Bool, true, false, if◌then◌else◌, List, [], ◌∷◌, ◌++◌, length, map, inl, inr, refl, sym, ap, subst, ◌∙◌, arith}
 use Rattle.std.specs.Prelude.{◌&&◌, ◌||◌, nat_le, nat_lt}
 use Rattle.std.specs.List.{flat_map, list_any, AllByRecursion}

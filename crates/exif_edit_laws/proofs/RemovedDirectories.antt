@@ -168,7 +168,7 @@ module _ (order : Order) (a : List ℕ) (tag : Tag) (k : In) (ps ds : List ℕ)
 
   -- ---- a directory without entries
 
-  -- entries that stand one behind the other
+  -- entries that are one behind the other
   follow_bytes : (es : List ℕ) (q : ℕ) → Stands b q (entries_bytes a es)
       → AllByRecursion (λ e. e + 12 ≤ length a) es → AllByRecursion ValueAlike es → AreFollowing es q
   follow_bytes [] q s w v = tt
@@ -225,7 +225,7 @@ module _ (order : Order) (a : List ℕ) (tag : Tag) (k : In) (ps ds : List ℕ)
     values : AllByRecursion ValueAlike es
     values = subst (λ xs. AllByRecursion ValueAlike xs) are_left (values_alike p m)
 
-    -- what stands there: the count, the entries, the next offset and zeros
+    -- what is there: the count, the entries, the next offset and zeros
     abbrev front : List ℕ
     front = spelled order 2 (length es) ++ (entries_bytes a es ++ next)
 
@@ -240,7 +240,7 @@ module _ (order : Order) (a : List ℕ) (tag : Tag) (k : In) (ps ds : List ℕ)
         let y = length-append (spelled order 2 (length es)) (entries_bytes a es ++ next) in
         omega (arith, s, t, x, y)
 
-    -- in the new data stand the count of the entries left, these, the next offset and zeros
+    -- in the new data are the count of the entries left, these, the next offset and zeros
     pub record Standing : Type 0 where
       pub count : number_at number 2 b p ≡ length es
       pub entries : Stands b (p + 2) (entries_bytes a es)

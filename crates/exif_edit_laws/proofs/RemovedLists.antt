@@ -1,4 +1,4 @@
--- Members of lists, and pieces of stretches that stand apart.
+-- Members of lists, and pieces of stretches that are apart.
 use Rattle.std.proofs.Common.{◌≡◌, ◌≢◌, ◌≤◌, ◌<◌, ◌+◌, ◌==◌, ℕ, suc, Bool, true, false, if◌then◌else◌, List, [], ◌∷◌, ◌++◌, inl, inr, length, refl, sym, ap, subst, ◌∙◌, arith, eq-eqb}
 use Rattle.std.specs.Prelude.{◌&&◌, ◌||◌, nat_lt, not}
 use Rattle.std.specs.List.{AllByRecursion, filter, flat_map, list_any}
@@ -100,7 +100,7 @@ fewer_left t (x ∷ xs) e m h =
         absurd (false≢true (sym q ∙ (ap t same ∙ h)))
     by_tests false false p q r few m = let more = r m h in omega arith
 
--- ---- what the test tells
+-- ---- what the test says
 
 apart_pair : (s t : Stretch) → overlap s t ≡ false → IsApart s t
 apart_pair s t h =

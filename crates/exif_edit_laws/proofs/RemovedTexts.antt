@@ -1,4 +1,4 @@
--- Where reading looks at no byte as two things, directories without entries stand where they stood.
+-- Where reading looks at no byte as two things, directories without entries are where they were.
 use Rattle.std.proofs.Common.{◌≡◌, ◌≢◌, ◌≤◌, ◌<◌, ◌+◌, ◌-◌, ◌==◌, ℕ, Bool, true, false, if◌then◌else◌, List, [], ◌∷◌, length, get_or, drop, All, refl, sym, ap, subst, ◌∙◌, arith}
 use Rattle.std.specs.Prelude.{◌||◌, nat_le}
 use Rattle.std.specs.List.{flat_map, AllByRecursion}
@@ -139,7 +139,7 @@ module _ (order : Order) (a : List ℕ) (n : ℕ) (ps ds : List ℕ)
       ∙ (all_put i low ps known a refl
       ∙ ap (λ x. if x then get_or encoded i 0 else get_or a (p + i) 0) mine))
 
-  -- a changed directory stands where it stood, without its entries of the tag, if that fits
+  -- a changed directory is where it was, without its entries of the tag, if that fits
   pub encoded_is_there : has ps p ≡ true → Stands (made order a n ps) p encoded
   encoded_is_there mine =
       let b = made order a n ps in

@@ -235,7 +235,7 @@ abbrev pub AreDistinct : List ℕ → Type 0
 AreDistinct [] = Unit {0}
 AreDistinct (p ∷ ps) = (has ps p ≡ false) × AreDistinct ps
 
--- directories whose stretches are apart from one another stand at different offsets
+-- directories whose stretches are apart from one another are at different offsets
 pub looked_once : (number : Reading) (bytes : List ℕ) (ds : List ℕ)
     → AreApart (flat_map (looked_at number bytes) ds) → AreDistinct ds
 looked_once number bytes [] h = tt

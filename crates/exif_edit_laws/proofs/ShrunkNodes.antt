@@ -31,7 +31,7 @@ use Rattle.exif_edit_laws.proofs.ShrunkValues.{AreTold, IsMoved, number_in_told,
 
 -- ---- nodes that lack the fields of a name
 
--- the new nodes have the fields of the old ones but those of the name, wherever entries stand, and no
+-- the new nodes have the fields of the old ones but those of the name, wherever entries are, and no
 -- more faults
 abbrev pub Shrinks : Tag → In → List Node → List Node → Type 0
 Shrinks tag k ns ms =
@@ -88,7 +88,7 @@ module _ (order : Order) (a b : List ℕ) (as_long : length a ≡ length b) (tag
   abbrev ValueAlike : ℕ → Type 0
   ValueAlike e = AllByRecursion (Agree a b) (value_stretch number a e)
 
-  -- entries stand one behind the other from q on, with their values where they were
+  -- entries are one behind the other from q on, with their values where they were
   abbrev pub Follow : List ℕ → ℕ → Type 0
   Follow [] q = Unit {0}
   Follow (e ∷ es) q = (IsMoved a b e q × ValueAlike e) × Follow es (q + 12)
@@ -99,7 +99,7 @@ module _ (order : Order) (a b : List ℕ) (as_long : length a ≡ length b) (tag
     pub entries : Follow (left p) (p + 2)
     pub end : EndsBetter (directory_end number a p) (directory_end number b p)
 
-  -- what is asked of old nodes: directories lack what is taken out, that is the fields of the name
+  -- what is required of old nodes: directories lack what is taken out, that is the fields of the name
   abbrev pub Fine : Node → Type 0
   Fine (Opens d) = Lacks d.offset × (has ps d.offset ≡ true → d.context ≡ tag.0)
   Fine Visit = Unit {0}
@@ -260,7 +260,7 @@ module _ (order : Order) (a b : List ℕ) (as_long : length a ≡ length b) (tag
 
   -- ---- the chain
 
-  -- nothing stands at 0
+  -- nothing is at 0
   none_there : (more j : ℕ) → chain_nodes more number b j 0 ≡ []
   none_there zero j = refl
   none_there (suc more) j = refl

@@ -1,4 +1,4 @@
--- An entry that stands elsewhere holds the same value, told from there.
+-- An entry that is elsewhere holds the same value, read from there.
 use Rattle.std.proofs.Common.{◌≡◌, ◌≤◌, ◌<◌, ◌+◌, ◌*◌, ℕ, zero, suc, Bool, true, false, if◌then◌else◌, List, [], ◌∷◌, length, map, take, drop, slice_index, Option, Some, None, refl, sym, ap, ◌∙◌, arith}
 use Rattle.std.specs.Prelude.{◌&&◌, nat_le, nat_lt}
 use Rattle.std.specs.Int.{w8, w16, w32, cast_signed}
@@ -25,9 +25,9 @@ use Rattle.exif_types.specs.declared.value.Value.{Value}
 use Rattle.exif_types.specs.declared.value.Value.TheVariants as value
 use Rattle.exif_edit_base.specs.Rereading.{value_at_entry}
 
--- ---- bytes that stand elsewhere
+-- ---- bytes that are elsewhere
 
--- the 12 bytes of the entry at e of a stand at q of b
+-- the 12 bytes of the entry at e of a are at q of b
 abbrev pub IsMoved : List ℕ → List ℕ → ℕ → ℕ → Type 0
 IsMoved a b e q = bytes_at 12 a e ≡ bytes_at 12 b q
 
@@ -65,7 +65,7 @@ bytes_moved : (a b : List ℕ) (e q n : ℕ) → n ≤ 4 → IsMoved a b e q
 bytes_moved a b e q n h m =
     within n 8 4 a e h ∙ (ap (λ xs. take n (drop 8 xs)) m ∙ sym (within n 8 4 b q h))
 
--- ---- values that stand in their entries
+-- ---- values that are in their entries
 
 items_shifted : {X : Type 0} (f g : ℕ → X) (a b : List ℕ) (unit : ℕ)
     → ((p q : ℕ) → Shifted a b p q unit → f p ≡ g q)
@@ -114,7 +114,7 @@ srational_shifted order a b p q h =
         let s = h (4 + i) (omega arith) in
         rw (x, y) at s
 
--- a short value tells the offset of its entry alone
+-- a short value gives the offset of its entry alone
 short_offset : (count : ℕ) (bytes : List ℕ) (p q : ℕ) → count ≤ 4
     → value_at_entry 0 (value.Undefined (bytes_at count bytes p) q)
     ≡ value.Undefined (bytes_at count bytes p) 8
@@ -183,7 +183,7 @@ known_moved : (order : Order) (o : Option FieldType) (type count : ℕ) (a b : L
 known_moved order None type count a b e q m h = refl
 known_moved order (Some t) type count a b e q m h = type_moved order t count a b e q m h
 
--- ---- values, wherever they stand
+-- ---- values, wherever they are
 
 -- both are one value but for the offset of its entry, or none
 abbrev pub AreTold : Option Value → Option Value → Type 0
@@ -233,6 +233,6 @@ number_told (value.Undefined xs offset) = refl
 number_told (value.Unknown type count offset) = refl
 number_told _ = refl
 
--- values that differ only in the place of their entries have the same first number
+-- values that differ only in the offset of their entries have the same first number
 pub number_in_told : (v w : Value) → value_at_entry 0 v ≡ value_at_entry 0 w → number_in v 0 ≡ number_in w 0
 number_in_told v w h = sym (number_told v) ∙ (ap (λ x. number_in x 0) h ∙ number_told w)

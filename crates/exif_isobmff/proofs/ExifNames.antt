@@ -241,7 +241,7 @@ unfolding meta_tables
 meta_tables_only body =
     only_then (version_at body) _ (version_only body) (λ v. only_if (eqb v.0 0) _ _ (tables_only (children v.1) (all_boxes_end box_at box_only v.1)) (6, omega arith, refl))
 
--- what stands behind a block's header is found, or refused only by the list
+-- what is behind a block's header is found, or refused only by the list
 pub after_header_only : (block : List ℕ) → Only (after_header block)
 unfolding after_header
 after_header_only block =

@@ -410,7 +410,7 @@ children-broken : (end : NoBox) → IsNoBox end → children (print_no_box end) 
 children-broken end h =
     all_boxes_more box_at box_shorter (print_no_box end) (no_box-some end h) ∙ ap (λ r. and_then r (all_boxes box_at)) (no_box_is_refused end h)
 
--- what stands in a box is read as its tree says
+-- what is in a box is read as its tree says
 pub parent_is_read : (p : Parent) → ParentIsRead p
 parent_is_read (filled bs) h = children-boxes bs [] None h (all_boxes_end box_at [] refl)
 parent_is_read (broken bs end) h = children-boxes bs (print_no_box end) (Some (no_box_refusal end)) h.0 (children-broken end h.1)

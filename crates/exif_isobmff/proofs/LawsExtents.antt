@@ -1,4 +1,4 @@
--- An extent is read as the text that stands at its offset, and what is read stands there.
+-- An extent is read as the text that is at its offset, and what is read is there.
 use Rattle.std.proofs.Common.{◌≡◌, ◌⊎◌, inl, inr, ℕ, ◌+◌, ◌<◌, ◌≤◌, ◌^◌, Bool, true, false, cond, eqb, ltb, leb, List, [], ◌++◌, length, take, drop, Result, Ok, Err, ap, sym, ◌∙◌, refl, arith, length-append, length-drop}
 use Rattle.std.proofs.lemmas.Bool.{cases_lt, eq-eqb, ne_eqb, eqb-true, eqb-false, le-ltb, ltb-false, lt-leb, leb-false}
 use Rattle.std.proofs.lemmas.List.{take_at, drop_at, drop_all, take-append-drop, length-take-le}
@@ -132,7 +132,7 @@ idat-only idat from len text e =
 
 -- ---- in either
 
--- an extent is read as the text that stands there
+-- an extent is read as the text that is there
 pub text_is_read : (within : Within) (bytes : List ℕ) (base : ℕ) (e : Extent) (text : List ℕ) → TextIsRead within bytes base e text
 text_is_read File bytes base e text h =
     file-unfolded bytes base e ∙ ap (λ t. cond t (Err invalid_offset) (file_part bytes (base + e.offset) e.len)) (lt-leb (2 ^ 64) (base + e.offset) h.0)
@@ -144,7 +144,7 @@ text_is_read ItemDataBox bytes base e text h =
     ∙ ap (λ t. cond t (Err invalid_length) (idat_part bytes (base + e.offset) e.len)) (lt-leb (2 ^ 64) (base + e.offset + e.len) h.0)
     ∙ idat-read bytes (base + e.offset) e.len text h.1
 
--- what is read of an extent stands there
+-- what is read of an extent is there
 pub is_a_text : (within : Within) (bytes : List ℕ) (base : ℕ) (e : Extent) (text : List ℕ) → IsAText within bytes base e text
 is_a_text File bytes base e text k =
     let u = unless-ok (leb (2 ^ 64) (base + e.offset)) invalid_offset (file_part bytes (base + e.offset) e.len) text (sym (file-unfolded bytes base e) ∙ k) in

@@ -61,7 +61,7 @@ file_whole b rest h =
     read_as : List ℕ → List ℕ → Front Part
     read_as body rest = Ok (box_of (kind_of (type_of b.header)) (length b.body) body, rest)
 
--- a box that is longer than the file is read as far as it stands there
+-- a box that is longer than the file is read as far as it is there
 pub file_cut_box : (h : BoxHeader) (bytes : List ℕ) → IsNoBox (too_long h bytes)
     → file_box_at (print_header h ++ bytes) ≡ Ok (box_of (kind_of (type_of h)) (said_len h bytes) bytes, [])
 file_cut_box h bytes is =

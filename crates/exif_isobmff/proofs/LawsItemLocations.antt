@@ -74,7 +74,7 @@ record Passed (s : Sizes) (n : ℕ) (text rest : List ℕ) : Type 0 where
   are : All (IsExtent s) extents
   whole : flat_map print_extent extents ++ rest ≡ text
 
--- one extent of bytes that have room for it
+-- one extent of bytes that have space for it
 record OneExtent (s : Sizes) (bytes : List ℕ) : Type 0 where
   tree : ExtentTree
   rest : List ℕ
@@ -124,7 +124,7 @@ passed-of s (suc n) text rest bytes h e =
               ∙ sym (append_assoc (print_extent x.tree) x.rest rest) ∙ ap (λ t. t ++ rest) x.whole ∙ e;
         }
 
--- ---- what stands in front of an item's extents
+-- ---- what is in front of an item's extents
 
 method-read : (version : ℕ) (method rest : List ℕ) → length method ≡ method_len version → method_at version (method ++ rest) ≡ Ok (method_said version method, rest)
 method-read version method rest e = by (eqb version 0) method e

@@ -161,7 +161,7 @@ pub record Taken (n : ℕ) (text : List ℕ) (x : ℕ × List ℕ) : Type 0 wher
   pub value : big_number (length bytes) bytes ≡ x.0
   pub whole : bytes ++ x.1 ≡ text
 
--- a number that is read stands at the front
+-- a number that is read is at the front
 pub number-taken : (n : ℕ) (text : List ℕ) (x : ℕ × List ℕ) → number_at n text ≡ Ok x → Taken n text x
 number-taken n text x e =
     let u = unless-ok (ltb (length text) n) too_small (Ok (big_number n text, drop n text)) x e in
@@ -183,7 +183,7 @@ sized-taken r size text x = by (eqb size 0 || eqb size 4 || eqb size 8) refl
     by true is e = (size-is size is, number-taken size text x e)
     by false is e = absurd cc
 
--- bytes that are read stand at the front
+-- bytes that are read are at the front
 pub bytes-taken : (n : ℕ) (text : List ℕ) (x : List ℕ × List ℕ) → bytes_at n text ≡ Ok x → (length x.0 ≡ n) × (x.0 ++ x.1 ≡ text)
 bytes-taken n text x e =
     let u = unless-ok (ltb (length text) n) too_small (Ok (take n text, drop n text)) x e in

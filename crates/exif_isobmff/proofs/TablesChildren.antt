@@ -56,6 +56,6 @@ pub child_cut : (e : Failure) (t : Tables) (text : List ℕ) → 0 < length text
 child_cut e t text some h =
     rw (all_boxes_more box_at box_shorter text some) (refuses_along e (λ b. tables_from t (and_then b (all_boxes box_at))) (box_at text) (λ r. refl) h)
 
--- no more children stand there
+-- no more children are there
 pub children_done : (t : Tables) (text : List ℕ) → length text ≡ 0 → tables_from t (children text) ≡ Ok t
 children_done t text h = ap (λ ps. tables_from t ps) (all_boxes_end box_at text h)

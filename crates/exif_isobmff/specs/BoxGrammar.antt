@@ -9,7 +9,7 @@ use Rattle.exif_isobmff.specs.Kinds.{kind_of}
 use Rattle.exif_isobmff.specs.Boxes.{Part, Parts, whole_part, box_at, boxes, children}
 
 -- the three forms of a header: a size of 4 bytes and a type; 1, a type and a size of 8 bytes; 0 and
--- a type, for a box that runs to the end of what it stands in
+-- a type, for a box that runs to the end of what it is in
 pub data BoxHeader : Type 0 where
   sized : List ℕ → List ℕ → BoxHeader
   large : List ℕ → List ℕ → List ℕ → BoxHeader
@@ -95,12 +95,12 @@ no_box_refusal (cut_large one type bytes) = too_small
 no_box_refusal (too_long h bytes) = too_small
 no_box_refusal (too_short h bytes) = invalid_size
 
--- what stands in a box: boxes that fill it, or boxes and then bytes that begin none
+-- what is in a box: boxes that fill it, or boxes and then bytes that begin none
 pub data Parent : Type 0 where
   filled : List BoxTree → Parent
   broken : List BoxTree → NoBox → Parent
 
--- the bytes of what stands in a box
+-- the bytes of what is in a box
 abbrev pub print_parent : Parent → List ℕ
 print_parent (filled bs) = flat_map print_box bs ++ []
 print_parent (broken bs end) = flat_map print_box bs ++ print_no_box end
@@ -165,7 +165,7 @@ CountIsRead n c = IsCounted n c → boxes n (print_counted c) ≡ counted_parts 
 abbrev pub IsACount : ℕ → List ℕ → Type 0
 IsACount n bytes = (c : Counted) × IsCounted n c × (print_counted c ≡ bytes)
 
--- what stands in a box is read as its tree says
+-- what is in a box is read as its tree says
 abbrev pub ParentIsRead : Parent → Type 0
 ParentIsRead p = IsParent p → children (print_parent p) ≡ parent_parts p
 

@@ -41,7 +41,7 @@ times_joined n value text = do
   found ← times n value text
   Ok (flat_map (λ xs. xs) found.0)
 
--- a box: its type, how many bytes its body takes, and these as far as they stand in the text
+-- a box: its type, how many bytes its body takes, and these as far as they are in the text
 pub record Part : Type 0 where
   pub kind : Kind
   pub len : ℕ
@@ -131,7 +131,7 @@ abbrev pub read_one : {A : Type 0} → Kind → (List ℕ → Result (List A) Re
     → Result (List A) Refusal
 read_one kind read p = if same_kind kind p.kind then read p.body else Ok []
 
--- what `read` gives for the boxes of a type, where they stand, joined, or the first refusal
+-- what `read` gives for the boxes of a type, where they are, joined, or the first refusal
 abbrev pub read_each : {A : Type 0} → Kind → (List ℕ → Result (List A) Refusal) → Parts
     → Result (List A) Refusal
 read_each kind read parts = do

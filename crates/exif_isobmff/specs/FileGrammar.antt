@@ -15,7 +15,7 @@ use Rattle.exif_isobmff.specs.BoxGrammar.{BoxHeader, print_header, type_of, said
 abbrev pub said_len : BoxHeader → List ℕ → ℕ
 said_len h bytes = said_size h (length (print_header h ++ bytes)) - length (print_header h)
 
--- a box that is longer than the file is one, as far as it stands there
+-- a box that is longer than the file is one, as far as it is there
 abbrev pub end_parts : NoBox → Parts
 end_parts (cut bytes) = ended broken_file
 end_parts (cut_large one type bytes) = ended broken_file
@@ -184,7 +184,7 @@ IsFileEnd (cut_other h bytes) = IsNoBox (too_long h bytes) × IsOther h
 IsFileEnd (no_header end) = IsHeadless end
 IsFileEnd no_meta = ⊤
 
--- what it says, where an `ftyp` stands before it or not
+-- what it says, where an `ftyp` is before it or not
 abbrev pub end_says : Bool → FileEnd → Result (List ℕ) Refusal
 end_says seen (meta b rest) = if seen then Ok b.body else Err meta_before_ftyp
 end_says seen (wrong_ftyp b r rest) = Err r

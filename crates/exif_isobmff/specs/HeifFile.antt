@@ -10,7 +10,7 @@ use Rattle.exif_types.specs.Refusals.{Refusal, ◌>>=◌, all_pass, or_refuse, F
 use Rattle.exif_isobmff.specs.HeifRefusals.{broken_file, seek_too_large, no_brand, too_small, meta_before_ftyp, no_exif}
 use Rattle.exif_isobmff.specs.Boxes.{Part, Parts, header_len, header_at, all_boxes, children}
 
--- a box at the front of a file, with its body as far as it stands there
+-- a box at the front of a file, with its body as far as it is there
 unfoldable pub file_box_at : List ℕ → Front Part
 file_box_at file = if nat_le (header_len file) (length file) then (do
   header ← header_at file
@@ -32,7 +32,7 @@ fours text = []
 abbrev pub is_heif_brand : List ℕ → Bool
 is_heif_brand brand = bytes_eq brand (codes "mif1") || bytes_eq brand (codes "msf1")
 
--- the brands of `ftyp` stand behind 8 bytes
+-- the brands of `ftyp` are behind 8 bytes
 abbrev pub has_heif_brand : List ℕ → Bool
 has_heif_brand body = list_any is_heif_brand (fours (drop 8 body))
 
@@ -66,7 +66,7 @@ abbrev pub before_meta : List Part → List Part
 before_meta [] = []
 before_meta (p ∷ ps) = if is_meta p then [] else p ∷ before_meta ps
 
--- the body of the first `meta` of the boxes that are left, which stands behind an `ftyp`, seen
+-- the body of the first `meta` of the boxes that are left, which is behind an `ftyp`, seen
 -- before these or among them
 abbrev pub meta_from : Bool → Parts → Result (List ℕ) Refusal
 meta_from seen parts = do
@@ -79,7 +79,7 @@ meta_from seen parts = do
 abbrev pub meta_in : Bool → List ℕ → Result (List ℕ) Refusal
 meta_in seen rest = meta_from seen (file_boxes rest)
 
--- the body of the first `meta`, which stands behind an `ftyp`
+-- the body of the first `meta`, which is behind an `ftyp`
 unfoldable pub meta_body : List ℕ → Result (List ℕ) Refusal
 meta_body file = meta_in false file
 

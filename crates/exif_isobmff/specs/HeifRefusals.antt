@@ -18,11 +18,11 @@ seek_too_large = invalid_format (codes "Large seek not supported")
 abbrev pub no_brand : Refusal
 no_brand = invalid_format (codes "No compatible brand recognized in ISO base media file")
 
--- no `ftyp` stands before the `meta`
+-- no `ftyp` is before the `meta`
 abbrev pub meta_before_ftyp : Refusal
 meta_before_ftyp = invalid_format (codes "MetaBox found before FileTypeBox")
 
--- a box ends before what is to stand in it
+-- a box ends before what is to be in it
 abbrev pub too_small : Refusal
 too_small = invalid_format (codes "Box too small")
 
@@ -38,7 +38,7 @@ unsupported_infe = invalid_format (codes "Unsupported ItemInfoEntry")
 abbrev pub unsupported_iloc : Refusal
 unsupported_iloc = invalid_format (codes "Unsupported ItemLocationBox")
 
--- the data of an item stand in another file
+-- the data of an item are in another file
 abbrev pub external_data : Refusal
 external_data = not_supported (codes "External data reference is not supported")
 

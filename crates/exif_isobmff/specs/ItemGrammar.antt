@@ -102,7 +102,7 @@ IsInfo (cut_head bytes) = length bytes < 4
 IsInfo (cut_count h bytes) =
     IsFull h × (((h.version ≡ 0) × (length bytes < 2)) ⊎ ((h.version ≢ 0) × (length bytes < 4)))
 
--- the Exif items that the entries among the boxes tell
+-- the Exif items that the entries among the boxes name
 abbrev pub info_says : InfoTree → Result (List ℕ) Refusal
 info_says (info h count boxes) = read_each ItemInfoEntry exif_number (counted_parts boxes)
 info_says (cut_head bytes) = Err too_small

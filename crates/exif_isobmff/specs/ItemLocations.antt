@@ -59,7 +59,7 @@ method_at version text = if version == 0 then Ok (0, text) else (do
   bytes ← bytes_at 2 text
   Ok (slice_index bytes.0 1 % 16, bytes.1))
 
--- what stands in front of an item's extents; data in another file are refused
+-- what is in front of an item's extents; data in another file are refused
 unfoldable pub item_head_at : ℕ → Sizes → List ℕ → Front ItemHead
 item_head_at version s text = do
   number ← number_at (item_width version) text

@@ -160,14 +160,14 @@ IsAnIloc wanted body listed =
 
 -- ---- the text of an extent
 
--- a text stands behind so many bytes, with any bytes behind it
+-- a text is behind so many bytes, with any bytes behind it
 pub record StandsAt (bytes : List ℕ) (from : ℕ) (text : List ℕ) : Type 0 where
   pub front : List ℕ
   pub behind : List ℕ
   pub begins : length front ≡ from
   pub whole : front ++ (text ++ behind) ≡ bytes
 
--- a text is all that stands behind so many bytes
+-- a text is all that is behind so many bytes
 pub record RunsToEnd (bytes : List ℕ) (from : ℕ) (text : List ℕ) : Type 0 where
   pub front : List ℕ
   pub begins : length front ≡ from
@@ -192,12 +192,12 @@ IsText File bytes base e text =
 IsText ItemDataBox bytes base e text =
     (base + e.offset + e.len < 2 ^ 64) × IsIdatText bytes (base + e.offset) e.len text
 
--- an extent is read as the text that stands there
+-- an extent is read as the text that is there
 abbrev pub TextIsRead : Within → List ℕ → ℕ → Extent → List ℕ → Type 0
 TextIsRead within bytes base e text =
     IsText within bytes base e text → extent_bytes within bytes base e ≡ Ok text
 
--- what is read of an extent stands there
+-- what is read of an extent is there
 abbrev pub IsAText : Within → List ℕ → ℕ → Extent → List ℕ → Type 0
 IsAText within bytes base e text =
     extent_bytes within bytes base e ≡ Ok text → IsText within bytes base e text

@@ -10,7 +10,7 @@ ghost use Rattle.exif_isobmff.specs.FileBoxView.{file_box_view};
 use crate::{BoxSplitter, Kind};
 use exif_types::Error;
 
-/// A box of a file: its type, how long its body is, and the body as far as it stands there.
+/// A box of a file: its type, how long its body is, and the body as far as it is there.
 #[derive(Clone, Copy)]
 pub struct FileBox<'a> {
     kind: Kind,

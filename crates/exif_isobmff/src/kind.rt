@@ -8,7 +8,7 @@ ghost use Rattle.exif_isobmff.specs.Kinds.{kind_of, same_kind};
 pub enum Kind {
     /// `ftyp`: the brands of the file.
     FileType,
-    /// `meta`: what is said of items.
+    /// `meta`: the boxes about items.
     Meta,
     /// `idat`: data beside the items.
     ItemData,

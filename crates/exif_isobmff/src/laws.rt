@@ -25,7 +25,7 @@ pub fn counts_are_boxes()
     ensures every { (n : ℕ) (bytes : List ℕ) → IsACount n bytes }
 {}
 
-/// What stands in a box is read as the tree of its boxes says, and all bytes are those of such a
+/// What is in a box is read as the tree of its boxes says, and all bytes are those of such a
 /// tree.
 pub fn parents_are_boxes()
     ensures read { (p : Parent) → ParentIsRead p }
@@ -50,7 +50,7 @@ pub fn exif_items_are_read()
     ensures every { (bytes : List ℕ) → IsABlock bytes }
 {}
 
-/// The boxes of a file are read as the tree of its boxes says, the last one as far as it stands
+/// The boxes of a file are read as the tree of its boxes says, the last one as far as it is
 /// there. All bytes are those of such a tree, as `parents_are_boxes` says.
 pub fn file_boxes_are_read()
     ensures read { (p : Parent) → FileBoxesAreRead p }
@@ -69,16 +69,16 @@ pub fn files_up_to_meta()
     ensures every { (bytes : List ℕ) → IsAFront bytes }
 {}
 
-/// An `iloc` gives the locations of the wanted item that the tree of its items and extents says, and
-/// one that is read is that of such a tree.
+/// An `iloc` gives the locations of the wanted item that the tree of its items and extents says,
+/// and one that is read is that of such a tree.
 pub fn item_locations_are_read()
     ensures read { (wanted : ℕ) (t : LocationsTree) → LocationsAreRead wanted t }
     ensures only { (wanted : ℕ) (body : List ℕ) (listed : List ItemExtents)
         → IsAnIloc wanted body listed }
 {}
 
-/// An extent is read as the text that stands at its location, in the file or beside the items, and
-/// what is read of it stands there.
+/// An extent is read as the text that is at its location, in the file or beside the items, and
+/// what is read of it is there.
 pub fn extents_are_texts()
     ensures read { (within : Within) (bytes : List ℕ) (base : ℕ) (e : Extent) (text : List ℕ)
         → TextIsRead within bytes base e text }
@@ -95,8 +95,8 @@ pub fn items_are_joined()
         → IsAnItem bytes_of es item }
 {}
 
-/// The Exif data of a file of fewer than 2^64 bytes are in the ranges that are answered, each of which
-/// is whole.
+/// The Exif data of a file of fewer than 2^64 bytes are in the ranges that are answered, each of
+/// which is whole.
 pub fn exif_data_are_located()
     ensures located { (file : List ℕ) → ExifIsLocated file }
 {}

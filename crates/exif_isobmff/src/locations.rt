@@ -119,7 +119,7 @@ fn pass_extents(body: &mut BoxSplitter, sizes: Sizes, count: u16) -> Result<(), 
     Ok(())
 }
 
-// What stands in front of an item's extents.
+// What is in front of an item's extents.
 #[derive(Clone, Copy)]
 struct ItemHead {
     number: u32,

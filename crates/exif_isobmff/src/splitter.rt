@@ -51,7 +51,7 @@ impl<'a> BoxSplitter<'a> {
         self.rest
     }
 
-    /// The next bytes, as many as are asked for, else `Box too small`.
+    /// The next bytes, as many as are requested, else `Box too small`.
     ///
     /// After an error of this call or of any other below, how far the splitter was read is left
     /// open.
@@ -66,7 +66,7 @@ impl<'a> BoxSplitter<'a> {
         Ok(front)
     }
 
-    /// The next bytes, as many as are asked for, or all that are left.
+    /// The next bytes, as many as are requested, or all that are left.
     pub fn slice_up_to(&mut self, len: u64) -> &'a [u8]
         ensures front { result.now ≡ take len self.old }
         ensures rest { self.new ≡ drop len self.old }

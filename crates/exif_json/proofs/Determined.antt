@@ -144,7 +144,7 @@ hex_determined (x ∷ xs) (y ∷ ys) h k e =
     let b = hex_determined xs ys (λ i d l. h (suc i) d (omega arith)) (λ i d l. k (suc i) d (omega arith)) cc in
     rw (a, b) refl
 
--- bytes of any meaning with the same JSON are the same, wherever they stand
+-- bytes of any meaning with the same JSON are the same, wherever they are
 pub undefined_determined : (p q : ℕ) (xs ys : List ℕ) → All (IsBelow 8) xs → All (IsBelow 8) ys → value_json (Undefined xs p) ≡ value_json (Undefined ys q) → xs ≡ ys
 undefined_determined p q xs ys h k e =
     let same : J.string (48 ∷ 120 ∷ flat_map hex_byte xs) ≡ J.string (48 ∷ 120 ∷ flat_map hex_byte ys) = e in

@@ -30,7 +30,7 @@ filled_some : (k : ℕ) (text : List ℕ) → 0 < length text → 0 < length (ze
 unfolding zero_filled
 filled_some k text some = omega (arith, length-append (replicate (k - length text) 48) text)
 
--- no 0 stands before another digit
+-- no 0 is before another digit
 no_leading_zero : (n : ℕ) → n < 2 ^ 64 → slice_index (decimal n) 0 ≡ 48 → length (decimal n) ≡ 1
 no_leading_zero zero h is = ap length (decimal_digit 0 (omega arith))
 no_leading_zero (suc n) h is = absurd (omega (arith, first_decimal (suc n) (omega arith) h, is))

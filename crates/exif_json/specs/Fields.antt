@@ -11,7 +11,7 @@ use Rattle.exif_types.specs.ValueTypes.{type_number, count_of}
 use Rattle.exif_json.specs.Trees.{array, object, unsigned}
 use Rattle.exif_json.specs.Values.{value_json}
 
--- where a field stands: the kind of its directory, its tag, the tag's name, the directory's number
+-- where a field is: the kind of its directory, its tag, the tag's name, the directory's number
 abbrev pub name_members : Field → List (List ℕ × Json)
 name_members field =
     (codes "context", J.string (context_name field.tag.0))

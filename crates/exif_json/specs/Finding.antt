@@ -18,7 +18,7 @@ found fields context number =
 abbrev pub number_of : List Field → Context → ℕ → Option ℕ
 number_of fields context number = option_and_then (λ value. number_in value 0) (found fields context number)
 
--- which of the eight ways the picture stands (Exif 2.32, 4.6.4, Orientation)
+-- which of the eight orientations the picture has (Exif 2.32, 4.6.4, Orientation)
 abbrev pub orientation_of : List Field → Option ℕ
 orientation_of fields =
     option_and_then (λ n. if nat_lt 0 n && nat_lt n 9 then Some n else None) (number_of fields Tiff 274)

@@ -16,7 +16,7 @@ abbrev pub either_number : Option ℕ → Option ℕ → Option ℕ
 either_number (Some n) other = Some n
 either_number None other = other
 
--- a member where there is something to tell
+-- a member where there is something to report
 abbrev pub maybe : {A : Type 0} → List ℕ → (A → Json) → Option A → List (List ℕ × Json)
 maybe name json None = []
 maybe name json (Some x) = (name, json x) ∷ []
@@ -29,7 +29,7 @@ degrees_json d = J.number (degrees_text d.negative d.units)
 abbrev pub date_json : List ℕ → DateTime → Json
 date_json digits d = J.string (iso_text digits d)
 
--- how it stands and when it was taken
+-- its orientation and when it was taken
 abbrev pub standing_members : List Field → List (List ℕ × Json)
 standing_members fields =
     maybe (codes "orientation") unsigned (orientation_of fields)
@@ -55,7 +55,7 @@ size_members fields =
     ++ maybe (codes "height") unsigned
     (either_number (number_of fields Exif 40963) (number_of fields Tiff 257))
 
--- how a picture stands, when, where and by which camera it was taken, and its size, in one object
+-- how a picture is turned, when, where and by which camera it was taken, and its size, in one object
 abbrev pub summary_json : List Field → Json
 summary_json fields = object (standing_members fields
     ++ (location_members fields ++ (camera_members fields ++ size_members fields)))

@@ -33,7 +33,7 @@ fn write_count(printer: &mut Printer, value: &Value) -> Result<(), AllocError>
     }
 }
 
-/// Writes the members that tell what the field holds: its type, its count, its value and how it
+/// Writes the members that say what the field holds: its type, its count, its value and how it
 /// is printed with its unit.
 fn write_contents(printer: &mut Printer, exif: &Exif, field: &Field) -> Result<(), AllocError>
     ensures { Prints result printer.old.out printer.new.out

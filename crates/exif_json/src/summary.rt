@@ -1,5 +1,5 @@
-//! What people ask of a picture first: how it stands, when and where it was taken, by which camera,
-//! and its size.
+//! What people ask of a picture first: how it is turned, when and where it was taken, by which
+//! camera, and its size.
 
 ghost use Rattle.std.specs.Prelude.{◌≡◌, codes, option_map};
 ghost use Rattle.json.specs.Json as J;
@@ -94,7 +94,7 @@ fn either(exif: &Exif, own: Tag, whole: Tag) -> Option<u32>
     }
 }
 
-/// Writes how the picture stands, and when it was taken.
+/// Writes the picture's orientation, and when it was taken.
 fn write_standing(printer: &mut Printer, exif: &Exif) -> Result<(), AllocError>
     ensures { Prints result printer.old.out printer.new.out
         (parts_tokens (standing_members exif.now.fields)) }

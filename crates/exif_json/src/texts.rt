@@ -10,7 +10,7 @@ ghost use Rattle.exif_json.specs.Texts.{latin1, latin1_json, text_json};
 use crate::printer::Printer;
 use std::alloc::AllocError;
 
-/// Puts the characters whose numbers the bytes are in place of the text.
+/// Replaces the text with the characters whose numbers the bytes are.
 fn set_latin1(text: &mut String, bytes: &[u8]) -> Result<(), AllocError>
     ensures { OnOk result (string_bytes text.new ≡ latin1 bytes.now) }
 {

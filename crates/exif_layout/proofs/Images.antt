@@ -1,4 +1,4 @@
--- The proofs on images: from texts that stand in bytes to the laws.
+-- The proofs on images: from texts that are in bytes to the laws.
 pub mod Words
 pub mod Standing
 pub mod Values

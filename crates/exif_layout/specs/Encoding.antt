@@ -39,7 +39,7 @@ encode order (Unknown type count offset) = []
 abbrev pub value_len : Value → ℕ
 value_len value = unit (type_number value) * count_of value
 
--- the value with the offset where its bytes stand now
+-- the value with the offset where its bytes are now
 abbrev pub moved_to : ℕ → Value → Value
 moved_to offset (Undefined xs old) = Undefined xs offset
 moved_to offset value = value

@@ -1,4 +1,4 @@
--- The fields of groups as they stand in their image, those of a child in place of the pointer to
+-- The fields of groups as they are in their image, those of a child in place of the pointer to
 -- it.
 use Rattle.std.specs.Prelude.{ℕ, zero, suc, List, [], ◌∷◌, ◌++◌, map}
 use Rattle.std.specs.List.{flat_map}
@@ -17,7 +17,7 @@ abbrev pub field_of : Context → ℕ → ℕ → Value → Field
 field_of context tag ifd value =
     record { tag = record { 0 = context; 1 = tag }; ifd_num = record { 0 = ifd }; value = value }
 
--- the fields of an entry; an undefined value has the offset where its bytes stand
+-- the fields of an entry; an undefined value has the offset where its bytes are
 abbrev pub entry_fields : (Context → List Field) → Context → ℕ → Written → List Field
 entry_fields inner context ifd entry =
     elim entry.content [
@@ -39,6 +39,6 @@ flat_from ifd start (draft ∷ drafts) =
     directory_fields draft start ifd (depth_of Tiff) Tiff
     ++ flat_from (suc ifd) (draft_end draft start) drafts
 
--- all the fields; the first directory stands behind the 8 bytes of the header
+-- all the fields; the first directory is behind the 8 bytes of the header
 unfoldable pub flat : List Group → List Field
 flat groups = flat_from 0 8 (map draft_of groups)

@@ -1,4 +1,4 @@
--- The image of groups: its parts, what they say and where they stand (TIFF 6.0, section 2;
+-- The image of groups: its parts, what they say and where they are (TIFF 6.0, section 2;
 -- Exif 2.32, 4.5.2).
 use Rattle.std.specs.Prelude.{ℕ, ◌+◌, ◌-◌, nat_le, List, [], ◌∷◌, ◌++◌, length, map, replicate, if◌then◌else◌}
 use Rattle.std.specs.List.{flat_map}

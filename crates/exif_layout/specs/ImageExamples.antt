@@ -182,7 +182,7 @@ empty_before_unknown : write_fault (pushed (field_of Tiff 0x100 2 (Unknown 65535
 unfolding write_fault group_fault tiff_slots exif_slots gps_slots interop_slots tiff_offset exif_offset gps_offset interop_offset tiff_values exif_values gps_values interop_values strips_offset tiles_offset jpeg_offset draft_end
 empty_before_unknown = refl
 
--- 65,536 entries, all under one tag; the unknown type among them is not asked for
+-- 65,536 entries, all under one tag; the unknown type among them is not looked at
 many_written : write_fault (record empty_group { tiff = replicate 65536 (entry_of (field_of Tiff 0x100 0 (Unknown 65535 1 18))) } ∷ []) ≡ Some TooManyFields
 unfolding write_fault group_fault tiff_slots exif_slots gps_slots interop_slots tiff_offset exif_offset gps_offset interop_offset tiff_values exif_values gps_values interop_values strips_offset tiles_offset jpeg_offset draft_end
 many_written = refl

@@ -1,4 +1,4 @@
--- What is promised of where the parts and the blocks of an image stand.
+-- What is promised of where the parts and the blocks of an image are.
 use Rattle.std.specs.Prelude.{ℕ, ◌+◌, ◌≤◌, ◌<◌, ◌==◌, ◌&&◌, ◌≡◌, Bool, true, false, List, [], ◌∷◌, length, map, get_or, slice_index, ◌⊎◌, Some}
 use Rattle.std.specs.List.{All, AllZip, filter}
 use Rattle.exif_base.specs.Bytes.{bytes_at}
@@ -26,11 +26,11 @@ Spans start (part ∷ parts) end =
     (start ≤ part.offset) × (part.offset ≤ start + 1)
     × Spans (part.offset + length part.text) parts end
 
--- an offset that no byte of the part stands at
+-- an offset that no byte of the part is at
 abbrev pub IsOutside : ℕ → Part → Type 0
 IsOutside offset part = (offset < part.offset) ⊎ (part.offset + length part.text ≤ offset)
 
--- the parts stand side by side from the first byte to the last, but for single bytes between them,
+-- the parts are side by side from the first byte to the last, but for single bytes between them,
 -- which are zero
 pub record LaidOut (order : Order) (groups : List Group) : Type 0 where
   pub span : Spans 0 (parts order (map draft_of groups)) (length (image order groups))
@@ -58,7 +58,7 @@ fields_under tag ifd all =
     filter (λ field. is_tiff field.tag.0 && (field.tag.1 == tag) && (field.ifd_num.0 == ifd)) all
 
 -- blocks that the fields of a directory name: one field has their offsets and one their lengths, and
--- each stands whole at its offset
+-- each is whole at its offset
 pub record BlocksNamed (bytes : List ℕ) (all : List Field) (ifd : ℕ) (kind : BlockKind)
     (texts : List (List ℕ)) : Type 0 where
   pub offsets : List ℕ
@@ -68,7 +68,7 @@ pub record BlocksNamed (bytes : List ℕ) (all : List Field) (ifd : ℕ) (kind :
       ≡ field_of Tiff (lengths_tag kind) ifd (Long (map length texts)) ∷ []
   pub stand : AllZip (λ offset text. Stands bytes offset text) offsets texts
 
--- each block of an image stands where its two fields say
+-- each block of an image is where its two fields say
 abbrev pub BlocksStand : Order → List Group → Type 0
 BlocksStand order groups =
     (ifd : ℕ) (kind : BlockKind) (texts : List (List ℕ)) → ifd < length groups

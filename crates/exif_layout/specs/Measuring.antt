@@ -7,7 +7,7 @@ use Rattle.exif_layout.specs.Offsets.{even}
 abbrev pub MeasuredAs : Option ℕ → ℕ → Type 0
 MeasuredAs answer n = SomeIff answer (n < 2 ^ 32) n
 
--- the value stands in its entry
+-- the value is in its entry
 abbrev pub fits : Slot → Bool
 fits slot = nat_le (content_len slot.content) 4
 
@@ -21,7 +21,7 @@ abbrev pub later : Slot → Option Slot → Option Slot
 later slot None = Some slot
 later slot (Some last) = if nat_lt last.tag slot.tag then Some slot else Some last
 
--- of the slots whose values stand outside, the last in tag order
+-- of the slots whose values are outside, the last in tag order
 abbrev pub last_out : List Slot → Option Slot
 last_out [] = None
 last_out (slot ∷ slots) = if fits slot then last_out slots else later slot (last_out slots)

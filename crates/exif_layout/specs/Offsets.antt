@@ -1,4 +1,4 @@
--- Where the parts of an image stand (TIFF 6.0, section 2, "Value/Offset": offsets of values are
+-- Where the parts of an image are (TIFF 6.0, section 2, "Value/Offset": offsets of values are
 -- even).
 use Rattle.std.specs.Prelude.{ℕ, suc, ◌+◌, ◌*◌, ◌%◌, nat_le, List, [], ◌∷◌, length, if◌then◌else◌}
 use Rattle.exif_types.specs.declared.value.Value.{Value}
@@ -18,7 +18,7 @@ directory_len (slot ∷ slots) = 6 + 12 * suc (length slots)
 abbrev pub even : ℕ → ℕ
 even offset = offset + offset % 2
 
--- where the values end after one of some length, which stands in its entry or at the next even
+-- where the values end after one of some length, which is in its entry or at the next even
 -- offset
 abbrev pub after_value : ℕ → ℕ → ℕ
 after_value offset len = if nat_le len 4 then offset else even offset + len
@@ -34,7 +34,7 @@ abbrev pub after_blocks : ℕ → List (List ℕ) → ℕ
 after_blocks offset [] = offset
 after_blocks offset (text ∷ texts) = after_blocks (offset + length text) texts
 
--- The offsets of a draft whose first free offset is `start`: each is the end of what stands before
+-- The offsets of a draft whose first free offset is `start`: each is the end of what is before
 -- it.
 module _ (draft : Draft) (start : ℕ) where
   -- where the TIFF directory begins: at the next even offset
@@ -115,7 +115,7 @@ abbrev pub next_offset : ℕ → List Draft → ℕ
 next_offset end [] = 0
 next_offset end (draft ∷ drafts) = even end
 
--- the offsets of blocks of these lengths that stand one behind the other
+-- the offsets of blocks of these lengths that are one behind the other
 abbrev pub offsets_from : ℕ → List ℕ → List ℕ
 offsets_from offset [] = []
 offsets_from offset (len ∷ lengths) = offset ∷ offsets_from (offset + len) lengths
@@ -128,14 +128,14 @@ value_of draft start (OffsetsOf kind lengths) =
 value_of draft start (LengthsOf kind lengths) = Long lengths
 value_of draft start (OffsetOf context) = Long (directory_offset draft start context ∷ [])
 
--- an entry as it is written: its value, and the offset where the value's bytes stand
+-- an entry as it is written: its value, and the offset where the value's bytes are
 pub record Written : Type 0 where
   pub tag : ℕ
   pub content : Content
   pub value : Value
   pub offset : ℕ
 
--- the entries of a directory; the first one stands at `at`, and the values that don't fit into
+-- the entries of a directory; the first one is at `at`, and the values that don't fit into
 -- their entries from `values` on
 abbrev pub written : Draft → ℕ → ℕ → ℕ → List Slot → List Written
 written draft start at values [] = []

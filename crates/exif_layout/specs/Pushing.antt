@@ -50,7 +50,7 @@ abbrev pub SetsNothing : List Group → List Group → Type 0
 SetsNothing from groups = HaveNoBlocks from → all_blocks_set 0 from groups ≡ groups
 
 -- the field holds a pushed entry of its directory, an undefined value with the offset where it
--- stands now
+-- is now
 pub record IsPushed (groups : List Group) (field : Field) : Type 0 where
   pub entry : Entry
   pub offset : ℕ

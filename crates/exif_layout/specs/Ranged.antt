@@ -10,7 +10,7 @@ use Rattle.exif_layout.specs.Groups.{Group, Entry, is_ignored, pushed_in}
 use Rattle.exif_layout.specs.Refused.{write_fault}
 
 -- each number of the value fits its type, as in any value of a program; bytes are written as they
--- are, and nothing is asked of them
+-- are, and nothing is required of them
 abbrev pub IsRanged : Value → Type 0
 IsRanged (Short xs) = All (λ x. x < 2 ^ 16) xs
 IsRanged (Long xs) = All (λ x. x < 2 ^ 32) xs

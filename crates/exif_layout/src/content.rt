@@ -1,5 +1,5 @@
 //! What the values of entries are made of, and what their entries say of them. A pushed value is
-//! looked at where it stands in memory, once for all that its entry says.
+//! looked at where it is in memory, once for all that its entry says.
 
 ghost use Rattle.std.specs.Prelude.{◌≡◌, ◌≤◌, false};
 ghost use Rattle.exif_types.specs.ValueTypes.{type_number, count_of};

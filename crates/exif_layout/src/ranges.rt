@@ -6,7 +6,7 @@ ghost use Rattle.exif_layout.specs.Ranged.{IsRanged};
 
 use exif_types::{Field, Rational, SRational, Value};
 
-/// A kind of numbers that a slice's type does not tell to fit.
+/// A kind of numbers that a slice's type does not show to fit.
 trait Ranged: Copy {
     // The number fits.
     ghost fits: { Self → Type 0 };

@@ -273,7 +273,7 @@ content_token a t long e = elim (chosen (eqb (get_or a 0 0) 60) e) [ inl w ↦ m
 
 -- ---- attributes
 
--- what stands between a name and its value: e bytes and one behind them at least
+-- what is between a name and its value: e bytes and one behind them at least
 pub record IsEquals (e : ℕ) (a : List ℕ) : Type 0 where
   pub same : (m : ℕ) (b : List ℕ) → e < m → Agree m a b → equals b ≡ Some e
 

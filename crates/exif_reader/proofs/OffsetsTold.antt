@@ -1,4 +1,4 @@
--- A lenient parser that is asked for offsets has those of the trace that it read.
+-- A lenient parser that notes offsets has those of the trace that it read.
 use Rattle.std.proofs.Common.{◌≡◌, ◌∙◌, ℕ, zero, suc, Bool, true, false, List, [], ◌∷◌, ◌++◌, map, Option, Some, None, refl, sym, ap, append_assoc}
 use Rattle.std.proofs.lemmas.List.{append-nil}
 use Rattle.exif_base.specs.Bytes.{Reading, number_at}
@@ -11,7 +11,7 @@ use Rattle.exif_reader.specs.Noted.{Noted, TellsOffsets}
 use Rattle.exif_reader.specs.Running.{Progress, on_met, run}
 use Rattle.exif_reader.proofs.TiffOutcomes.{at_work, stopped}
 
--- the offsets that were asked for
+-- the offsets that were requested
 abbrev pub asked : List EntryOffset → List DirectoryOffset → Noted
 asked entries directories = record { asked = true; entries = entries; directories = directories }
 

@@ -23,7 +23,7 @@ follows_stop (stop.Fault fault) new xs ys p all w h = run_stop xs ys p new fault
 pub follows_last : (r : Result (Unit {0}) Stop) (new : Progress) (xs ys : List Node) (p q : Progress) → run xs p ≡ (q, None) → Follows r new (run ys q) → Follows r new (run (xs ++ ys) p)
 follows_last r new xs ys p q e h = rw (run-append xs ys p, e) h
 
--- a loop over what stands at spaced offsets: one step that ended
+-- a loop over what is at spaced offsets: one step that ended
 pub loop_on : (entry : ℕ → List Node) (unit at' n i : ℕ) (p q : Progress) (all : Progress × Option Fault) → i < n → run (entry at') p ≡ (q, None) → run (flat_map entry (spaced at' unit (n - i))) p ≡ all → run (flat_map entry (spaced (at' + unit) unit (n - (i + 1)))) q ≡ all
 loop_on entry unit at' n i p q all h e w =
     run_on (entry at') (flat_map entry (spaced (at' + unit) unit (n - (i + 1)))) p q all e

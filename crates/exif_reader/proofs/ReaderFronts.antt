@@ -29,7 +29,7 @@ use Rattle.exif_containers.proofs.ContainerSteps.{head-first}
 use Rattle.exif_reader.specs.Files.{AnswersOwnData, ReadsByNeed, ReadsContainer}
 use Rattle.exif_reader.specs.Readings.{HoldsData, HoldsFront, ReadsAs, ReadsHeld}
 
--- ---- told bytes
+-- ---- known bytes
 
 -- what holds of a list and all that was put at its end
 pub told_rest : (left : Option (List ℕ)) (old new : List ℕ) (P : List ℕ → Type 0)

@@ -1,4 +1,4 @@
--- What a reading says of data, it says of the data that it hands on.
+-- What a reading says of data, it says of the data that it passes on.
 use Rattle.std.proofs.Common.{◌≡◌, inr, ℕ, List, Option, Some, None, IfSome, Result, Ok, Err, sym, subst}
 use Rattle.exif_types.specs.Contents.{ExifContents}
 use Rattle.exif_types.specs.Failures.{Failure}

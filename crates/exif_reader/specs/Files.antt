@@ -40,7 +40,7 @@ abbrev pub ReadsByNeed : (List ℕ → Answer) → Result (List ℕ) Refusal
     → Result ExifContents Failure → Type 0
 ReadsByNeed = ReadsContainerHeld HoldsFront
 
--- ---- what is said where a source tells no bytes, as that of a file
+-- ---- what is said where a source's bytes are not known, as those of a file
 
 -- some data are refused so
 abbrev pub IsDataRefusal : (List ℕ → Answer) → Refusal → Type 0

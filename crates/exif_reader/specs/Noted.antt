@@ -4,7 +4,7 @@ use Rattle.exif_tiff.specs.declared.offset.DirectoryOffset.{DirectoryOffset}
 use Rattle.exif_tiff.specs.declared.offset.EntryOffset.{EntryOffset}
 use Rattle.exif_tiff.specs.Trace.{Node, directories_of, entry_of, located_of}
 
--- whether offsets are asked for, and those that were noted
+-- whether offsets are requested, and those that were noted
 pub record Noted : Type 0 where
   pub asked : Bool
   pub entries : List EntryOffset

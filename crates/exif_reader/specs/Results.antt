@@ -14,7 +14,7 @@ Says (Ok parsed) answer = answer ≡ shown parsed.fields.items parsed.faults.ite
 Says (Err (stop.Fault fault)) answer = answer ≡ Refused fault
 Says (Err stop.OutOfMemory) answer = Unit {0}
 
--- memory is asked for only behind a right header
+-- memory is requested only after a right header
 abbrev pub AsksMemory : Result Parsed Stop → List ℕ → Type 0
 AsksMemory (Err stop.OutOfMemory) bytes = IsOk (header bytes)
 AsksMemory _ bytes = Unit {0}

@@ -9,7 +9,7 @@ use Rattle.exif_reader.specs.Noted.{Noted, directory_noted, entry_noted}
 use Rattle.exif_tiff.specs.declared.fault.Fault.TheVariants.{TooManyEntries}
 
 -- a parser: whether faults are noted and passed over, how many entries it may still visit, what it
--- has read, and where that stands; each visit takes one of the entries that are left, so what is
+-- has read, and where that is; each visit takes one of the entries that are left, so what is
 -- gone of them counts the parser's turns
 pub record Progress : Type 0 where
   pub lenient : Bool
@@ -26,13 +26,13 @@ on_opens p directory = (record p { offsets = directory_noted p.offsets directory
 abbrev pub on_visit : Progress → Progress × Option Fault
 on_visit p = elim p.left [ zero ↦ (p, Some TooManyEntries) | suc n ↦ (record p { left = n }, None) ]
 
--- a found field comes behind those read before, and its offset is noted if offsets are asked for
+-- a found field comes behind those read before, and its offset is noted if offsets are requested
 abbrev pub on_found : Progress → Located → Progress × Option Fault
 on_found p l =
     let offsets = entry_noted p.offsets (entry_of l) in
     (record p { fields = p.fields ++ l.field ∷ []; offsets = offsets }, None)
 
--- a met fault is noted by a lenient parser, and stops a strict one
+-- a fault that is found is noted by a lenient parser, and stops a strict one
 abbrev pub on_met : Progress → Fault → Progress × Option Fault
 on_met p fault =
     elim p.lenient [

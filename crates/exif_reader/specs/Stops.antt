@@ -12,7 +12,7 @@ Follows (Ok _) new outcome = outcome ≡ (new, None)
 Follows (Err stop.OutOfMemory) new outcome = Unit {0}
 Follows (Err (stop.Fault fault)) new outcome = outcome ≡ (new, Some fault)
 
--- as many turns were taken as the trace that was walked has visits: the whole trace, or what stands
+-- as many turns were taken as the trace that was walked has visits: the whole trace, or what is
 -- before the stop
 abbrev pub CountsTurns : Result (Unit {0}) Stop → Progress → Progress → List Node → Type 0
 CountsTurns (Ok _) old new nodes = new.left + visits_of nodes ≡ old.left

@@ -1,5 +1,5 @@
 //! Laws of reading files. They hold for all bytes, and speak of the definitions alone. Those of
-//! TIFF data stand beside these.
+//! TIFF data are read beside these.
 
 ghost use Rattle.std.specs.Prelude.{ℕ, List, Option};
 ghost use Rattle.exif_reader.specs.Files.{StrictIsFirstFaultOfFile};

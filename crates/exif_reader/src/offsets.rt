@@ -7,8 +7,8 @@ use exif_tiff::{DirectoryOffset, EntryOffset};
 use std::alloc::{AllocError, Global};
 use std::marker::Model;
 
-/// Where the entries of fields and the directories stand, in the order of a reading. Where nobody
-/// asks for them, none is noted, and no memory is taken.
+/// Where the entries of fields and the directories are, in the order of a reading. Where nobody
+/// requests them, none is noted, and no memory is taken.
 #[derive(Drop)]
 pub struct Offsets {
     asked: bool,

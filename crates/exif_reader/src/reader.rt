@@ -85,8 +85,8 @@ impl Reader {
 
     /// Sets whether the reader passes over soft faults, and then answers a `PartialResult`.
     ///
-    /// Soft are faults of a directory, an entry or a value: what is broken is left out, and the rest
-    /// is read. A header's faults, and the container's refusals, are answered in either mode.
+    /// Soft are faults of a directory, an entry or a value: what is broken is left out, and the
+    /// rest is read. A header's faults, and the container's refusals, are answered in either mode.
     ///
     /// ```
     /// let mut reader = Reader::new();
@@ -106,7 +106,7 @@ impl Reader {
     }
 
     /// Sets the most directory entries that one reading visits, for files of strangers: entries can
-    /// share their directories, so that 14 KB hold millions of fields. A limit that is met is a
+    /// share their directories, so that 14 KB hold millions of fields. A limit that is reached is a
     /// soft fault, and nothing behind it is read.
     ///
     /// ```
@@ -139,9 +139,9 @@ impl Reader {
     /// refusal of the container is the answer in either mode. How far the source was read is left
     /// open.
     ///
-    /// Whether or not the source tells its bytes, what comes back is what its own data (`buf`)
+    /// Whether or not the source's bytes are known, what comes back is what its own data (`buf`)
     /// answer, and any other error is a named refusal of a container or of data, out of memory,
-    /// or the source's. A file stands in a `Seekable`, a pipe in a `Counted`.
+    /// or the source's. A file is read by a `Seekable`, a pipe by a `Counted`.
     ///
     /// ```
     /// Reader::new().read_from_container(alloc, &mut Seekable::new(picture))
@@ -189,8 +189,8 @@ impl Reader {
     /// skipped, so a large file costs no more than a small one where its directories are in front.
     ///
     /// The fields, the faults and the byte order are those of `read_from_container`; the data that
-    /// are handed on (`buf`) may be the front alone, so strips and thumbnails may lie behind it.
-    /// An error of the device behind the front is not met where the source seeks over it.
+    /// are passed on (`buf`) may be the front alone, so strips and thumbnails may lie behind it.
+    /// An error of the device behind the front is not seen where the source seeks over it.
     ///
     /// ```
     /// Reader::new().read_by_need(alloc, &mut Seekable::new(picture))
@@ -207,8 +207,9 @@ impl Reader {
         sniffed.answer
     }
 
-    /// Reads as [`read_by_need`](Reader::read_by_need) does, and answers the container too, whatever
-    /// the reading says of it. The error is one of the source before the first 4096 bytes are read.
+    /// Reads as [`read_by_need`](Reader::read_by_need) does, and answers the container too,
+    /// whatever the reading says of it. The error is one of the source before the first 4096 bytes
+    /// are read.
     pub fn read_with_format<R: Source>(
         &self,
         alloc: Global,

@@ -26,7 +26,7 @@ pub struct Parsed {
     pub little_endian: bool,
 }
 
-/// What was read of TIFF data, and where it stands.
+/// What was read of TIFF data, and where it is.
 #[derive(Drop)]
 pub struct Placed {
     pub parsed: Parsed,
@@ -57,7 +57,7 @@ pub fn header(bytes: &[u8]) -> Result<Order, Fault>
 }
 
 // Reads data whose header is right, up to a limit on the visited entries, and with the offsets
-// where they are asked for.
+// where they are requested.
 fn parse_in<E: Endian>(
     alloc: Global,
     bytes: &[u8],
@@ -89,7 +89,7 @@ fn parse_in<E: Endian>(
     Ok(Placed { parsed, offsets })
 }
 
-// Reads TIFF data, up to so many visited entries, and with the offsets where they are asked for.
+// Reads TIFF data, up to so many visited entries, and with the offsets where they are requested.
 fn parse_within(
     alloc: Global,
     bytes: &[u8],

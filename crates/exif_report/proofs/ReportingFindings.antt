@@ -137,7 +137,7 @@ pub reports_none : (left old : Option (List ℕ)) (answer : List ℕ → Result 
 reports_none None old answer e h = tt
 reports_none (Some bytes) old answer e h = read_none (answer bytes) old e h
 
--- ---- where the source tells no bytes
+-- ---- where the source's bytes are not known
 
 own_error : (answer : List ℕ → Answer) (e : Failure) → MatchOption (refusal_of e) (IsInterrupted e) (λ r. Contains container_refusals r ⊎ IsDataRefusal answer r) → FindsOwn answer (Err e)
 own_error answer e h = by_refusal e (refusal_of e) (λ r. Contains container_refusals r ⊎ IsDataRefusal answer r) (IsNamedRefusal answer e) refl (λ r is p. (r, is, p)) h

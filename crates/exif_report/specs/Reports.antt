@@ -75,7 +75,7 @@ Reports answer (Err e) old new =
     (IsRefusedAs answer e × Keeps old new)
     ⊎ (IsInterrupted e × SendsFront old new (report_text answer))
 
--- ---- what is said where the source tells no bytes, as that of a file
+-- ---- what is said where the source's bytes are not known, as those of a file
 
 -- a container or some data are refused with this error
 abbrev pub IsNamedRefusal : (List ℕ → Answer) → Failure → Type 0

@@ -9,7 +9,7 @@ use exif_types::{Error, Exif, Field};
 use std::fmt::Write;
 
 /// Puts a field's line at the end of the text: its tag, its directory and its value with its unit,
-/// whose tags are looked up in `exif`. Where memory runs out, a front of the line may stand there.
+/// whose tags are looked up in `exif`. Where memory runs out, a front of the line may be there.
 #[tactic(auto, unfolding(crate::specs::Lines::field_line))]
 pub fn push_field_line(text: &mut String, exif: &Exif, field: &Field) -> Result<(), Error>
     ensures text { OnOk result (string_bytes text.new

@@ -21,7 +21,7 @@ use exif_types::{Error, Exif, Field, fields_left};
 use std::alloc::Global;
 use std::io;
 
-// How much room there is for lines at first, and how long they get before they are sent.
+// How much space there is for lines at first, and how long they get before they are sent.
 const ROOM: usize = 1024;
 
 const LONG: usize = 8192;
@@ -138,7 +138,7 @@ fn report_by<R: Source, W: Sink>(
 /// writes one line for each behind the fields. Answers how many faults were passed over.
 ///
 /// Where the file is refused or the reader fails nothing is written. Where memory or the writer
-/// fails, a front of the report may stand out. So it is too where a reader does not tell its
+/// fails, a front of the report may have been sent. So it is too where a reader does not know its
 /// bytes, as that of a file: what is written is the report of the data that were read.
 pub fn report<R: Source, W: Sink>(
     alloc: Global,

@@ -59,14 +59,14 @@ fn rewrite_as<R: Source, W: Sink>(
 ///
 /// The first 4096 bytes choose, as they do for reading, or all if there are fewer. A JPEG stream
 /// goes on as [`rewrite_jpeg`] sends it, forward only and without memory, and a WebP file as
-/// [`rewrite_webp`] does, which reads it whole. What is taken out, where new data stand and what
-/// stays is said there. The sink is flushed once, at the end.
+/// [`rewrite_webp`] does, which reads it whole. What is taken out, where new data are and what
+/// stays is described there. The sink is flushed once, at the end.
 ///
 /// Refusals: those of the two; NotSupported `HEIF files are edited in place` and `TIFF data are
 /// edited in place`, since what they hold is found by its offset in the file, which has to stay
-/// (`exif_edit` edits them so); and InvalidFormat `Unknown image format`. After an error a beginning
-/// of the new file was sent; none of it where memory ran out, which comes of WebP files alone, nor
-/// after a refusal of any but a JPEG stream. How far the source was read is left open.
+/// (`exif_edit` edits them so); and InvalidFormat `Unknown image format`. After an error a
+/// beginning of the new file was sent; none of it where memory ran out, which comes of WebP files
+/// alone, nor after a refusal of any but a JPEG stream. How far the source was read is left open.
 pub fn rewrite<R: Source, W: Sink>(
     alloc: Global,
     source: &mut R,

@@ -1,4 +1,4 @@
-//! Laws of files that are written again, whatever container they are. Those of each container stand
+//! Laws of files that are written again, whatever container they are. Those of each container are
 //! in its crate.
 
 ghost use Rattle.std.specs.Prelude.{ℕ, List, Option};

@@ -1,4 +1,4 @@
--- How a JPEG stream that is written again ends, and what is said of it.
+-- How a JPEG stream that is written again ends, and what is reported of it.
 use Rattle.std.proofs.Common.{◌≡◌, ℕ, true, List, [], ◌++◌, take, Option, None, Some, IfSome, refl, arith}
 use Rattle.std.specs.Io.KnownBytes.{Appends, Keeps, prepend_known}
 use Rattle.exif_base.specs.Blocks.{cut_known}
@@ -32,7 +32,7 @@ io_interrupted (error.NotSupported text) is = absurd (cc)
 io_interrupted (error.UnexpectedValue text) is = absurd (cc)
 io_interrupted (error.PartialResult partial) is = absurd (cc)
 
--- an error that tells a fault is one of the named refusals, or an interruption
+-- an error that reports a fault is one of the named refusals, or an interruption
 pub told_named : (f : Fault) (e : Failure) → IsErrorOf f e → IsNamed rewriting_refusals e
 told_named fault.Broken e is = rw is.0 (0, omega arith, refl)
 told_named fault.Foreign e is = rw is.0 (1, omega arith, refl)
@@ -42,20 +42,20 @@ told_named fault.TooBig e is = rw is.0 (4, omega arith, refl)
 told_named (fault.Read cause) e is = rw is.0 (io_interrupted e is.1)
 told_named (fault.Write cause) e is = rw is.0 (io_interrupted e is.1)
 
--- ---- as far as it stands
+-- ---- as far as the stream goes
 
--- what stops a rewriting also stops it where it is sent as far as it stands
+-- what stops a rewriting also stops it where the stream is sent as far as it goes
 pub standing_stopped : (o : Option Refusal) (a p q : Option (List ℕ)) (f : List ℕ → Rewriting) → StopsBy o a p q f → StopsBy o a p q (λ xs. as_it_stands (f xs))
 standing_stopped o None p q f h = tt
 standing_stopped o (Some x) p q f h = (front_first p q (f x).out (waits_in (f x).end) h.0, h.1)
 
--- all else was sent, and then a front of what waited: together a front of what stands
+-- all else was sent, and then a front of what waited: together a front of the answer
 pub waiting_stopped : (o : Option Refusal) (end : End) (a p q r : Option (List ℕ)) (f : List ℕ → Rewriting) → o ≡ None → Finishes end a p q f → SendsFront q r (waits_in end) → StopsBy o a p r (λ xs. as_it_stands (f xs))
 waiting_stopped o end None p q r f is h k = tt
 waiting_stopped o end (Some x) p q r f is h k =
     (rw h.0 (front_second p q r (f x).out (waits_in end) h.1 k), none_refused o (λ d. (f x).end ≡ refused_by d) is)
 
--- where all was sent, and then what still waited, the sink has what stands, and its end is told
+-- where all was sent, and then what still waited, the sink has the answer, and its end is reported
 pub standing_sent : (how : Ended) (new : List ℕ) (a p q r s : Option (List ℕ)) (f : List ℕ → Rewriting) → Finishes (end_of how new) a p q f → Appends q r (waits_in (end_of how new)) → Keeps r s
     → IfSome a (λ xs. IsEnded how (f xs).end × Appends p s (as_it_stands (f xs)).out)
 standing_sent how new None p q r s f h k l = tt
@@ -66,7 +66,7 @@ standing_sent how new (Some x) p q r s f h k l =
     is_ended ended.Whole new = refl
     is_ended ended.Cut new = (new, refl)
 
--- where a device fails after what stands was sent whole, that counts as a front of it
+-- where a device fails after the answer was sent whole, that counts as a front of it
 pub flush_stopped : (o : Option Refusal) (end : End) (a p q r s : Option (List ℕ)) (f : List ℕ → Rewriting) → o ≡ None → Finishes end a p q f → Appends q r (waits_in end) → Keeps r s → StopsBy o a p s (λ xs. as_it_stands (f xs))
 flush_stopped o end None p q r s f is h k l = tt
 flush_stopped o end (Some x) p q r s f is h k l =

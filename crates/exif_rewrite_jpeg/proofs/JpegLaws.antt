@@ -95,7 +95,7 @@ new_again remove d payload ys h =
     ∙ ap (λ b. after (exif_segment payload) (after (cond b (text_of (segment_tree payload)) []) (rewriting remove [] (d || false) ys))) (left_out remove d payload)
     ∙ ap (λ b. after (exif_segment payload) (rewriting remove [] b ys)) (or-false d)
 
--- what may stand in for the new segment
+-- what may be there in place of the new segment
 abbrev pub New : List ℕ → Type 0
 New new = (new ≡ []) ⊎ ((payload : List ℕ) × Fits payload × (new ≡ exif_segment payload))
 

@@ -52,7 +52,7 @@ within_enough (suc n) (suc m) remove new d xs h k =
     first_next remove new d xs (first_unit xs) (rewriting_within n remove) (rewriting_within m remove)
     (λ u e. let l = rest-first_unit xs u e in within_enough n m remove (still u.code new) (d || eqb u.code 218) u.rest (omega arith) (omega arith))
 
--- what bytes become is told by their first unit, and by what the bytes behind it become
+-- what bytes become follows from their first unit, and from what the bytes after it become
 pub rewriting_first : (remove : Remove) (new : List ℕ) (d : Bool) (xs : List ℕ) → rewriting remove new d xs ≡ rewritten_first remove new d xs (first_unit xs) (rewriting remove)
 rewriting_first remove new d xs =
     within_enough (length xs) (suc (length xs)) remove new d xs (omega arith) (omega arith)
@@ -141,7 +141,7 @@ cut_behind (Some y) q remove new d h =
     nothing None = tt
     nothing (Some z) = sym (append-nil z)
 
--- where no whole unit stands behind an ff, all was sent before it, and the bytes end cut off
+-- where no whole unit is behind an ff, all was sent before it, and the bytes end cut off
 pub cut_finishes : (a b p q : Option (List ℕ)) (remove : Remove) (new : List ℕ) (d k : Bool) → k ≡ passes remove d → Passes a b p q (ToMark k)
     → IfSome b (λ xs. unit_from_code (after_marks xs) ≡ None) → Finishes (cut_off new) a p q (rewriting remove new d)
 cut_finishes a b p q remove new d k is h e =
@@ -258,7 +258,7 @@ tail_stopped e (Some x) p q r remove new d n code body is none all h k =
 
 -- ---- the body of a unit
 
--- a part that was put into the room stands between its place and its end
+-- a part that was put into the buffer is between its offset and its end
 pub part_read : (at end : ℕ) (room part : List ℕ) → at ≤ end → end ≤ length room → length part ≡ end - at → drop at (take end (put_mid at (end - at) room part)) ≡ part
 part_read at end room part h k e =
     let first : length (take at room) ≡ at = length-take-le at room (omega arith) in
@@ -281,7 +281,7 @@ body_brings code (a ∷ b ∷ content) e h =
     let long : length (a ∷ b ∷ content) ≡ max 2 (256 * a + b) = h in
     λ rest. unit-segment code a b content rest e (omega (arith, long))
 
--- the room after its first two bytes, and after all
+-- the buffer after its first two bytes, and after all
 pub room_brings : (code len : ℕ) (room room' : List ℕ) → stands_alone code ≡ false → 65535 ≤ length room → length room' ≡ length room → take 2 room' ≡ take 2 room
     → two_bytes room < 65536 → len ≡ max 2 (two_bytes room) → Brings code (take len room')
 room_brings code len room room' e most same front small is =
@@ -313,7 +313,7 @@ body_taken a b c len room room' two front h k =
 
 -- ---- ffs, a code and a body
 
--- where no whole body stands behind a code, no whole unit stands from its ffs on
+-- where no whole body is behind a code, no whole unit is from its ffs on
 pub unit_body_missing : (X : Type 0) (s : Stop) (a b : Option (List ℕ)) (fill code : ℕ) → code ≢ 255 → Consumes a b (replicate fill 255 ++ (code ∷ []))
     → OnEnd {T = ℕ} (Err s) (IfSome b (λ xs. unit_from_code (code ∷ xs) ≡ None)) → OnEnd {T = X} (Err s) (IfSome a (λ xs. unit_from_code (after_marks xs) ≡ None))
 unit_body_missing X s a b fill code ne h = on_end ℕ X s (IfSome b (λ xs. unit_from_code (code ∷ xs) ≡ None)) _ (go a b h)

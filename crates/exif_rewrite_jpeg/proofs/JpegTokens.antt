@@ -139,7 +139,7 @@ form_bytes remove None false true m rest r tok step is ih e =
     ∙ ap (λ l. text l ++ behind remove (trailer rest)) (sym (step r.out))
 form_bytes remove None false false m rest r tok step is ih e = ih e
 
--- what may stand in for the new segment, and its tokens
+-- what may be there in place of the new segment, and its tokens
 pub data New : List ℕ → List Token → Type 0 where
   no_new : New [] []
   new_exif : (payload : List ℕ) → Fits payload → New (exif_segment payload) (unit 1 225 (drop 2 (exif_segment payload)) ∷ [])

@@ -64,7 +64,7 @@ and_refused : (o : Option Refusal) (P Q : Refusal → Type 0) → ((r : Refusal)
 and_refused None P Q f h = tt
 and_refused (Some r) P Q f h = f r h
 
--- where there is no refusal, nothing is asked of one
+-- where there is no refusal, nothing is required of one
 pub none_refused : (o : Option Refusal) (P : Refusal → Type 0) → o ≡ None → MatchOption o (Unit {0}) P
 none_refused None P e = tt
 none_refused (Some r) P e = absurd (cc)
@@ -236,7 +236,7 @@ marks_all : (n : ℕ) → after_marks (replicate n 255 ++ []) ≡ []
 marks_all zero = refl
 marks_all (suc n) = marks_all n
 
--- where bytes end behind ffs alone, nothing stands behind these
+-- where bytes end behind ffs alone, nothing is behind these
 pub code_missing : (s : Stop) (a b : Option (List ℕ)) (n : ℕ) → Consumes a b (replicate n 255) → OnEnd {T = ℕ} (Err s) (IsAtEnd b)
     → OnEnd {T = ℕ × ℕ} (Err s) (IfSome a (λ xs. after_marks xs ≡ []))
 code_missing s a b n h = on_end ℕ (ℕ × ℕ) s (IsAtEnd b) (IfSome a (λ xs. after_marks xs ≡ [])) (go a b h)

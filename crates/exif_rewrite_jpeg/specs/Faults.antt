@@ -1,4 +1,4 @@
--- What stops a rewriting, and how errors tell it.
+-- What stops a rewriting, and how errors report it.
 use Rattle.std.specs.Prelude.{◌≡◌, List, [], ◌∷◌, Bool, true, false, ◌||◌, ⊤, Option, None, Some, Result, Ok, Err}
 use Rattle.exif_types.specs.Failures.{Failure}
 use Rattle.exif_types.specs.Refusals.{Refusal, refusal_of, is_io_error}

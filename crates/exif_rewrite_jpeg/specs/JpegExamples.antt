@@ -5,7 +5,7 @@ use Rattle.exif_segments.specs.declared.remove.Remove.TheVariants.{Exif, Metadat
 use Rattle.exif_rewrite_jpeg.specs.Rewriting.{ends, finished, cut_off}
 use Rattle.exif_rewrite_jpeg.specs.RewrittenJpeg.{exif_segment, jpeg_rewriting}
 
--- new data stand behind APP0, and what follows EOI stays
+-- new data are behind APP0, and what follows EOI stays
 placed_behind : jpeg_rewriting Exif (Some (codes "ab"))
     (255 ∷ 216 ∷ 255 ∷ 224 ∷ 0 ∷ 2 ∷ 255 ∷ 218 ∷ 0 ∷ 2 ∷ 7 ∷ 255 ∷ 217 ∷ 9 ∷ [])
     ≡ ends finished (255 ∷ 216 ∷ 255 ∷ 224 ∷ 0 ∷ 2

@@ -38,7 +38,7 @@ abbrev pub end_of : Ended → List ℕ → End
 end_of ended.Whole new = finished
 end_of ended.Cut new = cut_off new
 
--- an end is told so
+-- an end is reported so
 abbrev pub IsEnded : Ended → End → Type 0
 IsEnded ended.Whole end = end ≡ finished
 IsEnded ended.Cut end = (new : List ℕ) × (end ≡ cut_off new)
@@ -59,7 +59,7 @@ waits_in (cut_off new) = new
 waits_in finished = []
 waits_in (refused_by r) = []
 
--- where bytes end before the image, what stands is sent, and behind it what still waited
+-- where bytes end before the image, what there is is sent, and after it what still waited
 abbrev pub as_it_stands : Rewriting → Rewriting
 as_it_stands r = record { out = r.out ++ waits_in r.end; end = r.end }
 

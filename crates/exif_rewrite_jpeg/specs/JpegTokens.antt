@@ -1,4 +1,4 @@
--- A JPEG image as its tokens: bytes that stand in no unit, as those of scans, and units.
+-- A JPEG image as its tokens: bytes that are in no unit, as those of scans, and units.
 use Rattle.std.specs.Prelude.{◌≡◌, ⊤, ℕ, zero, suc, List, [], ◌∷◌, ◌++◌, ◌⊎◌, length, map, drop, Bool, true, false, ◌||◌, ◌==◌, if◌then◌else◌, Option, None, Some}
 use Rattle.std.specs.List.{flat_map}
 use Rattle.exif_segments.specs.Jpeg.{JpegUnit, from_mark, first_unit}

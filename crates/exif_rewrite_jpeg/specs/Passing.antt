@@ -10,7 +10,7 @@ use Rattle.exif_rewrite_jpeg.specs.Faults.{fault_refusal}
 use Rattle.exif_rewrite_jpeg.specs.Rewriting.{Rewriting, End, finished, refused_by, Follows}
 use Rattle.exif_rewrite_jpeg.specs.RewrittenJpeg.{outside}
 
--- told bytes went from the one list to the other, and some were sent, by P
+-- known bytes went from the one list to the other, and some were sent, by P
 abbrev pub Passes : Option (List ℕ) → Option (List ℕ) → Option (List ℕ)
     → Option (List ℕ) → (List ℕ → List ℕ → List ℕ → Type 0) → Type 0
 Passes old new taken taken' P =

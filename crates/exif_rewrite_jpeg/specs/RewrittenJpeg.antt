@@ -16,7 +16,7 @@ abbrev pub before_mark : List ℕ → List ℕ
 before_mark [] = []
 before_mark (b ∷ bytes) = if b == 255 then [] else b ∷ before_mark bytes
 
--- how many ffs stand at the front
+-- how many ffs are at the front
 abbrev pub marks : List ℕ → ℕ
 marks [] = 0
 marks (b ∷ bytes) = if b == 255 then suc (marks bytes) else 0

@@ -181,7 +181,7 @@ four (a ∷ b ∷ []) h = absurd (omega arith)
 four (a ∷ b ∷ c ∷ []) h = absurd (omega arith)
 four (a ∷ b ∷ c ∷ d ∷ rest) h = refl
 
--- where there is space and are bytes for a name and a size, the first chunk is the one that they tell
+-- where there is space and are bytes for a name and a size, the first chunk is the one that they name
 pub first_whole : (space : ℕ) (bytes : List ℕ) → 8 ≤ space → 8 ≤ length bytes
     → first_chunk space bytes
     ≡ chunk_of (get_or bytes 0 0 ∷ get_or bytes 1 0 ∷ get_or bytes 2 0 ∷ get_or bytes 3 0 ∷ [])

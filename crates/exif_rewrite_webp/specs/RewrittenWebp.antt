@@ -13,7 +13,7 @@ use Rattle.exif_segments.specs.declared.remove.Remove.TheVariants.{Exif, Metadat
 use Rattle.exif_segments.specs.Removing.{too_large, behind}
 use Rattle.exif_rewrite_webp.specs.WebpChunks.{Chunk, file_body, chunks_text, file_text}
 
--- no image header stands in front
+-- no image header is in front
 abbrev pub no_canvas : Refusal
 no_canvas = not_supported (codes "WebP file without an image header")
 
@@ -114,8 +114,8 @@ abbrev pub is_put : Option (List ℕ) → Bool
 is_put None = false
 is_put (Some payload) = true
 
--- a canvas, the chunks that stay with their flags right, and new data: metadata may stand anywhere,
--- so new ones stand last
+-- a canvas, the chunks that stay with their flags right, and new data: metadata may be anywhere,
+-- so new ones are last
 abbrev pub new_chunks : Remove → Option (List ℕ) → List Chunk → Option (List ℕ)
     → List Chunk
 new_chunks remove put cs made =

@@ -25,7 +25,7 @@ use std::alloc::Global;
 /// chunks that are not known and what follows the RIFF file. The flags of `VP8X` tell what is
 /// there.
 ///
-/// New data, which are TIFF data, stand in a last chunk `EXIF`. A file that has no `VP8X` is given
+/// New data, which are TIFF data, are in a last chunk `EXIF`. A file that has no `VP8X` is given
 /// one, made of the header of its image. The size of the file is set right, and odd payloads are
 /// padded. The file is read whole into memory, and all is settled before the first byte is sent.
 /// The sink is flushed once, at the end.

@@ -35,7 +35,7 @@ fn send_pad<W: Sink>(out: &mut W, len: usize) -> io::Result<()>
     Ok(())
 }
 
-// Sends a chunk whose payload stands in two parts, of so many bytes together.
+// Sends a chunk whose payload is in two parts, of so many bytes together.
 fn send_parts<W: Sink>(
     out: &mut W,
     name: [u8; 4],

@@ -116,7 +116,7 @@ holds_after Q None b l m P f g s h k = tt
 holds_after Q (Some xs) None l m P f g s h k = absurd h
 holds_after Q (Some xs) (Some ys) l m P f g s h k = rw (s (take l xs) (take m ys) h.0) k
 
--- a refusal for want of a code
+-- a refusal where no marker code follows
 pub short_refuses : (e : Failure) (a : Option (List ℕ)) (l : ℕ) → IsShort broken_jpeg e a (λ xs. code_onwards (take l xs) ≡ [])
     → IfSome a (λ xs. Fails e (answer_from (take l xs)))
 short_refuses e a l = fails_short e a l (λ xs. code_onwards xs ≡ []) answer_from answer-no_code

@@ -104,7 +104,7 @@ with_body-some code len bytes v = by (leb len (length bytes)) refl
     by true is e = (leb-true len (length bytes) is, cc)
     by false is e = absurd (cc)
 
--- the identifier stands in front, or it does not
+-- the identifier is in front, or it does not
 id-there : (content : List ℕ) → begins_exif content ≡ true → exif_id ++ drop 6 content ≡ content
 id-there content e = ap (λ t. t ++ drop 6 content) (sym ((bytes_eq-Decides (take 6 content) (codes "Exif\0\0")).0 e)) ∙ take-append-drop 6 content
 

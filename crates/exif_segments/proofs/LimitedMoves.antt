@@ -1,4 +1,4 @@
--- One step after another on told bytes of which only the first so many count.
+-- One step after another on known bytes of which only the first so many count.
 use Rattle.std.proofs.Common.{◌≡◌, ◌≢◌, ℕ, suc, ◌+◌, ◌-◌, ◌*◌, cond, List, [], ◌∷◌, ◌++◌, length, take, drop, Option, None, Some, IfSome, ap, sym, ◌∙◌, refl, add_comm, arith}
 use Rattle.std.specs.List.{All}
 use Rattle.std.proofs.Math.Seq.{take-append-add, drop-append-add}

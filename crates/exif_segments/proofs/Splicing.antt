@@ -1,4 +1,4 @@
--- The Exif data of JPEG streams and WebP files can be replaced where they stand.
+-- The Exif data of JPEG streams and WebP files can be replaced where they are.
 use Rattle.std.proofs.Common.{◌≡◌, ◌+◌, ◌*◌, ℕ, Bool, true, false, eqb, if◌then◌else◌, List, [], ◌∷◌, ◌++◌, length, replicate, Option, Some, None, Result, Ok, Err, refl, sym, ap, subst, ◌∙◌, append_assoc, append-nil}
 use Rattle.std.specs.Prelude.{nat_lt, ◌==◌}
 use Rattle.std.specs.List.{All, flat_map}
@@ -85,7 +85,7 @@ abbrev with_data : UnitTree → ℕ → ℕ → List ℕ → UnitTree
 with_data u high low new =
     record { passed = u.passed; fill = u.fill; code = u.code; brought = exif high low new }
 
--- what stands in front of the data of a unit
+-- what is in front of the data of a unit
 abbrev before_data : UnitTree → ℕ → ℕ → List ℕ
 before_data u high low =
     u.passed ++ (255 ∷ (replicate u.fill 255 ++ (u.code ∷ high ∷ low ∷ exif_id)))
@@ -142,7 +142,7 @@ pub record JpegAround (file p rest : List ℕ) : Type 0 where
   pub others : (new : List ℕ) → length new ≡ length p
       → jpeg_answer (255 ∷ 216 ∷ (front ++ (new ++ rest))) ≡ found new rest
 
--- a JPEG stream with data stands around them, and others as long are answered in their place
+-- a JPEG stream surrounds its data, and others as long are answered in their place
 pub jpeg_around : (file p rest : List ℕ) → jpeg_answer file ≡ found p rest → JpegAround file p rest
 jpeg_around file p rest e =
     let t = jpeg_tree file p rest e in
@@ -252,7 +252,7 @@ pub record WebpAround (file p rest : List ℕ) : Type 0 where
   pub others : (new : List ℕ) → length new ≡ length p
       → webp_answer (webp.print_header size ++ (front ++ (new ++ rest))) ≡ found new rest
 
--- a WebP file with data stands around them, and others as long are answered in their place
+-- a WebP file surrounds its data, and others as long are answered in their place
 pub webp_around : (file p rest : List ℕ) → webp_answer file ≡ found p rest → WebpAround file p rest
 webp_around file p rest e =
     let t = webp_tree file p rest e in

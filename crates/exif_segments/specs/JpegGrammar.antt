@@ -90,7 +90,7 @@ abbrev pub IsEnding : Ending → Type 0
 IsEnding (speaking u said rest) = IsUnit u × (unit_says u ≡ Some said)
 IsEnding (cut bytes) = HasNoUnit bytes
 
--- what was said, and all that follows
+-- what was described, and all that follows
 abbrev pub answer_said : List ℕ → Result (List ℕ) Refusal → Answer
 answer_said rest (Ok payload) = found payload rest
 answer_said rest (Err r) = refused r

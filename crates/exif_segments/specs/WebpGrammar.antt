@@ -39,7 +39,7 @@ pub record IsChunk (space : ℕ) (c : ChunkTree) : Type 0 where
   pub payload_len : length c.payload ≡ little_number 4 c.size
   pub fits : little_number 4 c.size ≤ space - 8
 
--- a chunk with Exif data asks for no pad byte
+-- a chunk with Exif data needs no pad byte
 pub record IsExif (space : ℕ) (c : ChunkTree) : Type 0 where
   pub chunk : IsChunk space c
   pub name_is : c.name ≡ codes "EXIF"

@@ -26,7 +26,7 @@ status_of (Err e) = 1
 unfoldable pub said_line : List ℕ → List ℕ
 said_line text = codes "exif_show: " ++ (text ++ codes "\n")
 
--- an error's line was sent, where its text is told
+-- an error's line was sent, where its text is known
 abbrev pub SaysWhole : Failure → Option (List ℕ) → Option (List ℕ) → Type 0
 SaysWhole e old new = IfSome (error_text e) (λ text. Appends old new (said_line text))
 
@@ -34,12 +34,12 @@ SaysWhole e old new = IfSome (error_text e) (λ text. Appends old new (said_line
 abbrev pub Says : Failure → Option (List ℕ) → Option (List ℕ) → Type 0
 Says e old new = IfSome (error_text e) (λ text. SendsFront old new (said_line text))
 
--- an error alone is said, as far as memory and the device allow
+-- an error alone is reported, as far as memory and the device allow
 abbrev pub SaysError : Result ℕ Failure → Option (List ℕ) → Option (List ℕ) → Type 0
 SaysError (Ok count) old new = Keeps old new
 SaysError (Err e) old new = Says e old new
 
--- a file's report, the status that tells of it, its error's line, and the counts of both devices
+-- a file's report, the status that goes with it, its error's line, and the counts of both devices
 pub record Shows (left : Option (List ℕ)) (lenient : Bool) (status : ℕ)
     (out out' err err' : Option (List ℕ)) (read read' written written' : ℕ) : Type 0 where
   pub found : Result ℕ Failure

@@ -45,7 +45,7 @@ pub fn show<R: Source, W: Sink, E: Sink>(
         Ok(0) => 0,
         Ok(_) => 3,
         Err(error) => {
-            // The status tells of the error, whether or not its line comes through.
+            // The status reports the error, whether or not its line comes through.
             let _ = say(alloc, err, &error);
             1
         }

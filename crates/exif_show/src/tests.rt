@@ -24,7 +24,7 @@ impl Read for Broken {
     }
 }
 
-// A writer with room for so many bytes, which fails once they are used up.
+// A writer with space for so many bytes, which fails once they are used up.
 #[derive(Drop)]
 struct Short {
     taken: Vec<u8>,
@@ -47,7 +47,7 @@ impl Write for Short {
     }
 }
 
-// What is shown of data: the status, and what went to either writer, each with so much room.
+// What is shown of data: the status, and what went to either writer, each with so much space.
 fn shown(
     rt: &HostRuntime,
     bytes: &[u8],

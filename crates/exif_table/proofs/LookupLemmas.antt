@@ -23,7 +23,7 @@ module _ {X : Type 0} (key : X → ℕ) where
       let first = rises_head low x xs h in
       omega (arith, first.0, rises_above (key x + 1) xs first.1 j d (omega arith))
 
-  -- keys rise with their places
+  -- keys rise with their positions
   pub rises_pairs : (low : ℕ) (xs : List X) → rises_from key low xs ≡ true → (i j : ℕ) (d : X) → i < j → j < length xs → key (get_or xs i d) < key (get_or xs j d)
   rises_pairs low [] h i j d lt within = absurd (omega arith)
   rises_pairs low (x ∷ xs) h i zero d lt within = absurd (omega arith)
@@ -42,7 +42,7 @@ module _ {X : Type 0} (key : X → ℕ) where
         let here : (key x == n) ≡ false = grind (arith, nat_tests, h zero x) in
         rw here (find_nowhere xs (λ k d lt. h (suc k) d (omega arith)))
 
-    -- the element at the first place whose key is n is found
+    -- the element at the first position whose key is n is found
     find_somewhere : (xs : List X) (i : ℕ) (y : X) → i < length xs → ((d : X) → get_or xs i d ≡ y) → key y ≡ n → ((k : ℕ) (d : X) → k < i → (key (get_or xs k d) ≡ n → ⊥)) → find (λ x. key x == n) xs ≡ Some y
     find_somewhere [] i y within at same h = absurd (omega arith)
     find_somewhere (x ∷ xs) zero y within at same h =
@@ -53,13 +53,13 @@ module _ {X : Type 0} (key : X → ℕ) where
         rw here (find_somewhere xs i y (omega arith) at same (λ k d lt. h (suc k) d (omega arith)))
 
   module _ (xs : List X) (rising : is_rising key xs ≡ true) (n : ℕ) where
-    -- the comparisons with n rise along the table, as a binary search asks
+    -- the comparisons with n rise along the table, as a binary search needs
     comparisons_rise : IsNonDecreasingBy (λ x. ordering_index (nat_cmp (key x) n)) xs
     comparisons_rise i j d le within =
         let keys_rise : key (get_or xs i d) ≤ key (get_or xs j d) = grind (arith, rises_pairs zero xs rising i j d, λ (same : i ≡ j). ap (λ k. key (get_or xs k d)) same) in
         grind (arith, nat_tests)
 
-    -- what a binary search found at a place
+    -- what a binary search found at a position
     pub searched_ok : (i : ℕ) → i < length xs → IsBinarySearchResult (λ x. nat_cmp (key x) n) xs (Ok i) → (d : X) → find (λ x. key x == n) xs ≡ Some (get_or xs i d)
     searched_ok i within found d =
         let same : key (get_or xs i d) ≡ n = ranked _ n _ (sym (found d)) in

@@ -12,13 +12,13 @@ context_name Exif = codes "Exif"
 context_name Gps = codes "Gps"
 context_name Interop = codes "Interop"
 
--- the place of a context in the order of contexts
+-- the position of a context in the order of contexts
 abbrev pub context_rank : Context → ℕ
 context_rank Tiff = 0
 context_rank Exif = 1
 context_rank Gps = 2
 context_rank Interop = 3
 
--- contexts by their places: Tiff, Exif, Gps, Interop
+-- contexts by their positions: Tiff, Exif, Gps, Interop
 abbrev pub context_order : Context → Context → Ordering
 context_order a b = nat_cmp (context_rank a) (context_rank b)

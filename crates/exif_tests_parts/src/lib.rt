@@ -1,4 +1,4 @@
-//! The tests of what stands below the reader: devices, numbers, lists, the tag table, values and their
+//! The tests of what is below the reader: devices, numbers, lists, the tag table, values and their
 //! texts, dates, and the containers, each by its public calls.
 #![tactic(auto)]
 

@@ -39,7 +39,7 @@ digit_more bytes i number n within read all value small =
       next_below number i n small (omega (arith, found.1, range)),
     )
 
--- the two bytes at a place
+-- the two bytes at a position
 two_bytes : (bytes : List ℕ) (from : ℕ) → from + 1 < length bytes → take 2 (drop from bytes) ≡ slice_index bytes from ∷ slice_index bytes (from + 1) ∷ []
 two_bytes [] from h = absurd (omega arith)
 two_bytes (x ∷ []) zero h = absurd (omega arith)
@@ -62,7 +62,7 @@ number_of_two a b =
     (λ (first : is_ascii_digit a ≡ false). rw first refl)
     (cases_Bool (is_ascii_digit a))
 
--- the number of the two digits at a place
+-- the number of the two digits at a position
 pub two_read : (bytes : List ℕ) (from : ℕ) → from + 1 < length bytes
     → number_in (take 2 (drop from bytes)) ≡ (if are_two_at bytes from then Ok (two_at bytes from) else Err NotANumber)
 two_read bytes from h = ap number_in (two_bytes bytes from h) ∙ number_of_two (slice_index bytes from) (slice_index bytes (from + 1))

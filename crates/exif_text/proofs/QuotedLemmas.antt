@@ -92,7 +92,7 @@ all_bytes (x ∷ xs) h = (h 0, all_bytes xs (λ k. h (suc k)))
 pub quoted_injective : (xs ys : List ℕ) → ((k : ℕ) → get_or xs k 0 < 256) → ((k : ℕ) → get_or ys k 0 < 256) → quoted xs ≡ quoted ys → xs ≡ ys
 quoted_injective xs ys hx hy h = bodies xs ys (all_bytes xs hx) (all_bytes ys hy) cc
 
--- ---- bytes that stand between the quotes as they are
+-- ---- bytes that are between the quotes as they are
 
 plain_itself : (b : ℕ) → is_plain b ≡ true → escaped b ≡ b ∷ []
 plain_itself b is = grind (arith, nat_tests)

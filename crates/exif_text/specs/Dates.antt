@@ -1,4 +1,4 @@
--- Dates and times by the places of their digits (Exif 2.32, sections 4.6.4 and 4.6.5).
+-- Dates and times by the positions of their digits (Exif 2.32, sections 4.6.4 and 4.6.5).
 use Rattle.std.specs.Prelude.{ℕ, ◌+◌, ◌*◌, ◌==◌, ◌&&◌, ◌||◌, not, nat_lt, nat_eq, if◌then◌else◌, Bool, List, ◌++◌, length, codes, slice_index, Result, Ok, Err, ℤ, pos, ◌-ℤ◌}
 use Rattle.std.specs.Cmp.Lexicographic.{pointwise}
 use Rattle.exif_text.specs.declared.date.Date.{Date}

@@ -21,7 +21,7 @@ unfoldable pub without_last_zeros : List ℕ → List ℕ
 without_last_zeros [] = []
 without_last_zeros (d ∷ ds) = push_unless_last_zero d (without_last_zeros ds)
 
--- what stands behind the whole part, for that many billionths below one: nothing, or a point and
+-- what is behind the whole part, for that many billionths below one: nothing, or a point and
 -- digits
 unfoldable pub fraction_text : ℕ → List ℕ
 fraction_text billionths = if billionths == 0 then []

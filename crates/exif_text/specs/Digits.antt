@@ -1,4 +1,4 @@
--- Numbers that ASCII digits spell, also at places of a text.
+-- Numbers in ASCII digits, also at positions of a text.
 use Rattle.std.specs.Prelude.{ℕ, ◌+◌, ◌-◌, ◌*◌, ◌&&◌, nat_le, if◌then◌else◌, Bool, List, [], ◌∷◌, slice_index, Result, Ok, Err}
 use Rattle.std.specs.List.{list_all}
 use Rattle.std.specs.Char.{is_ascii_digit}
@@ -16,18 +16,18 @@ number_in [] = Err NotANumber
 number_in (d ∷ ds) =
     if list_all is_ascii_digit (d ∷ ds) then Ok (digits_value 10 (d ∷ ds)) else Err NotANumber
 
--- the digit at a place, as a number
+-- the digit at a position, as a number
 abbrev pub digit_at : List ℕ → ℕ → ℕ
 digit_at bytes i = slice_index bytes i - 48
 
--- a digit stands at a place
+-- a digit is at a position
 abbrev pub is_digit_at : List ℕ → ℕ → Bool
 is_digit_at bytes i = nat_le 48 (slice_index bytes i) && nat_le (slice_index bytes i) 57
 
--- the number that the two digits from a place on spell
+-- the number of the two digits from a position on
 abbrev pub two_at : List ℕ → ℕ → ℕ
 two_at bytes i = digit_at bytes i * 10 + digit_at bytes (i + 1)
 
--- two digits stand from a place on
+-- two digits are from a position on
 abbrev pub are_two_at : List ℕ → ℕ → Bool
 are_two_at bytes i = is_digit_at bytes i && is_digit_at bytes (i + 1)

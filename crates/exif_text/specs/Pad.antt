@@ -3,13 +3,13 @@ use Rattle.std.specs.Prelude.{ℕ, ◌-◌, ◌/◌, List, ◌++◌, length, rep
 use Rattle.std.specs.declared.fmt.Alignment.{Alignment}
 use Rattle.std.specs.declared.fmt.Alignment.TheVariants.{Left, Right, Center}
 
--- how many of the missing places stand before the text: of the centre the smaller half
+-- how many padding characters come before the text: of the centre the smaller half
 abbrev pub places_before : Alignment → ℕ → ℕ
 places_before Left missing = 0
 places_before Center missing = missing / 2
 places_before Right missing = missing
 
--- the text in at least width places
+-- the text in at least width characters
 abbrev pub pad : List ℕ → ℕ → Alignment → List ℕ
 pad text width align =
     let missing = width - length text in

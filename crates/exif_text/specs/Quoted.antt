@@ -14,7 +14,7 @@ escaped b =
     if b == 34 || b == 92 then 92 ∷ b ∷ []
     else (if nat_le 0x20 b && nat_le b 0x7e then b ∷ [] else 92 ∷ 120 ∷ hex_byte b)
 
--- whether a byte stands between the quotes as it is
+-- whether a byte is between the quotes as it is
 abbrev pub is_plain : ℕ → Bool
 is_plain b = nat_le 0x20 b && nat_le b 0x7e && not (b == 34) && not (b == 92)
 

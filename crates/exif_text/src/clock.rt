@@ -45,7 +45,7 @@ fn write_time<W: fmt::Write>(f: &mut fmt::Formatter<W>, time: TimeOfDay) -> fmt:
     write_two(f, time.second)
 }
 
-/// Writes a number with zeros before it up to two places.
+/// Writes a number with zeros before it up to two digits.
 pub fn write_two<W: fmt::Write>(f: &mut fmt::Formatter<W>, n: u8) -> fmt::Result
     ensures { WritesOnOk W.write_str_gives f.old result (zero_filled 2 (decimal n)) f.new }
 {

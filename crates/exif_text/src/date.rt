@@ -1,4 +1,4 @@
-//! Dates with their time of day, as their digits stand (Exif 2.32, section 4.6.4, DateTime).
+//! Dates with their time of day, as their digits are (Exif 2.32, section 4.6.4, DateTime).
 
 ghost use Rattle.std.specs.Prelude.{◌≡◌, ◌+◌, ◌<◌, ◌≤◌, length, Ok, Err, if◌then◌else◌};
 ghost use Rattle.exif_text.specs.declared.date_fault.DateFault.TheVariants.{NotANumber};
@@ -50,14 +50,14 @@ pub fn read_date_time(bytes: &[u8]) -> Result<(Date, TimeOfDay), DateFault>
     Ok((date, time))
 }
 
-/// Whether the bytes are 19 spaces, of which colons may stand at the places of colons.
+/// Whether the bytes are 19 spaces, of which those at the positions of colons may be colons.
 fn is_blank(bytes: &[u8]) -> bool
     ensures { result ≡ is_blank bytes.now }
 {
     bytes == b"    :  :     :  :  ".as_slice() || bytes == b"                   ".as_slice()
 }
 
-/// Whether colons and a space stand at their places.
+/// Whether colons and a space are at their positions.
 fn has_delimiters(bytes: &[u8]) -> bool
     requires { 19 ≤ length bytes.now }
     ensures { result ≡ has_delimiters bytes.now }
@@ -81,7 +81,7 @@ pub(crate) fn part(bytes: &[u8], from: usize) -> Result<u8, DateFault>
     }
 }
 
-/// The date that the digits of the fixed places spell.
+/// The date in the digits at the fixed positions.
 pub fn read_date(bytes: &[u8]) -> Result<Date, DateFault>
     requires { 10 ≤ length bytes.now }
     ensures { result ≡ read_date bytes.now }
@@ -95,7 +95,7 @@ pub fn read_date(bytes: &[u8]) -> Result<Date, DateFault>
     })
 }
 
-/// The time of day that the digits of the fixed places spell.
+/// The time of day in the digits at the fixed positions.
 fn read_time(bytes: &[u8]) -> Result<TimeOfDay, DateFault>
     requires { 19 ≤ length bytes.now }
     ensures { result ≡ read_time bytes.now }

@@ -9,7 +9,7 @@ pub enum DateFault {
     BlankDate,
     /// The date has fewer than 19 bytes.
     DateTooShort,
-    /// A colon of the date, or the space before its time, is not at its place.
+    /// A colon of the date, or the space before its time, is not at its position.
     InvalidDateDelimiter,
     /// A byte that should be a digit is none.
     NotANumber,
@@ -17,7 +17,7 @@ pub enum DateFault {
     BlankOffset,
     /// The offset has fewer than 6 bytes.
     OffsetTooShort,
-    /// The colon of the offset is not at its place.
+    /// The colon of the offset is not at its position.
     InvalidOffsetDelimiter,
     /// The offset begins with another byte than `+` and `-`.
     InvalidOffsetSign,

@@ -30,7 +30,7 @@ pub(crate) fn atou16(bytes: &[u8]) -> Result<u16, DateFault>
     Ok(number as u16)
 }
 
-/// The number that the two digits from a place on spell, or `None` where they are no digits.
+/// The number of the two digits from a position on, or `None` where they are no digits.
 pub fn two_digits(bytes: &[u8], from: usize) -> Option<u8>
     requires { from + 1 < length bytes.now }
     ensures { result ≡ (if are_two_at bytes.now from then Some (two_at bytes.now from) else None) }

@@ -7,8 +7,8 @@ ghost use Rattle.exif_text.specs.Pad.{pad, places_before};
 use std::fmt;
 use std::fmt::Alignment;
 
-/// Writes `text` with spaces around it, up to the width that `f` asks for, on the side that `f`
-/// names, else on `side`. Fill, zeros, sign and precision of `f` are ignored. Where `f` asks for
+/// Writes `text` with spaces around it, up to the width that `f` requests, on the side that `f`
+/// names, else on `side`. Fill, zeros, sign and precision of `f` are ignored. Where `f` requests
 /// nothing, it is the text alone.
 pub fn write_padded<W: fmt::Write>(
     f: &mut fmt::Formatter<W>,
@@ -29,7 +29,7 @@ pub fn write_padded<W: fmt::Write>(
     f.write_repeated(" ", missing.saturating_sub(before))
 }
 
-/// How many of the missing places stand before the text.
+/// How many padding characters come before the text.
 fn places_before(align: Alignment, missing: usize) -> usize
     ensures { result ≡ places_before align missing }
 {

@@ -25,7 +25,7 @@ impl fmt::Display for Quoted<'_> {
     }
 }
 
-/// The bytes as a text, where each stands between the quotes as it is: as most do, and then they go
+/// The bytes as a text, where each is between the quotes as it is: as most do, and then they go
 /// out in one piece.
 fn as_they_are(bytes: &[u8]) -> Option<&str>
     ensures { IfSome result (λ text. text.now ≡ flat_map escaped bytes.now) }
@@ -39,21 +39,21 @@ fn as_they_are(bytes: &[u8]) -> Option<&str>
     }
 }
 
-/// Whether each byte stands between the quotes as it is.
+/// Whether each byte is between the quotes as it is.
 fn are_plain(bytes: &[u8]) -> bool
     ensures { result ≡ list_all is_plain bytes.now }
 {
     bytes.iter().all(|byte| is_plain(*byte))
 }
 
-/// Whether a byte stands between the quotes as it is.
+/// Whether a byte is between the quotes as it is.
 fn is_plain(byte: u8) -> bool
     ensures { result ≡ is_plain byte }
 {
     matches!(byte, 0x20..=0x7e) && byte != b'"' && byte != b'\\'
 }
 
-/// Writes the bytes as they stand between the quotes, one after the other.
+/// Writes the bytes as they are between the quotes, one after the other.
 fn write_each<W: fmt::Write>(f: &mut fmt::Formatter<W>, bytes: &[u8]) -> fmt::Result
     ensures { WritesOnOk W.write_str_gives f.old result (flat_map escaped bytes.now) f.new }
 {
@@ -63,7 +63,7 @@ fn write_each<W: fmt::Write>(f: &mut fmt::Formatter<W>, bytes: &[u8]) -> fmt::Re
     Ok(())
 }
 
-/// Writes a byte as it stands between the quotes.
+/// Writes a byte as it is between the quotes.
 fn write_escaped<W: fmt::Write>(f: &mut fmt::Formatter<W>, byte: u8) -> fmt::Result
     ensures { WritesOnOk W.write_str_gives f.old result (escaped byte) f.new }
 {

@@ -17,7 +17,7 @@ use Rattle.exif_text.specs.declared.field_type.FieldType.TheVariants as field_ty
 use Rattle.exif_types.specs.declared.value.Value.{Value}
 use Rattle.exif_types.specs.declared.value.Value.TheVariants as value
 
--- the same byte stands in both at each offset of a stretch
+-- the same byte is in both at each offset of a stretch
 abbrev pub Same : List ℕ → List ℕ → ℕ → ℕ → Type 0
 Same a b p n = (i : ℕ) → p ≤ i → i < p + n → slice_index a i ≡ slice_index b i
 
@@ -112,7 +112,7 @@ single_alike count a b p e =
     let one : 1 * count ≡ count = omega arith in
     rw one at e
 
--- a value of a type, where the bytes that it stands in are the same
+-- a value of a type, where the bytes that hold it are the same
 type_alike : (order : Order) (t : FieldType) (count : ℕ) (a b : List ℕ) (p : ℕ)
     → bytes_at (unit_length t * count) a p ≡ bytes_at (unit_length t * count) b p
     → decode_as (number_of order) t count a p ≡ decode_as (number_of order) t count b p

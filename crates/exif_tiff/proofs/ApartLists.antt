@@ -1,4 +1,4 @@
--- Stretches that stand apart: lists of them, joined, and what lies between two places.
+-- Stretches that are apart: lists of them, joined, and what lies between two offsets.
 use Rattle.std.proofs.Common.{◌≡◌, ◌≤◌, ◌+◌, ◌⊎◌, inl, inr, Bool, true, false, List, [], ◌∷◌, ◌++◌, refl, arith}
 use Rattle.std.specs.Prelude.{◌&&◌, nat_lt}
 use Rattle.std.specs.List.{AllByRecursion, list_any}

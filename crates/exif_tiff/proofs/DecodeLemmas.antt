@@ -12,7 +12,7 @@ pub items_at_step : {X : Type 0} (item : ℕ → X) (unit count i p : ℕ) → i
 items_at_step item unit count i p h =
     let e : count - i ≡ suc (count - (i + 1)) = omega arith in rw e refl
 
--- and take the room of that one and of the rest
+-- and take the space of that one and of the rest
 pub room_step : (unit count i : ℕ) → i < count → unit * (count - i) ≡ unit + unit * (count - (i + 1))
 room_step unit count i h =
     let e : count - i ≡ suc (count - (i + 1)) = omega arith in

@@ -63,7 +63,7 @@ module _ (order : Order) (a b : List ℕ) (as_long : length a ≡ length b) wher
   whole_by : (p : ℕ) → Same a b p 2 → whole_entries number a p ≡ whole_entries number b p
   whole_by p h = let count = number_same order 2 a b p h in rw (as_long, count) refl
 
-  -- where both have the same count there, the entries stand at the same offsets
+  -- where both have the same count there, the entries are at the same offsets
   pub offsets_by : (p : ℕ) → Same a b p 2 → entry_offsets number a p ≡ entry_offsets number b p
   offsets_by p h = ap (spaced (p + 2) 12) (whole_by p h)
 
@@ -76,7 +76,7 @@ module _ (order : Order) (a b : List ℕ) (as_long : length a ≡ length b) wher
   pub whole_same : (p : ℕ) → Alike p → whole_entries number a p ≡ whole_entries number b p
   whole_same p h = whole_by p (counts p h)
 
-  -- where both agree on a directory, its entries stand at the same offsets
+  -- where both agree on a directory, its entries are at the same offsets
   pub offsets_same : (p : ℕ) → Alike p → entry_offsets number a p ≡ entry_offsets number b p
   offsets_same p h = offsets_by p (counts p h)
 

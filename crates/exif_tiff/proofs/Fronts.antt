@@ -132,7 +132,7 @@ module _ (order : Order) (a b : List ℕ) (longer : length a ≤ length b)
             (number_at number 4 b (p + 2 + 12 * m)) next first second third (sym at ∙ tests.1));
       }
 
-  -- the entries stand in the front
+  -- the entries are in the front
   abbrev StandsIn : ℕ → Type 0
   StandsIn e = e + 12 ≤ length a
 

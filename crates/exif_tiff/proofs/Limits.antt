@@ -57,7 +57,7 @@ cut_faults n nodes c = ap faults_of c.ended ∙ faults-append c.front (Met TooMa
 cut_fields : (n : ℕ) (nodes : List Node) (c : IsCut n nodes) → fields_of (cut n nodes) ≡ fields_of c.front ++ []
 cut_fields n nodes c = ap fields_of c.ended ∙ fields-append c.front (Met TooManyEntries ∷ [])
 
--- the fault of a limit is met exactly where the data have more entries to visit
+-- the fault of a limit is found exactly where the data have more entries to visit
 pub limit_met : (n : ℕ) (bytes : List ℕ) → LimitIsMet n bytes
 limit_met n bytes = (
   λ met. ⊎_elim
@@ -100,7 +100,7 @@ cut_answer n bytes lenient c =
     ∙ (λ i. answer_of lenient (record { fields = (cut_fields n (trace bytes) c ∙ append-nil (fields_of c.front)) i; faults = cut_faults n (trace bytes) c i })))
     (headers bytes)
 
--- past the limit lenient reading gives what stood before the cut, then the limit's fault
+-- past the limit lenient reading gives what was before the cut, then the limit's fault
 pub lenient_answers_cut : (n : ℕ) (bytes : List ℕ) → LenientAnswersCut n bytes
 lenient_answers_cut n bytes c = cut_answer n bytes true c ∙ lenient_partial (fields_of c.front) (faults_of c.front)
 
@@ -126,7 +126,7 @@ front_soft n bytes c =
     all_left (λ fault. is_soft fault ≡ true) (faults_of c.front) (faults_of (Visit ∷ c.rest))
     (subst (AllByRecursion (λ fault. is_soft fault ≡ true)) (ap faults_of c.whole ∙ faults-append c.front (Visit ∷ c.rest)) (each_soft bytes))
 
--- strict reading refuses for the limit exactly where it cuts and no fault stands before that
+-- strict reading refuses for the limit exactly where it cuts and no fault is before that
 pub strict_refuses_cut : (n : ℕ) (bytes : List ℕ) → StrictRefusesCut n bytes
 strict_refuses_cut n bytes = (
   λ e. ⊎_elim

@@ -5,7 +5,7 @@ use Rattle.exif_tiff.specs.declared.fault.Fault.{Fault}
 use Rattle.exif_base.specs.Orders.{number_of}
 use Rattle.exif_tiff.specs.Trace.{Content, content_of, limited, header, ordered_trace}
 
--- a refusal; all the fields; or the fields and the faults that were met
+-- a refusal; all the fields; or the fields and the faults that were found
 pub data Answer : Type 0 where
   Refused : Fault → Answer
   Whole : List Field → Answer

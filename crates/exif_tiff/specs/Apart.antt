@@ -1,4 +1,4 @@
--- Whether the stretches where reading looks stand apart.
+-- Whether the stretches where reading looks are apart.
 use Rattle.std.specs.Prelude.{ℕ, ◌+◌, ◌&&◌, nat_lt, not, Bool, true, List, [], ◌∷◌}
 use Rattle.std.specs.List.{list_any}
 use Rattle.exif_tiff.specs.Footprint.{Stretch, footprint}

@@ -66,7 +66,7 @@ abbrev pub directory_stretch : Reading → List ℕ → ℕ → Stretch
 directory_stretch number bytes p =
     record { offset = p; len = 2 + 12 * whole_entries number bytes p + 4 }
 
--- the value of the entry at e, if it stands outside of the entry and lies in the data
+-- the value of the entry at e, if it is outside of the entry and lies in the data
 abbrev pub value_stretch : Reading → List ℕ → ℕ → List Stretch
 value_stretch number bytes e =
     let size = known_length (type_of (number_at number 2 bytes (e + 2)))
@@ -98,7 +98,7 @@ footprint bytes =
 
 -- ---- laws
 
--- the same bytes stand in a stretch of both
+-- the same bytes are in a stretch of both
 abbrev pub Agree : List ℕ → List ℕ → Stretch → Type 0
 Agree a b s = bytes_at s.len a s.offset ≡ bytes_at s.len b s.offset
 

@@ -9,7 +9,7 @@ stretch offset len = record { offset = offset; len = len }
 wrong_header : footprint (77 ∷ 73 ∷ 0 ∷ 42 ∷ 0 ∷ 0 ∷ 0 ∷ 8 ∷ []) ≡ stretch 0 8 ∷ []
 wrong_header = refl
 
--- a description that stands behind its entry, and five bytes that nothing points to
+-- a description that is behind its entry, and five bytes that nothing points to
 abbrev described : List ℕ
 described =
     77 ∷ 77 ∷ 0 ∷ 42 ∷ 0 ∷ 0 ∷ 0 ∷ 8
@@ -25,7 +25,7 @@ described_footprint = refl
 cut_footprint : footprint (take 32 described) ≡ stretch 0 8 ∷ stretch 8 18 ∷ []
 cut_footprint = refl
 
--- an Exif directory whose version stands in its entry
+-- an Exif directory whose version is in its entry
 abbrev child : List ℕ
 child =
     77 ∷ 77 ∷ 0 ∷ 42 ∷ 0 ∷ 0 ∷ 0 ∷ 8

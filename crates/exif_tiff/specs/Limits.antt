@@ -13,7 +13,7 @@ VisitsAreLimited n nodes = visits_of (cut n nodes) ≡ min n (visits_of nodes)
 abbrev pub IsKeptWithin : ℕ → List Node → Type 0
 IsKeptWithin n nodes = visits_of nodes ≤ n → cut n nodes ≡ nodes
 
--- what stood before the visit after the first n is left, and behind it stands the fault of the
+-- what was before the visit after the first n is left, and behind it is the fault of the
 -- limit alone
 pub record IsCut (n : ℕ) (nodes : List Node) : Type 0 where
   pub front : List Node
@@ -37,7 +37,7 @@ AnswersWithin n bytes =
     (lenient : Bool) → visits_of (trace bytes) ≤ n
     → raw_answer lenient (Some n) bytes ≡ raw_answer lenient None bytes
 
--- past it lenient reading answers what stood before the cut, and the fault of the limit behind the
+-- past it lenient reading answers what was before the cut, and the fault of the limit behind the
 -- faults
 abbrev pub LenientAnswersCut : ℕ → List ℕ → Type 0
 LenientAnswersCut n bytes =
@@ -45,7 +45,7 @@ LenientAnswersCut n bytes =
     → raw_answer true (Some n) bytes
     ≡ Partial (fields_of found.front) (faults_of found.front ++ TooManyEntries ∷ [])
 
--- strict reading refuses for the limit exactly where there are more entries and no fault stands
+-- strict reading refuses for the limit exactly where there are more entries and no fault is
 -- before the cut
 abbrev pub StrictRefusesCut : ℕ → List ℕ → Type 0
 StrictRefusesCut n bytes =

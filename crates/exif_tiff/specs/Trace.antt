@@ -1,4 +1,4 @@
--- The directories of TIFF data, as a list of what stands in them from first to last (TIFF 6.0,
+-- The directories of TIFF data, as a list of what is in them from first to last (TIFF 6.0,
 -- section 2; Exif 2.32, 4.6.3).
 use Rattle.std.specs.Prelude.{ℕ, zero, suc, ◌+◌, ◌-◌, ◌*◌, ◌/◌, ◌^◌, ◌==◌, ◌&&◌, true, false, if◌then◌else◌, nat_lt, nat_le, min, List, [], ◌∷◌, ◌++◌, length, slice_index, Option, Some, None, Result, Ok, Err}
 use Rattle.std.specs.List.{flat_map}
@@ -28,7 +28,7 @@ pub record Located : Type 0 where
 abbrev pub entry_of : Located → EntryOffset
 entry_of l = record { entry = l.entry; directory = l.directory }
 
--- what stands in a trace: a directory is opened, an entry is visited, a field is found, a fault is
+-- what is in a trace: a directory is opened, an entry is visited, a field is found, a fault is
 -- met
 pub data Node : Type 0 where
   Opens : DirectoryOffset → Node
@@ -52,7 +52,7 @@ entry_value number bytes e =
 abbrev pub whole_entries : Reading → List ℕ → ℕ → ℕ
 whole_entries number bytes p = min (number_at number 2 bytes p) ((length bytes - p - 2) / 12)
 
--- where they stand
+-- where they are
 abbrev pub entry_offsets : Reading → List ℕ → ℕ → List ℕ
 entry_offsets number bytes p = spaced (p + 2) 12 (whole_entries number bytes p)
 
@@ -163,11 +163,11 @@ header bytes =
           if number_at (number_of order) 2 bytes 2 == 42 then Ok order else Err InvalidFortyTwo
     ])
 
--- what stands in data with this order
+-- what is in data with this order
 unfoldable pub ordered_trace : Reading → List ℕ → List Node
 ordered_trace number bytes = chain_nodes 8 number bytes 0 (number_at number 4 bytes 4)
 
--- what stands in the data: nothing behind a wrong header
+-- what is in the data: nothing behind a wrong header
 unfoldable pub trace : List ℕ → List Node
 trace bytes =
     elim (header bytes) [ Ok order ↦ ordered_trace (number_of order) bytes | Err fault ↦ [] ]

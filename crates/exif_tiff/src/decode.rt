@@ -151,7 +151,8 @@ fn decode_items<T: Item, E: Endian>(
     Ok(Items::from_vec(items))
 }
 
-// The parts of bytes, each up to a zero byte or the end: mostly one, which has just its room.
+// The parts of bytes, each up to a zero byte or the end: mostly one, whose capacity is just its
+// length.
 fn parts_of(alloc: Global, bytes: &[u8]) -> Result<Items<Items<u8>>, AllocError>
     ensures { IfOk result (λ parts. parts ≡ slice_split (λ b. b == 0) bytes.now) }
 {

@@ -97,7 +97,7 @@ last_passes p (y ∷ xs) (suc i) x e h n =
 
 -- ---- entries
 
--- the number is the entry of a field of the list, of which the first stands at a position
+-- the number is the entry of a field of the list, of which the first is at a position
 abbrev IsEntryFrom : ℕ → List Field → ℕ → Type 0
 IsEntryFrom p fs e = (j : ℕ) × (f : Field) × (slice_get fs j ≡ Some f) × (e ≡ entry_of (key_of f.tag f.ifd_num) (p + j))
 
@@ -159,7 +159,7 @@ pub searched : (index : FieldIndex) (fields : List Field) (tag : Tag) (ifd_num :
     → tag.1 < 2 ^ 16 → end ≤ length index.entries.items → EndsUpTo (greatest_of key) index.entries.items end → Searched index fields tag ifd_num end
 searched index fields tag ifd_num key end i e n w p = (i, n, w, rw e at p)
 
--- the entry of a field of the name stands before the end
+-- the entry of a field of the name is before the end
 named_stands : (index : FieldIndex) (fields : List Field) (tag : Tag) (ifd_num : In) (end : ℕ) → Searched index fields tag ifd_num end
     → (j : ℕ) (f : Field) → slice_get fields j ≡ Some f → is_named tag ifd_num f ≡ true
     → (k : ℕ) × (k < end) × ((d : ℕ) → get_or index.entries.items k d ≡ entry_of (key_of tag ifd_num) j)
@@ -177,7 +177,7 @@ named_stands index fields tag ifd_num end s j f h n =
     lt_of_not-le (λ b. let above = rw c.2 at (s.3.1 c.0 e b c.1) in absurd (omega (arith, above, small))) in
     (c.0, before, λ d. get_or_default xs c.0 d e c.1 ∙ c.2)
 
--- no field stands in a directory behind the first eight
+-- no field is in a directory behind the first eight
 pub none_behind : (index : FieldIndex) (fields : List Field) (tag : Tag) (ifd_num : In) → Indexes index fields → 8 ≤ ifd_num.0
     → last_named fields tag ifd_num ≡ None
 none_behind index fields tag ifd_num i h =

@@ -3,7 +3,7 @@ use Rattle.std.proofs.Common.{◌≡◌, Option, None, Some, Result, Err, MatchO
 use Rattle.exif_types.specs.Failures.{Failure}
 use Rattle.exif_types.specs.Refusals.{Refusal, refusal_of, IsInterrupted, Refuses, Fails}
 
--- a definition hands a refusal of its part on
+-- a definition passes a refusal of its part on
 abbrev pub Keeps : {A B : Type 0} → (Result A Refusal → Result B Refusal) → Type 0
 Keeps f = (r : Refusal) → f (Err r) ≡ Err r
 

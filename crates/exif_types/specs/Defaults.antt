@@ -7,7 +7,7 @@ use Rattle.exif_types.specs.declared.value.Value.{Value}
 use Rattle.exif_types.specs.declared.value.Value.TheVariants as value
 use Rattle.exif_types.specs.TagRows.{row_of_tag}
 
--- a default of the table as a value; undefined bytes stand at offset 0
+-- a default of the table as a value; undefined bytes are at offset 0
 abbrev pub default_as : Default → Option Value
 default_as T.NoDefault = None
 default_as (T.Bytes ns) = Some (value.Byte ns)

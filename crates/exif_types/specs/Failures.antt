@@ -24,7 +24,7 @@ abbrev pub bytes_of : Option (Bor (List ℕ)) → List ℕ
 bytes_of (Some text) = text.now
 bytes_of None = []
 
--- how an error is shown; the text of a device's own error is not told
+-- how an error is shown; the text of a device's own error is not known
 abbrev pub error_text : Failure → Option (List ℕ)
 error_text (error.InvalidFormat text) = Some text.now
 error_text (error.NotFound what) = Some (codes "No Exif data found in " ++ what.now)

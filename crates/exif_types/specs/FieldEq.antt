@@ -58,7 +58,7 @@ named_Decides a b =
     (both (tag_eq b.tag a.tag) (b.ifd_num.0 == a.ifd_num.0) (tag_Decides b.tag a.tag)
     (ifd_Decides b.ifd_num a.ifd_num))
 
--- fields that the test tells equal are equal, and the other way round
+-- fields that the test finds equal are equal, and the other way round
 pub field_Decides : (a b : Field) → Decides (field_eq a b) (a ≡ b)
 field_Decides a b =
     along {r = field_eq a b} {P = ((a.tag ≡ b.tag) × (a.ifd_num ≡ b.ifd_num)) × (a.value ≡ b.value)}

@@ -24,7 +24,7 @@ greatest_of key = entry_of key (2 ^ 43 - 1)
 abbrev pub EndsUpTo : ℕ → List ℕ → ℕ → Type 0
 EndsUpTo bound numbers end = IsPartitionPoint (λ n. n ≤ bound) (λ n. bound < n) numbers end
 
--- the entries of fields, of which the first stands at this offset
+-- the entries of fields, of which the first is at this offset
 abbrev pub entries_from : ℕ → List Field → List ℕ
 entries_from offset [] = []
 entries_from offset (field ∷ fields) =

@@ -106,7 +106,7 @@ unknown_Decides a b c x y z =
     (unsigned_Decides b y)) (unsigned_Decides c z) in
     (λ t. rw ((d.0 t).0.0, (d.0 t).0.1, (d.0 t).1) refl, λ e. d.1 ((cc, cc), cc))
 
--- values that the test tells equal are equal, and the other way round
+-- values that the test finds equal are equal, and the other way round
 pub value_Decides : (a b : Value) → Decides (value_eq a b) (a ≡ b)
 value_Decides (value.Byte xs) (value.Byte ys) =
     under (λ zs. value.Byte zs) xs ys _ (λ e. cc) (numbers_Decides xs ys)

@@ -38,16 +38,16 @@ pub enum Error<Text = &'static str> {
     TooBig(Text),
     /// The format allows it, and this library does not do it.
     NotSupported(Text),
-    /// The value is of another kind than was asked for, as text where `as_uint` wants numbers.
+    /// The value is of another kind than was requested, as text where `as_uint` wants numbers.
     UnexpectedValue(Text),
     /// Some of the data were read, in spite of faults. Only a reader answers it that continues on
-    /// errors: `distill_partial_result` gives the fields and hands over the faults.
+    /// errors: `distill_partial_result` gives the fields and passes on the faults.
     PartialResult(PartialResult<Text>),
-    /// Memory was refused. What was asked for may be asked again.
+    /// Memory ran out. The call may be tried again.
     OutOfMemory,
 }
 
-/// What was read, with the faults that were met: the fields of all that is not broken.
+/// What was read, with the faults that were found: the fields of all that is not broken.
 #[derive(Drop)]
 #[cycle(error)]
 pub struct PartialResult<Text = &'static str> {
@@ -103,7 +103,7 @@ impl<Text: Drop> PartialResult<Text> {
     ghost use Rattle.std.specs.Prelude.{◌≡◌, All, map};
     ghost use Rattle.exif_types.specs.Failures.{told_text, IsInvalidFormat};
 
-    /// What was read, and the faults that were met, in their order.
+    /// What was read, and the faults that were found, in their order.
     pub fn into_inner(self) -> (Exif, Vec<Error<Text>>)
         ensures exif { result.0 ≡ self.exif }
         ensures faults { map told_text result.1.items ≡ self.faults }
@@ -161,9 +161,9 @@ impl From<&'static str> for Error {
 impl<Text: Drop> Error<Text> {
     ghost use Rattle.exif_types.specs.Distilling.{ForFaults, Distills};
 
-    /// Hands the faults of a partial result to a closure, in the order in which they were met, and
-    /// gives what was read. Any other error comes back as it was, and the closure is not called. It
-    /// takes no memory.
+    /// Passes the faults of a partial result to a closure, in the order in which they were found,
+    /// and gives what was read. Any other error comes back as it was, and the closure is not
+    /// called. It takes no memory.
     pub fn distill_partial_result<F: FnOnce(Vec<Error<Text>>) + Drop>(
         self,
         f: F,

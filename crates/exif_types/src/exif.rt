@@ -72,7 +72,7 @@ impl Exif {
         &self.buf
     }
 
-    /// The fields in the order in which they stand.
+    /// The fields in the order in which they are.
     pub fn fields(&self) -> Fields<'_>
         ensures fields { result ≡ self.now.fields }
         ensures read { All IsRead self.now.fields }

@@ -10,9 +10,9 @@ use std::alloc::Global;
 /// A tag with its value, in a directory.
 #[derive(Debug, Drop)]
 pub struct Field {
-    /// Its name: the kind of directory that it stands in, and a number.
+    /// Its name: the kind of directory that it is in, and a number.
     pub tag: Tag,
-    /// The directory of the chain that it stands in, or that its own directory stands below: the
+    /// The directory of the chain that it is in, or that its own directory is below: the
     /// image's or the thumbnail's, say.
     pub ifd_num: In,
     /// Its value, with its type.

@@ -8,7 +8,7 @@ use crate::Field;
 use std::iter::FusedIterator;
 use std::marker::Model;
 
-/// The fields of an `Exif` in the order in which they stand. It knows how many are left, and takes no
+/// The fields of an `Exif` in the order in which they are. It knows how many are left, and takes no
 /// memory.
 #[derive(Drop)]
 pub struct Fields<'a> {

@@ -1,4 +1,4 @@
-//! Tags: a number, and the kind of directory that it stands in (Exif 2.32, 4.6.3).
+//! Tags: a number, and the kind of directory that it is in (Exif 2.32, 4.6.3).
 
 ghost use Rattle.std.specs.Prelude.{◌≡◌, Some, IfOk, IfErr, map, unwrap_or};
 ghost use Rattle.std.specs.Option.{option_map};
@@ -17,8 +17,9 @@ use itoa::Buffer;
 use std::alloc::Global;
 use std::fmt;
 
-/// A tag: the context and the number (TIFF 6.0, section 2; Exif 2.32, 4.6). It is shown by its name,
-/// or as `Tag(Exif, 0)` where the standard names none. Its constants have the standard's names.
+/// A tag: the context and the number (TIFF 6.0, section 2; Exif 2.32, 4.6). It is shown by its
+/// name, or as `Tag(Exif, 0)` where the standard names none. Its constants have the standard's
+/// names.
 ///
 /// One number stands for different tags in different contexts, so a tag is both. What is asked of
 /// one takes no memory, but for `default_value`.
@@ -37,15 +38,15 @@ impl Tag {
         self.0
     }
 
-    /// The number of the tag, which is its second part, as it stands in an entry.
+    /// The number of the tag, which is its second part, as it is in an entry.
     pub fn number(self) -> u16
         ensures { result ≡ self.1 }
     {
         self.1
     }
 
-    /// What the tag stands for, in a few words of the standard's tables (Exif 2.32, 4.6.8); `None` for
-    /// a tag that it doesn't name.
+    /// What the tag stands for, in a few words of the standard's tables (Exif 2.32, 4.6.8); `None`
+    /// for a tag that it doesn't name.
     pub fn description(&self) -> Option<&'static str>
         ensures { option_map (λ text. text.now) result ≡ description_of self.now }
     {
@@ -55,9 +56,9 @@ impl Tag {
         }
     }
 
-    /// What stands for the value where the tag is absent (the standard's "Default"): `None` where it
-    /// gives nothing, leaves it open or lets the rest of the data decide. It takes memory for the
-    /// value, and the only error is `OutOfMemory`.
+    /// What stands for the value where the tag is absent (the standard's "Default"): `None` where
+    /// it gives nothing, leaves it open or lets the rest of the data decide. It takes memory for
+    /// the value, and the only error is `OutOfMemory`.
     ///
     /// ```
     /// let default = tag.default_value(alloc)?;

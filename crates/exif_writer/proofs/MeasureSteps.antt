@@ -61,7 +61,7 @@ unfolding newer_pair
 tells_older tail new tag size pair slots slot h k e t bytes some high last =
     tells_big tail new tag size slots slot h k e t bytes (last ∙ some ∙ sym (ap (newer_pair tag size) some ∙ rw (lt-ltb tag pair.0 high) refl))
 
--- the end of values, from what a count tells
+-- the end of values, from what a count says
 pub told_none : (tail : Tail) (offset : ℕ) (slots : List Slot) → Tells tail slots → tail.last ≡ None → offset ≡ after_values offset (in_tag_order slots)
 told_none tail offset slots t none = go (last_out slots) refl (sym t.last ∙ none)
   where

@@ -1,4 +1,4 @@
--- What counts of entries tell of lists of slots.
+-- What counts of entries say of lists of slots.
 use Rattle.std.proofs.Common.{◌≡◌, ℕ, zero, suc, ◌+◌, ◌-◌, ◌%◌, ◌*◌, ◌<◌, ◌≤◌, ◌^◌, List, [], ◌∷◌, ◌++◌, length, map, take, drop, get_or, refl, sym, ap, subst, ◌∙◌, arith, append_assoc, ◌⊎◌, inl, inr, false, Option, Some, None}
 use Rattle.std.specs.Prelude.{nat_le, IfNone, IfSome}
 use Rattle.std.specs.List.{AllByRecursion}
@@ -46,7 +46,7 @@ pub span-append : (xs ys : List Slot) → span (xs ++ ys) ≡ span xs + span ys
 span-append [] ys = omega arith
 span-append (x ∷ xs) ys = let e = span-append xs ys in omega arith
 
--- a value that doesn't stand in its entry counts whole
+-- a value that isn't in its entry counts whole
 pub over_one : (tail : Tail) (size : ℕ) (slots : List Slot) (slot : Slot) → 4 < size → Tells tail slots → content_len slot.content ≡ size
     → 2 ^ 32 ≤ tail.bytes + (size + size % 2) → 2 ^ 32 ≤ span (slots ++ slot ∷ [])
 over_one tail size slots slot h t e over =
@@ -134,7 +134,7 @@ all_known (entry ∷ entries) h = or_from (is_unknown entry.value) (any_unknown 
 pub span_longer : (xs ys : List Slot) → span xs ≤ span (xs ++ ys)
 span_longer xs ys = let e = span-append xs ys in omega arith
 
--- slots whose values stand in their entries tell nothing
+-- slots whose values are in their entries say nothing
 pub tells_pointer : (tail : Tail) (slots : List Slot) (tag : ℕ) (child : Context) (entries : List Slot) → Tells tail slots → Tells tail (slots ++ pointer_slots tag child entries)
 tells_pointer tail slots tag child [] t = rw (append-nil slots) t
 tells_pointer tail slots tag child (entry ∷ entries) t = tells_small tail 4 slots (record { tag = tag; content = OffsetOf child }) (omega arith) refl t
@@ -162,20 +162,20 @@ fronts k s t j e g =
     let f = span-append k s in
     record { one = omega arith; two = omega arith; three = omega arith }
 
--- the directory of the chain: pushed fields, strips and tiles tell all
+-- the directory of the chain: pushed fields, strips and tiles say all
 module _ (group : Group) where
   -- pushed fields, these with strips, and both with tiles take no more bytes than all entries
   pub tiff_fronts : Fronts (map known group.tiff) (block_slots group Strips) (block_slots group Tiles) (tiff_unsorted group)
   tiff_fronts = fronts (map known group.tiff) (block_slots group Strips) (block_slots group Tiles) (block_slots group Jpeg)
       (pointer_slots 0x8769 Exif (exif_slots group)) (pointer_slots 0x8825 Gps (gps_slots group))
 
-  -- what a count tells of pushed fields, strips and tiles, it tells of all entries
+  -- what a count says of pushed fields, strips and tiles, it says of all entries
   pub tiff_told : (tail : Tail) → Tells tail (map known group.tiff ++ block_slots group Strips ++ block_slots group Tiles) → Tells tail (tiff_unsorted group)
   tiff_told tail t =
       tells_pointer tail _ 0x8825 Gps (gps_slots group) (tells_pointer tail _ 0x8769 Exif (exif_slots group)
       (tells_jpeg tail (map known group.tiff ++ block_slots group Strips ++ block_slots group Tiles) group.jpeg t))
 
--- the other directories: pushed fields tell all
+-- the other directories: pushed fields say all
 pub other_told : (tail : Tail) (group : Group) (context : Context) → (context ≡ Exif) ⊎ ((context ≡ Gps) ⊎ (context ≡ Interop))
     → Tells tail (map known (pushed_in group context)) → Tells tail (unsorted group context)
 other_told tail group context (inl e) t = rw e (tells_pointer tail (map known group.exif) 0xa005 Interop (interop_slots group) (rw e at t))

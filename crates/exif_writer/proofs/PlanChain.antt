@@ -128,7 +128,7 @@ pub refused_never : (groups : List Group) (cause : Option WriteFault) → 0 < le
 refused_never groups cause h e s near =
     sym (by_first groups None h (sym e ∙ none_of cause s) ∙ rw (le-ltb 4294967295 (drafts_end 8 (map draft_of groups)) (omega arith)) refl)
 
--- where the next directory stands
+-- where the next directory is
 pub next_is : (end : ℕ) (groups : List Group) (i : ℕ) (last : Bool) → last ≡ (i + 1 == length groups) → i < length groups
     → next_of end last ≡ next_offset end (map draft_of (drop (i + 1) groups))
 next_is end groups i true e h =
@@ -139,7 +139,7 @@ next_is end groups i false e h =
     let more = eqb-false (i + 1) (length groups) (sym e) in
     sym (ap (λ r. next_offset end (map draft_of r)) (drop_more groups (i + 1) empty_group (omega arith)))
 
--- it stands before the end of the image
+-- it is before the end of the image
 pub next_within : (groups : List Group) (i : ℕ) → i < length groups → even (drafts_end 8 (map draft_of (take i groups))) ≤ drafts_end 8 (map draft_of groups)
 next_within groups i h =
     let x : Group = get_or groups i empty_group in

@@ -8,7 +8,7 @@ use Rattle.exif_layout.proofs.Images.Room.{offsets_grow}
 
 -- Each offset, from the one before it.
 module _ (draft : Draft) (start : ℕ) where
-  -- the directory of the chain stands at the first even offset from the start on
+  -- the directory of the chain is at the first even offset from the start on
   pub tiff_is : start + start % 2 ≡ tiff_offset draft start
   unfolding tiff_offset
   tiff_is = refl
@@ -24,12 +24,12 @@ module _ (draft : Draft) (start : ℕ) where
   unfolding tiff_offset exif_offset
   exif_offset_at a = λ i. start + start % 2 + a i
 
-  -- the GPS directory stands right behind those of the chain and of Exif
+  -- the GPS directory is right behind those of the chain and of Exif
   pub gps_offset_at : {a b : ℕ} → a ≡ directory_len (draft.slots Tiff) → b ≡ directory_len (draft.slots Exif) → start + start % 2 + a + b ≡ gps_offset draft start
   unfolding tiff_offset exif_offset gps_offset
   gps_offset_at a b = λ i. start + start % 2 + a i + b i
 
-  -- the Interoperability directory stands right behind those of the chain, of Exif and of GPS
+  -- the Interoperability directory is right behind those of the chain, of Exif and of GPS
   pub interop_offset_at : {a b c : ℕ} → a ≡ directory_len (draft.slots Tiff) → b ≡ directory_len (draft.slots Exif) → c ≡ directory_len (draft.slots Gps)
       → start + start % 2 + a + b + c ≡ interop_offset draft start
   unfolding tiff_offset exif_offset gps_offset interop_offset

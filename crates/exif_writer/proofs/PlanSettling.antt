@@ -52,7 +52,7 @@ settled_by : (start : ℕ) (slot : Slot) (b : Bool) → nat_le (content_size slo
 settled_by start slot true e = record { size = refl; offset = λ h. absurd (true≢false (sym e ∙ h)); padded = λ h. absurd (true≢false (sym e ∙ h)) }
 settled_by start slot false e = record { size = refl; offset = λ h. refl; padded = λ h. refl }
 
--- settled slots have their sizes, and their values outside stand one behind the other
+-- settled slots have their sizes, and their values outside are one behind the other
 pub settle_are : (start : ℕ) (slots : List Slot) → AreSettled start (settle start slots)
 settle_are start [] = tt
 settle_are start (slot ∷ slots) =

@@ -83,7 +83,7 @@ size_is (OffsetOf context) = refl
 len_is : (offsets : Offsets) (content : Content) → value_len (settled offsets content) ≡ content_size content
 len_is offsets content = let m = measures offsets content in λ i. unit (m.type i) * m.count i
 
--- an entry's text, where its value stands at its offset if it isn't in the entry
+-- an entry's text, where its value is at its offset if it isn't in the entry
 entry_is : (order : Order) (offsets : Offsets) (slot : Slot) (value : Value) (content : format.Content) (other : ℕ) → settled offsets slot.content ≡ value
     → slot.size ≡ content_size slot.content → (nat_le (content_size slot.content) 4 ≡ false → slot.offset ≡ other)
     → slot_text order offsets slot ≡ entry_text order (record { tag = slot.tag; content = content; value = value; offset = other })

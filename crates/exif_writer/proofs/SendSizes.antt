@@ -79,7 +79,7 @@ slot_within values offset slots i x d h e k =
     let same : after_slot offset x ≡ after_slot (values_end values (take i slots)) x = ap (λ p. after_slot p x) k in
     omega arith
 
--- a value that stands in its entry
+-- a value that is in its entry
 pub element_inside : (order : Order) (offsets : Offsets) (slot : Slot) → slot.size ≤ 4
     → element order offsets slot ≡ encode order (settled offsets slot.content) ++ replicate (4 - slot.size) 0
 element_inside order offsets slot h = rw (le-leb slot.size 4 h) refl

@@ -1,4 +1,4 @@
--- The plans of drafts: where everything of a draft stands, its entries and its blocks.
+-- The plans of drafts: where everything of a draft is, its entries and its blocks.
 use Rattle.std.specs.Prelude.{ℕ, ◌≡◌, ◌<◌, ◌^◌, Bool, None, if◌then◌else◌, List, [], ◌∷◌, map}
 use Rattle.exif_table.specs.declared.context.Context.TheVariants.{Tiff, Exif, Gps, Interop}
 use Rattle.exif_layout.specs.declared.block_kind.BlockKind.TheVariants.{Strips, Tiles, Jpeg}
@@ -76,7 +76,7 @@ pub record IsSettledPlan (draft : Draft) (start next : ℕ) (plan : Plan) : Type
   pub gps : AreSettled plan.offsets.gps_values plan.gps.items
   pub interop : AreSettled plan.offsets.interop_values plan.interop.items
 
--- the plans of drafts that stand one behind the other
+-- the plans of drafts that are one behind the other
 abbrev pub ArePlans : ℕ → List Draft → List Plan → Type 0
 ArePlans start [] [] = Unit {0}
 ArePlans start [] (plan ∷ plans) = ⊥

@@ -13,7 +13,7 @@ pub record CanSettle (values : ℕ) (slots : List Slot) : Type 0 where
   pub measurable : AllByRecursion IsMeasurable slots
   pub room : values_end values slots ≤ 4294967295
 
--- a directory that can be sent, whose values stand from an offset on
+-- a directory that can be sent, whose values are from an offset on
 pub record IsReadyDirectory (offsets : Offsets) (values : ℕ) (slots : List Slot) : Type 0 where
   pub few : length slots ≤ 65535
   pub ready : AllByRecursion (IsReady offsets) slots

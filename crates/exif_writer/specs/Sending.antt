@@ -60,7 +60,7 @@ Settles offsets (OffsetOf context) = ⊤
 abbrev pub symbol : Slot → format.Slot
 symbol slot = record { tag = slot.tag; content = symbol_of slot.content }
 
--- the last four bytes of an entry: its value, or the offset where it stands
+-- the last four bytes of an entry: its value, or the offset where it is
 abbrev pub element : Order → Offsets → Slot → List ℕ
 element order offsets slot =
     if nat_le slot.size 4
@@ -81,15 +81,15 @@ pub record IsReady (offsets : Offsets) (slot : Slot) : Type 0 where
   pub known : IsKnownContent slot.content
   pub room : content_size slot.content ≤ 4294967295
 
--- where the next value may stand behind that of a slot
+-- where the next value may be behind that of a slot
 abbrev pub after_slot : ℕ → Slot → ℕ
 after_slot start slot = after_value start (content_size slot.content)
 
--- where the values of slots end, the first of which may stand from an offset on
+-- where the values of slots end, the first of which may be from an offset on
 abbrev pub values_end : ℕ → List Slot → ℕ
 values_end start slots = state after_slot start slots
 
--- a slot with its size, and with the offset of its value where that isn't in the entry and may stand
+-- a slot with its size, and with the offset of its value where that isn't in the entry and may be
 -- from an offset on
 abbrev pub settle_slot : ℕ → Slot → Slot
 settle_slot start slot =
@@ -105,12 +105,12 @@ pub record IsMeasurable (slot : Slot) : Type 0 where
   pub known : IsKnownContent slot.content
   pub room : content_size slot.content ≤ 4294967295
 
--- slots with their sizes and offsets, whose values stand one behind the other
+-- slots with their sizes and offsets, whose values are one behind the other
 abbrev pub settle : ℕ → List Slot → List Slot
 settle start [] = []
 settle start (slot ∷ slots) = settle_slot start slot ∷ settle (after_slot start slot) slots
 
--- what is asked of settled slots
+-- what is required of settled slots
 pub record IsSettled (start : ℕ) (slot : Slot) : Type 0 where
   pub size : slot.size ≡ content_size slot.content
   pub offset : nat_le (content_size slot.content) 4 ≡ false → slot.offset ≡ even start

@@ -1,4 +1,4 @@
--- What a count of entries tells of them.
+-- What a count of entries says of them.
 use Rattle.std.specs.Prelude.{◌≡◌, ℕ, List}
 use Rattle.std.specs.Option.{option_map}
 use Rattle.exif_writer.specs.declared.measure.Tail.{Tail}

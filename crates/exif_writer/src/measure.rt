@@ -171,7 +171,7 @@ fn directories_end(ifd: &Ifd, start: u32) -> Option<u32>
 }
 
 // What is known of the values of a context: those of pushed fields and of strips and tiles, since
-// all others stand in their entries.
+// all others are in their entries.
 fn context_tail(ifd: &Ifd, context: Context) -> Option<Tail>
     requires { group_fault ifd.now ≡ None }
     ensures over { IfNone result (2 ^ 32 ≤ span (unsorted ifd.now context)) }

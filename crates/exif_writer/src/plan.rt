@@ -22,7 +22,7 @@ use std::alloc::{AllocError, Global};
 /// The offsets of the parts of one directory of the chain and its children.
 #[derive(Clone, Copy, Debug)]
 pub struct Offsets {
-    /// The end of what stands before.
+    /// The end of what is before.
     pub start: u32,
     /// The directory of the chain.
     pub tiff: u32,
@@ -61,9 +61,9 @@ pub struct Slot<'a> {
     pub content: Content<'a>,
     /// How many bytes the value takes.
     pub size: u32,
-    /// Where the value stands, if it isn't in the entry.
+    /// Where the value is, if it isn't in the entry.
     pub offset: u32,
-    /// Whether a zero stands before it there.
+    /// Whether a zero is before it there.
     pub padded: bool,
 }
 
@@ -81,8 +81,8 @@ impl<'a> Slot<'a> {
         }
     }
 
-    // Settles the size of the value, and its offset if it isn't in the entry and may stand from a
-    // offset on; answers where the next one may stand.
+    // Settles the size of the value, and its offset if it isn't in the entry and may be from a
+    // offset on; answers where the next one may be.
     fn settle(&mut self, start: u32) -> u32
         requires measurable { IsMeasurable self.old }
         requires room { after_slot start self.old ≤ 4294967295 }
@@ -103,7 +103,7 @@ impl<'a> Slot<'a> {
 /// What is sent of one directory of the chain, its children and its blocks.
 #[derive(Drop)]
 pub struct Plan<'a> {
-    /// Where everything stands.
+    /// Where everything is.
     pub offsets: Offsets,
     /// The entries of the directory of the chain, in tag order.
     pub tiff: Vec<Slot<'a>>,
@@ -121,7 +121,7 @@ pub struct Plan<'a> {
     pub jpeg: &'a [&'a [u8]],
 }
 
-/// Settles the sizes and the offsets of values that stand one behind the other from an offset on;
+/// Settles the sizes and the offsets of values that are one behind the other from an offset on;
 /// answers where they end.
 pub fn settle(slots: &mut [Slot], start: u32) -> u32
     requires { CanSettle start slots.old }
@@ -147,7 +147,7 @@ fn after_blocks(offset: u32, blocks: &[&[u8]]) -> u32
     end
 }
 
-/// The tag under which the offsets of blocks stand.
+/// The tag under which the offsets of blocks are.
 pub fn offsets_tag(kind: BlockKind) -> u16
     ensures { result ≡ offsets_tag kind }
 {
@@ -158,7 +158,7 @@ pub fn offsets_tag(kind: BlockKind) -> u16
     }
 }
 
-/// The tag under which their lengths stand.
+/// The tag under which their lengths are.
 pub fn lengths_tag(kind: BlockKind) -> u16
     ensures { result ≡ lengths_tag kind }
 {
@@ -173,7 +173,7 @@ pub fn lengths_tag(kind: BlockKind) -> u16
 // pointers to two children.
 const OTHERS: usize = 8;
 
-// Entries of pushed fields, as they came, with room for the others.
+// Entries of pushed fields, as they came, with capacity for the others.
 fn known_slots<'a>(alloc: Global, fields: &[&'a Field]) -> Result<Vec<Slot<'a>>, AllocError>
     ensures { IfOk result (λ slots. map symbol slots.items ≡ map known (entries_in fields.now)) }
 {
@@ -285,7 +285,7 @@ fn next_of(end: u32, last: bool) -> u32
 }
 
 impl<'a> Directories<'a> {
-    // Settles where everything stands from an offset on.
+    // Settles where everything is from an offset on.
     fn settle(&mut self, ifd: &Ifd, start: u32, last: bool) -> Offsets
         requires directories { AreDirectories (draft_of ifd.now) self.old }
         requires room { HasRoom ifd.now start last }

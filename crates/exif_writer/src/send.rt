@@ -32,7 +32,7 @@ impl Offsets {
         }
     }
 
-    // Where the directory of a context stands.
+    // Where the directory of a context is.
     fn context(&self, context: Context) -> u32
         ensures { result ≡ context_offset self.now context }
     {
@@ -45,7 +45,7 @@ impl Offsets {
     }
 }
 
-// Sends the offsets of blocks that stand one behind the other.
+// Sends the offsets of blocks that are one behind the other.
 fn send_offsets<W: Sink>(out: &mut W, order: Order, first: u32, blocks: &[&[u8]]) -> io::Result<()>
     requires { first + sum_of blocks.now ≤ 4294967295 }
     ensures sends { Sends W.Sink out.old out.new result

@@ -58,7 +58,7 @@ impl<'a> Model for Writer<'a> {
     ghost invariant = { λ w. AreRanged w.ifds.items };
 }
 
-// The byte order that is asked for.
+// The byte order that is requested.
 fn order_of(little_endian: bool) -> Order
     ensures { result ≡ order_named little_endian }
 {
@@ -181,7 +181,7 @@ impl<'a> Writer<'a> {
     }
 
     /// Sends the image of what was pushed and set as TIFF data, and flushes once. The writer keeps
-    /// its fields and blocks. With `little_endian` the least byte of a number stands first (`II`),
+    /// its fields and blocks. With `little_endian` the least byte of a number is first (`II`),
     /// else the greatest (`MM`); both images have one length and say the same.
     ///
     /// It is refused where there is no directory, and else for the first directory of the chain

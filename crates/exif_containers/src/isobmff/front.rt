@@ -27,7 +27,7 @@ pub fn read_whole<R: Source>(source: &mut R, bytes: &mut Vec<u8>, len: u64) -> R
     Ok(n == len)
 }
 
-// The type of the next box and the length of its body, where both are said.
+// The type of the next box and the length of its body, where both are given.
 fn header<R: Source>(source: &mut R, bytes: &mut Vec<u8>) -> Result<Option<(Kind, u64)>, Error>
     ensures read { OnOk result
         (GoesOn (R.left source.old) (R.left source.new) bytes.old.items bytes.new.items) }

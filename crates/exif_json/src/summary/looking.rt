@@ -26,7 +26,7 @@ pub(crate) fn find_number(exif: &Exif, tag: Tag) -> Option<u32>
     find(exif, tag)?.get_uint(0)
 }
 
-/// Which of the eight ways the picture stands.
+/// Which of the eight orientations the picture has.
 pub(crate) fn find_orientation(exif: &Exif) -> Option<u32>
     ensures { result ≡ orientation_of exif.now.fields }
 {

@@ -34,7 +34,7 @@ use Rattle.exif_layout.proofs.Images.Whole.{length-image, not_refused, parts_sta
 use Rattle.exif_layout.proofs.Images.Words.{AllStand, ContentFits, DraftStands, IsAccepted, SlotFits}
 use Rattle.exif_layout.proofs.Images.Room.{blocks_low}
 
--- a directory that a pointer of another one names stands below it
+-- a directory that a pointer of another one names is below it
 pub child_is : (parent child : Context) (tag : ℕ) → child_of parent tag ≡ Some child → IsChild parent child
 child_is Tiff child tag h = go (tag == 0x8769) (tag == 0x8825) h
   where
@@ -61,7 +61,7 @@ module _ (order : Order) (bytes : List ℕ) (small : length bytes < 256 ^ 4) (dr
     (few : (context : Context) → length (draft.slots context) ≤ 65535)
     (fit : (context : Context) → AllByRecursion (SlotFits draft context) (draft.slots context))
     (once : (context : Context) → NamesOnce (draft.slots context)) where
-  -- where the directory of a context stands in the draft
+  -- where the directory of a context is in the draft
   abbrev pub offset : Context → ℕ
   offset = directory_offset draft start
 
@@ -84,7 +84,7 @@ module _ (order : Order) (bytes : List ℕ) (small : length bytes < 256 ^ 4) (dr
 
   -- ---- one directory with its values
 
-  -- the stretches of one directory: itself, and its values that stand outside of entries
+  -- the stretches of one directory: itself, and its values that are outside of entries
   abbrev pub own : (c : Context) → List Stretch
   own c = record { offset = offset c; len = directory_len (draft.slots c) } ∷ value_stretches (values_offset draft start c) (draft.slots c)
 
@@ -246,7 +246,7 @@ module _ (order : Order) (bytes : List ℕ) (small : length bytes < 256 ^ 4) (dr
 
 -- ---- the chain
 
--- what is looked at of a draft stands between where it starts and where it ends
+-- what is looked at of a draft is between where it starts and where it ends
 in_draft : (draft : Draft) (start : ℕ) (t : Stretch) → In draft start Tiff t → Lies start (draft_end draft start) t
 unfolding tiff_offset tiles_offset jpeg_offset draft_end
 in_draft draft start t h =
@@ -256,7 +256,7 @@ in_draft draft start t h =
     let jpeg = blocks_low (jpeg_offset draft start) (draft.blocks Jpeg) in
     (omega (arith, lies.0), omega (arith, lies.1, strips, tiles, jpeg))
 
--- stretches that are apart, none of which stands in front of an offset
+-- stretches that are apart, none of which is in front of an offset
 record Behind (start : ℕ) (ts : List Stretch) : Type 0 where
   apart : AreApart ts
   behind : AllByRecursion (λ (t : Stretch). start ≤ t.offset) ts

@@ -1,4 +1,4 @@
--- Blocks stand where their fields say, and images are equal exactly where their fields and blocks are.
+-- Blocks are where their fields say, and images are equal exactly where their fields and blocks are.
 use Rattle.std.proofs.Common.{◌≡◌, ℕ, zero, suc, ◌+◌, ◌<◌, ◌≤◌, List, [], ◌∷◌, ◌++◌, length, take, drop, map, refl, sym, ap, ◌∙◌, arith, true, false, Option, Some, None}
 use Rattle.std.specs.Prelude.{nat_lt, ◌↔◌}
 use Rattle.std.proofs.lemmas.Bool.{lt-ltb, le-ltb}
@@ -32,7 +32,7 @@ use Rattle.exif_layout.proofs.Images.Pushing.{group_at, blocks_at}
 use Rattle.exif_layout.proofs.Images.Rewritten.{all_at, rewrites_same, AllNumbered, fields_numbered}
 use Rattle.exif_layout.proofs.Images.Naming.{start_at, top_field, offsets_slots, lengths_slots, offsets_under, lengths_under}
 
--- the blocks of a group stand
+-- the blocks of a group are in the image
 blocks_stand_at : (order : Order) (bytes : List ℕ) (groups : List Group) (m start : ℕ) → m < length groups → AllStand bytes (parts_from order start (map draft_of groups))
     → (kind : BlockKind) → AllStand bytes (block_parts (blocks_offset (draft_of (group_at groups m)) (start_at m start groups) kind) (block_list (blocks_in (group_at groups m) kind)))
 blocks_stand_at order bytes [] m start h stands kind = absurd (omega arith)
@@ -54,7 +54,7 @@ entries_at : (groups : List Group) (m : ℕ) → m < length groups → AreRanged
 entries_at groups m h ranged =
     all_at (λ group. (context : Context) → AllByRecursion (IsEntry context) (pushed_in group context)) groups m h ranged
 
--- each block of an image that is written stands where the two fields of its kind say
+-- each block of an image that is written is where the two fields of its kind say
 pub blocks_stand : (order : Order) (groups : List Group) → AreRanged groups → write_fault groups ≡ None → BlocksStand order groups
 blocks_stand order groups ranged written ifd kind texts h is =
     let stands = parts_stand order groups (not_refused groups written).each in
@@ -89,7 +89,7 @@ same_texts bytes (p ∷ offsets) (x ∷ a) (y ∷ b) e s t =
     let one : x ≡ y = sym s.0.there ∙ ap (λ n. take n (drop p bytes)) first ∙ t.0.there in
     λ i. one i ∷ same_texts bytes offsets a b rest s.1 t.1 i
 
--- blocks that stand in one image under the same fields are the same
+-- blocks that are in one image under the same fields are the same
 same_option : (bytes : List ℕ) (fs gs : List Field) (ifd : ℕ) (kind : BlockKind) (a b : Option (List (List ℕ)))
     → fs ≡ gs
     → ((texts : List (List ℕ)) → a ≡ Some texts → BlocksNamed bytes fs ifd kind texts) → (a ≡ None → fields_under (offsets_tag kind) ifd fs ≡ [])

@@ -1,4 +1,4 @@
--- A directory whose text stands, and whose values stand where it says, is read as its fields.
+-- A directory whose bytes are in the data, with its values where it says, is read as its fields.
 use Rattle.std.proofs.Common.{◌≡◌, ℕ, ◌+◌, ◌-◌, ◌*◌, ◌/◌, ◌<◌, ◌≤◌, ◌^◌, List, [], ◌∷◌, ◌++◌, length, refl, sym, ap, ◌∙◌, arith, Bool, true, false, Some, Result, Ok, Err}
 use Rattle.std.specs.Prelude.{if◌then◌else◌, nat_le, nat_lt}
 use Rattle.std.proofs.lemmas.Bool.{le-ltb}
@@ -56,19 +56,19 @@ module _ (order : Order) (bytes : List ℕ) (small : length bytes < 256 ^ 4) (dr
         clean = faults-append (inner child q) [] ∙ append-nil (faults_of (inner child q)) ∙ nodes.clean;
       })
 
-  -- the first of some values stands, where it doesn't fit into its entry
+  -- the first of some values is in the data, where it doesn't fit into its entry
   pub value_outside : (entry : Written) (entries : List Written) → AllStand bytes (value_parts order (entry ∷ entries))
       → (fits : Bool) → nat_le (value_len entry.value) 4 ≡ fits → fits ≡ false → Stands bytes entry.offset (encode order entry.value)
   value_outside entry entries h true e f = absurd cc
   value_outside entry entries h false e f = (rw e at h).0
 
-  -- the values behind the first one stand too, whether or not that fits into its entry
+  -- so are the values after the first one, whether or not that fits into its entry
   pub values_rest : (entry : Written) (entries : List Written) → AllStand bytes (value_parts order (entry ∷ entries))
       → (fits : Bool) → nat_le (value_len entry.value) 4 ≡ fits → AllStand bytes (value_parts order entries)
   values_rest entry entries h true e = rw e at h
   values_rest entry entries h false e = (rw e at h).1
 
-  -- entries that fit and stand with their values are read as their fields, if the children are
+  -- entries that fit and are in the data with their values are read as their fields, if the children are
   pub entries_give : (inner : Directory) (fields : Context → List Field) → ChildrenGive inner fields
       → (context : Context) (ifd directory at values : ℕ) (slots : List Slot) → AllByRecursion (SlotFits draft context) slots
       → AllByRecursion (λ slot. Fits (value_of draft start slot.content)) slots
@@ -111,7 +111,7 @@ pub record IsWhole (order : Order) (bytes : List ℕ) (offset next : ℕ) (entri
   pub end : directory_end (number_of order) bytes offset ≡ Ok next
   pub texts : Stands bytes (offset + 2) (flat_map (entry_text order) entries)
 
--- a directory whose text stands, of at most 65535 entries of known types, is read whole
+-- a directory of at most 65535 entries of known types, whose bytes are in the data, is read whole
 pub directory_read : (order : Order) (bytes : List ℕ) (offset next : ℕ) (entries : List Written) → length entries ≤ 65535 → next < 256 ^ 4
     → AllWrittenKnown entries → Stands bytes offset (directory_text order next entries) → IsWhole order bytes offset next entries
 directory_read order bytes offset next entries few low known s =

@@ -1,4 +1,4 @@
--- An entry whose text stands, and whose value stands where it says, is read as it was written.
+-- An entry whose bytes are in the data, with its value where it says, is read as it was written.
 use Rattle.std.proofs.Common.{◌≡◌, ℕ, ◌+◌, ◌-◌, ◌*◌, ◌<◌, ◌≤◌, ◌^◌, List, ◌∷◌, ◌++◌, length, replicate, refl, sym, ap, ◌∙◌, arith, Bool, true, false, Some}
 use Rattle.std.specs.Prelude.{if◌then◌else◌, nat_le}
 use Rattle.std.proofs.lemmas.Bool.{le-leb, leb-true}
@@ -98,14 +98,14 @@ module _ (order : Order) (bytes : List ℕ) (small : length bytes < 256 ^ 4) whe
       let len = length-encode order entry.value (fits_known entry.value h) in
       omega arith
 
-  -- the numbers of an entry whose text stands, and its last 4 bytes
+  -- the numbers of an entry whose bytes are in the data, and its last 4 bytes
   pub record IsSpelled (entry : Written) (e : ℕ) : Type 0 where
     pub tag : number_at (number_of order) 2 bytes e ≡ entry.tag
     pub type : number_at (number_of order) 2 bytes (e + 2) ≡ type_number entry.value
     pub count : number_at (number_of order) 4 bytes (e + 4) ≡ count_of entry.value
     pub element : Stands bytes (e + 8) (if nat_le (value_len entry.value) 4 then encode order entry.value ++ replicate (4 - value_len entry.value) 0 else spelled order 4 entry.offset)
 
-  -- where an entry that fits stands with its value, its tag, type and count are read as written
+  -- where an entry that fits is in the data with its value, its tag, type and count are read as written
   pub entry_spelled : (entry : Written) (e : ℕ) → entry.tag < 256 ^ 2 → Fits entry.value → Stands bytes e (entry_text order entry)
       → (nat_le (value_len entry.value) 4 ≡ false → Stands bytes entry.offset (encode order entry.value)) → IsSpelled entry e
   entry_spelled entry e tag h s outside =

@@ -1,4 +1,4 @@
--- A group whose parts stand is read as its fields: the top directory and its children.
+-- A group whose parts are in the data is read as its fields: the top directory and its children.
 use Rattle.std.proofs.Common.{◌≡◌, ℕ, zero, suc, ◌+◌, ◌<◌, ◌≤◌, ◌^◌, List, [], ◌∷◌, length, refl, ap, ◌∙◌, arith, Bool, true, false, map, Some, None, Ok}
 use Rattle.std.specs.Prelude.{if◌then◌else◌, ◌==◌}
 use Rattle.std.specs.List.{AllByRecursion, flat_map}
@@ -82,7 +82,7 @@ draft_stands order bytes draft start next h =
       ];
     }
 
--- the offsets of blocks that stand are offsets of the bytes
+-- the offsets of blocks that are in the data are offsets of the bytes
 offsets_low : (bytes : List ℕ) (offset : ℕ) (texts : List (List ℕ)) → length bytes < 256 ^ 4 → AllStand bytes (block_parts offset texts)
     → AllByRecursion (λ x. x < 256 ^ 4) (offsets_from offset (map length texts))
 offsets_low bytes offset [] small h = tt

@@ -20,7 +20,7 @@ laid_append start middle (p ∷ ps) qs s =
 pub joined : (start middle : ℕ) (ps qs : List Part) (x y : List ℕ) → Spans start ps middle → laid start ps ≡ x → laid middle qs ≡ y → laid start (ps ++ qs) ≡ x ++ y
 joined start middle ps qs x y s a b = laid_append start middle ps qs s ∙ (λ i. a i ++ b i)
 
--- blocks stand without gaps
+-- blocks have no gaps between them
 pub laid_blocks : (offset : ℕ) (texts : List (List ℕ)) → laid offset (block_parts offset texts) ≡ flat_map (λ text. text) texts
 laid_blocks offset [] = refl
 laid_blocks offset (text ∷ texts) =

@@ -23,7 +23,7 @@ use Rattle.exif_layout.proofs.Images.ReadBack.{Leaves, image_answer, image_leave
 use Rattle.exif_layout.proofs.Images.Rewritten.{rewrites_same}
 use Rattle.exif_layout.proofs.Images.Contents.{same_images, reads_front}
 
--- the parts of an image that is written stand side by side, at most one zero byte between two
+-- the parts of an image that is written are side by side, at most one zero byte between two
 pub laid_out : (order : Order) (groups : List Group) → write_fault groups ≡ None → LaidOut order groups
 laid_out order groups h =
     let each = (not_refused groups h).each in

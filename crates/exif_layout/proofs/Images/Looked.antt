@@ -22,12 +22,12 @@ use Rattle.exif_layout.proofs.Images.Entries.{IsSpelled, entry_spelled, fits_kno
 use Rattle.exif_layout.proofs.Images.Values.{length-encode}
 use Rattle.exif_layout.proofs.Images.Directories.{value_outside, values_rest}
 
--- a value of some length that stands outside of its entry, or nothing
+-- a value of some length that is outside of its entry, or nothing
 abbrev pub outside_of : Bool → ℕ → ℕ → List Stretch
 outside_of true offset len = []
 outside_of false offset len = record { offset = offset; len = len } ∷ []
 
--- the values that stand outside of entries, the first one from an offset on
+-- the values that are outside of entries, the first one from an offset on
 abbrev pub value_stretches : ℕ → List Slot → List Stretch
 value_stretches values [] = []
 value_stretches values (slot ∷ slots) =
@@ -82,7 +82,7 @@ module _ (order : Order) (bytes : List ℕ) (small : length bytes < 256 ^ 4) whe
     content_below context tag offset (LengthsOf kind lengths) h = rw h.1 refl
     content_below context tag offset (OffsetOf child) h = rw h.0 refl
 
-    -- of entries that stand, reading looks at values outside of them and at the directories below
+    -- of entries in the data, reading looks at values outside of them and at the directories below
     pub entries_look : (context : Context) (at values : ℕ) (slots : List Slot) → AllByRecursion (SlotFits draft context) slots
         → AllByRecursion (λ slot. Fits (value_of draft start slot.content)) slots
         → Stands bytes at (flat_map (entry_text order) (written draft start at values slots))

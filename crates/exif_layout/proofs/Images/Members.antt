@@ -18,7 +18,7 @@ use Rattle.exif_layout.proofs.Images.Slots.{all_slots}
 use Rattle.exif_layout.proofs.Images.Pushing.{group_at}
 use Rattle.exif_layout.proofs.Moved.{moved_twice}
 
--- what holds of a slot's field, wherever its value and its blocks stand
+-- what holds of a slot's field, wherever its value and its blocks are
 abbrev SlotHas : (Field → Type 0) → ℕ → Context → Slot → Type 0
 SlotHas P ifd context slot =
     elim slot.content [

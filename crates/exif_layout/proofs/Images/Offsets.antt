@@ -1,4 +1,4 @@
--- The parts of an image stand side by side.
+-- The parts of an image are side by side.
 use Rattle.std.proofs.Common.{◌≡◌, ℕ, suc, ◌+◌, ◌-◌, ◌*◌, ◌<◌, ◌≤◌, List, [], ◌∷◌, ◌++◌, length, replicate, refl, ap, ◌∙◌, arith, Bool, true, false, ◌⊎◌, ⊎_elim, inl, inr}
 use Rattle.std.specs.Prelude.{if◌then◌else◌, nat_le}
 use Rattle.std.proofs.lemmas.Bool.{leb-true}
@@ -113,7 +113,7 @@ directory_spans order draft start next from offset at values (slot ∷ slots) h 
     let l = length-directory_text order next entries (known_written draft start at values (slot ∷ slots) h) in
     (low, high, omega arith)
 
--- the offset where a value may stand is even, at most one byte on
+-- the offset where a value may be is even, at most one byte on
 pub even_low : (n : ℕ) → n ≤ even n
 even_low n = omega arith
 
@@ -121,7 +121,7 @@ even_low n = omega arith
 pub even_high : (n : ℕ) → even n ≤ n + 1
 even_high n = omega arith
 
--- one more value, which fits into its entry or stands at the next even offset
+-- one more value, which fits into its entry or is at the next even offset
 value_span : (order : Order) (draft : Draft) (start at values : ℕ) (slot : Slot) (slots : List Slot) → IsKnown slot.content
     → ((v : ℕ) → Spans v (value_parts order (written draft start (at + 12) v slots)) (after_values v slots))
     → (fits : Bool) → nat_le (content_len slot.content) 4 ≡ fits
@@ -135,14 +135,14 @@ value_span order draft start at values slot slots h more false e =
     length-encode order (value_of draft start slot.content) (known_value draft start slot.content h) ∙ length-value_of draft start slot.content in
     rw (same, e) (even_low values, even_high values, rw len (more (even values + content_len slot.content)))
 
--- the values of a directory stand side by side from their first offset to their end
+-- the values of a directory are side by side from their first offset to their end
 pub values_span : (order : Order) (draft : Draft) (start at values : ℕ) (slots : List Slot) → AllKnown slots
     → Spans values (value_parts order (written draft start at values slots)) (after_values values slots)
 values_span order draft start at values [] h = refl
 values_span order draft start at values (slot ∷ slots) h =
     value_span order draft start at values slot slots h.0 (λ v. values_span order draft start (at + 12) v slots h.1) (nat_le (content_len slot.content) 4) refl
 
--- blocks stand side by side from their first offset to their end
+-- blocks are side by side from their first offset to their end
 pub blocks_span : (offset : ℕ) (texts : List (List ℕ)) → Spans offset (block_parts offset texts) (after_blocks offset texts)
 blocks_span offset [] = refl
 blocks_span offset (text ∷ texts) = (omega arith, omega arith, blocks_span (offset + length text) texts)

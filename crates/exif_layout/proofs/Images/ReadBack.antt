@@ -67,7 +67,7 @@ pub record Leaves (nodes : List Node) (fields : List Field) (faults : List Fault
   pub failed : faults_of nodes ≡ faults
 
 module _ (order : Order) (bytes : List ℕ) (small : length bytes < 256 ^ 4) where
-  -- where the parts of accepted groups stand, 32 bits hold the offset of the first directory
+  -- where the parts of accepted groups are, 32 bits hold the offset of the first directory
   pub next_low : (start : ℕ) (groups : List Group) → AllByRecursion IsAccepted groups → AllStand bytes (parts_from order start (map draft_of groups)) → next_offset start (map draft_of groups) < 256 ^ 4
   unfolding tiff_offset
   next_low start [] h stands = omega arith
@@ -76,7 +76,7 @@ module _ (order : Order) (bytes : List ℕ) (small : length bytes < 256 ^ 4) whe
       let within = (first.directory Tiff h.0.some).within in
       omega arith
 
-  -- where accepted groups of values that fit stand, those followed are read, and more are a fault
+  -- of accepted groups of values that fit, those followed are read, and more are a fault
   pub chain_leaves : (groups : List Group) (count ifd start : ℕ) → 0 < start → AllByRecursion IsAccepted groups → AreRanged groups → HavePlainTexts groups
       → AllStand bytes (parts_from order start (map draft_of groups))
       → Leaves (chain_nodes count (number_of order) bytes ifd (next_offset start (map draft_of groups))) (flat_from ifd start (map draft_of (take count groups))) (faults_over count groups)
@@ -103,7 +103,7 @@ module _ (order : Order) (bytes : List ℕ) (small : length bytes < 256 ^ 4) whe
         failed = faults-append (directory_nodes 3 (number_of order) bytes ifd Tiff (even start)) (chain_nodes count (number_of order) bytes (suc ifd) next) ∙ (λ i. one.clean i ++ more.failed i);
       })
 
--- The header of an image is whole: it names the byte order, and the first directory stands behind it.
+-- The header of an image is whole: it names the byte order, and the first directory is behind it.
 header_is : (order : Order) (bytes : List ℕ) → nat_lt (2 ^ 32 - 1) (length bytes) ≡ false → nat_lt (length bytes) 8 ≡ false
     → order_of bytes ≡ Some order → (number_at (number_of order) 2 bytes 2 == 42) ≡ true → header bytes ≡ Ok order
 header_is order bytes a b c d = rw (a, b, c, d) refl

@@ -1,4 +1,4 @@
--- Where the regions of a draft stand, its directories and their values, and which of them are apart.
+-- Where the regions of a draft are, its directories and their values, and which of them are apart.
 use Rattle.std.proofs.Common.{◌≡◌, ℕ, ◌+◌, ◌≤◌, ◌⊎◌, inl, inr, List, [], ◌∷◌, ◌++◌, refl, arith, Bool, true, false}
 use Rattle.std.specs.Prelude.{nat_le}
 use Rattle.std.specs.List.{AllByRecursion}
@@ -11,13 +11,13 @@ use Rattle.exif_layout.specs.Slots.{Draft, Slot, content_len}
 use Rattle.exif_layout.proofs.Images.Looked.{outside_of, value_stretches}
 use Rattle.exif_layout.proofs.Images.Room.{values_low}
 
--- a stretch between two places
+-- a stretch between two offsets
 abbrev pub Lies : ℕ → ℕ → Stretch → Type 0
 Lies from to t = (from ≤ t.offset) × (t.offset + t.len ≤ to)
 
 -- ---- values, one behind the other
 
--- where the next value may stand, behind one that stands in its entry, or outside of it
+-- where the next value may be, behind one that is in its entry, or outside of it
 record Next (values len next : ℕ) (fits : Bool) : Type 0 where
   inside : fits ≡ true → next ≡ values
   outside : fits ≡ false → next ≡ even values + len
@@ -50,7 +50,7 @@ apart_next values len next end false rest n apart h =
     let same = n.outside refl in
     (all_weaker (Lies next end) (IsApart (record { offset = even values; len = len })) (λ s l. inl (omega (arith, l.0))) rest h, apart)
 
--- values that stand outside of their entries are apart from each other
+-- values that are outside of their entries are apart from each other
 pub values_apart : (values : ℕ) (slots : List Slot) → AreApart (value_stretches values slots)
 values_apart values [] = tt
 values_apart values (slot ∷ slots) =
@@ -59,7 +59,7 @@ values_apart values (slot ∷ slots) =
     apart_next values len next (after_values next slots) (nat_le len 4) (value_stretches next slots) (next_is values len) (values_apart next slots)
     (values_lie next slots)
 
--- which directories stand below which
+-- which directories are below which
 pub data IsChild : Context → Context → Type 0 where
   ExifBelow : IsChild Tiff Exif
   GpsBelow : IsChild Tiff Gps
@@ -87,7 +87,7 @@ module _ (draft : Draft) (start : ℕ) where
   In Gps t = Of Gps t
   In Interop t = Of Interop t
 
-  -- where the regions stand, one behind the other
+  -- where the regions are, one behind the other
   pub record Stand : Type 0 where
     exif : directory_to Tiff ≡ directory_offset draft start Exif
     gps : directory_to Exif ≡ directory_offset draft start Gps
@@ -127,7 +127,7 @@ module _ (draft : Draft) (start : ℕ) where
     interop_up = values_low _ (draft.slots Interop);
   }
 
-  -- regions of two contexts, of which the first of each stand in front of the second
+  -- regions of two contexts, where those of the first come before those of the second
   pair : (c d : Context) (s t : Stretch) → directory_to c ≤ directory_offset draft start d → directory_offset draft start d ≤ directory_to d
       → directory_to d ≤ values_offset draft start c → values_offset draft start c ≤ values_to c → values_to c ≤ values_offset draft start d
       → Of c s → Of d t → IsApart s t
@@ -173,7 +173,7 @@ module _ (draft : Draft) (start : ℕ) where
       pair Gps Interop s t (omega (arith, st.interop)) st.interop_down
       (omega (arith, st.values, st.tiff_up, st.exif_values, st.exif_up, st.gps_values)) st.gps_up (omega (arith, st.interop_values)) h i
 
-  -- a directory stands in front of its values
+  -- a directory is in front of its values
   pub in_front : (c : Context) → directory_to c ≤ values_offset draft start c
   in_front c = by_context they_stand c
     where
@@ -183,7 +183,7 @@ module _ (draft : Draft) (start : ℕ) where
       by_context st Gps = omega (arith, st.interop, st.interop_down, st.values, st.tiff_up, st.exif_values, st.exif_up, st.gps_values)
       by_context st Interop = omega (arith, st.values, st.tiff_up, st.exif_values, st.exif_up, st.gps_values, st.gps_up, st.interop_values)
 
-  -- the first directory stands in front of all, and the blocks behind all values
+  -- the first directory is in front of all, and the blocks behind all values
   behind_first : (c : Context) → directory_offset draft start Tiff ≤ directory_offset draft start c
   behind_first c = by_context they_stand c
     where

@@ -285,7 +285,7 @@ all_at P [] m h a = absurd (omega arith)
 all_at P (group ∷ groups) zero h a = a.0
 all_at P (group ∷ groups) (suc m) h a = all_at P groups m (omega arith) a.1
 
--- the last group stands, since its directory has an entry
+-- the last group is in the image, since its directory has an entry
 length-rewritten : (groups : List Group) → AreRanged groups → AllByRecursion IsAccepted groups → length (rewritten groups) ≡ length groups
 unfolding flat
 length-rewritten [] ranged h = refl

@@ -46,7 +46,7 @@ pub blocks_low : (offset : ℕ) (texts : List (List ℕ)) → offset ≤ after_b
 blocks_low offset [] = omega arith
 blocks_low offset (text ∷ texts) = let more = blocks_low (offset + length text) texts in omega arith
 
--- a value takes no more than 4 bytes or stands before the end
+-- a value takes no more than 4 bytes or is before the end
 value_room : (offset len end : ℕ) → after_value offset len ≤ end → 4 ≤ end → len ≤ end
 value_room offset len end h few = go (nat_le len 4) refl h
   where

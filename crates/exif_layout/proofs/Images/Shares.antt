@@ -98,7 +98,7 @@ unfolding OwnShare
 own_interop group inner =
     flat_filter (share Interop Interop inner) (is_pushed Interop) (interop_slots group) (all_interop (OwnShare Interop inner) group (own_entries Interop inner group.interop))
 
--- what stands where a list has a member
+-- what is where a list has a member
 pick : {X Y : Type 0} → List X → List Y → List Y
 pick [] r = []
 pick (x ∷ l) r = r

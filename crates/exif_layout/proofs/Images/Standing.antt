@@ -1,4 +1,4 @@
--- Texts that stand in bytes, and parts side by side.
+-- Texts that are in bytes, and parts side by side.
 use Rattle.std.proofs.Math.Seq.{get_or-append_right}
 use Rattle.std.specs.Prelude.{slice_index}
 use Rattle.std.proofs.Common.{◌≤◌, ⊎_elim, subst, ◌≡◌, ℕ, ◌+◌, ◌-◌, ◌<◌, ◌^◌, List, [], ◌∷◌, ◌++◌, length, take, drop, replicate, refl, sym, ap, ◌∙◌, arith}
@@ -14,7 +14,7 @@ use Rattle.exif_layout.specs.Image.{Part, laid}
 use Rattle.exif_layout.specs.Layout.{Stands, Spans, IsOutside}
 use Rattle.exif_layout.proofs.Images.Words.{AllStand}
 
--- a text stands at an offset if a front of that length comes before it
+-- a text is at an offset if a front of that length comes before it
 pub stands_of : (bytes front text back : List ℕ) (offset : ℕ) → bytes ≡ front ++ (text ++ back) → length front ≡ offset → Stands bytes offset text
 stands_of bytes front text back offset e h =
     let len : length bytes ≡ length front + (length text + length back) =
@@ -24,24 +24,24 @@ stands_of bytes front text back offset e h =
       there = ap (λ x. take (length text) (drop offset x)) e ∙ ap (take (length text)) (drop_at front (text ++ back) offset h) ∙ take_at text back (length text) refl;
     }
 
--- bytes in which a text stands are what is before it, the text, and what is behind it
+-- bytes that hold a part are what is before it, the part, and what follows it
 pub stands_split : (bytes text : List ℕ) (offset : ℕ) → Stands bytes offset text → bytes ≡ take offset bytes ++ (text ++ drop (length text) (drop offset bytes))
 stands_split bytes text offset s =
     sym (take-append-drop offset bytes)
     ∙ ap (λ x. take offset bytes ++ x) (sym (take-append-drop (length text) (drop offset bytes)) ∙ ap (λ x. x ++ drop (length text) (drop offset bytes)) s.there)
 
--- what is before a text that stands is as long as its offset
+-- what is before a part is as long as its offset
 pub stands_front : (bytes text : List ℕ) (offset : ℕ) → Stands bytes offset text → length (take offset bytes) ≡ offset
 stands_front bytes text offset s = let h = s.within in length-take-le offset bytes (omega arith)
 
--- where two joined texts stand, the first stands at their offset
+-- of two joined parts, the first is at their offset
 pub stands_left : (bytes x y : List ℕ) (offset : ℕ) → Stands bytes offset (x ++ y) → Stands bytes offset x
 stands_left bytes x y offset s =
     stands_of bytes (take offset bytes) x (y ++ drop (length (x ++ y)) (drop offset bytes)) offset
     (stands_split bytes (x ++ y) offset s ∙ ap (λ z. take offset bytes ++ z) (append_assoc x y _))
     (stands_front bytes (x ++ y) offset s)
 
--- and the second stands where the first ends
+-- and the second is where the first ends
 pub stands_right : (bytes x y : List ℕ) (offset next : ℕ) → Stands bytes offset (x ++ y) → next ≡ offset + length x → Stands bytes next y
 stands_right bytes x y offset next s h =
     stands_of bytes (take offset bytes ++ x) y (drop (length (x ++ y)) (drop offset bytes)) next
@@ -58,7 +58,7 @@ pub number_spelled : (order : Order) (n x : ℕ) (rest : List ℕ) → x < 256 ^
 number_spelled Big n x rest h = big_number-reads_back n x rest h
 number_spelled Little n x rest h = little_number-reads_back n x rest h
 
--- a number that stands is read
+-- a number in the data is read
 pub number_read : (order : Order) (n x offset : ℕ) (bytes : List ℕ) → x < 256 ^ n → Stands bytes offset (spelled order n x) → number_at (number_of order) n bytes offset ≡ x
 number_read order n x offset bytes h s =
     let text : List ℕ = spelled order n x in
@@ -83,7 +83,7 @@ length-laid start end (p ∷ ps) s =
     length-append gap (p.text ++ laid (p.offset + length p.text) ps) in
     omega arith
 
--- each part stands at its offset
+-- each part is at its offset
 pub laid_stand : (bytes front : List ℕ) (start end : ℕ) (ps : List Part) → Spans start ps end → bytes ≡ front ++ laid start ps → length front ≡ start → AllStand bytes ps
 laid_stand bytes front start end [] s e h = tt
 laid_stand bytes front start end (p ∷ ps) s e h =
@@ -99,7 +99,7 @@ laid_stand bytes front start end (p ∷ ps) s e h =
           (length-append (front ++ zeros) p.text ∙ ap (λ n. n + length p.text) front_len),
     )
 
--- what no part stands at is zero
+-- what no part is at is zero
 pub laid_zero : (start end i : ℕ) (ps : List Part) → Spans start ps end → AllByRecursion (IsOutside (start + i)) ps → slice_index (laid start ps) i ≡ 0
 laid_zero start end i [] s h = refl
 laid_zero start end i (p ∷ ps) s h =

@@ -1,4 +1,4 @@
--- A value whose bytes stand is decoded as it was.
+-- A value whose bytes are in the data is decoded as it was.
 use Rattle.std.proofs.Common.{◌≡◌, ℕ, ◌+◌, ◌*◌, ◌<◌, ◌^◌, ◌==◌, List, [], ◌∷◌, ◌++◌, length, take, drop, get_or, refl, sym, ap, ◌∙◌, arith, false}
 use Rattle.std.proofs.lemmas.Bool.{ne_eqb}
 use Rattle.std.proofs.lemmas.Int.{to_z-of_z}
@@ -135,7 +135,7 @@ module _ (order : Order) (bytes : List ℕ) where
       let b = signed_read w32 4 refl x.denom (p + 4) h.1 (second_stands n d p (length_spelled order 4 (cast_unsigned w32 x.num)) s) in
       λ i. record { num = a i; denom = b i }
 
-  -- a value that fits is read from where its bytes stand, an undefined one with that offset
+  -- a value that fits is read from the offset of its bytes, an undefined one with that offset
   pub decode_read : (value : Value) (p : ℕ) → Fits value → Stands bytes p (encode order value) → decode (number_of order) (type_number value) (count_of value) bytes p ≡ moved_to p value
   decode_read (Byte xs) p h s = ap Byte s.there
   decode_read (Ascii xs) p h s = ap Ascii (ap texts s.there ∙ texts_ended xs h)

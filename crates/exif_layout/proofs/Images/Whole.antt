@@ -1,4 +1,4 @@
--- What an image that is written is: its parts stand side by side, each at its offset.
+-- A written image: its parts are side by side, each at its offset.
 use Rattle.std.proofs.Common.{◌∙◌}
 use Rattle.exif_layout.proofs.Moved.{same_moved}
 use Rattle.std.proofs.Common.{◌≡◌, ℕ, ◌+◌, ◌<◌, ◌≤◌, List, [], ◌∷◌, length, refl, subst, arith, Bool, true, false, map, Option, Some, None}
@@ -112,7 +112,7 @@ known_slots group h =
     (λ kind. known_blocks kind (blocks_in group kind))
     (λ some. tt) (λ some. tt) (λ some. tt)
 
--- the parts of accepted groups stand side by side from their start to the end of the last
+-- the parts of accepted groups are side by side from their start to the end of the last
 pub parts_from_span : (order : Order) (start : ℕ) (groups : List Group) → AllByRecursion IsAccepted groups
     → Spans start (parts_from order start (map draft_of groups)) (drafts_end start (map draft_of groups))
 parts_from_span order start [] h = refl
@@ -122,7 +122,7 @@ parts_from_span order start (group ∷ groups) h =
     (draft_spans order (draft_of group) start (next_offset end (map draft_of groups)) h.0.some (known_slots group h.0))
     (parts_from_span order end groups h.1)
 
--- The parts of an image stand side by side from 0 to its end, with single bytes between.
+-- The parts of an image are side by side from 0 to its end, with single bytes between.
 pub parts_span : (order : Order) (groups : List Group) → AllByRecursion IsAccepted groups → Spans 0 (parts order (map draft_of groups)) (drafts_end 8 (map draft_of groups))
 parts_span Big groups h = (omega arith, omega arith, parts_from_span Big 8 groups h)
 parts_span Little groups h = (omega arith, omega arith, parts_from_span Little 8 groups h)
@@ -132,13 +132,13 @@ pub length-image : (order : Order) (groups : List Group) → AllByRecursion IsAc
 unfolding image
 length-image order groups h = let e = length-laid 0 (drafts_end 8 (map draft_of groups)) (parts order (map draft_of groups)) (parts_span order groups h) in omega arith
 
--- each part of an image stands at its offset
+-- each part of an image is at its offset
 pub parts_stand : (order : Order) (groups : List Group) → AllByRecursion IsAccepted groups → AllStand (image order groups) (parts order (map draft_of groups))
 unfolding image
 parts_stand order groups h =
     laid_stand (image order groups) [] 0 (drafts_end 8 (map draft_of groups)) (parts order (map draft_of groups)) (parts_span order groups h) refl refl
 
--- what no part of an image stands at is zero
+-- what no part of an image is at is zero
 pub pads_zero : (order : Order) (groups : List Group) → AllByRecursion IsAccepted groups → (offset : ℕ) → AllByRecursion (IsOutside offset) (parts order (map draft_of groups)) → slice_index (image order groups) offset ≡ 0
 unfolding image
 pads_zero order groups h offset outside =

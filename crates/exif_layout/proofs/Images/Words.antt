@@ -56,7 +56,7 @@ pub record IsAccepted (group : Group) : Type 0 where
   pub few : (context : Context) → length (slots_of group context) ≤ 65535
   pub known : (context : Context) → AllByRecursion (λ entry. is_unknown entry.value ≡ false) (pushed_in group context)
 
--- what stands in an entry is what the reader takes it for: a pointer names a child with entries, and nothing else is a pointer
+-- what is in an entry is what the reader takes it for: a pointer names a child with entries, and nothing else is a pointer
 abbrev pub ContentFits : Draft → Context → ℕ → Content → Type 0
 ContentFits draft context tag (Known value) = Fits value × (child_of context tag ≡ None)
 ContentFits draft context tag (OffsetsOf kind lengths) = (lengths ≡ map length (draft.blocks kind)) × (child_of context tag ≡ None)
@@ -80,7 +80,7 @@ next_of next Exif = 0
 next_of next Gps = 0
 next_of next Interop = 0
 
--- all parts of a draft stand
+-- all parts of a draft are in the image
 pub record DraftStands (order : Order) (bytes : List ℕ) (draft : Draft) (start next : ℕ) : Type 0 where
   pub directory : (context : Context) → 0 < length (draft.slots context)
       → Stands bytes (directory_offset draft start context) (directory_text order (next_of next context) (entries_of draft start context))

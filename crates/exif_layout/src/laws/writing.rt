@@ -11,9 +11,9 @@ ghost use Rattle.exif_layout.specs.Layout.{LaidOut, LengthIsEnd, BlocksStand};
 ghost use Rattle.exif_layout.specs.ReadBack.{ReadsBack, ReadsFirstEight};
 ghost use Rattle.exif_layout.specs.Rewriting.{RewritesSame, RewritesInEachOrder, EqualByContents, OrdersAgree, LengthsAgree};
 
-/// The parts of an image stand side by side from its first byte to its last, but for single zero
+/// The parts of an image are side by side from its first byte to its last, but for single zero
 /// bytes between them, it ends where its last part ends and within 4,294,967,295 bytes, and each
-/// strip, tile and thumbnail stands where its two fields say. Reading looks at no byte of it as two
+/// strip, tile and thumbnail is where its two fields say. Reading looks at no byte of it as two
 /// things.
 pub fn images_are_laid_out()
     ensures parts { (order : Order) (groups : List Group)

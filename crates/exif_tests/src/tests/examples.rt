@@ -187,7 +187,7 @@ fn fields_without_a_location(rt: HostRuntime) -> Result<(), Fail> {
 fn a_picture_without_metadata(rt: HostRuntime) -> Result<(), Fail> {
     let alloc = rt.alloc();
     let clean = without_metadata(alloc, PICTURE)?;
-    // The stream but for its Exif segment, which stands behind 20 bytes and takes 558.
+    // The stream but for its Exif segment, which follows 20 bytes and takes 558.
     assert!(rt; clean.len() == 172);
     assert!(rt; clean.starts_with(&PICTURE[..20]));
     assert!(rt; clean.ends_with(&PICTURE[578..]));

@@ -26,8 +26,8 @@ pub fn reading_is_bounded()
 
 /// A limit cuts what data hold just before the first visit over it, where its fault stands alone,
 /// and changes nothing where there are no more entries to visit. Lenient reading answers what
-/// stood before the cut, and strict reading refuses for the limit exactly where no other fault
-/// stood there.
+/// was before the cut, and strict reading refuses for the limit exactly where no other fault
+/// was there.
 pub fn limits_cut_readings()
     ensures visits { (n : ℕ) (nodes : List Node) → VisitsAreLimited n nodes }
     ensures within { (n : ℕ) (nodes : List Node) → IsKeptWithin n nodes }

@@ -7,7 +7,7 @@ use Rattle.exif_tiff.specs.Trace.{entry_offsets}
 use Rattle.exif_edit.specs.Changing.{changes}
 use Rattle.exif_edit.proofs.alone.changes_others.Given as goal
 
--- what is left of the entries tells it of all of them
+-- what is left of the entries decides for all of them
 abbrev pub invariant-loop : goal.invariant-loop
 invariant-loop l =
     let other = other_entry (number_of l.order) l.bytes l.entry in

@@ -10,7 +10,7 @@ taken_all (Some xs) None old new n h e = absurd h.1
 taken_all (Some xs) (Some ys) old new n h e = h.3
     ∙ ap (λ t. old ++ t) (sym (h.1 ∙ ap (λ t. h.0 ++ t) e ∙ append-nil h.0))
 
--- a list is shorter than the most that is asked for
+-- a list is shorter than the most that is requested
 few : (old new bytes : List ℕ) (n : ℕ) → length bytes ≡ n → new ≡ old ++ bytes → length new < 2 ^ 63 → n < 2 ^ 64 - 1
 few old new bytes n l e h = omega (arith, ap length e, length-append old bytes)
 

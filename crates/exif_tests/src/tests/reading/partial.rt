@@ -16,14 +16,14 @@ fn lenient(alloc: Global, bytes: &[u8]) -> Result<Exif, Error> {
     raw_answer(alloc, &reader_of(true), bytes)
 }
 
-// What an error is without its faults, and how many of them a closure was handed, if any were.
+// What an error is without its faults, and how many of them a closure was given, if any were.
 fn distilled(error: Error) -> (Result<Exif, Error>, Option<usize>) {
     let mut count = None;
     let answer = error.distill_partial_result(|faults: Vec<Error>| count = Some(faults.len()));
     (answer, count)
 }
 
-// What a closure was handed of an error: so many fields were read, and so many faults were found.
+// What a closure was given of an error: so many fields were read, and so many faults were found.
 fn is_distilled(rt: &impl Abort, error: Error, fields: usize, faults: usize) {
     let (answer, count) = distilled(error);
     let read = field_count(&answer);
@@ -59,7 +59,7 @@ fn faults_are_handed_over(rt: HostRuntime) -> Result<(), Fail> {
     }
 }
 
-// A closure is handed nothing of an error, which comes back with this text.
+// A closure is given nothing of an error, which comes back with this text.
 fn comes_back(rt: &(impl Abort + AllocGlobal), error: Error, text: &str) -> Result<(), Fail> {
     let (answer, count) = distilled(error);
     assert!(rt; count.is_none());

@@ -15,7 +15,7 @@ returns-clause-styled g c flush ok =
     (rw (repeated_spaces, repeated_spaces, c.saturating_sub.ensures, c.places_before-before.ensures, c.saturating_sub-missing.ensures, width, align) refl)
     (has_written_styled_append _ _ _ _ _ _ first (has_written_styled_append _ _ _ _ _ _ middle last))
 
--- a plain formatter asks for no width
+-- a plain formatter requests no width
 pub returns-clause-writes : goal.returns-clause-writes
 returns-clause-writes g c plain ok =
     has_written_from_padded _ _ _ _ _ _ refl plain (returns-clause-styled g c plain.flush ok)
