@@ -1,0 +1,8 @@
+mod KeptOrientation
+mod MovedFields
+mod MovedTexts
+mod NoField
+mod OrientationImage
+mod ScrubbedFiles
+mod SetFields
+mod ShiftedFiles

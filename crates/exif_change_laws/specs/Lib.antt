@@ -1,0 +1,2 @@
+pub mod Scrubbed
+pub mod Shifted
