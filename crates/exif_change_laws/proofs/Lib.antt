@@ -1,3 +1,4 @@
+mod JoinedFiles
 mod KeptOrientation
 mod MovedFields
 mod MovedTexts
@@ -5,4 +6,6 @@ mod NoField
 mod OrientationImage
 mod ScrubbedFiles
 mod SetFields
+mod SetTwice
+mod ShiftedBack
 mod ShiftedFiles

@@ -17,6 +17,7 @@ ghost use Rattle.exif_change.specs.Reading.{Contents, file_contents};
 ghost use Rattle.exif_change.specs.Shifting.{shifted};
 ghost use Rattle.exif_change.specs.declared.dates.Dates.{Dates};
 ghost use Rattle.exif_change.specs.declared.scrubbing.Removed.TheVariants.{AllButOrientation, Metadata};
+ghost use Rattle.exif_change_laws.specs.Places.{KeepsPlaces};
 ghost use Rattle.exif_change_laws.specs.Scrubbed.{HasNoField, is_rewritten, orientation, orientation_alone};
 ghost use Rattle.exif_change_laws.specs.Shifted.{all_read};
 
@@ -92,6 +93,21 @@ pub fn a_shift_and_its_opposite_give_what_was_read()
         → shifted by dates file ≡ Ok (whole new)
         → shifted (opposite by) dates new ≡ Ok (whole back)
         → all_read lenient back ≡ all_read lenient file }
+{
+    a_moved_value_is_moved_back();
+    limits_cut_readings();
+}
+
+/// Where a shift of a file's dates and the opposite shift left nothing undone, the old file is there
+/// again, byte for byte: if both find each date where the old file has it, and the old file's dates
+/// are written as they would be set.
+pub fn a_shift_and_its_opposite_give_the_old_file()
+    ensures { (by : ClockShift) (dates : Dates) (file new back : List ℕ) (old moved : Contents)
+        → by.seconds < 2 ^ 42 → length file < 2 ^ 64
+        → file_contents file ≡ Ok old → file_contents new ≡ Ok moved
+        → shifted by dates file ≡ Ok (whole new)
+        → shifted (opposite by) dates new ≡ Ok (whole back)
+        → KeepsPlaces by dates file new back → back ≡ file }
 {
     a_moved_value_is_moved_back();
     limits_cut_readings();
