@@ -378,15 +378,9 @@ extents_in file bytes l = ap (λ (x : Result Located Refusal). causes.◌>>=◌ 
 extents_same : (a b : List Extent) → ◌≡◌ {A = Result (List Extent) Cause} (Ok a) (Ok b) → a ≡ b
 extents_same a b e = cc
 
--- the fields that are read
-told_is : (by : ClockShift) (which : Dates) (file new : List ℕ) (contents : Contents) (s : WasShifted by which file new) → file_contents file ≡ Ok contents → fields_told file ≡ s.read.fields
-told_is by which file new contents s e =
-    ap (λ (r : Result Contents Refusal). elim r as (λ _. List Field) [ Ok c ↦ c.fields | Err refusal ↦ [] ]) e ∙ s.told contents e
-
-pub given_back : (by : ClockShift) (which : Dates) (file new back : List ℕ) (old moved : Contents) → ValuesBack by → length file < 2 ^ 64
-    → file_contents file ≡ Ok old → file_contents new ≡ Ok moved
+pub given_back : (by : ClockShift) (which : Dates) (file new back : List ℕ) → ValuesBack by → length file < 2 ^ 64
     → (s : WasShifted by which file new) → (t : WasShifted (opposite by) which new back) → KeepsPlaces by which file new back → back ≡ file
-given_back by which file new back old moved law short e f s t keeps =
+given_back by which file new back law short s t keeps =
     let tags = tags_of which in
     let fields = s.read.fields in
     let next : Read = record s.read { fields = dates_set by fields tags fields } in
@@ -396,15 +390,13 @@ given_back by which file new back old moved law short e f s t keeps =
     let tiny : length back < 2 ^ 64 = subst (λ (n : ℕ). n < 2 ^ 64) (sym t.ran.as_long) small in
     let l = located_in file s.holds.bytes short s.holds.held in
     let ex = extents_in file s.holds.bytes l in
-    let told = told_is by which file new old s e in
-    let told_new = told_is (opposite by) which new back moved t f in
     let kept = forth by fields tags file file new l.at.ranges s.holds.bytes short s.holds.held ex
-    (subst (λ (fs : List Field). StaysPut file by fs tags (whole file)) told keeps.there) s.moves in
+    (subst (λ (fs : List Field). StaysPut file by fs tags (whole file)) s.told keeps.there) s.moves in
     let values : BackLast by fields t.read.fields tags =
     subst (λ (fs : List Field). BackLast by fields fs tags) (sym after) (all_back by fields fields tags law (all_apart which) s.ran.moved (same_all fields tags)) in
     let done = again (opposite by) fields t.read.fields tags file new back l.at.ranges s.holds.bytes kept.out short small s.holds.held kept.held kept.long ex
-    (subst (λ (fs : List Field). StaysPut file (opposite by) fs tags (whole new)) told_new keeps.again)
-    (subst (λ (fs : List Field). SetsItself file fs tags) told keeps.itself)
+    (subst (λ (fs : List Field). StaysPut file (opposite by) fs tags (whole new)) t.told keeps.again)
+    (subst (λ (fs : List Field). SetsItself file fs tags) s.told keeps.itself)
     (set_back by fields t.read.fields tags values t.ran.moved) kept.same t.moves in
     let same : done.out ≡ s.holds.bytes = ext_get_or 0 done.out s.holds.bytes done.long (λ i h. done.same i) in
     let m = located_in back done.out tiny done.held in

@@ -45,6 +45,7 @@ use Rattle.exif_change.specs.Setting.{primary}
 use Rattle.exif_change.specs.Shifting.{date, date_moved, date_set, dates_moved, has_date, has_dates, leaving, shifted, tag_moved, tags_moved, tags_of}
 use Rattle.exif_change.specs.declared.dates.Dates.{Dates}
 use Rattle.exif_change.specs.declared.dates.Dates.TheVariants as dates
+use Rattle.exif_change_laws.specs.Places.{fields_told}
 use Rattle.exif_change_laws.specs.Shifted.{all_read}
 use Rattle.exif_change_laws.proofs.MovedFields.{AllApart, AllMove, Moves, ValuesBack, dates_set, fields_back, if_moved, moved_option, set_or}
 use Rattle.exif_change_laws.proofs.SetFields.{tags_apart}
@@ -295,12 +296,9 @@ contents_are bytes contents e = by_fields (fields_in (raw_answer true entry_limi
 pub record WasShifted (by : ClockShift) (which : Dates) (file new : List ℕ) : Type 0 where
   pub read : Read
   pub holds : Holds file read
-  pub told : (contents : Contents) → file_contents file ≡ Ok contents → contents.fields ≡ read.fields
+  pub told : fields_told file ≡ read.fields
   pub moves : tags_moved by read.fields (tags_of which) (whole file) ≡ whole new
   pub ran : Ran by read.fields (tags_of which) file new read
-
-contents_same : (a b : Contents) → ◌≡◌ {A = Result Contents Refusal} (Ok a) (Ok b) → a ≡ b
-contents_same a b e = cc
 
 contents_shifted : (by : ClockShift) (which : Dates) (file new bytes : List ℕ) (contents : Contents) → AnswersWithin 1000000 bytes → length file < 2 ^ 64
     → container_answer file ≡ Ok bytes → data_contents bytes ≡ Ok contents
@@ -327,7 +325,8 @@ contents_shifted by which file new bytes contents within short held read e = by_
         record {
           read = first.read;
           holds = h;
-          told = λ other is. ap (λ (c : Contents). c.fields) (contents_same other contents (sym is ∙ (ap (λ (r : Result (List ℕ) Refusal). types.◌>>=◌ r data_contents) held ∙ read))) ∙ fields;
+          told = ap (λ (r : Result (List ℕ) Refusal). elim (types.◌>>=◌ r data_contents) as (λ _. List Field) [ Ok c ↦ c.fields | Err refusal ↦ [] ]) held
+              ∙ (ap (λ (r : Result Contents Refusal). elim r as (λ _. List Field) [ Ok c ↦ c.fields | Err refusal ↦ [] ]) read ∙ fields);
           moves = here;
           ran = run by first.read.fields (tags_of which) file new first.read short h here;
         }

@@ -1,3 +1,4 @@
+pub mod Examples
 pub mod Places
 pub mod Scrubbed
 pub mod Shifted

@@ -102,9 +102,8 @@ pub fn a_shift_and_its_opposite_give_what_was_read()
 /// again, byte for byte: if both find each date where the old file has it, and the old file's dates
 /// are written as they would be set.
 pub fn a_shift_and_its_opposite_give_the_old_file()
-    ensures { (by : ClockShift) (dates : Dates) (file new back : List ℕ) (old moved : Contents)
+    ensures { (by : ClockShift) (dates : Dates) (file new back : List ℕ)
         → by.seconds < 2 ^ 42 → length file < 2 ^ 64
-        → file_contents file ≡ Ok old → file_contents new ≡ Ok moved
         → shifted by dates file ≡ Ok (whole new)
         → shifted (opposite by) dates new ≡ Ok (whole back)
         → KeepsPlaces by dates file new back → back ≡ file }
