@@ -1,5 +1,5 @@
 -- Files of which the orientation alone is kept.
-use Rattle.std.proofs.Common.{◌≡◌, ◌∙◌, ◌<◌, ◌^◌, true, ℕ, List, [], ◌∷◌, length, Option, Some, None, Result, Ok, Err, refl, sym, ap, subst}
+use Rattle.std.proofs.Common.{◌≡◌, ◌∙◌, ◌<◌, ◌^◌, true, ℕ, List, [], ◌∷◌, length, Option, Some, None, Result, Ok, Err, refl, sym, ap}
 use Rattle.exif_base.specs.declared.endian.Order.{Order}
 use Rattle.exif_types.specs.Refusals as types
 use Rattle.exif_types.specs.Refusals.{Refusal}
@@ -18,8 +18,8 @@ use Rattle.exif_layout.specs.WriteFaults.{write_refusal}
 use Rattle.exif_layout.specs.declared.write_fault.WriteFault.{WriteFault}
 use Rattle.exif_rewrite.specs.FileLaws.{AnswersPut, IsFound}
 use Rattle.exif_rewrite.specs.ScrubbedExif.{image_or, scrubbed_answer, wanted}
-use Rattle.exif_change.specs.Changed.{Change, whole}
-use Rattle.exif_change.specs.Changes.{kept, orientation_in, scrubbed, scrubbed_as, upright, without_metadata}
+use Rattle.exif_change.specs.Changed.{whole}
+use Rattle.exif_change.specs.Changes.{kept, orientation_in, scrubbed, upright}
 use Rattle.exif_change.specs.Reading.{Contents, data_contents, fields_in, file_contents, without_fault}
 use Rattle.exif_change.specs.Refusals.{Why, as_read, reading, ◌>>=◌}
 use Rattle.exif_change.specs.Rewriting.{rewritten}

@@ -1,20 +1,20 @@
 -- The text of a date that was moved, moved back.
-use Rattle.std.proofs.Common.{◌≡◌, ◌<◌, ◌≤◌, ◌+◌, ◌-◌, ◌*◌, ◌/◌, ◌%◌, ◌^◌, ◌==◌, ◌&&◌, ◌||◌, ◌∙◌, ℕ, zero, suc, true, false, Bool, List, [], ◌∷◌, ◌++◌, length, take, drop, Option, Some, None, Result, Ok, Err, if◌then◌else◌, refl, sym, ap, subst, arith}
-use Rattle.std.specs.Prelude.{nat_le, nat_lt, nat_eq, not, codes, slice_index, get_or}
+use Rattle.std.proofs.Common.{◌≡◌, ◌<◌, ◌≤◌, ◌+◌, ◌-◌, ◌*◌, ◌/◌, ◌%◌, ◌==◌, ◌&&◌, ◌||◌, ◌∙◌, ℕ, zero, suc, true, false, Bool, List, [], ◌∷◌, ◌++◌, length, take, drop, Option, Some, None, Result, Ok, Err, if◌then◌else◌, refl, sym, ap, subst, arith}
+use Rattle.std.specs.Prelude.{nat_le, nat_lt, nat_eq, not, slice_index}
 use Rattle.std.specs.Option.{option_and_then, option_map}
-use Rattle.std.proofs.lemmas.Bool.{and_parts, false≢true}
+use Rattle.std.proofs.lemmas.Bool.{and_parts}
 use Rattle.std.proofs.lemmas.Bool.Decides.{nat_tests}
 use Rattle.std.proofs.lemmas.List.{take-append-drop}
 use Rattle.std.proofs.Math.Seq.{drop-cons}
 use Rattle.exif_text.specs.Dates.{date_at as read_day, both, has_date_digits, has_delimiters, has_time_digits, is_blank, parse_datetime, read_date, read_time, time_at as read_clock}
-use Rattle.exif_text.specs.Digits.{are_two_at, digit_at, is_digit_at, two_at}
+use Rattle.exif_text.specs.Digits.{are_two_at, is_digit_at, two_at}
 use Rattle.exif_text.specs.declared.date.Date.{Date}
 use Rattle.exif_text.specs.declared.date.TimeOfDay.{TimeOfDay}
 use Rattle.exif_text.specs.declared.date_fault.DateFault.{DateFault}
 use Rattle.exif_text.specs.declared.date_fault.DateFault.TheVariants.{BlankDate, DateTooShort, InvalidDateDelimiter, NotANumber}
 use Rattle.exif_types.specs.declared.value.Value.{Value}
 use Rattle.exif_types.specs.declared.value.Value.TheVariants.{Byte, Ascii, Short, Long, Rational, SByte, Undefined, SShort, SLong, SRational, Float, Double, Unknown}
-use Rattle.exif_assign.specs.Calendar.{date_at, date_in, day_number, days_in_month, days_in_year, is_day, is_leap, is_time, moment_at, month_at, month_from, seconds_of, time_at, year_at, year_from}
+use Rattle.exif_assign.specs.Calendar.{date_at, date_in, days_in_month, days_in_year, is_day, is_leap, is_time, moment_at, month_at, month_from, seconds_of, time_at, year_at, year_from}
 use Rattle.exif_assign.specs.Shift.{digit, moment_text, moved, moved_seconds, moved_text, moved_texts, moved_value, on_calendar, opposite, stated, text_or, unmoved_by, with_date}
 use Rattle.exif_assign.specs.declared.shift.ClockShift.{ClockShift}
 use Rattle.exif_assign.specs.declared.shift.Unmoved.{Unmoved}

@@ -1,21 +1,20 @@
 -- Files of which no field is read.
-use Rattle.std.proofs.Common.{◌≡◌, ◌∙◌, ◌<◌, ◌≤◌, ◌^◌, ◌==◌, ◌&&◌, ◌⊎◌, inl, inr, ℕ, suc, true, false, Bool, List, [], ◌∷◌, ◌++◌, length, take, Option, Some, None, Result, Ok, Err, if◌then◌else◌, refl, sym, ap, subst, arith}
-use Rattle.std.specs.Prelude.{nat_le, nat_lt}
-use Rattle.std.proofs.lemmas.Bool.{and_parts, false≢true}
+use Rattle.std.proofs.Common.{◌≡◌, ◌∙◌, ◌<◌, ◌≤◌, ℕ, true, false, Bool, List, [], ◌∷◌, ◌++◌, Some, None, Result, Ok, Err, refl, sym, ap, subst, arith}
+use Rattle.std.specs.Prelude.{nat_le}
+use Rattle.std.proofs.lemmas.Bool.{false≢true}
 use Rattle.std.proofs.lemmas.Bool.Decides.{nat_tests}
 use Rattle.exif_base.specs.Orders.{number_of}
 use Rattle.exif_base.specs.declared.endian.Order.{Order}
 use Rattle.exif_types.specs.Refusals as types
 use Rattle.exif_types.specs.Refusals.{Refusal, invalid_format, not_found, blank_value, too_big, not_supported, unexpected_value}
 use Rattle.exif_types.specs.declared.field.Field.{Field}
-use Rattle.exif_tiff.specs.Answers.{Answer, Partial, Refused, Whole, answer_of, raw_answer, shown}
-use Rattle.exif_tiff.specs.Limits.{AnswersWithin, IsCut, IsCutPast, LenientAnswersCut}
-use Rattle.exif_tiff.specs.Trace.{Found, Met, Node, Opens, Visit, content_of, faults_of, fields_of, header, ordered_trace, trace, visits_of}
+use Rattle.exif_tiff.specs.Answers.{Refused, Whole, raw_answer, shown}
+use Rattle.exif_tiff.specs.Limits.{AnswersWithin, IsCutPast, LenientAnswersCut}
+use Rattle.exif_tiff.specs.Trace.{Found, Met, Node, Opens, Visit, faults_of, fields_of, header, ordered_trace, trace, visits_of}
 use Rattle.exif_tiff.specs.declared.fault.Fault.{Fault}
-use Rattle.exif_tiff.proofs.ReportBound.{fields-append}
 use Rattle.exif_reader.proofs.TiffAnswers.{raw_right, trace_right}
 use Rattle.exif_edit_base.proofs.ReadSteps.{is_refused, not_refused, unshown, unshown_shown}
-use Rattle.exif_change.specs.Reading.{Contents, data_contents, entry_limit, fields_in, without_fault}
+use Rattle.exif_change.specs.Reading.{data_contents, fields_in, without_fault}
 use Rattle.exif_change_laws.specs.Scrubbed.{HasNoField}
 
 -- ---- no field under a limit where there is none without one

@@ -1,11 +1,11 @@
 -- Exif data that hold an orientation alone are read as it.
-use Rattle.std.proofs.Common.{◌≡◌, ◌∙◌, ◌<◌, ◌+◌, ◌*◌, ◌/◌, ◌%◌, ◌^◌, ℕ, true, List, [], ◌∷◌, Some, Ok, refl, sym, ap, arith}
+use Rattle.std.proofs.Common.{◌≡◌, ◌∙◌, ◌<◌, ◌+◌, ◌*◌, ◌/◌, ◌%◌, ◌^◌, ℕ, true, List, [], ◌∷◌, Some, Ok, refl, ap, arith}
 use Rattle.exif_base.specs.declared.endian.Order.{Order}
 use Rattle.exif_base.specs.declared.endian.Order.TheVariants.{Big, Little}
 use Rattle.exif_table.specs.declared.context.Context.TheVariants.{Tiff}
 use Rattle.exif_types.specs.declared.field.Field.{Field}
 use Rattle.exif_types.specs.declared.value.Value.TheVariants.{Short}
-use Rattle.exif_tiff.specs.Answers.{Answer, Whole, raw_answer}
+use Rattle.exif_tiff.specs.Answers.{Whole, raw_answer}
 use Rattle.exif_tiff.specs.Trace.{header, ordered_trace}
 use Rattle.exif_layout.specs.Image.{draft_parts, image}
 use Rattle.exif_layout.specs.Offsets.{draft_end, exif_offset, exif_values, gps_offset, gps_values, interop_offset, interop_values, jpeg_offset, strips_offset, tiff_offset, tiff_values, tiles_offset}

@@ -1,5 +1,5 @@
 -- Files whose metadata were taken out, by their formats.
-use Rattle.std.proofs.Common.{◌≡◌, ◌∙◌, ◌<◌, ◌^◌, ◌-◌, ◌==◌, ◌&&◌, ◌⊎◌, inl, inr, ℕ, true, false, Bool, List, [], ◌∷◌, length, take, Option, Some, None, Result, Ok, Err, if◌then◌else◌, refl, sym, ap, subst, arith}
+use Rattle.std.proofs.Common.{◌≡◌, ◌∙◌, ◌<◌, ◌^◌, ◌==◌, inl, inr, ℕ, true, false, Bool, List, [], ◌∷◌, length, take, Option, Some, None, Result, Ok, Err, if◌then◌else◌, refl, sym, ap, subst, arith}
 use Rattle.std.proofs.lemmas.Bool.{and_parts, false≢true}
 use Rattle.std.proofs.lemmas.Bool.Decides.{nat_tests}
 use Rattle.exif_types.specs.Refusals as types
@@ -10,11 +10,10 @@ use Rattle.exif_containers.specs.declared.container.Format.{Format}
 use Rattle.exif_containers.specs.declared.container.Format.TheVariants.{Tiff, Jpeg, Heif, WebP}
 use Rattle.exif_containers.proofs.Replacing.{refused_alike}
 use Rattle.exif_isobmff.specs.HeifFile.{begins_heif}
-use Rattle.exif_segments.specs.Jpeg.{begins_jpeg, no_exif_in_jpeg}
-use Rattle.exif_segments.specs.Webp.{begins_webp, no_exif_in_webp}
+use Rattle.exif_segments.specs.Jpeg.{begins_jpeg}
+use Rattle.exif_segments.specs.Webp.{begins_webp}
 use Rattle.exif_segments.specs.declared.remove.Remove.{Remove}
 use Rattle.exif_segments.specs.declared.remove.Remove.TheVariants.{Metadata}
-use Rattle.exif_tiff.specs.Answers.{Whole, raw_answer}
 use Rattle.exif_tiff.specs.Limits.{AnswersWithin, IsCutPast, LenientAnswersCut}
 use Rattle.exif_tiff.specs.Trace.{header, trace}
 use Rattle.exif_tiff.specs.declared.fault.Fault.{Fault}
@@ -35,10 +34,10 @@ use Rattle.exif_rewrite.proofs.FileHeads.{jpeg_head, webp_head}
 use Rattle.exif_rewrite_jpeg.specs.Rewriting.{Rewriting, finished}
 use Rattle.exif_rewrite_webp.specs.RewrittenWebp.{webp_rewriting}
 use Rattle.exif_change.specs.Changed.{Change, whole}
-use Rattle.exif_change.specs.Changes.{emptied, erased, if_edited, scrubbed, scrubbed_as, without_metadata}
+use Rattle.exif_change.specs.Changes.{erased, if_edited, scrubbed, scrubbed_as}
 use Rattle.exif_change.specs.Reading.{Contents, data_contents, entry_limit, file_contents}
-use Rattle.exif_change.specs.Refusals.{Why, as_read, editing, picture_data, reading, unknown_format}
-use Rattle.exif_change.specs.Rewriting.{if_whole, rewritten, rewritten_jpeg, rewritten_webp}
+use Rattle.exif_change.specs.Refusals.{Why, as_read, picture_data, reading, unknown_format}
+use Rattle.exif_change.specs.Rewriting.{if_whole, rewritten, rewritten_webp}
 use Rattle.exif_change.specs.declared.scrubbing.Removed.{Removed}
 use Rattle.exif_change.specs.declared.scrubbing.Removed.TheVariants as removed
 use Rattle.exif_change.proofs.Scrubbed.{scrubbed_answers}
@@ -153,9 +152,6 @@ pub record Limits : Type 0 where
   pub within : (n : ℕ) (bytes : List ℕ) → AnswersWithin n bytes
   pub past : (n : ℕ) (bytes : List ℕ) → IsCutPast n (trace bytes)
   pub cut : (n : ℕ) (bytes : List ℕ) → LenientAnswersCut n bytes
-
-no_data_alone : {X : Type 0} (r : Refusal) (x : Result X Cause) → Cause → Type 0
-no_data_alone r x c = x ≡ Err (no_data r)
 
 -- an edit that erases all fields is refused for its data only by the container
 refused_so : (file : List ℕ) (r : Refusal) → edited_file entry_limit EraseAll file ≡ Err (no_data r) → container_answer file ≡ Err r

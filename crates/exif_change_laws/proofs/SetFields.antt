@@ -1,11 +1,11 @@
 -- Fields with other values under some names.
-use Rattle.std.proofs.Common.{◌≡◌, ◌∙◌, ℕ, true, false, Bool, List, [], ◌∷◌, Option, Some, None, if◌then◌else◌, refl, sym, ap, subst}
+use Rattle.std.proofs.Common.{◌≡◌, ◌∙◌, true, false, Bool, List, [], ◌∷◌, Option, Some, None, if◌then◌else◌, refl, sym, ap}
 use Rattle.std.specs.Prelude.{◌||◌, ◌&&◌, ◌==◌}
 use Rattle.std.specs.List.{list_any}
 use Rattle.std.specs.Option.{option_map}
 use Rattle.std.proofs.lemmas.Bool.{and_parts, false≢true}
 use Rattle.exif_text.specs.declared.ifd.In.{In}
-use Rattle.exif_types.specs.FieldEq.{ifd_Decides, tag_Decides}
+use Rattle.exif_types.specs.FieldEq.{tag_Decides}
 use Rattle.exif_types.specs.Lookup.{is_named, last_named, tag_eq}
 use Rattle.exif_types.specs.declared.field.Field.{Field}
 use Rattle.exif_types.specs.declared.tag.Tag.{Tag}

@@ -1,7 +1,7 @@
 -- A shift and its opposite, byte for byte.
-use Rattle.std.proofs.Common.{◌≡◌, ◌∙◌, ◌<◌, ◌≤◌, ◌+◌, ◌^◌, ℕ, true, false, Bool, List, [], ◌∷◌, ◌++◌, length, get_or, All, Option, Some, None, Result, Ok, Err, if◌then◌else◌, refl, sym, ap, subst, arith}
+use Rattle.std.proofs.Common.{◌≡◌, ◌∙◌, ◌<◌, ◌+◌, ◌^◌, ℕ, false, List, [], ◌∷◌, length, get_or, All, Option, Some, None, Result, Ok, Err, refl, sym, ap, subst}
 use Rattle.std.specs.Bool.{⊤}
-use Rattle.std.specs.Prelude.{IfSome, slice_index}
+use Rattle.std.specs.Prelude.{IfSome}
 use Rattle.std.proofs.lemmas.List.{ext_get_or}
 use Rattle.exif_base.specs.Orders.{number_of, order_named}
 use Rattle.exif_base.specs.declared.endian.Order.{Order}
@@ -36,18 +36,18 @@ use Rattle.exif_edit.specs.Setting.{set_patches}
 use Rattle.exif_edit.specs.declared.edits.Edit.{Edit}
 use Rattle.exif_edit.specs.declared.edits.Edit.TheVariants.{Set}
 use Rattle.exif_edit.proofs.SetSound.{Fits, value_fits, value_misses, was_set}
-use Rattle.exif_edit_files.specs.InFiles.{Avoids, edited_file, file_patches}
+use Rattle.exif_edit_files.specs.InFiles.{Avoids, file_patches}
 use Rattle.exif_edit_files.proofs.FilesSound.{file_sound}
 use Rattle.exif_assign.specs.Shift.{moved_value, opposite}
 use Rattle.exif_assign.specs.declared.shift.ClockShift.{ClockShift}
 use Rattle.exif_assign.specs.declared.shift.Unmoved.{Unmoved}
-use Rattle.exif_change.specs.Changed.{Change, Undone, unmoved, unset, whole}
+use Rattle.exif_change.specs.Changed.{Change, unmoved, unset, whole}
 use Rattle.exif_change.specs.InPlace.{field_set}
-use Rattle.exif_change.specs.Reading.{Contents, entry_limit, file_contents}
+use Rattle.exif_change.specs.Reading.{entry_limit}
 use Rattle.exif_change.specs.Setting.{primary}
 use Rattle.exif_change.specs.Shifting.{date, date_moved, date_set, tag_moved, tags_moved, tags_of}
 use Rattle.exif_change.specs.declared.dates.Dates.{Dates}
-use Rattle.exif_change_laws.specs.Places.{KeepsPlaces, Place, SetsItself, StaysPut, extents, fields_told, place}
+use Rattle.exif_change_laws.specs.Places.{KeepsPlaces, Place, SetsItself, StaysPut, extents, place}
 use Rattle.exif_change_laws.proofs.JoinedFiles.{files_same}
 use Rattle.exif_change_laws.proofs.MovedFields.{AllMove, BackLast, Moves, ValuesBack, all_back, dates_set, if_moved, moved_option, same_all, value_option}
 use Rattle.exif_change_laws.proofs.SetTwice.{set_two}

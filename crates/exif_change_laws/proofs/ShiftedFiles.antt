@@ -1,6 +1,5 @@
 -- Files whose dates were moved.
 use Rattle.std.proofs.Common.{◌≡◌, ◌∙◌, ◌<◌, ◌≤◌, ◌^◌, ℕ, true, false, Bool, List, [], ◌∷◌, ◌++◌, length, Option, Some, None, Result, Ok, Err, if◌then◌else◌, refl, sym, ap, subst, arith}
-use Rattle.std.specs.Bool.{⊤}
 use Rattle.std.specs.Prelude.{nat_lt}
 use Rattle.std.proofs.lemmas.Bool.Decides.{nat_tests}
 use Rattle.exif_types.specs.Lookup.{last_named}
@@ -10,7 +9,7 @@ use Rattle.exif_types.specs.declared.field.Field.{Field}
 use Rattle.exif_types.specs.declared.tag.Tag.{Tag}
 use Rattle.exif_types.specs.declared.value.Value.{Value}
 use Rattle.exif_types.specs.declared.value.Value.TheVariants.{Byte, Ascii, Short, Long, Rational, SByte, Undefined, SShort, SLong, SRational, Float, Double, Unknown}
-use Rattle.exif_tiff.specs.Answers.{Answer, Partial, Refused, Whole, answer_of, raw_answer, shown}
+use Rattle.exif_tiff.specs.Answers.{Answer, raw_answer, shown}
 use Rattle.exif_tiff.specs.Faults.{refusal}
 use Rattle.exif_tiff.specs.Limits.{AnswersWithin}
 use Rattle.exif_tiff.specs.Trace.{header, trace, visits_of}
@@ -31,18 +30,18 @@ use Rattle.exif_edit.specs.declared.edits.Edit.{Edit}
 use Rattle.exif_edit.specs.declared.edits.Edit.TheVariants.{Set}
 use Rattle.exif_edit.proofs.ReadSound.{reads_are}
 use Rattle.exif_edit.proofs.SetSound.{was_set}
-use Rattle.exif_edit_files.specs.InFiles.{edited_file, file_patches}
+use Rattle.exif_edit_files.specs.InFiles.{file_patches}
 use Rattle.exif_edit_files.proofs.FilesSound.{file_sound}
-use Rattle.exif_assign.specs.Shift.{moved_text, moved_texts, moved_value, opposite, with_date}
+use Rattle.exif_assign.specs.Shift.{moved_text, moved_value, opposite, with_date}
 use Rattle.exif_assign.specs.declared.shift.ClockShift.{ClockShift}
 use Rattle.exif_assign.specs.declared.shift.Unmoved.{Unmoved}
 use Rattle.exif_assign.specs.declared.shift.Unmoved.TheVariants.{Blank, Invalid}
 use Rattle.exif_change.specs.Changed.{Change, Undone, unmoved, unset, whole}
 use Rattle.exif_change.specs.InPlace.{field_set}
-use Rattle.exif_change.specs.Reading.{Contents, data_contents, entry_limit, fields_in, file_contents, without_fault}
+use Rattle.exif_change.specs.Reading.{Contents, data_contents, entry_limit, fields_in, without_fault}
 use Rattle.exif_change.specs.Refusals.{Why, as_read, no_date, reading as refused, ◌>>=◌}
 use Rattle.exif_change.specs.Setting.{primary}
-use Rattle.exif_change.specs.Shifting.{date, date_moved, date_set, dates_moved, has_date, has_dates, leaving, shifted, tag_moved, tags_moved, tags_of}
+use Rattle.exif_change.specs.Shifting.{date, date_moved, date_set, dates_moved, has_dates, shifted, tag_moved, tags_moved, tags_of}
 use Rattle.exif_change.specs.declared.dates.Dates.{Dates}
 use Rattle.exif_change.specs.declared.dates.Dates.TheVariants as dates
 use Rattle.exif_change_laws.specs.Places.{fields_told}

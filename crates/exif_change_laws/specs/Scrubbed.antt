@@ -1,5 +1,5 @@
 -- What is read of files whose metadata were taken out.
-use Rattle.std.specs.Prelude.{◌≡◌, ⊤, ℕ, Bool, true, false, List, [], ◌∷◌, Option, Some, None, Result, Ok, Err}
+use Rattle.std.specs.Prelude.{◌≡◌, ⊤, ℕ, Bool, true, false, [], ◌∷◌, Result, Ok, Err}
 use Rattle.exif_base.specs.declared.endian.Order.{Order}
 use Rattle.exif_table.specs.declared.context.Context.TheVariants.{Tiff}
 use Rattle.exif_types.specs.Refusals.{Refusal, not_found}

@@ -1,4 +1,4 @@
-use Rattle.std.proofs.Common.{◌≡◌, ◌∙◌, None, sym}
+use Rattle.std.proofs.Common.{◌∙◌, None, sym}
 use Rattle.exif_containers.specs.declared.container.Format.TheVariants.{WebP}
 use Rattle.exif_change.specs.declared.scrubbing.Removed.TheVariants.{Metadata}
 use Rattle.exif_change_laws.proofs.ScrubbedFiles.{scrubbed_by, webp_answers, webp_front}

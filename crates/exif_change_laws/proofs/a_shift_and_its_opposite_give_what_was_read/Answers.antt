@@ -1,4 +1,4 @@
-use Rattle.std.proofs.Common.{◌≡◌, ◌<◌, ◌^◌, ◌∙◌, ap, subst, sym}
+use Rattle.std.proofs.Common.{◌<◌, ◌^◌, subst, sym}
 use Rattle.std.specs.Prelude.{length}
 use Rattle.exif_assign.specs.Shift.{opposite}
 use Rattle.exif_change_laws.proofs.ShiftedFiles.{held_again, read_again, was_shifted}
