@@ -6,6 +6,7 @@ mod NoField
 mod OrientationImage
 mod ScrubbedFiles
 mod SetFields
+mod SetItself
 mod SetTwice
 mod ShiftedBack
 mod ShiftedFiles
