@@ -10,3 +10,4 @@ mod SetItself
 mod SetTwice
 mod ShiftedBack
 mod ShiftedFiles
+mod ValueItself

@@ -70,7 +70,7 @@ four_again order xs q bytes h =
 
 -- ---- bytes put where they are
 
-put_same : (o n : ℕ) (xs : List ℕ) → o + n ≤ length xs → put_at o (bytes_at n xs o) xs ≡ xs
+pub put_same : (o n : ℕ) (xs : List ℕ) → o + n ≤ length xs → put_at o (bytes_at n xs o) xs ≡ xs
 put_same o n xs h =
     let rest : length (drop o xs) ≡ length xs - o = length-drop o xs in
     let len : length (bytes_at n xs o) ≡ n = length-take-le n (drop o xs) (omega (arith, rest)) in
