@@ -1,3 +1,4 @@
+mod DatesThemselves
 mod JoinedFiles
 mod KeptOrientation
 mod MovedFields

@@ -412,14 +412,14 @@ MovesBack by =
     → moved (opposite by) (new_date, new_time) ≡ Some (date, time)
 
 -- the text of a date that was moved, and what it was
-record MovedText (by : ClockShift) (text date : List ℕ) : Type 0 where
-  old : Date × TimeOfDay
-  new : Date × TimeOfDay
-  states : States text old
-  moves : moved by old ≡ Some new
-  is : moment_text new ≡ date
+pub record MovedText (by : ClockShift) (text date : List ℕ) : Type 0 where
+  pub old : Date × TimeOfDay
+  pub new : Date × TimeOfDay
+  pub states : States text old
+  pub moves : moved by old ≡ Some new
+  pub is : moment_text new ≡ date
 
-was_moved : (by : ClockShift) (text date : List ℕ) → moved_text by text ≡ Ok date → MovedText by text date
+pub was_moved : (by : ClockShift) (text date : List ℕ) → moved_text by text ≡ Ok date → MovedText by text date
 was_moved by text date e = by_statement (stated text) refl e
   where
     err_ok : (f : Unmoved) → ◌≡◌ {A = Result (List ℕ) Unmoved} (Err f) (Ok date) → ⊥

@@ -1,16 +1,15 @@
 -- The value that an entry has, set again, changes no byte.
-use Rattle.std.proofs.Common.{◌≡◌, ◌∙◌, ◌<◌, ◌≤◌, ◌+◌, ◌-◌, ◌*◌, ◌/◌, ◌%◌, ◌^◌, ◌==◌, max, ℕ, zero, suc, true, false, Bool, List, [], ◌∷◌, ◌++◌, length, take, drop, replicate, get_or, Option, Some, None, Result, Ok, Err, inl, inr, ◌⊎◌, if◌then◌else◌, refl, sym, ap, subst, arith, length-append, length-drop, append_assoc}
-use Rattle.std.specs.Prelude.{nat_le, nat_lt, slice_index}
+use Rattle.std.proofs.Common.{◌≡◌, ◌∙◌, ◌<◌, ◌≤◌, ◌+◌, ◌-◌, ◌==◌, ℕ, suc, true, false, Bool, List, [], ◌∷◌, ◌++◌, length, take, drop, inl, inr, ◌⊎◌, if◌then◌else◌, refl, sym, ap, arith, length-append, length-drop, append_assoc}
+use Rattle.std.specs.Prelude.{slice_index}
 use Rattle.std.specs.List.{flat_map, onto_first, slice_split}
-use Rattle.std.proofs.lemmas.Bool.{false≢true}
 use Rattle.std.proofs.lemmas.Bool.Decides.{nat_tests}
-use Rattle.std.proofs.lemmas.List.{drop-drop, get_or-drop, length-take, length-take-le, take-append-drop}
-use Rattle.std.proofs.Math.Seq.{drop-cons, take-add, take-append_seam}
+use Rattle.std.proofs.lemmas.List.{drop-drop, length-take-le, take-append-drop}
+use Rattle.std.proofs.Math.Seq.{drop-cons, take-append_seam}
 use Rattle.exif_base.specs.Bytes.{bytes_at, number_at}
 use Rattle.exif_base.specs.Orders.{number_of}
 use Rattle.exif_base.specs.declared.endian.Order.{Order}
 use Rattle.exif_base.specs.declared.endian.Order.TheVariants.{Big, Little}
-use Rattle.exif_types.specs.Texts.{ended, ended_length, texts, without_empty_last}
+use Rattle.exif_types.specs.Texts.{ended, texts, without_empty_last}
 use Rattle.exif_tiff.specs.Visits.{AreBytes}
 use Rattle.exif_layout.specs.Encoding.{spelled}
 use Rattle.exif_edit_base.specs.Patches.{put_at}

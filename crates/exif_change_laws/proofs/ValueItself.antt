@@ -1,6 +1,6 @@
 -- An entry whose texts are set again as they are.
-use Rattle.std.proofs.Common.{◌≡◌, ◌∙◌, ◌<◌, ◌≤◌, ◌+◌, ◌-◌, ◌*◌, ◌==◌, max, ℕ, zero, suc, true, false, Bool, List, [], ◌∷◌, ◌++◌, length, take, drop, replicate, Option, Some, None, if◌then◌else◌, refl, sym, ap, subst, arith, append-nil, length-append, length-drop}
-use Rattle.std.specs.Prelude.{nat_le, nat_lt}
+use Rattle.std.proofs.Common.{◌≡◌, ◌∙◌, ◌<◌, ◌≤◌, ◌+◌, ◌-◌, ◌*◌, ◌==◌, max, ℕ, true, false, Bool, List, [], ◌∷◌, ◌++◌, length, take, drop, replicate, Option, Some, None, if◌then◌else◌, refl, sym, ap, subst, arith, append-nil, length-drop}
+use Rattle.std.specs.Prelude.{nat_le}
 use Rattle.std.specs.List.{flat_map}
 use Rattle.std.proofs.lemmas.Bool.Decides.{nat_tests}
 use Rattle.std.proofs.lemmas.List.{drop-drop, length-take-le}
@@ -13,18 +13,17 @@ use Rattle.exif_text.specs.FieldTypes as types
 use Rattle.exif_text.specs.declared.field_type.FieldType.{FieldType}
 use Rattle.exif_text.specs.declared.field_type.FieldType.TheVariants as field_type
 use Rattle.exif_types.specs.Texts.{ended, texts}
-use Rattle.exif_types.specs.ValueTypes.{count_of}
 use Rattle.exif_types.specs.declared.value.Value.{Value}
 use Rattle.exif_types.specs.declared.value.Value.TheVariants.{Ascii, Unknown}
 use Rattle.exif_tiff.specs.Decode.{decode, decode_as}
 use Rattle.exif_tiff.specs.Trace.{entry_value}
 use Rattle.exif_tiff.specs.Visits.{AreBytes}
-use Rattle.exif_layout.specs.Encoding.{encode, spelled}
+use Rattle.exif_layout.specs.Encoding.{spelled}
 use Rattle.exif_edit_base.specs.Patches.{padded, patched, put_at}
 use Rattle.exif_edit_base.specs.Spans.{value_space}
 use Rattle.exif_edit_base.specs.declared.patch.Patch.{Patch}
 use Rattle.exif_edit_base.specs.declared.patch.Span.{Span}
-use Rattle.exif_edit.specs.Setting.{element_bytes, entry_bytes, is_small, space_bytes, value_patches}
+use Rattle.exif_edit.specs.Setting.{entry_bytes, is_small, space_bytes, value_patches}
 use Rattle.exif_edit.proofs.SetSound.{Fits}
 use Rattle.exif_change_laws.proofs.SetItself.{four_again, put_same, texts_again, two_again}
 

@@ -53,11 +53,10 @@ again : shifted (opposite later) dates.All new ≡ Ok (whole old)
 unfolding container_answer answer_as format_in located_answer located_as data_contents raw_answer file_patches set_patches checked_patches find_answer value_answer reading located trace ordered_trace parse_datetime days_before_year days_before_month year_from month_from
 again = refl
 
--- each date was set where the old file has it, and is written there as it would be set
+-- each date was set where the old file has it
 keeps : KeepsPlaces later dates.All old new old
 unfolding container_answer answer_as format_in located_answer located_as data_contents raw_answer file_patches set_patches checked_patches find_answer value_answer reading located trace ordered_trace parse_datetime days_before_year days_before_month year_from month_from
 keeps = record {
-  itself = (refl, (refl, (tt, tt)));
   there = (refl, (refl, (refl, tt)));
   again = (refl, (refl, (refl, tt)));
   extents = refl;

@@ -1,5 +1,5 @@
 -- Where dates are in files, and which shifts leave them there.
-use Rattle.std.specs.Prelude.{◌≡◌, ⊤, ℕ, List, [], ◌∷◌, Result, Ok, Err, IfSome}
+use Rattle.std.specs.Prelude.{◌≡◌, ⊤, ℕ, List, [], ◌∷◌, Result, Ok, Err}
 use Rattle.exif_base.specs.Orders.{number_of}
 use Rattle.exif_base.specs.declared.endian.Order.{Order}
 use Rattle.exif_types.specs.Lookup.{last_named}
@@ -16,10 +16,9 @@ use Rattle.exif_edit_base.specs.declared.patch.Span.{Span}
 use Rattle.exif_assign.specs.Shift.{opposite}
 use Rattle.exif_assign.specs.declared.shift.ClockShift.{ClockShift}
 use Rattle.exif_change.specs.Changed.{Change, whole}
-use Rattle.exif_change.specs.InPlace.{field_set}
 use Rattle.exif_change.specs.Reading.{file_contents}
 use Rattle.exif_change.specs.Setting.{primary}
-use Rattle.exif_change.specs.Shifting.{date, tag_moved, tags_of}
+use Rattle.exif_change.specs.Shifting.{tag_moved, tags_of}
 use Rattle.exif_change.specs.declared.dates.Dates.{Dates}
 
 -- where a date is: the extents of the Exif data, their byte order, and in the data the entry of the
@@ -47,13 +46,6 @@ place tag file = do
 abbrev pub extents : List ℕ → Result (List Extent) Cause
 extents file = of_container (located_answer file) >>= λ at. Ok at.ranges
 
--- a date that is set as it is leaves the file as it is
-abbrev pub SetsItself : List ℕ → List Field → List Tag → Type 0
-SetsItself file fields [] = ⊤
-SetsItself file fields (tag ∷ tags) =
-    IfSome (last_named fields tag primary) (λ field. field_set (date tag field.value) file ≡ Ok file)
-    × SetsItself file fields tags
-
 -- each date is set where the old file has it
 abbrev pub StaysPut : List ℕ → ClockShift → List Field → List Tag → Change → Type 0
 StaysPut old by fields [] change = ⊤
@@ -65,10 +57,8 @@ StaysPut old by fields (tag ∷ tags) change =
 abbrev pub fields_told : List ℕ → List Field
 fields_told file = elim (file_contents file) [ Ok contents ↦ contents.fields | Err refusal ↦ [] ]
 
--- a shift and its opposite set each date where the old file has it, and its dates are written as they
--- would be set
+-- a shift and its opposite set each date where the old file has it
 pub record KeepsPlaces (by : ClockShift) (which : Dates) (file new back : List ℕ) : Type 0 where
-  pub itself : SetsItself file (fields_told file) (tags_of which)
   pub there : StaysPut file by (fields_told file) (tags_of which) (whole file)
   pub again : StaysPut file (opposite by) (fields_told new) (tags_of which) (whole new)
   pub extents : extents back ≡ extents file

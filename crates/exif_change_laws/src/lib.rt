@@ -4,6 +4,7 @@
 
 ghost use Rattle.std.specs.Prelude.{ℕ, Bool, true, ◌≡◌, ◌<◌, ◌^◌, List, [], ◌∷◌, length, Option, None, Some, Ok};
 ghost use Rattle.exif_types.specs.declared.value.Value.{Value};
+ghost use Rattle.exif_tiff.specs.Visits.{AreBytes};
 ghost use Rattle.exif_containers.specs.Container.{container_answer, format_in};
 ghost use Rattle.exif_containers.specs.declared.container.Format.{Format};
 ghost use Rattle.exif_containers.specs.declared.container.Format.TheVariants.{WebP};
@@ -99,11 +100,10 @@ pub fn a_shift_and_its_opposite_give_what_was_read()
 }
 
 /// Where a shift of a file's dates and the opposite shift left nothing undone, the old file is there
-/// again, byte for byte: if both find each date where the old file has it, and the old file's dates
-/// are written as they would be set.
+/// again, byte for byte: if both find each date, when they set it, where the old file has it.
 pub fn a_shift_and_its_opposite_give_the_old_file()
     ensures { (by : ClockShift) (dates : Dates) (file new back : List ℕ)
-        → by.seconds < 2 ^ 42 → length file < 2 ^ 64
+        → by.seconds < 2 ^ 42 → length file < 2 ^ 64 → AreBytes file
         → shifted by dates file ≡ Ok (whole new)
         → shifted (opposite by) dates new ≡ Ok (whole back)
         → KeepsPlaces by dates file new back → back ≡ file }
