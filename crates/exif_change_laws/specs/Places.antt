@@ -57,7 +57,8 @@ StaysPut old by fields (tag ∷ tags) change =
 abbrev pub fields_told : List ℕ → List Field
 fields_told file = elim (file_contents file) [ Ok contents ↦ contents.fields | Err refusal ↦ [] ]
 
--- a shift and its opposite set each date where the old file has it
+-- a shift and its opposite set each date where the old file has it, and leave the Exif data in the
+-- extents where they were
 pub record KeepsPlaces (by : ClockShift) (which : Dates) (file new back : List ℕ) : Type 0 where
   pub there : StaysPut file by (fields_told file) (tags_of which) (whole file)
   pub again : StaysPut file (opposite by) (fields_told new) (tags_of which) (whole new)

@@ -1,5 +1,6 @@
 //! Laws of changed files: what is read of a file without its metadata, and of one whose dates were
-//! moved and moved back. They hold for all files, and speak of the definitions alone.
+//! moved and moved back. They hold for all files, and speak of the definitions alone. A shift that a
+//! text spells has fewer than 2^42 seconds.
 #![tactic(auto)]
 
 ghost use Rattle.std.specs.Prelude.{ℕ, Bool, true, ◌≡◌, ◌<◌, ◌^◌, List, [], ◌∷◌, length, Option, None, Some, Ok};
@@ -7,7 +8,7 @@ ghost use Rattle.exif_types.specs.declared.value.Value.{Value};
 ghost use Rattle.exif_tiff.specs.Visits.{AreBytes};
 ghost use Rattle.exif_containers.specs.Container.{container_answer, format_in};
 ghost use Rattle.exif_containers.specs.declared.container.Format.{Format};
-ghost use Rattle.exif_containers.specs.declared.container.Format.TheVariants.{WebP};
+ghost use Rattle.exif_containers.specs.declared.container.Format.TheVariants.{Heif, WebP};
 ghost use Rattle.exif_rewrite.specs.FileLaws.{AnswersPut};
 ghost use Rattle.exif_rewrite.specs.ScrubbedExif.{wanted};
 ghost use Rattle.exif_assign.specs.Shift.{moved_value, opposite};
@@ -48,10 +49,15 @@ pub fn a_scrubbed_webp_file_keeps_the_orientation()
     file_answers_what_was_put();
 }
 
-/// Of a JPEG, WebP or HEIF file without its metadata no field is read.
+/// Of a JPEG, WebP or HEIF file without its metadata no field is read, and of a HEIF file none where
+/// the orientation is to be kept either: its fields are all erased.
 pub fn a_scrubbed_file_has_no_field()
-    ensures { (file new : List ℕ)
+    ensures all { (file new : List ℕ)
         → scrubbed Metadata file ≡ Ok (whole new) → length file < 2 ^ 64 → length new < 2 ^ 64
+        → HasNoField (file_contents new) }
+    ensures heif { (file new : List ℕ)
+        → format_in file ≡ Some Heif
+        → scrubbed AllButOrientation file ≡ Ok (whole new) → length file < 2 ^ 64
         → HasNoField (file_contents new) }
 {
     file_answers_what_was_put();
