@@ -61,3 +61,20 @@ keeps = record {
   again = (refl, (refl, (refl, tt)));
   extents = refl;
 }
+
+-- the same in a JPEG stream: behind its Exif segment it ends
+abbrev in_jpeg : List ℕ → List ℕ
+in_jpeg bytes = 255 ∷ 216 ∷ 255 ∷ 225 ∷ 0 ∷ 104 ∷ codes "Exif\0\0" ++ bytes ++ 255 ∷ 217 ∷ []
+
+there_in_jpeg : shifted later dates.All (in_jpeg old) ≡ Ok (whole (in_jpeg new))
+unfolding container_answer answer_as format_in located_answer located_as data_contents raw_answer file_patches set_patches checked_patches find_answer value_answer reading located trace ordered_trace parse_datetime days_before_year days_before_month year_from month_from
+there_in_jpeg = refl
+
+-- there too each date was set where the old file has it
+keeps_in_jpeg : KeepsPlaces later dates.All (in_jpeg old) (in_jpeg new) (in_jpeg old)
+unfolding container_answer answer_as format_in located_answer located_as data_contents raw_answer file_patches set_patches checked_patches find_answer value_answer reading located trace ordered_trace parse_datetime days_before_year days_before_month year_from month_from
+keeps_in_jpeg = record {
+  there = (refl, (refl, (refl, tt)));
+  again = (refl, (refl, (refl, tt)));
+  extents = refl;
+}
