@@ -1,0 +1,14 @@
+mod DatesThemselves
+mod JoinedFiles
+mod KeptOrientation
+mod MovedFields
+mod MovedTexts
+mod NoField
+mod OrientationImage
+mod ScrubbedFiles
+mod SetFields
+mod SetItself
+mod SetTwice
+mod ShiftedBack
+mod ShiftedFiles
+mod ValueItself

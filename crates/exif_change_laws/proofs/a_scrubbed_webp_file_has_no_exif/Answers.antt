@@ -1,0 +1,9 @@
+use Rattle.std.proofs.Common.{◌∙◌, None, sym}
+use Rattle.exif_containers.specs.declared.container.Format.TheVariants.{WebP}
+use Rattle.exif_change.specs.declared.scrubbing.Removed.TheVariants.{Metadata}
+use Rattle.exif_change_laws.proofs.ScrubbedFiles.{scrubbed_by, webp_answers, webp_front}
+use Rattle.exif_change_laws.proofs.a_scrubbed_webp_file_has_no_exif.Goals as goal
+
+pub returns : goal.returns
+returns c = λ file new format e short.
+    webp_answers None file new c.file_answers_what_was_put.ensures (webp_front file format) (sym (scrubbed_by WebP Metadata file format) ∙ e) short

@@ -1,0 +1,5 @@
+pub mod Examples
+pub mod Places
+pub mod Scrubbed
+pub mod ScrubbedExamples
+pub mod Shifted
