@@ -1,4 +1,4 @@
--- One value, set at one place of two data.
+-- One value, set at one position of two data.
 use Rattle.std.proofs.Common.{◌≡◌, ◌≤◌, ◌<◌, ◌+◌, ◌==◌, ℕ, Bool, true, false, List, [], ◌∷◌, ◌++◌, length, get_or, All, inl, inr, ◌⊎◌, refl, sym, ap, subst, ◌∙◌, arith}
 use Rattle.std.specs.Prelude.{◌&&◌, if◌then◌else◌, nat_le, nat_lt}
 use Rattle.std.proofs.lemmas.Bool.{false≢true}
@@ -84,7 +84,7 @@ beyond i s (inr a) =
     by_test true x = x
     by_test false x = refl
 
--- the same value set at one place of data that are the same elsewhere
+-- the same value set at one position of data that are the same elsewhere
 pub set_two : (order : Order) (value : Value) (e : ℕ) (xs ys : List ℕ) (ps qs : List Patch)
     → Fits order value e xs ps → Fits order value e ys qs
     → value_space (number_of order) ys e ≡ value_space (number_of order) xs e

@@ -48,7 +48,7 @@ use Rattle.exif_change.specs.Reading.{entry_limit}
 use Rattle.exif_change.specs.Setting.{primary}
 use Rattle.exif_change.specs.Shifting.{date, date_moved, date_set, tag_moved, tags_moved, tags_of}
 use Rattle.exif_change.specs.declared.dates.Dates.{Dates}
-use Rattle.exif_change_laws.specs.Places.{KeepsPlaces, Place, StaysPut, extents, place}
+use Rattle.exif_change_laws.specs.Positions.{KeepsPositions, Position, StaysPut, extents, position_of}
 use Rattle.exif_change_laws.proofs.DatesThemselves.{date_itself, ranges_bytes}
 use Rattle.exif_change_laws.proofs.JoinedFiles.{files_same}
 use Rattle.exif_change_laws.proofs.MovedFields.{AllMove, BackLast, Moves, ValuesBack, all_back, dates_set, if_moved, moved_option, same_all, value_option}
@@ -56,7 +56,7 @@ use Rattle.exif_change_laws.proofs.SetTwice.{set_two}
 use Rattle.exif_change_laws.proofs.ValueItself.{Itself}
 use Rattle.exif_change_laws.proofs.ShiftedFiles.{WasShifted, all_apart, append_none, bytes_same, holds_one, undone_first, undone_in}
 
--- ---- one date set at its place
+-- ---- one date set at its position
 
 -- the ten bytes of an entry that a value changes
 abbrev entry_span : ℕ → Span
@@ -66,8 +66,8 @@ entry_span e = record { offset = e + 2; len = 10 }
 record SetAt (file new : List ℕ) (tag : Tag) (value : Value) : Type 0 where
   bytes : List ℕ
   held : container_answer file ≡ Ok bytes
-  at : Place
-  placed : place tag file ≡ Ok at
+  at : Position
+  placed : position_of tag file ≡ Ok at
   ps : List Patch
   fits : Fits at.order value at.entry bytes ps
   space : value_space (number_of at.order) bytes at.entry ≡ at.space
@@ -105,18 +105,18 @@ set_at file new tag value short e =
       as_long = ap (λ (xs : List ℕ). length xs) (sym is) ∙ s.as_long;
     }
 
-place_same : (a b : Place) → ◌≡◌ {A = Result Place Cause} (Ok a) (Ok b) → a ≡ b
+place_same : (a b : Position) → ◌≡◌ {A = Result Position Cause} (Ok a) (Ok b) → a ≡ b
 place_same a b e = cc
 
--- what a place in a file tells of the data
-record PlaceIn (tag : Tag) (file bytes : List ℕ) (p : Place) : Type 0 where
+-- what a position in a file tells of the data
+record PlaceIn (tag : Tag) (file bytes : List ℕ) (p : Position) : Type 0 where
   head : header bytes ≡ Ok p.order
   found : locations.Located
   last : last_located tag primary (located bytes) ≡ Some found
   entry : found.entry ≡ p.entry
   space : value_space (number_of p.order) bytes p.entry ≡ p.space
 
-place_in : (tag : Tag) (file bytes : List ℕ) (p : Place) → length file < 2 ^ 64 → container_answer file ≡ Ok bytes → place tag file ≡ Ok p → PlaceIn tag file bytes p
+place_in : (tag : Tag) (file bytes : List ℕ) (p : Position) → length file < 2 ^ 64 → container_answer file ≡ Ok bytes → position_of tag file ≡ Ok p → PlaceIn tag file bytes p
 place_in tag file bytes p short held e = by_located (located_answer file) refl e
   where
     err_ok : {X : Type 0} (c : Cause) (x : X) → ◌≡◌ {A = Result X Cause} (Err c) (Ok x) → ⊥
@@ -134,20 +134,20 @@ place_in tag file bytes p short held e = by_located (located_answer file) refl e
         let b = bound (or_cause (last_located tag primary (located at.bytes)) no_field) (λ found.
         Ok (record { extents = at.ranges; order = a.0; entry = found.entry; space = value_space (number_of a.0) at.bytes found.entry })) p a.2 in
         let is = place_same (record { extents = at.ranges; order = a.0; entry = b.0.entry; space = value_space (number_of a.0) at.bytes b.0.entry }) p b.2 in
-        let order : a.0 ≡ p.order = ap (λ (q : Place). q.order) is in
-        let entry : b.0.entry ≡ p.entry = ap (λ (q : Place). q.entry) is in
+        let order : a.0 ≡ p.order = ap (λ (q : Position). q.order) is in
+        let entry : b.0.entry ≡ p.entry = ap (λ (q : Position). q.entry) is in
         let all : PlaceIn tag file at.bytes p = record {
           head = data_read (header at.bytes) a.0 a.1 ∙ ap (λ (o : Order). let r : Result Order Fault = Ok o in r) order;
           found = b.0;
           last = option_told (last_located tag primary (located at.bytes)) no_field b.0 b.1;
           entry = entry;
           space = ap (λ (o : Order). value_space (number_of o) at.bytes p.entry) (sym order)
-              ∙ (ap (λ (n : ℕ). value_space (number_of a.0) at.bytes n) (sym entry) ∙ ap (λ (q : Place). q.space) is);
+              ∙ (ap (λ (n : ℕ). value_space (number_of a.0) at.bytes n) (sym entry) ∙ ap (λ (q : Position). q.space) is);
         } in
         subst (λ (xs : List ℕ). PlaceIn tag file xs p) same all
 
--- a file that has a date has the extents of its place
-place_extents : (tag : Tag) (file : List ℕ) (p : Place) (es : List Extent) → place tag file ≡ Ok p → extents file ≡ Ok es → p.extents ≡ es
+-- a file that has a date has the extents of its position
+place_extents : (tag : Tag) (file : List ℕ) (p : Position) (es : List Extent) → position_of tag file ≡ Ok p → extents file ≡ Ok es → p.extents ≡ es
 place_extents tag file p es e f = by_located (located_answer file) e f
   where
     err_ok : {X : Type 0} (c : Cause) (x : X) → ◌≡◌ {A = Result X Cause} (Err c) (Ok x) → ⊥
@@ -167,33 +167,33 @@ place_extents tag file p es e f = by_located (located_answer file) e f
         let b = bound (or_cause (last_located tag primary (located at.bytes)) no_field) (λ found.
         Ok (record { extents = at.ranges; order = a.0; entry = found.entry; space = value_space (number_of a.0) at.bytes found.entry })) p a.2 in
         let same = place_same (record { extents = at.ranges; order = a.0; entry = b.0.entry; space = value_space (number_of a.0) at.bytes b.0.entry }) p b.2 in
-        ap (λ (q : Place). q.extents) (sym same) ∙ ok_es at.ranges f
+        ap (λ (q : Position). q.extents) (sym same) ∙ ok_es at.ranges f
 
 -- ---- bytes that no date has
 
--- a byte is not one that a value at a place changes
-abbrev MissesPlace : ℕ → Result Place Cause → Type 0
+-- a byte is not one that a value at a position changes
+abbrev MissesPlace : ℕ → Result Position Cause → Type 0
 MissesPlace i (Ok p) = (inside i (entry_span p.entry) ≡ false) × (inside i p.space ≡ false)
 MissesPlace i (Err cause) = ⊤
 
-abbrev MissesIf : ℕ → Option Field → Result Place Cause → Type 0
+abbrev MissesIf : ℕ → Option Field → Result Position Cause → Type 0
 MissesIf i None r = ⊤
 MissesIf i (Some field) r = MissesPlace i r
 
 -- nor one of all dates of a file
 abbrev MissesAll : ℕ → List ℕ → List Field → List Tag → Type 0
 MissesAll i old fields [] = ⊤
-MissesAll i old fields (tag ∷ tags) = MissesIf i (last_named fields tag primary) (place tag old) × MissesAll i old fields tags
+MissesAll i old fields (tag ∷ tags) = MissesIf i (last_named fields tag primary) (position_of tag old) × MissesAll i old fields tags
 
 -- a date fits, moved, where the old file has it
-abbrev FitsAt : ClockShift → Option Field → Result Place Cause → Type 0
+abbrev FitsAt : ClockShift → Option Field → Result Position Cause → Type 0
 FitsAt by None r = ⊤
 FitsAt by (Some field) r =
-    (p : Place) × (r ≡ Ok p) × ((value : Value) × (moved_value by field.value ≡ Ok value) × (length (encode p.order value) ≤ max 4 p.space.len))
+    (p : Position) × (r ≡ Ok p) × ((value : Value) × (moved_value by field.value ≡ Ok value) × (length (encode p.order value) ≤ max 4 p.space.len))
 
 abbrev pub FitAll : ClockShift → List ℕ → List Field → List Tag → Type 0
 FitAll by old fields [] = ⊤
-FitAll by old fields (tag ∷ tags) = FitsAt by (last_named fields tag primary) (place tag old) × FitAll by old fields tags
+FitAll by old fields (tag ∷ tags) = FitsAt by (last_named fields tag primary) (position_of tag old) × FitAll by old fields tags
 
 -- a run kept the bytes of the data that no date has, and those outside of the data
 pub record Kept (by : ClockShift) (old : List ℕ) (fields : List Field) (tags : List Tag) (es : List Extent) (file final bytes : List ℕ) : Type 0 where
@@ -209,8 +209,8 @@ record KeptOn (by : ClockShift) (old : List ℕ) (fields : List Field) (tag : Ta
   out : List ℕ
   held : container_answer final ≡ Ok out
   long : length out ≡ length bytes
-  fit : FitsAt by o (place tag old) × FitAll by old fields tags
-  same : (i : ℕ) → MissesIf i o (place tag old) × MissesAll i old fields tags → get_or out i 0 ≡ get_or bytes i 0
+  fit : FitsAt by o (position_of tag old) × FitAll by old fields tags
+  same : (i : ℕ) → MissesIf i o (position_of tag old) × MissesAll i old fields tags → get_or out i 0 ≡ get_or bytes i 0
   outside : (i : ℕ) → All (Avoids i) es → get_or final i 0 ≡ get_or file i 0
   as_long : length final ≡ length file
 
@@ -238,7 +238,7 @@ forth by fields (tag ∷ tags) old file final es bytes short held ex stays e =
     let r = by_option (λ other more. forth by fields tags old other final es more) (last_named fields tag primary) stays.1 e in
     record { out = r.out; held = r.held; long = r.long; fit = r.fit; same = r.same; outside = r.outside; as_long = r.as_long }
   where
-    here : place tag file ≡ place tag old
+    here : position_of tag file ≡ position_of tag old
     here = stays.0
 
     by_set : Follows by fields tags old es final → (field : Field) (value : Value) (r : Result (List ℕ) Cause) → moved_value by field.value ≡ Ok value → field_set (date tag value) file ≡ r
@@ -252,7 +252,7 @@ forth by fields (tag ∷ tags) old file final es bytes short held ex stays e =
         let small : length new < 2 ^ 64 = subst (λ (n : ℕ). n < 2 ^ 64) (sym i.as_long) short in
         let r = follows new (patched i.ps i.bytes) small i.held_new ex stays e in
         let fit = value_fits i.at.order value i.at.entry i.bytes i.ps i.fits in
-        let there : place tag old ≡ Ok i.at = sym here ∙ i.placed in
+        let there : position_of tag old ≡ Ok i.at = sym here ∙ i.placed in
         let range : i.at.extents ≡ es = place_extents tag old i.at es there ex in
         record {
           out = r.out;
@@ -296,14 +296,14 @@ SetBack by before fields [] = ⊤
 SetBack by before fields (tag ∷ tags) = SetsBack by (last_named before tag primary) (last_named fields tag primary) × SetBack by before fields tags
 
 -- a date that is set as it was where the old file has it leaves the data as they were
-abbrev ItselfAt : List ℕ → Option Field → Result Place Cause → Type 0
+abbrev ItselfAt : List ℕ → Option Field → Result Position Cause → Type 0
 ItselfAt bytes None r = ⊤
 ItselfAt bytes (Some field) r =
-    (p : Place) × (r ≡ Ok p) × (Itself p.order p.entry bytes field.value × (value_space (number_of p.order) bytes p.entry ≡ p.space))
+    (p : Position) × (r ≡ Ok p) × (Itself p.order p.entry bytes field.value × (value_space (number_of p.order) bytes p.entry ≡ p.space))
 
 abbrev pub ItselfAll : List ℕ → List ℕ → List Field → List Tag → Type 0
 ItselfAll bytes old fields [] = ⊤
-ItselfAll bytes old fields (tag ∷ tags) = ItselfAt bytes (last_named fields tag primary) (place tag old) × ItselfAll bytes old fields tags
+ItselfAll bytes old fields (tag ∷ tags) = ItselfAt bytes (last_named fields tag primary) (position_of tag old) × ItselfAll bytes old fields tags
 
 -- so of all that fit
 all_themselves : (by : ClockShift) (old bytes : List ℕ) (fields : List Field) (tags : List Tag) → length old < 2 ^ 64 → container_answer old ≡ Ok bytes → AreBytes bytes
@@ -312,7 +312,7 @@ all_themselves by old bytes fields [] short held are all fit = tt
 all_themselves by old bytes fields (tag ∷ tags) short held are all fit =
     (by_option (last_named fields tag primary) refl fit.0, all_themselves by old bytes fields tags short held are all fit.1)
   where
-    by_option : (o : Option Field) → last_named fields tag primary ≡ o → FitsAt by o (place tag old) → ItselfAt bytes o (place tag old)
+    by_option : (o : Option Field) → last_named fields tag primary ≡ o → FitsAt by o (position_of tag old) → ItselfAt bytes o (position_of tag old)
     by_option None h f = tt
     by_option (Some field) h f =
         let p = place_in tag old bytes f.0 short held f.1 in
@@ -357,11 +357,11 @@ again by before fields [] old file final es old_bytes bytes low short was held l
 again by before fields (tag ∷ tags) old file final es old_bytes bytes low short was held l ex stays sets back k e =
     by_options (λ other more. again by before fields tags old other final es old_bytes more) (last_named before tag primary) (last_named fields tag primary) sets.0 back.0 k stays.1 e
   where
-    here : place tag file ≡ place tag old
+    here : position_of tag file ≡ position_of tag old
     here = stays.0
 
-    by_set : Returns by before fields tags old es old_bytes final → (field : Field) (r : Result (List ℕ) Cause) → ItselfAt old_bytes (Some field) (place tag old) → field_set (date tag field.value) file ≡ r
-        → ((i : ℕ) → MissesPlace i (place tag old) × MissesAll i old before tags → get_or bytes i 0 ≡ get_or old_bytes i 0)
+    by_set : Returns by before fields tags old es old_bytes final → (field : Field) (r : Result (List ℕ) Cause) → ItselfAt old_bytes (Some field) (position_of tag old) → field_set (date tag field.value) file ≡ r
+        → ((i : ℕ) → MissesPlace i (position_of tag old) × MissesAll i old before tags → get_or bytes i 0 ≡ get_or old_bytes i 0)
         → StaysPut old by fields tags (date_set tag r (whole file)) → tags_moved by fields tags (date_set tag r (whole file)) ≡ whole final
         → Returned old_bytes es file final
     by_set follows field (Err cause) itself s k stays e =
@@ -370,10 +370,10 @@ again by before fields (tag ∷ tags) old file final es old_bytes bytes low shor
         let i = set_at file new tag field.value short s in
         let same : i.bytes ≡ bytes = bytes_same i.bytes bytes (sym i.held ∙ held) in
         let one : itself.0 ≡ i.at = place_same itself.0 i.at (sym itself.1 ∙ (sym here ∙ i.placed)) in
-        let there : place tag old ≡ Ok i.at = sym here ∙ i.placed in
-        let fits : Fits i.at.order field.value i.at.entry old_bytes itself.2.0.ps = subst (λ (p : Place). Fits p.order field.value p.entry old_bytes itself.2.0.ps) one itself.2.0.fits in
+        let there : position_of tag old ≡ Ok i.at = sym here ∙ i.placed in
+        let fits : Fits i.at.order field.value i.at.entry old_bytes itself.2.0.ps = subst (λ (p : Position). Fits p.order field.value p.entry old_bytes itself.2.0.ps) one itself.2.0.fits in
         let space : value_space (number_of i.at.order) old_bytes i.at.entry ≡ i.at.space =
-        subst (λ (p : Place). value_space (number_of p.order) old_bytes p.entry ≡ p.space) one itself.2.1 in
+        subst (λ (p : Position). value_space (number_of p.order) old_bytes p.entry ≡ p.space) one itself.2.1 in
         let small : length new < 2 ^ 64 = subst (λ (n : ℕ). n < 2 ^ 64) (sym i.as_long) short in
         let fit = value_fits i.at.order field.value i.at.entry i.bytes i.ps i.fits in
         let long : length (patched i.ps i.bytes) ≡ length old_bytes = length-patched i.ps i.bytes fit ∙ (ap (λ (xs : List ℕ). length xs) same ∙ l) in
@@ -393,8 +393,8 @@ again by before fields (tag ∷ tags) old file final es old_bytes bytes low shor
           as_long = r.as_long ∙ i.as_long;
         }
 
-    by_options : Returns by before fields tags old es old_bytes final → (o p : Option Field) → ItselfAt old_bytes o (place tag old) → SetsBack by o p
-        → ((i : ℕ) → MissesIf i o (place tag old) × MissesAll i old before tags → get_or bytes i 0 ≡ get_or old_bytes i 0)
+    by_options : Returns by before fields tags old es old_bytes final → (o p : Option Field) → ItselfAt old_bytes o (position_of tag old) → SetsBack by o p
+        → ((i : ℕ) → MissesIf i o (position_of tag old) × MissesAll i old before tags → get_or bytes i 0 ≡ get_or old_bytes i 0)
         → StaysPut old by fields tags (tag_moved by tag p (whole file)) → tags_moved by fields tags (tag_moved by tag p (whole file)) ≡ whole final
         → Returned old_bytes es file final
     by_options follows None None itself b k stays e =
@@ -456,7 +456,7 @@ extents_same : (a b : List Extent) → ◌≡◌ {A = Result (List Extent) Cause
 extents_same a b e = cc
 
 pub given_back : (by : ClockShift) (which : Dates) (file new back : List ℕ) → ValuesBack by → AreBytes file → length file < 2 ^ 64
-    → (s : WasShifted by which file new) → (t : WasShifted (opposite by) which new back) → KeepsPlaces by which file new back → back ≡ file
+    → (s : WasShifted by which file new) → (t : WasShifted (opposite by) which new back) → KeepsPositions by which file new back → back ≡ file
 given_back by which file new back law are short s t keeps =
     let tags = tags_of which in
     let fields = s.read.fields in

@@ -44,7 +44,7 @@ use Rattle.exif_change.specs.Setting.{primary}
 use Rattle.exif_change.specs.Shifting.{date, date_moved, date_set, dates_moved, has_dates, shifted, tag_moved, tags_moved, tags_of}
 use Rattle.exif_change.specs.declared.dates.Dates.{Dates}
 use Rattle.exif_change.specs.declared.dates.Dates.TheVariants as dates
-use Rattle.exif_change_laws.specs.Places.{fields_told}
+use Rattle.exif_change_laws.specs.Positions.{fields_of_file}
 use Rattle.exif_change_laws.specs.Shifted.{all_read}
 use Rattle.exif_change_laws.proofs.MovedFields.{AllApart, AllMove, Moves, ValuesBack, dates_set, fields_back, if_moved, moved_option, set_or}
 use Rattle.exif_change_laws.proofs.SetFields.{tags_apart}
@@ -295,7 +295,7 @@ contents_are bytes contents e = by_fields (fields_in (raw_answer true entry_limi
 pub record WasShifted (by : ClockShift) (which : Dates) (file new : List ℕ) : Type 0 where
   pub read : Read
   pub holds : Holds file read
-  pub told : fields_told file ≡ read.fields
+  pub told : fields_of_file file ≡ read.fields
   pub moves : tags_moved by read.fields (tags_of which) (whole file) ≡ whole new
   pub ran : Ran by read.fields (tags_of which) file new read
 

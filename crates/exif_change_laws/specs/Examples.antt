@@ -17,7 +17,7 @@ use Rattle.exif_change.specs.Changed.{whole}
 use Rattle.exif_change.specs.Reading.{data_contents}
 use Rattle.exif_change.specs.Shifting.{shifted}
 use Rattle.exif_change.specs.declared.dates.Dates.TheVariants as dates
-use Rattle.exif_change_laws.specs.Places.{KeepsPlaces}
+use Rattle.exif_change_laws.specs.Positions.{KeepsPositions}
 
 -- a TIFF file with two dates: the entry of the one in the first directory, of the other in the Exif
 -- directory
@@ -54,7 +54,7 @@ unfolding container_answer answer_as format_in located_answer located_as data_co
 again = refl
 
 -- each date was set where the old file has it
-keeps : KeepsPlaces later dates.All old new old
+keeps : KeepsPositions later dates.All old new old
 unfolding container_answer answer_as format_in located_answer located_as data_contents raw_answer file_patches set_patches checked_patches find_answer value_answer reading located trace ordered_trace parse_datetime days_before_year days_before_month year_from month_from
 keeps = record {
   there = (refl, (refl, (refl, tt)));
@@ -71,7 +71,7 @@ unfolding container_answer answer_as format_in located_answer located_as data_co
 there_in_jpeg = refl
 
 -- there too each date was set where the old file has it
-keeps_in_jpeg : KeepsPlaces later dates.All (in_jpeg old) (in_jpeg new) (in_jpeg old)
+keeps_in_jpeg : KeepsPositions later dates.All (in_jpeg old) (in_jpeg new) (in_jpeg old)
 unfolding container_answer answer_as format_in located_answer located_as data_contents raw_answer file_patches set_patches checked_patches find_answer value_answer reading located trace ordered_trace parse_datetime days_before_year days_before_month year_from month_from
 keeps_in_jpeg = record {
   there = (refl, (refl, (refl, tt)));

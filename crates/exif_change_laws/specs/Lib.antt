@@ -1,5 +1,5 @@
 pub mod Examples
-pub mod Places
+pub mod Positions
 pub mod Scrubbed
 pub mod ScrubbedExamples
 pub mod Shifted

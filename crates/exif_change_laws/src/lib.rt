@@ -1,6 +1,6 @@
 //! Laws of changed files: what is read of a file without its metadata, and of one whose dates were
-//! moved and moved back. They hold for all files, and speak of the definitions alone. A shift that a
-//! text spells has fewer than 2^42 seconds.
+//! moved and moved back. They hold for all files, and speak of the definitions alone. A shift
+//! that is given as text has fewer than 2^42 seconds.
 #![tactic(auto)]
 
 ghost use Rattle.std.specs.Prelude.{ℕ, Bool, true, ◌≡◌, ◌<◌, ◌^◌, List, [], ◌∷◌, length, Option, None, Some, Ok};
@@ -19,7 +19,7 @@ ghost use Rattle.exif_change.specs.Reading.{Contents, file_contents};
 ghost use Rattle.exif_change.specs.Shifting.{shifted};
 ghost use Rattle.exif_change.specs.declared.dates.Dates.{Dates};
 ghost use Rattle.exif_change.specs.declared.scrubbing.Removed.TheVariants.{AllButOrientation, Metadata};
-ghost use Rattle.exif_change_laws.specs.Places.{KeepsPlaces};
+ghost use Rattle.exif_change_laws.specs.Positions.{KeepsPositions};
 ghost use Rattle.exif_change_laws.specs.Scrubbed.{HasNoField, is_rewritten, orientation, orientation_alone};
 ghost use Rattle.exif_change_laws.specs.Shifted.{all_read};
 
@@ -65,15 +65,15 @@ pub fn a_scrubbed_file_has_no_field()
 }
 
 /// Where the orientation is kept, exactly one field is read of a JPEG or WebP file: the orientation
-/// that the old file tells, with its value. Where the old file tells none, no field is read.
+/// of the old file, with its value. Where the old file has none, no field is read.
 pub fn a_scrubbed_file_keeps_the_orientation_alone()
-    ensures told { (format : Format) (file new : List ℕ) (old : Contents) (number : ℕ)
+    ensures kept { (format : Format) (file new : List ℕ) (old : Contents) (number : ℕ)
         → is_rewritten format ≡ true → format_in file ≡ Some format
         → file_contents file ≡ Ok old → wanted upright old.fields ≡ orientation number ∷ []
         → number < 2 ^ 16
         → scrubbed AllButOrientation file ≡ Ok (whole new) → length new < 2 ^ 64
         → file_contents new ≡ Ok (orientation_alone old.order number) }
-    ensures untold { (format : Format) (file new : List ℕ)
+    ensures nothing_kept { (format : Format) (file new : List ℕ)
         → is_rewritten format ≡ true → format_in file ≡ Some format
         → kept AllButOrientation file ≡ Ok None
         → scrubbed AllButOrientation file ≡ Ok (whole new) → length new < 2 ^ 64
@@ -112,7 +112,7 @@ pub fn a_shift_and_its_opposite_give_the_old_file()
         → by.seconds < 2 ^ 42 → length file < 2 ^ 64 → AreBytes file
         → shifted by dates file ≡ Ok (whole new)
         → shifted (opposite by) dates new ≡ Ok (whole back)
-        → KeepsPlaces by dates file new back → back ≡ file }
+        → KeepsPositions by dates file new back → back ≡ file }
 {
     a_moved_value_is_moved_back();
     limits_cut_readings();
