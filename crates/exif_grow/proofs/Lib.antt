@@ -1,3 +1,4 @@
+pub mod AlikeSteps
 pub mod AppendSound
 pub mod AppendSteps
 pub mod CreateSound

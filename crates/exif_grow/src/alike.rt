@@ -1,6 +1,6 @@
 //! All fields of a name made like the last one.
 
-ghost use Rattle.std.specs.Prelude.{◌≡◌, ◌≤◌, ◌<◌, ◌+◌, ◌^◌, ◌++◌, All, length, map, slice_get, Some, IfOk, OnOk};
+ghost use Rattle.std.specs.Prelude.{◌≡◌, ◌≤◌, ◌<◌, ◌+◌, ◌^◌, ◌++◌, ◌∷◌, [], All, length, map, slice_get, true, Some, IfOk, OnOk};
 ghost use Rattle.std.specs.Option.{option_map};
 ghost use Rattle.exif_base.specs.Bytes.{bytes_at};
 ghost use Rattle.exif_base.specs.Orders.{number_of};
@@ -24,6 +24,31 @@ use std::alloc::{AllocError, Global};
 
 // ---- the fields of a name
 
+// The offset at an index.
+fn at(entries: &[EntryOffset], index: usize) -> EntryOffset
+    requires { index < length entries.now }
+    ensures { slice_get entries.now index ≡ Some result }
+{
+    entries[index]
+}
+
+// Adds the entry of a field, if it has the name.
+fn add_named(
+    field: &Field,
+    offset: EntryOffset,
+    tag: Tag,
+    ifd_num: In,
+    named: &mut Vec<u32>,
+) -> Result<(), AllocError>
+    ensures { OnOk result (named.new.items ≡ named.old.items ++ entries_named tag ifd_num
+        (record { field = field.now; entry = offset.entry; directory = offset.directory } ∷ [])) }
+{
+    if is_named(field, tag, ifd_num) {
+        named.push(offset.entry)?;
+    }
+    Ok(())
+}
+
 // The entries of the fields of a name.
 fn entries_named(
     alloc: Global,
@@ -38,9 +63,7 @@ fn entries_named(
 {
     let mut named = Vec::new(alloc);
     for i in 0..fields.len() {
-        if is_named(&fields[i], tag, ifd_num) {
-            named.push(entries[i].entry)?;
-        }
+        add_named(&fields[i], at(entries, i), tag, ifd_num, &mut named)?;
     }
     Ok(named)
 }
@@ -108,7 +131,7 @@ fn fields_alike(
     let mut alike = Vec::with_capacity(alloc, fields.len())?;
     let mut i = 0;
     for field in fields {
-        let field = field_alike(alloc, field, entries[i], tag, ifd_num, value)?;
+        let field = field_alike(alloc, field, at(entries, i), tag, ifd_num, value)?;
         alike.push(field)?;
         i += 1;
     }
