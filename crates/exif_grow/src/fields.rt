@@ -2,6 +2,7 @@
 
 ghost use Rattle.std.specs.Prelude.{◌≡◌, IfOk};
 ghost use Rattle.exif_edit_base.specs.Causes.{Makes};
+ghost use Rattle.exif_grow.specs.Promises.{AreSet};
 ghost use Rattle.exif_grow.specs.Setting.{field_grown, fields_grown};
 
 use crate::alike::make_alike;
@@ -29,6 +30,7 @@ fn set_field(alloc: Global, bytes: &[u8], field: &Field) -> Result<Vec<u8>, Erro
 /// the new data.
 pub fn set_fields(alloc: Global, bytes: &[u8], fields: &[Field]) -> Result<Vec<u8>, Error>
     ensures answer { Makes (λ v. v.items) result (fields_grown fields.now bytes.now) }
+    ensures set { IfOk result (λ v. AreSet fields.now bytes.now v.items) }
 {
     let mut data = Vec::from_slice(alloc, bytes)?;
     for field in fields {
