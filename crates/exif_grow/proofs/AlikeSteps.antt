@@ -17,7 +17,7 @@ use Rattle.exif_types.specs.Lookup.{is_named}
 use Rattle.exif_types.specs.declared.field.Field.{Field}
 use Rattle.exif_types.specs.declared.tag.Tag.{Tag}
 use Rattle.exif_types.specs.declared.value.Value.{Value}
-use Rattle.exif_tiff.specs.Trace.{Found, Met, Node, Opens, Visit, entry_of, header, located_of, ordered_trace, trace}
+use Rattle.exif_tiff.specs.Trace.{Found, Met, Node, Opens, Visit, entry_of, header, located_of, ordered_trace}
 use Rattle.exif_tiff.specs.declared.offset.EntryOffset.{EntryOffset}
 use Rattle.exif_reader.proofs.TiffAnswers.{trace_right}
 use Rattle.exif_edit_base.specs.Causes.{Cause, no_field, of_data, or_cause, ◌>>=◌}
@@ -25,12 +25,10 @@ use Rattle.exif_edit_base.specs.Finding.{IsLastAt, find_answer, last_located}
 use Rattle.exif_edit_base.specs.Locations.{Located, located}
 use Rattle.exif_edit_base.specs.Patches.{FitsIn}
 use Rattle.exif_edit_base.specs.Readings.{Read, reading}
-use Rattle.exif_edit_base.specs.declared.patch.Patch.{Patch}
 use Rattle.exif_edit_base.specs.Spans.{value_span}
 use Rattle.exif_edit_base.proofs.ChangeSteps.{left_step}
 use Rattle.exif_edit_base.proofs.FindSteps.{any_map, field_of, fields_read, header_named, last_found}
 use Rattle.exif_edit_base.proofs.LocatedEntries.{AreSaid, last_said, ordered_said}
-use Rattle.exif_edit_base.proofs.PatchSteps.{AllWithin}
 use Rattle.exif_edit.proofs.EraseSound.{values_within, zeros_fit}
 use Rattle.exif_edit.proofs.SetSound.{was_found}
 use Rattle.exif_grow.specs.Alike.{alike_at, alike_patches, beside, entries_alike, entries_named, entry_copied, field_alike, fields_alike, made_alike, read_alike, value_cleared, value_kept, values_cleared}

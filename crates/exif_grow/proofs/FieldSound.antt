@@ -1,8 +1,7 @@
 -- What is read where several fields were set.
-use Rattle.std.proofs.Common.{◌≡◌, ℕ, Bool, true, false, if◌then◌else◌, List, [], ◌∷◌, ◌++◌, All, ◌⊎◌, inl, inr, Option, Some, Ok, refl, sym, ap, subst, ◌∙◌}
+use Rattle.std.proofs.Common.{◌≡◌, ℕ, Bool, true, false, if◌then◌else◌, List, [], ◌∷◌, All, ◌⊎◌, inl, inr, Option, Some, Ok, refl, sym, ap, subst, ◌∙◌}
 use Rattle.std.specs.Prelude.{not}
 use Rattle.std.specs.List.{list_any}
-use Rattle.std.proofs.lemmas.Bool.{false≢true}
 use Rattle.std.proofs.lemmas.List.Elements.{All-nil, All-cons, All-weaker}
 use Rattle.exif_text.specs.declared.ifd.In.{In}
 use Rattle.exif_types.specs.Lookup.{is_named, last_named}
@@ -12,24 +11,22 @@ use Rattle.exif_types.specs.declared.value.Value.{Value}
 use Rattle.exif_types.specs.declared.value.Value.TheVariants.{Byte, Ascii, Short, Long, Rational, SByte, Undefined, SShort, SLong, SRational, Float, Double, Unknown}
 use Rattle.exif_tiff.specs.Trace.{faults_of, fields_of, trace}
 use Rattle.exif_tiff.specs.declared.fault.Fault.{Fault}
-use Rattle.exif_tiff.specs.Answers.{answer_of}
 use Rattle.exif_layout.specs.Encoding.{moved_to}
-use Rattle.exif_edit_base.specs.Causes.{◌>>=◌}
 use Rattle.exif_edit_base.specs.Finding.{replaced, with_value}
-use Rattle.exif_edit_base.specs.Locations.{Located, located}
-use Rattle.exif_edit_base.specs.Rereading.{field_at_entry, without_entry_offsets}
+use Rattle.exif_edit_base.specs.Locations.{located}
+use Rattle.exif_edit_base.specs.Rereading.{without_entry_offsets}
 use Rattle.exif_edit_base.proofs.CauseSteps.{bound, ok_same}
 use Rattle.exif_edit_base.proofs.LawsLocated.{located_fields}
 use Rattle.exif_edit_base.proofs.ReadSteps.{unshown, unshown_shown}
-use Rattle.exif_edit.specs.Promises.{FindsValue, ReadAs}
+use Rattle.exif_edit.specs.Promises.{ReadAs}
 use Rattle.exif_edit.specs.Removing.{without_named}
 use Rattle.exif_grow.specs.Alike.{made_alike}
-use Rattle.exif_grow.specs.Growing.{Added, grown}
-use Rattle.exif_grow.specs.Promises.{AreSet, HasLastValue, IsAdded, IsGrown, IsReplaced, IsThere, bare, unset}
+use Rattle.exif_grow.specs.Growing.{grown}
+use Rattle.exif_grow.specs.Promises.{AreSet, HasLastValue, IsAdded, IsReplaced, IsThere, bare}
 use Rattle.exif_grow.specs.Setting.{field_grown, fields_grown, grow_answer}
 use Rattle.exif_grow.proofs.AlikeSound.{HasIt, located_last, was_made_alike}
 use Rattle.exif_grow.proofs.GrowSteps.{grow_promised}
-use Rattle.exif_grow.proofs.SetLists.{HasValueOf, Later, failing, failing_or, failing_twice, later_others, later_there, later_values, without_failing}
+use Rattle.exif_grow.proofs.SetLists.{HasValueOf, Later, failing, later_others, later_there, later_values, without_failing}
 
 -- ---- one field
 

@@ -1,5 +1,4 @@
 use Rattle.exif_base.specs.Orders.{number_of}
-use Rattle.std.proofs.Common.{sym}
 use Rattle.exif_grow.proofs.AlikeSteps.{span_within}
 use Rattle.exif_grow.proofs.alike.value_kept.Goals as goal
 
