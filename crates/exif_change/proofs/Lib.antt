@@ -1,4 +1,5 @@
 pub mod ReadLemmas
 pub mod Refused
 pub mod Scrubbed
+pub mod SetKept
 pub mod Steps

@@ -1,0 +1,144 @@
+-- JPEG files in whose data fields were set.
+use Rattle.std.proofs.Common.{◌≡◌, ◌<◌, ◌^◌, ◌-◌, ◌∙◌, ◌+◌, ℕ, Bool, true, false, List, [], ◌∷◌, ◌++◌, take, length, Option, Some, None, Result, Ok, Err, if◌then◌else◌, refl, sym, ap, subst}
+use Rattle.std.specs.Prelude.{nat_le}
+use Rattle.exif_types.specs.Refusals as types
+use Rattle.exif_types.specs.declared.field.Field.{Field}
+use Rattle.exif_types.specs.declared.tag.Tag.{Tag}
+use Rattle.exif_containers.specs.Container.{container_answer, format_in}
+use Rattle.exif_containers.specs.declared.container.Format.TheVariants.{Jpeg}
+use Rattle.exif_segments.specs.declared.remove.Remove.{Remove}
+use Rattle.exif_segments.specs.declared.remove.Remove.TheVariants.{Exif}
+use Rattle.exif_edit_base.specs.Causes.{Cause}
+use Rattle.exif_grow.specs.Promises.{AreSet}
+use Rattle.exif_grow.specs.Setting.{fields_grown}
+use Rattle.exif_rewrite.specs.FileLaws.{AnswersPut, ComesOut, IsFound}
+use Rattle.exif_rewrite.specs.RewrittenFile.{file_rewriting, rewriting_as}
+use Rattle.exif_rewrite_jpeg.specs.JpegSteps.{strict_end, strictly}
+use Rattle.exif_rewrite_jpeg.specs.Rewriting.{End, Rewriting, cut_off, finished, refused_by}
+use Rattle.exif_rewrite_jpeg.specs.RewrittenJpeg.{jpeg_rewriting}
+use Rattle.exif_change.specs.Changed.{Change, Undone, whole}
+use Rattle.exif_change.specs.Growing.{grown_by, grown_file, longest, naming, put, put_alone, replaced, too_long_for}
+use Rattle.exif_change.specs.Refusals.{Why, as_edited, as_read, reading, second_exif, ◌>>=◌}
+use Rattle.exif_change.specs.Rewriting.{rewritten_jpeg, stream_ended}
+use Rattle.exif_change.specs.SetLaws.{HoldsSet}
+
+-- ---- steps that came through
+
+bound : {A B : Type 0} (x : Result A Why) (f : A → Result B Why) (b : B) → (x >>= f) ≡ Ok b
+    → (a : A) × (x ≡ Ok a) × (f a ≡ Ok b)
+bound (Ok a) f b e = (a, refl, e)
+bound {B = B} (Err why) f b e = absurd (err_ok e)
+  where
+    err_ok : ◌≡◌ {A = Result B Why} (Err why) (Ok b) → ⊥
+    err_ok e = cc
+
+edited_ok : {A : Type 0} (x : Result A Cause) (a : A) → as_edited x ≡ Ok a → x ≡ Ok a
+edited_ok {A = A} (Ok y) a e = ap (λ z. Ok z) (ok_same e)
+  where
+    ok_same : ◌≡◌ {A = Result A Why} (Ok y) (Ok a) → y ≡ a
+    ok_same e = cc
+edited_ok {A = A} (Err c) a e = absurd (err_ok e)
+  where
+    err_ok : ◌≡◌ {A = Result A Why} (as_edited (Err c)) (Ok a) → ⊥
+    err_ok e = cc
+
+-- what was put is what was written again
+naming_ok : (tag : Option Tag) (x : Result Change types.Refusal) (c : Change)
+    → naming tag x ≡ Ok c → as_read x ≡ Ok c
+naming_ok tag (Ok y) c e = e
+naming_ok tag (Err (types.too_big text)) c e = absurd (err_ok e)
+  where
+    err_ok : ◌≡◌ {A = Result Change Why} (Err (too_long_for tag text)) (Ok c) → ⊥
+    err_ok e = cc
+naming_ok tag (Err (types.invalid_format text)) c e = e
+naming_ok tag (Err (types.not_found text)) c e = e
+naming_ok tag (Err (types.blank_value text)) c e = e
+naming_ok tag (Err (types.not_supported text)) c e = e
+naming_ok tag (Err (types.unexpected_value text)) c e = e
+
+else_same : (b : Bool) (x c : Change) → (if b then Err second_exif else Ok x) ≡ Ok c → x ≡ c
+else_same true x c e = absurd (err_ok e)
+  where
+    err_ok : ◌≡◌ {A = Result Change Why} (Err second_exif) (Ok c) → ⊥
+    err_ok e = cc
+else_same false x c e = ok_same e
+  where
+    ok_same : ◌≡◌ {A = Result Change Why} (Ok x) (Ok c) → x ≡ c
+    ok_same e = cc
+
+-- ---- the stream
+
+change_or : Change → Result Change Why → Change
+change_or other (Ok change) = change
+change_or other (Err why) = other
+
+-- a stream that was whole
+ends_whole : (out new : List ℕ) (end : End) → as_read (stream_ended out end) ≡ Ok (whole new)
+    → (end ≡ finished) × (out ≡ new)
+unfolding change_or
+ends_whole out new finished e = (refl, ap (λ r. (change_or (whole new) r).file) e)
+ends_whole out new (cut_off waiting) e =
+    let none : List (Option Undone) → ℕ = λ us. elim us [ [] ↦ 0 | u ∷ us ↦ 1 ] in
+    absurd (one_zero (ap (λ r. none (change_or (whole new) r).undone) e))
+  where
+    one_zero : ◌≡◌ {A = ℕ} 1 0 → ⊥
+    one_zero e = cc
+ends_whole out new (refused_by r) e = absurd (err_ok e)
+  where
+    err_ok : ◌≡◌ {A = Result Change Why} (as_read (Err r)) (Ok (whole new)) → ⊥
+    err_ok e = cc
+
+file_is : (remove : Remove) (put : Option (List ℕ)) (file : List ℕ)
+    → format_in (take 4096 file) ≡ Some Jpeg
+    → file_rewriting remove put file
+    ≡ strictly (jpeg_rewriting remove put (take (2 ^ 64 - 1) file))
+unfolding file_rewriting rewriting_as
+file_is remove put file is = ap (λ f. rewriting_as f remove put file) is
+
+-- what was put into a JPEG file is what is read
+put_answers : (remove : Remove) (put : Option (List ℕ)) (file new : List ℕ)
+    → ((remove : Remove) (put : Option (List ℕ)) (bytes : List ℕ) → IsFound remove put bytes)
+    → format_in (take 4096 file) ≡ Some Jpeg
+    → as_read (rewritten_jpeg remove put file) ≡ Ok (whole new) → length new < 2 ^ 64
+    → AnswersPut put (container_answer new)
+put_answers remove put file new law is e short =
+    let made = jpeg_rewriting remove put (take (2 ^ 64 - 1) file) in
+    let ended = ends_whole made.out new made.end e in
+    let all : file_rewriting remove put file ≡ strictly made = file_is remove put file is in
+    let out : (file_rewriting remove put file).out ≡ new =
+    ap (λ (r : Rewriting). r.out) all ∙ ended.1 in
+    let end : (file_rewriting remove put file).end ≡ finished =
+    ap (λ (r : Rewriting). r.end) all ∙ ap strict_end ended.0 in
+    let comes : ComesOut (file_rewriting remove put file) = record {
+      whole = end;
+      short = subst (λ (xs : List ℕ). length xs < 2 ^ 64) (sym out) short;
+    } in
+    subst (λ (xs : List ℕ). AnswersPut put (container_answer xs)) out (law remove put file comes)
+
+-- ---- the whole
+
+-- fields that were set in the data of a JPEG file are read of the new one
+pub set_in_jpeg : (fields : List Field) (file bytes new : List ℕ)
+    → ((remove : Remove) (put : Option (List ℕ)) (bytes : List ℕ) → IsFound remove put bytes)
+    → ((gs : List Field) (old data' : List ℕ) → fields_grown gs old ≡ Ok data' → AreSet gs old data')
+    → format_in (take 4096 file) ≡ Some Jpeg → container_answer file ≡ Ok bytes
+    → grown_file Jpeg fields file ≡ Ok (whole new) → length new < 2 ^ 64
+    → HoldsSet fields bytes (container_answer new)
+unfolding grown_file
+set_in_jpeg fields file bytes new law set is held e short =
+    let g : grown_by Jpeg fields (Ok bytes) file ≡ Ok (whole new) =
+    sym (ap (λ r. grown_by Jpeg fields r file) held) ∙ e in
+    let a = bound (as_edited (fields_grown fields bytes))
+    (λ data'. replaced Jpeg (length bytes) data' fields file) (whole new) g in
+    let b = bound (put Jpeg a.0 fields file)
+    (λ made. if nat_le (length made.file + length bytes + 8) (length file + length a.0)
+    then Err second_exif else Ok made) (whole new) a.2 in
+    let same = else_same (nat_le (length b.0.file + length bytes + 8) (length file + length a.0))
+    b.0 (whole new) b.2 in
+    let written : as_read (rewritten_jpeg Exif (Some a.0) file) ≡ Ok (whole new) =
+    naming_ok (longest fields) (rewritten_jpeg Exif (Some a.0) file) b.0 b.1
+    ∙ ap (λ c. Ok c) same in
+    let found : container_answer new ≡ Ok a.0 =
+    put_answers Exif (Some a.0) file new law is written short in
+    subst (λ r. HoldsSet fields bytes r) (sym found)
+    (set fields bytes a.0 (edited_ok (fields_grown fields bytes) a.0 a.1))
