@@ -5,21 +5,27 @@ use Rattle.exif_types.specs.Refusals as types
 use Rattle.exif_types.specs.declared.field.Field.{Field}
 use Rattle.exif_types.specs.declared.tag.Tag.{Tag}
 use Rattle.exif_containers.specs.Container.{container_answer, format_in}
-use Rattle.exif_containers.specs.declared.container.Format.TheVariants.{Jpeg}
+use Rattle.exif_containers.specs.declared.container.Format.{Format}
+use Rattle.exif_containers.specs.declared.container.Format.TheVariants.{Tiff, Jpeg, Heif, WebP}
 use Rattle.exif_segments.specs.declared.remove.Remove.{Remove}
 use Rattle.exif_segments.specs.declared.remove.Remove.TheVariants.{Exif}
 use Rattle.exif_edit_base.specs.Causes.{Cause}
+use Rattle.exif_edit_base.proofs.CauseSteps.{bound as edit_bound}
+use Rattle.exif_grow.specs.Growing.{grown}
+use Rattle.exif_grow_files.specs.Items.{item_grown, item_growth}
+use Rattle.exif_grow_files.proofs.ItemSound.{growth_sound}
 use Rattle.exif_grow.specs.Promises.{AreSet}
 use Rattle.exif_grow.specs.Setting.{fields_grown}
 use Rattle.exif_rewrite.specs.FileLaws.{AnswersPut, ComesOut, IsFound}
-use Rattle.exif_rewrite.specs.RewrittenFile.{file_rewriting, rewriting_as}
+use Rattle.exif_rewrite.specs.RewrittenFile.{at_once, file_rewriting, rewriting_as}
 use Rattle.exif_rewrite_jpeg.specs.JpegSteps.{strict_end, strictly}
 use Rattle.exif_rewrite_jpeg.specs.Rewriting.{End, Rewriting, cut_off, finished, refused_by}
 use Rattle.exif_rewrite_jpeg.specs.RewrittenJpeg.{jpeg_rewriting}
+use Rattle.exif_rewrite_webp.specs.RewrittenWebp.{webp_rewriting}
 use Rattle.exif_change.specs.Changed.{Change, Undone, whole}
-use Rattle.exif_change.specs.Growing.{grown_by, grown_file, longest, naming, put, put_alone, replaced, too_long_for}
+use Rattle.exif_change.specs.Growing.{grown_by, grown_file, item_moved, longest, naming, put, put_alone, replaced, too_long_for}
 use Rattle.exif_change.specs.Refusals.{Why, as_edited, as_read, reading, second_exif, ◌>>=◌}
-use Rattle.exif_change.specs.Rewriting.{rewritten_jpeg, stream_ended}
+use Rattle.exif_change.specs.Rewriting.{if_whole, rewritten, rewritten_jpeg, rewritten_webp, stream_ended}
 use Rattle.exif_change.specs.SetLaws.{HoldsSet}
 
 -- ---- steps that came through
@@ -66,11 +72,18 @@ else_same false x c e = ok_same e
     ok_same : ◌≡◌ {A = Result Change Why} (Ok x) (Ok c) → x ≡ c
     ok_same e = cc
 
--- ---- the stream
-
 change_or : Change → Result Change Why → Change
 change_or other (Ok change) = change
 change_or other (Err why) = other
+
+edit_same : (a b : List ℕ) → ◌≡◌ {A = Result (List ℕ) Cause} (Ok a) (Ok b) → a ≡ b
+edit_same a b e = cc
+
+tiff_same : (a b : List ℕ) → ◌≡◌ {A = Result Change Why} (Ok (whole a)) (Ok (whole b)) → a ≡ b
+unfolding change_or
+tiff_same a b e = ap (λ r. (change_or (whole b) r).file) e
+
+-- ---- the stream
 
 -- a stream that was whole
 ends_whole : (out new : List ℕ) (end : End) → as_read (stream_ended out end) ≡ Ok (whole new)
@@ -117,28 +130,88 @@ put_answers remove put file new law is e short =
 
 -- ---- the whole
 
--- fields that were set in the data of a JPEG file are read of the new one
-pub set_in_jpeg : (fields : List Field) (file bytes new : List ℕ)
+-- what was put into a JPEG or WebP file was written again
+put_written : (format : Format) (n : ℕ) (data' : List ℕ) (fields : List Field) (file new : List ℕ)
+    → put_alone format n data' fields file ≡ Ok (whole new)
+    → as_read (rewritten format Exif (Some data') file) ≡ Ok (whole new)
+put_written format n data' fields file new e =
+    let b = bound (put format data' fields file)
+    (λ made. if nat_le (length made.file + n + 8) (length file + length data')
+    then Err second_exif else Ok made) (whole new) e in
+    let same = else_same (nat_le (length b.0.file + n + 8) (length file + length data'))
+    b.0 (whole new) b.2 in
+    naming_ok (longest fields) (rewritten format Exif (Some data') file) b.0 b.1
+    ∙ ap (λ c. Ok c) same
+
+-- a WebP file that was written again
+webp_ok : (x : Result (List ℕ) types.Refusal) (new : List ℕ) → as_read (if_whole x) ≡ Ok (whole new)
+    → x ≡ Ok new
+unfolding change_or
+webp_ok (Ok file) new e = ap (λ r. Ok (change_or (whole new) r).file) e
+webp_ok (Err r) new e = absurd (err_ok e)
+  where
+    err_ok : ◌≡◌ {A = Result Change Why} (as_read (if_whole (Err r))) (Ok (whole new)) → ⊥
+    err_ok e = cc
+
+webp_is : (remove : Remove) (put : Option (List ℕ)) (file : List ℕ)
+    → format_in (take 4096 file) ≡ Some WebP
+    → file_rewriting remove put file ≡ at_once (webp_rewriting remove put file)
+unfolding file_rewriting rewriting_as
+webp_is remove put file is = ap (λ f. rewriting_as f remove put file) is
+
+webp_answers : (data' file new : List ℕ) → ((remove : Remove) (put : Option (List ℕ)) (bytes : List ℕ) → IsFound remove put bytes)
+    → format_in (take 4096 file) ≡ Some WebP
+    → as_read (rewritten_webp Exif (Some data') file) ≡ Ok (whole new) → length new < 2 ^ 64
+    → container_answer new ≡ Ok data'
+webp_answers data' file new law is e short =
+    let made = webp_ok (webp_rewriting Exif (Some data') file) new e in
+    let all : file_rewriting Exif (Some data') file ≡ at_once (Ok new) =
+    webp_is Exif (Some data') file is ∙ ap at_once made in
+    let comes : ComesOut (file_rewriting Exif (Some data') file) = record {
+      whole = ap (λ (r : Rewriting). r.end) all;
+      short = subst (λ (r : Rewriting). length r.out < 2 ^ 64) (sym all) short;
+    } in
+    subst (λ (r : Rewriting). container_answer r.out ≡ Ok data') all
+    (law Exif (Some data') file comes)
+
+-- the item of a HEIF file that was moved holds the new data
+heif_answers : (data' file new : List ℕ) → item_moved data' file ≡ Ok (whole new)
+    → container_answer new ≡ Ok data'
+unfolding item_grown change_or
+heif_answers data' file new e =
+    let b = bound (as_edited (item_grown file data')) (λ out. Ok (whole out)) (whole new) e in
+    let g = edit_bound (item_growth file data') (λ a. Ok (grown a file)) b.0
+    (edited_ok (item_grown file data') b.0 b.1) in
+    let same : b.0 ≡ new = ap (λ r. (change_or (whole new) r).file) b.2 in
+    let out : grown g.0 file ≡ new = edit_same (grown g.0 file) b.0 g.2 ∙ same in
+    subst (λ xs. container_answer xs ≡ Ok data') out (growth_sound file data' g.0 g.1).holds
+
+-- fields that were set in the data of a file are read of the new one, but for TIFF data
+pub set_in_file : (format : Format) (fields : List Field) (file bytes new : List ℕ)
     → ((remove : Remove) (put : Option (List ℕ)) (bytes : List ℕ) → IsFound remove put bytes)
     → ((gs : List Field) (old data' : List ℕ) → fields_grown gs old ≡ Ok data' → AreSet gs old data')
-    → format_in (take 4096 file) ≡ Some Jpeg → container_answer file ≡ Ok bytes
-    → grown_file Jpeg fields file ≡ Ok (whole new) → length new < 2 ^ 64
-    → HoldsSet fields bytes (container_answer new)
+    → format_in (take 4096 file) ≡ Some format → container_answer file ≡ Ok bytes
+    → grown_file format fields file ≡ Ok (whole new) → length new < 2 ^ 64
+    → HoldsSet format fields bytes new (container_answer new)
 unfolding grown_file
-set_in_jpeg fields file bytes new law set is held e short =
-    let g : grown_by Jpeg fields (Ok bytes) file ≡ Ok (whole new) =
-    sym (ap (λ r. grown_by Jpeg fields r file) held) ∙ e in
+set_in_file format fields file bytes new law set is held e short =
+    let g : grown_by format fields (Ok bytes) file ≡ Ok (whole new) =
+    sym (ap (λ r. grown_by format fields r file) held) ∙ e in
     let a = bound (as_edited (fields_grown fields bytes))
-    (λ data'. replaced Jpeg (length bytes) data' fields file) (whole new) g in
-    let b = bound (put Jpeg a.0 fields file)
-    (λ made. if nat_le (length made.file + length bytes + 8) (length file + length a.0)
-    then Err second_exif else Ok made) (whole new) a.2 in
-    let same = else_same (nat_le (length b.0.file + length bytes + 8) (length file + length a.0))
-    b.0 (whole new) b.2 in
-    let written : as_read (rewritten_jpeg Exif (Some a.0) file) ≡ Ok (whole new) =
-    naming_ok (longest fields) (rewritten_jpeg Exif (Some a.0) file) b.0 b.1
-    ∙ ap (λ c. Ok c) same in
-    let found : container_answer new ≡ Ok a.0 =
-    put_answers Exif (Some a.0) file new law is written short in
-    subst (λ r. HoldsSet fields bytes r) (sym found)
-    (set fields bytes a.0 (edited_ok (fields_grown fields bytes) a.0 a.1))
+    (λ data'. replaced format (length bytes) data' fields file) (whole new) g in
+    by_format format is a.0 (set fields bytes a.0 (edited_ok (fields_grown fields bytes) a.0 a.1)) a.2
+  where
+    by_format : (f : Format) → format_in (take 4096 file) ≡ Some f → (data' : List ℕ)
+        → AreSet fields bytes data' → replaced f (length bytes) data' fields file ≡ Ok (whole new)
+        → HoldsSet f fields bytes new (container_answer new)
+    by_format Tiff is data' set e = subst (λ xs. AreSet fields bytes xs) (tiff_same data' new e) set
+    by_format Jpeg is data' set e =
+        subst (λ r. HoldsSet Jpeg fields bytes new r)
+        (sym (put_answers Exif (Some data') file new law is
+        (put_written Jpeg (length bytes) data' fields file new e) short)) set
+    by_format WebP is data' set e =
+        subst (λ r. HoldsSet WebP fields bytes new r)
+        (sym (webp_answers data' file new law is
+        (put_written WebP (length bytes) data' fields file new e) short)) set
+    by_format Heif is data' set e =
+        subst (λ r. HoldsSet Heif fields bytes new r) (sym (heif_answers data' file new e)) set

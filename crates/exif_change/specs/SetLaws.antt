@@ -2,9 +2,18 @@
 use Rattle.std.specs.Prelude.{ℕ, List, Result, Ok, Err}
 use Rattle.exif_types.specs.Refusals.{Refusal}
 use Rattle.exif_types.specs.declared.field.Field.{Field}
+use Rattle.exif_containers.specs.declared.container.Format.{Format}
+use Rattle.exif_containers.specs.declared.container.Format.TheVariants.{Tiff, Jpeg, Heif, WebP}
 use Rattle.exif_grow.specs.Promises.{AreSet}
 
--- a container answers data in which these fields are set, and all else is as in the old data
-abbrev pub HoldsSet : List Field → List ℕ → Result (List ℕ) Refusal → Type 0
-HoldsSet fields old (Ok new) = AreSet fields old new
-HoldsSet fields old (Err refusal) = ⊥
+-- an answer gives data in which these fields are set, and all else is as in the old data
+abbrev pub GivesSet : List Field → List ℕ → Result (List ℕ) Refusal → Type 0
+GivesSet fields old (Ok new) = AreSet fields old new
+GivesSet fields old (Err refusal) = ⊥
+
+-- the same of a new file of a format, whose container gives this answer; TIFF data are the file
+abbrev pub HoldsSet : Format → List Field → List ℕ → List ℕ → Result (List ℕ) Refusal → Type 0
+HoldsSet Tiff fields old file answer = AreSet fields old file
+HoldsSet Jpeg fields old file answer = GivesSet fields old answer
+HoldsSet Heif fields old file answer = GivesSet fields old answer
+HoldsSet WebP fields old file answer = GivesSet fields old answer

@@ -2,7 +2,7 @@
 
 ghost use Rattle.std.specs.Prelude.{ℕ, ◌≡◌, ◌<◌, ◌^◌, List, Some, Ok, length, take};
 ghost use Rattle.exif_containers.specs.Container.{container_answer, format_in};
-ghost use Rattle.exif_containers.specs.declared.container.Format.TheVariants.{Jpeg};
+ghost use Rattle.exif_containers.specs.declared.container.Format.{Format};
 ghost use Rattle.exif_types.specs.declared.field.Field.{Field};
 ghost use Rattle.exif_change.specs.Changed.{whole};
 ghost use Rattle.exif_change.specs.Growing.{grown_file};
@@ -10,14 +10,14 @@ ghost use Rattle.exif_change.specs.SetLaws.{HoldsSet};
 
 use exif_rewrite::laws::file_answers_what_was_put;
 
-/// Where fields are set in the Exif data of a JPEG file, which is written again with the new data, the
-/// data that are read of the new file have the value in each field of these names; all other fields are
-/// as they were, in their order, and so are the faults.
-pub fn fields_set_in_the_data_of_a_jpeg_file_are_read()
-    ensures { (fields : List Field) (file bytes new : List ℕ)
-        → format_in (take 4096 file) ≡ Some Jpeg → container_answer file ≡ Ok bytes
-        → grown_file Jpeg fields file ≡ Ok (whole new) → length new < 2 ^ 64
-        → HoldsSet fields bytes (container_answer new) }
+/// Where fields are set in the Exif data of a file, the data that are read of the new file have the
+/// value in each field of these names; all other fields are as they were, in their order, and so are
+/// the faults. Of a TIFF file the data are the new file.
+pub fn fields_set_in_the_data_of_a_file_are_read()
+    ensures { (format : Format) (fields : List Field) (file bytes new : List ℕ)
+        → format_in (take 4096 file) ≡ Some format → container_answer file ≡ Ok bytes
+        → grown_file format fields file ≡ Ok (whole new) → length new < 2 ^ 64
+        → HoldsSet format fields bytes new (container_answer new) }
 {
     file_answers_what_was_put();
 }
