@@ -1,5 +1,6 @@
 pub mod ReadLemmas
 pub mod Refused
 pub mod Scrubbed
+pub mod SetInPlace
 pub mod SetKept
 pub mod Steps

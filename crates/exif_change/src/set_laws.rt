@@ -6,7 +6,8 @@ ghost use Rattle.exif_containers.specs.declared.container.Format.{Format};
 ghost use Rattle.exif_types.specs.declared.field.Field.{Field};
 ghost use Rattle.exif_change.specs.Changed.{whole};
 ghost use Rattle.exif_change.specs.Growing.{grown_file};
-ghost use Rattle.exif_change.specs.SetLaws.{HoldsSet};
+ghost use Rattle.exif_change.specs.InPlace.{fitting_set};
+ghost use Rattle.exif_change.specs.SetLaws.{GivesOthers, HoldsSet};
 
 use exif_rewrite::laws::file_answers_what_was_put;
 
@@ -21,3 +22,11 @@ pub fn fields_set_in_the_data_of_a_file_are_read()
 {
     file_answers_what_was_put();
 }
+
+/// Where fields are set in place in a file, whatever its container, all other fields that are read of
+/// the new file are as they were, in their order, and so are the faults.
+pub fn fields_set_in_place_change_no_other()
+    ensures { (fields left left' : List Field) (file bytes new : List ℕ) → length file < 2 ^ 64
+        → container_answer file ≡ Ok bytes → fitting_set fields (file, left) ≡ Ok (new, left')
+        → GivesOthers fields bytes (container_answer new) }
+{}
