@@ -3,4 +3,5 @@ pub mod Refused
 pub mod Scrubbed
 pub mod SetInPlace
 pub mod SetKept
+pub mod SetWhole
 pub mod Steps

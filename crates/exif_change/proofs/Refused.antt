@@ -1,6 +1,5 @@
 -- Fields that are not set.
 use Rattle.std.proofs.Common.{◌≡◌, ◌<◌, ◌+◌, ◌-◌, ◌∙◌, ℕ, suc, true, false, Bool, List, [], ◌∷◌, ◌++◌, length, get_or, take, drop, drop-cons, Result, Ok, Err, if◌then◌else◌, sym, ap, subst, arith}
-use Rattle.std.specs.Prelude.{◌&&◌}
 use Rattle.std.proofs.lemmas.List.{length-drop, take_all}
 use Rattle.exif_types.specs.declared.field.Field.{Field}
 use Rattle.exif_edit_base.specs.Causes.{Cause}

@@ -30,8 +30,8 @@ use Rattle.exif_edit.specs.Removing.{without_named}
 use Rattle.exif_edit_files.specs.InFiles.{IsEditedIn, file_patches}
 use Rattle.exif_edit_files.proofs.FilesSound.{file_sound}
 use Rattle.exif_grow.specs.Promises.{is_set, same_name, unset}
-use Rattle.exif_grow.proofs.SetLists.{failing, without_failing}
-use Rattle.exif_change.specs.InPlace.{field_set, fit_by, fit_one, fitting_set, needs_space, setting}
+use Rattle.exif_grow.proofs.SetLists.{failing}
+use Rattle.exif_change.specs.InPlace.{field_set, fit_by, fitting_set, needs_space, setting}
 use Rattle.exif_change.specs.Reading.{entry_limit}
 use Rattle.exif_change.specs.SetLaws.{GivesOthers, KeepsOthers}
 
@@ -85,7 +85,7 @@ replaced_others tag k v (f ∷ fs) =
     by_tests false false n h = rw n refl
 
 -- a wider test leaves out what a narrower one does
-wider : (p q : Field → Bool) → ((f : Field) → p f ≡ true → q f ≡ true) → (xs : List Field)
+pub wider : (p q : Field → Bool) → ((f : Field) → p f ≡ true → q f ≡ true) → (xs : List Field)
     → failing q (failing p xs) ≡ failing q xs
 wider p q more [] = refl
 wider p q more (x ∷ xs) = by_tests (p x) (q x) refl refl (wider p q more xs)
@@ -147,7 +147,7 @@ kept_wider g sets old new more e =
     ∙ (ap (failing (is_set sets)) e ∙ wider (same_name g) (is_set sets) more old))
 
 -- the others of these names, whatever more is set
-all_kept : (sets fields left left' : List Field) (file bytes new : List ℕ)
+pub all_kept : (sets fields left left' : List Field) (file bytes new : List ℕ)
     → ((f : Field) → is_set fields f ≡ true → is_set sets f ≡ true)
     → length file < 2 ^ 64 → container_answer file ≡ Ok bytes
     → fitting_set fields (file, left) ≡ Ok (new, left')

@@ -1,5 +1,5 @@
 -- JPEG files in whose data fields were set.
-use Rattle.std.proofs.Common.{◌≡◌, ◌<◌, ◌^◌, ◌-◌, ◌∙◌, ◌+◌, ℕ, Bool, true, false, List, [], ◌∷◌, ◌++◌, take, length, Option, Some, None, Result, Ok, Err, if◌then◌else◌, refl, sym, ap, subst}
+use Rattle.std.proofs.Common.{◌≡◌, ◌<◌, ◌^◌, ◌-◌, ◌∙◌, ◌+◌, ℕ, Bool, true, false, List, [], ◌∷◌, take, length, Option, Some, Result, Ok, Err, if◌then◌else◌, refl, sym, ap, subst}
 use Rattle.std.specs.Prelude.{nat_le}
 use Rattle.exif_types.specs.Refusals as types
 use Rattle.exif_types.specs.declared.field.Field.{Field}
@@ -24,7 +24,7 @@ use Rattle.exif_rewrite_jpeg.specs.RewrittenJpeg.{jpeg_rewriting}
 use Rattle.exif_rewrite_webp.specs.RewrittenWebp.{webp_rewriting}
 use Rattle.exif_change.specs.Changed.{Change, Undone, whole}
 use Rattle.exif_change.specs.Growing.{grown_by, grown_file, item_moved, longest, naming, put, put_alone, replaced, too_long_for}
-use Rattle.exif_change.specs.Refusals.{Why, as_edited, as_read, reading, second_exif, ◌>>=◌}
+use Rattle.exif_change.specs.Refusals.{Why, as_edited, as_read, second_exif, ◌>>=◌}
 use Rattle.exif_change.specs.Rewriting.{if_whole, rewritten, rewritten_jpeg, rewritten_webp, stream_ended}
 use Rattle.exif_change.specs.SetLaws.{HoldsSet}
 
@@ -186,32 +186,52 @@ heif_answers data' file new e =
     let out : grown g.0 file ≡ new = edit_same (grown g.0 file) b.0 g.2 ∙ same in
     subst (λ xs. container_answer xs ≡ Ok data') out (growth_sound file data' g.0 g.1).holds
 
--- fields that were set in the data of a file are read of the new one, but for TIFF data
+-- a new file of a format has these data
+abbrev pub Found : Format → List ℕ → List ℕ → Type 0
+Found Tiff new data' = data' ≡ new
+Found Jpeg new data' = container_answer new ≡ Ok data'
+Found WebP new data' = container_answer new ≡ Ok data'
+Found Heif new data' = container_answer new ≡ Ok data'
+
+-- the data in which fields were set are those of the new file
+pub data_found : (format : Format) (fields : List Field) (file bytes new : List ℕ)
+    → ((remove : Remove) (put : Option (List ℕ)) (bytes : List ℕ) → IsFound remove put bytes)
+    → format_in (take 4096 file) ≡ Some format → container_answer file ≡ Ok bytes
+    → grown_file format fields file ≡ Ok (whole new) → length new < 2 ^ 64
+    → (data' : List ℕ) × (fields_grown fields bytes ≡ Ok data') × Found format new data'
+unfolding grown_file
+data_found format fields file bytes new law is held e short =
+    let g : grown_by format fields (Ok bytes) file ≡ Ok (whole new) =
+    sym (ap (λ r. grown_by format fields r file) held) ∙ e in
+    let a = bound (as_edited (fields_grown fields bytes))
+    (λ data'. replaced format (length bytes) data' fields file) (whole new) g in
+    (a.0, edited_ok (fields_grown fields bytes) a.0 a.1, by_format format is a.0 a.2)
+  where
+    by_format : (f : Format) → format_in (take 4096 file) ≡ Some f → (data' : List ℕ)
+        → replaced f (length bytes) data' fields file ≡ Ok (whole new) → Found f new data'
+    by_format Tiff is data' e = tiff_same data' new e
+    by_format Jpeg is data' e =
+        put_answers Exif (Some data') file new law is
+        (put_written Jpeg (length bytes) data' fields file new e) short
+    by_format WebP is data' e =
+        webp_answers data' file new law is
+        (put_written WebP (length bytes) data' fields file new e) short
+    by_format Heif is data' e = heif_answers data' file new e
+
+-- fields that were set in the data of a file are read of the new one
 pub set_in_file : (format : Format) (fields : List Field) (file bytes new : List ℕ)
     → ((remove : Remove) (put : Option (List ℕ)) (bytes : List ℕ) → IsFound remove put bytes)
     → ((gs : List Field) (old data' : List ℕ) → fields_grown gs old ≡ Ok data' → AreSet gs old data')
     → format_in (take 4096 file) ≡ Some format → container_answer file ≡ Ok bytes
     → grown_file format fields file ≡ Ok (whole new) → length new < 2 ^ 64
     → HoldsSet format fields bytes new (container_answer new)
-unfolding grown_file
 set_in_file format fields file bytes new law set is held e short =
-    let g : grown_by format fields (Ok bytes) file ≡ Ok (whole new) =
-    sym (ap (λ r. grown_by format fields r file) held) ∙ e in
-    let a = bound (as_edited (fields_grown fields bytes))
-    (λ data'. replaced format (length bytes) data' fields file) (whole new) g in
-    by_format format is a.0 (set fields bytes a.0 (edited_ok (fields_grown fields bytes) a.0 a.1)) a.2
+    let d = data_found format fields file bytes new law is held e short in
+    by_format format d.0 (set fields bytes d.0 d.1) d.2
   where
-    by_format : (f : Format) → format_in (take 4096 file) ≡ Some f → (data' : List ℕ)
-        → AreSet fields bytes data' → replaced f (length bytes) data' fields file ≡ Ok (whole new)
+    by_format : (f : Format) (data' : List ℕ) → AreSet fields bytes data' → Found f new data'
         → HoldsSet f fields bytes new (container_answer new)
-    by_format Tiff is data' set e = subst (λ xs. AreSet fields bytes xs) (tiff_same data' new e) set
-    by_format Jpeg is data' set e =
-        subst (λ r. HoldsSet Jpeg fields bytes new r)
-        (sym (put_answers Exif (Some data') file new law is
-        (put_written Jpeg (length bytes) data' fields file new e) short)) set
-    by_format WebP is data' set e =
-        subst (λ r. HoldsSet WebP fields bytes new r)
-        (sym (webp_answers data' file new law is
-        (put_written WebP (length bytes) data' fields file new e) short)) set
-    by_format Heif is data' set e =
-        subst (λ r. HoldsSet Heif fields bytes new r) (sym (heif_answers data' file new e)) set
+    by_format Tiff data' set e = subst (λ xs. AreSet fields bytes xs) e set
+    by_format Jpeg data' set e = subst (λ r. HoldsSet Jpeg fields bytes new r) (sym e) set
+    by_format WebP data' set e = subst (λ r. HoldsSet WebP fields bytes new r) (sym e) set
+    by_format Heif data' set e = subst (λ r. HoldsSet Heif fields bytes new r) (sym e) set

@@ -1,5 +1,5 @@
 -- Values set in a file in place.
-use Rattle.std.specs.Prelude.{ℕ, ◌&&◌, Bool, true, false, List, [], ◌∷◌, ◌++◌, Option, Some, None, Result, Ok, Err, if◌then◌else◌}
+use Rattle.std.specs.Prelude.{ℕ, Bool, true, false, List, [], ◌∷◌, ◌++◌, Option, Some, None, Result, Ok, Err, if◌then◌else◌}
 use Rattle.exif_types.specs.Refusals.{not_found}
 use Rattle.exif_types.specs.declared.field.Field.{Field}
 use Rattle.exif_edit_base.specs.Causes.{Cause, cause_of, no_data, no_field, shared, too_long, ◌>>=◌}

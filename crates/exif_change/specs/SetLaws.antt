@@ -31,3 +31,10 @@ pub record KeepsOthers (sets : List Field) (old new : List ℕ) : Type 0 where
 abbrev pub GivesOthers : List Field → List ℕ → Result (List ℕ) Refusal → Type 0
 GivesOthers sets old (Ok new) = KeepsOthers sets old new
 GivesOthers sets old (Err refusal) = ⊥
+
+-- the same of a new file of a format, whose container gives this answer; TIFF data are the file
+abbrev pub HoldsOthers : Format → List Field → List ℕ → List ℕ → Result (List ℕ) Refusal → Type 0
+HoldsOthers Tiff sets old file answer = KeepsOthers sets old file
+HoldsOthers Jpeg sets old file answer = GivesOthers sets old answer
+HoldsOthers Heif sets old file answer = GivesOthers sets old answer
+HoldsOthers WebP sets old file answer = GivesOthers sets old answer
