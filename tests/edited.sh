@@ -217,6 +217,29 @@ if has djpeg; then
     check "djpeg gives the same pixels" cmp old new
 fi
 
+# Files whose directory holds two tags twice: every program is to read the new values, whichever entry it takes.
+python3 - files/plain.jpg work/twice.jpg work/twice.tif <<'TWICE'
+import struct, sys
+data = b"MM\0*\0\0\0\x08" + struct.pack(
+    ">H HHII HHII HHIHH HHIHH I 8s 8s",
+    4, 0x10E, 2, 8, 62, 0x10E, 2, 8, 70, 0x112, 3, 1, 6, 0, 0x112, 3, 1, 3, 0, 0, b"earlier", b"another")
+plain = open(sys.argv[1], "rb").read()
+segment = b"\xff\xe1" + struct.pack(">H", len(data) + 8) + b"Exif\0\0" + data
+open(sys.argv[2], "wb").write(plain[:2] + segment + plain[2:])
+open(sys.argv[3], "wb").write(data)
+TWICE
+for file in work/twice.jpg work/twice.tif; do
+    new=work/new.${file##*.}
+    check "$file: exiftool reads two orientations" test "$(exiftool -a -n -s3 -Orientation "$file" | tr '\n' ' ')" = "6 3 "
+    "$mexaldor" set --force "$file" "$new" Orientation=1 "ImageDescription=$long"
+    check "$file: and the new one twice" test "$(exiftool -a -n -s3 -Orientation "$new" | tr '\n' ' ')" = "1 1 "
+    check "$file: and the new text twice" test "$(exiftool -a -s3 -ImageDescription "$new" | grep -cx "$long")" = 2
+    check "$file: no old text is left" test "$(grep -c -a -e earlier -e another "$new")" = 0
+    if has exiv2; then
+        check "$file: exiv2 reads the new orientation" test "$(exiv2 -PEv -K Exif.Image.Orientation "$new" | sort -u)" = 1
+    fi
+done
+
 # HEIC and AVIF files, whose item is moved behind the file, and once more.
 if has heif-enc heif-convert; then
     heif-enc work/all.jpg -o work/all.heic >/dev/null 2>&1

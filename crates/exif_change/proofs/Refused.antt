@@ -1,6 +1,5 @@
 -- Fields that are not set.
 use Rattle.std.proofs.Common.{◌≡◌, ◌<◌, ◌+◌, ◌-◌, ◌∙◌, ℕ, suc, true, false, Bool, List, [], ◌∷◌, ◌++◌, length, get_or, take, drop, drop-cons, Result, Ok, Err, if◌then◌else◌, sym, ap, subst, arith}
-use Rattle.std.specs.Prelude.{◌&&◌}
 use Rattle.std.proofs.lemmas.List.{length-drop, take_all}
 use Rattle.exif_types.specs.declared.field.Field.{Field}
 use Rattle.exif_edit_base.specs.Causes.{Cause}
@@ -55,10 +54,10 @@ behind all i =
     take_all (length all - (i + 1)) (drop (i + 1) all) (omega (arith, l))
 
 -- a refused assignment ends that of all
-pub assigned_refused : (fields : List Field) (all : List Assignment) (i : ℕ) (d : Assignment) (sets : List Field) (e : Refusal) → i < length all
-    → assigned_behind fields (drop i all) sets ≡ assigned_behind fields all []
+pub assigned_refused : (fields : List Field) (all : List Assignment) (i : ℕ) (d : Assignment) (sets : List Field × List Field) (e : Refusal) → i < length all
+    → assigned_behind fields (drop i all) sets ≡ assigned_behind fields all ([], [])
     → Fails e (with_assigned fields (get_or all i d) (take (length all - (i + 1)) (drop (i + 1) all)) sets)
-    → Fails e (assigned_behind fields all [])
+    → Fails e (assigned_behind fields all ([], []))
 assigned_refused fields all i d sets e h whole refused =
     let next : i + 1 ≡ suc i = omega arith in
     let there : drop i all ≡ get_or all i d ∷ drop (i + 1) all = rw next (drop-cons all i d h) in

@@ -1,8 +1,6 @@
 -- Files that were scrubbed.
-use Rattle.std.proofs.Common.{◌≡◌, ◌<◌, ◌^◌, ◌-◌, ◌∙◌, ℕ, List, [], ◌∷◌, ◌++◌, take, length, Option, Some, None, Result, Ok, Err, refl, sym, ap, subst}
-use Rattle.exif_types.specs.Refusals as types
+use Rattle.std.proofs.Common.{◌≡◌, ◌<◌, ◌^◌, ◌-◌, ◌∙◌, ℕ, List, [], ◌∷◌, take, length, Option, Some, Result, Ok, Err, refl, sym, ap, subst}
 use Rattle.exif_containers.specs.Container.{container_answer, format_in}
-use Rattle.exif_containers.specs.declared.container.Format.{Format}
 use Rattle.exif_containers.specs.declared.container.Format.TheVariants.{Jpeg}
 use Rattle.exif_segments.specs.declared.remove.Remove.{Remove}
 use Rattle.exif_segments.specs.declared.remove.Remove.TheVariants.{Metadata}
@@ -12,7 +10,6 @@ use Rattle.exif_rewrite_jpeg.specs.JpegSteps.{strict_end, strictly}
 use Rattle.exif_rewrite_jpeg.specs.Rewriting.{End, Rewriting, cut_off, finished, refused_by}
 use Rattle.exif_rewrite_jpeg.specs.RewrittenJpeg.{jpeg_rewriting}
 use Rattle.exif_change.specs.Changed.{Change, Undone, whole}
-use Rattle.exif_change.specs.Changed as undone
 use Rattle.exif_change.specs.Refusals.{Why, as_read}
 use Rattle.exif_change.specs.Rewriting.{rewritten_jpeg, stream_ended}
 

@@ -1,5 +1,5 @@
 -- Files with fields set in their Exif data, which become longer, or in new ones.
-use Rattle.std.specs.Prelude.{ℕ, ◌+◌, ◌^◌, nat_le, nat_lt, if◌then◌else◌, Bool, true, false, List, [], ◌∷◌, length, Option, Some, None, Result, Ok, Err}
+use Rattle.std.specs.Prelude.{ℕ, ◌+◌, ◌^◌, nat_le, nat_lt, if◌then◌else◌, false, List, [], ◌∷◌, length, Option, Some, None, Result, Ok, Err}
 use Rattle.exif_base.specs.Orders.{order_named}
 use Rattle.exif_types.specs.Refusals as types
 use Rattle.exif_types.specs.Refusals.{not_found, too_big}

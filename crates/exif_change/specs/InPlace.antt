@@ -1,5 +1,5 @@
 -- Values set in a file in place.
-use Rattle.std.specs.Prelude.{ℕ, ◌&&◌, Bool, true, false, List, [], ◌∷◌, ◌++◌, Option, Some, None, Result, Ok, Err, if◌then◌else◌}
+use Rattle.std.specs.Prelude.{ℕ, Bool, true, false, List, [], ◌∷◌, ◌++◌, Option, Some, None, Result, Ok, Err, if◌then◌else◌}
 use Rattle.exif_types.specs.Refusals.{not_found}
 use Rattle.exif_types.specs.declared.field.Field.{Field}
 use Rattle.exif_edit_base.specs.Causes.{Cause, cause_of, no_data, no_field, shared, too_long, ◌>>=◌}
@@ -9,6 +9,7 @@ use Rattle.exif_edit.specs.declared.edits.Edit.TheVariants.{Set, EraseGps, Erase
 use Rattle.exif_edit_files.specs.InFiles.{edited_file}
 use Rattle.exif_change.specs.Reading.{entry_limit}
 use Rattle.exif_change.specs.declared.in_place.Fitted.{Fitted}
+use Rattle.exif_change.specs.declared.in_place.Sets.{Sets}
 
 -- the edit that sets a field
 abbrev pub setting : Field → Edit
@@ -59,6 +60,10 @@ abbrev pub fitting_set : List Field → List ℕ × List Field
     → Result (List ℕ × List Field) Cause
 fitting_set [] made = Ok made
 fitting_set (field ∷ fields) made = fit_one field made >>= fitting_set fields
+
+-- the fields that are to be set: in place, and in the data
+abbrev pub sets_of : Sets → List Field × List Field
+sets_of sets = (sets.single.items, sets.repeated.items)
 
 -- what the program answers
 abbrev pub fitted_of : Fitted → List ℕ × List Field

@@ -1,12 +1,12 @@
 -- What the program sets: values over the old ones where they fit, and in Exif data that become longer.
-use Rattle.std.specs.Prelude.{ℕ, Bool, List, [], ◌∷◌, ◌++◌, Option, Some, None, Result, Ok, Err, if◌then◌else◌}
+use Rattle.std.specs.Prelude.{ℕ, Bool, true, false, List, [], ◌∷◌, ◌++◌, Option, Some, None, Result, Ok, Err, if◌then◌else◌}
 use Rattle.std.specs.Borrow.{Bor}
 use Rattle.std.specs.List.{list_any}
 use Rattle.std.specs.Option.{option_and_then}
 use Rattle.exif_text.specs.declared.field_type.FieldType.{FieldType}
 use Rattle.exif_text.specs.declared.ifd.In.{In}
 use Rattle.exif_types.specs.Contents.{ExifContents}
-use Rattle.exif_types.specs.Lookup.{last_named, tag_eq}
+use Rattle.exif_types.specs.Lookup.{is_named, last_named, tag_eq}
 use Rattle.exif_types.specs.Refusals as types
 use Rattle.exif_types.specs.Refusals.{not_found}
 use Rattle.exif_types.specs.ValueTypes.{field_type_of}
@@ -65,15 +65,30 @@ field_typed (tag, text) (Some type) = field_or tag (value_in tag type text)
 abbrev pub field_for : List Field → Tag × List ℕ → Result Field Why
 field_for fields (tag, text) = field_typed (tag, text) (type_for fields tag)
 
--- fields, and behind them the one of an assignment, unless a later one has its tag
-abbrev pub with_assigned : List Field → Assignment → List Assignment → List Field
-    → Result (List Field) Why
+-- whether a second field of a name is among fields, or a first one where one was seen before
+abbrev pub occurs_again : Tag → Bool → List Field → Bool
+occurs_again tag seen [] = false
+occurs_again tag seen (f ∷ fs) =
+    if is_named tag primary f then (if seen then true else occurs_again tag true fs)
+    else occurs_again tag seen fs
+
+-- fields that are to be set in a file with these fields, and one more: in place, or in the data where
+-- more than one field of the file has its name
+abbrev pub with_field : List Field → Field → List Field × List Field → List Field × List Field
+with_field fields field (single, repeated) =
+    if occurs_again field.tag false fields then (single, repeated ++ field ∷ [])
+    else (single ++ field ∷ [], repeated)
+
+-- such fields with the one of an assignment, unless a later one has its tag
+abbrev pub with_assigned : List Field → Assignment → List Assignment → List Field × List Field
+    → Result (List Field × List Field) Why
 with_assigned fields assignment later sets =
     if is_assigned later assignment.tag then Ok sets
-    else field_for fields (parts_of assignment) >>= λ field. Ok (sets ++ field ∷ [])
+    else field_for fields (parts_of assignment) >>= λ field. Ok (with_field fields field sets)
 
--- fields, and behind them those of assignments, of those of one tag the last
-abbrev pub assigned_behind : List Field → List Assignment → List Field → Result (List Field) Why
+-- such fields with those of assignments, of those of one tag the last
+abbrev pub assigned_behind : List Field → List Assignment → List Field × List Field
+    → Result (List Field × List Field) Why
 assigned_behind fields [] sets = Ok sets
 assigned_behind fields (assignment ∷ later) sets =
     with_assigned fields assignment later sets >>= assigned_behind fields later
@@ -84,22 +99,23 @@ fields_or_none (Ok contents) = Ok contents.fields
 fields_or_none (Err (not_found what)) = Ok []
 fields_or_none (Err refusal) = Err (reading refusal)
 
--- the fields that assignments set in a file
-abbrev pub assigned_fields : List ℕ → List Assignment → Result (List Field) Why
+-- the fields that assignments set in a file: in place, and in its data
+abbrev pub assigned_fields : List ℕ → List Assignment → Result (List Field × List Field) Why
 assigned_fields file assignments =
     fields_or_none (file_contents file)
-    >>= λ fields. assigned_behind fields assignments []
+    >>= λ fields. assigned_behind fields assignments ([], [])
 
 -- a file in which fields that were left over are set
 abbrev pub set_rest : Format → List ℕ × List Field → Result Change Why
 set_rest format (file, []) = Ok (whole file)
 set_rest format (file, field ∷ fields) = grown_file format (field ∷ fields) file
 
--- a file of a format with values set
+-- a file of a format with values set; of those names that more than one field has, all are left over
+-- at first
 abbrev pub set_as : Format → List Assignment → List ℕ → Result Change Why
 set_as format assignments file =
     assigned_fields file assignments
-    >>= (λ fields. as_edited (fitting_set fields (file, [])) >>= set_rest format)
+    >>= (λ sets. as_edited (fitting_set sets.0 (file, sets.1)) >>= set_rest format)
 
 -- a file with values set: over the old ones where they fit, or else in Exif data that become longer
 abbrev pub set_file : List Assignment → List ℕ → Result Change Why

@@ -47,6 +47,15 @@ fn set_by(edit: Edit) -> Option<Field>
     }
 }
 
+/// Fields that are to be set in a file.
+#[derive(Drop)]
+pub(crate) struct Sets {
+    /// Those that are set in place, if they fit.
+    pub single: Vec<Field>,
+    /// Those whose name more than one field of the file has: they are set in the data.
+    pub repeated: Vec<Field>,
+}
+
 /// A file in which fields were set, and those that were left over.
 #[derive(Drop)]
 pub(crate) struct Fitted {
@@ -56,24 +65,26 @@ pub(crate) struct Fitted {
     pub left: Vec<Field>,
 }
 
-/// Sets those fields that can be set in place, and leaves over those that need space.
-pub(crate) fn set_what_fits(
-    alloc: Global,
-    mut file: Vec<u8>,
-    fields: Vec<Field>,
-) -> Result<Fitted, Refusal>
-    ensures { Answers fitted_of result (as_edited (fitting_set fields.items (file.items, []))) }
+/// Sets those fields that can be set in place, and leaves over those that need space or have a name
+/// that occurs more than once.
+pub(crate) fn set_what_fits(alloc: Global, mut file: Vec<u8>, sets: Sets) -> Result<Fitted, Refusal>
+    ensures { Answers fitted_of result
+        (as_edited (fitting_set sets.single.items (file.items, sets.repeated.items))) }
 {
-    let left = set_or_leave(alloc, file.as_mut_slice(), fields)?;
+    let left = set_or_leave(alloc, file.as_mut_slice(), sets.single, sets.repeated)?;
     Ok(Fitted { file, left })
 }
 
-// Sets the fields that fit, and answers the others.
-fn set_or_leave(alloc: Global, file: &mut [u8], fields: Vec<Field>) -> Result<Vec<Field>, Refusal>
+// Sets the fields that fit, and answers the others behind those that are left over already.
+fn set_or_leave(
+    alloc: Global,
+    file: &mut [u8],
+    fields: Vec<Field>,
+    mut left: Vec<Field>,
+) -> Result<Vec<Field>, Refusal>
     ensures { Answers (λ left. (file.new, left.items)) result
-        (as_edited (fitting_set fields.items (file.old, []))) }
+        (as_edited (fitting_set fields.items (file.old, left.items))) }
 {
-    let mut left = Vec::new(alloc);
     for field in fields {
         fit_one(alloc, file, field, &mut left)?;
     }

@@ -12,6 +12,7 @@ mod reading;
 mod refusal;
 mod rewriting;
 mod scrubbing;
+pub mod set_laws;
 mod setting;
 mod thumbnails;
 

@@ -1,27 +1,32 @@
 //! Values set in a file.
 
-ghost use Rattle.std.specs.Prelude.{◌≡◌, []};
+ghost use Rattle.std.specs.Prelude.{◌≡◌, [], false, OnOk};
 ghost use Rattle.exif_assign.specs.Assigning.{parts_of};
 ghost use Rattle.exif_change.specs.Changed.{change_of};
+ghost use Rattle.exif_change.specs.InPlace.{sets_of};
 ghost use Rattle.exif_change.specs.Refusals.{Answers, Changes};
-ghost use Rattle.exif_change.specs.Setting.{assigned_behind, assigned_fields, field_for, field_here, fields_read, is_assigned, known_type, set_as, set_file, set_here, set_rest, type_for, with_assigned};
+ghost use Rattle.exif_change.specs.Setting.{assigned_behind, assigned_fields, field_for, field_here, fields_read, is_assigned, known_type, occurs_again, set_as, set_file, set_here, set_rest, type_for, with_assigned, with_field};
 
 use crate::changed::Changed;
 use crate::growing::grown_file;
-use crate::in_place::{Fitted, set_field, set_what_fits};
+use crate::in_place::{Fitted, Sets, set_field, set_what_fits};
 use crate::{Refusal, read};
 use exif::{Exif, Field, In, Tag};
 use exif_assign::{Assignment, ValueError, type_of_new, value_of};
 use exif_containers::container::{Format, format_of};
+use exif_edit_base::find::is_named;
 use exif_types::FieldType;
-use std::alloc::Global;
+use std::alloc::{AllocError, Global};
 
 /// The file with values set. A value that fits is written over the old one; another one, or a new
 /// field, is appended to the Exif data, in which no old byte moves: maker notes, previews and
 /// thumbnails keep their offsets. Those of a HEIF file are then put behind the file. JPEG and WebP
-/// files that have no Exif data get new ones; HEIF files without them are refused. Of two values of one tag the last is set, and of two fields of
-/// one name the last. A field that the file has keeps its type; one that it lacks has the type of
-/// the standard.
+/// files that have no Exif data get new ones; HEIF files without them are refused. Of two values of
+/// one tag the last is set. A field that the file has keeps its type; one that it lacks has the type
+/// of the standard.
+///
+/// Where more than one field of the file has a name, each of them is set, so that every program reads
+/// the new value, whichever of the entries it takes. This is done in the data, as for a longer value.
 ///
 /// It takes the memory of the file, of the new one, and of what
 /// [`set_fields`](exif_grow::set_fields) takes.
@@ -43,8 +48,8 @@ fn set_as(
 ) -> Result<Changed, Refusal>
     ensures { Answers change_of result (set_as format assignments.now file.items) }
 {
-    let fields = assigned_fields(alloc, &file, assignments)?;
-    let fitted = set_what_fits(alloc, file, fields)?;
+    let sets = assigned_fields(alloc, &file, assignments)?;
+    let fitted = set_what_fits(alloc, file, sets)?;
     set_rest(alloc, format, fitted)
 }
 
@@ -65,7 +70,8 @@ fn set_rest(alloc: Global, format: Format, fitted: Fitted) -> Result<Changed, Re
 }
 
 /// Sets one field of the primary image of a file in place: the file keeps its length. Of two fields
-/// of its name the last is set. After a refusal the file is as it was.
+/// of its name the last is set, as [`shift`](crate::shift) does; [`set`] sets both. After a refusal
+/// the file is as it was.
 pub fn set_here(alloc: Global, file: &mut [u8], assignment: &Assignment<'_>) -> Result<(), Refusal>
     ensures { Changes result file.old file.new (set_here (parts_of assignment.now) file.old) }
 {
@@ -91,8 +97,8 @@ fn assigned_fields(
     alloc: Global,
     file: &[u8],
     assignments: &[Assignment<'_>],
-) -> Result<Vec<Field>, Refusal>
-    ensures { Answers (λ sets. sets.items) result (assigned_fields file.now assignments.now) }
+) -> Result<Sets, Refusal>
+    ensures { Answers sets_of result (assigned_fields file.now assignments.now) }
 {
     match read(alloc, file) {
         Ok(exif) => assigned(alloc, Some(&exif), assignments),
@@ -106,11 +112,14 @@ fn assigned(
     alloc: Global,
     exif: Option<&Exif>,
     assignments: &[Assignment<'_>],
-) -> Result<Vec<Field>, Refusal>
-    ensures { Answers (λ sets. sets.items) result
-        (assigned_behind (fields_read exif.entry) assignments.now []) }
+) -> Result<Sets, Refusal>
+    ensures { Answers sets_of result
+        (assigned_behind (fields_read exif.entry) assignments.now ([], [])) }
 {
-    let mut sets = Vec::new(alloc);
+    let mut sets = Sets {
+        single: Vec::new(alloc),
+        repeated: Vec::new(alloc),
+    };
     for index in 0..assignments.len() {
         let later = &assignments[index + 1..];
         add_assigned(alloc, exif, &assignments[index], later, &mut sets)?;
@@ -124,17 +133,56 @@ fn add_assigned(
     exif: Option<&Exif>,
     assignment: &Assignment<'_>,
     later: &[Assignment<'_>],
-    sets: &mut Vec<Field>,
+    sets: &mut Sets,
 ) -> Result<(), Refusal>
-    ensures { Answers (λ done. sets.new.items) result
-        (with_assigned (fields_read exif.entry) assignment.now later.now sets.old.items) }
+    ensures { Answers (λ done. sets_of sets.new) result
+        (with_assigned (fields_read exif.entry) assignment.now later.now (sets_of sets.old)) }
 {
     if is_assigned(later, assignment.tag) {
         return Ok(());
     }
     let field = field_for(alloc, exif, assignment)?;
-    sets.push(field)?;
+    add_field(exif, field, sets)?;
     Ok(())
+}
+
+// Adds a field to those that are set in place, or in the data if its name occurs more than once.
+fn add_field(exif: Option<&Exif>, field: Field, sets: &mut Sets) -> Result<(), AllocError>
+    ensures { OnOk result
+        (sets_of sets.new ≡ with_field (fields_read exif.entry) field (sets_of sets.old)) }
+{
+    if is_repeated(exif, field.tag) {
+        sets.repeated.push(field)?;
+    } else {
+        sets.single.push(field)?;
+    }
+    Ok(())
+}
+
+// Whether a file has more than one field of a tag.
+fn is_repeated(exif: Option<&Exif>, tag: Tag) -> bool
+    ensures { result ≡ occurs_again tag false (fields_read exif.entry) }
+{
+    match exif {
+        Some(exif) => occurs_again(exif, tag),
+        None => false,
+    }
+}
+
+// Whether more than one field of a tag was read.
+fn occurs_again(exif: &Exif, tag: Tag) -> bool
+    ensures { result ≡ occurs_again tag false exif.now.fields }
+{
+    let mut seen = false;
+    for field in exif.fields() {
+        if is_named(field, tag, In::PRIMARY) {
+            if seen {
+                return true;
+            }
+            seen = true;
+        }
+    }
+    false
 }
 
 // Whether a value is assigned to a tag.

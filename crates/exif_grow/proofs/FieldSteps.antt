@@ -3,13 +3,14 @@ use Rattle.std.proofs.Common.{◌≡◌, ◌<◌, ◌+◌, ℕ, List, ◌∷◌,
 use Rattle.exif_types.specs.declared.field.Field.{Field}
 use Rattle.exif_edit_base.specs.Causes.{Cause, ◌>>=◌}
 use Rattle.exif_edit_base.proofs.ChangeSteps.{left_step}
+use Rattle.exif_grow.specs.Alike.{made_alike}
 use Rattle.exif_grow.specs.Growing.{Added, grown}
 use Rattle.exif_grow.specs.Setting.{field_grown, fields_grown, grow_answer}
 
--- a field that is set
+-- where a value is set, its fields are made alike
 pub field_set : (field : Field) (bytes : List ℕ) (a : Added)
     → grow_answer bytes field.tag field.ifd_num field.value ≡ Ok a
-    → field_grown field bytes ≡ Ok (grown a bytes)
+    → field_grown field bytes ≡ made_alike (grown a bytes) field.tag field.ifd_num
 unfolding field_grown
 field_set field bytes a h = rw h refl
 

@@ -22,10 +22,10 @@ use Rattle.exif_edit.proofs.SetSound.{set_fits, set_sound, was_set}
 use Rattle.exif_grow.specs.Appending.{append_answer, appended_offset, expected_appended}
 use Rattle.exif_grow.specs.Creating.{child_value_offset, create_answer}
 use Rattle.exif_grow.specs.Directories.{leading_in}
-use Rattle.exif_grow.specs.Growing.{Added, grown}
+use Rattle.exif_grow.specs.Growing.{Added, grown, in_place}
 use Rattle.exif_grow.specs.Inserting.{entry_offset, insert_answer, value_offset}
 use Rattle.exif_grow.specs.Promises.{IsGrown}
-use Rattle.exif_grow.specs.Setting.{else_created, else_grown, grow_answer, in_place}
+use Rattle.exif_grow.specs.Setting.{else_created, else_grown, grow_answer}
 use Rattle.exif_grow.proofs.AppendSound.{append_fits, append_sound, was_appended}
 use Rattle.exif_grow.proofs.CreateSound.{create_fits, create_sound}
 use Rattle.exif_grow.proofs.Found.{appended_found, created_found, inserted_found}

@@ -1,8 +1,11 @@
+pub mod AlikeSound
+pub mod AlikeSteps
 pub mod AppendSound
 pub mod AppendSteps
 pub mod CreateSound
 pub mod CreateSteps
 pub mod DirectorySteps
+pub mod FieldSound
 pub mod FieldSteps
 pub mod Found
 pub mod GrowSteps
@@ -10,3 +13,4 @@ pub mod GrowthSteps
 pub mod InsertSound
 pub mod InsertSteps
 pub mod OldKept
+pub mod SetLists

@@ -1,5 +1,5 @@
 -- Data that grow: patches over their bytes, and new bytes after them.
-use Rattle.std.specs.Prelude.{ℕ, ◌%◌, List, ◌++◌, replicate, Result, Ok, Err, if◌then◌else◌}
+use Rattle.std.specs.Prelude.{ℕ, ◌%◌, List, [], ◌++◌, replicate, Result, Ok, Err, if◌then◌else◌}
 use Rattle.exif_edit_base.specs.Causes.{Cause, shared}
 use Rattle.exif_edit_base.specs.Patches.{patched}
 use Rattle.exif_edit_base.specs.Readings.{Read, reads_as}
@@ -10,6 +10,10 @@ use Rattle.exif_grow.specs.declared.growth.Growth.{Growth}
 pub record Added : Type 0 where
   pub patches : List Patch
   pub tail : List ℕ
+
+-- patches alone: the data do not become longer
+abbrev pub in_place : List Patch → Added
+in_place patches = record { patches = patches; tail = [] }
 
 -- what the program adds
 abbrev pub added_of : Growth → Added

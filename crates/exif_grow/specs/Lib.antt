@@ -1,3 +1,4 @@
+pub mod Alike
 pub mod Appending
 pub mod Creating
 pub mod Directories

@@ -1,4 +1,4 @@
-use Rattle.std.proofs.Common.{◌≡◌, []}
+use Rattle.std.proofs.Common.{◌≡◌}
 use Rattle.std.specs.Vec.Iter.{into_iter_items}
 use Rattle.exif_change.specs.InPlace.{fitting_set}
 use Rattle.exif_change.proofs.in_place.set_or_leave.Given as goal
@@ -7,4 +7,4 @@ use Rattle.exif_change.proofs.in_place.set_or_leave.Given as goal
 abbrev pub invariant-loop-field : goal.invariant-loop-field
 invariant-loop-field l =
     fitting_set (into_iter_items l.field-iterator) (l.file, l.left.items)
-    ≡ fitting_set l.fn.fields.items (l.fn.file, [])
+    ≡ fitting_set l.fn.fields.items (l.fn.file, l.fn.left.items)

@@ -1,4 +1,4 @@
-use Rattle.std.proofs.Common.{◌≡◌, ◌∙◌, None, Some, Ok, Err, sym, ap}
+use Rattle.std.proofs.Common.{◌∙◌, None, Some, Err, sym, ap}
 use Rattle.exif_change.specs.Changes.{scrubbed_as}
 use Rattle.exif_change.specs.Refusals.{unknown_format}
 use Rattle.exif_change.specs.declared.scrubbing.Removed.TheVariants.{Metadata}

@@ -1,4 +1,4 @@
-use Rattle.std.proofs.Common.{◌≡◌, ◌∙◌, None, Some, Ok, Err, sym, ap}
+use Rattle.std.proofs.Common.{◌∙◌, None, Some, Err, sym, ap}
 use Rattle.exif_containers.specs.declared.container.Format.TheVariants.{Jpeg}
 use Rattle.exif_segments.specs.declared.remove.Remove.TheVariants as remove
 use Rattle.exif_change.specs.Changes.{scrubbed_as}

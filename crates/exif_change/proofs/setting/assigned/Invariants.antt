@@ -1,9 +1,10 @@
 use Rattle.std.proofs.Common.{◌≡◌, [], drop}
+use Rattle.exif_change.specs.InPlace.{sets_of}
 use Rattle.exif_change.specs.Setting.{assigned_behind, fields_read}
 use Rattle.exif_change.proofs.setting.assigned.Given as goal
 
 -- the assignments that are left make the same fields
 abbrev pub invariant-loop-index : goal.invariant-loop-index
 invariant-loop-index l =
-    assigned_behind (fields_read l.exif) (drop l.index l.assignments) l.sets.items
-    ≡ assigned_behind (fields_read l.exif) l.assignments []
+    assigned_behind (fields_read l.exif) (drop l.index l.assignments) (sets_of l.sets)
+    ≡ assigned_behind (fields_read l.exif) l.assignments ([], [])

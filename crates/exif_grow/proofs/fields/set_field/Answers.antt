@@ -1,4 +1,3 @@
-use Rattle.std.proofs.Common.{sym, ap, ◌∙◌, Ok}
 use Rattle.std.proofs.lemmas.Result.{err_from_is_err_and}
 use Rattle.exif_edit_base.proofs.CauseSteps.{refused_on}
 use Rattle.exif_grow.specs.Growing.{added_of}
@@ -20,6 +19,7 @@ returns-in_err-growth c =
 
 pub returns : goal.returns
 returns c = record {
-  answer = field_set c.args.field.now c.args.bytes.now (added_of c.in_ok-growth.growth)
-      c.in_ok-growth.ensures.answer ∙ ap (λ xs. Ok xs) (sym c.in_ok-grown.ensures);
+  answer = rw (field_set c.args.field.now c.args.bytes.now (added_of c.in_ok-growth.growth)
+      c.in_ok-growth.ensures.answer)
+      (rw c.in_ok-data.ensures at c.make_alike.ensures.answer);
 }
