@@ -1,0 +1,1 @@
+-- Worked examples of inventories, by bytes written by hand.

@@ -1,0 +1,7 @@
+pub mod JpegKinds
+pub mod JpegPieces
+pub mod WebpPieces
+pub mod Pieces
+pub mod Walks
+pub mod Promises
+pub mod Examples

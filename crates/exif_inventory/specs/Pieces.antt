@@ -1,0 +1,20 @@
+-- The piece of a file that comes next.
+use Rattle.std.specs.Prelude.{ℕ, List, Option, Some, None, if◌then◌else◌}
+use Rattle.exif_inventory.specs.JpegPieces.{between_piece, is_stream, stream_piece}
+use Rattle.exif_inventory.specs.WebpPieces.{chunk_piece, header_piece, is_webp}
+use Rattle.exif_inventory.specs.declared.piece.Piece.{Piece}
+use Rattle.exif_inventory.specs.declared.piece.State.{State}
+use Rattle.exif_inventory.specs.declared.piece.State.TheVariants.{Stream, Between, Header, Chunks}
+
+-- what a file begins with, if its format is known
+abbrev pub start_of : List ℕ → Option State
+start_of file =
+    if is_stream file then Some (Between 0) else
+    if is_webp file then Some Header else None
+
+-- the piece at the front of bytes
+abbrev pub piece_at : State → List ℕ → Piece
+piece_at (Stream picture scanned) bytes = stream_piece picture scanned bytes
+piece_at (Between picture) bytes = between_piece picture bytes
+piece_at Header bytes = header_piece bytes
+piece_at (Chunks space) bytes = chunk_piece space bytes

@@ -1,0 +1,65 @@
+-- The pieces of a WebP file (WebP Container Specification, "RIFF File Format", "Extended File Format").
+use Rattle.std.specs.Prelude.{ℕ, ◌+◌, ◌-◌, ◌%◌, min, List, [], ◌∷◌, length, take, drop, codes, nat_lt, nat_le, Bool, ◌&&◌, ◌||◌, ◌==◌, if◌then◌else◌}
+use Rattle.std.specs.Str.{bytes_eq}
+use Rattle.std.specs.Int.{from_le_bytes, w32}
+use Rattle.exif_inventory.specs.declared.kind.Kind.{Kind}
+use Rattle.exif_inventory.specs.declared.kind.Kind.TheVariants as kind
+use Rattle.exif_inventory.specs.declared.piece.Piece.{Piece}
+use Rattle.exif_inventory.specs.declared.piece.State.{State}
+use Rattle.exif_inventory.specs.declared.piece.State.TheVariants.{Chunks}
+
+-- whether bytes begin as a WebP file does
+abbrev pub is_webp : List ℕ → Bool
+is_webp bytes =
+    nat_le 12 (length bytes) && bytes_eq (take 4 bytes) (codes "RIFF")
+    && bytes_eq (take 4 (drop 8 bytes)) (codes "WEBP")
+
+-- what a chunk is, by its name
+abbrev pub chunk_kind : List ℕ → Kind
+chunk_kind name =
+    if bytes_eq name (codes "VP8 ") || bytes_eq name (codes "VP8L") || bytes_eq name (codes "VP8X")
+    || bytes_eq name (codes "ALPH") || bytes_eq name (codes "ANIM") || bytes_eq name (codes "ANMF")
+    then kind.Picture else
+    if bytes_eq name (codes "ICCP") then kind.IccProfile else
+    if bytes_eq name (codes "EXIF") then kind.Exif else
+    if bytes_eq name (codes "XMP ") then kind.Xmp else kind.Unknown
+
+-- all bytes that are left, as one piece
+abbrev pub rest_of : Kind → List ℕ → Piece
+rest_of k bytes = record { kind = k; picture = 0; len = length bytes; next = Chunks 0 }
+
+-- the number in four bytes at an index, the lowest first
+abbrev pub number_at : ℕ → List ℕ → ℕ
+number_at n bytes = from_le_bytes w32 (take 4 (drop n bytes))
+
+-- the header of a file, or all that there is of it
+abbrev pub header_piece : List ℕ → Piece
+header_piece bytes =
+    if nat_lt (length bytes) 12 then rest_of kind.Broken bytes else record {
+      kind = kind.Picture;
+      picture = 0;
+      len = 12;
+      next = Chunks (number_at 4 bytes - 4);
+    }
+
+-- the length of a payload in a space, with its pad byte if it is odd and has one
+abbrev pub padded : ℕ → ℕ → ℕ
+padded size space = if (size % 2 == 1) && nat_lt size space then size + 1 else size
+
+-- a chunk whose payload is of this size; its pad byte may be missing at the end of the file
+abbrev pub sized_chunk : ℕ → List ℕ → ℕ → Piece
+sized_chunk space bytes size =
+    if nat_lt (space - 8) size || nat_lt (length bytes - 8) size then rest_of kind.Broken bytes
+    else record {
+      kind = chunk_kind (take 4 bytes);
+      picture = 0;
+      len = min (8 + padded size (space - 8)) (length bytes);
+      next = Chunks (space - 8 - padded size (space - 8));
+    }
+
+-- the chunk at the front of so much space, or all bytes that are left
+unfoldable pub chunk_piece : ℕ → List ℕ → Piece
+chunk_piece space bytes =
+    if space == 0 then rest_of kind.Trailer bytes else
+    if nat_lt space 8 || nat_lt (length bytes) 8 then rest_of kind.Broken bytes else
+    sized_chunk space bytes (number_at 4 bytes)

@@ -1,0 +1,15 @@
+//! The parts of a picture's file: which bytes make up the picture, and which hold metadata.
+//!
+//! [`inventory`] lists the parts of a JPEG or WebP file in order, from its first byte to its last.
+#![tactic(auto)]
+
+mod jpeg;
+mod kind;
+mod part;
+mod piece;
+mod walk;
+mod webp;
+
+pub use kind::Kind;
+pub use part::Part;
+pub use walk::inventory;

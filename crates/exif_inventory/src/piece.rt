@@ -1,0 +1,58 @@
+//! The piece of a file that comes next.
+
+ghost use Rattle.std.specs.Prelude.{◌≡◌, ◌<◌, ◌≤◌, length};
+ghost use Rattle.exif_inventory.specs.Pieces.{piece_at, start_of};
+
+use crate::jpeg::{between_piece, is_stream, stream_piece};
+use crate::kind::Kind;
+use crate::webp::{chunk_piece, header_piece, is_webp};
+
+/// What the bytes that come next belong to.
+#[derive(Clone, Copy)]
+pub enum State {
+    /// A JPEG stream behind its first marker: which picture it is, and whether a scan began.
+    Stream(u64, bool),
+    /// What follows a JPEG stream: the number of the next picture.
+    Between(u64),
+    /// The header of a WebP file.
+    Header,
+    /// The chunks of a WebP file: so much space is left for them.
+    Chunks(u64),
+}
+
+/// A piece of a file: its kind, the picture that it belongs to, its length, and what comes next.
+#[derive(Clone, Copy)]
+pub struct Piece {
+    pub kind: Kind,
+    pub picture: u64,
+    pub len: usize,
+    pub next: State,
+}
+
+/// What a file begins with, if its format is known.
+pub fn start_of(file: &[u8]) -> Option<State>
+    ensures { result ≡ start_of file.now }
+{
+    if is_stream(file) {
+        Some(State::Between(0))
+    } else if is_webp(file) {
+        Some(State::Header)
+    } else {
+        None
+    }
+}
+
+/// The piece at the front of bytes.
+pub fn piece_at(state: State, bytes: &[u8]) -> Piece
+    requires { 0 < length bytes.now }
+    ensures value { result ≡ piece_at state bytes.now }
+    ensures some { 0 < result.len }
+    ensures within { result.len ≤ length bytes.now }
+{
+    match state {
+        State::Stream(picture, scanned) => stream_piece(picture, scanned, bytes),
+        State::Between(picture) => between_piece(picture, bytes),
+        State::Header => header_piece(bytes),
+        State::Chunks(space) => chunk_piece(space, bytes),
+    }
+}

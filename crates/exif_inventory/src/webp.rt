@@ -1,0 +1,105 @@
+//! The pieces of a WebP file (WebP Container Specification, "RIFF File Format").
+
+ghost use Rattle.std.specs.Prelude.{◌≡◌, ◌<◌, ◌≤◌, length};
+ghost use Rattle.exif_inventory.specs.WebpPieces.{chunk_kind, chunk_piece, header_piece, is_webp, padded, rest_of};
+
+use crate::kind::Kind;
+use crate::piece::{Piece, State};
+
+// The header: `RIFF`, a size, and `WEBP`.
+const HEADER_LEN: usize = 12;
+// The name and the size of a chunk.
+const NAME_LEN: usize = 8;
+
+/// Whether bytes begin as a WebP file does.
+pub fn is_webp(bytes: &[u8]) -> bool
+    ensures { result ≡ is_webp bytes.now }
+{
+    bytes.len() >= HEADER_LEN && bytes[..4] == b"RIFF"[..] && bytes[8..12] == b"WEBP"[..]
+}
+
+// What a chunk is, by its name.
+fn chunk_kind(name: &[u8]) -> Kind
+    ensures { result ≡ chunk_kind name.now }
+{
+    match name {
+        b"VP8 " | b"VP8L" | b"VP8X" | b"ALPH" | b"ANIM" | b"ANMF" => Kind::Picture,
+        b"ICCP" => Kind::IccProfile,
+        b"EXIF" => Kind::Exif,
+        b"XMP " => Kind::Xmp,
+        _ => Kind::Unknown,
+    }
+}
+
+// All bytes that are left, as one piece.
+fn rest_of(kind: Kind, bytes: &[u8]) -> Piece
+    ensures { result ≡ rest_of kind bytes.now }
+{
+    Piece {
+        kind,
+        picture: 0,
+        len: bytes.len(),
+        next: State::Chunks(0),
+    }
+}
+
+/// The header of a file, or all that there is of it.
+pub fn header_piece(bytes: &[u8]) -> Piece
+    requires { 0 < length bytes.now }
+    ensures value { result ≡ header_piece bytes.now }
+    ensures some { 0 < result.len }
+    ensures within { result.len ≤ length bytes.now }
+{
+    if bytes.len() < HEADER_LEN {
+        return rest_of(Kind::Broken, bytes);
+    }
+    let size = u32::from_le_bytes([bytes[4], bytes[5], bytes[6], bytes[7]]);
+    Piece {
+        kind: Kind::Picture,
+        picture: 0,
+        len: HEADER_LEN,
+        next: State::Chunks(u64::from(size.saturating_sub(4))),
+    }
+}
+
+// The length of a payload in a space, with its pad byte if it is odd and has one.
+fn padded(size: u64, space: u64) -> u64
+    requires { size ≤ space }
+    ensures value { result ≡ padded size space }
+    ensures within { result ≤ space }
+    ensures least { size ≤ result }
+{
+    if size % 2 == 1 && size < space {
+        size + 1
+    } else {
+        size
+    }
+}
+
+/// The chunk at the front of so much space, its pad byte included; or all bytes that are left, where
+/// they hold no whole chunk, or follow the last one.
+#[tactic(auto, unfolding(crate::specs::WebpPieces::chunk_piece))]
+pub fn chunk_piece(space: u64, bytes: &[u8]) -> Piece
+    requires { 0 < length bytes.now }
+    ensures value { result ≡ chunk_piece space bytes.now }
+    ensures some { 0 < result.len }
+    ensures within { result.len ≤ length bytes.now }
+{
+    if space == 0 {
+        return rest_of(Kind::Trailer, bytes);
+    }
+    if space < 8 || bytes.len() < NAME_LEN {
+        return rest_of(Kind::Broken, bytes);
+    }
+    let size = u64::from(u32::from_le_bytes([bytes[4], bytes[5], bytes[6], bytes[7]]));
+    if space - 8 < size || ((bytes.len() - NAME_LEN) as u64) < size {
+        return rest_of(Kind::Broken, bytes);
+    }
+    let taken = padded(size, space - 8);
+    Piece {
+        kind: chunk_kind(&bytes[..4]),
+        picture: 0,
+        len: (NAME_LEN as u64 + taken).min(bytes.len() as u64) as usize,
+        next: State::Chunks(space - 8 - taken),
+    }
+}
