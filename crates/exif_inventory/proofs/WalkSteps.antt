@@ -1,7 +1,8 @@
 -- A walk over a file, piece after piece.
-use Rattle.std.proofs.Common.{◌≡◌, ◌<◌, ◌≤◌, ◌+◌, ◌-◌, ℕ, zero, suc, Bool, true, false, cond, List, [], ◌∷◌, ◌++◌, length, drop, refl, ap, sym, ◌∙◌, subst, arith, length-drop}
+use Rattle.std.proofs.Common.{◌≡◌, ◌<◌, ◌≤◌, ◌+◌, ◌-◌, ℕ, zero, suc, Bool, true, false, cond, List, [], ◌∷◌, ◌++◌, length, drop, All, refl, ap, sym, ◌∙◌, subst, arith, length-drop}
+use Rattle.std.proofs.lemmas.List.Elements.{All-append, All-cons, All-nil}
 use Rattle.exif_inventory.specs.Pieces.{piece_at}
-use Rattle.exif_inventory.specs.Promises.{AreInOrder}
+use Rattle.exif_inventory.specs.Promises.{AreInOrder, IsWithin}
 use Rattle.exif_inventory.specs.Walks.{Parts, added, all_parts, joins, longer, part_behind, walked}
 use Rattle.exif_inventory.specs.declared.part.Part.{Part}
 use Rattle.exif_inventory.specs.declared.piece.Piece.{Piece}
@@ -94,16 +95,48 @@ pub added_ends : (parts : Parts) (piece : Piece)
     → (added parts piece).last.offset + (added parts piece).last.len ≡ parts.last.offset + parts.last.len + piece.len
 added_ends parts piece = ends_by (joins parts.last piece) parts piece
 
+-- ---- the data of the parts
+
+longer_within : (p : Part) (n : ℕ) → IsWithin p → IsWithin (longer p n)
+longer_within p n w = let a = w.0 in let b = w.1 in (a, omega arith)
+
+behind_within : (p : Part) (piece : Piece) → piece.front + piece.pad ≤ piece.len → IsWithin (part_behind p piece)
+behind_within p piece h = (omega arith, omega arith)
+
+all_behind : (ps : List Part) (p : Part) → All IsWithin ps → IsWithin p → All IsWithin (ps ++ p ∷ [])
+all_behind ps p a w = All-append IsWithin ps (p ∷ []) a (All-cons IsWithin p [] w (All-nil IsWithin))
+
+-- the data of all parts are bytes of them
+pub record AreWithin (parts : Parts) : Type 0 where
+  pub done : All IsWithin parts.done
+  pub last : IsWithin parts.last
+
+chosen_within : (b : Bool) (parts : Parts) (piece : Piece) → piece.front + piece.pad ≤ piece.len → AreWithin parts
+    → AreWithin (cond b
+      (record { done = parts.done; last = longer parts.last piece.len })
+      (record { done = parts.done ++ parts.last ∷ []; last = part_behind parts.last piece }))
+chosen_within true parts piece h w = record { done = w.done; last = longer_within parts.last piece.len w.last }
+chosen_within false parts piece h w =
+    record { done = all_behind parts.done parts.last w.done w.last; last = behind_within parts.last piece h }
+
+pub added_within : (parts : Parts) (piece : Piece) → piece.front + piece.pad ≤ piece.len → AreWithin parts → AreWithin (added parts piece)
+added_within parts piece h w = chosen_within (joins parts.last piece) parts piece h w
+
+pub all_within : (parts : Parts) → AreWithin parts → All IsWithin (all_parts parts)
+all_within parts w = all_behind parts.done parts.last w.done w.last
+
 -- one piece more of a walk
 pub record Walks (start : State) (file : List ℕ) (none : Parts) (state : State) (bytes : List ℕ) (parts : Parts) : Type 0 where
   pub parts_are : walked (length file) start file none ≡ walked (length bytes) state bytes parts
   pub ends : parts.last.offset + parts.last.len + length bytes ≡ length file
   pub ordered : AreInOrder 0 (all_parts parts) (parts.last.offset + parts.last.len)
+  pub within : AreWithin parts
 
 one_on : (start : State) (file : List ℕ) (none : Parts) (state : State) (bytes : List ℕ) (parts : Parts)
     → Walks start file none state bytes parts → 0 < length bytes → 0 < (piece_at state bytes).len → (piece_at state bytes).len ≤ length bytes
+    → (piece_at state bytes).front + (piece_at state bytes).pad ≤ (piece_at state bytes).len
     → let piece = piece_at state bytes in Walks start file none piece.next (drop piece.len bytes) (added parts piece)
-one_on start file none state bytes parts w some positive within =
+one_on start file none state bytes parts w some positive within framed =
     let piece = piece_at state bytes in
     let short : length (drop piece.len bytes) ≡ length bytes - piece.len = length-drop piece.len bytes in
     let far : (added parts piece).last.offset + (added parts piece).last.len ≡ parts.last.offset + parts.last.len + piece.len = added_ends parts piece in
@@ -112,13 +145,14 @@ one_on start file none state bytes parts w some positive within =
       parts_are = w.parts_are ∙ walked_on state bytes parts some positive;
       ends = omega arith;
       ordered = added_ordered parts piece w.ordered;
+      within = added_within parts piece framed w.within;
     }
 
 pub walks_on : (start : State) (file : List ℕ) (none : Parts) (state : State) (bytes : List ℕ) (parts : Parts) (piece : Piece) (rest : List ℕ) (next : Parts)
-    → Walks start file none state bytes parts → 0 < length bytes → piece ≡ piece_at state bytes → 0 < piece.len → piece.len ≤ length bytes
+    → Walks start file none state bytes parts → 0 < length bytes → piece ≡ piece_at state bytes → 0 < piece.len → piece.len ≤ length bytes → piece.front + piece.pad ≤ piece.len
     → rest ≡ drop piece.len bytes → next ≡ added parts piece → Walks start file none piece.next rest next
-walks_on start file none state bytes parts piece rest next w some p positive within r e =
-    let one = one_on start file none state bytes parts w some (subst (λ (q : Piece). 0 < q.len) p positive) (subst (λ (q : Piece). q.len ≤ length bytes) p within) in
+walks_on start file none state bytes parts piece rest next w some p positive within framed r e =
+    let one = one_on start file none state bytes parts w some (subst (λ (q : Piece). 0 < q.len) p positive) (subst (λ (q : Piece). q.len ≤ length bytes) p within) (subst (λ (q : Piece). q.front + q.pad ≤ q.len) p framed) in
     let by_piece = subst (λ (q : Piece). Walks start file none q.next (drop q.len bytes) (added parts q)) (sym p) one in
     let by_rest = subst (λ (bs : List ℕ). Walks start file none piece.next bs (added parts piece)) (sym r) by_piece in
     subst (λ (ps : Parts). Walks start file none piece.next rest ps) (sym e) by_rest
@@ -126,9 +160,10 @@ walks_on start file none state bytes parts piece rest next w some p positive wit
 -- the end of a walk
 pub walks_over : (start : State) (file : List ℕ) (none : Parts) (state : State) (bytes : List ℕ) (parts : Parts) (out : List Part)
     → Walks start file none state bytes parts → length bytes ≡ 0 → out ≡ all_parts parts
-    → (out ≡ all_parts (walked (length file) start file none)) × AreInOrder 0 out (length file)
+    → (out ≡ all_parts (walked (length file) start file none)) × AreInOrder 0 out (length file) × All IsWithin out
 walks_over start file none state bytes parts out w none_left o =
     let before : parts.last.offset + parts.last.len + length bytes ≡ length file = w.ends in
     let end : parts.last.offset + parts.last.len ≡ length file = omega arith in
     (o ∙ sym (ap all_parts (w.parts_are ∙ walked_over (length bytes) state bytes parts none_left)),
-    subst (λ (ps : List Part). AreInOrder 0 ps (length file)) (sym o) (subst (λ n. AreInOrder 0 (all_parts parts) n) end w.ordered))
+    subst (λ (ps : List Part). AreInOrder 0 ps (length file)) (sym o) (subst (λ n. AreInOrder 0 (all_parts parts) n) end w.ordered),
+    subst (λ (ps : List Part). All IsWithin ps) (sym o) (all_within parts w.within))

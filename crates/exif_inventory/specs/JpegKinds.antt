@@ -1,6 +1,6 @@
 -- What the markers and segments of a JPEG stream are (ITU-T T.81, table B.1; JFIF 1.02; Exif 2.32, 4.7.2;
 -- ICC.1:2022, B.4; XMP part 3, 1.1.3; CIPA DC-007, 5; ISO/IEC 19566-5, annex D; C2PA 2.1, A.3.1).
-use Rattle.std.specs.Prelude.{ℕ, List, [], ◌∷◌, length, take, codes, nat_le, Bool, ◌&&◌, ◌||◌, ◌==◌, if◌then◌else◌}
+use Rattle.std.specs.Prelude.{ℕ, ◌+◌, List, [], ◌∷◌, length, take, codes, nat_le, Bool, ◌&&◌, ◌||◌, ◌==◌, if◌then◌else◌}
 use Rattle.std.specs.Str.{bytes_eq}
 use Rattle.exif_inventory.specs.declared.kind.Kind.{Kind}
 use Rattle.exif_inventory.specs.declared.kind.Kind.TheVariants as kind
@@ -56,3 +56,22 @@ segment_kind code content =
     if nat_le 192 code && nat_le code 223 then kind.Picture else
     if nat_le 224 code && nat_le code 239 then app_kind code content else
     if code == 254 then kind.Comment else kind.Unknown
+
+-- how long the identifier of a kind is
+abbrev pub id_len : Kind → ℕ
+id_len kind.Exif = 6
+id_len kind.Xmp = 29
+id_len kind.ExtendedXmp = 35
+id_len kind.Photoshop = 14
+id_len kind.IccProfile = 12
+id_len kind.MultiPicture = 4
+id_len _ = 0
+
+-- how many bytes of a segment come before its data, where its marker is at n: none, where it is not
+-- known or the picture's own
+abbrev pub front_len : Kind → ℕ → ℕ
+front_len kind.Picture n = 0
+front_len kind.Unknown n = 0
+front_len kind.Trailer n = 0
+front_len kind.Broken n = 0
+front_len k n = n + 3 + id_len k

@@ -1,7 +1,7 @@
 -- The pieces of a JPEG stream, and of what follows it (ITU-T T.81, B.1.1).
 use Rattle.std.specs.Prelude.{ℕ, suc, ◌+◌, ◌-◌, ◌*◌, max, List, [], ◌∷◌, length, take, drop, slice_index, nat_lt, Bool, false, ◌&&◌, ◌||◌, ◌==◌, if◌then◌else◌}
 use Rattle.std.specs.Io.Iter.{u64_saturate}
-use Rattle.exif_inventory.specs.JpegKinds.{has_no_length, segment_kind, unsegmented}
+use Rattle.exif_inventory.specs.JpegKinds.{front_len, has_no_length, segment_kind, unsegmented}
 use Rattle.exif_inventory.specs.declared.kind.Kind.{Kind}
 use Rattle.exif_inventory.specs.declared.kind.Kind.TheVariants as kind
 use Rattle.exif_inventory.specs.declared.piece.Piece.{Piece}
@@ -30,8 +30,14 @@ gap_len (b ∷ bytes) = if is_stream (b ∷ bytes) then 0 else suc (gap_len byte
 
 -- all bytes that are left, as one piece
 abbrev pub rest_piece : ℕ → List ℕ → Piece
-rest_piece picture bytes =
-    record { kind = kind.Broken; picture = picture; len = length bytes; next = Between picture }
+rest_piece picture bytes = record {
+  kind = kind.Broken;
+  picture = picture;
+  len = length bytes;
+  front = 0;
+  pad = 0;
+  next = Between picture;
+}
 
 -- what a marker without a length is: the end of an image is its own, and another image does not
 -- begin inside of it
@@ -51,6 +57,8 @@ marker_piece picture scanned n code = record {
   kind = marker_kind scanned code;
   picture = picture;
   len = n + 1;
+  front = 0;
+  pad = 0;
   next = after_marker picture scanned code;
 }
 
@@ -58,15 +66,23 @@ marker_piece picture scanned n code = record {
 abbrev pub given_len : ℕ → List ℕ → ℕ
 given_len at bytes = max 2 (256 * slice_index bytes (at + 1) + slice_index bytes (at + 2))
 
+-- a segment of this kind, whose length is this
+abbrev pub kind_segment : ℕ → Bool → ℕ → ℕ → ℕ → Kind → Piece
+kind_segment picture scanned at code len k = record {
+  kind = k;
+  picture = picture;
+  len = at + 1 + len;
+  front = front_len k at;
+  pad = 0;
+  next = Stream picture (scanned || (code == 218));
+}
+
 -- a segment whose length is this
 abbrev pub sized_segment : ℕ → Bool → ℕ → ℕ → List ℕ → ℕ → Piece
 sized_segment picture scanned at code bytes len =
-    if nat_lt (length bytes - at - 1) len then rest_piece picture bytes else record {
-      kind = segment_kind code (take (len - 2) (drop (at + 3) bytes));
-      picture = picture;
-      len = at + 1 + len;
-      next = Stream picture (scanned || (code == 218));
-    }
+    if nat_lt (length bytes - at - 1) len then rest_piece picture bytes else
+    kind_segment picture scanned at code len
+    (segment_kind code (take (len - 2) (drop (at + 3) bytes)))
 
 -- a segment, whose marker has this code and is at this index
 abbrev pub segment_piece : ℕ → Bool → ℕ → ℕ → List ℕ → Piece
@@ -88,6 +104,8 @@ free_piece picture scanned n = record {
   kind = unsegmented scanned;
   picture = picture;
   len = n;
+  front = 0;
+  pad = 0;
   next = Stream picture scanned;
 }
 
@@ -99,13 +117,25 @@ stream_piece picture scanned bytes =
 
 -- what comes before the next stream
 abbrev pub gap_piece : ℕ → ℕ → Piece
-gap_piece picture n =
-    record { kind = kind.Trailer; picture = picture; len = n; next = Between picture }
+gap_piece picture n = record {
+  kind = kind.Trailer;
+  picture = picture;
+  len = n;
+  front = 0;
+  pad = 0;
+  next = Between picture;
+}
 
 -- the first marker of a stream
 abbrev pub first_piece : ℕ → Piece
-first_piece picture =
-    record { kind = kind.Picture; picture = picture; len = 2; next = Stream picture false }
+first_piece picture = record {
+  kind = kind.Picture;
+  picture = picture;
+  len = 2;
+  front = 0;
+  pad = 0;
+  next = Stream picture false;
+}
 
 -- the piece at the front of what follows a stream, or begins a file
 unfoldable pub between_piece : ℕ → List ℕ → Piece

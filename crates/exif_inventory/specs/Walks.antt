@@ -35,6 +35,8 @@ longer part n = record {
   picture = part.picture;
   offset = part.offset;
   len = part.len + n;
+  data_offset = part.data_offset;
+  data_len = part.data_len + n;
 }
 
 -- the part that a piece begins, behind another one
@@ -44,6 +46,8 @@ part_behind part piece = record {
   picture = piece.picture;
   offset = part.offset + part.len;
   len = piece.len;
+  data_offset = part.offset + part.len + piece.front;
+  data_len = piece.len - piece.front - piece.pad;
 }
 
 -- the parts with one piece more
@@ -65,7 +69,14 @@ walked (suc n) state (b ∷ bytes) parts =
 abbrev pub none : Parts
 none = record {
   done = [];
-  last = record { kind = kind.Picture; picture = 0; offset = 0; len = 0 };
+  last = record {
+    kind = kind.Picture;
+    picture = 0;
+    offset = 0;
+    len = 0;
+    data_offset = 0;
+    data_len = 0;
+  };
 }
 
 -- all parts

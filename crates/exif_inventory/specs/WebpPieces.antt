@@ -26,7 +26,14 @@ chunk_kind name =
 
 -- all bytes that are left, as one piece
 abbrev pub rest_of : Kind → List ℕ → Piece
-rest_of k bytes = record { kind = k; picture = 0; len = length bytes; next = Chunks 0 }
+rest_of k bytes = record {
+  kind = k;
+  picture = 0;
+  len = length bytes;
+  front = 0;
+  pad = 0;
+  next = Chunks 0;
+}
 
 -- the number in four bytes at an index, the lowest first
 abbrev pub number_at : ℕ → List ℕ → ℕ
@@ -39,6 +46,8 @@ header_piece bytes =
       kind = kind.Picture;
       picture = 0;
       len = 12;
+      front = 0;
+      pad = 0;
       next = Chunks (number_at 4 bytes - 4);
     }
 
@@ -46,20 +55,42 @@ header_piece bytes =
 abbrev pub padded : ℕ → ℕ → ℕ
 padded size space = if (size % 2 == 1) && nat_lt size space then size + 1 else size
 
--- a chunk whose payload is of this size; its pad byte may be missing at the end of the file
+-- how many bytes of a chunk come before its data
+abbrev pub front_of : Kind → ℕ
+front_of kind.Picture = 0
+front_of k = 8
+
+-- how many follow them, where so many are behind its name and its size
+abbrev pub pad_of : Kind → ℕ → ℕ → ℕ
+pad_of kind.Picture size len = 0
+pad_of k size len = len - size
+
+-- a chunk of this kind and length, whose payload is of this size
+abbrev pub kind_chunk : ℕ → ℕ → ℕ → Kind → Piece
+kind_chunk space size len k = record {
+  kind = k;
+  picture = 0;
+  len = len;
+  front = front_of k;
+  pad = pad_of k size (len - 8);
+  next = Chunks (space - 8 - padded size (space - 8));
+}
+
+-- a whole chunk whose payload is of this size; its pad byte may be missing at the end of the file
 abbrev pub sized_chunk : ℕ → List ℕ → ℕ → Piece
 sized_chunk space bytes size =
+    kind_chunk space size (min (8 + padded size (space - 8)) (length bytes))
+    (chunk_kind (take 4 bytes))
+
+-- a chunk whose payload is of this size, if it is whole
+abbrev pub given_chunk : ℕ → List ℕ → ℕ → Piece
+given_chunk space bytes size =
     if nat_lt (space - 8) size || nat_lt (length bytes - 8) size then rest_of kind.Broken bytes
-    else record {
-      kind = chunk_kind (take 4 bytes);
-      picture = 0;
-      len = min (8 + padded size (space - 8)) (length bytes);
-      next = Chunks (space - 8 - padded size (space - 8));
-    }
+    else sized_chunk space bytes size
 
 -- the chunk at the front of so much space, or all bytes that are left
 unfoldable pub chunk_piece : ℕ → List ℕ → Piece
 chunk_piece space bytes =
     if space == 0 then rest_of kind.Trailer bytes else
     if nat_lt space 8 || nat_lt (length bytes) 8 then rest_of kind.Broken bytes else
-    sized_chunk space bytes (number_at 4 bytes)
+    given_chunk space bytes (number_at 4 bytes)

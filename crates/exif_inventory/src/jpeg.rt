@@ -1,7 +1,7 @@
 //! The pieces of a JPEG stream, and of what follows it (ITU-T T.81, B.1.1).
 
-ghost use Rattle.std.specs.Prelude.{◌≡◌, ◌<◌, ◌≤◌, ◌+◌, ◌-◌, ◌^◌, length, take, drop};
-ghost use Rattle.exif_inventory.specs.JpegKinds.{app0_kind, app1_kind, app2_kind, app_kind, begins, has_no_length, named, segment_kind, unsegmented};
+ghost use Rattle.std.specs.Prelude.{◌≡◌, true, ◌<◌, ◌≤◌, ◌+◌, ◌-◌, ◌^◌, length, take, drop};
+ghost use Rattle.exif_inventory.specs.JpegKinds.{app0_kind, app1_kind, app2_kind, app_kind, begins, front_len, has_no_length, id_len, named, segment_kind, unsegmented};
 ghost use Rattle.exif_inventory.specs.JpegPieces.{between_piece, fill_len, free_len, gap_len, given_len, is_stream, marker_piece, rest_piece, segment_piece, sized_segment, stream_piece};
 
 use crate::kind::Kind;
@@ -66,7 +66,8 @@ fn has_no_length(code: u8) -> bool
 
 // Whether a content begins with an identifier.
 fn begins(content: &[u8], id: &[u8]) -> bool
-    ensures { result ≡ begins id.now content.now }
+    ensures value { result ≡ begins id.now content.now }
+    ensures long { result ≡ true → length id.now ≤ length content.now }
 {
     content.len() >= id.len() && content[..id.len()] == id[..]
 }
@@ -80,14 +81,17 @@ fn unsegmented(scanned: bool) -> Kind
 
 // The kind that an identifier names, if a content begins with it.
 fn named(content: &[u8], id: &[u8], kind: Kind) -> Kind
-    ensures { result ≡ named id.now kind content.now }
+    requires { id_len kind ≤ length id.now }
+    ensures value { result ≡ named id.now kind content.now }
+    ensures long { id_len result ≤ length content.now }
 {
     if begins(content, id) { kind } else { Kind::Unknown }
 }
 
 // What an APP0 segment is.
 fn app0_kind(content: &[u8]) -> Kind
-    ensures { result ≡ app0_kind content.now }
+    ensures value { result ≡ app0_kind content.now }
+    ensures long { id_len result ≤ length content.now }
 {
     if begins(content, b"JFIF\0") {
         Kind::Jfif
@@ -98,7 +102,8 @@ fn app0_kind(content: &[u8]) -> Kind
 
 // What an APP1 segment is.
 fn app1_kind(content: &[u8]) -> Kind
-    ensures { result ≡ app1_kind content.now }
+    ensures value { result ≡ app1_kind content.now }
+    ensures long { id_len result ≤ length content.now }
 {
     if begins(content, b"Exif\0\0") {
         Kind::Exif
@@ -111,7 +116,8 @@ fn app1_kind(content: &[u8]) -> Kind
 
 // What an APP2 segment is.
 fn app2_kind(content: &[u8]) -> Kind
-    ensures { result ≡ app2_kind content.now }
+    ensures value { result ≡ app2_kind content.now }
+    ensures long { id_len result ≤ length content.now }
 {
     if begins(content, b"ICC_PROFILE\0") {
         Kind::IccProfile
@@ -122,7 +128,8 @@ fn app2_kind(content: &[u8]) -> Kind
 
 // What the segment of an application is, by its marker and its identifier.
 fn app_kind(code: u8, content: &[u8]) -> Kind
-    ensures { result ≡ app_kind code content.now }
+    ensures value { result ≡ app_kind code content.now }
+    ensures long { id_len result ≤ length content.now }
 {
     match code {
         0xe0 => app0_kind(content),
@@ -137,13 +144,42 @@ fn app_kind(code: u8, content: &[u8]) -> Kind
 
 // What a segment is.
 fn segment_kind(code: u8, content: &[u8]) -> Kind
-    ensures { result ≡ segment_kind code content.now }
+    ensures value { result ≡ segment_kind code content.now }
+    ensures long { id_len result ≤ length content.now }
 {
     match code {
         0xc0..=0xdf => Kind::Picture,
         0xe0..=0xef => app_kind(code, content),
         0xfe => Kind::Comment,
         _ => Kind::Unknown,
+    }
+}
+
+// How long the identifier of a kind is.
+fn id_len(kind: Kind) -> usize
+    ensures value { result ≡ id_len kind }
+    ensures most { result ≤ 35 }
+{
+    match kind {
+        Kind::Exif => 6,
+        Kind::Xmp => 29,
+        Kind::ExtendedXmp => 35,
+        Kind::Photoshop => 14,
+        Kind::IccProfile => 12,
+        Kind::MultiPicture => 4,
+        _ => 0,
+    }
+}
+
+// How many bytes of a segment come before its data, where its marker is at this index: none, where it
+// is not known or the picture's own.
+fn front_len(kind: Kind, at: usize) -> usize
+    requires { at < 2 ^ 63 }
+    ensures { result ≡ front_len kind at }
+{
+    match kind {
+        Kind::Picture | Kind::Unknown | Kind::Trailer | Kind::Broken => 0,
+        _ => at + 3 + id_len(kind),
     }
 }
 
@@ -155,6 +191,8 @@ fn rest_piece(picture: u64, bytes: &[u8]) -> Piece
         kind: Kind::Broken,
         picture,
         len: bytes.len(),
+        front: 0,
+        pad: 0,
         next: State::Between(picture),
     }
 }
@@ -177,6 +215,8 @@ fn marker_piece(picture: u64, scanned: bool, fill: usize, code: u8) -> Piece
         kind,
         picture,
         len: fill + 1,
+        front: 0,
+        pad: 0,
         next,
     }
 }
@@ -212,15 +252,19 @@ fn sized_segment(
 ) -> Piece
     requires at { at < length bytes.now }
     requires least { 2 ≤ len }
-    ensures { result ≡ sized_segment picture scanned at code bytes.now len }
+    ensures value { result ≡ sized_segment picture scanned at code bytes.now len }
+    ensures framed { result.front + result.pad ≤ result.len }
 {
     if bytes.len() - at - 1 < len {
         return rest_piece(picture, bytes);
     }
+    let kind = segment_kind(code, content(at, len, bytes));
     Piece {
-        kind: segment_kind(code, content(at, len, bytes)),
+        kind,
         picture,
         len: at + 1 + len,
+        front: front_len(kind, at),
+        pad: 0,
         next: State::Stream(picture, scanned | (code == SOS)),
     }
 }
@@ -228,7 +272,8 @@ fn sized_segment(
 // A segment, whose marker has this code and is at this index.
 fn segment_piece(picture: u64, scanned: bool, at: usize, code: u8, bytes: &[u8]) -> Piece
     requires { at < length bytes.now }
-    ensures { result ≡ segment_piece picture scanned at code bytes.now }
+    ensures value { result ≡ segment_piece picture scanned at code bytes.now }
+    ensures framed { result.front + result.pad ≤ result.len }
 {
     if bytes.len() - at < 3 {
         return rest_piece(picture, bytes);
@@ -245,6 +290,7 @@ pub fn stream_piece(picture: u64, scanned: bool, bytes: &[u8]) -> Piece
     ensures value { result ≡ stream_piece picture scanned bytes.now }
     ensures some { 0 < result.len }
     ensures within { result.len ≤ length bytes.now }
+    ensures framed { result.front + result.pad ≤ result.len }
 {
     let free = free_len(bytes);
     if 0 < free {
@@ -252,6 +298,8 @@ pub fn stream_piece(picture: u64, scanned: bool, bytes: &[u8]) -> Piece
             kind: unsegmented(scanned),
             picture,
             len: free,
+            front: 0,
+            pad: 0,
             next: State::Stream(picture, scanned),
         };
     }
@@ -275,6 +323,7 @@ pub fn between_piece(picture: u64, bytes: &[u8]) -> Piece
     ensures value { result ≡ between_piece picture bytes.now }
     ensures some { 0 < result.len }
     ensures within { result.len ≤ length bytes.now }
+    ensures framed { result.front + result.pad ≤ result.len }
 {
     let gap = gap_len(bytes);
     if 0 < gap {
@@ -282,6 +331,8 @@ pub fn between_piece(picture: u64, bytes: &[u8]) -> Piece
             kind: Kind::Trailer,
             picture,
             len: gap,
+            front: 0,
+            pad: 0,
             next: State::Between(picture),
         };
     }
@@ -289,6 +340,8 @@ pub fn between_piece(picture: u64, bytes: &[u8]) -> Piece
         kind: Kind::Picture,
         picture,
         len: 2,
+        front: 0,
+        pad: 0,
         next: State::Stream(picture, false),
     }
 }

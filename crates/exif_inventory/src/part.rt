@@ -13,4 +13,8 @@ pub struct Part {
     pub offset: usize,
     /// How many bytes it has.
     pub len: usize,
+    /// The offset of what it holds, behind its header and its identifier.
+    pub data_offset: usize,
+    /// How many bytes that has, without padding.
+    pub data_len: usize,
 }

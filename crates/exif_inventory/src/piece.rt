@@ -1,6 +1,6 @@
 //! The piece of a file that comes next.
 
-ghost use Rattle.std.specs.Prelude.{◌≡◌, ◌<◌, ◌≤◌, length};
+ghost use Rattle.std.specs.Prelude.{◌≡◌, ◌<◌, ◌≤◌, ◌+◌, length};
 ghost use Rattle.exif_inventory.specs.Pieces.{piece_at, start_of};
 
 use crate::jpeg::{between_piece, is_stream, stream_piece};
@@ -20,12 +20,18 @@ pub enum State {
     Chunks(u64),
 }
 
-/// A piece of a file: its kind, the picture that it belongs to, its length, and what comes next.
+/// A piece of a file.
 #[derive(Clone, Copy)]
 pub struct Piece {
     pub kind: Kind,
+    /// The picture that it belongs to.
     pub picture: u64,
     pub len: usize,
+    /// How many of its bytes come before its data.
+    pub front: usize,
+    /// How many follow them.
+    pub pad: usize,
+    /// What comes next.
     pub next: State,
 }
 
@@ -48,6 +54,7 @@ pub fn piece_at(state: State, bytes: &[u8]) -> Piece
     ensures value { result ≡ piece_at state bytes.now }
     ensures some { 0 < result.len }
     ensures within { result.len ≤ length bytes.now }
+    ensures framed { result.front + result.pad ≤ result.len }
 {
     match state {
         State::Stream(picture, scanned) => stream_piece(picture, scanned, bytes),

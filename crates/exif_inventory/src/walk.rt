@@ -1,8 +1,8 @@
 //! A walk over a file, piece after piece.
 
-ghost use Rattle.std.specs.Prelude.{◌≡◌, ◌+◌, ◌<◌, ◌^◌, length, IfOk, IfSome, OnOk};
+ghost use Rattle.std.specs.Prelude.{◌≡◌, ◌+◌, ◌<◌, ◌≤◌, ◌^◌, length, All, IfOk, IfSome, OnOk};
 ghost use Rattle.std.specs.Option.{option_map};
-ghost use Rattle.exif_inventory.specs.Promises.{AreInOrder};
+ghost use Rattle.exif_inventory.specs.Promises.{AreInOrder, IsWithin};
 ghost use Rattle.exif_inventory.specs.Walks.{added, inventory, joins, parts_of, walk_view, walked};
 
 use crate::kind::Kind;
@@ -32,11 +32,14 @@ fn joins(part: Part, piece: Piece) -> bool
 
 // Adds a piece to the parts.
 fn add(walk: &mut Walk, piece: Piece) -> Result<(), AllocError>
-    requires { walk.old.last.offset + walk.old.last.len + piece.len < 2 ^ 64 }
+    requires fits { walk.old.last.offset + walk.old.last.len + piece.len < 2 ^ 64 }
+    requires framed { piece.front + piece.pad ≤ piece.len }
+    requires within { IsWithin walk.old.last }
     ensures { OnOk result (walk_view walk.new ≡ added (walk_view walk.old) piece) }
 {
     if joins(walk.last, piece) {
         walk.last.len += piece.len;
+        walk.last.data_len += piece.len;
         return Ok(());
     }
     walk.done.push(walk.last)?;
@@ -45,6 +48,8 @@ fn add(walk: &mut Walk, piece: Piece) -> Result<(), AllocError>
         picture: piece.picture,
         offset: walk.last.offset + walk.last.len,
         len: piece.len,
+        data_offset: walk.last.offset + walk.last.len + piece.front,
+        data_len: piece.len - piece.front - piece.pad,
     };
     Ok(())
 }
@@ -53,12 +58,15 @@ fn add(walk: &mut Walk, piece: Piece) -> Result<(), AllocError>
 fn parts_from(alloc: Global, start: State, file: &[u8]) -> Result<Vec<Part>, AllocError>
     ensures parts { IfOk result (λ parts. parts.items ≡ parts_of start file.now) }
     ensures covers { IfOk result (λ parts. AreInOrder 0 parts.items (length file.now)) }
+    ensures within { IfOk result (λ parts. All IsWithin parts.items) }
 {
     let last = Part {
         kind: Kind::Picture,
         picture: 0,
         offset: 0,
         len: 0,
+        data_offset: 0,
+        data_len: 0,
     };
     let mut walk = Walk {
         done: Vec::new(alloc),
@@ -86,6 +94,7 @@ pub fn inventory(alloc: Global, file: &[u8]) -> Result<Option<Vec<Part>>, AllocE
     ensures answer { IfOk result (λ parts. option_map (λ v. v.items) parts ≡ inventory file.now) }
     ensures covers { IfOk result (λ found. IfSome found
         (λ parts. AreInOrder 0 parts.items (length file.now))) }
+    ensures within { IfOk result (λ found. IfSome found (λ parts. All IsWithin parts.items)) }
 {
     match start_of(file) {
         Some(start) => Ok(Some(parts_from(alloc, start, file)?)),

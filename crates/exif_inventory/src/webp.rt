@@ -1,7 +1,7 @@
 //! The pieces of a WebP file (WebP Container Specification, "RIFF File Format").
 
-ghost use Rattle.std.specs.Prelude.{◌≡◌, ◌<◌, ◌≤◌, length};
-ghost use Rattle.exif_inventory.specs.WebpPieces.{chunk_kind, chunk_piece, header_piece, is_webp, padded, rest_of};
+ghost use Rattle.std.specs.Prelude.{◌≡◌, ◌<◌, ◌≤◌, ◌+◌, length};
+ghost use Rattle.exif_inventory.specs.WebpPieces.{chunk_kind, chunk_piece, front_of, header_piece, is_webp, pad_of, padded, rest_of, sized_chunk};
 
 use crate::kind::Kind;
 use crate::piece::{Piece, State};
@@ -39,6 +39,8 @@ fn rest_of(kind: Kind, bytes: &[u8]) -> Piece
         kind,
         picture: 0,
         len: bytes.len(),
+        front: 0,
+        pad: 0,
         next: State::Chunks(0),
     }
 }
@@ -49,6 +51,7 @@ pub fn header_piece(bytes: &[u8]) -> Piece
     ensures value { result ≡ header_piece bytes.now }
     ensures some { 0 < result.len }
     ensures within { result.len ≤ length bytes.now }
+    ensures framed { result.front + result.pad ≤ result.len }
 {
     if bytes.len() < HEADER_LEN {
         return rest_of(Kind::Broken, bytes);
@@ -58,6 +61,8 @@ pub fn header_piece(bytes: &[u8]) -> Piece
         kind: Kind::Picture,
         picture: 0,
         len: HEADER_LEN,
+        front: 0,
+        pad: 0,
         next: State::Chunks(u64::from(size.saturating_sub(4))),
     }
 }
@@ -76,6 +81,51 @@ fn padded(size: u64, space: u64) -> u64
     }
 }
 
+// How many bytes of a chunk come before its data.
+fn front_of(kind: Kind) -> usize
+    ensures value { result ≡ front_of kind }
+    ensures most { result ≤ 8 }
+{
+    match kind {
+        Kind::Picture => 0,
+        _ => NAME_LEN,
+    }
+}
+
+// How many bytes follow the data of a chunk.
+fn pad_of(kind: Kind, size: usize, len: usize) -> usize
+    requires { size ≤ len }
+    ensures { result ≡ pad_of kind size len }
+{
+    match kind {
+        Kind::Picture => 0,
+        _ => len - size,
+    }
+}
+
+// A whole chunk, whose payload has this size, at the front of so much space. Its pad byte may be missing
+// at the end of the file.
+fn sized_chunk(space: u64, bytes: &[u8], size: u64) -> Piece
+    requires space { 8 + size ≤ space }
+    requires within { 8 + size ≤ length bytes.now }
+    ensures value { result ≡ sized_chunk space bytes.now size }
+    ensures some { 0 < result.len }
+    ensures within { result.len ≤ length bytes.now }
+    ensures framed { result.front + result.pad ≤ result.len }
+{
+    let taken = padded(size, space - 8);
+    let kind = chunk_kind(&bytes[..4]);
+    let len = (NAME_LEN as u64 + taken).min(bytes.len() as u64) as usize;
+    Piece {
+        kind,
+        picture: 0,
+        len,
+        front: front_of(kind),
+        pad: pad_of(kind, size as usize, len - NAME_LEN),
+        next: State::Chunks(space - 8 - taken),
+    }
+}
+
 /// The chunk at the front of so much space, its pad byte included; or all bytes that are left, where
 /// they hold no whole chunk, or follow the last one.
 #[tactic(auto, unfolding(crate::specs::WebpPieces::chunk_piece))]
@@ -84,6 +134,7 @@ pub fn chunk_piece(space: u64, bytes: &[u8]) -> Piece
     ensures value { result ≡ chunk_piece space bytes.now }
     ensures some { 0 < result.len }
     ensures within { result.len ≤ length bytes.now }
+    ensures framed { result.front + result.pad ≤ result.len }
 {
     if space == 0 {
         return rest_of(Kind::Trailer, bytes);
@@ -95,11 +146,5 @@ pub fn chunk_piece(space: u64, bytes: &[u8]) -> Piece
     if space - 8 < size || ((bytes.len() - NAME_LEN) as u64) < size {
         return rest_of(Kind::Broken, bytes);
     }
-    let taken = padded(size, space - 8);
-    Piece {
-        kind: chunk_kind(&bytes[..4]),
-        picture: 0,
-        len: (NAME_LEN as u64 + taken).min(bytes.len() as u64) as usize,
-        next: State::Chunks(space - 8 - taken),
-    }
+    sized_chunk(space, bytes, size)
 }

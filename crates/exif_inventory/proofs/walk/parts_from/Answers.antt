@@ -10,10 +10,10 @@ pub loop-rest-preserved : goal.loop-rest-preserved
 loop-rest-preserved c =
     let bytes = c.loop-rest.rest.now in
     let piece = c.piece_at-piece.result in
-    walks_on c.args.start c.args.file.now none c.loop-rest.state bytes (walk_view c.loop-rest.walk) piece _ _ c.loop-rest.invariant (grind (arith, nat_tests)) c.piece_at-piece.ensures.value c.piece_at-piece.ensures.some c.piece_at-piece.ensures.within (take_rest bytes piece.len) (search rules)
+    walks_on c.args.start c.args.file.now none c.loop-rest.state bytes (walk_view c.loop-rest.walk) piece _ _ c.loop-rest.invariant (grind (arith, nat_tests)) c.piece_at-piece.ensures.value c.piece_at-piece.ensures.some c.piece_at-piece.ensures.within c.piece_at-piece.ensures.framed (take_rest bytes piece.len) (search rules)
 
 pub returns : goal.returns
 returns c =
     let o = c.in_ok-push.ensures.items in
     let p = walks_over c.args.start c.args.file.now none c.loop-rest.state c.loop-rest.rest.now (walk_view c.loop-rest.walk) c.push.new.self.items c.loop-rest.invariant (grind (arith, nat_tests)) o in
-    record { parts = p.0; covers = p.1; }
+    record { parts = p.0; covers = p.1; within = p.2; }
