@@ -1,6 +1,6 @@
 -- What the markers and segments of a JPEG stream are (ITU-T T.81, table B.1; JFIF 1.02; Exif 2.32, 4.7.2;
 -- ICC.1:2022, B.4; XMP part 3, 1.1.3; CIPA DC-007, 5; ISO/IEC 19566-5, annex D; C2PA 2.1, A.3.1).
-use Rattle.std.specs.Prelude.{ℕ, ◌+◌, List, [], ◌∷◌, length, take, codes, nat_le, Bool, ◌&&◌, ◌||◌, ◌==◌, if◌then◌else◌}
+use Rattle.std.specs.Prelude.{ℕ, ◌+◌, List, [], ◌∷◌, length, take, codes, nat_le, nat_lt, Bool, false, ◌&&◌, ◌||◌, ◌==◌, if◌then◌else◌}
 use Rattle.std.specs.Str.{bytes_eq}
 use Rattle.exif_inventory.specs.declared.kind.Kind.{Kind}
 use Rattle.exif_inventory.specs.declared.kind.Kind.TheVariants as kind
@@ -27,12 +27,16 @@ app0_kind content =
     if begins (codes "JFIF\0") content then kind.Jfif
     else named (codes "JFXX\0") kind.JfifThumbnail content
 
+-- what an APP1 segment with XMP is
+abbrev pub xmp_kind : List ℕ → Kind
+xmp_kind content =
+    if begins (codes "http://ns.adobe.com/xap/1.0/\0") content then kind.Xmp
+    else named (codes "http://ns.adobe.com/xmp/extension/\0") kind.ExtendedXmp content
+
 -- what an APP1 segment is
 abbrev pub app1_kind : List ℕ → Kind
 app1_kind content =
-    if begins (codes "Exif\0\0") content then kind.Exif else
-    if begins (codes "http://ns.adobe.com/xap/1.0/\0") content then kind.Xmp
-    else named (codes "http://ns.adobe.com/xmp/extension/\0") kind.ExtendedXmp content
+    if begins (codes "Exif\0\0") content then kind.Exif else xmp_kind content
 
 -- what an APP2 segment is
 abbrev pub app2_kind : List ℕ → Kind
@@ -75,3 +79,8 @@ front_len kind.Unknown n = 0
 front_len kind.Trailer n = 0
 front_len kind.Broken n = 0
 front_len k n = n + 3 + id_len k
+
+-- whether a segment of this kind has resources, which take n bytes
+abbrev pub has_resources : Kind → ℕ → Bool
+has_resources kind.Photoshop n = nat_lt 0 n
+has_resources _ n = false

@@ -1,12 +1,12 @@
 -- The pieces of a JPEG stream, and of what follows it (ITU-T T.81, B.1.1).
 use Rattle.std.specs.Prelude.{ℕ, suc, ◌+◌, ◌-◌, ◌*◌, max, List, [], ◌∷◌, length, take, drop, slice_index, nat_lt, Bool, false, ◌&&◌, ◌||◌, ◌==◌, if◌then◌else◌}
 use Rattle.std.specs.Io.Iter.{u64_saturate}
-use Rattle.exif_inventory.specs.JpegKinds.{front_len, has_no_length, segment_kind, unsegmented}
+use Rattle.exif_inventory.specs.JpegKinds.{front_len, has_no_length, has_resources, segment_kind, unsegmented}
 use Rattle.exif_inventory.specs.declared.kind.Kind.{Kind}
 use Rattle.exif_inventory.specs.declared.kind.Kind.TheVariants as kind
 use Rattle.exif_inventory.specs.declared.piece.Piece.{Piece}
 use Rattle.exif_inventory.specs.declared.piece.State.{State}
-use Rattle.exif_inventory.specs.declared.piece.State.TheVariants.{Stream, Between}
+use Rattle.exif_inventory.specs.declared.piece.State.TheVariants.{Stream, Resources, Between}
 
 -- whether bytes begin as a JPEG stream does: with its first marker, and another one
 abbrev pub is_stream : List ℕ → Bool
@@ -67,8 +67,8 @@ abbrev pub given_len : ℕ → List ℕ → ℕ
 given_len at bytes = max 2 (256 * slice_index bytes (at + 1) + slice_index bytes (at + 2))
 
 -- a segment of this kind, whose length is this
-abbrev pub kind_segment : ℕ → Bool → ℕ → ℕ → ℕ → Kind → Piece
-kind_segment picture scanned at code len k = record {
+abbrev pub whole_segment : ℕ → Bool → ℕ → ℕ → ℕ → Kind → Piece
+whole_segment picture scanned at code len k = record {
   kind = k;
   picture = picture;
   len = at + 1 + len;
@@ -76,6 +76,24 @@ kind_segment picture scanned at code len k = record {
   pad = 0;
   next = Stream picture (scanned || (code == 218));
 }
+
+-- the front of a segment of this kind, behind which n bytes of resources follow
+abbrev pub segment_front : ℕ → Bool → ℕ → Kind → ℕ → Piece
+segment_front picture scanned at k n = record {
+  kind = k;
+  picture = picture;
+  len = front_len k at;
+  front = front_len k at;
+  pad = 0;
+  next = Resources picture scanned n;
+}
+
+-- a segment of this kind, or its front
+abbrev pub kind_segment : ℕ → Bool → ℕ → ℕ → ℕ → Kind → Piece
+kind_segment picture scanned at code len k =
+    if has_resources k (at + 1 + len - front_len k at)
+    then segment_front picture scanned at k (at + 1 + len - front_len k at)
+    else whole_segment picture scanned at code len k
 
 -- a segment whose length is this
 abbrev pub sized_segment : ℕ → Bool → ℕ → ℕ → List ℕ → ℕ → Piece

@@ -1,5 +1,6 @@
 pub mod JpegKinds
 pub mod JpegPieces
+pub mod Resources
 pub mod WebpPieces
 pub mod Pieces
 pub mod Walks

@@ -1,10 +1,11 @@
 -- The piece of a file that comes next.
 use Rattle.std.specs.Prelude.{ℕ, List, Option, Some, None, if◌then◌else◌}
 use Rattle.exif_inventory.specs.JpegPieces.{between_piece, is_stream, stream_piece}
+use Rattle.exif_inventory.specs.Resources.{resource_piece}
 use Rattle.exif_inventory.specs.WebpPieces.{chunk_piece, header_piece, is_webp}
 use Rattle.exif_inventory.specs.declared.piece.Piece.{Piece}
 use Rattle.exif_inventory.specs.declared.piece.State.{State}
-use Rattle.exif_inventory.specs.declared.piece.State.TheVariants.{Stream, Between, Header, Chunks}
+use Rattle.exif_inventory.specs.declared.piece.State.TheVariants.{Stream, Resources, Between, Header, Chunks}
 
 -- what a file begins with, if its format is known
 abbrev pub start_of : List ℕ → Option State
@@ -15,6 +16,7 @@ start_of file =
 -- the piece at the front of bytes
 abbrev pub piece_at : State → List ℕ → Piece
 piece_at (Stream picture scanned) bytes = stream_piece picture scanned bytes
+piece_at (Resources picture scanned space) bytes = resource_piece picture scanned space bytes
 piece_at (Between picture) bytes = between_piece picture bytes
 piece_at Header bytes = header_piece bytes
 piece_at (Chunks space) bytes = chunk_piece space bytes

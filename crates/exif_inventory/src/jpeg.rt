@@ -1,7 +1,7 @@
 //! The pieces of a JPEG stream, and of what follows it (ITU-T T.81, B.1.1).
 
 ghost use Rattle.std.specs.Prelude.{◌≡◌, true, ◌<◌, ◌≤◌, ◌+◌, ◌-◌, ◌^◌, length, take, drop};
-ghost use Rattle.exif_inventory.specs.JpegKinds.{app0_kind, app1_kind, app2_kind, app_kind, begins, front_len, has_no_length, id_len, named, segment_kind, unsegmented};
+ghost use Rattle.exif_inventory.specs.JpegKinds.{app0_kind, app1_kind, app2_kind, app_kind, begins, front_len, has_no_length, has_resources, id_len, named, segment_kind, unsegmented, xmp_kind};
 ghost use Rattle.exif_inventory.specs.JpegPieces.{between_piece, fill_len, free_len, gap_len, given_len, is_stream, marker_piece, rest_piece, segment_piece, sized_segment, stream_piece};
 
 use crate::kind::Kind;
@@ -100,6 +100,18 @@ fn app0_kind(content: &[u8]) -> Kind
     }
 }
 
+// What an APP1 segment with XMP is.
+fn xmp_kind(content: &[u8]) -> Kind
+    ensures value { result ≡ xmp_kind content.now }
+    ensures long { id_len result ≤ length content.now }
+{
+    if begins(content, b"http://ns.adobe.com/xap/1.0/\0") {
+        Kind::Xmp
+    } else {
+        named(content, b"http://ns.adobe.com/xmp/extension/\0", Kind::ExtendedXmp)
+    }
+}
+
 // What an APP1 segment is.
 fn app1_kind(content: &[u8]) -> Kind
     ensures value { result ≡ app1_kind content.now }
@@ -107,10 +119,8 @@ fn app1_kind(content: &[u8]) -> Kind
 {
     if begins(content, b"Exif\0\0") {
         Kind::Exif
-    } else if begins(content, b"http://ns.adobe.com/xap/1.0/\0") {
-        Kind::Xmp
     } else {
-        named(content, b"http://ns.adobe.com/xmp/extension/\0", Kind::ExtendedXmp)
+        xmp_kind(content)
     }
 }
 
@@ -183,6 +193,13 @@ fn front_len(kind: Kind, at: usize) -> usize
     }
 }
 
+// Whether a segment of this kind has resources, which take so many bytes.
+fn has_resources(kind: Kind, len: usize) -> bool
+    ensures { result ≡ has_resources kind len }
+{
+    matches!(kind, Kind::Photoshop) && 0 < len
+}
+
 // All bytes that are left, as one piece.
 fn rest_piece(picture: u64, bytes: &[u8]) -> Piece
     ensures { result ≡ rest_piece picture bytes.now }
@@ -253,17 +270,31 @@ fn sized_segment(
     requires at { at < length bytes.now }
     requires least { 2 ≤ len }
     ensures value { result ≡ sized_segment picture scanned at code bytes.now len }
+    ensures some { 0 < result.len }
+    ensures within { result.len ≤ length bytes.now }
     ensures framed { result.front + result.pad ≤ result.len }
 {
     if bytes.len() - at - 1 < len {
         return rest_piece(picture, bytes);
     }
     let kind = segment_kind(code, content(at, len, bytes));
+    let front = front_len(kind, at);
+    let resources = at + 1 + len - front;
+    if has_resources(kind, resources) {
+        return Piece {
+            kind,
+            picture,
+            len: front,
+            front,
+            pad: 0,
+            next: State::Resources(picture, scanned, resources),
+        };
+    }
     Piece {
         kind,
         picture,
         len: at + 1 + len,
-        front: front_len(kind, at),
+        front,
         pad: 0,
         next: State::Stream(picture, scanned | (code == SOS)),
     }
@@ -273,6 +304,8 @@ fn sized_segment(
 fn segment_piece(picture: u64, scanned: bool, at: usize, code: u8, bytes: &[u8]) -> Piece
     requires { at < length bytes.now }
     ensures value { result ≡ segment_piece picture scanned at code bytes.now }
+    ensures some { 0 < result.len }
+    ensures within { result.len ≤ length bytes.now }
     ensures framed { result.front + result.pad ≤ result.len }
 {
     if bytes.len() - at < 3 {

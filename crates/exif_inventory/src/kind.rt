@@ -15,8 +15,10 @@ pub enum Kind {
     Xmp,
     /// A part of a long XMP packet.
     ExtendedXmp,
-    /// Resources of Photoshop, which hold IPTC data.
+    /// The identifier of Photoshop's resources, or one of them.
     Photoshop,
+    /// The resource of Photoshop that holds IPTC data.
+    Iptc,
     /// A comment.
     Comment,
     /// A colour profile, or a part of one.

@@ -7,6 +7,7 @@ mod jpeg;
 mod kind;
 mod part;
 mod piece;
+mod resource;
 mod walk;
 mod webp;
 

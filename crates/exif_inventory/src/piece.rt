@@ -5,6 +5,7 @@ ghost use Rattle.exif_inventory.specs.Pieces.{piece_at, start_of};
 
 use crate::jpeg::{between_piece, is_stream, stream_piece};
 use crate::kind::Kind;
+use crate::resource::resource_piece;
 use crate::webp::{chunk_piece, header_piece, is_webp};
 
 /// What the bytes that come next belong to.
@@ -12,6 +13,8 @@ use crate::webp::{chunk_piece, header_piece, is_webp};
 pub enum State {
     /// A JPEG stream behind its first marker: which picture it is, and whether a scan began.
     Stream(u64, bool),
+    /// The resources of Photoshop in a segment of a stream, which have so much space.
+    Resources(u64, bool, usize),
     /// What follows a JPEG stream: the number of the next picture.
     Between(u64),
     /// The header of a WebP file.
@@ -58,6 +61,9 @@ pub fn piece_at(state: State, bytes: &[u8]) -> Piece
 {
     match state {
         State::Stream(picture, scanned) => stream_piece(picture, scanned, bytes),
+        State::Resources(picture, scanned, space) => {
+            resource_piece(picture, scanned, space, bytes)
+        }
         State::Between(picture) => between_piece(picture, bytes),
         State::Header => header_piece(bytes),
         State::Chunks(space) => chunk_piece(space, bytes),
