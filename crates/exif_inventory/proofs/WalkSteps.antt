@@ -2,7 +2,7 @@
 use Rattle.std.proofs.Common.{◌≡◌, ◌<◌, ◌≤◌, ◌+◌, ◌-◌, ℕ, zero, suc, Bool, true, false, cond, List, [], ◌∷◌, ◌++◌, length, drop, All, refl, ap, sym, ◌∙◌, subst, arith, length-drop}
 use Rattle.std.proofs.lemmas.List.Elements.{All-append, All-cons, All-nil}
 use Rattle.exif_inventory.specs.Pieces.{piece_at}
-use Rattle.exif_inventory.specs.Promises.{AreInOrder, IsWithin}
+use Rattle.exif_inventory.specs.Promises.{AreInOrder, EndsIn, IsWithin}
 use Rattle.exif_inventory.specs.Walks.{Parts, added, all_parts, joins, longer, part_behind, walked}
 use Rattle.exif_inventory.specs.declared.part.Part.{Part}
 use Rattle.exif_inventory.specs.declared.piece.Piece.{Piece}
@@ -125,6 +125,27 @@ added_within parts piece h w = chosen_within (joins parts.last piece) parts piec
 pub all_within : (parts : Parts) → AreWithin parts → All IsWithin (all_parts parts)
 all_within parts w = all_behind parts.done parts.last w.done w.last
 
+-- ---- parts in order end where the last one does
+
+not_before : (at : ℕ) (ps : List Part) (end : ℕ) → AreInOrder at ps end → at ≤ end
+not_before at [] end h = omega arith
+not_before at (p ∷ ps) end h = let l = not_before (at + p.len) ps end h.1 in omega arith
+
+first_of : (p : Part) (ps : List Part) → All IsWithin (p ∷ ps) → IsWithin p
+first_of p ps w = w 0 p (omega arith)
+
+others_of : (p : Part) (ps : List Part) → All IsWithin (p ∷ ps) → All IsWithin ps
+others_of p ps w = λ k d h. w (suc k) d (omega arith)
+
+pub all_inside : (at : ℕ) (ps : List Part) (end : ℕ) → AreInOrder at ps end → All IsWithin ps → All (EndsIn end) ps
+all_inside at [] end h w = All-nil (EndsIn end)
+all_inside at (p ∷ ps) end h w =
+    let l = not_before (at + p.len) ps end h.1 in
+    let o = h.0 in
+    let i = first_of p ps w in
+    let e : p.data_offset + p.data_len ≤ p.offset + p.len = i.1 in
+    All-cons (EndsIn end) p ps (omega arith) (all_inside (at + p.len) ps end h.1 (others_of p ps w))
+
 -- one piece more of a walk
 pub record Walks (start : State) (file : List ℕ) (none : Parts) (state : State) (bytes : List ℕ) (parts : Parts) : Type 0 where
   pub parts_are : walked (length file) start file none ≡ walked (length bytes) state bytes parts
@@ -160,10 +181,12 @@ walks_on start file none state bytes parts piece rest next w some p positive wit
 -- the end of a walk
 pub walks_over : (start : State) (file : List ℕ) (none : Parts) (state : State) (bytes : List ℕ) (parts : Parts) (out : List Part)
     → Walks start file none state bytes parts → length bytes ≡ 0 → out ≡ all_parts parts
-    → (out ≡ all_parts (walked (length file) start file none)) × AreInOrder 0 out (length file) × All IsWithin out
+    → (out ≡ all_parts (walked (length file) start file none)) × AreInOrder 0 out (length file) × All IsWithin out × All (EndsIn (length file)) out
 walks_over start file none state bytes parts out w none_left o =
     let before : parts.last.offset + parts.last.len + length bytes ≡ length file = w.ends in
     let end : parts.last.offset + parts.last.len ≡ length file = omega arith in
+    let covers : AreInOrder 0 out (length file) =
+        subst (λ (ps : List Part). AreInOrder 0 ps (length file)) (sym o) (subst (λ n. AreInOrder 0 (all_parts parts) n) end w.ordered) in
+    let within : All IsWithin out = subst (λ (ps : List Part). All IsWithin ps) (sym o) (all_within parts w.within) in
     (o ∙ sym (ap all_parts (w.parts_are ∙ walked_over (length bytes) state bytes parts none_left)),
-    subst (λ (ps : List Part). AreInOrder 0 ps (length file)) (sym o) (subst (λ n. AreInOrder 0 (all_parts parts) n) end w.ordered),
-    subst (λ (ps : List Part). All IsWithin ps) (sym o) (all_within parts w.within))
+    covers, within, all_inside 0 out (length file) covers within)

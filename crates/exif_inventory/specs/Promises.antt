@@ -11,3 +11,7 @@ AreInOrder at (part ∷ parts) end = (part.offset ≡ at) × AreInOrder (at + pa
 abbrev pub IsWithin : Part → Type 0
 IsWithin part =
     (part.offset ≤ part.data_offset) × (part.data_offset + part.data_len ≤ part.offset + part.len)
+
+-- and bytes of a file of this length
+abbrev pub EndsIn : ℕ → Part → Type 0
+EndsIn n part = part.data_offset + part.data_len ≤ n

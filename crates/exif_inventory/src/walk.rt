@@ -2,7 +2,7 @@
 
 ghost use Rattle.std.specs.Prelude.{◌≡◌, ◌+◌, ◌<◌, ◌≤◌, ◌^◌, length, All, IfOk, IfSome, OnOk};
 ghost use Rattle.std.specs.Option.{option_map};
-ghost use Rattle.exif_inventory.specs.Promises.{AreInOrder, IsWithin};
+ghost use Rattle.exif_inventory.specs.Promises.{AreInOrder, EndsIn, IsWithin};
 ghost use Rattle.exif_inventory.specs.Walks.{added, inventory, joins, parts_of, walk_view, walked};
 
 use crate::kind::Kind;
@@ -59,6 +59,7 @@ fn parts_from(alloc: Global, start: State, file: &[u8]) -> Result<Vec<Part>, All
     ensures parts { IfOk result (λ parts. parts.items ≡ parts_of start file.now) }
     ensures covers { IfOk result (λ parts. AreInOrder 0 parts.items (length file.now)) }
     ensures within { IfOk result (λ parts. All IsWithin parts.items) }
+    ensures inside { IfOk result (λ parts. All (EndsIn (length file.now)) parts.items) }
 {
     let last = Part {
         kind: Kind::Picture,
@@ -95,6 +96,8 @@ pub fn inventory(alloc: Global, file: &[u8]) -> Result<Option<Vec<Part>>, AllocE
     ensures covers { IfOk result (λ found. IfSome found
         (λ parts. AreInOrder 0 parts.items (length file.now))) }
     ensures within { IfOk result (λ found. IfSome found (λ parts. All IsWithin parts.items)) }
+    ensures inside { IfOk result (λ found. IfSome found
+        (λ parts. All (EndsIn (length file.now)) parts.items)) }
 {
     match start_of(file) {
         Some(start) => Ok(Some(parts_from(alloc, start, file)?)),
