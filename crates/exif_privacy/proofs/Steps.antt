@@ -1,0 +1,1 @@
+-- Parts one after the other.
