@@ -1,5 +1,6 @@
 pub mod Assigning
 pub mod Calendar
+pub mod Examples
 pub mod Numbers
 pub mod Rules
 pub mod Shift
