@@ -1,8 +1,9 @@
 -- What is asked to be set: the name of a tag and the text of its value.
-use Rattle.std.specs.Prelude.{ℕ, Bool, ◌==◌, nat_lt, if◌then◌else◌, List, [], ◌∷◌, ◌++◌, codes, length, Option, Some, None}
-use Rattle.std.specs.List.{after_first, before_first, find, position_or_len}
+use Rattle.std.specs.Prelude.{ℕ, Bool, ◌==◌, nat_lt, ◌-◌, if◌then◌else◌, List, [], ◌∷◌, ◌++◌, codes, drop, length, take, Option, Some, None}
+use Rattle.std.specs.List.{after_first, before_first, find, position_or_len, prefix_len, suffix_len}
 use Rattle.std.specs.Option.{option_and_then, option_map}
-use Rattle.std.specs.Str.{bytes_eq, trim}
+use Rattle.std.specs.Str.{bytes_eq}
+use Rattle.std.specs.Char.{is_ascii_whitespace}
 use Rattle.exif_table.specs.Rows.{rows_of}
 use Rattle.exif_table.specs.Table.{TagRow}
 use Rattle.exif_table.specs.declared.context.Context.{Context}
@@ -51,6 +52,14 @@ assigned_in word =
 
 -- ---- locations
 
+-- a text without the white space at its end
+abbrev pub without_end : List ℕ → List ℕ
+without_end text = take (length text - suffix_len is_ascii_whitespace text) text
+
+-- and without that at its start
+unfoldable pub trimmed : List ℕ → List ℕ
+trimmed text = without_end (drop (prefix_len is_ascii_whitespace text) text)
+
 -- what is behind a minus (45), if a number begins with one
 abbrev pub without_minus : List ℕ → Option (List ℕ)
 without_minus [] = None
@@ -69,15 +78,15 @@ gps number = record { 0 = Gps; 1 = number }
 
 -- GPSLatitudeRef and GPSLatitude
 abbrev pub latitude_fields : List ℕ → List (Tag × List ℕ)
-latitude_fields text = signed_fields (gps 1) (codes "N") (codes "S") (gps 2) (trim text)
+latitude_fields text = signed_fields (gps 1) (codes "N") (codes "S") (gps 2) (trimmed text)
 
 -- GPSLongitudeRef and GPSLongitude
 abbrev pub longitude_fields : List ℕ → List (Tag × List ℕ)
-longitude_fields text = signed_fields (gps 3) (codes "E") (codes "W") (gps 4) (trim text)
+longitude_fields text = signed_fields (gps 3) (codes "E") (codes "W") (gps 4) (trimmed text)
 
 -- GPSAltitudeRef (0 above the sea, 1 below it) and GPSAltitude
 abbrev pub altitude_fields : List ℕ → List (Tag × List ℕ)
-altitude_fields text = signed_fields (gps 5) (codes "0") (codes "1") (gps 6) (trim text)
+altitude_fields text = signed_fields (gps 5) (codes "0") (codes "1") (gps 6) (trimmed text)
 
 -- the fields of a longitude, and of an altitude where a comma (44) is before it
 abbrev pub longitude_and_altitude : List ℕ → List (Tag × List ℕ)

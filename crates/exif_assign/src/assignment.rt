@@ -4,7 +4,7 @@ ghost use Rattle.std.specs.Prelude.{◌≡◌, [], ◌∷◌, map, IfOk};
 ghost use Rattle.std.specs.List.{find};
 ghost use Rattle.std.specs.Option.{option_map};
 ghost use Rattle.exif_table.specs.View.{row_view};
-ghost use Rattle.exif_assign.specs.Assigning.{all_assigned_in, altitude_fields, assigned_in, fields_named, has_name, latitude_fields, location_in, longitude_fields, named_in, or_else, parts_of, signed_fields, tag_named, without_minus};
+ghost use Rattle.exif_assign.specs.Assigning.{all_assigned_in, altitude_fields, assigned_in, fields_named, has_name, latitude_fields, location_in, longitude_fields, named_in, or_else, parts_of, signed_fields, tag_named, trimmed, without_minus};
 
 use exif_table::Row;
 use exif_table::rows::rows;
@@ -89,7 +89,13 @@ fn location_in<'a>(alloc: Global, text: &'a str) -> Result<Vec<Assignment<'a>>, 
 fn latitude_fields(text: &str) -> [Assignment<'_>; 2]
     ensures { map parts_of result ≡ latitude_fields text.now }
 {
-    signed_fields(Tag::GPSLatitudeRef, "N", "S", Tag::GPSLatitude, text.trim())
+    signed_fields(
+        Tag::GPSLatitudeRef,
+        "N",
+        "S",
+        Tag::GPSLatitude,
+        trimmed(text),
+    )
 }
 
 // The two fields of a longitude.
@@ -101,7 +107,7 @@ fn longitude_fields(text: &str) -> [Assignment<'_>; 2]
         "E",
         "W",
         Tag::GPSLongitude,
-        text.trim(),
+        trimmed(text),
     )
 }
 
@@ -109,7 +115,13 @@ fn longitude_fields(text: &str) -> [Assignment<'_>; 2]
 fn altitude_fields(text: &str) -> [Assignment<'_>; 2]
     ensures { map parts_of result ≡ altitude_fields text.now }
 {
-    signed_fields(Tag::GPSAltitudeRef, "0", "1", Tag::GPSAltitude, text.trim())
+    signed_fields(
+        Tag::GPSAltitudeRef,
+        "0",
+        "1",
+        Tag::GPSAltitude,
+        trimmed(text),
+    )
 }
 
 // A number as two fields: its sign, which is the first text or with a minus the second, and the rest.
@@ -126,6 +138,13 @@ fn signed_fields<'a>(
         Some(rest) => two(sign, minus, tag, rest),
         None => two(sign, plus, tag, number),
     }
+}
+
+// A text without the white space around it.
+fn trimmed(text: &str) -> &str
+    ensures { result.now ≡ trimmed text.now }
+{
+    text.trim_ascii()
 }
 
 // What is behind a minus, if a number begins with one.
