@@ -1,14 +1,14 @@
 -- What the program does with a name, an OUT and a word.
 use Rattle.std.specs.Prelude.{ℕ, List, [], ◌∷◌, Bool, true, false, ◌||◌, ◌==◌, if◌then◌else◌, nat_eq, codes}
 use Rattle.std.specs.List.{starts_with, ends_with}
-use Rattle.exif_commands.specs.declared.rules.Kind.{Kind}
-use Rattle.exif_commands.specs.declared.rules.Kind.TheVariants.{File, Folder, Link, Other}
-use Rattle.exif_commands.specs.declared.rules.Action.{Action}
-use Rattle.exif_commands.specs.declared.rules.Action.TheVariants.{Process, ProcessPicture, Enter, RefuseFolder, SkipLink, SkipOwn, Ignore}
-use Rattle.exif_commands.specs.declared.rules.Existing.{Existing}
-use Rattle.exif_commands.specs.declared.rules.Existing.TheVariants.{Absent, Regular, Special}
-use Rattle.exif_commands.specs.declared.rules.Destination.{Destination}
-use Rattle.exif_commands.specs.declared.rules.Destination.TheVariants.{StandardOutput, New, Replace, RefuseSame, RefuseExisting, RefuseOther}
+use Rattle.exif_decisions.specs.declared.rules.Kind.{Kind}
+use Rattle.exif_decisions.specs.declared.rules.Kind.TheVariants.{File, Folder, Link, Other}
+use Rattle.exif_decisions.specs.declared.rules.Action.{Action}
+use Rattle.exif_decisions.specs.declared.rules.Action.TheVariants.{Process, ProcessPicture, Enter, RefuseFolder, SkipLink, SkipOwn, Ignore}
+use Rattle.exif_decisions.specs.declared.rules.Existing.{Existing}
+use Rattle.exif_decisions.specs.declared.rules.Existing.TheVariants.{Absent, Regular, Special}
+use Rattle.exif_decisions.specs.declared.rules.Destination.{Destination}
+use Rattle.exif_decisions.specs.declared.rules.Destination.TheVariants.{StandardOutput, New, Replace, RefuseSame, RefuseExisting, RefuseOther}
 
 -- What is done with a path. One that was named is processed, whatever its name and kind; a folder is
 -- entered only where folders are. Of those found in folders, links are never followed, and the

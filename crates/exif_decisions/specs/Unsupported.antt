@@ -1,8 +1,8 @@
 -- The signatures of pictures in formats that are not supported.
 use Rattle.std.specs.Prelude.{ℕ, List, [], ◌∷◌, ◌++◌, Bool, ◌||◌, ◌&&◌, if◌then◌else◌, Option, None, Some, drop, nat_eq, codes}
 use Rattle.std.specs.List.{starts_with}
-use Rattle.exif_commands.specs.declared.formats.Unsupported.{Unsupported}
-use Rattle.exif_commands.specs.declared.formats.Unsupported.TheVariants.{Png, Gif, Bmp, Psd, JpegXl, Raw}
+use Rattle.exif_decisions.specs.declared.formats.Unsupported.{Unsupported}
+use Rattle.exif_decisions.specs.declared.formats.Unsupported.TheVariants.{Png, Gif, Bmp, Psd, JpegXl, Raw}
 
 -- raw files of Fujifilm, Canon (CRW, CR3), Panasonic, Olympus and Minolta
 abbrev pub raw_signature : List ℕ → Bool

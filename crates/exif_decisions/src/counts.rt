@@ -2,7 +2,7 @@
 
 ghost use Rattle.std.specs.Prelude.{◌≡◌, ◌+◌};
 ghost use Rattle.exif_files.specs.declared.outcome.Status.{Status};
-ghost use Rattle.exif_commands.specs.Tallies.{counted_done, counted_refused, status_after};
+ghost use Rattle.exif_decisions.specs.Tallies.{counted_done, counted_refused, status_after};
 
 use crate::formats::{ALL, Unsupported};
 use exif_files::Status;

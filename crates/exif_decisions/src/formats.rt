@@ -2,7 +2,7 @@
 
 ghost use Rattle.std.specs.Prelude.{◌≡◌, drop, nat_eq};
 ghost use Rattle.std.specs.List.{starts_with};
-ghost use Rattle.exif_commands.specs.Unsupported.{unsupported, raw_signature};
+ghost use Rattle.exif_decisions.specs.Unsupported.{unsupported, raw_signature};
 
 /// A format of pictures that is known by its signature, and not supported.
 #[derive(Clone, Copy, PartialEq, Eq)]

@@ -1,7 +1,7 @@
 //! What the program does with a name, an OUT and a word.
 
 ghost use Rattle.std.specs.Prelude.{◌≡◌, true};
-ghost use Rattle.exif_commands.specs.Rules.{action_for, destination_for, is_own, assigns};
+ghost use Rattle.exif_decisions.specs.Rules.{action_for, destination_for, is_own, assigns};
 
 /// What a path is.
 #[derive(Clone, Copy, PartialEq, Eq)]

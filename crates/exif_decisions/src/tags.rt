@@ -1,9 +1,13 @@
-//! The tags that `set` knows, by name.
+//! Tags by their names, and the list of them.
 
-use exif::{Context, Sink};
-use exif_base::send_all;
-use exif_table::Row;
+ghost use Rattle.std.specs.Prelude.{◌≡◌};
+ghost use Rattle.exif_decisions.specs.Tags.{type_word, word_for};
+
+use exif_assign::{Spelling, spelling_of};
+use exif_base::{Sink, send_all};
 use exif_table::rows::rows;
+use exif_table::{Context, Row};
+use exif_types::Tag;
 use std::alloc::{AllocError, Global};
 use std::io;
 use strsim::levenshtein;
@@ -50,160 +54,40 @@ pub fn nearest(alloc: Global, name: &str) -> Result<Option<&'static str>, AllocE
     Ok(best)
 }
 
-/// Writes a line for each tag: its name, the type of its value, and what it means.
+/// Writes a line for each tag: its name, how its value is written, and what it means.
 pub fn write_tags<W: Sink>(alloc: Global, out: &mut W) -> io::Result<()> {
     for context in CONTEXTS {
         for row in rows(context) {
-            write_row(alloc, row, out)?;
+            write_row(alloc, context, row, out)?;
         }
     }
     out.flush()
 }
 
-fn write_row<W: Sink>(alloc: Global, row: &Row, out: &mut W) -> io::Result<()> {
+// Writes the line of a tag.
+fn write_row<W: Sink>(alloc: Global, context: Context, row: &Row, out: &mut W) -> io::Result<()> {
     let (name, description) = (row.name, row.description);
-    let kind = type_name(name);
+    let kind = type_word(Tag(context, row.number));
     let line = format!(in alloc; "{name:<36} {kind:<15} {description}\n")?;
     send_all(out, line.as_bytes())
 }
 
-// The type of a tag's value, in a word (Exif 2.32, sections 4.6.4 to 4.6.8).
-fn type_name(name: &str) -> &'static str {
-    if is_among(&OFFSETS, name) {
-        "(not settable)"
-    } else if is_among(&TEXTS, name) {
-        "text"
-    } else if is_among(&FRACTIONS, name) {
-        "fraction"
-    } else if is_among(&SIGNED_FRACTIONS, name) {
-        "signed fraction"
-    } else if is_among(&BYTES, name) {
-        "bytes"
-    } else {
-        "number"
+// The word for how the value of a tag is written.
+fn type_word(tag: Tag) -> &'static str
+    ensures { result.now ≡ type_word tag }
+{
+    word_for(spelling_of(tag))
+}
+
+fn word_for(spelling: Spelling) -> &'static str
+    ensures { result.now ≡ word_for spelling }
+{
+    match spelling {
+        Spelling::Nothing => "(not settable)",
+        Spelling::Text => "text",
+        Spelling::Number => "number",
+        Spelling::Fraction => "fraction",
+        Spelling::SignedFraction => "signed fraction",
+        Spelling::Bytes => "bytes",
     }
 }
-
-fn is_among(names: &[&str], name: &str) -> bool {
-    names.iter().any(|other| *other == name)
-}
-
-const OFFSETS: [&str; 10] = [
-    "StripOffsets",
-    "StripByteCounts",
-    "TileOffsets",
-    "TileByteCounts",
-    "JPEGInterchangeFormat",
-    "JPEGInterchangeFormatLength",
-    "ExifIFDPointer",
-    "GPSInfoIFDPointer",
-    "InteropIFDPointer",
-    "MakerNote",
-];
-
-const TEXTS: [&str; 40] = [
-    "ImageDescription",
-    "Make",
-    "Model",
-    "Software",
-    "DateTime",
-    "Artist",
-    "Copyright",
-    "SpectralSensitivity",
-    "DateTimeOriginal",
-    "DateTimeDigitized",
-    "OffsetTime",
-    "OffsetTimeOriginal",
-    "OffsetTimeDigitized",
-    "SubSecTime",
-    "SubSecTimeOriginal",
-    "SubSecTimeDigitized",
-    "UserComment",
-    "RelatedSoundFile",
-    "ImageUniqueID",
-    "CameraOwnerName",
-    "BodySerialNumber",
-    "LensMake",
-    "LensModel",
-    "LensSerialNumber",
-    "GPSLatitudeRef",
-    "GPSLongitudeRef",
-    "GPSSatellites",
-    "GPSStatus",
-    "GPSMeasureMode",
-    "GPSSpeedRef",
-    "GPSTrackRef",
-    "GPSImgDirectionRef",
-    "GPSMapDatum",
-    "GPSDestLatitudeRef",
-    "GPSDestLongitudeRef",
-    "GPSDestBearingRef",
-    "GPSDestDistanceRef",
-    "GPSDateStamp",
-    "InteroperabilityIndex",
-    "RelatedImageFileFormat",
-];
-
-const FRACTIONS: [&str; 36] = [
-    "XResolution",
-    "YResolution",
-    "WhitePoint",
-    "PrimaryChromaticities",
-    "YCbCrCoefficients",
-    "ReferenceBlackWhite",
-    "ExposureTime",
-    "FNumber",
-    "CompressedBitsPerPixel",
-    "ApertureValue",
-    "MaxApertureValue",
-    "SubjectDistance",
-    "FocalLength",
-    "Humidity",
-    "Pressure",
-    "Acceleration",
-    "FlashEnergy",
-    "FocalPlaneXResolution",
-    "FocalPlaneYResolution",
-    "ExposureIndex",
-    "DigitalZoomRatio",
-    "LensSpecification",
-    "Gamma",
-    "GPSLatitude",
-    "GPSLongitude",
-    "GPSAltitude",
-    "GPSTimeStamp",
-    "GPSDOP",
-    "GPSSpeed",
-    "GPSTrack",
-    "GPSImgDirection",
-    "GPSDestLatitude",
-    "GPSDestLongitude",
-    "GPSDestBearing",
-    "GPSDestDistance",
-    "GPSHPositioningError",
-];
-
-const SIGNED_FRACTIONS: [&str; 6] = [
-    "ShutterSpeedValue",
-    "BrightnessValue",
-    "ExposureBiasValue",
-    "Temperature",
-    "WaterDepth",
-    "CameraElevationAngle",
-];
-
-const BYTES: [&str; 13] = [
-    "OECF",
-    "ExifVersion",
-    "ComponentsConfiguration",
-    "FlashpixVersion",
-    "SpatialFrequencyResponse",
-    "FileSource",
-    "SceneType",
-    "CFAPattern",
-    "DeviceSettingDescription",
-    "SourceExposureTimesOfCompositeImage",
-    "GPSProcessingMethod",
-    "GPSAreaInformation",
-    "InteroperabilityVersion",
-];

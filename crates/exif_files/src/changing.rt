@@ -95,7 +95,7 @@ fn backup_name(alloc: Global, name: &str) -> Result<String, AllocError>
     format!(in alloc; "{name}.orig")
 }
 
-// Puts bytes in the place of a file.
+// Replaces a file by one with these bytes.
 fn write_over<F: FileSystem>(
     alloc: Global,
     files: &mut F,

@@ -27,6 +27,3 @@ pub use power::{loss_law, new_loss_law};
 pub use replacing::replace;
 pub use running::{Reporter, change_all};
 pub use system::FileSystem;
-
-#[cfg(test)]
-mod tests;

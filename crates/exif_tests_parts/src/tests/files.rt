@@ -2,7 +2,10 @@
 
 ghost use Rattle.std.specs.Prelude.{⊤};
 
-use super::*;
+use exif_files::{
+    Edit, EditError, Edited, Failure, HostFiles, Keeping, MemoryFiles, Reporter, Status, Stored,
+    WriteError, change, change_all, create_new, replace,
+};
 use std::alloc::Global;
 use std::fs;
 use std::test::Fail;
