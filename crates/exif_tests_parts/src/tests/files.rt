@@ -3,9 +3,10 @@
 ghost use Rattle.std.specs.Prelude.{⊤};
 
 use exif_files::{
-    Edit, EditError, Edited, Failure, HostFiles, Keeping, MemoryFiles, Reporter, Status, Stored,
-    WriteError, change, change_all, create_new, replace,
+    Edit, EditError, Edited, Failure, HostFiles, Keeping, Reporter, Status, WriteError, change,
+    change_all, create_new, replace,
 };
+use exif_files_memory::{MemoryFiles, Stored};
 use std::alloc::Global;
 use std::fs;
 use std::test::Fail;

@@ -1,9 +1,9 @@
 use Rattle.std.proofs.Common.{rules, ◌≡◌, ◌++◌, [], ◌∷◌, refl}
-use Rattle.exif_files.specs.declared.memory.Put.{Put}
-use Rattle.exif_files.specs.declared.memory.Step.{Step}
-use Rattle.exif_files.specs.FromMemory.{entry_if, Puts}
-use Rattle.exif_files.proofs.MemorySteps.{moves_one, puts_one}
-use Rattle.exif_files.proofs.memory.MemoryFiles.put.Goals as goal
+use Rattle.exif_files_memory.specs.declared.memory.Put.{Put}
+use Rattle.exif_files_memory.specs.declared.memory.Step.{Step}
+use Rattle.exif_files_memory.specs.FromMemory.{entry_if, Puts}
+use Rattle.exif_files_memory.proofs.MemorySteps.{moves_one, puts_one}
+use Rattle.exif_files_memory.proofs.memory.MemoryFiles.put.Goals as goal
 
 pub returns : goal.returns
 returns c =

@@ -1,9 +1,9 @@
 -- What a file system in memory has kept.
 use Rattle.std.specs.Prelude.{◌≡◌, ℕ, zero, suc, List, [], ◌∷◌, true, if◌then◌else◌, Option, None, Some, length, take, Bool, Result, IfOk, OnOk, OnErr}
 use Rattle.std.specs.Str.{bytes_eq}
-use Rattle.exif_files.specs.declared.memory.Stored.{Stored}
-use Rattle.exif_files.specs.declared.memory.Put.{Put}
-use Rattle.exif_files.specs.declared.memory.Step.{Step}
+use Rattle.exif_files_memory.specs.declared.memory.Stored.{Stored}
+use Rattle.exif_files_memory.specs.declared.memory.Put.{Put}
+use Rattle.exif_files_memory.specs.declared.memory.Step.{Step}
 use Rattle.exif_files.specs.States.{Entry, State, Elsewhere, ElsewhereOfTwo}
 use Rattle.exif_files.specs.Steps.{Moves, MovesIfFree}
 

@@ -3,9 +3,9 @@
 ghost use Rattle.std.specs.Prelude.{◌≡◌, ◌≢◌, ◌↔◌, IfOk, IsTrue, OnOk, None, Some};
 ghost use Rattle.exif_files.specs.States.{Now, Holds};
 ghost use Rattle.exif_files.specs.Steps.{Creates, Appends, Copies, HasOwner, HasMode, HasTimes, Syncs, Links, Renames, Removes, Settles, MovesIfFree, count_after};
-ghost use Rattle.exif_files.specs.FromMemory.{entry, entry_if, looked, looked_all, states_of, Puts, PutsTwo, Tries, TriesIfFree};
+ghost use Rattle.exif_files_memory.specs.FromMemory.{entry, entry_if, looked, looked_all, states_of, Puts, PutsTwo, Tries, TriesIfFree};
 
-use crate::system::FileSystem;
+use exif_files::FileSystem;
 use std::alloc::{AllocError, Global};
 use std::io::{self, ErrorKind};
 

@@ -1,8 +1,8 @@
 use Rattle.std.proofs.Common.{rules, ◌≡◌, ◌++◌, [], ◌∷◌}
-use Rattle.exif_files.specs.declared.memory.Step.{Step}
+use Rattle.exif_files_memory.specs.declared.memory.Step.{Step}
 use Rattle.exif_files.specs.Steps.{Settles}
-use Rattle.exif_files.proofs.MemorySteps.{moves_one, settles_one}
-use Rattle.exif_files.proofs.memory.MemoryFiles.try_settle.Goals as goal
+use Rattle.exif_files_memory.proofs.MemorySteps.{moves_one, settles_one}
+use Rattle.exif_files_memory.proofs.memory.MemoryFiles.try_settle.Goals as goal
 
 pub returns : goal.returns
 returns c =

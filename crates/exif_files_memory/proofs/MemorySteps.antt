@@ -4,12 +4,12 @@ use Rattle.std.proofs.lemmas.List.{take-append-le, take_all}
 use Rattle.std.specs.Prelude.{zero}
 use Rattle.std.specs.Str.{bytes_eq}
 use Rattle.std.proofs.lemmas.Slice.Eq.{bytes_eq-Decides}
-use Rattle.exif_files.specs.declared.memory.Stored.{Stored}
-use Rattle.exif_files.specs.declared.memory.Put.{Put}
-use Rattle.exif_files.specs.declared.memory.Step.{Step}
+use Rattle.exif_files_memory.specs.declared.memory.Stored.{Stored}
+use Rattle.exif_files_memory.specs.declared.memory.Put.{Put}
+use Rattle.exif_files_memory.specs.declared.memory.Step.{Step}
 use Rattle.exif_files.specs.States.{Entry, State, Now}
 use Rattle.exif_files.specs.Steps.{Moves, Creates, Appends, Copies, Syncs, Links, Renames, Removes, Settles}
-use Rattle.exif_files.specs.FromMemory.{entry, entry_if, looked, looked_all, state_of, states_after, states_of, Puts, PutsTwo, Tries}
+use Rattle.exif_files_memory.specs.FromMemory.{entry, entry_if, looked, looked_all, state_of, states_after, states_of, Puts, PutsTwo, Tries}
 
 looked_all-more : (found : Option Entry) (steps : List Step) (step : Step) (name : List ℕ) → looked_all found (steps ++ step ∷ []) name ≡ looked (looked_all found steps name) step.puts.items name
 looked_all-more found [] step name = refl
