@@ -268,6 +268,10 @@ holds "so is one in the folder" "row 0 at bottom and column 0 at right"
 gives "tags are listed" 0 "$mexaldor" tags
 check "each with its type and meaning" grep -qE '^Orientation +number +Orientation of image$' out
 check "and texts" grep -qE '^Artist +text +Person who created the image$' out
+check "fractions with a sign" grep -qE '^ExposureBiasValue +signed fraction +Exposure bias$' out
+check "and what no text sets" grep -qE '^MakerNote +\(not settable\) +Manufacturer notes$' out
+gives "a mode that the standard does not have is refused" 1 "$mexaldor" set -i work/whole.jpg MeteringMode=7
+says "the message names the tag" "MeteringMode cannot have this value"
 
 # each file once, links, and the program's own files
 fresh

@@ -56,7 +56,8 @@ struct mexaldor_answer {
  * without a terminating zero. Its schema is docs/exif.schema.json; its path is empty. At most
  * `room` bytes of it are written to `out`; the other bytes of `out` stay. The answer has the length
  * of the whole object: if it is greater than `room`, call again with a larger buffer. A refusal
- * also gives an object: with the reason, or without fields if the file has no Exif data.
+ * also gives an object: with the reason, or, if the picture has no Exif data (MEXALDOR_NOT_FOUND),
+ * with its format, an empty summary and no fields.
  *
  * lenient: skip faults in directories and values, and list them in the object.
  * limit: the most directory entries to read, for untrusted files; 0 means 1,000,000. */

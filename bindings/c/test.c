@@ -103,8 +103,12 @@ static void reads(const char *folder)
     struct mexaldor_answer none = mexaldor_read(NULL, 0, true, 0, NULL, 0);
     check("null with 0 is no file", none.status == MEXALDOR_INVALID_FORMAT && none.length > 0);
     struct bytes plain = file(folder, "plain.jpg");
-    none = mexaldor_read(plain.at, plain.length, true, 0, NULL, 0);
+    text = object(plain, true, &none);
     check("a file without Exif data", none.status == MEXALDOR_NOT_FOUND);
+    check("it has a format and no fields",
+          strcmp(text, "{\"path\":\"\",\"format\":\"JPEG\",\"summary\":{},"
+                       "\"fields\":[],\"faults\":[]}") == 0);
+    free(text);
     free(plain.at);
     free(faulty.at);
     free(whole.at);

@@ -110,9 +110,10 @@ def read(source: Source, *, strict: bool = False, limit: int = 0) -> Dict[str, A
     """Read the Exif data of a file, as a dictionary described by docs/exif.schema.json.
 
     `source` is a path or the bytes of a file. Faults in directories and values are skipped and
-    listed under "faults"; with `strict`, the first fault raises `Refused`. `limit` is the most
-    directory entries to read, for untrusted files, below 2**64; 0 means 1,000,000. `Refused` is
-    raised if the file cannot be read.
+    listed under "faults"; with `strict`, the first fault raises `Refused`. A picture without Exif
+    data has a format, an empty "summary" and no "fields". `limit` is the most directory entries to
+    read, for untrusted files, below 2**64; 0 means 1,000,000. `Refused` is raised if the file
+    cannot be read.
     """
     if not 0 <= limit < 2**64:
         raise ValueError("limit must be at least 0 and below 2**64")
@@ -123,11 +124,12 @@ def read(source: Source, *, strict: bool = False, limit: int = 0) -> Dict[str, A
         if answer.length <= len(room):
             break
         room = ctypes.create_string_buffer(answer.length)
-    if answer.status > Status.FAULTS:
-        told = json.loads(room.raw[: answer.length]) if answer.length else {}
-        refused = _refused(answer.status)
-        raise Refused(refused.status, told.get("error", str(refused)))
-    return json.loads(room.raw[: answer.length])
+    # without memory there is no object
+    told = json.loads(room.raw[: answer.length]) if answer.length else {}
+    if answer.status in (Status.OK, Status.FAULTS, Status.NOT_FOUND):
+        return told
+    refused = _refused(answer.status)
+    raise Refused(refused.status, told.get("error", str(refused)))
 
 
 def scrub(source: Source) -> bytes:

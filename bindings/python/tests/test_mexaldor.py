@@ -66,8 +66,16 @@ class Pictures(unittest.TestCase):
         self.refused(Status.INVALID_FORMAT, mexaldor.scrub, b"no picture")
         self.refused(Status.INVALID_FORMAT, mexaldor.set, b"no picture", "Orientation=6")
         self.refused(Status.INVALID_FORMAT, mexaldor.erase_gps, b"")
+
+    def test_a_picture_without_exif_data_has_no_fields(self):
+        for name, form in [("plain.jpg", "JPEG"), ("plain.webp", "WebP")]:
+            for strict in [False, True]:
+                self.assertEqual(
+                    mexaldor.read(self.folder / name, strict=strict),
+                    {"path": "", "format": form, "summary": {}, "fields": [], "faults": []},
+                )
         self.assertEqual(
-            self.refused(Status.NOT_FOUND, mexaldor.read, self.folder / "plain.jpg"),
+            self.refused(Status.NOT_FOUND, mexaldor.set, self.folder / "plain.jpg", "Orientation=6"),
             "No Exif data found",
         )
 

@@ -1,5 +1,7 @@
 pub mod Assigning
 pub mod Calendar
+pub mod Examples
+pub mod Fitting
 pub mod Numbers
 pub mod Rules
 pub mod Shift

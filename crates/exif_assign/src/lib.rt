@@ -3,6 +3,7 @@
 
 mod assignment;
 mod calendar;
+mod fitting;
 pub mod laws;
 mod numbers;
 mod rules;
@@ -11,7 +12,7 @@ mod spelled;
 mod values;
 
 pub use assignment::Assignment;
-pub use rules::type_of_new;
+pub use rules::{Spelling, spelling_of, type_of_new};
 pub use shift::{ClockShift, Unmoved, moved_value};
 pub use spelled::ValueError;
 pub use values::value_of;

@@ -4,11 +4,11 @@ ghost use Rattle.std.specs.Prelude.{◌≡◌, ◌<◌, ◌≤◌, ◌*◌, ◌%
 ghost use Rattle.std.specs.List.{list_all, list_any};
 ghost use Rattle.std.specs.Option.{option_map};
 ghost use Rattle.exif_assign.specs.Texts.{Spells, fraction};
-ghost use Rattle.exif_assign.specs.Values.{ValuesAs, are_degrees, character_code, comment_in, date_in, decimal_degrees, degrees_in, degrees_value, first_text, fits, has_separators, is_date, is_degrees, is_fraction, is_less, is_letter, is_within, number_of, spelled_value, text_in, value_in};
+ghost use Rattle.exif_assign.specs.Values.{ValuesAs, bytes_of, character_code, date_in, day_in, decimal_degrees, degrees_in, degrees_value, has_day_separators, has_separators, spelled_value, text_in, undefined_value, value_in};
 
+use crate::fitting::fits;
 use crate::numbers::{cut, number_below};
 use crate::rules::{Form, form_of};
-use crate::shift::stated;
 use crate::spelled::{ValueError, items_in, power_of_ten};
 use exif_base::Items;
 use exif_text::{FieldType, Rational};
@@ -73,6 +73,27 @@ fn date_in(alloc: Global, text: &[u8]) -> Result<Value, ValueError>
     Ok(one_text(alloc, bytes)?)
 }
 
+// Whether a text has what may separate the parts of a day, as ISO 8601 and Exif do.
+fn has_day_separators(text: &[u8]) -> bool
+    requires { length text.now ≡ 10 }
+    ensures { result ≡ has_day_separators text.now }
+{
+    (text[4] == b':' || text[4] == b'-') && (text[7] == b':' || text[7] == b'-')
+}
+
+// A day with the separators of Exif data (Exif 2.32, section 4.6.6, GPSDateStamp).
+fn day_in(alloc: Global, text: &[u8]) -> Result<Value, ValueError>
+    ensures { Spells (λ value. value) result (day_in text.now) }
+{
+    if text.len() != 10 || !has_day_separators(text) {
+        return Err(ValueError::NotOfItsType);
+    }
+    let mut bytes = Vec::from_slice(alloc, text)?;
+    bytes[4] = b':';
+    bytes[7] = b':';
+    Ok(one_text(alloc, bytes)?)
+}
+
 // The character code of a comment: ASCII, or none.
 fn character_code(text: &[u8]) -> [u8; 8]
     ensures { result ≡ character_code text.now }
@@ -84,25 +105,25 @@ fn character_code(text: &[u8]) -> [u8; 8]
     }
 }
 
-// A comment behind its character code (Exif 2.32, section 4.6.5, UserComment).
+// A comment behind its character code (Exif 2.32, sections 4.6.5, UserComment, and 4.6.6).
 fn comment(alloc: Global, text: &[u8]) -> Result<Value, AllocError>
     ensures { IfOk result
-        (λ value. value ≡ Value.Undefined (character_code text.now ++ text.now) 0) }
+        (λ value. value ≡ bytes_of (character_code text.now ++ text.now)) }
 {
     let mut bytes = Vec::from_slice(alloc, &character_code(text))?;
     bytes.extend_from_slice(text)?;
     Ok(Value::Undefined(Items::from_vec(bytes), 0))
 }
 
-// A comment, or bytes.
-fn comment_in(alloc: Global, tag: Tag, text: &[u8]) -> Result<Value, AllocError>
-    ensures { IfOk result (λ value. value ≡ comment_in tag text.now) }
+// A comment behind its character code, a number, or the bytes of the text.
+fn undefined_value(alloc: Global, form: Form, text: &[u8]) -> Result<Value, ValueError>
+    ensures { Spells (λ value. value) result (undefined_value form text.now) }
 {
-    if tag == Tag::UserComment {
-        return comment(alloc, text);
+    match form {
+        Form::Comment => Ok(comment(alloc, text)?),
+        Form::Within(_, _) => Ok(Value::Undefined(items_in(alloc, text)?, 0)),
+        _ => Ok(Value::Undefined(Items::from_slice(alloc, text)?, 0)),
     }
-    let bytes = Items::from_slice(alloc, text)?;
-    Ok(Value::Undefined(bytes, 0))
 }
 
 // The seconds of a part of a degree over a power of ten, which the whole minutes leave.
@@ -181,8 +202,9 @@ fn spelled_value(
 {
     match (field_type, form_of(tag)) {
         (FieldType::Ascii, Form::Date) => date_in(alloc, text),
+        (FieldType::Ascii, Form::Day) => day_in(alloc, text),
         (FieldType::Ascii, _) => text_in(alloc, text),
-        (FieldType::Undefined, _) => Ok(comment_in(alloc, tag, text)?),
+        (FieldType::Undefined, form) => undefined_value(alloc, form, text),
         (FieldType::Byte, _) => Ok(Value::Byte(items_in(alloc, text)?)),
         (FieldType::Short, _) => Ok(Value::Short(items_in(alloc, text)?)),
         (FieldType::Long, _) => Ok(Value::Long(items_in(alloc, text)?)),
@@ -196,127 +218,15 @@ fn spelled_value(
     }
 }
 
-// The number of a value that holds one.
-fn number_of(value: &Value) -> Option<u32>
-    ensures { result ≡ number_of value.now }
-{
-    match value {
-        Value::Byte(items) if items.as_slice().len() == 1 => Some(u32::from(items.as_slice()[0])),
-        Value::Short(items) if items.as_slice().len() == 1 => Some(u32::from(items.as_slice()[0])),
-        Value::Long(items) if items.as_slice().len() == 1 => Some(items.as_slice()[0]),
-        _ => None,
-    }
-}
-
-// Whether a value is one number, from the first to the second.
-fn is_within(low: u32, high: u32, value: &Value) -> bool
-    ensures { result ≡ is_within low high value.now }
-{
-    match number_of(value) {
-        Some(number) => low <= number && number <= high,
-        None => false,
-    }
-}
-
-// The first text of a value of texts.
-fn first_text(value: &Value) -> Option<&[u8]>
-    ensures { option_map (λ text. text.now) result ≡ first_text value.now }
-{
-    match value {
-        Value::Ascii(texts) if texts.as_slice().len() == 1 => Some(texts.as_slice()[0].as_slice()),
-        _ => None,
-    }
-}
-
-// Whether a value is a date of the calendar.
-fn is_date(value: &Value) -> bool
-    ensures { result ≡ is_date value.now }
-{
-    match first_text(value) {
-        Some(text) => stated(text).is_ok() && text.len() == 19,
-        None => false,
-    }
-}
-
-// Whether a value is one of two letters.
-fn is_letter(one: u8, other: u8, value: &Value) -> bool
-    ensures { result ≡ is_letter one other value.now }
-{
-    match first_text(value) {
-        Some(text) => text.len() == 1 && (text[0] == one || text[0] == other),
-        None => false,
-    }
-}
-
-// Whether a value is one fraction over another number than 0.
-fn is_fraction(value: &Value) -> bool
-    ensures { result ≡ is_fraction value.now }
-{
-    match value {
-        Value::Rational(items) => {
-            let items = items.as_slice();
-            items.len() == 1 && items[0].denom != 0
-        }
-        Value::SRational(items) => {
-            let items = items.as_slice();
-            items.len() == 1 && items[0].denom != 0
-        }
-        _ => false,
-    }
-}
-
-// Whether a fraction is less than a number.
-fn is_less(fraction: Rational, than: u32) -> bool
-    ensures { result ≡ is_less fraction than }
-{
-    fraction.denom != 0 && fraction.num / fraction.denom < than
-}
-
-// Whether degrees, minutes and seconds are at most so many degrees.
-fn are_degrees(most: u32, degrees: Rational, minutes: Rational, seconds: Rational) -> bool
-    ensures { result ≡ are_degrees most degrees minutes seconds }
-{
-    if is_less(degrees, most) {
-        return is_less(minutes, 60) && is_less(seconds, 60);
-    }
-    degrees.denom != 0
-        && degrees.num % degrees.denom == 0
-        && degrees.num / degrees.denom == most
-        && minutes.num == 0
-        && seconds.num == 0
-}
-
-// Whether a value is degrees, minutes and seconds, at most so many degrees.
-fn is_degrees(most: u32, value: &Value) -> bool
-    ensures { result ≡ is_degrees most value.now }
-{
-    match value {
-        Value::Rational(items) => {
-            let items = items.as_slice();
-            items.len() == 3 && are_degrees(most, items[0], items[1], items[2])
-        }
-        _ => false,
-    }
-}
-
-// Whether a tag can have a value.
-fn fits(form: Form, value: &Value) -> bool
-    ensures { result ≡ fits form value.now }
-{
-    match form {
-        Form::Any => true,
-        Form::Date => is_date(value),
-        Form::Within(low, high) => is_within(low, high, value),
-        Form::Fraction => is_fraction(value),
-        Form::Degrees(most) => is_degrees(most, value),
-        Form::Letter(one, other) => is_letter(one, other, value),
-    }
-}
-
 /// The value of a type that a text spells: texts as they are, numbers between commas or spaces,
-/// fractions as `1/200`, `28` or `2.8`, degrees as a decimal or as three fractions. Dates may be
-/// written as ISO 8601 has them. For the tags that [`type_of_new`](crate::type_of_new) knows, a value
-/// that the standard does not have is refused as `OutOfRange`.
+/// fractions as `1/200`, `28` or `2.8`, degrees as a decimal or as three fractions, comments behind
+/// their character code. Dates and days may be written as ISO 8601 has them.
+///
+/// A value that the standard does not have for a tag is refused as `OutOfRange`: another number of
+/// items, a number that it does not list, a date that the calendar lacks, a fraction over 0. Not
+/// checked: that texts are ASCII, the bytes of `ImageUniqueID` and of tags of type undefined, the
+/// versions, the tables of colours, and how many items `BitsPerSample` has. A date, a day or an offset
+/// that is blank, which the standard allows where it is unknown, is refused.
 #[tactic(auto, unfolding(crate::specs::Values::value_in))]
 pub fn value_of(
     alloc: Global,

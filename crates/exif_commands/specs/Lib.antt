@@ -1,4 +1,1 @@
 pub mod Answers
-pub mod Rules
-pub mod Tallies
-pub mod Unsupported

@@ -1,9 +1,9 @@
 //! Messages on standard error. Where it is closed or full they are lost, and the work goes on.
 
-use crate::escaped::Escaped;
 use crate::progress::Progress;
 use exif::Sink;
 use exif_base::send_all;
+use exif_decisions::Escaped;
 use std::fmt::Display;
 
 /// Standard error, with a line of progress.

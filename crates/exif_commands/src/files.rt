@@ -2,8 +2,6 @@
 
 use crate::change::change_bytes;
 use crate::console::Console;
-use crate::counts::{Summary, status_of};
-use crate::formats::unsupported_of;
 use crate::in_place::change_in_place;
 use crate::inputs::{Head, head_of_file, open, read_file};
 use crate::json::object_of;
@@ -15,6 +13,7 @@ use crate::thumbnail::thumbnail_of;
 use exif::Sink;
 use exif_base::send_all;
 use exif_change::Refusal;
+use exif_decisions::{Summary, status_of, unsupported_of};
 use exif_files::Status;
 use std::alloc::{AllocError, AllocFailed};
 use std::fmt::Display;

@@ -2,13 +2,12 @@
 
 use crate::change::{ChangeEdit, Left};
 use crate::console::Console;
-use crate::counts::Counts;
-use crate::escaped::Escaped;
 use crate::files::{Session, Stop};
 use crate::pending::Next;
 use crate::request::Change;
 use exif::Sink;
 use exif_change::Refusal;
+use exif_decisions::{Counts, Escaped};
 use exif_files::{Failure, HostFiles, Keeping, Reporter, Status, WriteError, change_all};
 use std::alloc::AllocError;
 use std::io::{self, ErrorKind};

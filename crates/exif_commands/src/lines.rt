@@ -1,8 +1,8 @@
 //! The lines of a report as they are shown: control characters escaped, long values in short.
 
-use crate::escaped::Escaped;
 use exif::Sink;
 use exif_base::send_all;
+use exif_decisions::Escaped;
 use std::alloc::{AllocError, Global};
 use std::io::{self, Write};
 

@@ -1,10 +1,9 @@
 //! Where OUT is written.
 
-use crate::escaped::Escaped;
 use crate::files::Stop;
-use crate::rules::{Destination, Existing, destination_of};
 use exif::Sink;
 use exif_base::send_all;
+use exif_decisions::{Destination, Escaped, Existing, destination_of};
 use exif_files::{HostFiles, WriteError, create_new, replace};
 use std::alloc::{AllocError, Global};
 use std::{fmt, fs};

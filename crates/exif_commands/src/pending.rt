@@ -1,8 +1,6 @@
 //! The files that are named, and those in folders, one after the other.
 
-use crate::counts::Counts;
-use crate::escaped::{is_unreadable, readable};
-use crate::rules::{Action, Kind, action_of, is_own_name};
+use exif_decisions::{Action, Counts, Kind, action_of, is_own_name, is_unreadable, readable};
 use std::alloc::{AllocError, Global};
 use std::fs::{self, Metadata};
 use std::io::{self, ErrorKind, Read};

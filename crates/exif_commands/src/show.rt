@@ -1,12 +1,12 @@
 //! The report of a file, under a line with its name.
 
-use crate::escaped::Escaped;
 use crate::files::Stop;
 use crate::inputs::{Input, open};
 use crate::lines::Lines;
 use crate::request::Reading;
 use exif::{Counted, Error, Seekable, Sink};
 use exif_base::send_all;
+use exif_decisions::Escaped;
 use exif_report::report_limited;
 use std::alloc::Global;
 

@@ -1,5 +1,5 @@
 -- Counts of failures, and names that are equal or not.
-use Rattle.std.proofs.Common.{ap, ◌∙◌, Result, Ok, Err, OnErr, is_err, ◌≡◌, ◌≢◌, ◌⊎◌, ℕ, ◌≤◌, ◌<◌, ◌-◌, ◌^◌, List, Bool, true, false, sym, refl, subst, inl, inr, arith}
+use Rattle.std.proofs.Common.{ap, ◌∙◌, Result, Ok, Err, OnErr, is_err, ◌≡◌, ◌≢◌, ◌⊎◌, ℕ, ◌≤◌, ◌<◌, ◌-◌, ◌^◌, List, Bool, true, false, sym, refl, inl, inr, arith}
 use Rattle.std.specs.Prelude.{◌&&◌, ◌==◌, ltb}
 use Rattle.std.specs.Str.{bytes_eq}
 use Rattle.std.proofs.lemmas.Bool.{eqb-true, ltb-true, eq-eqb, lt-ltb}

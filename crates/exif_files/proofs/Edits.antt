@@ -1,8 +1,10 @@
 -- Replacements by the answer of an edit.
-use Rattle.std.proofs.Common.{◌≡◌, ◌≢◌, ◌⊎◌, ℕ, List, Bool, Option, Some, None, ap, sym, refl, subst, ◌∙◌, inl, inr}
-use Rattle.exif_files.specs.States.{Entry, State, Holds, Now, Run, IsUnchanged}
+use Rattle.std.proofs.Common.{◌≡◌, ◌⊎◌, ℕ, List, [], ◌∷◌, Bool, true, false, nat_eq, Option, ap, sym, refl, subst, ◌∙◌, inl, inr, arith}
+use Rattle.std.specs.Cmp.Lexicographic.{pointwise}
+use Rattle.std.proofs.lemmas.Bool.Decides.{nat_tests}
+use Rattle.exif_files.specs.States.{Entry, State, Holds, Now, Run}
 use Rattle.exif_files.specs.Written.{IsLike, IsNew, IsWhole, IsReplaced, IsReplacedForGood, IsGivenUp, none_failed}
-use Rattle.exif_files.specs.Changed.{HasAnswer, IsWholeChange, IsChanged, IsNotChanged}
+use Rattle.exif_files.specs.Changed.{AnyState, HasAnswer, HasOtherBytes, IsWholeChange, IsChanged, IsNotChanged}
 use Rattle.exif_files.proofs.Runs.{run_begin, run_then, run_stay, run_weaker}
 
 module _ (answer : List ℕ → List ℕ → Type 0) (name : List ℕ) (backup : Option (List ℕ)) (times : Bool) (old new : List ℕ) (answered : answer old new) where
@@ -72,3 +74,29 @@ module _ (answer : List ℕ → List ℕ → Type 0) (name : List ℕ) (backup :
         kept_as = inr (λ n. ap (λ (x : State). x.at n) begun.0);
         others = λ n ne no. ap (λ (x : State). x.at n) begun.0;
       })
+
+-- a file that is replaced by other bytes than those that were read
+module _ (name : List ℕ) (backup : Option (List ℕ)) (times calm : Bool) (old written : List ℕ) (differ : written ≡ old → ⊥) where
+  other_bytes : (s u : State) → Holds s name (λ e. e.bytes ≡ old) → IsNew name written times calm s u → HasOtherBytes name s u
+  other_bytes s u (f, is, e) (o, was, (g, now, (bytes, like, kept))) = (f, is, (g, now, λ same. differ (sym bytes ∙ (same ∙ e))))
+
+  pub run_rewritten : (a b c : List State) → Now a (λ s. Holds s name (λ e. e.bytes ≡ old)) → b ≡ a
+      → Run (IsWhole name backup written times calm) (IsReplacedForGood name backup written times calm) b c
+      → Run AnyState (HasOtherBytes name) a c
+  run_rewritten a b c now same run =
+      run_then (run_stay (run_begin AnyState (λ s. Holds s name (λ e. e.bytes ≡ old)) a now) same) run (λ s t h. tt) (λ s t u begun whole. tt)
+      (λ s t u begun r.
+      let Q : State → Type 0 = λ x. IsReplaced name backup written times calm x u in
+      let replaced = subst Q begun.0 r.replaced in
+      other_bytes s u begun.1 replaced.file)
+
+same_bytes : (xs : List ℕ) → pointwise nat_eq xs xs ≡ true
+same_bytes [] = refl
+same_bytes (x ∷ xs) = let here : nat_eq x x ≡ true = grind (arith, nat_tests) in rw here (same_bytes xs)
+
+-- lists that a test told apart
+pub not_same : (xs ys : List ℕ) → false ≡ pointwise nat_eq xs ys → xs ≡ ys → ⊥
+not_same xs ys told same =
+    let equal = same_bytes ys in
+    let other : false ≡ pointwise nat_eq ys ys = subst (λ (zs : List ℕ). false ≡ pointwise nat_eq zs ys) same told in
+    cc

@@ -1,12 +1,12 @@
 -- What the calls make of the states by which a file is filled and gets what another has.
-use Rattle.std.proofs.Common.{◌≡◌, ◌≢◌, ℕ, List, [], ◌∷◌, ◌++◌, Bool, subst, None, Some, true, false, sym, ap, refl, ◌∙◌, inl, inr, append_assoc, Result, Ok, Err, OnOk, OnErr, is_err, arith, ◌+◌, ◌-◌, ◌≤◌, length, take, drop, length-drop}
+use Rattle.std.proofs.Common.{◌≡◌, ◌≢◌, ℕ, List, [], ◌++◌, Bool, subst, Some, true, false, sym, ap, refl, ◌∙◌, append_assoc, Result, Ok, Err, OnOk, is_err, arith, ◌+◌, ◌-◌, ◌≤◌, length, take, drop, length-drop}
 use Rattle.std.proofs.lemmas.List.{append-nil, take_all}
 use Rattle.std.proofs.Math.Seq.{take-add}
-use Rattle.exif_files.specs.States.{Entry, State, Holds, Elsewhere, Now, Run}
-use Rattle.exif_files.specs.Steps.{Creates, Appends, Copies, HasOwner, HasMode, HasTimes, Syncs, Moves, Does, count_after}
-use Rattle.exif_files.specs.Written.{IsLike, none_failed}
+use Rattle.exif_files.specs.States.{Entry, State, Holds, Elsewhere, Run}
+use Rattle.exif_files.specs.Steps.{Appends, Copies, HasOwner, HasMode, HasTimes, Moves, Does, count_after}
+use Rattle.exif_files.specs.Written.{none_failed}
 use Rattle.exif_files.specs.Parts.{IsAppended, MayHaveOwner, HasTimesIf, HasAccess}
-use Rattle.exif_files.proofs.Runs.{run_begin, run_none, run_one, run_then, run_step, run_stay, run_weaker}
+use Rattle.exif_files.proofs.Runs.{run_none, run_one, run_then, run_step}
 use Rattle.exif_files.proofs.Counts.{not_calm}
 
 pub elsewhere_then : (name : List ℕ) (s t u : State) → Elsewhere name s t → Elsewhere name t u → Elsewhere name s u

@@ -1,7 +1,6 @@
 pub mod Counts
 pub mod Edits
 pub mod Filling
-pub mod MemorySteps
 pub mod Moving
 pub mod NewFiles
 pub mod Runs

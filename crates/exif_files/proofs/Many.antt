@@ -1,13 +1,13 @@
 -- How a run over many files goes on.
 use Rattle.std.proofs.Common.{◌≡◌, ◌≢◌, ◌⊎◌, ℕ, ◌+◌, List, [], ◌∷◌, ◌++◌, Bool, true, false, Option, None, Some, ap, sym, refl, subst, ◌∙◌, inl, inr, length, arith, cond, ◌≤◌}
 use Rattle.std.proofs.lemmas.List.{drop_more, take_more, take-append-drop, take_all, get_or-map, length-map}
-use Rattle.std.specs.Prelude.{◌||◌, ⊤, ◌<◌, take, drop, map, get_or, zero, suc}
+use Rattle.std.specs.Prelude.{◌||◌, ◌<◌, take, drop, map, get_or, suc}
 use Rattle.std.specs.Str.{bytes_eq}
 use Rattle.std.proofs.lemmas.Slice.Eq.{bytes_eq-Decides}
 use Rattle.exif_files.specs.declared.outcome.Status.{Status}
 use Rattle.exif_files.specs.declared.outcome.Status.TheVariants.{Success, Incomplete, Refused}
 use Rattle.exif_files.specs.States.{Entry, State, Run}
-use Rattle.exif_files.specs.Names.{IsHidden, IsFresh, OthersKept, backup_of, backup_if}
+use Rattle.exif_files.specs.Names.{IsHidden, backup_of, backup_if}
 use Rattle.exif_files.specs.Changed.{HasAnswer, IsWholeChange, IsOutcome}
 use Rattle.exif_files.specs.Parts.{Takes}
 use Rattle.exif_files.specs.Each.{is_among, is_repeated, OnceAfter, AreOnce, IsDone, IsAnswer, IsAnswered, IsEachWhole, AllAnswered, IsEachDone}

@@ -1,7 +1,7 @@
 -- What the calls make of the states by which a filled file gets its name.
-use Rattle.std.proofs.Common.{◌≡◌, ◌≢◌, ◌⊎◌, ℕ, List, [], ◌∷◌, ◌++◌, Bool, subst, Option, None, Some, true, false, sym, ap, refl, ◌∙◌, inl, inr, Result, Ok, Err, OnOk, OnErr, arith, ◌+◌, ◌≤◌}
+use Rattle.std.proofs.Common.{◌≡◌, ◌≢◌, ◌⊎◌, ℕ, List, [], ◌∷◌, ◌++◌, Bool, subst, Option, None, Some, true, false, sym, ap, refl, ◌∙◌, inl, inr, Result, Ok, Err, OnOk, OnErr, arith}
 use Rattle.exif_files.specs.States.{Entry, State, Holds, Elsewhere, Now, Run}
-use Rattle.exif_files.specs.Steps.{Creates, Syncs, Links, Renames, Removes, Moves, MovesIfFree, Does, count_after}
+use Rattle.exif_files.specs.Steps.{Syncs, Links, Renames, Removes, Moves, MovesIfFree, Does, count_after}
 use Rattle.exif_files.specs.Written.{IsLike, IsNew, FailedTwice, none_failed}
 use Rattle.exif_files.specs.Parts.{FailsOrNot, FailsOnceOrNot, IsAppended, HasAccess, IsFreeFor, IsMoving, IsMoved, IsNotMoved, IsPutting, IsPut, IsNotPut}
 use Rattle.exif_files.proofs.Runs.{run_begin, run_none, run_one, run_then, run_step, run_stay, run_weaker}

@@ -1,10 +1,10 @@
 -- What the calls make of the states by which a new file is made.
-use Rattle.std.proofs.Common.{◌≡◌, ◌≢◌, ◌⊎◌, ℕ, List, [], ◌∷◌, ◌++◌, Bool, subst, Option, None, Some, true, false, sym, ap, refl, ◌∙◌, inl, inr, Result, Ok, Err, OnErr}
+use Rattle.std.proofs.Common.{◌≡◌, ◌≢◌, ◌⊎◌, ℕ, List, [], ◌∷◌, ◌++◌, Bool, subst, None, Some, true, false, sym, ap, ◌∙◌, inl, inr, Result, Ok, Err, OnErr}
 use Rattle.std.specs.Prelude.{IsTrue, ◌↔◌}
-use Rattle.exif_files.specs.States.{Entry, State, Holds, Elsewhere, Now, Run, IsUnchanged}
+use Rattle.exif_files.specs.States.{Entry, State, Holds, Elsewhere, Now, Run}
 use Rattle.exif_files.specs.Steps.{Creates, Syncs, Renames, Removes, Settles, Moves, Does}
-use Rattle.exif_files.specs.Names.{IsHidden, IsFresh}
-use Rattle.exif_files.specs.Written.{IsMade, IsWholeNew, IsCreated, IsCreatedForGood, IsNotCreated, IsLeftOver}
+use Rattle.exif_files.specs.Names.{IsHidden}
+use Rattle.exif_files.specs.Written.{IsMade, IsWholeNew, IsCreated, IsCreatedForGood, IsNotCreated}
 use Rattle.exif_files.specs.Parts.{IsAppended, IsPuttingNew, IsPutNew}
 use Rattle.exif_files.proofs.Runs.{run_begin, run_one, run_then, run_step, run_stay, run_weaker}
 use Rattle.exif_files.proofs.Counts.{same_or_other}

@@ -1,11 +1,11 @@
 -- What becomes of a file in a run.
-use Rattle.std.proofs.Common.{◌≡◌, ◌≢◌, ◌⊎◌, ℕ, List, Bool, true, false, Option, None, Some, ap, refl, inl, inr, Result, Ok, Err, OnOk, OnErr}
+use Rattle.std.proofs.Common.{◌≡◌, ◌⊎◌, ℕ, List, Bool, false, Option, None, Some, inl, inr, Result, Ok, Err, OnOk, OnErr}
 use Rattle.std.specs.Prelude.{IfErr}
 use Rattle.exif_files.specs.declared.outcome.Status.{Status}
 use Rattle.exif_files.specs.declared.outcome.Status.TheVariants.{Refused}
 use Rattle.exif_files.specs.declared.changing.Failure.{Failure}
-use Rattle.exif_files.specs.States.{Entry, State, Run}
-use Rattle.exif_files.specs.Names.{IsFresh, OthersKept}
+use Rattle.exif_files.specs.States.{State, Run}
+use Rattle.exif_files.specs.Names.{OthersKept}
 use Rattle.exif_files.specs.Changed.{HasAnswer, IsWholeChange, IsChanged, IsNotChanged, IsOutcome}
 use Rattle.exif_files.specs.Failed.{FailedInWriting}
 use Rattle.exif_files.proofs.Runs.{run_weaker}

@@ -1,13 +1,13 @@
 -- What the calls make of the states from the creation of the new file to the last.
-use Rattle.std.proofs.Common.{◌≡◌, ◌≢◌, ◌⊎◌, ℕ, List, [], ◌∷◌, ◌++◌, Bool, subst, Option, None, Some, true, false, sym, ap, refl, ◌∙◌, inl, inr, Result, Ok, Err, OnOk, OnErr, arith, ◌+◌, ◌≤◌}
+use Rattle.std.proofs.Common.{◌≡◌, ◌≢◌, ◌⊎◌, ℕ, List, [], ◌∷◌, Bool, subst, Option, None, Some, true, sym, ap, ◌∙◌, inl, inr, Result, Ok, Err, OnErr, ◌≤◌}
 use Rattle.exif_files.specs.declared.failure.WriteError.{WriteError}
 use Rattle.exif_files.specs.declared.failure.WriteError.TheVariants.{Taken}
-use Rattle.exif_files.specs.States.{Entry, State, Holds, Elsewhere, Now, Run, IsUnchanged}
+use Rattle.exif_files.specs.States.{State, Holds, Elsewhere, Now, Run}
 use Rattle.exif_files.specs.Steps.{Creates, Removes, Settles, Moves, Does, count_after}
 use Rattle.exif_files.specs.Names.{IsHidden, IsFresh, OthersKept}
-use Rattle.exif_files.specs.Written.{IsLike, IsNew, IsWhole, IsReplaced, IsReplacedForGood, IsLeftOver, IsGivenUp, FailedTwice, FailedToRemove, none_failed}
+use Rattle.exif_files.specs.Written.{IsNew, IsWhole, IsReplaced, IsReplacedForGood, IsGivenUp, FailedTwice, FailedToRemove, none_failed}
 use Rattle.exif_files.specs.Parts.{FailsOrNot, FailsOnceOrNot, IsFreeFor, IsPutting, IsPut, IsNotPut}
-use Rattle.exif_files.proofs.Runs.{run_begin, run_none, run_one, run_then, run_step, run_stay, run_weaker}
+use Rattle.exif_files.proofs.Runs.{run_one, run_then, run_step, run_stay, run_weaker}
 use Rattle.exif_files.proofs.Counts.{same_or_other, calm_same, not_calm_after, calmer_after, twice_then, removal_failed}
 use Rattle.exif_files.proofs.Moving.{file_calmer, new_calmer}
 

@@ -1,9 +1,9 @@
 -- What a file that is changed in place leaves. An answer relates the old bytes to the new ones.
-use Rattle.std.specs.Prelude.{◌≡◌, ◌≢◌, ◌⊎◌, ℕ, List, Bool, false, Option, None, Some}
+use Rattle.std.specs.Prelude.{◌≡◌, ◌≢◌, ◌⊎◌, ⊤, ℕ, List, Bool, false, Option, None, Some}
 use Rattle.exif_files.specs.declared.outcome.Status.{Status}
 use Rattle.exif_files.specs.declared.outcome.Status.TheVariants.{Refused}
 use Rattle.exif_files.specs.States.{Entry, State, Holds, IsUnchanged}
-use Rattle.exif_files.specs.Names.{IsFresh, OthersKept}
+use Rattle.exif_files.specs.Names.{OthersKept}
 use Rattle.exif_files.specs.Written.{IsLike, IsLeftOver}
 
 -- the file has an answer to the old bytes, and is like the old one
@@ -22,6 +22,15 @@ pub record IsChanged (answer : List ℕ → List ℕ → Type 0) (name : List �
   pub file : HasAnswer answer name times calm s t
   pub kept_as : ((b : List ℕ) → backup ≡ Some b → (t.at b ≡ s.at name) × (s.at b ≡ None)) ⊎ IsUnchanged s t
   pub others : (n : List ℕ) → n ≢ name → (backup ≡ Some n → ⊥) → t.at n ≡ s.at n
+
+-- nothing is said of a state
+abbrev pub AnyState : State → State → Type 0
+AnyState s t = ⊤
+
+-- the file has other bytes than it had
+abbrev pub HasOtherBytes : List ℕ → State → State → Type 0
+HasOtherBytes name s t =
+    (old : Entry) × (s.at name ≡ Some old) × Holds t name (λ f. f.bytes ≢ old.bytes)
 
 -- What an error leaves: all as it was; or the answer, where only the name could not be synced; or all as
 -- it was but for a file of the program's own, where its removal failed too.

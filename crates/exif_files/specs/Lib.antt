@@ -1,7 +1,6 @@
 pub mod Changed
 pub mod Each
 pub mod Failed
-pub mod FromMemory
 pub mod Names
 pub mod Parts
 pub mod PowerLoss

@@ -1,5 +1,5 @@
 -- What a file system holds.
-use Rattle.std.specs.Prelude.{◌≡◌, ◌≢◌, ℕ, List, [], ◌∷◌, ◌++◌, Bool, true, Option, Some, ⊤}
+use Rattle.std.specs.Prelude.{◌≡◌, ◌≢◌, ℕ, List, [], ◌∷◌, ◌++◌, Bool, Option, Some, ⊤}
 use Rattle.std.specs.List.{AllByRecursion}
 
 -- a file: its bytes, who may use it, its owner, its times, and whether the disk has all of it

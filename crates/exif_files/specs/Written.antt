@@ -1,5 +1,5 @@
 -- What a file that is written whole or not at all leaves.
-use Rattle.std.specs.Prelude.{◌≡◌, ◌≢◌, ◌≤◌, ◌-◌, ◌^◌, ◌⊎◌, ℕ, List, ◌++◌, Bool, true, Option, None, Some, ◌==◌, ◌&&◌, ltb}
+use Rattle.std.specs.Prelude.{◌≡◌, ◌≢◌, ◌≤◌, ◌-◌, ◌^◌, ◌⊎◌, ℕ, List, Bool, true, Option, None, Some, ◌==◌, ◌&&◌, ltb}
 use Rattle.exif_files.specs.States.{Entry, State, Holds, Elsewhere, IsUnchanged}
 use Rattle.exif_files.specs.Steps.{count_after}
 use Rattle.exif_files.specs.Names.{IsFresh, OthersKept}

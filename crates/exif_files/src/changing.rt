@@ -1,10 +1,10 @@
 //! A file that is changed in place.
 
-ghost use Rattle.std.specs.Prelude.{◌≡◌, ℕ, List, IfOk, IfErr, OnOk, string_bytes};
+ghost use Rattle.std.specs.Prelude.{◌≡◌, ◌⊎◌, ℕ, List, IfOk, IfErr, OnOk, string_bytes};
 ghost use Rattle.exif_files.specs.States.{Run};
 ghost use Rattle.exif_files.specs.Names.{backup_of, backup_if};
 ghost use Rattle.exif_files.specs.Written.{IsWhole, IsReplacedForGood, IsGivenUp, FailedToRemove, none_failed};
-ghost use Rattle.exif_files.specs.Changed.{IsWholeChange, IsChanged, IsNotChanged};
+ghost use Rattle.exif_files.specs.Changed.{AnyState, HasOtherBytes, IsWholeChange, IsChanged, IsNotChanged};
 ghost use Rattle.exif_files.specs.Failed.{IfRefused, FailedInWriting};
 
 use crate::failure::WriteError;
@@ -95,7 +95,7 @@ fn backup_name(alloc: Global, name: &str) -> Result<String, AllocError>
     format!(in alloc; "{name}.orig")
 }
 
-// Puts bytes in the place of a file.
+// Replaces a file by one with these bytes.
 fn write_over<F: FileSystem>(
     alloc: Global,
     files: &mut F,
@@ -158,6 +158,9 @@ pub fn change<F: FileSystem, E: Edit>(
         (FailedInWriting e (F.failures files.old) (F.failures files.new)))
         (F.states files.old) (F.states files.new)) }
     ensures refused { IfErr result (λ e. IfRefused e (F.states files.new ≡ F.states files.old)) }
+    // a file that is its own answer is not written
+    ensures written { OnOk result ((F.states files.new ≡ F.states files.old)
+        ⊎ Run AnyState (HasOtherBytes name.now) (F.states files.old) (F.states files.new)) }
 {
     let old = match files.read(alloc, name) {
         Ok(old) => old,

@@ -36,7 +36,7 @@ pub fn create_new<F: FileSystem>(
     // `Taken` is of the name.
     ensures taken { IfErr result (λ e. e ≡ Taken
         → Now (F.states files.old) (λ s. s.at name.now ≢ None)) }
-    // It gives up by itself only for want of memory or of a name; else a call failed.
+    // It gives up by itself only where there is no memory or no free name; else a call failed.
     ensures cause { IfErr result (λ e. e ≢ OutOfMemory → e ≢ Taken → e ≢ Crowded
         → count_after true (F.failures files.old) ≤ F.failures files.new) }
 {

@@ -2,14 +2,13 @@
 //!
 //! A [`FileSystem`] is a device that contracts can see: it knows each state that it has been in. So
 //! a contract says what each moment of a call leaves, whatever fails and whenever the process is
-//! killed. [`HostFiles`] is that of the system, and [`MemoryFiles`] is for tests.
+//! killed. [`HostFiles`] is that of the system.
 #![tactic(auto)]
 
 mod changing;
 mod creating;
 mod failure;
 mod host;
-mod memory;
 mod outcome;
 mod power;
 mod replacing;
@@ -21,12 +20,8 @@ pub use changing::{Edit, EditError, Edited, Failure, Keeping, change};
 pub use creating::create_new;
 pub use failure::WriteError;
 pub use host::{HostFiles, folder_of};
-pub use memory::{MemoryFiles, Stored};
 pub use outcome::Status;
 pub use power::{loss_law, new_loss_law};
 pub use replacing::replace;
 pub use running::{Reporter, change_all};
 pub use system::FileSystem;
-
-#[cfg(test)]
-mod tests;

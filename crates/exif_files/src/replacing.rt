@@ -17,14 +17,13 @@ use std::io;
 // Who may use a file that replaces another, while it is written: its owner alone.
 const PRIVATE: u32 = 0o600;
 
-/// Puts a file with these bytes in the place of the one of this name: first in the same folder
+/// Replaces the file of this name by one with these bytes: it is written first in the same folder
 /// under a hidden name, and then in one step. It has the mode of the old one, its owner if the
 /// system allows that, and its times if `times` says so. The old one stays under the name `backup`,
 /// which must be free. It takes the memory of a name.
 ///
 /// In every state of the run the name has the old file or the new one, whole and kept by the disk,
-/// and every other name what it had: whoever kills the process or takes its power finds one of the
-/// two.
+/// and every other name what it had: after a kill or a loss of power one of the two files is there.
 pub fn replace<F: FileSystem>(
     alloc: Global,
     files: &mut F,
@@ -52,7 +51,7 @@ pub fn replace<F: FileSystem>(
     // `Taken` is of the backup's name.
     ensures taken { IfErr result (λ e. e ≡ Taken
         → Now (F.states files.old) (IsTakenIf (name_if backup.entry))) }
-    // It gives up by itself only for want of memory or of a name; else a call failed.
+    // It gives up by itself only where there is no memory or no free name; else a call failed.
     ensures cause { IfErr result (λ e. e ≢ OutOfMemory → e ≢ Taken → e ≢ Crowded
         → count_after true (F.failures files.old) ≤ F.failures files.new) }
 {

@@ -8,6 +8,7 @@ mod containers;
 mod counted;
 mod devices;
 mod faults;
+mod files;
 mod fractions;
 mod going_back;
 mod items;

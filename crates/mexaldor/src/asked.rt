@@ -4,9 +4,8 @@ use crate::arguments::subcommand;
 use clap::error::ErrorKind;
 use clap::{ArgMatches, Error};
 use exif_change::{Assignment, ClockShift, Dates, ENTRY_LIMIT, Removed};
-use exif_commands::{
-    Change, Escaped, Keeping, Reading, Request, Target, Task, is_assignment, nearest,
-};
+use exif_commands::{Change, Keeping, Reading, Request, Target, Task};
+use exif_decisions::{Escaped, is_assignment, nearest};
 use std::alloc::{AllocError, Global};
 
 /// What the arguments request.

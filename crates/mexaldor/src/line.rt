@@ -1,6 +1,6 @@
 //! The words of the command line.
 
-use exif_commands::{canonical_word, is_assignment, readable};
+use exif_decisions::{canonical_word, is_assignment, readable};
 use std::alloc::{AllocError, Global};
 use std::env::FillError;
 use std::io::{self, ErrorKind};

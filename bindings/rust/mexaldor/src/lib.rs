@@ -32,7 +32,7 @@ pub struct Refused(u32);
 impl Refused {
     /// An unknown file format, or Exif data with a fault.
     pub const INVALID_FORMAT: Refused = Refused(2);
-    /// The file has no Exif data.
+    /// The file has no Exif data to change.
     pub const NOT_FOUND: Refused = Refused(3);
     /// Out of memory.
     pub const OUT_OF_MEMORY: Refused = Refused(8);
@@ -92,21 +92,22 @@ pub struct Options {
     pub limit: u64,
 }
 
-/// Reads the Exif data of a file. Faults in directories and values are skipped.
+/// Reads the Exif data of a file. Faults in directories and values are skipped. A picture without
+/// Exif data has an object too, with its format, an empty summary and no fields.
 pub fn read(file: &[u8]) -> Result<Told, Refused> {
     read_with(file, Options::default())
 }
 
-/// Reads the Exif data of a file with these options.
+/// Reads the Exif data of a file with these options, as [`read`] does.
 pub fn read_with(file: &[u8], options: Options) -> Result<Told, Refused> {
     let Options { strict, limit } = options;
     // SAFETY: `file` has its length, and `out` has `room` bytes, which nobody else holds.
     let (status, text) = filled(|out, room| unsafe {
         sys::mexaldor_read(file.as_ptr(), file.len(), !strict, limit, out, room)
     });
-    match (status, String::from_utf8(text)) {
-        (0 | 1, Ok(json)) => Ok(Told { json, faults: status == 1 }),
-        (status, _) => Err(Refused(status)),
+    match (Refused(status), String::from_utf8(text)) {
+        (Refused(0 | 1) | Refused::NOT_FOUND, Ok(json)) => Ok(Told { json, faults: status == 1 }),
+        (refused, _) => Err(refused),
     }
 }
 

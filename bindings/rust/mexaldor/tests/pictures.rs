@@ -32,10 +32,21 @@ fn faults_are_passed_over_or_refused() {
 #[test]
 fn what_is_no_picture_is_refused() {
     assert_eq!(read(b""), Err(Refused::INVALID_FORMAT));
-    assert_eq!(read(&picture("plain.jpg")), Err(Refused::NOT_FOUND));
     assert_eq!(scrub(b""), Err(Refused::INVALID_FORMAT));
     assert_eq!(scrub(&picture("whole.tif")), Err(Refused::PICTURE_DATA));
     assert_eq!(Refused::OUT_OF_MEMORY.to_string(), "Out of memory");
+}
+
+#[test]
+fn a_picture_without_exif_data_has_no_fields() {
+    let mut plain = picture("plain.jpg");
+    let told = read(&plain).unwrap();
+    assert!(!told.faults);
+    assert_eq!(
+        told.json,
+        r#"{"path":"","format":"JPEG","summary":{},"fields":[],"faults":[]}"#
+    );
+    assert_eq!(set(&mut plain, "Orientation=1"), Err(Refused::NOT_FOUND));
 }
 
 #[test]

@@ -1,7 +1,7 @@
-use Rattle.std.proofs.Common.{rules, ◌≡◌, List, ℕ, subst, ◌∙◌}
+use Rattle.std.proofs.Common.{rules, ◌≡◌, List, ℕ, sym, subst, ◌∙◌, inr}
 use Rattle.exif_files.specs.Names.{backup_if}
 use Rattle.exif_files.specs.Written.{FailedToRemove}
-use Rattle.exif_files.proofs.Edits.{run_changed, run_not_changed, run_same}
+use Rattle.exif_files.proofs.Edits.{not_same, run_changed, run_not_changed, run_rewritten, run_same}
 use Rattle.exif_files.proofs.changing.change.Goals as goal
 
 pub returns-then-eq-clause-done : goal.returns-then-eq-clause-done
@@ -32,3 +32,10 @@ returns-clause-failed g c =
     (subst P c.as_slice.ensures.value (subst Q made c.in_ok-new.ensures.answered))
     (λ n. FailedToRemove c.in-Err-write_over.error n (g.F.FileSystem.failures c.write_over.new.files))
     c.as_slice-4.result.now _ _ _ _ _ _ c.in-Ok.ensures.bytes c.in-Ok.ensures.same (c.as_slice-4.ensures.value ∙ made) c.in-Ok.ensures.count c.in-Err-write_over.ensures.failed
+
+pub returns-in-Ok-write_over-clause-written : goal.returns-in-Ok-write_over-clause-written
+returns-in-Ok-write_over-clause-written g c =
+    let differ : c.as_slice-4.result.now ≡ c.in-Ok.old.items → ⊥ = λ same. not_same c.as_slice-2.result.now c.as_slice-3.result.now c.if-eq.ensures
+    (c.as_slice-2.ensures.value ∙ (sym c.as_slice-4.ensures.value ∙ (same ∙ sym c.as_slice-3.ensures.value))) in
+    inr (run_rewritten c.args.name.now (backup_if c.args.keeping.backup c.args.name.now) c.args.keeping.times _ c.in-Ok.old.items c.as_slice-4.result.now differ
+    _ _ _ c.in-Ok.ensures.bytes c.in-Ok.ensures.same c.in-Ok-write_over.ensures.done)

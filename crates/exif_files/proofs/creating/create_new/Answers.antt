@@ -1,4 +1,4 @@
-use Rattle.std.proofs.Common.{◌≡◌, ◌≢◌, List, ℕ, arith}
+use Rattle.std.proofs.Common.{arith}
 use Rattle.exif_files.proofs.Counts.{removal_failed}
 use Rattle.exif_files.proofs.Runs.{if_err_any}
 use Rattle.exif_files.proofs.Whole.{created_as, hidden_as, other_as}

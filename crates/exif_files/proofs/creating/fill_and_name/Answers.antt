@@ -1,6 +1,6 @@
-use Rattle.std.proofs.Common.{◌≡◌, ◌≢◌, ◌∙◌, sym, subst, rules, None, true, List, ℕ}
+use Rattle.std.proofs.Common.{◌≡◌, ◌≢◌, ◌∙◌, sym, subst, rules, None, List}
 use Rattle.exif_files.specs.States.{State, Now}
-use Rattle.exif_files.proofs.Runs.{run_then, run_stay, run_weaker, at_err, now_back}
+use Rattle.exif_files.proofs.Runs.{run_stay, run_weaker, at_err, now_back}
 use Rattle.exif_files.proofs.NewFiles.{run_ready_new, run_beside, run_put_new, free_now, taken_now}
 use Rattle.exif_files.proofs.creating.fill_and_name.Goals as goal
 

@@ -1,4 +1,4 @@
-use Rattle.std.proofs.Common.{◌≡◌, ℕ, List, [], ◌∷◌, Bool, true, Option, Some, None, ◌∙◌, ◌⊎◌, inl, inr}
+use Rattle.std.proofs.Common.{◌≡◌, ℕ, List, [], ◌∷◌, Option, Some, None, ◌∙◌, ◌⊎◌, inl, inr}
 use Rattle.exif_files.specs.States.{Entry, State}
 use Rattle.exif_files.specs.Written.{IsMade}
 use Rattle.exif_files.specs.PowerLoss.{Leaves, NewLossLaw}

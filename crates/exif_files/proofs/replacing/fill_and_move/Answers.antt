@@ -1,5 +1,4 @@
-use Rattle.std.proofs.Common.{◌≡◌, ◌≢◌, ◌∙◌, sym, ap, subst, inl, List, ℕ, Some, None}
-use Rattle.exif_files.specs.States.{State}
+use Rattle.std.proofs.Common.{◌≢◌, ◌∙◌, sym, ap, subst, inl, List, ℕ, Some}
 use Rattle.exif_files.specs.Names.{name_if}
 use Rattle.exif_files.specs.Parts.{FailsOrNot}
 use Rattle.exif_files.specs.Written.{IsTakenIf}

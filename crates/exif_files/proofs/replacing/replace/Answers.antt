@@ -1,5 +1,4 @@
-use Rattle.std.proofs.Common.{◌≡◌, ◌≢◌, List, ℕ}
-use Rattle.exif_files.specs.Names.{IsHidden, name_if}
+use Rattle.exif_files.specs.Names.{name_if}
 use Rattle.exif_files.proofs.Runs.{if_err_any}
 use Rattle.exif_files.proofs.Whole.{replaced_for_good, not_settled, not_replaced, created_as, hidden_as, other_as, backup_as}
 use Rattle.exif_files.proofs.replacing.replace.Goals as goal

@@ -1,8 +1,8 @@
-use Rattle.std.proofs.Common.{◌≡◌, ◌<◌, ◌≤◌, ℕ, List, [], map, take, drop, ◌+◌, length, arith, sym, subst, refl, rules, Option}
+use Rattle.std.proofs.Common.{◌≡◌, ◌<◌, ◌≤◌, List, [], map, take, length, arith, sym, subst, refl, rules, Option}
 use Rattle.std.proofs.lemmas.List.{length-map}
 use Rattle.std.specs.String.{string_bytes}
 use Rattle.exif_files.specs.declared.outcome.Status.{Status}
-use Rattle.exif_files.proofs.Many.{SoFar, gathered, so_far_none, names_of, so_far_next, whole_next, whole_so_far, so_far_all, all_done, are_once, seen_more, seen_as}
+use Rattle.exif_files.proofs.Many.{SoFar, so_far_none, names_of, so_far_next, whole_next, whole_so_far, so_far_all, all_done, are_once, seen_more, seen_as}
 use Rattle.exif_files.proofs.running.change_all.Goals as goal
 
 pub loop-index-init : goal.loop-index-init

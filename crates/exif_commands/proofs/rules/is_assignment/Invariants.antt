@@ -1,6 +1,0 @@
-use Rattle.std.proofs.Common.{◌≡◌, drop}
-use Rattle.exif_commands.specs.Rules.{assigns}
-use Rattle.exif_commands.proofs.rules.is_assignment.Given as goal
-
-abbrev pub invariant-loop-byte : goal.invariant-loop-byte
-invariant-loop-byte l = assigns l.word ≡ assigns (drop l.byte-index l.word)

@@ -1,0 +1,42 @@
+-- What the program does with a name, an OUT and a word.
+use Rattle.std.specs.Prelude.{ℕ, List, [], ◌∷◌, Bool, true, false, ◌||◌, ◌==◌, if◌then◌else◌, nat_eq, codes}
+use Rattle.std.specs.List.{starts_with, ends_with}
+use Rattle.exif_decisions.specs.declared.rules.Kind.{Kind}
+use Rattle.exif_decisions.specs.declared.rules.Kind.TheVariants.{File, Folder, Link, Other}
+use Rattle.exif_decisions.specs.declared.rules.Action.{Action}
+use Rattle.exif_decisions.specs.declared.rules.Action.TheVariants.{Process, ProcessPicture, Enter, RefuseFolder, SkipLink, SkipOwn, Ignore}
+use Rattle.exif_decisions.specs.declared.rules.Existing.{Existing}
+use Rattle.exif_decisions.specs.declared.rules.Existing.TheVariants.{Absent, Regular, Special}
+use Rattle.exif_decisions.specs.declared.rules.Destination.{Destination}
+use Rattle.exif_decisions.specs.declared.rules.Destination.TheVariants.{StandardOutput, New, Replace, RefuseSame, RefuseExisting, RefuseOther}
+
+-- What is done with a path. One that was named is processed, whatever its name and kind; a folder is
+-- entered only where folders are. Of those found in folders, links are never followed, and the
+-- program's own files are not taken for pictures.
+abbrev pub action_for : Kind → Bool → Bool → Bool → Action
+action_for Folder true is_own recursive = if recursive then Enter else RefuseFolder
+action_for Folder false is_own recursive = Enter
+action_for File true is_own recursive = Process
+action_for Link true is_own recursive = Process
+action_for Other true is_own recursive = Process
+action_for Link false is_own recursive = SkipLink
+action_for Other false is_own recursive = Ignore
+action_for File false is_own recursive = if is_own then SkipOwn else ProcessPicture
+
+-- the names of backups, and of files that are being written
+abbrev pub is_own : List ℕ → Bool
+is_own name = starts_with nat_eq name (codes ".mexaldor-") || ends_with nat_eq name (codes ".orig")
+
+-- Where OUT is written: never over FILE itself, nor over what is no regular file, and over a file only
+-- if that is forced.
+abbrev pub destination_for : Bool → Bool → Existing → Bool → Destination
+destination_for true is_same existing force = StandardOutput
+destination_for false true existing force = RefuseSame
+destination_for false false Absent force = New
+destination_for false false Regular force = if force then Replace else RefuseExisting
+destination_for false false Special force = if force then RefuseOther else RefuseExisting
+
+-- an assignment has a `=` (61) and before it no `/` (47)
+abbrev pub assigns : List ℕ → Bool
+assigns [] = false
+assigns (byte ∷ rest) = if byte == 61 then true else if byte == 47 then false else assigns rest

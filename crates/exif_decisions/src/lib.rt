@@ -1,0 +1,17 @@
+//! What the program `mexaldor` decides about paths, words and statuses before it opens a file, and how
+//! it names files, tags and counts.
+#![tactic(auto)]
+
+mod counts;
+mod escaped;
+mod formats;
+mod rules;
+mod tags;
+
+pub use counts::{Counts, Summary, status_of};
+pub use escaped::{Escaped, is_unreadable, readable};
+pub use formats::{Unsupported, unsupported_of};
+pub use rules::{
+    Action, Destination, Existing, Kind, action_of, destination_of, is_assignment, is_own_name,
+};
+pub use tags::{canonical_word, nearest, write_tags};

@@ -1,0 +1,119 @@
+//! What the program does with a name, an OUT and a word.
+
+ghost use Rattle.std.specs.Prelude.{◌≡◌, true};
+ghost use Rattle.exif_decisions.specs.Rules.{action_for, destination_for, is_own, assigns};
+
+/// What a path is.
+#[derive(Clone, Copy, PartialEq, Eq)]
+pub enum Kind {
+    File,
+    Folder,
+    Link,
+    Other,
+}
+
+/// What is done with a path.
+#[derive(Clone, Copy, PartialEq, Eq)]
+pub enum Action {
+    /// It is processed.
+    Process,
+    /// It is processed if it is a picture.
+    ProcessPicture,
+    /// What is in it is processed.
+    Enter,
+    /// It is a folder, and only files are processed.
+    RefuseFolder,
+    /// It is skipped and counted as a link.
+    SkipLink,
+    /// It is skipped and counted as a file of the program's own.
+    SkipOwn,
+    /// It is skipped: a device, say.
+    Ignore,
+}
+
+/// What is done with a path: one that was named, whose links were followed, or one that was found
+/// in a folder.
+pub fn action_of(kind: Kind, is_named: bool, is_own: bool, recursive: bool) -> Action
+    ensures { result ≡ action_for kind is_named is_own recursive }
+{
+    match (kind, is_named) {
+        (Kind::Folder, true) if !recursive => Action::RefuseFolder,
+        (Kind::Folder, _) => Action::Enter,
+        (_, true) => Action::Process,
+        (Kind::Link, false) => Action::SkipLink,
+        (Kind::Other, false) => Action::Ignore,
+        (Kind::File, false) if is_own => Action::SkipOwn,
+        (Kind::File, false) => Action::ProcessPicture,
+    }
+}
+
+/// Whether a file's name is one that the program gives: that of a backup, or of a file that is
+/// being written.
+pub fn is_own_name(name: &str) -> bool
+    ensures { result ≡ is_own name.now }
+{
+    let name = name.as_bytes();
+    name.starts_with(b".mexaldor-") || name.ends_with(b".orig")
+}
+
+/// What an OUT is.
+#[derive(Clone, Copy, PartialEq, Eq)]
+pub enum Existing {
+    /// Nothing.
+    Absent,
+    /// A regular file.
+    Regular,
+    /// A folder or a device, say.
+    Special,
+}
+
+/// Where a new file is written, or why not.
+#[derive(Clone, Copy, PartialEq, Eq)]
+pub enum Destination {
+    /// To standard output.
+    StandardOutput,
+    /// To a name that nothing has.
+    New,
+    /// In place of the file that is there.
+    Replace,
+    /// Nowhere: OUT is FILE itself.
+    RefuseSame,
+    /// Nowhere: OUT exists.
+    RefuseExisting,
+    /// Nowhere: OUT is no regular file.
+    RefuseOther,
+}
+
+/// Where a new file is written: OUT must be another file than FILE, and must not exist unless that
+/// is forced.
+pub fn destination_of(is_dash: bool, is_same: bool, existing: Existing, force: bool) -> Destination
+    ensures { result ≡ destination_for is_dash is_same existing force }
+{
+    if is_dash {
+        return Destination::StandardOutput;
+    }
+    if is_same {
+        return Destination::RefuseSame;
+    }
+    match existing {
+        Existing::Absent => Destination::New,
+        _ if !force => Destination::RefuseExisting,
+        Existing::Regular => Destination::Replace,
+        Existing::Special => Destination::RefuseOther,
+    }
+}
+
+/// Whether a word of `set` is an assignment, and no file: it has a `=`, and before that no `/`.
+pub fn is_assignment(word: &str) -> bool
+    ensures { result ≡ assigns word.now }
+{
+    for byte in word.as_bytes() {
+        if *byte == b'=' {
+            return true;
+        }
+        if *byte == b'/' {
+            return false;
+        }
+    }
+    false
+}
