@@ -1,5 +1,5 @@
 -- Metadata taken out of files.
-use Rattle.std.specs.Prelude.{ℕ, List, [], ◌∷◌, Option, None, Some, Result, Ok, Err}
+use Rattle.std.specs.Prelude.{ℕ, List, [], ◌∷◌, map, Option, None, Some, Result, Ok, Err}
 use Rattle.exif_table.specs.declared.context.Context.TheVariants as context
 use Rattle.exif_types.specs.Refusals.{Refusal, not_found}
 use Rattle.exif_containers.specs.Container.{container_answer, format_in}
@@ -13,7 +13,9 @@ use Rattle.exif_edit.specs.declared.edits.Edit.TheVariants.{EraseAll, EraseGps}
 use Rattle.exif_edit_files.specs.InFiles.{edited_file}
 use Rattle.exif_rewrite.specs.ScrubbedExif.{scrubbed_answer, wanted}
 use Rattle.exif_types.specs.declared.tag.Tag.{Tag}
-use Rattle.exif_change.specs.Changed.{Change, whole}
+use Rattle.exif_privacy.specs.Erasing as privacy
+use Rattle.exif_privacy.specs.declared.stays.Stays.{Stays}
+use Rattle.exif_change.specs.Changed.{Change, stays, whole}
 use Rattle.exif_change.specs.Reading.{Contents, entry_limit, file_contents}
 use Rattle.exif_change.specs.Refusals.{Why, as_read, editing, picture_data, unknown_format, ◌>>=◌}
 use Rattle.exif_change.specs.Rewriting.{rewritten}
@@ -64,9 +66,23 @@ emptied WebP removed file = without_metadata WebP removed file
 emptied Heif removed file = erased EraseAll file
 emptied Tiff removed file = Err picture_data
 
+-- a file without the locations of its parts, and those that may still hold one; a file of which no
+-- parts are known without its GPS data
+abbrev pub if_parted : List ℕ × Option (List Stays) → Result Change Why
+if_parted (new, Some parts) =
+    Ok (record { file = new; undone = map (λ part. Some (stays part)) parts })
+if_parted (new, None) = erased EraseGps new
+
+-- a file without locations, by its format
+abbrev pub unlocated : Format → List ℕ → Result Change Why
+unlocated Jpeg file = if_parted (privacy.erased file)
+unlocated WebP file = if_parted (privacy.erased file)
+unlocated Heif file = erased EraseGps file
+unlocated Tiff file = erased EraseGps file
+
 -- a file of a format without what is taken out
 abbrev pub scrubbed_as : Format → Removed → List ℕ → Result Change Why
-scrubbed_as format removed.Gps file = erased EraseGps file
+scrubbed_as format removed.Gps file = unlocated format file
 scrubbed_as format removed.Metadata file = emptied format removed.Metadata file
 scrubbed_as format removed.AllButOrientation file = emptied format removed.AllButOrientation file
 

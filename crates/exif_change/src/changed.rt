@@ -5,6 +5,7 @@ ghost use Rattle.exif_change.specs.Changed.{change_of, whole};
 
 use exif::Tag;
 use exif_assign::Unmoved;
+use exif_privacy::Stays;
 use std::alloc::Global;
 use std::fmt;
 
@@ -38,6 +39,8 @@ pub enum Left {
     Edit(Tag, exif_edit::Error),
     /// The JPEG stream ends before its picture does, and was written as far as it goes.
     CutOff,
+    /// A part of the file may still hold a location.
+    Stays(Stays),
 }
 
 impl fmt::Display for Left {
@@ -52,6 +55,7 @@ impl fmt::Display for Left {
             }
             Left::Edit(tag, cause) => write!(f, "{tag} was not moved: {cause}"),
             Left::CutOff => write!(f, "The JPEG stream ends before its picture does"),
+            Left::Stays(stays) => write!(f, "{stays}"),
         }
     }
 }

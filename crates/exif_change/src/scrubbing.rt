@@ -1,14 +1,15 @@
 //! Metadata taken out of a file.
 
-ghost use Rattle.std.specs.Prelude.{◌≡◌, IfOk};
+ghost use Rattle.std.specs.Prelude.{◌≡◌, map, IfOk, Some};
 ghost use Rattle.std.specs.Option.{option_map};
 ghost use Rattle.exif_types.specs.Refusals.{Gives};
-ghost use Rattle.exif_change.specs.Changed.{change_of};
-ghost use Rattle.exif_change.specs.Changes.{erased, kept, left_in, orientation_in, scrubbed, scrubbed_as, without_metadata};
+ghost use Rattle.exif_change.specs.Changed.{change_of, stays, undone_of};
+ghost use Rattle.exif_change.specs.Changes.{erased, if_parted, kept, left_in, orientation_in, scrubbed, scrubbed_as, unlocated, without_metadata};
+ghost use Rattle.exif_privacy.specs.Erasing.{erased as privacy_erased};
 ghost use Rattle.exif_change.specs.Reading.{file_contents};
 ghost use Rattle.exif_change.specs.Refusals.{Answers};
 
-use crate::changed::Changed;
+use crate::changed::{Changed, Left};
 use crate::reading::ENTRY_LIMIT;
 use crate::rewriting::rewritten;
 use crate::{Refusal, read};
@@ -17,6 +18,7 @@ use exif_containers::container::{Format, format_of};
 use exif_containers::exif_attr_of_stream;
 use exif_edit::{Unerased, leftovers};
 use exif_edit_files::{Edit, Error, apply_in_file};
+use exif_privacy::{Stays, erase_locations};
 use exif_rewrite::{Remove, UPRIGHT, scrubbed_exif};
 use std::alloc::{AllocError, Global};
 
@@ -27,13 +29,15 @@ pub enum Removed {
     Metadata,
     /// All metadata but for the picture's orientation.
     AllButOrientation,
-    /// What says where the picture was taken, in its Exif data.
+    /// What says where the picture was taken: in JPEG and WebP files the GPS data of all Exif data, and
+    /// the locations of XMP and IPTC; in HEIF and TIFF files the GPS data of Exif alone.
     Gps,
 }
 
 /// The file without its metadata. JPEG and WebP lose them; in HEIF files the fields of the Exif
-/// data are erased where they are; TIFF data are refused, but for their GPS data. A file that has
-/// no Exif data stays as it is where only those would change. Of a JPEG stream that ends before its
+/// data are erased where they are; TIFF data are refused, but for their GPS data. A HEIF file that has
+/// no Exif data stays as it is where only those would change. Where locations are erased, no byte moves,
+/// and the answer has the parts that may still hold one ([`erase_locations`]). Of a JPEG stream that ends before its
 /// picture does what is there is kept. It takes the memory of the file and of the new one.
 pub fn scrub(alloc: Global, file: Vec<u8>, removed: Removed) -> Result<Changed, Refusal>
     ensures { Answers change_of result (scrubbed removed file.items) }
@@ -54,11 +58,46 @@ fn scrubbed_as(
     ensures { Answers change_of result (scrubbed_as format removed file.items) }
 {
     match (removed, format) {
-        (Removed::Gps, _) => erased(alloc, file, &Edit::EraseGps),
+        (Removed::Gps, _) => unlocated(alloc, format, file),
         (_, Format::Tiff) => Err(Refusal::PictureData),
         (_, Format::Heif) => erased(alloc, file, &Edit::EraseAll),
         (_, Format::Jpeg | Format::WebP) => emptied(alloc, format, file.as_slice(), removed),
     }
+}
+
+// The file without locations, by its format.
+fn unlocated(alloc: Global, format: Format, file: Vec<u8>) -> Result<Changed, Refusal>
+    ensures { Answers change_of result (unlocated format file.items) }
+{
+    match format {
+        Format::Jpeg | Format::WebP => parts_unlocated(alloc, file),
+        Format::Heif | Format::Tiff => erased(alloc, file, &Edit::EraseGps),
+    }
+}
+
+// The file without the locations of its parts, or without its GPS data where no parts of it are known.
+fn parts_unlocated(alloc: Global, mut file: Vec<u8>) -> Result<Changed, Refusal>
+    ensures { Answers change_of result (if_parted (privacy_erased file.items)) }
+{
+    match erase_locations(alloc, file.as_mut_slice())? {
+        Some(parts) => Ok(Changed {
+            file,
+            left: all_stay(alloc, parts.as_slice())?,
+        }),
+        None => erased(alloc, file, &Edit::EraseGps),
+    }
+}
+
+// What is left undone where parts may still hold a location.
+fn all_stay(alloc: Global, parts: &[Stays]) -> Result<Vec<Left>, AllocError>
+    ensures { IfOk result (λ left. map undone_of left.items
+        ≡ map (λ part. Some (stays part)) parts.now) }
+{
+    let mut left = Vec::with_capacity(alloc, parts.len())?;
+    for part in parts {
+        left.push(Left::Stays(*part))?;
+    }
+    Ok(left)
 }
 
 // The file with its fields erased by an edit, or as it is where it has no Exif data.

@@ -7,6 +7,7 @@ ghost use Rattle.exif_commands.specs.Answers.{IsAnswerOf, answer_of};
 
 use crate::request::Change;
 use exif_change::{Refusal, Removed, Unerased, scrub, set, shift, unerased};
+use exif_containers::container::{Format, format_of};
 use exif_files::{Edit, EditError, Edited};
 use std::alloc::{AllocError, Global};
 use std::fmt;
@@ -84,14 +85,22 @@ fn left_in(
         all.push(Left::Change(left))?;
     }
     if let Change::Scrub(Removed::Gps) = change {
-        match unerased(alloc, new)? {
-            Some(left) if left.meets_limit || !left.pointers.is_empty() => {
-                all.push(Left::Gps(left))?
-            }
-            Some(_) | None => {}
+        if let Some(left) = gps_left_in(alloc, new)? {
+            all.push(Left::Gps(left))?;
         }
     }
     Ok(all)
+}
+
+// What may be GPS data of a file other than JPEG and WebP, of whose parts the change knows it.
+fn gps_left_in(alloc: Global, new: &[u8]) -> Result<Option<Unerased>, AllocError> {
+    if let Some(Format::Jpeg | Format::WebP) = format_of(new) {
+        return Ok(None);
+    }
+    match unerased(alloc, new)? {
+        Some(left) if left.meets_limit || !left.pointers.is_empty() => Ok(Some(left)),
+        Some(_) | None => Ok(None),
+    }
 }
 
 /// A change as an edit of files.

@@ -87,6 +87,14 @@ fn replacing<'a>(alloc: Global, command: Command<'a>) -> Result<Command<'a>, All
         .arg(options::keep_time(alloc))
 }
 
+fn locations_only<'a>(
+    alloc: Global,
+    id: &'a str,
+    help: &'a str,
+) -> Result<Arg<'a>, AllocError> {
+    options::flag(alloc, id, help).conflicts_with("keep-orientation")
+}
+
 fn scrub<'a>(alloc: Global) -> Result<Command<'a>, AllocError> {
     let command = Command::new(alloc, "scrub")
         .about("Remove metadata from pictures")
@@ -94,9 +102,8 @@ fn scrub<'a>(alloc: Global) -> Result<Command<'a>, AllocError> {
             "mexaldor scrub [OPTIONS] FILE OUT\n       mexaldor scrub [OPTIONS] --in-place FILE...",
         )
         .arg(options::flag(alloc, "keep-orientation", "Keep the orientation"))?
-        .arg(options::flag(alloc, "places-only", "Only erase the GPS data of Exif").conflicts_with(
-            "keep-orientation",
-        )?)?;
+        .arg(locations_only(alloc, "locations-only", "Only erase locations, in place")?)?
+        .arg(locations_only(alloc, "places-only", "The same as --locations-only")?)?;
     changing(alloc, command)?.arg(options::words(
         alloc,
         "FILE",

@@ -211,7 +211,7 @@ fn keeping_of(matches: &ArgMatches<'_>) -> Keeping {
 }
 
 fn removed_of(matches: &ArgMatches<'_>) -> Removed {
-    if matches.get_flag("places-only") {
+    if matches.get_flag("locations-only") || matches.get_flag("places-only") {
         Removed::Gps
     } else if matches.get_flag("keep-orientation") {
         Removed::AllButOrientation
