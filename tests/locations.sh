@@ -1,0 +1,146 @@
+#!/bin/sh
+# Erases the locations of JPEG and WebP files that hold one in each way, made by hand: the secret is gone,
+# all else is as it was, and what may still hold a location is reported.
+. "$(dirname "$0")/checks.sh"
+
+python3 - files <<'P'
+import os, struct, sys
+
+folder = sys.argv[1]
+SECRET = b"Zzyzx47"
+plain = open(os.path.join(folder, "plain.jpg"), "rb").read()
+
+
+def segment(code, content):
+    return b"\xff" + bytes([code]) + struct.pack(">H", len(content) + 2) + content
+
+
+# TIFF data with a GPS directory whose GPSProcessingMethod and GPSLatitudeRef are secret
+gps = struct.pack(">HHHI4sHHIII", 2, 1, 2, 2, b"N", 27, 7, len(SECRET), 56, 0)
+exif = b"MM\0*\0\0\0\x08" + struct.pack(">HHHIII", 1, 0x8825, 4, 1, 26, 0) + gps
+exif += SECRET
+xmp = b"""<?xpacket begin='' id='W5M0MpCehiHzreSzNTczkc9d'?><x:xmpmeta xmlns:x='adobe:ns:meta/'>
+<rdf:RDF xmlns:rdf='http://www.w3.org/1999/02/22-rdf-syntax-ns#'><rdf:Description rdf:about=''
+ xmlns:photoshop='http://ns.adobe.com/photoshop/1.0/' xmlns:exif='http://ns.adobe.com/exif/1.0/'
+ xmlns:dc='http://purl.org/dc/elements/1.1/' photoshop:City='Zzyzx47' dc:source='kept'>
+<exif:GPSLatitude>47,Zzyzx47N</exif:GPSLatitude></rdf:Description></rdf:RDF></x:xmpmeta><?xpacket end='w'?>"""
+city = b"\x1c\x02\x5a" + struct.pack(">H", len(SECRET)) + SECRET
+title = b"\x1c\x02\x05\0\x04kept"
+iptc = title + city
+resource = b"8BIM\x04\x04\0\0" + struct.pack(">I", len(iptc)) + iptc + b"\0" * (len(iptc) % 2)
+digest = b"8BIM\x04\x25\0\0" + struct.pack(">I", 16) + b"d" * 16
+
+EXIF = segment(0xE1, b"Exif\0\0" + exif)
+XMP = segment(0xE1, b"http://ns.adobe.com/xap/1.0/\0" + xmp)
+IPTC = segment(0xED, b"Photoshop 3.0\0" + digest + resource)
+LONG = segment(0xE1, b"http://ns.adobe.com/xmp/extension/\0" + b"0" * 32 + struct.pack(">II", 7, 0) + SECRET)
+
+
+def jpeg(name, segments, behind=b""):
+    open(os.path.join(folder, name), "wb").write(plain[:2] + segments + plain[2:] + behind)
+
+
+def chunk(name, content):
+    return name + struct.pack("<I", len(content)) + content + b"\0" * (len(content) % 2)
+
+
+def webp(name, chunks):
+    whole = open(os.path.join(folder, "whole.webp"), "rb").read()
+    picture, at = b"", 12
+    while at < len(whole):
+        size = struct.unpack("<I", whole[at + 4 : at + 8])[0]
+        if whole[at : at + 4] not in (b"EXIF", b"XMP "):
+            picture += whole[at : at + 8 + size + size % 2]
+        at += 8 + size + size % 2
+    body = b"WEBP" + picture + chunks
+    open(os.path.join(folder, name), "wb").write(b"RIFF" + struct.pack("<I", len(body)) + body)
+
+
+jpeg("exif.jpg", EXIF)
+jpeg("exif_twice.jpg", EXIF + EXIF)
+jpeg("xmp.jpg", XMP)
+jpeg("xmp_twice.jpg", XMP + XMP)
+jpeg("iptc.jpg", IPTC)
+jpeg("all.jpg", EXIF + XMP + IPTC)
+jpeg("second_picture.jpg", EXIF, plain[:2] + EXIF + XMP + plain[2:])
+webp("exif.webp", chunk(b"EXIF", exif))
+webp("xmp.webp", chunk(b"XMP ", xmp))
+webp("both.webp", chunk(b"EXIF", exif) + chunk(b"XMP ", xmp))
+# what is not looked at, or can't be read
+jpeg("comment.jpg", EXIF + segment(0xFE, SECRET))
+jpeg("trailer.jpg", EXIF, SECRET)
+jpeg("unknown.jpg", EXIF + segment(0xE9, SECRET))
+jpeg("long_xmp.jpg", XMP + LONG)
+jpeg("broken_xmp.jpg", EXIF + segment(0xE1, b"http://ns.adobe.com/xap/1.0/\0<City" + SECRET))
+jpeg("broken_iptc.jpg", segment(0xED, b"Photoshop 3.0\0" + resource.replace(b"\x1c\x02\x5a", b"\x1d\x02\x5a")))
+jpeg("broken_exif.jpg", segment(0xE1, b"Exif\0\0XX" + SECRET) + XMP)
+webp("unknown.webp", chunk(b"EXIF", exif) + chunk(b"ABCD", SECRET))
+P
+
+# secrets FILE: how often a file holds the secret.
+secrets() {
+    grep -aoF Zzyzx47 "$1" | wc -l
+}
+
+# differ OLD NEW: the bytes of the new file that are not the old ones, as numbers, each once.
+differ() {
+    cmp -l "$1" "$2" | awk '{print $3}' | sort -u | tr '\n' ' '
+}
+
+# erased FILE: no secret is left, only zeros and spaces are new, nothing is reported, and once more changes nothing.
+erased() {
+    check "$1 holds the secret" test "$(secrets "files/$1")" -gt 0
+    gives "$1 is changed" 0 "$mexaldor" scrub --force --locations-only "files/$1" "new.$1"
+    check "$1: nothing is reported" test ! -s err
+    check "$1: no secret is left" test "$(secrets "new.$1")" = 0
+    check "$1: the length stays" test "$(wc -c <"files/$1")" = "$(wc -c <"new.$1")"
+    check "$1: new bytes are zeros and spaces ($(differ "files/$1" "new.$1"))" test -z "$(differ "files/$1" "new.$1" | tr ' ' '\n' | grep -vx -e 0 -e 40)"
+    gives "$1 is changed again" 0 "$mexaldor" scrub --force --locations-only "new.$1" "again.$1"
+    check "$1: twice is once" cmp "new.$1" "again.$1"
+}
+
+# stays FILE COUNT TEXT: so many secrets are left, and this is reported.
+stays() {
+    gives "$1 is changed, and what stays is reported" 3 "$mexaldor" scrub --force --locations-only "files/$1" "new.$1"
+    says "$1: what stays is named" "$3"
+    check "$1: $2 are left ($(secrets "new.$1"))" test "$(secrets "new.$1")" = "$2"
+}
+
+for file in exif.jpg exif_twice.jpg xmp.jpg xmp_twice.jpg iptc.jpg all.jpg second_picture.jpg exif.webp xmp.webp both.webp; do
+    erased "$file"
+done
+check "what names no location stays in XMP" grep -qaF "dc:source='kept'" new.xmp.jpg
+check "and in IPTC data" grep -qaF kept new.iptc.jpg
+
+stays comment.jpg 1 "a comment at offset"
+stays trailer.jpg 1 "data after the picture at offset"
+stays unknown.jpg 1 "unknown data at offset"
+stays long_xmp.jpg 1 "a part of a long XMP packet at offset"
+stays broken_xmp.jpg 1 "the XMP packet at offset"
+stays broken_iptc.jpg 1 "the IPTC data at offset"
+stays broken_exif.jpg 1 "the Exif data at offset 2, which can't be changed"
+stays unknown.webp 1 "unknown data at offset"
+
+# The alias, and over many files: the worst status.
+gives "--places-only is the same" 0 "$mexaldor" scrub --force --places-only files/all.jpg new.jpg
+check "as --locations-only" cmp new.jpg new.all.jpg
+mkdir many
+cp files/exif.jpg files/comment.jpg many
+gives "a folder with a file that may still hold a location" 3 "$mexaldor" scrub --locations-only --in-place -r many
+says "names it" "many/comment.jpg: still there: a comment at offset"
+check "and changes the others" test "$(secrets many/exif.jpg)" = 0
+
+if has djpeg; then
+    djpeg files/all.jpg >old.ppm
+    djpeg new.all.jpg >new.ppm
+    check "the pixels of a JPEG are the same" cmp old.ppm new.ppm
+fi
+if has exiftool; then
+    for file in exif.jpg xmp.jpg iptc.jpg all.jpg both.webp; do
+        check "exiftool finds no location in $file" test -z "$(exiftool -s -s -s -GPS:all -XMP-exif:GPSLatitude -XMP-photoshop:City -IPTC:City "new.$file" | tr -d ' \n')"
+    done
+    check "exiftool reads the other XMP" test "$(exiftool -s3 -XMP-dc:Source new.all.jpg)" = kept
+    check "exiftool reads the other IPTC data" test "$(exiftool -s3 -IPTC:ObjectName new.all.jpg)" = kept
+fi
+
+ends
