@@ -5,3 +5,4 @@ pub mod SetInPlace
 pub mod SetKept
 pub mod SetWhole
 pub mod Steps
+mod Staying
