@@ -115,7 +115,10 @@ gives "HEIF files lose their fields" 0 "$mexaldor" scrub --in-place work/whole.h
 gives "the HEIF file has no field" 0 "$mexaldor" show work/whole.heic
 check "nor a line of one" test "$(wc -l <out)" = 1
 fresh
-gives "GPS data are erased in all" 0 "$mexaldor" scrub --places-only -i work/whole.jpg work/whole.tif work/big.tif work/whole.webp work/whole.heic
+gives "GPS data are erased in all" 3 "$mexaldor" scrub --places-only -i work/whole.jpg work/whole.tif work/big.tif work/whole.webp work/whole.heic
+says "a comment may hold a location" "work/whole.jpg: still there: a comment at offset"
+says "so may what follows the picture" "work/whole.jpg: still there: data after the picture at offset"
+check "nothing else is reported" test "$(grep -c 'still there' err)" = 2
 printf 'MM\000*\000\000\000\010\000\001\210\045\000\015\000\000\000\001\000\000\000\310\000\000\000\000' >work/outside.tif
 gives "a GPS pointer that is not followed is reported" 3 "$mexaldor" scrub --places-only -i work/outside.tif
 says "the file of a GPS pointer that is not followed is named" "work/outside.tif: GPS data may be left"
