@@ -6,7 +6,6 @@ use Rattle.exif_change.specs.Changed.{Undone, stays, undone_of}
 use Rattle.exif_change.specs.declared.changed.Left.{Left}
 use Rattle.exif_change.specs.declared.changed.Left.TheVariants as left
 
-
 -- one part more
 pub one_more : (parts : List Stays) (so_far out : List Left) (i : ℕ) (d : Stays) → i < length parts
     → map undone_of so_far ≡ map (λ part. Some (stays part)) (take i parts) → out ≡ so_far ++ left.Stays (get_or parts i d) ∷ []

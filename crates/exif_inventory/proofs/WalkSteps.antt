@@ -71,8 +71,8 @@ behind_ordered at (r ∷ ps) p q e h = (h.0, behind_ordered (at + r.len) ps p q 
 chosen : (b : Bool) (parts : Parts) (piece : Piece)
     → AreInOrder 0 (all_parts parts) (parts.last.offset + parts.last.len)
     → let next : Parts = cond b
-        (record { done = parts.done; last = longer parts.last piece.len })
-        (record { done = parts.done ++ parts.last ∷ []; last = part_behind parts.last piece }) in
+    (record { done = parts.done; last = longer parts.last piece.len })
+    (record { done = parts.done ++ parts.last ∷ []; last = part_behind parts.last piece }) in
     AreInOrder 0 (all_parts next) (next.last.offset + next.last.len)
 chosen true parts piece h = longer_ordered 0 parts.done parts.last piece.len h
 chosen false parts piece h = behind_ordered 0 parts.done parts.last (part_behind parts.last piece) refl h
@@ -84,8 +84,8 @@ added_ordered parts piece h = chosen (joins parts.last piece) parts piece h
 
 ends_by : (b : Bool) (parts : Parts) (piece : Piece)
     → let next : Parts = cond b
-        (record { done = parts.done; last = longer parts.last piece.len })
-        (record { done = parts.done ++ parts.last ∷ []; last = part_behind parts.last piece }) in
+    (record { done = parts.done; last = longer parts.last piece.len })
+    (record { done = parts.done ++ parts.last ∷ []; last = part_behind parts.last piece }) in
     next.last.offset + next.last.len ≡ parts.last.offset + parts.last.len + piece.len
 ends_by true parts piece = omega arith
 ends_by false parts piece = refl
@@ -113,8 +113,8 @@ pub record AreWithin (parts : Parts) : Type 0 where
 
 chosen_within : (b : Bool) (parts : Parts) (piece : Piece) → piece.front + piece.pad ≤ piece.len → AreWithin parts
     → AreWithin (cond b
-      (record { done = parts.done; last = longer parts.last piece.len })
-      (record { done = parts.done ++ parts.last ∷ []; last = part_behind parts.last piece }))
+    (record { done = parts.done; last = longer parts.last piece.len })
+    (record { done = parts.done ++ parts.last ∷ []; last = part_behind parts.last piece }))
 chosen_within true parts piece h w = record { done = w.done; last = longer_within parts.last piece.len w.last }
 chosen_within false parts piece h w =
     record { done = all_behind parts.done parts.last w.done w.last; last = behind_within parts.last piece h }
@@ -186,7 +186,10 @@ walks_over start file none state bytes parts out w none_left o =
     let before : parts.last.offset + parts.last.len + length bytes ≡ length file = w.ends in
     let end : parts.last.offset + parts.last.len ≡ length file = omega arith in
     let covers : AreInOrder 0 out (length file) =
-        subst (λ (ps : List Part). AreInOrder 0 ps (length file)) (sym o) (subst (λ n. AreInOrder 0 (all_parts parts) n) end w.ordered) in
-    let within : All IsWithin out = subst (λ (ps : List Part). All IsWithin ps) (sym o) (all_within parts w.within) in
-    (o ∙ sym (ap all_parts (w.parts_are ∙ walked_over (length bytes) state bytes parts none_left)),
-    covers, within, all_inside 0 out (length file) covers within)
+    subst (λ (ps : List Part). AreInOrder 0 ps (length file)) (sym o) (subst (λ n. AreInOrder 0 (all_parts parts) n) end w.ordered) in
+    let within : All IsWithin out = subst (λ (ps : List Part). All IsWithin ps) (sym o) (all_within parts w.within) in (
+      o ∙ sym (ap all_parts (w.parts_are ∙ walked_over (length bytes) state bytes parts none_left)),
+      covers,
+      within,
+      all_inside 0 out (length file) covers within,
+    )

@@ -76,7 +76,11 @@ fn begins(content: &[u8], id: &[u8]) -> bool
 fn unsegmented(scanned: bool) -> Kind
     ensures { result ≡ unsegmented scanned }
 {
-    if scanned { Kind::Picture } else { Kind::Unknown }
+    if scanned {
+        Kind::Picture
+    } else {
+        Kind::Unknown
+    }
 }
 
 // The kind that an identifier names, if a content begins with it.
@@ -85,7 +89,11 @@ fn named(content: &[u8], id: &[u8], kind: Kind) -> Kind
     ensures value { result ≡ named id.now kind content.now }
     ensures long { id_len result ≤ length content.now }
 {
-    if begins(content, id) { kind } else { Kind::Unknown }
+    if begins(content, id) {
+        kind
+    } else {
+        Kind::Unknown
+    }
 }
 
 // What an APP0 segment is.
@@ -108,7 +116,11 @@ fn xmp_kind(content: &[u8]) -> Kind
     if begins(content, b"http://ns.adobe.com/xap/1.0/\0") {
         Kind::Xmp
     } else {
-        named(content, b"http://ns.adobe.com/xmp/extension/\0", Kind::ExtendedXmp)
+        named(
+            content,
+            b"http://ns.adobe.com/xmp/extension/\0",
+            Kind::ExtendedXmp,
+        )
     }
 }
 

@@ -96,7 +96,11 @@ fn whole_resource(
     ensures within { result.len ≤ space }
     ensures framed { result.front + result.pad ≤ result.len }
 {
-    let len = if front + size == space { space } else { front + size + size % 2 };
+    let len = if front + size == space {
+        space
+    } else {
+        front + size + size % 2
+    };
     Piece {
         kind: resource_kind(bytes),
         picture,

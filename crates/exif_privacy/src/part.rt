@@ -48,7 +48,11 @@ fn erase_exif(alloc: Global, bytes: &mut [u8]) -> Result<Option<Why>, AllocError
     ensures { IfOk result (λ why. (bytes.new, why) ≡ exif_answer bytes.old) }
 {
     match apply(alloc, &Edit::EraseGps, Some(ENTRY_LIMIT), bytes) {
-        Ok(()) => Ok(if is_followed(alloc, bytes)? { None } else { Some(Why::GpsNotFollowed) }),
+        Ok(()) => Ok(if is_followed(alloc, bytes)? {
+            None
+        } else {
+            Some(Why::GpsNotFollowed)
+        }),
         Err(Error::OutOfMemory) => Err(AllocError),
         Err(_) => Ok(Some(Why::ExifNotChanged)),
     }

@@ -87,11 +87,7 @@ fn replacing<'a>(alloc: Global, command: Command<'a>) -> Result<Command<'a>, All
         .arg(options::keep_time(alloc))
 }
 
-fn locations_only<'a>(
-    alloc: Global,
-    id: &'a str,
-    help: &'a str,
-) -> Result<Arg<'a>, AllocError> {
+fn locations_only<'a>(alloc: Global, id: &'a str, help: &'a str) -> Result<Arg<'a>, AllocError> {
     options::flag(alloc, id, help).conflicts_with("keep-orientation")
 }
 

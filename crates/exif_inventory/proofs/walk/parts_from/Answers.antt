@@ -16,4 +16,4 @@ pub returns : goal.returns
 returns c =
     let o = c.in_ok-push.ensures.items in
     let p = walks_over c.args.start c.args.file.now none c.loop-rest.state c.loop-rest.rest.now (walk_view c.loop-rest.walk) c.push.new.self.items c.loop-rest.invariant (grind (arith, nat_tests)) o in
-    record { parts = p.0; covers = p.1; within = p.2; inside = p.3; }
+    record { parts = p.0; covers = p.1; within = p.2; inside = p.3 }
