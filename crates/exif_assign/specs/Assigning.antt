@@ -65,7 +65,8 @@ abbrev pub without_minus : List ℕ → Option (List ℕ)
 without_minus [] = None
 without_minus (byte ∷ bytes) = if byte == 45 then Some bytes else None
 
--- a number as two fields: its sign, which is the first text or with a minus the second, and the rest
+-- a number as two fields: its sign, which is the first text or with a minus the second, and the
+-- rest
 abbrev pub signed_fields : Tag → List ℕ → List ℕ → Tag → List ℕ → List (Tag × List ℕ)
 signed_fields sign plus minus tag number = elim (without_minus number) [
   | Some rest ↦ (sign, minus) ∷ (tag, rest) ∷ []
@@ -95,8 +96,8 @@ longitude_and_altitude text = elim (around 44 text) [
   | None ↦ longitude_fields text
 ]
 
--- the fields of `LATITUDE,LONGITUDE` or `LATITUDE,LONGITUDE,ALTITUDE`; without a comma the longitude is
--- an empty text, which is no value
+-- the fields of `LATITUDE,LONGITUDE` or `LATITUDE,LONGITUDE,ALTITUDE`; without a comma the
+-- longitude is an empty text, which is no value
 abbrev pub location_in : List ℕ → List (Tag × List ℕ)
 location_in text = elim (around 44 text) [
   | Some parts ↦ latitude_fields parts.0 ++ longitude_and_altitude parts.1
@@ -109,7 +110,8 @@ fields_named name text =
     if bytes_eq name (codes "Location") then Some (location_in text)
     else option_map (λ field. field ∷ []) (with_text text (tag_named name))
 
--- the tags and texts that a word assigns, in order; none where it has no `=`, or no known name before it
+-- the tags and texts that a word assigns, in order; none where it has no `=`, or no known name
+-- before it
 abbrev pub all_assigned_in : List ℕ → Option (List (Tag × List ℕ))
 all_assigned_in word = option_and_then (λ parts. fields_named parts.0 parts.1) (around 61 word)
 

@@ -29,8 +29,8 @@ has number value = (gps number, Some (Ok value))
 abbrev one : List ℕ → Value
 one text = Ascii (text ∷ [])
 
--- The minutes are 60 * 0.5586 = 33.516, and the seconds 60 * 0.516 = 30.96. Of the longitude they are
--- 60 * 0.5886 = 35.316, and 60 * 0.316 = 18.96.
+-- The minutes are 60 * 0.5586 = 33.516, and the seconds 60 * 0.516 = 30.96. Of the longitude they
+-- are 60 * 0.5886 = 35.316, and 60 * 0.316 = 18.96.
 north_east : values_in (codes "Location=47.5586,7.5886") ≡ Some
     (has 1 (one (codes "N"))
     ∷ has 2 (Rational (fraction 47 1 ∷ fraction 33 1 ∷ fraction 309600 10000 ∷ []))
@@ -40,8 +40,8 @@ north_east : values_in (codes "Location=47.5586,7.5886") ≡ Some
 unfolding value_in trimmed
 north_east = refl
 
--- 60 * 0.8568 = 51.408 and 60 * 0.408 = 24.48; 60 * 0.2153 = 12.918 and 60 * 0.918 = 55.08; 12.5 m below
--- the sea. Spaces around the numbers do not count.
+-- 60 * 0.8568 = 51.408 and 60 * 0.408 = 24.48; 60 * 0.2153 = 12.918 and 60 * 0.918 = 55.08; 12.5 m
+-- below the sea. Spaces around the numbers do not count.
 south_west_below : values_in (codes "Location=-33.8568, -151.2153, -12.5") ≡ Some
     (has 1 (one (codes "S"))
     ∷ has 2 (Rational (fraction 33 1 ∷ fraction 51 1 ∷ fraction 244800 10000 ∷ []))

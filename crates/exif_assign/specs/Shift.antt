@@ -65,7 +65,8 @@ shift_in (sign ∷ text) =
 
 -- ---- dates moved
 
--- seconds since the beginning of the year 0, moved: 2^42 are more than the years of four digits have
+-- seconds since the beginning of the year 0, moved: 2^42 are more than the years of four digits
+-- have
 abbrev pub moved_seconds : ClockShift → ℕ → Option ℕ
 moved_seconds by old =
     if by.is_back then (if nat_lt old by.seconds then None else Some (old - by.seconds))

@@ -21,8 +21,8 @@ pub struct Assignment<'a> {
 }
 
 impl<'a> Assignment<'a> {
-    /// Reads `NAME=TEXT`, where the name is that of a tag, as in `Orientation=6`; `None` where there
-    /// is no such tag. It takes no memory.
+    /// Reads `NAME=TEXT`, where the name is that of a tag, as in `Orientation=6`; `None` where
+    /// there is no such tag. It takes no memory.
     pub fn parse(word: &'a str) -> Option<Assignment<'a>>
         ensures { option_map parts_of result ≡ assigned_in word.now }
     {
@@ -32,10 +32,10 @@ impl<'a> Assignment<'a> {
     }
 
     /// Reads `NAME=TEXT` as [`parse`](Assignment::parse) does, or `Location=LATITUDE,LONGITUDE` or
-    /// `Location=LATITUDE,LONGITUDE,ALTITUDE`, in decimal degrees and metres with a minus for south,
-    /// west and below the sea, which sets the GPS fields together. `None` where there is no such tag.
-    /// That the texts are numbers is checked when they are set, not here. It fails only where there is
-    /// no memory.
+    /// `Location=LATITUDE,LONGITUDE,ALTITUDE`, in decimal degrees and metres with a minus for
+    /// south, west and below the sea, which sets the GPS fields together. `None` where there is no
+    /// such tag. That the texts are numbers is checked when they are set, not here. It fails only
+    /// where there is no memory.
     pub fn parse_all(
         alloc: Global,
         word: &'a str,
@@ -124,7 +124,8 @@ fn altitude_fields(text: &str) -> [Assignment<'_>; 2]
     )
 }
 
-// A number as two fields: its sign, which is the first text or with a minus the second, and the rest.
+// A number as two fields: its sign, which is the first text or with a minus the second, and the
+// rest.
 fn signed_fields<'a>(
     sign: Tag,
     plus: &'a str,

@@ -125,7 +125,8 @@ fn is_day_text(value: &Value) -> bool
     }
 }
 
-// Whether a text has two digits that are less than 24, and behind a colon two that are less than 60.
+// Whether a text has two digits that are less than 24, and behind a colon two that are less than
+// 60.
 fn has_clock(text: &[u8]) -> bool
     requires { length text.now ≡ 6 }
     ensures { result ≡ has_clock text.now }

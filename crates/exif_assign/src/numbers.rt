@@ -17,7 +17,8 @@ fn next_below(limit: u64, number: u64, digit: u8) -> Option<u64>
     if next < limit { Some(next) } else { None }
 }
 
-/// The number that digits spell, if it is below a limit; `None` where there is none, or another byte.
+/// The number that digits spell, if it is below a limit; `None` where there is none, or another
+/// byte.
 pub(crate) fn number_below(limit: u64, digits: &[u8]) -> Option<u64>
     requires some { 0 < limit }
     requires small { limit ≤ 2 ^ 48 }

@@ -238,8 +238,8 @@ fn moved_texts(
     }
 }
 
-/// The value of a date with the date moved, or why it is not moved. Of several texts the first is the
-/// date, and what follows its 19 characters stays. The only error is out of memory.
+/// The value of a date with the date moved, or why it is not moved. Of several texts the first is
+/// the date, and what follows its 19 characters stays. The only error is out of memory.
 pub fn moved_value(
     alloc: Global,
     by: ClockShift,

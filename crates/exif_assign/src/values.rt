@@ -139,8 +139,8 @@ fn seconds_of(part: u64, denom: u64) -> Rational
     }
 }
 
-// Whole degrees, and the digits of a part of one, as degrees, minutes and seconds. Of more than seven
-// digits, which are a centimetre, the others are left out.
+// Whole degrees, and the digits of a part of one, as degrees, minutes and seconds. Of more than
+// seven digits, which are a centimetre, the others are left out.
 fn decimal_degrees(whole: &[u8], digits: &[u8]) -> Option<[Rational; 3]>
     ensures { result ≡ decimal_degrees (whole.now, digits.now) }
 {
@@ -161,7 +161,8 @@ fn decimal_degrees(whole: &[u8], digits: &[u8]) -> Option<[Rational; 3]>
     ])
 }
 
-// Degrees as a decimal, of which the minutes and seconds are made; none where the text is no decimal.
+// Degrees as a decimal, of which the minutes and seconds are made; none where the text is no
+// decimal.
 fn degrees_in(text: &[u8]) -> Option<[Rational; 3]>
     ensures { result ≡ degrees_in text.now }
 {
@@ -225,8 +226,8 @@ fn spelled_value(
 /// A value that the standard does not have for a tag is refused as `OutOfRange`: another number of
 /// items, a number that it does not list, a date that the calendar lacks, a fraction over 0. Not
 /// checked: that texts are ASCII, the bytes of `ImageUniqueID` and of tags of type undefined, the
-/// versions, the tables of colours, and how many items `BitsPerSample` has. A date, a day or an offset
-/// that is blank, which the standard allows where it is unknown, is refused.
+/// versions, the tables of colours, and how many items `BitsPerSample` has. A date, a day or an
+/// offset that is blank, which the standard allows where it is unknown, is refused.
 #[tactic(auto, unfolding(crate::specs::Values::value_in))]
 pub fn value_of(
     alloc: Global,

@@ -17,8 +17,8 @@ use exif_change::{Assignment, Changed, ENTRY_LIMIT, Removed, scrub, set_here};
 use exif_edit_files::{Edit, apply_in_file};
 use std::alloc::Global;
 
-/// Erases the GPS data in the Exif data of a file, in the caller's buffer: its length stays. After a
-/// refusal the buffer is as it was.
+/// Erases the GPS data in the Exif data of a file, in the caller's buffer: its length stays. After
+/// a refusal the buffer is as it was.
 #[unsafe(no_mangle)]
 pub extern "C" fn mexaldor_erase_gps(alloc: Global, file: &mut [u8]) -> u32
     ensures { Ends result file.old file.new
@@ -30,11 +30,11 @@ pub extern "C" fn mexaldor_erase_gps(alloc: Global, file: &mut [u8]) -> u32
     }
 }
 
-/// Puts a file without its metadata into a buffer: JPEG and WebP lose them, in HEIF files the fields
-/// of the Exif data are erased where they stand, TIFF data are refused. It is no longer than it
-/// was, but for a WebP file whose last payload lacks its pad byte, which it gets. A JPEG stream that
-/// ends before its picture does is written as far as it goes, with the status 1. After a refusal the
-/// buffer is as it was.
+/// Puts a file without its metadata into a buffer: JPEG and WebP lose them, in HEIF files the
+/// fields of the Exif data are erased where they stand, TIFF data are refused. It is no longer than
+/// it was, but for a WebP file whose last payload lacks its pad byte, which it gets. A JPEG stream
+/// that ends before its picture does is written as far as it goes, with the status 1. After a
+/// refusal the buffer is as it was.
 #[unsafe(no_mangle)]
 pub extern "C" fn mexaldor_scrub(alloc: Global, file: &[u8], out: &mut [u8]) -> Answer
     ensures { Puts result out.old out.new (scrubbed Metadata file.now) }

@@ -1,5 +1,5 @@
-//! Worked cases as text files: the words of a line, the fields and values that they spell, and what a
-//! case asks. docs/TESTS.md has the format; `exif_vectors` runs the cases.
+//! Worked cases as text files: the words of a line, the fields and values that they spell, and what
+//! a case asks. docs/TESTS.md has the format; `exif_vectors` runs the cases.
 #![tactic(auto)]
 
 mod case;

@@ -10,8 +10,8 @@ use Rattle.exif_rewrite_webp.specs.RewrittenWebp.{webp_rewriting}
 use Rattle.exif_change.specs.Changed.{Change, whole}
 use Rattle.exif_change.specs.Changed as undone
 
--- a JPEG stream that was written again; where it ends before its picture does, that is said, and new
--- data that have no place yet are at its end
+-- a JPEG stream that was written again; where it ends before its picture does, that is said, and
+-- new data that have no place yet are at its end
 abbrev pub stream_ended : List ℕ → End → Result Change Refusal
 stream_ended out finished = Ok (whole out)
 stream_ended out (cut_off waiting) =

@@ -20,8 +20,8 @@ HoldsSet Jpeg fields old file answer = GivesSet fields old answer
 HoldsSet Heif fields old file answer = GivesSet fields old answer
 HoldsSet WebP fields old file answer = GivesSet fields old answer
 
--- all fields but those of these names are as they were, but for the offsets of values in their entries,
--- and so are the faults
+-- all fields but those of these names are as they were, but for the offsets of values in their
+-- entries, and so are the faults
 pub record KeepsOthers (sets : List Field) (old new : List ℕ) : Type 0 where
   pub faults : faults_of (trace new) ≡ faults_of (trace old)
   pub others : without_entry_offsets (unset sets (fields_of (trace new)))

@@ -1,4 +1,5 @@
--- What the program sets: values over the old ones where they fit, and in Exif data that become longer.
+-- What the program sets: values over the old ones where they fit, and in Exif data that become
+-- longer.
 use Rattle.std.specs.Prelude.{ℕ, Bool, true, false, List, [], ◌∷◌, ◌++◌, Option, Some, None, Result, Ok, Err, if◌then◌else◌}
 use Rattle.std.specs.Borrow.{Bor}
 use Rattle.std.specs.List.{list_any}
@@ -72,8 +73,8 @@ occurs_again tag seen (f ∷ fs) =
     if is_named tag primary f then (if seen then true else occurs_again tag true fs)
     else occurs_again tag seen fs
 
--- fields that are to be set in a file with these fields, and one more: in place, or in the data where
--- more than one field of the file has its name
+-- fields that are to be set in a file with these fields, and one more: in place, or in the data
+-- where more than one field of the file has its name
 abbrev pub with_field : List Field → Field → List Field × List Field → List Field × List Field
 with_field fields field (single, repeated) =
     if occurs_again field.tag false fields then (single, repeated ++ field ∷ [])
@@ -110,8 +111,8 @@ abbrev pub set_rest : Format → List ℕ × List Field → Result Change Why
 set_rest format (file, []) = Ok (whole file)
 set_rest format (file, field ∷ fields) = grown_file format (field ∷ fields) file
 
--- a file of a format with values set; of those names that more than one field has, all are left over
--- at first
+-- a file of a format with values set; of those names that more than one field has, all are left
+-- over at first
 abbrev pub set_as : Format → List Assignment → List ℕ → Result Change Why
 set_as format assignments file =
     assigned_fields file assignments

@@ -35,9 +35,9 @@ impl Dates {
     }
 }
 
-/// The file with its dates moved, in place. A date that can't be moved, or not be set, stays, and the
-/// answer says which: a blank one, one of zeros, one that the calendar does not have, one that is cut,
-/// and one that shares its bytes. A file without a date is refused.
+/// The file with its dates moved, in place. A date that can't be moved, or not be set, stays, and
+/// the answer says which: a blank one, one of zeros, one that the calendar does not have, one that
+/// is cut, and one that shares its bytes. A file without a date is refused.
 pub fn shift(alloc: Global, file: Vec<u8>, by: ClockShift, dates: Dates) -> Result<Changed, Refusal>
     ensures { Answers change_of result (shifted by dates file.items) }
 {

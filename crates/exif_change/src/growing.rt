@@ -55,8 +55,8 @@ fn grown(
     }
 }
 
-// The file, which has no Exif data, with new ones that hold fields. The `meta` of a HEIF file would have
-// to grow.
+// The file, which has no Exif data, with new ones that hold fields. The `meta` of a HEIF file would
+// have to grow.
 fn created_for(
     alloc: Global,
     format: Format,
@@ -113,8 +113,8 @@ fn item_moved(alloc: Global, exif: &[u8], file: &[u8]) -> Result<Changed, Refusa
     }
 }
 
-// The JPEG or WebP file with new Exif data in place of its own, unless it has others too, which would
-// be lost.
+// The JPEG or WebP file with new Exif data in place of its own, unless it has others too, which
+// would be lost.
 fn put_alone(
     alloc: Global,
     format: Format,
@@ -135,8 +135,8 @@ fn put_alone(
     Ok(new)
 }
 
-// The JPEG or WebP file with new Exif data, in which these fields were set. Data that are too long are
-// refused with the name of the longest field.
+// The JPEG or WebP file with new Exif data, in which these fields were set. Data that are too long
+// are refused with the name of the longest field.
 fn put(
     alloc: Global,
     format: Format,

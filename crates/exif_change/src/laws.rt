@@ -20,8 +20,8 @@ pub fn a_scrubbed_jpeg_file_has_no_exif()
     file_answers_what_was_put();
 }
 
-/// Where the orientation is kept, the Exif data that are read of a JPEG file are those of exactly the
-/// orientation.
+/// Where the orientation is kept, the Exif data that are read of a JPEG file are those of exactly
+/// the orientation.
 pub fn a_scrubbed_jpeg_file_keeps_the_orientation()
     ensures { (file new : List ℕ) (put : Option (List ℕ))
         → format_in file ≡ Some Jpeg → format_in (take 4096 file) ≡ Some Jpeg

@@ -29,16 +29,17 @@ pub enum Removed {
     Metadata,
     /// All metadata but for the picture's orientation.
     AllButOrientation,
-    /// What says where the picture was taken: in JPEG and WebP files the GPS data of all Exif data, and
-    /// the locations of XMP and IPTC; in HEIF and TIFF files the GPS data of Exif alone.
+    /// What says where the picture was taken: in JPEG and WebP files the GPS data of all Exif data,
+    /// and the locations of XMP and IPTC; in HEIF and TIFF files the GPS data of Exif alone.
     Gps,
 }
 
 /// The file without its metadata. JPEG and WebP lose them; in HEIF files the fields of the Exif
-/// data are erased where they are; TIFF data are refused, but for their GPS data. A HEIF file that has
-/// no Exif data stays as it is where only those would change. Where locations are erased, no byte moves,
-/// and the answer has the parts that may still hold one ([`erase_locations`]). Of a JPEG stream that ends before its
-/// picture does what is there is kept. It takes the memory of the file and of the new one.
+/// data are erased where they are; TIFF data are refused, but for their GPS data. A HEIF file that
+/// has no Exif data stays as it is where only those would change. Where locations are erased, no
+/// byte moves, and the answer has the parts that may still hold one ([`erase_locations`]). Of a
+/// JPEG stream that ends before its picture does what is there is kept. It takes the memory of the
+/// file and of the new one.
 pub fn scrub(alloc: Global, file: Vec<u8>, removed: Removed) -> Result<Changed, Refusal>
     ensures { Answers change_of result (scrubbed removed file.items) }
 {
@@ -75,7 +76,8 @@ fn unlocated(alloc: Global, format: Format, file: Vec<u8>) -> Result<Changed, Re
     }
 }
 
-// The file without the locations of its parts, or without its GPS data where no parts of it are known.
+// The file without the locations of its parts, or without its GPS data where no parts of it are
+// known.
 fn parts_unlocated(alloc: Global, mut file: Vec<u8>) -> Result<Changed, Refusal>
     ensures { Answers change_of result (if_parted (privacy_erased file.items)) }
 {
@@ -150,8 +152,8 @@ fn orientation_of(alloc: Global, file: &[u8]) -> Result<Option<Vec<u8>>, exif::E
 }
 
 /// What may be GPS data of a file's Exif data and stays when they are erased, as
-/// [`leftovers`] has it; nothing of a file without Exif data. A program is to report it. It takes the
-/// memory of one reading.
+/// [`leftovers`] has it; nothing of a file without Exif data. A program is to report it. It takes
+/// the memory of one reading.
 pub fn unerased(alloc: Global, file: &[u8]) -> Result<Option<Unerased>, AllocError>
     ensures { IfOk result (λ left. left ≡ left_in file.now) }
 {

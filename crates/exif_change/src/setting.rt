@@ -22,11 +22,12 @@ use std::alloc::{AllocError, Global};
 /// field, is appended to the Exif data, in which no old byte moves: maker notes, previews and
 /// thumbnails keep their offsets. Those of a HEIF file are then put behind the file. JPEG and WebP
 /// files that have no Exif data get new ones; HEIF files without them are refused. Of two values of
-/// one tag the last is set. A field that the file has keeps its type; one that it lacks has the type
-/// of the standard.
+/// one tag the last is set. A field that the file has keeps its type; one that it lacks has the
+/// type of the standard.
 ///
-/// Where more than one field of the file has a name, each of them is set, so that every program reads
-/// the new value, whichever of the entries it takes. This is done in the data, as for a longer value.
+/// Where more than one field of the file has a name, each of them is set, so that every program
+/// reads the new value, whichever of the entries it takes. This is done in the data, as for a
+/// longer value.
 ///
 /// It takes the memory of the file, of the new one, and of what
 /// [`set_fields`](exif_grow::set_fields) takes.

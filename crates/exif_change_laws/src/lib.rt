@@ -37,8 +37,8 @@ pub fn a_scrubbed_webp_file_has_no_exif()
     file_answers_what_was_put();
 }
 
-/// Where the orientation is kept, the Exif data that are read of a WebP file are those of exactly the
-/// orientation.
+/// Where the orientation is kept, the Exif data that are read of a WebP file are those of exactly
+/// the orientation.
 pub fn a_scrubbed_webp_file_keeps_the_orientation()
     ensures { (file new : List ℕ) (put : Option (List ℕ))
         → format_in file ≡ Some WebP
@@ -49,8 +49,8 @@ pub fn a_scrubbed_webp_file_keeps_the_orientation()
     file_answers_what_was_put();
 }
 
-/// Of a JPEG, WebP or HEIF file without its metadata no field is read, and of a HEIF file none where
-/// the orientation is to be kept either: its fields are all erased.
+/// Of a JPEG, WebP or HEIF file without its metadata no field is read, and of a HEIF file none
+/// where the orientation is to be kept either: its fields are all erased.
 pub fn a_scrubbed_file_has_no_field()
     ensures all { (file new : List ℕ)
         → scrubbed Metadata file ≡ Ok (whole new) → length file < 2 ^ 64 → length new < 2 ^ 64
@@ -82,8 +82,8 @@ pub fn a_scrubbed_file_keeps_the_orientation_alone()
     file_answers_what_was_put();
 }
 
-/// The value of a field whose date was moved is moved back by the opposite shift: to the same texts,
-/// byte for byte.
+/// The value of a field whose date was moved is moved back by the opposite shift: to the same
+/// texts, byte for byte.
 pub fn a_moved_value_is_moved_back()
     ensures { (by : ClockShift) (old new : Value)
         → by.seconds < 2 ^ 42 → moved_value by old ≡ Ok new
@@ -105,8 +105,8 @@ pub fn a_shift_and_its_opposite_give_what_was_read()
     limits_cut_readings();
 }
 
-/// Where a shift of a file's dates and the opposite shift left nothing undone, the old file is there
-/// again, byte for byte: if both find each date, when they set it, where the old file has it.
+/// Where a shift of a file's dates and the opposite shift left nothing undone, the old file is
+/// there again, byte for byte: if both find each date, when they set it, where the old file has it.
 pub fn a_shift_and_its_opposite_give_the_old_file()
     ensures { (by : ClockShift) (dates : Dates) (file new back : List ℕ)
         → by.seconds < 2 ^ 42 → length file < 2 ^ 64 → AreBytes file

@@ -66,9 +66,9 @@ pub fn format_of(signature: &[u8]) -> Option<Format>
     }
 }
 
-/// The Exif data of a stream whose signature is that of this container, or the refusal of bytes that
-/// begin none. The first byte is at this offset of a source that goes back; with none, the source
-/// does not go back.
+/// The Exif data of a stream whose signature is that of this container, or the refusal of bytes
+/// that begin none. The first byte is at this offset of a source that goes back; with none, the
+/// source does not go back.
 #[tactic(auto, unfolding(crate::specs::Container::answer_as))]
 pub fn exif_attr_as<R: Source>(
     alloc: Global,

@@ -1,4 +1,5 @@
-//! Laws of the containers: where the Exif data are, and what a file holds once others are put there.
+//! Laws of the containers: where the Exif data are, and what a file holds once others are put
+//! there.
 
 ghost use Rattle.std.specs.Prelude.{ℕ, List};
 ghost use Rattle.exif_containers.specs.Container.{TiffIsWhole};

@@ -22,8 +22,8 @@ use std::alloc::{AllocError, Global};
 pub struct Located {
     /// The container.
     pub format: Format,
-    /// The extents that hold the data, in order; offsets count from where the source was. TIFF data,
-    /// JPEG streams and WebP files have one, HEIF files as many as their item has.
+    /// The extents that hold the data, in order; offsets count from where the source was. TIFF
+    /// data, JPEG streams and WebP files have one, HEIF files as many as their item has.
     pub extents: Vec<Extent>,
     /// The data.
     pub data: Vec<u8>,
@@ -136,9 +136,9 @@ fn located_through<R: Source>(
 /// The Exif data of a stream, its container, and where in the stream the data are: the bytes at the
 /// extents, joined, are the data.
 ///
-/// The data and the refusals are those of [`exif_attr_of_stream`](crate::exif_attr_of_stream). A HEIF
-/// file is held in memory; of the others it takes the memory of the data. How far the source was read
-/// is left open.
+/// The data and the refusals are those of [`exif_attr_of_stream`](crate::exif_attr_of_stream). A
+/// HEIF file is held in memory; of the others it takes the memory of the data. How far the source
+/// was read is left open.
 pub fn find_exif<R: Source>(alloc: Global, source: &mut R) -> Result<Located, Error>
     ensures gives { IfSome (R.left source.old)
         (λ bytes. Gives located_view result (located_answer bytes)) }

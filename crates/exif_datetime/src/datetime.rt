@@ -96,9 +96,9 @@ impl DateTime {
         }
     }
 
-    /// Sets the fraction of the second that up to nine digits before a space spell (Exif 2.32, 4.6.5,
-    /// SubsecTime), `None` where there are no digits. More bytes are ignored. Bytes that are no digits
-    /// are refused as `InvalidFormat`. A refusal changes nothing. It takes no memory.
+    /// Sets the fraction of the second that up to nine digits before a space spell (Exif 2.32,
+    /// 4.6.5, SubsecTime), `None` where there are no digits. More bytes are ignored. Bytes that are
+    /// no digits are refused as `InvalidFormat`. A refusal changes nothing. It takes no memory.
     pub fn parse_subsec(&mut self, bytes: &[u8]) -> Result<(), Error>
         ensures answer { Answers (λ done. done) result (was_read (read_subsec bytes.now)) }
         ensures after { self.new ≡ with_subsec self.old (read_subsec bytes.now) }
@@ -112,9 +112,9 @@ impl DateTime {
         }
     }
 
-    /// Sets the offset that `+hh:mm` or `-hh:mm` spells (Exif 2.32, 4.6.5, OffsetTime). More bytes are
-    /// ignored. An offset of spaces, or of spaces around a colon, is refused as `BlankValue`, another
-    /// that is none as `InvalidFormat`. A refusal changes nothing. It takes no memory.
+    /// Sets the offset that `+hh:mm` or `-hh:mm` spells (Exif 2.32, 4.6.5, OffsetTime). More bytes
+    /// are ignored. An offset of spaces, or of spaces around a colon, is refused as `BlankValue`,
+    /// another that is none as `InvalidFormat`. A refusal changes nothing. It takes no memory.
     pub fn parse_offset(&mut self, bytes: &[u8]) -> Result<(), Error>
         ensures answer { Answers (λ done. done) result (was_read (read_offset bytes.now)) }
         ensures after { self.new ≡ with_offset self.old (read_offset bytes.now) }

@@ -10,8 +10,8 @@ use Rattle.exif_decisions.specs.declared.rules.Existing.TheVariants.{Absent, Reg
 use Rattle.exif_decisions.specs.declared.rules.Destination.{Destination}
 use Rattle.exif_decisions.specs.declared.rules.Destination.TheVariants.{StandardOutput, New, Replace, RefuseSame, RefuseExisting, RefuseOther}
 
--- What is done with a path. One that was named is processed, whatever its name and kind; a folder is
--- entered only where folders are. Of those found in folders, links are never followed, and the
+-- What is done with a path. One that was named is processed, whatever its name and kind; a folder
+-- is entered only where folders are. Of those found in folders, links are never followed, and the
 -- program's own files are not taken for pictures.
 abbrev pub action_for : Kind → Bool → Bool → Bool → Action
 action_for Folder true is_own recursive = if recursive then Enter else RefuseFolder
@@ -27,8 +27,8 @@ action_for File false is_own recursive = if is_own then SkipOwn else ProcessPict
 abbrev pub is_own : List ℕ → Bool
 is_own name = starts_with nat_eq name (codes ".mexaldor-") || ends_with nat_eq name (codes ".orig")
 
--- Where OUT is written: never over FILE itself, nor over what is no regular file, and over a file only
--- if that is forced.
+-- Where OUT is written: never over FILE itself, nor over what is no regular file, and over a file
+-- only if that is forced.
 abbrev pub destination_for : Bool → Bool → Existing → Bool → Destination
 destination_for true is_same existing force = StandardOutput
 destination_for false true existing force = RefuseSame

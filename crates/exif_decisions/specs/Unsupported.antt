@@ -14,7 +14,8 @@ raw_signature head = starts_with nat_eq head (codes "FUJIFILMCCD-RAW")
     || starts_with nat_eq head (codes "MMOR")
     || starts_with nat_eq head (0 ∷ codes "MRM")
 
--- PNG (section 5.2), GIF89a (section 17), BMP (its reserved fields are 0), Photoshop, JPEG XL (ISO 18181-2)
+-- PNG (section 5.2), GIF89a (section 17), BMP (its reserved fields are 0), Photoshop, JPEG XL (ISO
+-- 18181-2)
 abbrev pub unsupported : List ℕ → Option Unsupported
 unsupported head =
     if starts_with nat_eq head (137 ∷ 80 ∷ 78 ∷ 71 ∷ 13 ∷ 10 ∷ 26 ∷ 10 ∷ []) then Some Png

@@ -1,5 +1,5 @@
-//! What the program `mexaldor` decides about paths, words and statuses before it opens a file, and how
-//! it names files, tags and counts.
+//! What the program `mexaldor` decides about paths, words and statuses before it opens a file, and
+//! how it names files, tags and counts.
 #![tactic(auto)]
 
 mod counts;

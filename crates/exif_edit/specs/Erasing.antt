@@ -31,7 +31,8 @@ abbrev pub directory_span : Reading → List ℕ → ℕ → Span
 directory_span number bytes q =
     clipped (length bytes) (record { offset = q; len = 2 + 12 * whole_entries number bytes q + 4 })
 
--- how many bytes an item of a type takes: also of those that reading does not know, UTF-8 text (Exif
+-- how many bytes an item of a type takes: also of those that reading does not know, UTF-8 text
+-- (Exif
 -- 3.0, 4.6.2) and offsets of directories (TIFF Technical Note 1, "TIFF Trees")
 abbrev pub item_len : ℕ → ℕ
 item_len t = if t == 129 then 1 else (if t == 13 then 4 else known_length (type_of t))

@@ -72,8 +72,8 @@ abbrev pub named_directories : List ℕ → Tag → In → List ℕ
 named_directories bytes tag k =
     directories_with tag k (fields_of (trace bytes)) (map entry_of (located bytes))
 
--- the fields of a name are gone, their values are zero bytes, and all bytes that are neither there nor
--- in their directories is as it was
+-- the fields of a name are gone, their values are zero bytes, and all bytes that are neither there
+-- nor in their directories is as it was
 pub record IsFieldErased (old : List ℕ) (tag : Tag) (k : In) (new : List ℕ) : Type 0 where
   pub order : Order
   pub header : header old ≡ Ok order

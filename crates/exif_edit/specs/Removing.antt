@@ -54,8 +54,8 @@ abbrev pub next_offset_bytes : Order → Result ℕ Fault → List ℕ
 next_offset_bytes order (Ok next) = spelled order 4 next
 next_offset_bytes order (Err fault) = []
 
--- the directory with these entries: how many they are, the entries and the next offset, and zeros up
--- to a length
+-- the directory with these entries: how many they are, the entries and the next offset, and zeros
+-- up to a length
 abbrev pub directory_bytes : Order → List ℕ → ℕ → List ℕ → List ℕ → List ℕ
 directory_bytes order bytes count entries next =
     padded (2 + 12 * count + length next)

@@ -21,8 +21,8 @@ use Rattle.exif_edit_base.specs.declared.patch.Patch.{Patch}
 use Rattle.exif_edit_base.specs.declared.patch.Span.{Span}
 
 -- the tags of context Tiff whose values are offsets or lengths of other bytes: strips, free
--- bytes, tiles, child directories, thumbnails and their tables (TIFF 6.0, sections 8, 15, 22 and its
--- index of tags; TIFF/EP, SubIFDs; Exif 2.32, 4.6.3)
+-- bytes, tiles, child directories, thumbnails and their tables (TIFF 6.0, sections 8, 15, 22 and
+-- its index of tags; TIFF/EP, SubIFDs; Exif 2.32, 4.6.3)
 abbrev pub offset_tags : List ℕ
 offset_tags =
     0x111 ∷ 0x117 ∷ 0x120 ∷ 0x121 ∷ 0x144 ∷ 0x145 ∷ 0x14a ∷ 0x201 ∷ 0x202 ∷ 0x207 ∷ 0x208 ∷ 0x209

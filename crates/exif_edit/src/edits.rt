@@ -34,29 +34,30 @@ pub enum Edit {
         value: Value,
     },
     /// Puts zeros over the GPS directories to which data point, and over their values: those that
-    /// reading visits, and those to which a GPS pointer of type SHORT, LONG, SLONG or IFD leads from
-    /// the chain, however long it is, from Exif and interoperability directories, and from SubIFDs.
-    /// Of a value that is cut off by the end of the data the part that is there goes. The pointers
-    /// stay, to empty directories. Locations in XMP, in maker notes and in bytes that nothing points
-    /// to stay too; [`leftovers`](crate::leftovers) answers the GPS pointers that are not followed.
+    /// reading visits, and those to which a GPS pointer of type SHORT, LONG, SLONG or IFD leads
+    /// from the chain, however long it is, from Exif and interoperability directories, and from
+    /// SubIFDs. Of a value that is cut off by the end of the data the part that is there goes. The
+    /// pointers stay, to empty directories. Locations in XMP, in maker notes and in bytes that
+    /// nothing points to stay too; [`leftovers`](crate::leftovers) answers the GPS pointers that
+    /// are not followed.
     ///
-    /// Refusals are `Header` and `SharedBytes`. It takes the memory of one reading and of the zeros,
-    /// and where bytes are shared of a second reading.
+    /// Refusals are `Header` and `SharedBytes`. It takes the memory of one reading and of the
+    /// zeros, and where bytes are shared of a second reading.
     EraseGps,
-    /// Erases all fields of a name from their directories. The entries behind them and the offset of
-    /// the next directory move up; the end of the directory and the bytes of the values become zero.
-    /// A directory that was cut ends with no next offset then.
+    /// Erases all fields of a name from their directories. The entries behind them and the offset
+    /// of the next directory move up; the end of the directory and the bytes of the values become
+    /// zero. A directory that was cut ends with no next offset then.
     ///
-    /// Refusals are `NamesOffsets`, `Header`, `FieldNotFound` and `SharedBytes`. It takes the memory
-    /// of two readings and of the directories.
+    /// Refusals are `NamesOffsets`, `Header`, `FieldNotFound` and `SharedBytes`. It takes the
+    /// memory of two readings and of the directories.
     EraseField {
         /// The tag of the fields.
         tag: Tag,
         /// Their directory.
         ifd_num: In,
     },
-    /// Erases all fields: the byte order and the number 42 stay, and all behind them becomes zero, but
-    /// for the offset of an empty directory.
+    /// Erases all fields: the byte order and the number 42 stay, and all behind them becomes zero,
+    /// but for the offset of an empty directory.
     ///
     /// The refusal is `Header`. It takes no memory.
     EraseAll,
@@ -122,8 +123,8 @@ pub fn apply(alloc: Global, edit: &Edit, limit: Option<u64>, bytes: &mut [u8]) -
     carry_out(alloc, edit, bytes)
 }
 
-/// What [`apply`] puts over the data, which stay as they are. The refusals are the same. Where bytes
-/// are shared it takes the memory of a copy, too.
+/// What [`apply`] puts over the data, which stay as they are. The refusals are the same. Where
+/// bytes are shared it takes the memory of a copy, too.
 pub fn patches_of(
     alloc: Global,
     edit: &Edit,

@@ -211,11 +211,12 @@ pub fn erase_gps_patches(alloc: Global, bytes: &[u8]) -> Result<Vec<Patch>, Erro
 }
 
 /// Puts zeros over the GPS directories to which data point, and over their values: those that
-/// reading visits, and those to which a GPS pointer of type SHORT, LONG, SLONG or IFD leads from the
-/// chain, however long it is, from Exif and interoperability directories, and from SubIFDs. Of a
-/// value that is cut off by the end of the data the part that is there goes. The pointers stay, to
-/// empty directories. Locations in XMP, in maker notes and in bytes that nothing points to stay
-/// too; [`leftovers`](exif_edit_base::leftovers) says where GPS pointers lead that are not followed.
+/// reading visits, and those to which a GPS pointer of type SHORT, LONG, SLONG or IFD leads from
+/// the chain, however long it is, from Exif and interoperability directories, and from SubIFDs. Of
+/// a value that is cut off by the end of the data the part that is there goes. The pointers stay,
+/// to empty directories. Locations in XMP, in maker notes and in bytes that nothing points to stay
+/// too; [`leftovers`](exif_edit_base::leftovers) says where GPS pointers lead that are not
+/// followed.
 ///
 /// Refusals are `Header` and `SharedBytes`, which unshared GPS data never get (see
 /// [`laws`](crate::laws)). It takes the memory of one reading and of the zeros; and where bytes are

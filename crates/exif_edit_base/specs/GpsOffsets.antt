@@ -1,5 +1,5 @@
--- GPS directories to which data point, whether or not reading visits them (TIFF 6.0, section 2; TIFF
--- Technical Note 1, "TIFF Trees"; Exif 2.32, 4.6.3).
+-- GPS directories to which data point, whether or not reading visits them (TIFF 6.0, section 2;
+-- TIFF Technical Note 1, "TIFF Trees"; Exif 2.32, 4.6.3).
 use Rattle.std.specs.Prelude.{ℕ, zero, suc, ◌+◌, ◌-◌, ◌*◌, ◌/◌, ◌==◌, ◌&&◌, ◌||◌, nat_le, nat_lt, min, Bool, true, false, not, if◌then◌else◌, List, [], ◌∷◌, ◌++◌, length, take, slice_index, Result, Ok, Err}
 use Rattle.std.specs.List.{filter, flat_map, list_any}
 use Rattle.exif_base.specs.Bytes.{Reading, items_at, number_at}

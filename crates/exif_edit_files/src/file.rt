@@ -69,8 +69,8 @@ pub fn data_patches(
     patches_of(alloc, edit, limit, at.data.as_slice())
 }
 
-// Puts patches over the Exif item of a HEIF file, and puts back what was there unless the file holds
-// the new data then.
+// Puts patches over the Exif item of a HEIF file, and puts back what was there unless the file
+// holds the new data then.
 fn put_in_item(
     alloc: Global,
     file: &mut [u8],

@@ -32,8 +32,9 @@ visited_directory_spans number bytes q =
 unfoldable pub visited_spans : Reading → List ℕ → List Span
 visited_spans number bytes = flat_map (visited_directory_spans number bytes) (visited_gps bytes)
 
--- the GPS data that are erased are those at which reading looks: data point to no GPS directory that
--- reading does not visit, and none of the values is cut off or of a type that reading does not know
+-- the GPS data that are erased are those at which reading looks: data point to no GPS directory
+-- that reading does not visit, and none of the values is cut off or of a type that reading does not
+-- know
 abbrev pub AreGpsDataVisited : Reading → List ℕ → Type 0
 AreGpsDataVisited number bytes = gps_spans number bytes ≡ visited_spans number bytes
 

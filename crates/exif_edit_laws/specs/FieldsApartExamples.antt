@@ -1,5 +1,5 @@
--- Worked examples: a field is erased where reading looks at no byte as two things, and refused where
--- another field has the same bytes.
+-- Worked examples: a field is erased where reading looks at no byte as two things, and refused
+-- where another field has the same bytes.
 use Rattle.std.specs.Prelude.{ℕ, ◌≡◌, refl, true, false, List, [], ◌∷◌, Ok, Err}
 use Rattle.exif_table.specs.declared.context.Context.TheVariants.{Tiff}
 use Rattle.exif_tiff.specs.Apart.{looks_apart}

@@ -1,7 +1,7 @@
-//! What follows for edits where reading looks at no byte of the data as two things, as in every image
-//! that is written of texts without zero bytes: each field is unshared, and GPS data are if reading
-//! looks at all of them, so no edit is refused as shared. The laws hold for all bytes, and speak of
-//! the definitions alone.
+//! What follows for edits where reading looks at no byte of the data as two things, as in every
+//! image that is written of texts without zero bytes: each field is unshared, and GPS data are if
+//! reading looks at all of them, so no edit is refused as shared. The laws hold for all bytes, and
+//! speak of the definitions alone.
 #![tactic(auto)]
 
 ghost use Rattle.std.specs.Prelude.{◌≡◌, ℕ, List, None};
@@ -25,8 +25,8 @@ pub fn what_is_looked_at_once_stands_alone()
 
 /// So a value is set there if it fits, and GPS data are erased if reading looks at all of them:
 /// neither edit is refused as shared. Nor is it in an image, the bytes that are written of groups,
-/// where no pushed encoded holds a zero byte. The numbers of the value fit their types, its texts hold no zero byte, and its tag's
-/// number names no child directory.
+/// where no pushed encoded holds a zero byte. The numbers of the value fit their types, its texts
+/// hold no zero byte, and its tag's number names no child directory.
 pub fn what_is_looked_at_once_is_edited()
     ensures values { (tag : Name) (k : Ifd) (value : Content) (bytes : List ℕ)
         → IsSetApart tag k value bytes }

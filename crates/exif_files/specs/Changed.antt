@@ -16,8 +16,8 @@ pub record IsWholeChange (answer : List ℕ → List ℕ → Type 0) (name : Lis
   pub file : (t.at name ≡ s.at name) ⊎ HasAnswer answer name times calm s t
   pub others : OthersKept backup name s t
 
--- The answer. The old file has the other name where it was replaced; a file that is its own answer is
--- left alone, and nothing has the other name.
+-- The answer. The old file has the other name where it was replaced; a file that is its own answer
+-- is left alone, and nothing has the other name.
 pub record IsChanged (answer : List ℕ → List ℕ → Type 0) (name : List ℕ) (backup : Option (List ℕ)) (times : Bool) (calm : Bool) (s t : State) : Type 0 where
   pub file : HasAnswer answer name times calm s t
   pub kept_as : ((b : List ℕ) → backup ≡ Some b → (t.at b ≡ s.at name) × (s.at b ≡ None)) ⊎ IsUnchanged s t
@@ -32,8 +32,8 @@ abbrev pub HasOtherBytes : List ℕ → State → State → Type 0
 HasOtherBytes name s t =
     (old : Entry) × (s.at name ≡ Some old) × Holds t name (λ f. f.bytes ≢ old.bytes)
 
--- What an error leaves: all as it was; or the answer, where only the name could not be synced; or all as
--- it was but for a file of the program's own, where its removal failed too.
+-- What an error leaves: all as it was; or the answer, where only the name could not be synced; or
+-- all as it was but for a file of the program's own, where its removal failed too.
 abbrev pub IsNotChanged : (List ℕ → List ℕ → Type 0) → List ℕ → Option (List ℕ) → Bool → Bool → Type 0 → State → State → Type 0
 IsNotChanged answer name backup times calm twice s t =
     IsUnchanged s t ⊎ (IsChanged answer name backup times calm s t ⊎ (IsLeftOver name backup s t × twice))

@@ -42,8 +42,8 @@ pub record IsAnswer (answer : List ℕ → List ℕ → Type 0) (times : Bool) (
 abbrev pub IsAnswered : (List ℕ → List ℕ → Type 0) → Bool → Entry → Option Entry → Type 0
 IsAnswered answer times old found = (f : Entry) × (found ≡ Some f) × IsAnswer answer times old f
 
--- In every state of a run each file is the old one or its answer, whole, and nothing else is there but
--- what the program names itself.
+-- In every state of a run each file is the old one or its answer, whole, and nothing else is there
+-- but what the program names itself.
 pub record IsEachWhole (answer : List ℕ → List ℕ → Type 0) (backup times : Bool) (s t : State) : Type 0 where
   pub files : (n : List ℕ) (old : Entry) → s.at n ≡ Some old → (t.at n ≡ Some old) ⊎ IsAnswered answer times old (t.at n)
   pub nothing_more : (n : List ℕ) → s.at n ≡ None → (IsHidden n → ⊥)
@@ -56,7 +56,8 @@ AllAnswered answer times s t [] (result ∷ results) = ⊤
 AllAnswered answer times s t (name ∷ names) (result ∷ results) =
     (IsDone result → (old : Entry) → s.at name ≡ Some old → IsAnswered answer times old (t.at name)) × AllAnswered answer times s t names results
 
--- After a run: a file whose change succeeded has its answer, and a file that has none of the names is as it was.
+-- After a run: a file whose change succeeded has its answer, and a file that has none of the names
+-- is as it was.
 pub record IsEachDone (answer : List ℕ → List ℕ → Type 0) (times : Bool) (names : List (List ℕ)) (results : List (Option Status)) (s t : State) : Type 0 where
   pub done : AllAnswered answer times s t names results
   pub left : (n : List ℕ) (old : Entry) → s.at n ≡ Some old → is_among n names ≡ false → t.at n ≡ Some old

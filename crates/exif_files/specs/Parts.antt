@@ -1,5 +1,5 @@
--- What the steps of a replacement leave, one after the other. The new file has the name beside until it
--- has the other.
+-- What the steps of a replacement leave, one after the other. The new file has the name beside
+-- until it has the other.
 use Rattle.std.specs.Prelude.{◌≡◌, ◌≢◌, ◌≤◌, ◌⊎◌, ℕ, List, [], ◌∷◌, ◌++◌, Bool, true, false, Option, None, Some}
 use Rattle.exif_files.specs.declared.outcome.Status.{Status}
 use Rattle.exif_files.specs.States.{Entry, State, Holds, Elsewhere, Run}

@@ -9,8 +9,8 @@ pub record Leaves (was left : Option Entry) : Type 0 where
   pub none : was ≡ None → left ≡ None
   pub whole : (f : Entry) → was ≡ Some f → f.kept ≡ true → left ≡ Some f
 
--- What it may leave under a name: what the name had in the last state, or, where the disk does not have
--- the name yet, in one before it. Where no states are known, anything.
+-- What it may leave under a name: what the name had in the last state, or, where the disk does not
+-- have the name yet, in one before it. Where no states are known, anything.
 abbrev pub MayLeave : List State → List ℕ → Option Entry → Type 0
 MayLeave [] name left = ⊤
 MayLeave (s ∷ past) name left = Leaves (s.at name) left ⊎ ((s.settled name ≡ false) × MayLeave past name left)

@@ -36,7 +36,8 @@ abbrev pub Now : List State → (State → Type 0) → Type 0
 Now [] P = ⊤
 Now (s ∷ past) P = P s
 
--- the states that were come last, first those that came since: in each of them P, in the last of them Q
+-- the states that were come last, first those that came since: in each of them P, in the last of
+-- them Q
 pub record Ran (P Q : State → State → Type 0) (s : State) (past new : List State) : Type 0 where
   pub now : State
   pub earlier : List State
@@ -46,7 +47,8 @@ pub record Ran (P Q : State → State → Type 0) (s : State) (past new : List S
   pub each : AllByRecursion (P s) since
   pub last : Q s now
 
--- A run from the state that was: P says what each state since is to it, Q what the last is. Where no
--- states are known, nothing. P is what holds if the process is killed, Q what holds at the return.
+-- A run from the state that was: P says what each state since is to it, Q what the last is. Where
+-- no states are known, nothing. P is what holds if the process is killed, Q what holds at the
+-- return.
 pub record Run (P Q : State → State → Type 0) (old new : List State) : Type 0 where
   pub told : (s : State) (past : List State) → old ≡ s ∷ past → Ran P Q s past new

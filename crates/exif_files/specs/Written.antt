@@ -19,7 +19,8 @@ pub record FailedToRemove (error : WriteError) (failures failures' : ℕ) : Type
   pub once : count_after true failures ≤ failures'
   pub twice : error ≢ Taken → FailedTwice failures failures'
 
--- what the new file has of the old one: its mode, its times if they are to be kept, and its owner where no call failed
+-- what the new file has of the old one: its mode, its times if they are to be kept, and its owner
+-- where no call failed
 pub record IsLike (times : Bool) (calm : Bool) (old f : Entry) : Type 0 where
   pub same_mode : f.mode ≡ old.mode
   pub same_times : times ≡ true → f.times ≡ old.times
@@ -35,7 +36,8 @@ pub record IsWhole (name : List ℕ) (backup : Option (List ℕ)) (bytes : List 
   pub file : (t.at name ≡ s.at name) ⊎ IsNew name bytes times calm s t
   pub others : OthersKept backup name s t
 
--- the new file, the old one by the name that it is kept by, which was free, and the other names what they had
+-- the new file, the old one by the name that it is kept by, which was free, and the other names
+-- what they had
 pub record IsReplaced (name : List ℕ) (backup : Option (List ℕ)) (bytes : List ℕ) (times : Bool) (calm : Bool) (s t : State) : Type 0 where
   pub file : IsNew name bytes times calm s t
   pub kept_as : (b : List ℕ) → backup ≡ Some b → t.at b ≡ s.at name
@@ -52,8 +54,8 @@ pub record IsLeftOver (name : List ℕ) (backup : Option (List ℕ)) (s t : Stat
   pub same : t.at name ≡ s.at name
   pub others : (n : List ℕ) → (IsFresh backup s n → ⊥) → t.at n ≡ s.at n
 
--- What an error leaves: all as it was; or the new file, where only the name could not be synced; or all
--- as it was but for a file of the program's own, where its removal failed too.
+-- What an error leaves: all as it was; or the new file, where only the name could not be synced; or
+-- all as it was but for a file of the program's own, where its removal failed too.
 abbrev pub IsGivenUp : List ℕ → Option (List ℕ) → List ℕ → Bool → Bool → Type 0 → State → State → Type 0
 IsGivenUp name backup bytes times calm twice s t =
     IsUnchanged s t ⊎ (IsReplaced name backup bytes times calm s t ⊎ (IsLeftOver name backup s t × twice))

@@ -23,8 +23,8 @@ added_of g = record { patches = g.patches.items; tail = g.tail.items }
 abbrev pub grown : Added → List ℕ → List ℕ
 grown a bytes = patched a.patches bytes ++ a.tail
 
--- bytes that follow data of a length at the next even offset (TIFF 6.0, section 2: an offset is on a
--- word boundary)
+-- bytes that follow data of a length at the next even offset (TIFF 6.0, section 2: an offset is on
+-- a word boundary)
 abbrev pub aligned : ℕ → List ℕ → List ℕ
 aligned n bytes = replicate (n % 2) 0 ++ bytes
 

@@ -47,8 +47,8 @@ pub record IsAppended (old : List ℕ) (tag : Tag) (k : In) (value : Value) (new
         → slice_index new i ≡ slice_index old i
 
 -- one more field is read, and all others and the faults are as they were, but for the offsets of
--- values that are in their entries; no old byte has changed, but for the four that hold the offset of
--- the field's directory, and those of that directory
+-- values that are in their entries; no old byte has changed, but for the four that hold the offset
+-- of the field's directory, and those of that directory
 pub record IsInserted (old : List ℕ) (tag : Tag) (k : In) (value : Value) (new : List ℕ) : Type 0
   where
     pub order : Order

@@ -284,12 +284,12 @@ fn wanted(
     })
 }
 
-/// The data with each field of a name like the last one: the other entries of the name become copies
-/// of its entry, so that all lead to one value. The other values become zeros, unless the data would
-/// be read otherwise then. Data with one such field stay as they are.
+/// The data with each field of a name like the last one: the other entries of the name become
+/// copies of its entry, so that all lead to one value. The other values become zeros, unless the
+/// data would be read otherwise then. Data with one such field stay as they are.
 ///
-/// Refusals are `Header`, `FieldNotFound` and `SharedBytes`. It takes the memory of two readings, and
-/// twice that of the data.
+/// Refusals are `Header`, `FieldNotFound` and `SharedBytes`. It takes the memory of two readings,
+/// and twice that of the data.
 pub(crate) fn make_alike(
     alloc: Global,
     data: Vec<u8>,

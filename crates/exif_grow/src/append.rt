@@ -194,13 +194,13 @@ fn append_at(
     first_read(alloc, bytes, &wanted, cleared, kept)
 }
 
-/// Replaces the value of the last field of a name by one of any length: its bytes are appended at an
-/// even offset, or are in the entry if they are at most four. The old value becomes zeros, unless the
-/// data would be read otherwise then.
+/// Replaces the value of the last field of a name by one of any length: its bytes are appended at
+/// an even offset, or are in the entry if they are at most four. The old value becomes zeros,
+/// unless the data would be read otherwise then.
 ///
-/// Refusals are `NamesOffsets`, `UnknownType`, `Header`, `FieldNotFound`, `ValueTooLong` (the new data
-/// would have 2^32 bytes or more) and `SharedBytes`. It takes the memory of two readings, and three
-/// times that of the new data.
+/// Refusals are `NamesOffsets`, `UnknownType`, `Header`, `FieldNotFound`, `ValueTooLong` (the new
+/// data would have 2^32 bytes or more) and `SharedBytes`. It takes the memory of two readings, and
+/// three times that of the new data.
 pub fn append_value(
     alloc: Global,
     bytes: &[u8],

@@ -1,5 +1,5 @@
-//! A field put into a directory that the data lack: the directory that is to point at it is appended
-//! anew with the pointer, and then the new directory.
+//! A field put into a directory that the data lack: the directory that is to point at it is
+//! appended anew with the pointer, and then the new directory.
 
 ghost use Rattle.std.specs.Prelude.{◌≡◌, ◌≤◌, ◌<◌, ◌+◌, ◌*◌, ◌^◌, ◌++◌, ◌∷◌, [], All, length, IfErr, IfOk, OnOk};
 ghost use Rattle.exif_base.specs.Orders.{order_named};
@@ -283,12 +283,12 @@ fn create(
 }
 
 /// Puts a field into an Exif, GPS or interoperability directory that the data lack. The directory
-/// that is to point at it is appended at an even offset, with the pointer in the order of tags; then
-/// the new directory, and the value if it has more than four bytes. The old directory becomes zeros,
-/// unless the data would be read otherwise then.
+/// that is to point at it is appended at an even offset, with the pointer in the order of tags;
+/// then the new directory, and the value if it has more than four bytes. The old directory becomes
+/// zeros, unless the data would be read otherwise then.
 ///
-/// Refusals are `NamesOffsets`, `UnknownType`, `Header`, `NoDirectory` (there is none that would point
-/// at it), `FullDirectory`, `ValueTooLong` (the new data would have 2^32 bytes or more) and
+/// Refusals are `NamesOffsets`, `UnknownType`, `Header`, `NoDirectory` (there is none that would
+/// point at it), `FullDirectory`, `ValueTooLong` (the new data would have 2^32 bytes or more) and
 /// `SharedBytes`. It takes the memory of two readings, and three times that of the new data.
 pub fn create_value(
     alloc: Global,

@@ -21,13 +21,13 @@ fn set_field(alloc: Global, bytes: &[u8], field: &Field) -> Result<Vec<u8>, Erro
     make_alike(alloc, data, field.tag, field.ifd_num)
 }
 
-/// The data with several fields set by [`grow_value`], one after the other. A directory may hold a tag
-/// more than once, and some programs read the first such entry; so each field of the name is set: the
-/// other entries of the name become copies of the one that was set, and their old values become zeros,
-/// unless the data would be read otherwise then.
+/// The data with several fields set by [`grow_value`], one after the other. A directory may hold a
+/// tag more than once, and some programs read the first such entry; so each field of the name is
+/// set: the other entries of the name become copies of the one that was set, and their old values
+/// become zeros, unless the data would be read otherwise then.
 ///
-/// The first refusal is that of the whole. It takes the memory of one `grow_value`, and twice that of
-/// the new data.
+/// The first refusal is that of the whole. It takes the memory of one `grow_value`, and twice that
+/// of the new data.
 pub fn set_fields(alloc: Global, bytes: &[u8], fields: &[Field]) -> Result<Vec<u8>, Error>
     ensures answer { Makes (λ v. v.items) result (fields_grown fields.now bytes.now) }
     ensures set { IfOk result (λ v. AreSet fields.now bytes.now v.items) }

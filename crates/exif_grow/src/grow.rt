@@ -55,12 +55,12 @@ fn grow(alloc: Global, bytes: &[u8], tag: Tag, ifd_num: In, value: &Value) -> Re
 /// Sets the value of a field, whatever its length: over the old value if it fits there, else by
 /// [`append_value`]; a field that the data lack is put into its directory by
 /// [`insert_value`](crate::insert_value), and a directory that they lack is created by
-/// [`create_value`](crate::create_value). What the edit no longer needs becomes zeros, unless the data
-/// would be read otherwise then.
+/// [`create_value`](crate::create_value). What the edit no longer needs becomes zeros, unless the
+/// data would be read otherwise then.
 ///
 /// Refusals are `NamesOffsets`, `UnknownType`, `Header`, `NoDirectory`, `FullDirectory`,
-/// `ValueTooLong` (the new data would have 2^32 bytes or more) and `SharedBytes`. It takes the memory
-/// of two readings, and three times that of the new data.
+/// `ValueTooLong` (the new data would have 2^32 bytes or more) and `SharedBytes`. It takes the
+/// memory of two readings, and three times that of the new data.
 pub fn grow_value(
     alloc: Global,
     bytes: &[u8],

@@ -188,7 +188,8 @@ fn field_growth(
 
 // ---- the whole
 
-/// A value that can be stored at an offset, for a directory that is appended to data of this length.
+/// A value that can be stored at an offset, for a directory that is appended to data of this
+/// length.
 pub fn encoded_at(
     alloc: Global,
     order: Order,
@@ -313,14 +314,14 @@ fn insert(
 }
 
 /// Puts a field into a directory that has none of its name. The directory is appended at an even
-/// offset, with the new entry in the order of tags and all other entries as they are; then the value,
-/// if it has more than four bytes. The old directory becomes zeros, unless the data would be read
-/// otherwise then.
+/// offset, with the new entry in the order of tags and all other entries as they are; then the
+/// value, if it has more than four bytes. The old directory becomes zeros, unless the data would be
+/// read otherwise then.
 ///
 /// Refusals are `NamesOffsets`, `UnknownType`, `Header`, `NoDirectory`, `FullDirectory`,
-/// `ValueTooLong` (the new data would have 2^32 bytes or more) and `SharedBytes`, which a field that
-/// is there already gets too. It takes the memory of two readings, and three times that of the new
-/// data.
+/// `ValueTooLong` (the new data would have 2^32 bytes or more) and `SharedBytes`, which a field
+/// that is there already gets too. It takes the memory of two readings, and three times that of the
+/// new data.
 pub fn insert_value(
     alloc: Global,
     bytes: &[u8],

@@ -1,10 +1,11 @@
 //! Edits of Exif data that grow: what is new is appended, and no old byte moves.
 //!
-//! [`grow_value`] sets a value whatever its length: over the old value where it fits, else appended;
-//! a new field goes into its directory, which is appended anew, and a directory that the data lack is
-//! created. Maker notes, strips, tiles and thumbnails keep their offsets. [`set_fields`] does it for
-//! several fields, sets each field of their names, and answers the new data. Each edit is read again
-//! before it is answered; data that read otherwise are refused. An error changes nothing.
+//! [`grow_value`] sets a value whatever its length: over the old value where it fits, else
+//! appended; a new field goes into its directory, which is appended anew, and a directory that the
+//! data lack is created. Maker notes, strips, tiles and thumbnails keep their offsets.
+//! [`set_fields`] does it for several fields, sets each field of their names, and answers the new
+//! data. Each edit is read again before it is answered; data that read otherwise are refused. An
+//! error changes nothing.
 #![tactic(auto)]
 
 mod alike;

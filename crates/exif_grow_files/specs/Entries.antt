@@ -34,8 +34,8 @@ abbrev pub method_len : ℕ → ℕ
 method_len version = if version == 0 then 2 else 4
 
 -- what an entry says behind the item's number of an item of one extent, whose base, offset and
--- length have these bytes: it is put together from the file (construction method 0), its data are in
--- the file (data reference 0), and it has one extent
+-- length have these bytes: it is put together from the file (construction method 0), its data are
+-- in the file (data reference 0), and it has one extent
 abbrev pub one_extent : Entry → List ℕ → List ℕ → List ℕ → List ℕ
 one_extent e base offset size =
     replicate (method_len e.version) 0

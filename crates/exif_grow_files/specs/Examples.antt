@@ -1,5 +1,5 @@
--- Worked examples: the definitions compute where the entries of items are, what they say once the items
--- are moved, and boxes, by bytes written by hand.
+-- Worked examples: the definitions compute where the entries of items are, what they say once the
+-- items are moved, and boxes, by bytes written by hand.
 use Rattle.std.specs.Prelude.{◌≡◌, refl, true, false, ℕ, List, [], ◌∷◌, None, Some, Ok, Err}
 use Rattle.exif_types.specs.Refusals.{last_read}
 use Rattle.exif_isobmff.specs.Boxes.{all_boxes, box_at, header_at, times}
@@ -34,8 +34,8 @@ found_none : entries 2 one_item ≡ Ok []
 unfolding entries entry_at location_at item_head_at extent_at times
 found_none = refl
 
--- version 1, offsets, lengths and bases of 8, 4 and 4 bytes: item 7 twice, in `idat` and then in the
--- file, and a byte that nothing says
+-- version 1, offsets, lengths and bases of 8, 4 and 4 bytes: item 7 twice, in `idat` and then in
+-- the file, and a byte that nothing says
 abbrev two_items : List ℕ
 two_items =
     1 ∷ 0 ∷ 0 ∷ 0 ∷ 0x84 ∷ 0x40 ∷ 0 ∷ 2
@@ -70,7 +70,8 @@ version_0 : moved_entry (record {
 unfolding moved_entry
 version_0 = refl
 
--- version 1, with an index of 4 bytes, and a base that is too narrow: method 0, data reference 0, base 0
+-- version 1, with an index of 4 bytes, and a base that is too narrow: method 0, data reference 0,
+-- base 0
 version_1 : moved_entry (record {
   left = 30;
   version = 1;

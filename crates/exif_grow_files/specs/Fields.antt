@@ -32,8 +32,8 @@ fields_view f =
       entry = f.entry;
     }
 
--- an extent of an item has no length: it runs to the end of the file, over whatever follows the item
--- (ISO/IEC 14496-12:2015, 8.11.3.3)
+-- an extent of an item has no length: it runs to the end of the file, over whatever follows the
+-- item (ISO/IEC 14496-12:2015, 8.11.3.3)
 abbrev pub is_open : ItemExtents → Bool
 is_open location = list_any (λ e. e.len == 0) location.extents
 

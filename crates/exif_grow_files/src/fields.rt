@@ -33,8 +33,8 @@ fn is_open(location: &Location) -> bool
 }
 
 /// The Exif item of a file in memory: its header, its ranges, and its entry in `iloc`. Refusals are
-/// those of `exif_isobmff::exif_of_file`, and `NotSupported` where an extent has no length. It takes the
-/// memory of the item twice.
+/// those of `exif_isobmff::exif_of_file`, and `NotSupported` where an extent has no length. It
+/// takes the memory of the item twice.
 #[tactic(auto, unfolding(crate::specs::Fields::item_fields))]
 pub fn item_fields(alloc: Global, file: &[u8]) -> Result<ExifFields, Error>
     ensures gives { Gives fields_view result (item_fields file.now) }

@@ -145,14 +145,15 @@ fn one_range(ranges: &[Extent]) -> Result<Extent, Error>
 /// What makes a HEIF file hold new Exif data, of any length: the item that holds them is put into a
 /// media data box (`mdat`) that follows the file, with the bytes that were before its data, and its
 /// entry in `iloc` says so. The item is one of the file then (construction method 0), and has one
-/// extent. Its old bytes become zeros, unless the file would hold other data then; another item that
-/// has some of these bytes loses them. No other byte of the file changes, and none moves.
+/// extent. Its old bytes become zeros, unless the file would hold other data then; another item
+/// that has some of these bytes loses them. No other byte of the file changes, and none moves.
 ///
 /// Refusals are `Container`, with the refusal of the file, or `NotSupported` where the item has
-/// several extents, or one without a length, where a field of `iloc` is too narrow for the new offset or length, and where the
-/// last box of the file runs to its end or past it, or `TooBig` where the item would have more than
-/// 65,535 bytes; and `SharedBytes`, if the file does not hold the new data then, as where the item's
-/// bytes also say where the item is. It takes the memory of the file twice.
+/// several extents, or one without a length, where a field of `iloc` is too narrow for the new
+/// offset or length, and where the last box of the file runs to its end or past it, or `TooBig`
+/// where the item would have more than 65,535 bytes; and `SharedBytes`, if the file does not hold
+/// the new data then, as where the item's bytes also say where the item is. It takes the memory of
+/// the file twice.
 pub fn grow_item(alloc: Global, file: &[u8], new: &[u8]) -> Result<Growth, Error>
     ensures answer { Makes added_of result (item_growth file.now new.now) }
     ensures within { IfOk result (λ g. All (FitsIn (length file.now)) g.patches.items) }

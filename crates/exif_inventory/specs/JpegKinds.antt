@@ -1,5 +1,6 @@
--- What the markers and segments of a JPEG stream are (ITU-T T.81, table B.1; JFIF 1.02; Exif 2.32, 4.7.2;
--- ICC.1:2022, B.4; XMP part 3, 1.1.3; CIPA DC-007, 5; ISO/IEC 19566-5, annex D; C2PA 2.1, A.3.1).
+-- What the markers and segments of a JPEG stream are (ITU-T T.81, table B.1; JFIF 1.02; Exif 2.32,
+-- 4.7.2; ICC.1:2022, B.4; XMP part 3, 1.1.3; CIPA DC-007, 5; ISO/IEC 19566-5, annex D; C2PA 2.1,
+-- A.3.1).
 use Rattle.std.specs.Prelude.{ℕ, ◌+◌, List, [], ◌∷◌, length, take, codes, nat_le, nat_lt, Bool, false, ◌&&◌, ◌||◌, ◌==◌, if◌then◌else◌}
 use Rattle.std.specs.Str.{bytes_eq}
 use Rattle.exif_inventory.specs.declared.kind.Kind.{Kind}

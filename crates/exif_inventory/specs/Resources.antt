@@ -1,4 +1,5 @@
--- The resources of Photoshop in a segment of a JPEG stream (Photoshop File Formats, "Image Resource Blocks").
+-- The resources of Photoshop in a segment of a JPEG stream (Photoshop File Formats, "Image Resource
+-- Blocks").
 use Rattle.std.specs.Prelude.{ℕ, ◌+◌, ◌-◌, ◌*◌, ◌%◌, min, List, length, take, drop, slice_index, codes, nat_lt, Bool, ◌&&◌, ◌||◌, ◌==◌, if◌then◌else◌}
 use Rattle.std.specs.Str.{bytes_eq}
 use Rattle.exif_inventory.specs.declared.kind.Kind.{Kind}
@@ -46,8 +47,8 @@ rest_resource picture scanned space = record {
   next = Stream picture scanned;
 }
 
--- a resource of so many bytes, of which so many come before its data, and one follows those that are
--- odd, but at the end of the space
+-- a resource of so many bytes, of which so many come before its data, and one follows those that
+-- are odd, but at the end of the space
 abbrev pub whole_resource : ℕ → Bool → ℕ → List ℕ → ℕ → ℕ → Piece
 whole_resource picture scanned space bytes front size =
     let len = min (front + size + size % 2) space in record {

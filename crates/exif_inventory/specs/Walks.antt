@@ -57,7 +57,8 @@ added parts piece =
     then record { done = parts.done; last = longer parts.last piece.len }
     else record { done = parts.done ++ parts.last ∷ []; last = part_behind parts.last piece }
 
--- the parts with those of at most n pieces of the bytes that are left; each piece has a byte at least
+-- the parts with those of at most n pieces of the bytes that are left; each piece has a byte at
+-- least
 unfoldable pub walked : ℕ → State → List ℕ → Parts → Parts
 walked n state [] parts = parts
 walked zero state (b ∷ bytes) parts = parts

@@ -1,4 +1,5 @@
--- The pieces of a WebP file (WebP Container Specification, "RIFF File Format", "Extended File Format").
+-- The pieces of a WebP file (WebP Container Specification, "RIFF File Format", "Extended File
+-- Format").
 use Rattle.std.specs.Prelude.{ℕ, ◌+◌, ◌-◌, ◌%◌, min, List, [], ◌∷◌, length, take, drop, codes, nat_lt, nat_le, Bool, ◌&&◌, ◌||◌, ◌==◌, if◌then◌else◌}
 use Rattle.std.specs.Str.{bytes_eq}
 use Rattle.std.specs.Int.{from_le_bytes, w32}

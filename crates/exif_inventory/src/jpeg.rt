@@ -193,8 +193,8 @@ fn id_len(kind: Kind) -> usize
     }
 }
 
-// How many bytes of a segment come before its data, where its marker is at this index: none, where it
-// is not known or the picture's own.
+// How many bytes of a segment come before its data, where its marker is at this index: none, where
+// it is not known or the picture's own.
 fn front_len(kind: Kind, at: usize) -> usize
     requires { at < 2 ^ 63 }
     ensures { result ≡ front_len kind at }

@@ -1,5 +1,5 @@
-//! The resources of Photoshop in a segment of a JPEG stream (Photoshop File Formats, "Image Resource
-//! Blocks").
+//! The resources of Photoshop in a segment of a JPEG stream (Photoshop File Formats, "Image
+//! Resource Blocks").
 
 ghost use Rattle.std.specs.Prelude.{◌≡◌, ◌<◌, ◌≤◌, ◌+◌, ◌^◌, length};
 ghost use Rattle.exif_inventory.specs.Resources.{after_resource, fronted_resource, is_resource, name_len, number_of, resource_front, resource_kind, resource_piece, rest_resource, sized_resource, spaced_resource, whole_resource};
@@ -78,8 +78,8 @@ fn rest_resource(picture: u64, scanned: bool, space: usize) -> Piece
     }
 }
 
-// A resource whose data follow so many bytes, and have this size. Data of an odd size are padded, but
-// at the end of the space.
+// A resource whose data follow so many bytes, and have this size. Data of an odd size are padded,
+// but at the end of the space.
 fn whole_resource(
     picture: u64,
     scanned: bool,

@@ -86,11 +86,11 @@ fn parts_from(alloc: Global, start: State, file: &[u8]) -> Result<Vec<Part>, All
     Ok(done)
 }
 
-/// The parts of a JPEG or WebP file, in the order of their bytes: each begins where the one before it
-/// ends, and together they are the file. `None` for a file of another format.
+/// The parts of a JPEG or WebP file, in the order of their bytes: each begins where the one before
+/// it ends, and together they are the file. `None` for a file of another format.
 ///
-/// A picture that follows the first one in a JPEG file, as a gain map or a preview does, has the next
-/// number, and parts of its own. It takes memory for the list.
+/// A picture that follows the first one in a JPEG file, as a gain map or a preview does, has the
+/// next number, and parts of its own. It takes memory for the list.
 pub fn inventory(alloc: Global, file: &[u8]) -> Result<Option<Vec<Part>>, AllocError>
     ensures answer { IfOk result (λ parts. option_map (λ v. v.items) parts ≡ inventory file.now) }
     ensures covers { IfOk result (λ found. IfSome found

@@ -103,8 +103,8 @@ fn pad_of(kind: Kind, size: usize, len: usize) -> usize
     }
 }
 
-// A whole chunk, whose payload has this size, at the front of so much space. Its pad byte may be missing
-// at the end of the file.
+// A whole chunk, whose payload has this size, at the front of so much space. Its pad byte may be
+// missing at the end of the file.
 fn sized_chunk(space: u64, bytes: &[u8], size: u64) -> Piece
     requires space { 8 + size ≤ space }
     requires within { 8 + size ≤ length bytes.now }
@@ -126,8 +126,8 @@ fn sized_chunk(space: u64, bytes: &[u8], size: u64) -> Piece
     }
 }
 
-/// The chunk at the front of so much space, its pad byte included; or all bytes that are left, where
-/// they hold no whole chunk, or follow the last one.
+/// The chunk at the front of so much space, its pad byte included; or all bytes that are left,
+/// where they hold no whole chunk, or follow the last one.
 #[tactic(auto, unfolding(crate::specs::WebpPieces::chunk_piece))]
 pub fn chunk_piece(space: u64, bytes: &[u8]) -> Piece
     requires { 0 < length bytes.now }

@@ -55,7 +55,8 @@ size_members fields =
     ++ maybe (codes "height") unsigned
     (either_number (number_of fields Exif 40963) (number_of fields Tiff 257))
 
--- how a picture is turned, when, where and by which camera it was taken, and its size, in one object
+-- how a picture is turned, when, where and by which camera it was taken, and its size, in one
+-- object
 abbrev pub summary_json : List Field → Json
 summary_json fields = object (standing_members fields
     ++ (location_members fields ++ (camera_members fields ++ size_members fields)))

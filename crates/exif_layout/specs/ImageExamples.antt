@@ -1,4 +1,5 @@
--- Worked examples: the definitions compute the images of small groups, and for which nothing is written.
+-- Worked examples: the definitions compute the images of small groups, and for which nothing is
+-- written.
 use Rattle.std.specs.Prelude.{Some, None, negsuc, pos, ℕ, ◌≡◌, refl, List, [], ◌∷◌, length, map, replicate, codes, true, false}
 use Rattle.std.specs.List.{range_with_len}
 use Rattle.exif_base.specs.declared.endian.Order.TheVariants.{Big, Little}

@@ -57,8 +57,8 @@ abbrev pub fields_under : ℕ → ℕ → List Field → List Field
 fields_under tag ifd all =
     filter (λ field. is_tiff field.tag.0 && (field.tag.1 == tag) && (field.ifd_num.0 == ifd)) all
 
--- blocks that the fields of a directory name: one field has their offsets and one their lengths, and
--- each is whole at its offset
+-- blocks that the fields of a directory name: one field has their offsets and one their lengths,
+-- and each is whole at its offset
 pub record BlocksNamed (bytes : List ℕ) (all : List Field) (ifd : ℕ) (kind : BlockKind)
     (texts : List (List ℕ)) : Type 0 where
   pub offsets : List ℕ

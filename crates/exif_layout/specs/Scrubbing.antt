@@ -1,5 +1,5 @@
--- Scrubbing: fields written again without the location where a picture was taken and without values of
--- unknown types.
+-- Scrubbing: fields written again without the location where a picture was taken and without values
+-- of unknown types.
 use Rattle.std.specs.Prelude.{◌≡◌, ◌&&◌, ◌≤◌, not, Bool, true, false, List, [], length, None}
 use Rattle.std.specs.List.{All, filter}
 use Rattle.exif_base.specs.declared.endian.Order.{Order}

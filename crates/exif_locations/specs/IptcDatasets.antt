@@ -10,7 +10,8 @@ abbrev pub ◌>>=◌ : {A B : Type 0} → Result A Fault → (A → Result B Fau
 (Ok x) >>= f = f x
 (Err e) >>= f = Err e
 
--- of a location: content location code and name, city, sublocation, state, the country's code and name
+-- of a location: content location code and name, city, sublocation, state, the country's code and
+-- name
 abbrev pub is_location : ℕ → ℕ → Bool
 is_location record_number number =
     (record_number == 2) && ((number == 26) || (number == 27) || (number == 90) || (number == 92)

@@ -68,7 +68,8 @@ ends_measure name =
     bytes_eq (tail 7 name) (codes "atitude") || bytes_eq (tail 7 name) (codes "ltitude")
     || bytes_eq (tail 8 name) (codes "ongitude")
 
--- a name without its prefix is that of a location; this takes a time that does not grow with the name
+-- a name without its prefix is that of a location; this takes a time that does not grow with the
+-- name
 unfoldable pub is_word : List ℕ → Bool
 is_word name = begins_gps name || is_address name || is_area name || is_measure name || ends_measure name
 

@@ -1,5 +1,5 @@
-//! Locations in XMP packets and in IPTC data, erased in place: as many bytes as before, and each is as
-//! it was or a space.
+//! Locations in XMP packets and in IPTC data, erased in place: as many bytes as before, and each is
+//! as it was or a space.
 #![tactic(auto)]
 
 pub mod iptc;

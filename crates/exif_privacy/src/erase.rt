@@ -29,13 +29,13 @@ fn erase_in_part(
     Ok(())
 }
 
-/// Erases the locations in a JPEG or WebP file, in place, and answers the parts that may still hold one,
-/// in their order: `None` for a file of another format, which stays as it is.
+/// Erases the locations in a JPEG or WebP file, in place, and answers the parts that may still hold
+/// one, in their order: `None` for a file of another format, which stays as it is.
 ///
-/// Erased are the GPS data of each part with Exif data, the properties of XMP packets and the datasets of
-/// IPTC data that name a location. Of all other parts no byte changes. What can't be read stays, and is
-/// answered; so are comments, trailers, content credentials, parts of long XMP packets, and segments and
-/// chunks that are not known. Maker notes and texts are not looked at.
+/// Erased are the GPS data of each part with Exif data, the properties of XMP packets and the
+/// datasets of IPTC data that name a location. Of all other parts no byte changes. What can't be
+/// read stays, and is answered; so are comments, trailers, content credentials, parts of long XMP
+/// packets, and segments and chunks that are not known. Maker notes and texts are not looked at.
 ///
 /// Out of memory leaves each part as it was, or with its locations erased.
 pub fn erase_locations(alloc: Global, file: &mut [u8]) -> Result<Option<Vec<Stays>>, AllocError>

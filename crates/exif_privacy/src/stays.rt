@@ -11,7 +11,8 @@ pub enum Why {
     XmpNotRead(xmp::Fault),
     /// The IPTC data can't be read, and are as they were.
     IptcNotRead(iptc::Fault),
-    /// The Exif data can't be read, or use the bytes of their GPS data twice; they are as they were.
+    /// The Exif data can't be read, or use the bytes of their GPS data twice; they are as they
+    /// were.
     ExifNotChanged,
     /// The Exif data have GPS pointers that are not followed.
     GpsNotFollowed,

@@ -30,8 +30,8 @@ no_exif_in_webp = not_found (codes "WebP")
 abbrev pub webp_refusals : List Refusal
 webp_refusals = broken_webp ∷ not_webp ∷ invalid_file_size ∷ overflowing ∷ no_exif_in_webp ∷ []
 
--- a chunk at an offset of the body: the payload of `EXIF` and all that follows, or another one, with
--- the space that is left behind it and the bytes there
+-- a chunk at an offset of the body: the payload of `EXIF` and all that follows, or another one,
+-- with the space that is left behind it and the bytes there
 pub data Chunk : Type 0 where
   exif : List ℕ → List ℕ → Chunk
   other : ℕ → List ℕ → Chunk

@@ -164,8 +164,8 @@ impl Write for Counting {
     }
 }
 
-/// A device that fails at one call, the one behind so many good ones, and then goes on. The call that
-/// fails gives or takes nothing.
+/// A device that fails at one call, the one behind so many good ones, and then goes on. The call
+/// that fails gives or takes nothing.
 #[derive(Drop)]
 pub struct Once<D> {
     /// The device that goes on.

@@ -1,5 +1,5 @@
-//! What the tests above the reader use: small worked files, devices that give or take little and then
-//! fail, memory that runs short, and checks of what was read and written.
+//! What the tests above the reader use: small worked files, devices that give or take little and
+//! then fail, memory that runs short, and checks of what was read and written.
 #![tactic(auto)]
 
 pub mod answers;

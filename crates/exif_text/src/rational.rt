@@ -11,8 +11,8 @@ use arrayvec::ArrayString;
 use itoa::Buffer;
 use std::fmt;
 
-/// A fraction without sign (TIFF 6.0, section 2, RATIONAL). Its text is `num/denom`, on the right of
-/// its width; it is not reduced.
+/// A fraction without sign (TIFF 6.0, section 2, RATIONAL). Its text is `num/denom`, on the right
+/// of its width; it is not reduced.
 #[derive(Clone, Copy, PartialEq, Eq)]
 pub struct Rational {
     /// The upper number.
@@ -21,8 +21,8 @@ pub struct Rational {
     pub denom: u32,
 }
 
-/// A fraction with sign (TIFF 6.0, section 2, SRATIONAL). Its text is `num/denom`, on the right of its
-/// width; it is not reduced.
+/// A fraction with sign (TIFF 6.0, section 2, SRATIONAL). Its text is `num/denom`, on the right of
+/// its width; it is not reduced.
 #[derive(Clone, Copy, PartialEq, Eq)]
 pub struct SRational {
     /// The upper number.

@@ -158,8 +158,9 @@ cut_directory : trace (77 ∷ 77 ∷ 0 ∷ 42 ∷ 0 ∷ 0 ∷ 0 ∷ 8 ∷ 0 ∷ 
 unfolding trace ordered_trace
 cut_directory = refl
 
--- Each fault of a header but that of too large data, which can't be written out here: `TooLargeIsExact` says when it comes.
--- neither byte order, the number 42 in the wrong order, and another number
+-- Each fault of a header but that of too large data, which can't be written out here:
+-- `TooLargeIsExact` says when it comes. neither byte order, the number 42 in the wrong order, and
+-- another number
 wrong_order : header (77 ∷ 73 ∷ 0 ∷ 42 ∷ 0 ∷ 0 ∷ 0 ∷ 0 ∷ []) ≡ Err InvalidByteOrder
 wrong_order = refl
 

@@ -30,8 +30,8 @@ impl Value {
         }
     }
 
-    /// The number at an index, from 0, of a `Byte`, `Short` or `Long` value; `None` behind the last,
-    /// and for any other kind.
+    /// The number at an index, from 0, of a `Byte`, `Short` or `Long` value; `None` behind the
+    /// last, and for any other kind.
     pub fn get_uint(&self, index: usize) -> Option<u32>
         ensures { result ≡ number_in self.now index }
     {

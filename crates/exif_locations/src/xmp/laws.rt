@@ -2,8 +2,8 @@
 
 ghost use Rattle.exif_locations.specs.XmpPromises.{BytesStay, NoLocationIsLeft, OthersStay, TokensStay, TwiceIsOnce};
 
-/// A packet whose locations were erased is as long as before, and each of its bytes is as it was or a
-/// space.
+/// A packet whose locations were erased is as long as before, and each of its bytes is as it was or
+/// a space.
 pub fn other_bytes_stay()
     ensures { BytesStay }
 {}

@@ -87,8 +87,8 @@ fn ends_measure(name: &[u8]) -> bool
         || eight == b"ongitude".as_slice()
 }
 
-// Whether a name without its prefix is that of a location. This takes a time that does not grow with the
-// name.
+// Whether a name without its prefix is that of a location. This takes a time that does not grow
+// with the name.
 #[tactic(auto, unfolding(crate::specs::XmpNames::is_word))]
 fn is_word(name: &[u8]) -> bool
     ensures { result ≡ is_word name.now }
@@ -108,7 +108,8 @@ fn behind_colon(name: &[u8]) -> bool
     false
 }
 
-/// Whether a name is that of a location, whatever prefix it has. The declaration of a prefix is not.
+/// Whether a name is that of a location, whatever prefix it has. The declaration of a prefix is
+/// not.
 #[tactic(auto, unfolding(crate::specs::XmpNames::is_location))]
 pub fn is_location(name: &[u8]) -> bool
     ensures { result ≡ is_location name.now }

@@ -1,5 +1,5 @@
-//! What edits report and refuse: the offsets of their patches, the texts of their errors, and bytes that
-//! stay as they were where memory runs out.
+//! What edits report and refuse: the offsets of their patches, the texts of their errors, and bytes
+//! that stay as they were where memory runs out.
 
 mod growth;
 mod left;
@@ -26,8 +26,8 @@ pub fn put(bytes: &mut [u8], offset: usize, new: &[u8]) {
     }
 }
 
-/// Whether an answer is that something is so. It takes any error, so that the proof of a test does not
-/// open the kinds of errors where one goes.
+/// Whether an answer is that something is so. It takes any error, so that the proof of a test does
+/// not open the kinds of errors where one goes.
 pub fn is_so<E: Drop>(answer: Result<bool, E>) -> bool {
     matches!(answer, Ok(true))
 }

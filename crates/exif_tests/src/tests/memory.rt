@@ -1,5 +1,5 @@
-//! What is answered, written and kept where memory runs short. `exif_test_support::shortage` says which
-//! allocator these tests need.
+//! What is answered, written and kept where memory runs short. `exif_test_support::shortage` says
+//! which allocator these tests need.
 
 mod copies;
 mod reading;

@@ -1,5 +1,5 @@
-//! Devices that fail once and then go on: the failure is the answer, whichever call it is, and what was
-//! written is what the writer took before it.
+//! Devices that fail once and then go on: the failure is the answer, whichever call it is, and what
+//! was written is what the writer took before it.
 
 use exif::experimental::Writer;
 use exif::{Counted, Error, Exif};

@@ -54,8 +54,8 @@ fn each_piece_of_a_skip_is_one_read(rt: HostRuntime) -> Result<(), Fail> {
     Ok(())
 }
 
-/// A writer that takes all but the last byte of each call, and notes how many bytes each call had and
-/// how many were taken before each flush.
+/// A writer that takes all but the last byte of each call, and notes how many bytes each call had
+/// and how many were taken before each flush.
 #[derive(Drop)]
 struct NotedWrites {
     taken: Vec<u8>,

@@ -176,8 +176,8 @@ pub fn without_an_end(bytes: &[u8]) -> Seekable<Stream<'_>> {
     })
 }
 
-/// A device that fails at one call, the one behind so many good ones, and then goes on. The call that
-/// fails gives or takes nothing.
+/// A device that fails at one call, the one behind so many good ones, and then goes on. The call
+/// that fails gives or takes nothing.
 #[derive(Drop)]
 pub struct Once<D> {
     pub inner: D,

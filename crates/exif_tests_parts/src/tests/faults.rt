@@ -1,4 +1,5 @@
-//! Devices that fail once and then go on: the failure is reported, and no byte is lost or comes twice.
+//! Devices that fail once and then go on: the failure is reported, and no byte is lost or comes
+//! twice.
 
 use super::devices::{Drip, Once, OneByte, byte_reader, byte_writer};
 use exif_base::{Blocks, Counted, ReadFault, Sink, Source, read_to_end, send_all};

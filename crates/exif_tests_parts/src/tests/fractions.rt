@@ -1,4 +1,5 @@
-//! Fractions, quoted and plain texts: debug texts, equal parts, and what comes of a formatter that fails.
+//! Fractions, quoted and plain texts: debug texts, equal parts, and what comes of a formatter that
+//! fails.
 
 use arrayvec::ArrayString;
 use exif_text::laws::{is_same_rational, is_same_srational};

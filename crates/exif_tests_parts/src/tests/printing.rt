@@ -1,6 +1,6 @@
-//! Tags, directories, fractions and dates at every width: without an error, and with the right text.
-//! What a contract says of their padded texts holds where printing succeeds, so these loops show that
-//! it does.
+//! Tags, directories, fractions and dates at every width: without an error, and with the right
+//! text. What a contract says of their padded texts holds where printing succeeds, so these loops
+//! show that it does.
 
 use exif_base::Items;
 use exif_datetime::DateTime;

@@ -16,7 +16,8 @@ use std::test::Fail;
 const FILE: &[u8] =
     b"\xff\xd8\xff\xe1\0\x47Exif\0\0MM\0*\0\0\0\x08\0\x02\x01\x0e\0\x02\0\0\0\x07\0\0\0\x38\x88\x25\0\x04\0\0\0\x01\0\0\0\x26\0\0\0\0\0\x01\0\0\0\x01\0\0\0\x04\x02\x03\0\0\0\0\0\0Sample\0";
 
-// The same with another description, without its GPS data, without the description, and without all.
+// The same with another description, without its GPS data, without the description, and without
+// all.
 const SET: &[u8] =
     b"\xff\xd8\xff\xe1\0\x47Exif\0\0MM\0*\0\0\0\x08\0\x02\x01\x0e\0\x02\0\0\0\x05\0\0\0\x38\x88\x25\0\x04\0\0\0\x01\0\0\0\x26\0\0\0\0\0\x01\0\0\0\x01\0\0\0\x04\x02\x03\0\0\0\0\0\0Blue\0\0\0";
 

@@ -1,5 +1,5 @@
-//! Edits that are undone: where what they make is read otherwise, where a file does not hold it, and
-//! where memory is refused on the way.
+//! Edits that are undone: where what they make is read otherwise, where a file does not hold it,
+//! and where memory is refused on the way.
 
 use super::{DESCRIPTION, put, text};
 use exif_base::Items;

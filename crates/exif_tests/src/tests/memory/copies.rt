@@ -55,7 +55,8 @@ fn defaulting(made: Result<Option<Value>, Error>, wanted: &Value) -> Outcome {
     }
 }
 
-// Each making of a tag's default runs out of memory, or gives the value that it gives with enough of it.
+// Each making of a tag's default runs out of memory, or gives the value that it gives with enough
+// of it.
 fn default_runs_out_of_memory(rt: &(impl Abort + AllocGlobal), tag: Tag) {
     let alloc = rt.alloc();
     let value = tag.default_value(alloc).expect(rt, "memory");

@@ -85,8 +85,8 @@ fn compared(answer: Result<Exif, Error>, wanted: &Exif, faults: &[&'static str])
     }
 }
 
-// Each reading runs out of memory, or gives the fields that it gives with enough of it, and the same
-// faults.
+// Each reading runs out of memory, or gives the fields that it gives with enough of it, and the
+// same faults.
 fn gives_all_or_nothing(rt: &(impl Abort + AllocGlobal), row: Row<'_>) -> Result<(), Fail> {
     let alloc = rt.alloc();
     let (wanted, _faults) = distilled(answer(alloc, row))?;

@@ -1,4 +1,5 @@
-//! As many fields as a directory can have and images as long as can be, and what is refused past that.
+//! As many fields as a directory can have and images as long as can be, and what is refused past
+//! that.
 
 use super::list_of;
 use exif::experimental::Writer;
