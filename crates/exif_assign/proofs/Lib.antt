@@ -1,5 +1,2 @@
-pub mod CalendarSteps
-pub mod Inverse
 pub mod Naming
-pub mod NumberSteps
 pub mod Powers

@@ -1,9 +1,6 @@
 pub mod Assigning
-pub mod Calendar
 pub mod Examples
 pub mod Fitting
-pub mod Numbers
 pub mod Rules
-pub mod Shift
 pub mod Texts
 pub mod Values

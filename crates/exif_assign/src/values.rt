@@ -7,10 +7,10 @@ ghost use Rattle.exif_assign.specs.Texts.{Spells, fraction};
 ghost use Rattle.exif_assign.specs.Values.{ValuesAs, bytes_of, character_code, date_in, day_in, decimal_degrees, degrees_in, degrees_value, has_day_separators, has_separators, spelled_value, text_in, undefined_value, value_in};
 
 use crate::fitting::fits;
-use crate::numbers::{cut, number_below};
 use crate::rules::{Form, form_of};
 use crate::spelled::{ValueError, items_in, power_of_ten};
 use exif_base::Items;
+use exif_clock::{cut, number_below};
 use exif_text::{FieldType, Rational};
 use exif_types::{Tag, Value};
 use std::alloc::{AllocError, Global};

@@ -4,7 +4,7 @@ ghost use Rattle.std.specs.Prelude.{◌≡◌};
 ghost use Rattle.exif_change.specs.Changed.{change_of, whole};
 
 use exif::Tag;
-use exif_assign::Unmoved;
+use exif_clock::Unmoved;
 use exif_privacy::Stays;
 use std::alloc::Global;
 use std::fmt;

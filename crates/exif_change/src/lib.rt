@@ -18,7 +18,8 @@ mod thumbnails;
 
 pub use changed::{Changed, Left};
 pub use dates::{Dates, shift};
-pub use exif_assign::{Assignment, ClockShift, Unmoved};
+pub use exif_assign::Assignment;
+pub use exif_clock::{ClockShift, Unmoved};
 pub use exif_edit::Unerased;
 pub use reading::{ENTRY_LIMIT, read};
 pub use refusal::Refusal;

@@ -11,8 +11,8 @@ ghost use Rattle.exif_containers.specs.declared.container.Format.{Format};
 ghost use Rattle.exif_containers.specs.declared.container.Format.TheVariants.{Heif, WebP};
 ghost use Rattle.exif_rewrite.specs.FileLaws.{AnswersPut};
 ghost use Rattle.exif_rewrite.specs.ScrubbedExif.{wanted};
-ghost use Rattle.exif_assign.specs.Shift.{moved_value, opposite};
-ghost use Rattle.exif_assign.specs.declared.shift.ClockShift.{ClockShift};
+ghost use Rattle.exif_clock.specs.Shift.{moved_value, opposite};
+ghost use Rattle.exif_clock.specs.declared.shift.ClockShift.{ClockShift};
 ghost use Rattle.exif_change.specs.Changed.{whole};
 ghost use Rattle.exif_change.specs.Changes.{kept, scrubbed, upright};
 ghost use Rattle.exif_change.specs.Reading.{Contents, file_contents};
@@ -23,7 +23,7 @@ ghost use Rattle.exif_change_laws.specs.Positions.{KeepsPositions};
 ghost use Rattle.exif_change_laws.specs.Scrubbed.{HasNoField, is_rewritten, orientation, orientation_alone};
 ghost use Rattle.exif_change_laws.specs.Shifted.{all_read};
 
-use exif_assign::laws::a_moved_date_is_moved_back;
+use exif_clock::laws::a_moved_date_is_moved_back;
 use exif_rewrite::laws::file_answers_what_was_put;
 use exif_tiff::laws::limits_cut_readings;
 

@@ -1,16 +1,11 @@
-pub mod AlikeSound
-pub mod AlikeSteps
 pub mod AppendSound
 pub mod AppendSteps
 pub mod CreateSound
 pub mod CreateSteps
 pub mod DirectorySteps
-pub mod FieldSound
-pub mod FieldSteps
 pub mod Found
 pub mod GrowSteps
 pub mod GrowthSteps
 pub mod InsertSound
 pub mod InsertSteps
 pub mod OldKept
-pub mod SetLists

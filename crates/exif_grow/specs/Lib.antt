@@ -1,4 +1,3 @@
-pub mod Alike
 pub mod Appending
 pub mod Creating
 pub mod Directories

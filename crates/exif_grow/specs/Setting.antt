@@ -1,16 +1,14 @@
 -- A value set, whatever its length and wherever its field belongs.
-use Rattle.std.specs.Prelude.{ℕ, List, [], ◌∷◌, Result, Ok, Err}
+use Rattle.std.specs.Prelude.{ℕ, List, [], Result, Ok, Err}
 use Rattle.exif_text.specs.declared.ifd.In.{In}
-use Rattle.exif_types.specs.declared.field.Field.{Field}
 use Rattle.exif_types.specs.declared.tag.Tag.{Tag}
 use Rattle.exif_types.specs.declared.value.Value.{Value}
-use Rattle.exif_edit_base.specs.Causes.{Cause, no_directory, no_field, shared, too_long, ◌>>=◌}
+use Rattle.exif_edit_base.specs.Causes.{Cause, no_directory, no_field, shared, too_long}
 use Rattle.exif_edit_base.specs.declared.patch.Patch.{Patch}
 use Rattle.exif_edit.specs.Setting.{set_patches}
-use Rattle.exif_grow.specs.Alike.{made_alike}
 use Rattle.exif_grow.specs.Appending.{append_answer}
 use Rattle.exif_grow.specs.Creating.{create_answer}
-use Rattle.exif_grow.specs.Growing.{Added, grown, in_place}
+use Rattle.exif_grow.specs.Growing.{Added, in_place}
 use Rattle.exif_grow.specs.Inserting.{insert_answer}
 
 -- where a field's directory is not found, it is created
@@ -31,14 +29,3 @@ else_grown bytes tag k value (Err cause) = Err cause
 -- what sets a value, or why that is refused
 unfoldable pub grow_answer : List ℕ → Tag → In → Value → Result Added Cause
 grow_answer bytes tag k value = else_grown bytes tag k value (set_patches bytes tag k value)
-
--- the new data with a field: its value is set, and then all fields of its name are made alike
-unfoldable pub field_grown : Field → List ℕ → Result (List ℕ) Cause
-field_grown field bytes = do
-  a ← grow_answer bytes field.tag field.ifd_num field.value
-  made_alike (grown a bytes) field.tag field.ifd_num
-
--- the same with several, one after the other
-abbrev pub fields_grown : List Field → List ℕ → Result (List ℕ) Cause
-fields_grown [] bytes = Ok bytes
-fields_grown (field ∷ fields) bytes = field_grown field bytes >>= fields_grown fields

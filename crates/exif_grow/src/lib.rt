@@ -2,17 +2,13 @@
 //!
 //! [`grow_value`] sets a value whatever its length: over the old value where it fits, else
 //! appended; a new field goes into its directory, which is appended anew, and a directory that the
-//! data lack is created. Maker notes, strips, tiles and thumbnails keep their offsets.
-//! [`set_fields`] does it for several fields, sets each field of their names, and answers the new
-//! data. Each edit is read again before it is answered; data that read otherwise are refused. An
+//! data lack is created. Maker notes, strips, tiles and thumbnails keep their offsets. Each edit is read again before it is answered; data that read otherwise are refused. An
 //! error changes nothing.
 #![tactic(auto)]
 
-mod alike;
 mod append;
 mod create;
 mod directories;
-mod fields;
 mod grow;
 mod growth;
 mod insert;
@@ -22,7 +18,6 @@ mod reread;
 pub use append::append_value;
 pub use create::create_value;
 pub use exif_edit_base::{Error, Patch};
-pub use fields::set_fields;
 pub use grow::grow_value;
-pub use growth::{Growth, grown};
+pub use growth::{Growth, first_read, grown};
 pub use insert::insert_value;

@@ -1,0 +1,3 @@
+pub mod CalendarSteps
+pub mod Inverse
+pub mod NumberSteps

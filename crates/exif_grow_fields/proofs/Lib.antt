@@ -1,0 +1,5 @@
+pub mod AlikeSound
+pub mod AlikeSteps
+pub mod FieldSound
+pub mod FieldSteps
+pub mod SetLists
