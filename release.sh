@@ -14,6 +14,6 @@ for name in exif_show mexaldor; do
     "${CC:-cc}" -static -s -o "$1/$name" "$root/crates/$name/out/$name.o" "$kit/c/libos_c.a" "$kit/c/liblibc_c.a"
     cp "$root/docs/man/$name.1" "$1/man/"
 done
-cp "$root/LICENSE" "$root/NOTICE" "$root/docs/exif.schema.json" "$1/"
+cp "$root/LICENSE" "$root/NOTICE" "$root/docs/exif.schema.json" "$root/docs/check.schema.json" "$1/"
 (cd "$1" && find . -type f ! -name SHA256SUMS | LC_ALL=C sort | xargs sha256sum >SHA256SUMS)
 echo "$1"

@@ -90,6 +90,8 @@ differ() {
 # erased FILE: no secret is left, only zeros and spaces are new, nothing is reported, and once more changes nothing.
 erased() {
     check "$1 holds the secret" test "$(secrets "files/$1")" -gt 0
+    gives "check finds the location of $1" 3 "$mexaldor" check "files/$1"
+    holds "and names its part" ": a location"
     gives "$1 is changed" 0 "$mexaldor" scrub --force --locations-only "files/$1" "new.$1"
     check "$1: nothing is reported" test ! -s err
     check "$1: no secret is left" test "$(secrets "new.$1")" = 0
@@ -97,6 +99,7 @@ erased() {
     check "$1: new bytes are zeros and spaces ($(differ "files/$1" "new.$1"))" test -z "$(differ "files/$1" "new.$1" | tr ' ' '\n' | grep -vx -e 0 -e 40)"
     gives "$1 is changed again" 0 "$mexaldor" scrub --force --locations-only "new.$1" "again.$1"
     check "$1: twice is once" cmp "new.$1" "again.$1"
+    gives "check finds no location in the new $1" 0 "$mexaldor" check "new.$1"
 }
 
 # stays FILE COUNT TEXT: so many secrets are left, and this is reported.
@@ -104,6 +107,8 @@ stays() {
     gives "$1 is changed, and what stays is reported" 3 "$mexaldor" scrub --force --locations-only "files/$1" "new.$1"
     says "$1: what stays is named" "$3"
     check "$1: $2 are left ($(secrets "new.$1"))" test "$(secrets "new.$1")" = "$2"
+    gives "check reports what stays of $1" 3 "$mexaldor" check "new.$1"
+    holds "as a part that may hold a location" ": may hold a location"
 }
 
 for file in exif.jpg exif_twice.jpg xmp.jpg xmp_twice.jpg iptc.jpg all.jpg second_picture.jpg exif.webp xmp.webp both.webp; do
@@ -112,14 +117,49 @@ done
 check "what names no location stays in XMP" grep -qaF "dc:source='kept'" new.xmp.jpg
 check "and in IPTC data" grep -qaF kept new.iptc.jpg
 
-stays comment.jpg 1 "a comment at offset"
+stays comment.jpg 1 "comment at offset"
 stays trailer.jpg 1 "data after the picture at offset"
 stays unknown.jpg 1 "unknown data at offset"
-stays long_xmp.jpg 1 "a part of a long XMP packet at offset"
-stays broken_xmp.jpg 1 "the XMP packet at offset"
-stays broken_iptc.jpg 1 "the IPTC data at offset"
-stays broken_exif.jpg 1 "the Exif data at offset 2, which can't be changed"
+stays long_xmp.jpg 1 "part of a long XMP packet at offset"
+stays broken_xmp.jpg 1 "XMP packet at offset"
+stays broken_iptc.jpg 1 "IPTC data at offset"
+stays broken_exif.jpg 1 "Exif data at offset 2, which can't be changed"
 stays unknown.webp 1 "unknown data at offset"
+
+# What check prints, whole.
+printf '%s\n' "files/all.jpg: Exif data at offset 2 (73 bytes): a location" >wanted
+gives "check names each part" 3 "$mexaldor" check files/all.jpg
+check "with its offset and length" grep -qxF "$(cat wanted)" out
+gives "a picture without metadata" 0 "$mexaldor" check files/plain.jpg
+holds "has none" "files/plain.jpg: no metadata"
+gives "no picture is checked" 1 "$mexaldor" check files/text.txt
+says "and refused by name" "files/text.txt: Unknown image format"
+gives "a folder is checked" 3 "$mexaldor" check -q -r --json files
+cp out checked
+check "each line is an object, whose parts cover its file" python3 - "$root/docs/check.schema.json" checked <<'P'
+import json, os, sys
+
+schema = json.load(open(sys.argv[1]))
+objects = [json.loads(line) for line in open(sys.argv[2])]
+assert len(objects) >= 20, len(objects)
+try:
+    import jsonschema
+    for it in objects:
+        jsonschema.validate(it, schema)
+except ImportError:
+    print("the schema was not tried: python3 has no jsonschema")
+for it in objects:
+    if "error" in it:
+        continue
+    at = 0
+    for part in it["parts"]:
+        assert part["offset"] == at, it["path"]
+        at += part["length"]
+    assert at == os.path.getsize(it["path"]), it["path"]
+found = {it["path"].split("/")[-1]: it["location"] for it in objects if "error" not in it}
+assert found["exif.jpg"] == found["xmp.webp"] == "yes", found
+assert found["plain.jpg"] == "no", found
+P
 
 # The alias, and over many files: the worst status.
 gives "--places-only is the same" 0 "$mexaldor" scrub --force --places-only files/all.jpg new.jpg
@@ -127,7 +167,7 @@ check "as --locations-only" cmp new.jpg new.all.jpg
 mkdir many
 cp files/exif.jpg files/comment.jpg many
 gives "a folder with a file that may still hold a location" 3 "$mexaldor" scrub --locations-only --in-place -r many
-says "names it" "many/comment.jpg: still there: a comment at offset"
+says "names it" "many/comment.jpg: still there: comment at offset"
 check "and changes the others" test "$(secrets many/exif.jpg)" = 0
 
 if has djpeg; then

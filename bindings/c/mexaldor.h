@@ -43,7 +43,9 @@ enum mexaldor_status {
     MEXALDOR_SECOND_EXIF = 34,      /* a second block of Exif data would be lost */
     MEXALDOR_NO_DATE = 35,          /* the file has no date to shift */
     MEXALDOR_OUT_OF_RANGE = 36,     /* the standard does not have this value for the tag */
-    MEXALDOR_NO_THUMBNAIL = 38      /* 37 is not used */
+    MEXALDOR_NO_THUMBNAIL = 38,     /* 37 is not used */
+    MEXALDOR_LOCATION_FOUND = 39,   /* a part of the file holds a location */
+    MEXALDOR_LOCATION_POSSIBLE = 40 /* a part of the file may hold a location */
 };
 
 /* The status of a call, and the length of its complete output in bytes. */
@@ -68,6 +70,20 @@ struct mexaldor_answer mexaldor_read(const uint8_t *file, size_t length, bool le
  * its length. Locations in XMP, in maker notes and in data that no directory of the file points to
  * stay. A refused file is not changed. */
 uint32_t mexaldor_erase_gps(uint8_t *file, size_t length);
+
+/* Checks what a file holds beside the picture, and makes a JSON object of it: whether the file holds
+ * a location ("yes", "no" or "unknown"), and each part with its kind, offset and length; see
+ * docs/check.schema.json. The status is MEXALDOR_OK if no part holds a location,
+ * MEXALDOR_LOCATION_FOUND if one does, or MEXALDOR_LOCATION_POSSIBLE if one may. `out`, `room` and
+ * the length are as for mexaldor_read. Any other status comes without an object. */
+struct mexaldor_answer mexaldor_check(const uint8_t *file, size_t length, uint8_t *out,
+                                      size_t room);
+
+/* Erases the locations of a file in all its parts: the GPS data of Exif, and the properties and
+ * datasets of XMP and IPTC that name a location. No other byte changes, and the file keeps its
+ * length. The status is MEXALDOR_LOCATION_POSSIBLE if a part stays that may hold a location:
+ * mexaldor_check says which. After any other status but MEXALDOR_OK the file is not changed. */
+uint32_t mexaldor_erase_locations(uint8_t *file, size_t length);
 
 /* Writes a copy of a file without its metadata to `out`. JPEG and WebP files lose all metadata; the
  * colour profile and what decoders need stay. In a HEIF file only the Exif fields are erased, and

@@ -150,6 +150,27 @@ static void edits(const char *folder, const char *name)
     free(old.at);
 }
 
+static void locations(const char *folder, const char *name)
+{
+    struct bytes old = file(folder, name);
+    struct bytes new = copy(old);
+    uint8_t room[4096];
+    struct mexaldor_answer answer = mexaldor_check(old.at, old.length, room, sizeof room - 1);
+    check(name, answer.status == MEXALDOR_LOCATION_FOUND);
+    room[answer.length < sizeof room ? answer.length : 0] = 0;
+    check("a location is found", strstr((char *)room, "\"location\":\"yes\"") != NULL);
+    uint32_t status = mexaldor_erase_locations(new.at, new.length);
+    check("locations are erased", status == MEXALDOR_OK || status == MEXALDOR_LOCATION_POSSIBLE);
+    check("the status is that of what is left",
+          mexaldor_check(new.at, new.length, NULL, 0).status == status);
+    check("no latitude is left", !tells(new, "\"latitude\":"));
+    check("other fields are left", tells(new, "\"orientation\":6"));
+    check("no picture is refused", mexaldor_check(NULL, 0, NULL, 0).status == MEXALDOR_INVALID_FORMAT);
+    check("and not changed", mexaldor_erase_locations(NULL, 0) == MEXALDOR_INVALID_FORMAT);
+    free(new.at);
+    free(old.at);
+}
+
 static void scrubs(const char *folder, const char *name)
 {
     struct bytes old = file(folder, name);
@@ -243,6 +264,9 @@ int main(int count, char **words)
     reads(words[1]);
     for (int i = 0; i < 5; i++) {
         edits(words[1], containers[i]);
+    }
+    for (int i = 0; i < 2; i++) {
+        locations(words[1], containers[i]);
     }
     for (int i = 0; i < 3; i++) {
         scrubs(words[1], containers[i]);

@@ -20,7 +20,7 @@ import os
 import pathlib
 from typing import Any, Dict, Union
 
-__all__ = ["Refused", "Status", "erase_gps", "read", "scrub", "set"]
+__all__ = ["Refused", "Status", "check", "erase_gps", "erase_locations", "read", "scrub", "set"]
 __version__ = "0.1.0"
 
 Source = Union[str, "os.PathLike[str]", bytes, bytearray, memoryview]
@@ -53,6 +53,8 @@ class Status(enum.IntEnum):
     NO_DATE = 35
     OUT_OF_RANGE = 36
     NO_THUMBNAIL = 38
+    LOCATION_FOUND = 39
+    LOCATION_POSSIBLE = 40
 
 
 class Refused(Exception):
@@ -81,6 +83,10 @@ def _library() -> ctypes.CDLL:
     library.mexaldor_read.restype = _Answer
     library.mexaldor_scrub.argtypes = [some, size, some, size]
     library.mexaldor_scrub.restype = _Answer
+    library.mexaldor_check.argtypes = [some, size, some, size]
+    library.mexaldor_check.restype = _Answer
+    library.mexaldor_erase_locations.argtypes = [some, size]
+    library.mexaldor_erase_locations.restype = ctypes.c_uint32
     library.mexaldor_erase_gps.argtypes = [some, size]
     library.mexaldor_erase_gps.restype = ctypes.c_uint32
     library.mexaldor_set.argtypes = [some, size, some, size]
@@ -130,6 +136,39 @@ def read(source: Source, *, strict: bool = False, limit: int = 0) -> Dict[str, A
         return told
     refused = _refused(answer.status)
     raise Refused(refused.status, told.get("error", str(refused)))
+
+
+def check(source: Source) -> Dict[str, Any]:
+    """Check what a file holds beside the picture, as a dictionary described by
+    docs/check.schema.json.
+
+    "location" is "yes" if a part of the file holds a location, "unknown" if one may, else "no".
+    "parts" has each part of the file, from its first byte to its last.
+    """
+    data = _bytes(source)
+    room = ctypes.create_string_buffer(4096)
+    while True:
+        answer = _mexaldor.mexaldor_check(data, len(data), room, len(room))
+        if answer.length <= len(room):
+            break
+        room = ctypes.create_string_buffer(answer.length)
+    if answer.status not in (Status.OK, Status.LOCATION_FOUND, Status.LOCATION_POSSIBLE):
+        raise _refused(answer.status)
+    return json.loads(room.raw[: answer.length])
+
+
+def erase_locations(source: Source) -> "tuple[bytes, bool]":
+    """Return a copy of a file, of the same length, with its locations erased, and whether a part
+    stays that may hold one: `check` says which.
+
+    Erased are the GPS data of Exif, and the properties and datasets of XMP and IPTC that name a
+    location. No other byte changes.
+    """
+    room, length = _room(_bytes(source))
+    status = _mexaldor.mexaldor_erase_locations(room, length)
+    if status not in (Status.OK, Status.LOCATION_POSSIBLE):
+        raise _refused(status)
+    return room.raw[:length], status == Status.LOCATION_POSSIBLE
 
 
 def scrub(source: Source) -> bytes:

@@ -89,6 +89,22 @@ class Pictures(unittest.TestCase):
             self.assertNotIn("latitude", summary)
             self.assertEqual(summary["orientation"], 6)
 
+    def test_locations_are_found_and_erased(self):
+        for name in ["whole.jpg", "whole.webp"]:
+            old = (self.folder / name).read_bytes()
+            checked = mexaldor.check(old)
+            self.assertEqual(checked["location"], "yes")
+            self.assertEqual(sum(part["length"] for part in checked["parts"]), len(old))
+            new, stays = mexaldor.erase_locations(old)
+            self.assertEqual(len(new), len(old))
+            self.assertNotIn("latitude", mexaldor.read(new)["summary"])
+            self.assertEqual(mexaldor.check(new)["location"], "unknown" if stays else "no")
+        plain = (self.folder / "plain.jpg").read_bytes()
+        self.assertEqual(mexaldor.check(plain)["location"], "no")
+        self.assertEqual(mexaldor.erase_locations(plain), (plain, False))
+        self.refused(Status.INVALID_FORMAT, mexaldor.check, b"no picture")
+        self.refused(Status.INVALID_FORMAT, mexaldor.erase_locations, b"no picture")
+
     def test_a_field_is_set_where_it_stands(self):
         old = (self.folder / "whole.jpg").read_bytes()
         new = mexaldor.set(old, "Orientation=1")

@@ -41,6 +41,8 @@ number_of status.SecondExif = 34
 number_of status.NoDate = 35
 number_of status.OutOfRange = 36
 number_of status.NoThumbnail = 38
+number_of status.LocationFound = 39
+number_of status.LocationPossible = 40
 
 -- its text
 abbrev pub text_of : Status → List ℕ
@@ -68,6 +70,8 @@ text_of status.SecondExif = codes "The file has more than one block of Exif data
 text_of status.NoDate = codes "No date to shift"
 text_of status.OutOfRange = codes "The tag cannot have this value"
 text_of status.NoThumbnail = codes "No thumbnail"
+text_of status.LocationFound = codes "The file holds a location"
+text_of status.LocationPossible = codes "The file may hold a location"
 
 -- all of them
 abbrev pub all : List Status
@@ -78,7 +82,7 @@ all =
     status.SharedBytes ∷ status.PictureData ∷ status.InvalidHeader ∷
     status.NoDirectory ∷ status.FullDirectory ∷
     status.NoAssignment ∷ status.NotOfItsType ∷ status.SecondExif ∷ status.NoDate ∷
-    status.OutOfRange ∷ status.NoThumbnail ∷ []
+    status.OutOfRange ∷ status.NoThumbnail ∷ status.LocationFound ∷ status.LocationPossible ∷ []
 
 -- the one of a number
 abbrev pub named : ℕ → Option Status

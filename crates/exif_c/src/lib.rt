@@ -6,10 +6,12 @@
 
 mod buffer;
 mod change;
+mod locations;
 mod read;
 mod status;
 
 pub use buffer::Answer;
 pub use change::{mexaldor_erase_gps, mexaldor_scrub, mexaldor_set};
+pub use locations::{mexaldor_check, mexaldor_erase_locations};
 pub use read::mexaldor_read;
 pub use status::mexaldor_error;

@@ -60,6 +60,10 @@ pub enum Status {
     OutOfRange,
     /// There is no thumbnail.
     NoThumbnail,
+    /// A part of the file holds a location.
+    LocationFound,
+    /// A part of the file may hold a location.
+    LocationPossible,
 }
 
 impl Status {
@@ -92,6 +96,8 @@ impl Status {
             Status::NoDate => 35,
             Status::OutOfRange => 36,
             Status::NoThumbnail => 38,
+            Status::LocationFound => 39,
+            Status::LocationPossible => 40,
         }
     }
 
@@ -125,6 +131,8 @@ impl Status {
             Status::NoDate => "No date to shift",
             Status::OutOfRange => "The tag cannot have this value",
             Status::NoThumbnail => "No thumbnail",
+            Status::LocationFound => "The file holds a location",
+            Status::LocationPossible => "The file may hold a location",
         }
     }
 
@@ -157,6 +165,8 @@ impl Status {
             Status::NoDate,
             Status::OutOfRange,
             Status::NoThumbnail,
+            Status::LocationFound,
+            Status::LocationPossible,
         ]
     }
 

@@ -1,13 +1,14 @@
 //! Many files, one after the other: what is wrong with one is reported, and the others go on.
 
 use crate::change::change_bytes;
+use crate::check::{check_file, refused_line};
 use crate::console::Console;
 use crate::in_place::change_in_place;
 use crate::inputs::{Head, head_of_file, open, read_file};
 use crate::json::object_of;
 use crate::output::{out_of, write_out};
 use crate::pending::{Next, Pending};
-use crate::request::{Change, Reading, Request, Target, Task};
+use crate::request::{Change, Form, Reading, Request, Target, Task};
 use crate::show::show;
 use crate::thumbnail::thumbnail_of;
 use exif::Sink;
@@ -146,6 +147,7 @@ impl<'r, 'a, W: Sink, E: Sink> Session<'r, 'a, W, E> {
         let status = match &self.request.task {
             Task::Show(reading) => self.show(*reading, path)?,
             Task::Json(reading) => self.write_json(*reading, path)?,
+            Task::Check(form) => self.check(*form, path)?,
             Task::Change(what, Target::Out(to, force)) => self.change(what, path, to, *force)?,
             Task::Change(what, Target::InPlace(_)) => self.change(what, path, "-", false)?,
             Task::Thumbnail(to, force) => self.write_thumbnail(path, to, *force)?,
@@ -171,6 +173,19 @@ impl<'r, 'a, W: Sink, E: Sink> Session<'r, 'a, W, E> {
     fn write_json(&mut self, reading: Reading, path: &str) -> Result<Status, Stop> {
         let (mut text, status) = object_of(self.rt.alloc(), reading, path, open(self.rt, path))?;
         text.push(b'\n')?;
+        send_all(self.out, text.as_slice()).map_err(Stop::Output)?;
+        Ok(status)
+    }
+
+    // Writes what the parts of a file hold.
+    fn check(&mut self, form: Form, path: &str) -> Result<Status, Stop> {
+        let (text, status) = match (check_file(self.rt, form, path)?, form) {
+            (Ok(answer), _) => answer,
+            (Err(error), Form::Lines) => return self.refuse(path, &error),
+            (Err(error), Form::Json) => {
+                (refused_line(self.rt.alloc(), path, error)?, Status::Refused)
+            }
+        };
         send_all(self.out, text.as_slice()).map_err(Stop::Output)?;
         Ok(status)
     }

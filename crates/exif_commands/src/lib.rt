@@ -2,6 +2,7 @@
 #![tactic(auto)]
 
 mod change;
+mod check;
 mod console;
 mod files;
 mod in_place;
@@ -17,4 +18,4 @@ mod thumbnail;
 
 pub use exif_files::Keeping;
 pub use files::{Stop, run};
-pub use request::{Change, Reading, Request, Target, Task};
+pub use request::{Change, Form, Reading, Request, Target, Task};

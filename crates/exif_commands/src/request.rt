@@ -25,6 +25,8 @@ pub enum Task<'a> {
     Show(Reading),
     /// A JSON object is written in a line.
     Json(Reading),
+    /// What its parts hold is written.
+    Check(Form),
     /// It is changed.
     Change(Change<'a>, Target<'a>),
     /// Its thumbnail is written to a file of this name; whether that may exist.
@@ -40,6 +42,15 @@ pub struct Reading {
     pub limit: u64,
     /// Whether long values are shown whole.
     pub full: bool,
+}
+
+/// How an answer is written.
+#[derive(Clone, Copy)]
+pub enum Form {
+    /// As lines for people.
+    Lines,
+    /// As a JSON object, in a line.
+    Json,
 }
 
 /// How a file is changed.

@@ -1,5 +1,7 @@
 //! What a part of a file holds.
 
+use std::fmt;
+
 /// What a part of a file holds.
 #[derive(Clone, Copy, Debug, PartialEq, Eq)]
 pub enum Kind {
@@ -35,4 +37,28 @@ pub enum Kind {
     Unknown,
     /// Bytes that end before the segment or chunk does that they begin.
     Broken,
+}
+
+/// What people call it.
+impl fmt::Display for Kind {
+    fn fmt<W: fmt::Write>(&self, f: &mut fmt::Formatter<W>) -> fmt::Result {
+        f.write_str(match self {
+            Kind::Picture => "picture data",
+            Kind::Jfif => "JFIF header",
+            Kind::JfifThumbnail => "JFIF thumbnail",
+            Kind::Exif => "Exif data",
+            Kind::Xmp => "XMP packet",
+            Kind::ExtendedXmp => "part of a long XMP packet",
+            Kind::Photoshop => "Photoshop resource",
+            Kind::Iptc => "IPTC data",
+            Kind::Comment => "comment",
+            Kind::IccProfile => "colour profile",
+            Kind::Adobe => "Adobe segment",
+            Kind::MultiPicture => "index of pictures",
+            Kind::ContentCredentials => "content credentials",
+            Kind::Trailer => "data after the picture",
+            Kind::Unknown => "unknown data",
+            Kind::Broken => "data that are cut off",
+        })
+    }
 }

@@ -43,8 +43,12 @@ fn write_format(printer: &mut Printer, format: Option<Format>) -> Result<(), All
     }
 }
 
-/// Writes the members that name a file and its format.
-fn write_file(printer: &mut Printer, path: &[u8], format: Option<Format>) -> Result<(), AllocError>
+/// Writes the members that name a file and its format, as each object of a file begins.
+pub fn write_file(
+    printer: &mut Printer,
+    path: &[u8],
+    format: Option<Format>,
+) -> Result<(), AllocError>
     ensures { Prints result printer.old.out printer.new.out
         (parts_tokens (file_members path.now format)) }
 {

@@ -5,9 +5,9 @@ mod fields;
 mod files;
 mod items;
 pub mod laws;
-mod printer;
+pub mod printer;
 mod summary;
 mod texts;
 mod values;
 
-pub use files::{json_of_answer, refusal_json, to_json};
+pub use files::{json_of_answer, refusal_json, to_json, write_file};

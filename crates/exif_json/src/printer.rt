@@ -14,15 +14,19 @@ use json::Writer;
 use std::alloc::{AllocError, Global};
 use std::fmt::{Display, Write};
 
-/// What is written, and the text that is being made.
+/// JSON as it is written, token after token, with memory for one text at a time. Each call adds
+/// exactly its tokens; the only error is out of memory, after which what was written is of no use.
 #[derive(Drop)]
-pub(crate) struct Printer {
-    pub(crate) out: Writer,
+pub struct Printer {
+    /// The tokens that were written.
+    pub out: Writer,
+    // the text that is being made
     pub(crate) text: String,
 }
 
 impl Printer {
-    pub(crate) fn new(alloc: Global) -> Printer
+    /// Nothing yet.
+    pub fn new(alloc: Global) -> Printer
         ensures before { result.out.before ≡ [] }
         ensures tokens { result.out.tokens ≡ [] }
     {
@@ -33,7 +37,7 @@ impl Printer {
     }
 
     /// The text of what was written.
-    pub(crate) fn finish(self) -> Vec<u8>
+    pub fn finish(self) -> Vec<u8>
         ensures text { result.items ≡ self.out.before ++ print self.out.tokens }
         ensures tokens { tokens (print self.out.tokens) ≡ self.out.tokens }
         ensures utf8 { IsUtf8 (print self.out.tokens) }
@@ -43,7 +47,7 @@ impl Printer {
     }
 
     /// Writes a string of what is shown.
-    pub(crate) fn shown<D: Display + Drop>(&mut self, item: D) -> Result<(), AllocError>
+    pub fn shown<D: Display + Drop>(&mut self, item: D) -> Result<(), AllocError>
         ensures prints { (text : List ℕ) → D.output item ≡ Some text
             → Prints result self.old.out self.new.out (json_tokens (J.string text)) }
         ensures before { OnOk result (self.new.out.before ≡ self.old.out.before) }
@@ -56,7 +60,7 @@ impl Printer {
     }
 
     /// Writes a name and a number.
-    pub(crate) fn number_member(&mut self, name: &str, number: u64) -> Result<(), AllocError>
+    pub fn number_member(&mut self, name: &str, number: u64) -> Result<(), AllocError>
         ensures { Prints result self.old.out self.new.out
             (T.key name.now ∷ json_tokens (J.number (decimal number))) }
     {
@@ -65,7 +69,7 @@ impl Printer {
     }
 
     /// Writes a name and a text.
-    pub(crate) fn text_member(&mut self, name: &str, text: &str) -> Result<(), AllocError>
+    pub fn text_member(&mut self, name: &str, text: &str) -> Result<(), AllocError>
         ensures { Prints result self.old.out self.new.out
             (T.key name.now ∷ json_tokens (J.string text.now)) }
     {
@@ -74,11 +78,7 @@ impl Printer {
     }
 
     /// Writes a name and a string of what is shown.
-    pub(crate) fn shown_member<D: Display + Drop>(
-        &mut self,
-        name: &str,
-        item: D,
-    ) -> Result<(), AllocError>
+    pub fn shown_member<D: Display + Drop>(&mut self, name: &str, item: D) -> Result<(), AllocError>
         ensures prints { (text : List ℕ) → D.output item ≡ Some text
             → Prints result self.old.out self.new.out
             (T.key name.now ∷ json_tokens (J.string text)) }

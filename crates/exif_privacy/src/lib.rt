@@ -9,4 +9,5 @@ mod part;
 mod stays;
 
 pub use erase::erase_locations;
+pub use part::erase_part;
 pub use stays::{Stays, Why};

@@ -16,6 +16,7 @@ pub fn command<'a>(alloc: Global) -> Result<Command<'a>, AllocError> {
         .arg_required_else_help(true)
         .subcommand(show(alloc)?)?
         .subcommand(json(alloc)?)?
+        .subcommand(check(alloc)?)?
         .subcommand(scrub(alloc)?)?
         .subcommand(set(alloc)?)?
         .subcommand(shift(alloc)?)?
@@ -28,6 +29,7 @@ pub fn subcommand<'a>(alloc: Global, name: &str) -> Result<Command<'a>, AllocErr
     match name {
         "show" => show(alloc)?.bin_name("mexaldor show"),
         "json" => json(alloc)?.bin_name("mexaldor json"),
+        "check" => check(alloc)?.bin_name("mexaldor check"),
         "scrub" => scrub(alloc)?.bin_name("mexaldor scrub"),
         "set" => set(alloc)?.bin_name("mexaldor set"),
         "shift" => shift(alloc)?.bin_name("mexaldor shift"),
@@ -51,16 +53,25 @@ fn json<'a>(alloc: Global) -> Result<Command<'a>, AllocError> {
     reading(alloc, command)
 }
 
+fn check<'a>(alloc: Global) -> Result<Command<'a>, AllocError> {
+    let command = Command::new(alloc, "check")
+        .about("List what files hold beside the picture, and where they tell a location")
+        .override_usage("mexaldor check [OPTIONS] PATH...")
+        .after_help("The exit status is 3 if a file holds a location, or may hold one.")
+        .arg(options::flag(
+            alloc,
+            "json",
+            "Print one JSON object per file, with all parts of the file",
+        ))?;
+    many(alloc, command)?.arg(options::paths(alloc))
+}
+
 // The options of a subcommand that reads files.
 fn reading<'a>(alloc: Global, command: Command<'a>) -> Result<Command<'a>, AllocError> {
     let command = command
         .arg(options::strict(alloc))?
         .arg(options::limit(alloc))?;
-    many(alloc, command)?.arg(options::words(
-        alloc,
-        "PATH",
-        "Files, or with -r folders; - is standard input",
-    ))
+    many(alloc, command)?.arg(options::paths(alloc))
 }
 
 // The options of a subcommand that takes many files.

@@ -4,7 +4,7 @@ use crate::arguments::subcommand;
 use clap::error::ErrorKind;
 use clap::{ArgMatches, Error};
 use exif_change::{Assignment, ClockShift, Dates, ENTRY_LIMIT, Removed};
-use exif_commands::{Change, Keeping, Reading, Request, Target, Task};
+use exif_commands::{Change, Form, Keeping, Reading, Request, Target, Task};
 use exif_decisions::{Escaped, is_assignment, nearest};
 use std::alloc::{AllocError, Global};
 
@@ -52,6 +52,10 @@ fn parsed<'a>(
         "scrub" => {
             let files = words_of(alloc, matches)?;
             changing(alloc, Change::Scrub(removed_of(matches)), matches, files)
+        }
+        "check" => {
+            let files = words_of(alloc, matches)?;
+            request(alloc, Task::Check(form_of(matches)), matches, files)
         }
         "json" => {
             let files = words_of(alloc, matches)?;
@@ -200,6 +204,14 @@ fn reading_of(matches: &ArgMatches<'_>, full: bool) -> Reading {
         strict: matches.get_flag("strict"),
         limit: matches.get_one::<u64>("limit").unwrap_or(ENTRY_LIMIT),
         full,
+    }
+}
+
+fn form_of(matches: &ArgMatches<'_>) -> Form {
+    if matches.get_flag("json") {
+        Form::Json
+    } else {
+        Form::Lines
     }
 }
 

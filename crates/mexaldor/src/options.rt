@@ -94,3 +94,12 @@ pub fn words<'a>(alloc: Global, name: &'a str, help: &'a str) -> Arg<'a> {
         .num_args(0..)
         .help(help)
 }
+
+/// The files that a subcommand reads.
+pub fn paths<'a>(alloc: Global) -> Arg<'a> {
+    words(
+        alloc,
+        "PATH",
+        "Files, or with -r folders; - is standard input",
+    )
+}

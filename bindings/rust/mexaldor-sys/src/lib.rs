@@ -22,6 +22,15 @@ extern "C" {
         out: *mut u8,
         room: usize,
     ) -> mexaldor_answer;
+    /// Makes the JSON object of the parts of a file.
+    pub fn mexaldor_check(
+        file: *const u8,
+        length: usize,
+        out: *mut u8,
+        room: usize,
+    ) -> mexaldor_answer;
+    /// Erases the locations of a file in place.
+    pub fn mexaldor_erase_locations(file: *mut u8, length: usize) -> u32;
     /// Erases the GPS data of Exif in place.
     pub fn mexaldor_erase_gps(file: *mut u8, length: usize) -> u32;
     /// Makes a copy of a file without its metadata.

@@ -44,7 +44,6 @@ impl Refused {
     pub const NAMES_OFFSETS: Refused = Refused(19);
     /// Something else uses the same bytes.
     pub const SHARED_BYTES: Refused = Refused(20);
-    /// The Exif data are not stored in one piece.
     /// A TIFF file: the picture is stored in the same data.
     pub const PICTURE_DATA: Refused = Refused(22);
     /// There is no directory to put the field into.
@@ -83,6 +82,26 @@ impl fmt::Display for Refused {
 
 impl std::error::Error for Refused {}
 
+/// Whether a file holds a location.
+#[derive(Clone, Copy, Debug, PartialEq, Eq)]
+pub enum Location {
+    /// No part was found that does.
+    Absent,
+    /// A part does.
+    Present,
+    /// A part may: it can't be read, or is not looked at.
+    Unknown,
+}
+
+/// What a file holds beside the picture.
+#[derive(Clone, Debug, PartialEq, Eq)]
+pub struct Checked {
+    /// Whether it holds a location.
+    pub location: Location,
+    /// The JSON object of its parts; docs/check.schema.json describes it.
+    pub json: String,
+}
+
 /// How files are read.
 #[derive(Clone, Copy, Debug, Default)]
 pub struct Options {
@@ -117,6 +136,36 @@ pub fn set(file: &mut [u8], assignment: &str) -> Result<(), Refused> {
     ended(unsafe {
         sys::mexaldor_set(file.as_mut_ptr(), file.len(), assignment.as_ptr(), assignment.len())
     })
+}
+
+/// Checks what a file holds beside the picture, and whether that holds a location.
+pub fn check(file: &[u8]) -> Result<Checked, Refused> {
+    // SAFETY: `file` has its length, and `out` has `room` bytes, which nobody else holds.
+    let (status, text) = filled(|out, room| unsafe {
+        sys::mexaldor_check(file.as_ptr(), file.len(), out, room)
+    });
+    let location = match status {
+        0 => Location::Absent,
+        39 => Location::Present,
+        40 => Location::Unknown,
+        status => return Err(Refused(status)),
+    };
+    match String::from_utf8(text) {
+        Ok(json) => Ok(Checked { location, json }),
+        Err(_) => Err(Refused(status)),
+    }
+}
+
+/// Erases the locations of a file in place: the GPS data of Exif, and the properties and datasets of
+/// XMP and IPTC that name a location. Returns whether a part stays that may hold one: [`check`] says
+/// which.
+pub fn erase_locations(file: &mut [u8]) -> Result<bool, Refused> {
+    // SAFETY: `file` has its length and is held by nobody else.
+    match unsafe { sys::mexaldor_erase_locations(file.as_mut_ptr(), file.len()) } {
+        0 => Ok(false),
+        40 => Ok(true),
+        status => Err(Refused(status)),
+    }
 }
 
 /// Erases the GPS data of Exif in place. Locations in XMP and in maker notes stay.

@@ -1,6 +1,8 @@
 //! The calls on the pictures of tests/make_files.py, whose folder MEXALDOR_PICTURES names.
 
-use mexaldor::{erase_gps, read, read_with, scrub, set, Options, Refused};
+use mexaldor::{
+    check, erase_gps, erase_locations, read, read_with, scrub, set, Location, Options, Refused,
+};
 use std::path::PathBuf;
 
 const CONTAINERS: [&str; 4] = ["whole.jpg", "whole.webp", "whole.heic", "whole.tif"];
@@ -58,6 +60,21 @@ fn gps_data_are_erased() {
         assert!(!read(&file).unwrap().json.contains("\"latitude\":"));
         assert_eq!(file.len(), picture(name).len());
     }
+}
+
+#[test]
+fn locations_are_found_and_erased() {
+    for name in ["whole.jpg", "whole.webp"] {
+        let mut file = picture(name);
+        assert_eq!(check(&file).expect(name).location, Location::Present);
+        let stays = erase_locations(&mut file).expect(name);
+        assert!(!read(&file).unwrap().json.contains("\"latitude\":"));
+        let wanted = if stays { Location::Unknown } else { Location::Absent };
+        assert_eq!(check(&file).expect(name).location, wanted);
+        assert_eq!(file.len(), picture(name).len());
+    }
+    assert_eq!(check(b"no picture"), Err(Refused::INVALID_FORMAT));
+    assert_eq!(erase_locations(&mut []), Err(Refused::INVALID_FORMAT));
 }
 
 #[test]

@@ -1,0 +1,1 @@
+-- What is in this folder proves the functions of their names.

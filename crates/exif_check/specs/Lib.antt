@@ -1,0 +1,3 @@
+pub mod Checking
+pub mod Names
+pub mod Json

@@ -1,0 +1,14 @@
+//! What the file of a picture holds, part by part, and which parts have a location.
+//!
+//! [`check`] judges each part of a file, [`check_json`] writes its answer as JSON, and [`Line`] is
+//! the line of a part for people.
+#![tactic(auto)]
+
+mod checked;
+mod json;
+mod line;
+mod names;
+
+pub use checked::{Checked, Location, check, location_of};
+pub use json::check_json;
+pub use line::{Line, is_listed};

@@ -1,0 +1,42 @@
+//! The names of kinds and judgements in JSON.
+
+ghost use Rattle.std.specs.Prelude.{◌≡◌};
+ghost use Rattle.exif_check.specs.Names.{kind_name, location_name};
+
+use crate::checked::Location;
+use exif_inventory::Kind;
+
+/// The name of a kind.
+pub fn kind_name(kind: Kind) -> &'static str
+    ensures { result.now ≡ kind_name kind }
+{
+    match kind {
+        Kind::Picture => "picture",
+        Kind::Jfif => "jfif",
+        Kind::JfifThumbnail => "jfif_thumbnail",
+        Kind::Exif => "exif",
+        Kind::Xmp => "xmp",
+        Kind::ExtendedXmp => "extended_xmp",
+        Kind::Photoshop => "photoshop",
+        Kind::Iptc => "iptc",
+        Kind::Comment => "comment",
+        Kind::IccProfile => "icc_profile",
+        Kind::Adobe => "adobe",
+        Kind::MultiPicture => "multi_picture",
+        Kind::ContentCredentials => "content_credentials",
+        Kind::Trailer => "trailer",
+        Kind::Unknown => "unknown",
+        Kind::Broken => "broken",
+    }
+}
+
+/// The name of a judgement.
+pub fn location_name(location: Location) -> &'static str
+    ensures { result.now ≡ location_name location }
+{
+    match location {
+        Location::Absent => "no",
+        Location::Present => "yes",
+        Location::Unknown => "unknown",
+    }
+}

@@ -1,0 +1,80 @@
+//! What the parts of a file hold, as lines or as JSON.
+
+ghost use Rattle.std.specs.Prelude.{◌≡◌};
+ghost use Rattle.exif_commands.specs.Checks.{status_by};
+
+use crate::inputs::read_file;
+use crate::request::Form;
+use exif::Error;
+use exif_check::{Checked, Line, Location, check, check_json, is_listed, location_of};
+use exif_containers::container::format_of;
+use exif_decisions::Escaped;
+use exif_files::Status;
+use exif_json::json_of_answer;
+use std::alloc::{AllocError, Global};
+
+// The status of a file that was checked: 3 where it holds a location, or may hold one.
+fn status_of_location(location: Location) -> Status
+    ensures { result ≡ status_by location }
+{
+    match location {
+        Location::Absent => Status::Success,
+        Location::Present | Location::Unknown => Status::Incomplete,
+    }
+}
+
+// Lines of the parts that hold metadata, or may hold some.
+fn lines_of(alloc: Global, path: &str, parts: &[Checked]) -> Result<String, AllocError> {
+    let name = Escaped(path);
+    let mut text = String::new(alloc);
+    for checked in parts {
+        if is_listed(checked.part) {
+            let line = format!(in alloc; "{name}: {}\n", Line(*checked))?;
+            text.push_str(line.as_str())?;
+        }
+    }
+    if text.is_empty() {
+        return format!(in alloc; "{name}: no metadata\n");
+    }
+    Ok(text)
+}
+
+// The object of a file, in a line.
+fn json_line(
+    alloc: Global,
+    path: &str,
+    file: &[u8],
+    parts: &[Checked],
+) -> Result<Vec<u8>, AllocError> {
+    let mut text = check_json(alloc, path.as_bytes(), format_of(file), parts)?;
+    text.push(b'\n')?;
+    Ok(text)
+}
+
+/// What is written of a file, and its status; or why it was refused.
+pub fn check_file(
+    rt: &HostRuntime,
+    form: Form,
+    path: &str,
+) -> Result<Result<(Vec<u8>, Status), Error>, AllocError> {
+    let alloc = rt.alloc();
+    let file = match read_file(rt, path) {
+        Ok(file) => file,
+        Err(cause) => return Ok(Err(Error::Io(cause))),
+    };
+    let Some(parts) = check(alloc, file.as_slice())? else {
+        return Ok(Err(Error::InvalidFormat("Unknown image format")));
+    };
+    let text = match form {
+        Form::Lines => lines_of(alloc, path, parts.as_slice())?.into_bytes(),
+        Form::Json => json_line(alloc, path, file.as_slice(), parts.as_slice())?,
+    };
+    Ok(Ok((text, status_of_location(location_of(parts.as_slice())))))
+}
+
+/// The object of a file that was refused, in a line.
+pub fn refused_line(alloc: Global, path: &str, error: Error) -> Result<Vec<u8>, AllocError> {
+    let mut text = json_of_answer(alloc, path.as_bytes(), None, Err(error))?;
+    text.push(b'\n')?;
+    Ok(text)
+}
