@@ -14,10 +14,10 @@ use Rattle.exif_segments.specs.declared.remove.Remove.{Remove}
 use Rattle.exif_segments.specs.declared.remove.Remove.TheVariants.{Exif, Metadata}
 use Rattle.exif_rewrite_jpeg.specs.Rewriting.{Rewriting, finished, refused_by, after, ends}
 use Rattle.exif_segments.specs.Removing.{behind}
-use Rattle.exif_rewrite_jpeg.specs.RewrittenJpeg.{outside, passes, stays, exif_segment, placed, still, rewriting}
+use Rattle.exif_rewrite_jpeg.specs.RewrittenJpeg.{outside, passes, stays, trimmed, exif_segment, placed, still, rewriting}
 use Rattle.exif_rewrite_jpeg.specs.JpegLaws.{IsAnswered}
-use Rattle.exif_rewrite_jpeg.specs.JpegSteps.{unit_rewriting}
-use Rattle.exif_rewrite_jpeg.proofs.JpegLaws.{rewriting_unit, bare, bare_unit, text_of, text_bare, Fits, high, low, size_is, segment_tree, segment_unit, form, large, never_cut, outside_others, refusal_in, stays_in, fits_where, given}
+use Rattle.exif_rewrite_jpeg.proofs.JpegLaws.{rewriting_form, kept_text, trim_tree, trim_unit, trim_printed, trim_text, Fits, high, low, size_is, segment_tree, segment_unit, form, never_cut, outside_others, refusal_in, stays_in, fits_where, given}
+use Rattle.exif_rewrite_jpeg.proofs.Trimming.{large, trimmed_refusal, trimmed_stays}
 
 abbrev answer_with : ℕ → List ℕ → List ℕ → Answer
 answer_with code body ys = unwrap_or (unit_answer (record { code = code; body = body; rest = ys })) (answer_from ys)
@@ -61,18 +61,24 @@ says_nothing false false true b o h e k = refl
 says_nothing false false false true o h e k = absurd (cc)
 says_nothing false false false false o h e k = k
 
-text_answers : (u : UnitTree) (ys : List ℕ) → IsUnit u → answer_from (text_of u ++ ys) ≡ answer_with u.code (print_brought u.brought) ys
-text_answers u ys h = ap (λ t. answer_from (t ++ ys)) (text_bare u) ∙ answer_unit (bare u) ys (bare_unit u h)
+text_answers : (remove : Remove) (u : UnitTree) (ys : List ℕ) → IsUnit u → answer_from (kept_text remove u ++ ys) ≡ answer_with u.code (trimmed remove u.code (print_brought u.brought)) ys
+text_answers remove u ys h =
+    ap (λ t. answer_from (t ++ ys)) (trim_text remove u h)
+    ∙ answer_unit (trim_tree remove u h) ys (trim_unit remove u h)
+    ∙ ap (λ b. answer_with u.code b ys) (trim_printed remove u h)
 
 stay_step : (remove : Remove) (d : Bool) (u : UnitTree) → IsUnit u → refusal_in u ≡ None → eqb u.code 217 ≡ false → stays_in remove d u ≡ true
-    → (ys : List ℕ) → answer_from (text_of u ++ ys) ≡ answer_from ys
+    → (ys : List ℕ) → answer_from (kept_text remove u ++ ys) ≡ answer_from ys
 stay_step remove d u h none no_end stay ys =
-    text_answers u ys h
-    ∙ ap (λ o. unwrap_or o (answer_from ys)) (says_nothing (eqb u.code 216) (eqb u.code 217) (stands_alone u.code) (ltb (two_bytes (print_brought u.brought)) 2) _ none no_end
-    (silent remove d u.code (drop 2 (print_brought u.brought)) ys stay))
+    let left : List ℕ = trimmed remove u.code (print_brought u.brought) in
+    text_answers remove u ys h
+    ∙ ap (λ o. unwrap_or o (answer_from ys)) (says_nothing (eqb u.code 216) (eqb u.code 217) (stands_alone u.code) (ltb (two_bytes left) 2) _
+    (trimmed_refusal remove u.code u.brought h.brought ∙ none) no_end
+    (silent remove d u.code (drop 2 left) ys (trimmed_stays remove d u.code (print_brought u.brought) ∙ stay)))
 
-end_step : (u : UnitTree) → IsUnit u → eqb u.code 217 ≡ true → (ys : List ℕ) → answer_from (text_of u ++ ys) ≡ refused no_exif_in_jpeg
-end_step u h is ys = text_answers u ys h ∙ ap (λ c. answer_with c (print_brought u.brought) ys) (eqb-true u.code 217 is)
+end_step : (remove : Remove) (u : UnitTree) → IsUnit u → eqb u.code 217 ≡ true → (ys : List ℕ) → answer_from (kept_text remove u ++ ys) ≡ refused no_exif_in_jpeg
+end_step remove u h is ys =
+    text_answers remove u ys h ∙ ap (λ c. answer_with c (trimmed remove u.code (print_brought u.brought)) ys) (eqb-true u.code 217 is)
 
 -- ---- the forms of a unit
 
@@ -115,14 +121,14 @@ tree_none remove new d u rest ok h ih e =
     ap (λ (t : Rewriting). answer_from t.out) whole
     ∙ answer_others (outside (passes remove d) u.passed) (placed u.code new ++ inner.out) (outside_others (passes remove d) u.passed h.passed)
     ∙ ap (λ t. answer_from (t ++ inner.out)) (none_placed (eqb u.code 224) new ok)
-    ∙ form_none (refusal_in u) (eqb u.code 217) (stays_in remove d u) (text_of u) (behind remove rest) (rewriting remove (still u.code new) (d || eqb u.code 218) rest)
-    (end_step u h) (stay_step remove d u h) (ih (still u.code new) (d || eqb u.code 218) (none_still (eqb u.code 224) new ok)) (ap (λ (t : Rewriting). t.end) (sym whole) ∙ e)
+    ∙ form_none (refusal_in u) (eqb u.code 217) (stays_in remove d u) (kept_text remove u) (behind remove rest) (rewriting remove (still u.code new) (d || eqb u.code 218) rest)
+    (end_step remove u h) (stay_step remove d u h) (ih (still u.code new) (d || eqb u.code 218) (none_still (eqb u.code 224) new ok)) (ap (λ (t : Rewriting). t.end) (sym whole) ∙ e)
   where
     inner : Rewriting
-    inner = unit_rewriting remove new d (u.fill + 1) u.code (print_brought u.brought) rest
+    inner = form (refusal_in u) (eqb u.code 217) (stays_in remove d u) (kept_text remove u) (behind remove rest) (rewriting remove (still u.code new) (d || eqb u.code 218) rest)
 
     whole : rewriting remove new d (print_unit u ++ rest) ≡ after (outside (passes remove d) u.passed) (after (placed u.code new) inner)
-    whole = rewriting_unit remove new d u rest h
+    whole = rewriting_form remove new d u rest h
 
 abbrev IsFound : Remove → List ℕ → List ℕ → Bool → List ℕ → Type 0
 IsFound remove payload new d xs = (rewriting remove new d xs).end ≡ finished → Finds payload (rewriting remove new d xs).out
@@ -132,10 +138,10 @@ tree_found : (remove : Remove) (payload : List ℕ) (d : Bool) (u : UnitTree) (r
 tree_found remove payload d u rest fits h ih e = by (eqb u.code 224) refl
   where
     inner : Rewriting
-    inner = unit_rewriting remove (exif_segment payload) d (u.fill + 1) u.code (print_brought u.brought) rest
+    inner = form (refusal_in u) (eqb u.code 217) (stays_in remove d u) (kept_text remove u) (behind remove rest) (rewriting remove (still u.code (exif_segment payload)) (d || eqb u.code 218) rest)
 
     whole : rewriting remove (exif_segment payload) d (print_unit u ++ rest) ≡ after (outside (passes remove d) u.passed) (after (placed u.code (exif_segment payload)) inner)
-    whole = rewriting_unit remove (exif_segment payload) d u rest h
+    whole = rewriting_form remove (exif_segment payload) d u rest h
 
     no_end : (code : ℕ) → eqb code 224 ≡ true → eqb code 217 ≡ false
     no_end code is = ap (λ c. eqb c 217) (eqb-true code 224 is)
@@ -146,7 +152,7 @@ tree_found remove payload d u rest fits h ih e = by (eqb u.code 224) refl
     by : (b : Bool) → eqb u.code 224 ≡ b → Finds payload (rewriting remove (exif_segment payload) d (print_unit u ++ rest)).out
     by false is = (inner.out, begins ∙ ap (λ b. answer_from (cond b [] (exif_segment payload) ++ inner.out)) is ∙ segment_answers payload inner.out fits)
     by true is =
-        let w = form_found payload (refusal_in u) (eqb u.code 217) (stays_in remove d u) (text_of u) (behind remove rest) (rewriting remove (still u.code (exif_segment payload)) (d || eqb u.code 218) rest)
+        let w = form_found payload (refusal_in u) (eqb u.code 217) (stays_in remove d u) (kept_text remove u) (behind remove rest) (rewriting remove (still u.code (exif_segment payload)) (d || eqb u.code 218) rest)
         (no_end u.code is) (stay_step remove d u h) (ih (still u.code (exif_segment payload)) (d || eqb u.code 218) (ap (λ b. cond b (exif_segment payload) []) is)) (ap (λ (t : Rewriting). t.end) (sym whole) ∙ e) in
         (w.0, begins ∙ ap (λ b. answer_from (cond b [] (exif_segment payload) ++ inner.out)) is ∙ w.1)
 

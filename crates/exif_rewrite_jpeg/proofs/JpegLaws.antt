@@ -14,11 +14,12 @@ use Rattle.exif_segments.specs.declared.remove.Remove.{Remove}
 use Rattle.exif_segments.specs.declared.remove.Remove.TheVariants.{Exif, Metadata}
 use Rattle.exif_rewrite_jpeg.specs.Rewriting.{Rewriting, finished, cut_off, refused_by, after, ends, unless_refused}
 use Rattle.exif_segments.specs.Removing.{too_large, behind}
-use Rattle.exif_rewrite_jpeg.specs.RewrittenJpeg.{unit_text, unit_refusal, outside, passes, stays, exif_segment, placed, still, rewriting, stream_rewriting}
+use Rattle.exif_rewrite_jpeg.specs.RewrittenJpeg.{unit_text, unit_refusal, outside, passes, stays, trimmed, exif_segment, placed, still, rewriting, stream_rewriting}
 use Rattle.exif_rewrite_jpeg.specs.JpegLaws.{IsStable}
 use Rattle.exif_rewrite_jpeg.specs.JpegSteps.{unit_rewriting}
 use Rattle.exif_rewrite_jpeg.proofs.PassingSteps.{outside_none}
 use Rattle.exif_rewrite_jpeg.proofs.JpegSteps.{carry, at_unit, none_ends}
+use Rattle.exif_rewrite_jpeg.proofs.Trimming.{end_untrimmed, large, trim, trimmed_again, trimmed_refusal, trimmed_stays}
 use Rattle.exif_segments.proofs.RemovingLemmas.{behind_again}
 
 -- a unit at the front
@@ -73,26 +74,71 @@ size_is payload h = omega arith
 pub segment_unit : (payload : List ℕ) → Fits payload → IsUnit (segment_tree payload)
 segment_unit payload h = record { passed = All-nil (λ b. b ≢ 255); code = omega arith; brought = (refl, size_is payload h) }
 
--- a number of 2 or more is not found below 2
-pub large : (x : ℕ) → 2 ≤ x → ltb x 2 ≡ false
-large x h = grind (arith, nat_tests)
-
 left_out : (remove : Remove) (d : Bool) (payload : List ℕ) → stays remove d 225 (exif_id ++ payload) ≡ false
 left_out Exif d payload = refl
 left_out Metadata d payload = refl
+
+-- the refusal that a unit is, if it is one
+abbrev pub refusal_in : UnitTree → Option Refusal
+refusal_in u = unit_refusal u.code (print_brought u.brought)
+
+-- whether a unit stays, by its code and its content behind the length
+abbrev pub stays_in : Remove → Bool → UnitTree → Bool
+stays_in remove d u = stays remove d u.code (drop 2 (print_brought u.brought))
+
+-- the bytes of a unit that stays
+abbrev pub kept_text : Remove → UnitTree → List ℕ
+kept_text remove u = unit_text (u.fill + 1) u.code (trimmed remove u.code (print_brought u.brought))
+
+-- the unit of what stays
+abbrev pub trim_tree : (remove : Remove) (u : UnitTree) → IsUnit u → UnitTree
+trim_tree remove u h = record { passed = []; fill = u.fill; code = u.code; brought = (trim remove u.code u.brought h.brought).brought }
+
+-- it is a unit
+pub trim_unit : (remove : Remove) (u : UnitTree) (h : IsUnit u) → IsUnit (trim_tree remove u h)
+trim_unit remove u h = record { passed = All-nil (λ b. b ≢ 255); code = h.code; brought = (trim remove u.code u.brought h.brought).is }
+
+-- with these bytes
+pub trim_printed : (remove : Remove) (u : UnitTree) (h : IsUnit u) → print_brought (trim_tree remove u h).brought ≡ trimmed remove u.code (print_brought u.brought)
+trim_printed remove u h = (trim remove u.code u.brought h.brought).printed
+
+-- its text is what stays
+pub trim_text : (remove : Remove) (u : UnitTree) (h : IsUnit u) → kept_text remove u ≡ print_unit (trim_tree remove u h)
+trim_text remove u h = ap (unit_text (u.fill + 1) u.code) (sym (trim_printed remove u h)) ∙ text_bare (trim_tree remove u h)
 
 -- what is sent of a unit, by whether it is refused, ends the image, or stays
 abbrev pub form : Option Refusal → Bool → Bool → List ℕ → List ℕ → Rewriting → Rewriting
 form o t k m tail r = unless_refused o (cond t (ends finished (m ++ tail)) (after (cond k m []) r))
 
+-- what a unit becomes
+pub unit_form : (remove : Remove) (new : List ℕ) (d : Bool) (n code : ℕ) (body rest : List ℕ)
+    → unit_rewriting remove new d n code body rest
+    ≡ form (unit_refusal code body) (eqb code 217) (stays remove d code (drop 2 body)) (unit_text n code (trimmed remove code body)) (behind remove rest) (rewriting remove (still code new) (d || eqb code 218) rest)
+unit_form remove new d n code body rest = by (eqb code 217) refl
+  where
+    by : (t : Bool) → eqb code 217 ≡ t
+        → unless_refused (unit_refusal code body) (cond t (ends finished (unit_text n code body ++ behind remove rest)) (after (cond (stays remove d code (drop 2 body)) (unit_text n code (trimmed remove code body)) []) (rewriting remove (still code new) (d || eqb code 218) rest)))
+        ≡ form (unit_refusal code body) t (stays remove d code (drop 2 body)) (unit_text n code (trimmed remove code body)) (behind remove rest) (rewriting remove (still code new) (d || eqb code 218) rest)
+    by true e = ap (λ b. unless_refused (unit_refusal code body) (ends finished (unit_text n code b ++ behind remove rest))) (sym (end_untrimmed remove code body e))
+    by false e = refl
+
+-- a unit at the front, by what it becomes
+pub rewriting_form : (remove : Remove) (new : List ℕ) (d : Bool) (u : UnitTree) (rest : List ℕ) → IsUnit u
+    → rewriting remove new d (print_unit u ++ rest)
+    ≡ after (outside (passes remove d) u.passed) (after (placed u.code new)
+    (form (refusal_in u) (eqb u.code 217) (stays_in remove d u) (kept_text remove u) (behind remove rest) (rewriting remove (still u.code new) (d || eqb u.code 218) rest)))
+rewriting_form remove new d u rest h =
+    rewriting_unit remove new d u rest h
+    ∙ ap (λ t. after (outside (passes remove d) u.passed) (after (placed u.code new) t)) (unit_form remove new d (u.fill + 1) u.code (print_brought u.brought) rest)
+
 new_again : (remove : Remove) (d : Bool) (payload ys : List ℕ) → Fits payload
     → rewriting remove (exif_segment payload) d (exif_segment payload ++ ys) ≡ after (exif_segment payload) (rewriting remove [] d ys)
 new_again remove d payload ys h =
-    rewriting_unit remove (exif_segment payload) d (segment_tree payload) ys (segment_unit payload h)
-    ∙ ap (λ t. after t (after (exif_segment payload) (unit_rewriting remove (exif_segment payload) d 1 225 (print_brought (segment_tree payload).brought) ys))) (outside_none (passes remove d))
-    ∙ ap (λ b. after (exif_segment payload) (form (cond b (Some invalid_length) None) false (stays remove d 225 (exif_id ++ payload)) (text_of (segment_tree payload)) (behind remove ys) (rewriting remove [] (d || false) ys)))
+    rewriting_form remove (exif_segment payload) d (segment_tree payload) ys (segment_unit payload h)
+    ∙ ap (λ t. after t (after (exif_segment payload) (form (refusal_in (segment_tree payload)) false (stays remove d 225 (exif_id ++ payload)) (kept_text remove (segment_tree payload)) (behind remove ys) (rewriting remove [] (d || false) ys)))) (outside_none (passes remove d))
+    ∙ ap (λ b. after (exif_segment payload) (form (cond b (Some invalid_length) None) false (stays remove d 225 (exif_id ++ payload)) (kept_text remove (segment_tree payload)) (behind remove ys) (rewriting remove [] (d || false) ys)))
     (large (256 * high payload + low payload) (omega (arith, size_is payload h)))
-    ∙ ap (λ b. after (exif_segment payload) (after (cond b (text_of (segment_tree payload)) []) (rewriting remove [] (d || false) ys))) (left_out remove d payload)
+    ∙ ap (λ b. after (exif_segment payload) (after (cond b (kept_text remove (segment_tree payload)) []) (rewriting remove [] (d || false) ys))) (left_out remove d payload)
     ∙ ap (λ b. after (exif_segment payload) (rewriting remove [] b ys)) (or-false d)
 
 -- what may be there in place of the new segment
@@ -145,23 +191,26 @@ still_still : (b : Bool) (new : List ℕ) → cond b (cond b new []) [] ≡ cond
 still_still true new = refl
 still_still false new = refl
 
--- the refusal that a unit is, if it is one
-abbrev pub refusal_in : UnitTree → Option Refusal
-refusal_in u = unit_refusal u.code (print_brought u.brought)
+-- the form of a body that stays
+abbrev form_of : Remove → List ℕ → Bool → UnitTree → List ℕ → List ℕ → Rewriting
+form_of remove new d u body ys =
+    form (unit_refusal u.code body) (eqb u.code 217) (stays remove d u.code (drop 2 body)) (unit_text (u.fill + 1) u.code (trimmed remove u.code body)) (behind remove ys) (rewriting remove new (d || eqb u.code 218) ys)
 
--- whether a unit stays, by its code and its content behind the length
-abbrev pub stays_in : Remove → Bool → UnitTree → Bool
-stays_in remove d u = stays remove d u.code (drop 2 (print_brought u.brought))
-
-unit_step : (remove : Remove) (new : List ℕ) (d : Bool) (u : UnitTree) (ys : List ℕ) → IsUnit u
-    → rewriting remove (still u.code new) d (text_of u ++ ys)
-    ≡ form (refusal_in u) (eqb u.code 217) (stays_in remove d u) (text_of u) (behind remove ys) (rewriting remove (still u.code new) (d || eqb u.code 218) ys)
-unit_step remove new d u ys h =
-    ap (λ t. rewriting remove (still u.code new) d (t ++ ys)) (text_bare u)
-    ∙ rewriting_unit remove (still u.code new) d (bare u) ys (bare_unit u h)
-    ∙ ap (λ t. after t (after (placed u.code (still u.code new)) (unit_rewriting remove (still u.code new) d (u.fill + 1) u.code (print_brought u.brought) ys))) (outside_none (passes remove d))
-    ∙ ap (λ t. after t (unit_rewriting remove (still u.code new) d (u.fill + 1) u.code (print_brought u.brought) ys)) (placed_still (eqb u.code 224) new)
-    ∙ ap (λ t. form (refusal_in u) (eqb u.code 217) (stays_in remove d u) (text_of u) (behind remove ys) (rewriting remove t (d || eqb u.code 218) ys)) (still_still (eqb u.code 224) new)
+kept_step : (remove : Remove) (new : List ℕ) (d : Bool) (u : UnitTree) (ys : List ℕ) → IsUnit u
+    → rewriting remove (still u.code new) d (kept_text remove u ++ ys)
+    ≡ form (refusal_in u) (eqb u.code 217) (stays_in remove d u) (kept_text remove u) (behind remove ys) (rewriting remove (still u.code new) (d || eqb u.code 218) ys)
+kept_step remove new d u ys h =
+    let body : List ℕ = print_brought u.brought in
+    let left : List ℕ = trimmed remove u.code body in
+    ap (λ t. rewriting remove (still u.code new) d (t ++ ys)) (trim_text remove u h)
+    ∙ rewriting_form remove (still u.code new) d (trim_tree remove u h) ys (trim_unit remove u h)
+    ∙ ap (λ t. after t (after (placed u.code (still u.code new)) (form_of remove (still u.code (still u.code new)) d u (print_brought (trim_tree remove u h).brought) ys))) (outside_none (passes remove d))
+    ∙ ap (λ t. after t (form_of remove (still u.code (still u.code new)) d u (print_brought (trim_tree remove u h).brought) ys)) (placed_still (eqb u.code 224) new)
+    ∙ ap (λ t. form_of remove t d u (print_brought (trim_tree remove u h).brought) ys) (still_still (eqb u.code 224) new)
+    ∙ ap (λ t. form_of remove (still u.code new) d u t ys) (trim_printed remove u h)
+    ∙ ap (λ o. form o (eqb u.code 217) (stays remove d u.code (drop 2 left)) (unit_text (u.fill + 1) u.code (trimmed remove u.code left)) (behind remove ys) (rewriting remove (still u.code new) (d || eqb u.code 218) ys)) (trimmed_refusal remove u.code u.brought h.brought)
+    ∙ ap (λ k. form (refusal_in u) (eqb u.code 217) k (unit_text (u.fill + 1) u.code (trimmed remove u.code left)) (behind remove ys) (rewriting remove (still u.code new) (d || eqb u.code 218) ys)) (trimmed_stays remove d u.code body)
+    ∙ ap (λ t. form (refusal_in u) (eqb u.code 217) (stays_in remove d u) (unit_text (u.fill + 1) u.code t) (behind remove ys) (rewriting remove (still u.code new) (d || eqb u.code 218) ys)) (trimmed_again remove u.code body)
 
 -- of bytes that are no ff, what passes holds no ff either
 pub outside_others : (k : Bool) (g : List ℕ) → All (λ b. b ≢ 255) g → All (λ b. b ≢ 255) (outside k g)
@@ -187,14 +236,14 @@ tree_again remove new d u rest ok h ih e = rw whole (
     g = outside (passes remove d) u.passed
 
     inner : Rewriting
-    inner = unit_rewriting remove new d (u.fill + 1) u.code (print_brought u.brought) rest
+    inner = form (refusal_in u) (eqb u.code 217) (stays_in remove d u) (kept_text remove u) (behind remove rest) (rewriting remove (still u.code new) (d || eqb u.code 218) rest)
 
     whole : rewriting remove new d (print_unit u ++ rest) ≡ after g (after (placed u.code new) inner)
-    whole = rewriting_unit remove new d u rest h
+    whole = rewriting_form remove new d u rest h
 
     same : rewriting remove (still u.code new) d inner.out ≡ inner
-    same = form_again remove (still u.code new) d (d || eqb u.code 218) (refusal_in u) (eqb u.code 217) (stays_in remove d u) (text_of u) rest (rewriting remove (still u.code new) (d || eqb u.code 218) rest)
-        (scan_stays remove d u.code (drop 2 (print_brought u.brought))) (λ ys. unit_step remove new d u ys h) (ih (still u.code new) (d || eqb u.code 218) (new_stays (eqb u.code 224) new ok)) (ap (λ (t : Rewriting). t.end) (sym whole) ∙ e)
+    same = form_again remove (still u.code new) d (d || eqb u.code 218) (refusal_in u) (eqb u.code 217) (stays_in remove d u) (kept_text remove u) rest (rewriting remove (still u.code new) (d || eqb u.code 218) rest)
+        (scan_stays remove d u.code (drop 2 (print_brought u.brought))) (λ ys. kept_step remove new d u ys h) (ih (still u.code new) (d || eqb u.code 218) (new_stays (eqb u.code 224) new ok)) (ap (λ (t : Rewriting). t.end) (sym whole) ∙ e)
 
 -- bytes that hold no whole unit never end as a finished image
 pub never_cut : (remove : Remove) (new : List ℕ) (d : Bool) (xs : List ℕ) → first_unit xs ≡ None → (rewriting remove new d xs).end ≡ finished → ⊥

@@ -1,5 +1,5 @@
 -- The tokens and the bytes of a JPEG image that was written again.
-use Rattle.std.proofs.Common.{◌≡◌, ◌≢◌, ◌⊎◌, inl, inr, ℕ, zero, suc, ◌+◌, ◌<◌, ◌≤◌, Bool, true, false, cond, eqb, ltb, ◌&&◌, ◌||◌, List, [], ◌∷◌, ◌++◌, length, map, drop, Option, None, Some, ap, sym, subst, ◌∙◌, refl, arith, append_assoc, append-nil, replicate}
+use Rattle.std.proofs.Common.{◌≡◌, ◌≢◌, ◌⊎◌, inl, inr, ℕ, zero, suc, ◌+◌, ◌<◌, ◌≤◌, Bool, true, false, cond, eqb, ltb, ◌&&◌, ◌||◌, List, [], ◌∷◌, ◌++◌, length, map, drop, Option, None, Some, ap, sym, subst, ◌∙◌, refl, arith, add-one, append_assoc, append-nil, replicate}
 use Rattle.std.specs.List.{All, flat_map}
 use Rattle.std.proofs.lemmas.List.Concat.{flat_map-append}
 use Rattle.std.proofs.Math.Bool.{or-false}
@@ -13,12 +13,12 @@ use Rattle.exif_segments.specs.declared.remove.Remove.{Remove}
 use Rattle.exif_segments.specs.declared.remove.Remove.TheVariants.{Metadata}
 use Rattle.exif_rewrite_jpeg.specs.Rewriting.{Rewriting, finished, refused_by, after, ends}
 use Rattle.exif_segments.specs.Removing.{behind}
-use Rattle.exif_rewrite_jpeg.specs.RewrittenJpeg.{before_mark, marks, outside, passes, exif_segment, placed, still, rewriting, stream_rewriting, jpeg_rewriting}
-use Rattle.exif_rewrite_jpeg.specs.JpegSteps.{unit_rewriting}
+use Rattle.exif_rewrite_jpeg.specs.RewrittenJpeg.{before_mark, marks, outside, passes, unit_text, exif_segment, placed, still, rewriting, stream_rewriting, jpeg_rewriting, trimmed}
 use Rattle.exif_rewrite_jpeg.specs.JpegTokens.{Token, byte, unit, token_text, tokens_first, tokens_within, tokens, trailer_first, trailer_within, trailer, image, new_tokens, unit_stays, rewritten_tokens, IsFilter, IsFiltered, AreBare, HasOnlyBare}
 use Rattle.exif_rewrite_jpeg.proofs.PassingSteps.{before_mark_others}
 use Rattle.exif_rewrite_jpeg.proofs.JpegSteps.{marks_fill}
-use Rattle.exif_rewrite_jpeg.proofs.JpegLaws.{rewriting_unit, bare, bare_unit, text_of, text_bare, Fits, segment_tree, segment_unit, form, refusal_in, stays_in, never_cut, outside_others, scan_stays, fits_where, given}
+use Rattle.exif_rewrite_jpeg.proofs.Trimming.{trimmed_again, trimmed_stays}
+use Rattle.exif_rewrite_jpeg.proofs.JpegLaws.{rewriting_form, bare, bare_unit, kept_text, trim_tree, trim_unit, trim_printed, trim_text, Fits, segment_tree, segment_unit, form, refusal_in, stays_in, never_cut, outside_others, scan_stays, fits_where, given}
 
 -- ---- the first token
 
@@ -71,8 +71,15 @@ tokens_bare u ys h =
     ∙ ap (λ n. unit (suc n) u.code (print_brought u.brought) ∷ cond (eqb u.code 217) [] (tokens ys))
     (ap marks (append_assoc (replicate u.fill 255) (u.code ∷ print_brought u.brought) ys) ∙ marks_fill u.fill u.code (print_brought u.brought ++ ys) h.code)
 
-tokens_text : (u : UnitTree) (ys : List ℕ) → IsUnit u → tokens (text_of u ++ ys) ≡ token_of u ∷ cond (eqb u.code 217) [] (tokens ys)
-tokens_text u ys h = ap (λ t. tokens (t ++ ys)) (text_bare u) ∙ tokens_bare u ys h
+-- the token of what stays of a unit
+abbrev kept_token : Remove → UnitTree → Token
+kept_token remove u = unit (suc u.fill) u.code (trimmed remove u.code (print_brought u.brought))
+
+tokens_kept : (remove : Remove) (u : UnitTree) (ys : List ℕ) → IsUnit u → tokens (kept_text remove u ++ ys) ≡ kept_token remove u ∷ cond (eqb u.code 217) [] (tokens ys)
+tokens_kept remove u ys h =
+    ap (λ t. tokens (t ++ ys)) (trim_text remove u h)
+    ∙ tokens_bare (trim_tree remove u h) ys (trim_unit remove u h)
+    ∙ ap (λ b. unit (suc u.fill) u.code b ∷ cond (eqb u.code 217) [] (tokens ys)) (trim_printed remove u h)
 
 tokens_unit : (u : UnitTree) (ys : List ℕ) → IsUnit u → tokens (print_unit u ++ ys) ≡ map byte u.passed ++ (token_of u ∷ cond (eqb u.code 217) [] (tokens ys))
 tokens_unit u ys h =
@@ -139,6 +146,9 @@ form_bytes remove None false true m rest r tok step is ih e =
     ∙ ap (λ l. text l ++ behind remove (trailer rest)) (sym (step r.out))
 form_bytes remove None false false m rest r tok step is ih e = ih e
 
+kept_print : (remove : Remove) (u : UnitTree) → token_text (kept_token remove u) ≡ kept_text remove u
+kept_print remove u = ap (λ n. unit_text n u.code (trimmed remove u.code (print_brought u.brought))) (sym (add-one u.fill))
+
 -- what may be there in place of the new segment, and its tokens
 pub data New : List ℕ → List Token → Type 0 where
   no_new : New [] []
@@ -193,10 +203,10 @@ tree_kept remove new ts d u rest ok h ih e = record {
     tail = behind remove (cond (eqb u.code 217) rest (trailer rest))
 
     inner : Rewriting
-    inner = unit_rewriting remove new d (u.fill + 1) u.code (print_brought u.brought) rest
+    inner = form (refusal_in u) (eqb u.code 217) (stays_in remove d u) (kept_text remove u) (behind remove rest) (rewriting remove (still u.code new) (d || eqb u.code 218) rest)
 
     whole : rewriting remove new d (print_unit u ++ rest) ≡ after g (after (placed u.code new) inner)
-    whole = rewriting_unit remove new d u rest h
+    whole = rewriting_form remove new d u rest h
 
     ended : inner.end ≡ finished
     ended = ap (λ (t : Rewriting). t.end) (sym whole) ∙ e
@@ -210,12 +220,12 @@ tree_kept remove new ts d u rest ok h ih e = record {
     split : tokens (g ++ (placed u.code new ++ inner.out)) ≡ map byte g ++ (cond (eqb u.code 224) [] ts ++ tokens inner.out)
     split = tokens_others g (placed u.code new ++ inner.out) (outside_others (passes remove d) u.passed h.passed) ∙ ap (λ l. map byte g ++ l) (place_first (eqb u.code 224) new ts inner.out ok)
 
-    same : tokens inner.out ≡ cond (eqb u.code 217 || stays_in remove d u) (token_of u ∷ []) [] ++ rewritten_tokens remove (cond (eqb u.code 224) ts []) (d || eqb u.code 218) (cond (eqb u.code 217) [] (tokens rest))
-    same = form_tokens remove (cond (eqb u.code 224) ts []) (d || eqb u.code 218) (refusal_in u) (eqb u.code 217) (stays_in remove d u) (text_of u) (behind remove rest) rest next (token_of u)
-        (λ ys. tokens_text u ys h) (λ e. (kept_next e).tokens_are) ended
+    same : tokens inner.out ≡ cond (eqb u.code 217 || stays_in remove d u) (kept_token remove u ∷ []) [] ++ rewritten_tokens remove (cond (eqb u.code 224) ts []) (d || eqb u.code 218) (cond (eqb u.code 217) [] (tokens rest))
+    same = form_tokens remove (cond (eqb u.code 224) ts []) (d || eqb u.code 218) (refusal_in u) (eqb u.code 217) (stays_in remove d u) (kept_text remove u) (behind remove rest) rest next (kept_token remove u)
+        (λ ys. tokens_kept remove u ys h) (λ e. (kept_next e).tokens_are) ended
 
     printed : inner.out ≡ text (tokens inner.out) ++ tail
-    printed = form_bytes remove (refusal_in u) (eqb u.code 217) (stays_in remove d u) (text_of u) rest next (token_of u) (λ ys. tokens_text u ys h) (sym (text_bare u)) (λ e. (kept_next e).bytes_are) ended
+    printed = form_bytes remove (refusal_in u) (eqb u.code 217) (stays_in remove d u) (kept_text remove u) rest next (kept_token remove u) (λ ys. tokens_kept remove u ys h) (kept_print remove u) (λ e. (kept_next e).bytes_are) ended
 
     joined : text (map byte g ++ (cond (eqb u.code 224) [] ts ++ tokens inner.out)) ++ tail ≡ g ++ (placed u.code new ++ (text (tokens inner.out) ++ tail))
     joined =
@@ -291,8 +301,9 @@ bare_new new left d ts put l h = elim l [
     whole new (exif_put n body) h = (inr refl, bare_scan (unit n 225 body ∷ []) (d || false) d ts (sym (or-false d)) h)
 
 bare_kept : (new : List Token) (d k : Bool) (n code : ℕ) (body : List ℕ) (ts : List Token) → unit_stays Metadata d code body ≡ k
-    → AreBare new (d || eqb code 218) ts → AreBare new d (cond k (unit n code body ∷ []) [] ++ ts)
-bare_kept new d true n code body ts e h = (inl e, h)
+    → AreBare new (d || eqb code 218) ts → AreBare new d (cond k (unit n code (trimmed Metadata code body) ∷ []) [] ++ ts)
+bare_kept new d true n code body ts e h =
+    (inl (ap (λ b. eqb code 217 || b) (trimmed_stays Metadata d code body) ∙ e, trimmed_again Metadata code body), h)
 bare_kept new d false n code body ts e h = bare_scan new d (d || eqb code 218) ts (scan_stays Metadata d code (drop 2 body) (second (eqb code 217) _ e)) h
   where
     second : (a b : Bool) → (a || b) ≡ false → b ≡ false

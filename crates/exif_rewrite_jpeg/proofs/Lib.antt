@@ -4,3 +4,4 @@ pub mod JpegLaws
 pub mod JpegSteps
 pub mod JpegTokens
 pub mod PassingSteps
+pub mod Trimming

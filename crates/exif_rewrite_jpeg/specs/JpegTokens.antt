@@ -6,7 +6,7 @@ use Rattle.exif_segments.specs.declared.remove.Remove.{Remove}
 use Rattle.exif_segments.specs.declared.remove.Remove.TheVariants.{Metadata}
 use Rattle.exif_rewrite_jpeg.specs.Rewriting.{finished}
 use Rattle.exif_segments.specs.Removing.{behind}
-use Rattle.exif_rewrite_jpeg.specs.RewrittenJpeg.{before_mark, exif_segment, jpeg_rewriting, marks, passes, stays, unit_text}
+use Rattle.exif_rewrite_jpeg.specs.RewrittenJpeg.{before_mark, exif_segment, jpeg_rewriting, marks, passes, stays, trimmed, unit_text}
 
 -- a byte, or so many ffs, a code and a body
 pub data Token : Type 0 where
@@ -61,15 +61,16 @@ new_tokens (Some payload) = unit 1 225 (drop 2 (exif_segment payload)) ∷ []
 abbrev pub unit_stays : Remove → Bool → ℕ → List ℕ → Bool
 unit_stays remove scanned code body = (code == 217) || stays remove scanned code (drop 2 body)
 
--- each byte and each unit that stays, in their order, and the new unit in front of the first unit
--- that is no APP0
+-- each byte and each unit that stays, trimmed, in their order, and the new unit in front of the
+-- first unit that is no APP0
 abbrev pub rewritten_tokens : Remove → List Token → Bool → List Token → List Token
 rewritten_tokens remove new scanned [] = []
 rewritten_tokens remove new scanned (byte b ∷ ts) =
     (if passes remove scanned then byte b ∷ [] else []) ++ rewritten_tokens remove new scanned ts
 rewritten_tokens remove new scanned (unit n code body ∷ ts) =
     (if code == 224 then [] else new)
-    ++ ((if unit_stays remove scanned code body then unit n code body ∷ [] else [])
+    ++ ((if unit_stays remove scanned code body
+    then unit n code (trimmed remove code body) ∷ [] else [])
     ++ rewritten_tokens remove (if code == 224 then new else []) (scanned || (code == 218)) ts)
 
 -- what came out has these tokens, and is their bytes
@@ -84,10 +85,11 @@ IsFiltered remove put bytes =
     (jpeg_rewriting remove put bytes).end ≡ finished
     → IsFilter remove (new_tokens put) bytes (jpeg_rewriting remove put bytes).out
 
--- a unit that stays where all metadata go: the end of the image, a code that stands alone, in scans
--- alone, or a segment that is none of metadata
+-- a unit that stays as it is where all metadata go: the end of the image, a code that stands alone,
+-- in scans alone, or a segment that is none of metadata and has nothing behind its fields
 abbrev pub IsBareUnit : Bool → ℕ → List ℕ → Type 0
-IsBareUnit scanned code body = unit_stays Metadata scanned code body ≡ true
+IsBareUnit scanned code body =
+    (unit_stays Metadata scanned code body ≡ true) × (trimmed Metadata code body ≡ body)
 
 -- tokens of which all metadata were taken out: bytes of scans, and units that stay or are new
 abbrev pub AreBare : List Token → Bool → List Token → Type 0

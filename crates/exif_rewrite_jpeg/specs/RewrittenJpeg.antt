@@ -33,8 +33,7 @@ begins id content = bytes_eq (take (length id) content) id
 -- colours of ICC and of Adobe, or a comment
 abbrev pub is_metadata : ℕ → List ℕ → Bool
 is_metadata code content =
-    if code == 224
-    then not (begins (codes "JFIF\0") content || begins (codes "JFXX\0") content) else
+    if code == 224 then not (begins (codes "JFIF\0") content) else
     if code == 226 then not (begins (codes "ICC_PROFILE\0") content) else
     if code == 238 then not (begins (codes "Adobe") content) else
     (nat_le 225 code && nat_le code 239) || (code == 254)
@@ -74,10 +73,27 @@ unit_refusal code body =
     if code == 216 then Some unexpected_soi else
     if not (stands_alone code) && nat_lt (two_bytes body) 2 then Some invalid_length else None
 
+-- the body of JFIF's header with its fields alone, and no thumbnail
+abbrev pub jfif_body : List ℕ → List ℕ
+jfif_body body = 0 ∷ 16 ∷ (take 12 (drop 2 body) ++ 0 ∷ 0 ∷ [])
+
+-- the body of Adobe's segment with its fields alone
+abbrev pub adobe_body : List ℕ → List ℕ
+adobe_body body = 0 ∷ 14 ∷ take 12 (drop 2 body)
+
+-- what of the body of a unit stays, where the unit does: with all metadata goes what is behind the
+-- fields of JFIF's header, and of Adobe's segment
+abbrev pub trimmed : Remove → ℕ → List ℕ → List ℕ
+trimmed Exif code body = body
+trimmed Metadata code body =
+    if (code == 224) && nat_le 16 (length body) then jfif_body body else
+    if (code == 238) && nat_le 14 (length body) then adobe_body body else body
+
 -- what of a unit is sent
 abbrev pub kept : Remove → Bool → ℕ → ℕ → List ℕ → List ℕ
 kept remove scanned n code body =
-    if stays remove scanned code (drop 2 body) then unit_text n code body else []
+    if stays remove scanned code (drop 2 body) then unit_text n code (trimmed remove code body)
+    else []
 
 -- a unit of n ffs, and what follows it by `next`, which is asked with what waits and whether a scan
 -- began

@@ -48,7 +48,7 @@ fn is_metadata(code: u8, content: &[u8]) -> bool
     ensures { result ≡ is_of_metadata code content.now }
 {
     match code {
-        APP0 => !(begins(content, b"JFIF\0") || begins(content, b"JFXX\0")),
+        APP0 => !begins(content, b"JFIF\0"),
         APP2 => !begins(content, b"ICC_PROFILE\0"),
         APP14 => !begins(content, b"Adobe"),
         APP1..=APP15 | COM => true,
