@@ -1,0 +1,124 @@
+//! Directories that are kept.
+
+ghost use Rattle.std.specs.Prelude.{◌≡◌, ◌<◌, ◌^◌};
+ghost use Rattle.exif_base.specs.Orders.{number_of};
+ghost use Rattle.exif_scrub_tiff.specs.Directories.{chain_kept, child_kept, children_from, children_kept, directory_kept, entries_kept, next_of};
+ghost use Rattle.exif_scrub_tiff.specs.Entries.{Goes};
+ghost use Rattle.exif_scrub_tiff.specs.Keeping.{Puts};
+
+use crate::bytes::{Old, keep};
+use crate::entry::{count_of, entry_named, item_at, keep_entry};
+use crate::fault::Fault;
+use crate::picture::keep_picture;
+use exif_layout::item::spelled_u16;
+
+// Keeps the entries of a directory that describe its picture, closed up: how many they are.
+fn keep_entries(
+    old: Old<'_>,
+    keeps_orientation: bool,
+    is_nested: bool,
+    count: u16,
+    first: u64,
+    new: &mut [u8],
+) -> Result<u16, Fault>
+    requires { first < 2 ^ 61 }
+    ensures { Goes result new.new (entries_kept (number_of old.entry.order) old.entry.bytes.now
+        keeps_orientation is_nested first count first 0 new.old) }
+{
+    let mut kept = 0;
+    for index in 0..count {
+        let entry = first + 12 * u64::from(index);
+        let to = first + 12 * u64::from(kept);
+        if keep_entry(old, keeps_orientation, is_nested, entry, new, to)? {
+            kept += 1;
+        }
+    }
+    Ok(kept)
+}
+
+// Keeps a directory and its picture.
+fn keep_directory(
+    old: Old<'_>,
+    keeps_orientation: bool,
+    is_nested: bool,
+    at: u32,
+    new: &mut [u8],
+) -> Result<(), Fault>
+    ensures { Puts result new.new (directory_kept old.entry.order old.entry.bytes.now keeps_orientation
+        is_nested at new.old) }
+{
+    let at = u64::from(at);
+    let count = old.short(at)?;
+    let first = at + 2;
+    let kept = keep_entries(old, keeps_orientation, is_nested, count, first, new)?;
+    keep(&spelled_u16(old.order, kept), 0, 2, new, at)?;
+    let end = first + 12 * u64::from(count);
+    keep(old.bytes, end, 4, new, first + 12 * u64::from(kept))?;
+    keep_picture(old, count, first, new)
+}
+
+// The offset of the directory behind one.
+fn next_of(old: Old<'_>, at: u32) -> Result<u32, Fault>
+    ensures { result ≡ next_of (number_of old.entry.order) old.entry.bytes.now at }
+{
+    let count = old.short(u64::from(at))?;
+    old.long(u64::from(at) + 2 + 12 * u64::from(count))
+}
+
+// Keeps a directory below another one, behind which there is none.
+fn keep_child(old: Old<'_>, keeps_orientation: bool, at: u32, new: &mut [u8]) -> Result<(), Fault>
+    ensures { Puts result new.new
+        (child_kept old.entry.order old.entry.bytes.now keeps_orientation at new.old) }
+{
+    if next_of(old, at)? != 0 {
+        return Err(Fault::NotSupported);
+    }
+    keep_directory(old, keeps_orientation, true, at, new)
+}
+
+// Keeps the directories below one.
+fn keep_children(
+    old: Old<'_>,
+    keeps_orientation: bool,
+    at: u32,
+    new: &mut [u8],
+) -> Result<(), Fault>
+    ensures { Puts result new.new
+        (children_kept old.entry.order old.entry.bytes.now keeps_orientation at new.old) }
+{
+    let count = old.short(u64::from(at))?;
+    let Some(entry) = entry_named(old, count, u64::from(at) + 2, 330)? else {
+        return Ok(());
+    };
+    let children = count_of(old, entry)?;
+    for index in 0..children {
+        let child = item_at(old, entry, index)?;
+        keep_child(old, keeps_orientation, child, new)?;
+    }
+    Ok(())
+}
+
+/// Keeps the directories of a chain, and those below them: at most so many.
+pub fn keep_chain(
+    old: Old<'_>,
+    keeps_orientation: bool,
+    first: u32,
+    most: u32,
+    new: &mut [u8],
+) -> Result<(), Fault>
+    ensures { Puts result new.new
+        (chain_kept old.entry.order old.entry.bytes.now keeps_orientation most first new.old) }
+{
+    let mut at = first;
+    let mut left = most;
+    while at != 0 {
+        if left == 0 {
+            return Err(Fault::TooManyDirectories);
+        }
+        keep_directory(old, keeps_orientation, false, at, new)?;
+        keep_children(old, keeps_orientation, at, new)?;
+        at = next_of(old, at)?;
+        left -= 1;
+    }
+    Ok(())
+}
