@@ -4,6 +4,7 @@ use Rattle.std.specs.List.{list_any}
 use Rattle.exif_base.specs.Orders.{number_of, order_named}
 use Rattle.exif_types.specs.declared.field.Field.{Field}
 use Rattle.exif_tiff.specs.declared.offset.EntryOffset.{EntryOffset}
+use Rattle.exif_edit_base.specs.Causes.{Cause, shared}
 use Rattle.exif_edit_base.specs.EntryLimit.{within_limit}
 use Rattle.exif_edit_base.specs.GpsOffsets.{Left, leftovers}
 use Rattle.exif_edit_base.specs.Locations.{located}
@@ -16,7 +17,7 @@ use Rattle.exif_data_locations.specs.Regions.{regions_erased}
 use Rattle.exif_data_locations.specs.Wanted.{wanted}
 use Rattle.exif_data_locations.specs.declared.region.Region.{Region}
 use Rattle.exif_data_locations.specs.declared.why.Why.{Why}
-use Rattle.exif_data_locations.specs.declared.why.Why.TheVariants.{NotChanged, GpsNotFollowed, NotReadWhole, SubIfdsNotRead, MakerNote, Shared}
+use Rattle.exif_data_locations.specs.declared.why.Why.TheVariants.{NotChanged, GpsShared, GpsNotFollowed, NotReadWhole, SubIfdsNotRead, MakerNote, Shared}
 
 -- how many entries are read at most
 abbrev pub entry_limit : Option ℕ
@@ -36,11 +37,16 @@ is_none_left left = (length left.pointers == 0) && not left.meets_limit
 abbrev pub is_followed : List ℕ → Bool
 is_followed bytes = elim (leftovers bytes) [ Ok left ↦ is_none_left left | Err cause ↦ false ]
 
+-- why GPS data are not erased
+abbrev pub gps_refused : Cause → Why
+gps_refused shared = GpsShared
+gps_refused cause = NotChanged
+
 -- data without their GPS data, if these can be erased
 abbrev pub gps_erased : List ℕ → List ℕ × List Why
 gps_erased bytes = elim (limited_edit None EraseGps bytes) [
   | Ok new ↦ (new, noted_if (not (is_followed new)) GpsNotFollowed [])
-  | Err cause ↦ (bytes, NotChanged ∷ [])
+  | Err cause ↦ (bytes, gps_refused cause ∷ [])
 ]
 
 -- ---- fields

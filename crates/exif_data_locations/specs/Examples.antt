@@ -14,7 +14,7 @@ use Rattle.exif_edit_base.specs.Readings.{reading}
 use Rattle.exif_edit.specs.Erasing.{erase_patches, gps_spans}
 use Rattle.exif_data_locations.specs.Erasing.{data_erased}
 use Rattle.exif_data_locations.specs.Resources.{resource_at, resources_by}
-use Rattle.exif_data_locations.specs.declared.why.Why.TheVariants.{NotChanged, NotReadWhole, SubIfdsNotRead, MakerNote, IptcNotRead, ResourcesNotRead, ExifResource, TypeNotKnown, Shared}
+use Rattle.exif_data_locations.specs.declared.why.Why.TheVariants.{NotChanged, GpsShared, NotReadWhole, SubIfdsNotRead, MakerNote, IptcNotRead, ResourcesNotRead, ExifResource, TypeNotKnown, Shared}
 
 -- big-endian data, of which the directory at 8 has one entry, and its value is at 26
 abbrev one : List ℕ → List ℕ → List ℕ
@@ -134,6 +134,19 @@ sharing_stays : data_erased (sharing)
     ≡ (sharing, Shared ∷ [])
 unfolding reading erase_patches visited_gps gps_spans gps_offsets gps_pointers all_directories children_from chain_from pointers leftovers directory_offsets located trace ordered_trace iptc.erased_by dataset_at
 sharing_stays = refl
+
+-- a GPS directory at 38, whose bytes are a description, too
+abbrev sharing_gps : List ℕ
+sharing_gps =
+    two (1 ∷ 14 ∷ 0 ∷ 2 ∷ 0 ∷ 0 ∷ 0 ∷ 18 ∷ 0 ∷ 0 ∷ 0 ∷ 38
+    ∷ 136 ∷ 37 ∷ 0 ∷ 4 ∷ 0 ∷ 0 ∷ 0 ∷ 1 ∷ 0 ∷ 0 ∷ 0 ∷ 38 ∷ [])
+    (0 ∷ 1 ∷ 0 ∷ 1 ∷ 0 ∷ 2 ∷ 0 ∷ 0 ∷ 0 ∷ 2 ∷ 78 ∷ 0 ∷ 0 ∷ 0 ∷ 0 ∷ 0 ∷ 0 ∷ 0 ∷ [])
+
+-- stays, since the description would change
+sharing_gps_stays : data_erased (sharing_gps)
+    ≡ (sharing_gps, GpsShared ∷ [])
+unfolding reading erase_patches visited_gps gps_spans gps_offsets gps_pointers all_directories children_from chain_from pointers leftovers directory_offsets located trace ordered_trace
+sharing_gps_stays = refl
 
 -- SubIFDs, and a maker note of four bytes
 abbrev unread : List ℕ

@@ -53,6 +53,7 @@ pub fn erase_gps(alloc: Global, bytes: &mut [u8]) -> Result<Vec<Why>, AllocError
     match apply(alloc, &Edit::EraseGps, None, bytes) {
         Ok(()) => left_gps(alloc, bytes),
         Err(Error::OutOfMemory) => Err(AllocError),
+        Err(Error::SharedBytes) => one(alloc, Why::GpsShared),
         Err(_) => unchanged(alloc),
     }
 }

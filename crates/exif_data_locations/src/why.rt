@@ -6,9 +6,10 @@ use std::fmt;
 /// Why Exif data may still hold a location.
 #[derive(Clone, Copy, Debug)]
 pub enum Why {
-    /// The data can't be read, have too many entries, or use the bytes of their GPS data twice:
-    /// their GPS data are as they were.
+    /// The data can't be read, or have too many entries: they are as they were.
     NotChanged,
+    /// GPS data use bytes that have another use, too: they are as they were.
+    GpsShared,
     /// GPS pointers are not followed.
     GpsNotFollowed,
     /// Not all of the data can be read.
@@ -35,7 +36,8 @@ pub enum Why {
 impl fmt::Display for Why {
     fn fmt<W: fmt::Write>(&self, f: &mut fmt::Formatter<W>) -> fmt::Result {
         match self {
-            Why::NotChanged => write!(f, "the GPS data can't be erased"),
+            Why::NotChanged => write!(f, "the data can't be read"),
+            Why::GpsShared => write!(f, "GPS data share their bytes with other data"),
             Why::GpsNotFollowed => write!(f, "GPS pointers are not followed"),
             Why::NotReadWhole => write!(f, "some of the data can't be read"),
             Why::SubIfdsNotRead => write!(f, "SubIFDs are not read"),

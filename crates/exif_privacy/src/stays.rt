@@ -60,6 +60,10 @@ fn write_exif<W: fmt::Write>(
             f,
             "still there: {name} at offset {offset}, which can't be changed"
         ),
+        exif_data_locations::Why::GpsShared => write!(
+            f,
+            "still there: GPS data of {name} at offset {offset}, which share their bytes"
+        ),
         exif_data_locations::Why::GpsNotFollowed => write!(
             f,
             "GPS data may be left: GPS pointers of {name} at offset {offset} are not followed"
