@@ -1,5 +1,5 @@
 #!/bin/sh
-# Erases the locations of JPEG and WebP files that hold one in each way, made by hand: the secret is gone,
+# Erases the locations of JPEG, WebP and TIFF files that hold one in each way, made by hand: the secret is gone,
 # all else is as it was, and what may still hold a location is reported.
 . "$(dirname "$0")/checks.sh"
 
@@ -29,6 +29,25 @@ title = b"\x1c\x02\x05\0\x04kept"
 iptc = title + city
 resource = b"8BIM\x04\x04\0\0" + struct.pack(">I", len(iptc)) + iptc + b"\0" * (len(iptc) % 2)
 digest = b"8BIM\x04\x25\0\0" + struct.pack(">I", 16) + b"d" * 16
+
+
+def tiff(*fields):
+    """TIFF data of one directory with these fields, each a tag, a type (4: LONG, or one of a byte) and its bytes."""
+    at, values = 8 + 2 + 12 * len(fields) + 4, b""
+    data = b"MM\0*\0\0\0\x08" + struct.pack(">H", len(fields))
+    for tag, kind, value in fields:
+        data += struct.pack(">HHI", tag, kind, len(value) // (4 if kind == 4 else 1))
+        if len(value) <= 4:
+            data += value.ljust(4, b"\0")
+        else:
+            data += struct.pack(">I", at + len(values))
+            values += value
+    return data + b"\0\0\0\0" + values
+
+
+def tiff_file(name, data):
+    open(os.path.join(folder, name), "wb").write(data)
+
 
 EXIF = segment(0xE1, b"Exif\0\0" + exif)
 XMP = segment(0xE1, b"http://ns.adobe.com/xap/1.0/\0" + xmp)
@@ -66,6 +85,16 @@ jpeg("second_picture.jpg", EXIF, plain[:2] + EXIF + XMP + plain[2:])
 webp("exif.webp", chunk(b"EXIF", exif))
 webp("xmp.webp", chunk(b"XMP ", xmp))
 webp("both.webp", chunk(b"EXIF", exif) + chunk(b"XMP ", xmp))
+# what is in TIFF data: XMP, IPTC, resources of Photoshop and GeoTIFF
+fields = tiff((700, 1, xmp), (33723, 7, iptc), (34377, 1, digest + resource), (34737, 2, SECRET + b"\0"))
+tiff_file("gps.tif", exif)
+tiff_file("fields.tif", fields)
+jpeg("fields.jpg", segment(0xE1, b"Exif\0\0" + fields))
+webp("fields.webp", chunk(b"EXIF", fields))
+tiff_file("sub_ifds.tif", tiff((330, 4, b"\0\0\0\0"), (700, 1, xmp)) + SECRET)
+tiff_file("maker_note.tif", tiff((33723, 7, iptc), (37500, 7, SECRET)))
+tiff_file("broken_xmp.tif", tiff((700, 1, b"<City" + SECRET)))
+tiff_file("cut.tif", tiff((33723, 7, city + title))[:-1])
 # what is not looked at, or can't be read
 jpeg("comment.jpg", EXIF + segment(0xFE, SECRET))
 jpeg("trailer.jpg", EXIF, SECRET)
@@ -111,7 +140,8 @@ stays() {
     holds "as a part that may hold a location" ": may hold a location"
 }
 
-for file in exif.jpg exif_twice.jpg xmp.jpg xmp_twice.jpg iptc.jpg all.jpg second_picture.jpg exif.webp xmp.webp both.webp; do
+for file in exif.jpg exif_twice.jpg xmp.jpg xmp_twice.jpg iptc.jpg all.jpg second_picture.jpg exif.webp xmp.webp both.webp \
+    gps.tif fields.tif fields.jpg fields.webp; do
     erased "$file"
 done
 check "what names no location stays in XMP" grep -qaF "dc:source='kept'" new.xmp.jpg
@@ -125,6 +155,10 @@ stays broken_xmp.jpg 1 "XMP packet at offset"
 stays broken_iptc.jpg 1 "IPTC data at offset"
 stays broken_exif.jpg 1 "Exif data at offset 2, which can't be changed"
 stays unknown.webp 1 "unknown data at offset"
+stays sub_ifds.tif 1 "the Exif data at offset 0: SubIFDs are not read"
+stays maker_note.tif 1 "the Exif data at offset 0: the maker note is not read"
+stays broken_xmp.tif 1 "the Exif data at offset 0: the XMP packet of tag 700 can't be read"
+stays cut.tif 1 "the Exif data at offset 0: some of the data can't be read"
 
 # What check prints, whole.
 printf '%s\n' "files/all.jpg: Exif data at offset 2 (73 bytes): a location" >wanted

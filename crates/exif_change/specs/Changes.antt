@@ -77,8 +77,8 @@ if_parted (new, None) = erased EraseGps new
 abbrev pub unlocated : Format → List ℕ → Result Change Why
 unlocated Jpeg file = if_parted (privacy.erased file)
 unlocated WebP file = if_parted (privacy.erased file)
+unlocated Tiff file = if_parted (privacy.erased file)
 unlocated Heif file = erased EraseGps file
-unlocated Tiff file = erased EraseGps file
 
 -- a file of a format without what is taken out
 abbrev pub scrubbed_as : Format → Removed → List ℕ → Result Change Why

@@ -29,13 +29,13 @@ pub enum Removed {
     Metadata,
     /// All metadata but for the picture's orientation.
     AllButOrientation,
-    /// What says where the picture was taken: in JPEG and WebP files the GPS data of all Exif data,
-    /// and the locations of XMP and IPTC; in HEIF and TIFF files the GPS data of Exif alone.
+    /// What says where the picture was taken: in JPEG, WebP and TIFF files the locations of all
+    /// Exif data, XMP and IPTC; in HEIF files the GPS data of Exif alone.
     Gps,
 }
 
 /// The file without its metadata. JPEG and WebP lose them; in HEIF files the fields of the Exif
-/// data are erased where they are; TIFF data are refused, but for their GPS data. A HEIF file that
+/// data are erased where they are; TIFF data are refused, but for their locations. A HEIF file that
 /// has no Exif data stays as it is where only those would change. Where locations are erased, no
 /// byte moves, and the answer has the parts that may still hold one ([`erase_locations`]). Of a
 /// JPEG stream that ends before its picture does what is there is kept. It takes the memory of the
@@ -71,8 +71,8 @@ fn unlocated(alloc: Global, format: Format, file: Vec<u8>) -> Result<Changed, Re
     ensures { Answers change_of result (unlocated format file.items) }
 {
     match format {
-        Format::Jpeg | Format::WebP => parts_unlocated(alloc, file),
-        Format::Heif | Format::Tiff => erased(alloc, file, &Edit::EraseGps),
+        Format::Jpeg | Format::WebP | Format::Tiff => parts_unlocated(alloc, file),
+        Format::Heif => erased(alloc, file, &Edit::EraseGps),
     }
 }
 

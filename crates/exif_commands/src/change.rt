@@ -92,9 +92,9 @@ fn left_in(
     Ok(all)
 }
 
-// What may be GPS data of a file other than JPEG and WebP, of whose parts the change knows it.
+// What may be GPS data of a file other than JPEG, WebP and TIFF, of which the change knows it.
 fn gps_left_in(alloc: Global, new: &[u8]) -> Result<Option<Unerased>, AllocError> {
-    if let Some(Format::Jpeg | Format::WebP) = format_of(new) {
+    if let Some(Format::Jpeg | Format::WebP | Format::Tiff) = format_of(new) {
         return Ok(None);
     }
     match unerased(alloc, new)? {

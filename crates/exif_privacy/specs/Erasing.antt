@@ -1,7 +1,7 @@
 -- A file without the locations of its parts.
-use Rattle.std.specs.Prelude.{ℕ, ◌+◌, List, [], ◌∷◌, ◌++◌, take, drop, Option, None, Some}
-use Rattle.exif_inventory.specs.Walks.{inventory}
+use Rattle.std.specs.Prelude.{ℕ, ◌+◌, List, [], ◌∷◌, ◌++◌, map, take, drop, Option, None, Some}
 use Rattle.exif_inventory.specs.declared.part.Part.{Part}
+use Rattle.exif_privacy.specs.Files.{parts_of}
 use Rattle.exif_privacy.specs.Parts.{part_answer}
 use Rattle.exif_privacy.specs.declared.stays.Stays.{Stays}
 use Rattle.exif_privacy.specs.declared.stays.Why.{Why}
@@ -15,14 +15,14 @@ abbrev pub with_data : Part → List ℕ → List ℕ → List ℕ
 with_data part new file =
     take part.data_offset file ++ (new ++ drop (part.data_offset + part.data_len) file)
 
--- the part, if there is a reason why it may still hold a location
-abbrev pub noted : Part → Option Why → List Stays
-noted part None = []
-noted part (Some why) = record { part = part; why = why } ∷ []
+-- a part that may still hold a location, for a reason
+abbrev pub stays_for : Part → Why → Stays
+stays_for part why = record { part = part; why = why }
 
--- a file with the data of a part changed, and one part more that may still hold a location
-abbrev pub part_made : Part → List ℕ × Option Why → List ℕ × List Stays → List ℕ × List Stays
-part_made part (new, why) (file, stays) = (with_data part new file, stays ++ noted part why)
+-- a file with the data of a part changed, and the reasons why it may still hold a location
+abbrev pub part_made : Part → List ℕ × List Why → List ℕ × List Stays → List ℕ × List Stays
+part_made part (new, whys) (file, stays) =
+    (with_data part new file, stays ++ map (stays_for part) whys)
 
 -- a file without the locations of a part
 abbrev pub part_erased : Part → List ℕ × List Stays → List ℕ × List Stays
@@ -42,4 +42,4 @@ erased_by file (Some parts) =
 
 -- a file without the locations of its parts, if its format is known
 abbrev pub erased : List ℕ → List ℕ × Option (List Stays)
-erased file = erased_by file (inventory file)
+erased file = erased_by file (parts_of file)

@@ -1,11 +1,12 @@
 //! What a file says of where its picture was taken, erased in place.
 //!
-//! [`erase_locations`] works on JPEG and WebP files. It erases what it can, changes no other byte,
-//! and answers which parts stay that hold a location or may hold one.
+//! [`erase_locations`] works on JPEG, WebP and TIFF files. It erases what it can, changes no other
+//! byte, and answers which parts stay that hold a location or may hold one.
 #![tactic(auto)]
 
 mod erase;
 mod part;
+mod parts;
 mod stays;
 
 pub use erase::erase_locations;

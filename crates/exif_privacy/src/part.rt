@@ -1,16 +1,25 @@
 //! The locations in one part of a file.
 
-ghost use Rattle.std.specs.Prelude.{◌≡◌, ◌||◌, not, IfOk};
-ghost use Rattle.exif_privacy.specs.Parts.{after_gps, exif_answer, iptc_answer, is_followed, part_answer, xmp_answer};
+ghost use Rattle.std.specs.Prelude.{◌≡◌, IfOk, map};
+ghost use Rattle.std.specs.Option.{option_to_list};
+ghost use Rattle.exif_privacy.specs.Parts.{in_exif, iptc_answer, part_answer, xmp_answer};
+ghost use Rattle.exif_data_locations.specs.Erasing.{data_erased};
 
 use crate::stays::Why;
-use exif_edit::{Edit, Error, apply, leftovers};
 use exif_inventory::Kind;
 use exif_locations::{iptc, xmp};
 use std::alloc::{AllocError, Global};
 
-// How many entries of Exif data are read at most.
-const ENTRY_LIMIT: u64 = 1_000_000;
+// A reason, if there is one.
+fn listed(alloc: Global, why: Option<Why>) -> Result<Vec<Why>, AllocError>
+    ensures { IfOk result (λ whys. whys.items ≡ option_to_list why) }
+{
+    let mut whys = Vec::new(alloc);
+    if let Some(why) = why {
+        whys.push(why)?;
+    }
+    Ok(whys)
+}
 
 // Erases the locations of an XMP packet.
 fn erase_xmp(bytes: &mut [u8]) -> Option<Why>
@@ -32,52 +41,41 @@ fn erase_iptc(bytes: &mut [u8]) -> Option<Why>
     }
 }
 
-// Whether all GPS pointers of Exif data are followed.
-fn is_followed(alloc: Global, bytes: &[u8]) -> Result<bool, AllocError>
-    ensures { IfOk result (λ all. all ≡ is_followed bytes.now) }
+// The reasons of Exif data as those of a part.
+fn all_in_exif(alloc: Global, whys: &[exif_data_locations::Why]) -> Result<Vec<Why>, AllocError>
+    ensures { IfOk result (λ all. all.items ≡ map Why.InExif whys.now) }
 {
-    match leftovers(alloc, bytes) {
-        Ok(left) => Ok(left.pointers.is_empty() && !left.meets_limit),
-        Err(Error::OutOfMemory) => Err(AllocError),
-        Err(_) => Ok(false),
-    }
+    whys.iter().map(|why| Why::InExif(*why)).collect(alloc)
 }
 
-// Erases the GPS data of Exif data.
-fn erase_exif(alloc: Global, bytes: &mut [u8]) -> Result<Option<Why>, AllocError>
-    ensures { IfOk result (λ why. (bytes.new, why) ≡ exif_answer bytes.old) }
+// Erases the locations of Exif data.
+fn erase_exif(alloc: Global, bytes: &mut [u8]) -> Result<Vec<Why>, AllocError>
+    ensures { IfOk result (λ whys. (bytes.new, whys.items) ≡ in_exif (data_erased bytes.old)) }
 {
-    match apply(alloc, &Edit::EraseGps, Some(ENTRY_LIMIT), bytes) {
-        Ok(()) => Ok(if is_followed(alloc, bytes)? {
-            None
-        } else {
-            Some(Why::GpsNotFollowed)
-        }),
-        Err(Error::OutOfMemory) => Err(AllocError),
-        Err(_) => Ok(Some(Why::ExifNotChanged)),
-    }
+    let whys = exif_data_locations::erase_locations(alloc, bytes)?;
+    all_in_exif(alloc, whys.as_slice())
 }
 
 /// Erases the locations in the data of a part, and answers why it may still hold one.
-pub fn erase_part(alloc: Global, kind: Kind, bytes: &mut [u8]) -> Result<Option<Why>, AllocError>
-    ensures { IfOk result (λ why. (bytes.new, why) ≡ part_answer kind bytes.old) }
+pub fn erase_part(alloc: Global, kind: Kind, bytes: &mut [u8]) -> Result<Vec<Why>, AllocError>
+    ensures { IfOk result (λ whys. (bytes.new, whys.items) ≡ part_answer kind bytes.old) }
 {
     match kind {
         Kind::Exif => erase_exif(alloc, bytes),
-        Kind::Xmp => Ok(erase_xmp(bytes)),
-        Kind::Iptc => Ok(erase_iptc(bytes)),
+        Kind::Xmp => listed(alloc, erase_xmp(bytes)),
+        Kind::Iptc => listed(alloc, erase_iptc(bytes)),
         Kind::ExtendedXmp
         | Kind::Comment
         | Kind::ContentCredentials
         | Kind::Trailer
         | Kind::Unknown
-        | Kind::Broken => Ok(Some(Why::NotJudged)),
+        | Kind::Broken => listed(alloc, Some(Why::NotJudged)),
         Kind::Picture
         | Kind::Jfif
         | Kind::JfifThumbnail
         | Kind::Photoshop
         | Kind::IccProfile
         | Kind::Adobe
-        | Kind::MultiPicture => Ok(None),
+        | Kind::MultiPicture => listed(alloc, None),
     }
 }

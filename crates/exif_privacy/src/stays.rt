@@ -11,11 +11,8 @@ pub enum Why {
     XmpNotRead(xmp::Fault),
     /// The IPTC data can't be read, and are as they were.
     IptcNotRead(iptc::Fault),
-    /// The Exif data can't be read, or use the bytes of their GPS data twice; they are as they
-    /// were.
-    ExifNotChanged,
-    /// The Exif data have GPS pointers that are not followed.
-    GpsNotFollowed,
+    /// The Exif data may still hold one, for this reason.
+    InExif(exif_data_locations::Why),
     /// What it holds is not looked at.
     NotJudged,
 }
@@ -51,6 +48,33 @@ fn name_of(kind: Kind) -> &'static str {
     }
 }
 
+// Why Exif data, which are called this and are at this offset, may still hold a location.
+fn write_exif<W: fmt::Write>(
+    f: &mut fmt::Formatter<W>,
+    name: &str,
+    offset: usize,
+    why: exif_data_locations::Why,
+) -> fmt::Result {
+    match why {
+        exif_data_locations::Why::NotChanged => write!(
+            f,
+            "still there: {name} at offset {offset}, which can't be changed"
+        ),
+        exif_data_locations::Why::GpsShared => write!(
+            f,
+            "still there: GPS data of {name} at offset {offset}, which share their bytes"
+        ),
+        exif_data_locations::Why::GpsNotFollowed => write!(
+            f,
+            "GPS data may be left: GPS pointers of {name} at offset {offset} are not followed"
+        ),
+        other => write!(
+            f,
+            "a location may be left in {name} at offset {offset}: {other}"
+        ),
+    }
+}
+
 impl fmt::Display for Stays {
     fn fmt<W: fmt::Write>(&self, f: &mut fmt::Formatter<W>) -> fmt::Result {
         let name = name_of(self.part.kind);
@@ -64,14 +88,7 @@ impl fmt::Display for Stays {
                 f,
                 "still there: {name} at offset {offset}, which can't be read ({fault})"
             ),
-            Why::ExifNotChanged => write!(
-                f,
-                "still there: {name} at offset {offset}, which can't be changed"
-            ),
-            Why::GpsNotFollowed => write!(
-                f,
-                "GPS data may be left: GPS pointers of {name} at offset {offset} are not followed"
-            ),
+            Why::InExif(why) => write_exif(f, name, offset, why),
             Why::NotJudged => write!(
                 f,
                 "still there: {name} at offset {offset}, which may hold a location"

@@ -1,7 +1,7 @@
 use Rattle.std.proofs.Common.{Some, ap, sym, ◌∙◌}
+use Rattle.exif_data_locations.proofs.Refused.{xmp_refused}
 use Rattle.exif_privacy.specs.Parts.{or_stays}
 use Rattle.exif_privacy.specs.declared.stays.Why.TheVariants.{XmpNotRead}
-use Rattle.exif_privacy.proofs.Refused.{xmp_refused}
 use Rattle.exif_privacy.proofs.part.erase_xmp.Goals as goal
 
 pub returns-in-Err : goal.returns-in-Err

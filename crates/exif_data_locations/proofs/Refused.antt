@@ -1,5 +1,5 @@
 -- What can't be searched for locations can't have them erased, for the same reason.
-use Rattle.std.proofs.Common.{◌≡◌, ℕ, zero, suc, Bool, true, false, cond, nat_eq, List, [], ◌∷◌, length, drop, Result, Ok, Err, refl, ap}
+use Rattle.std.proofs.Common.{◌≡◌, ℕ, zero, suc, Bool, true, false, cond, nat_eq, List, [], ◌∷◌, length, drop, Result, Ok, Err, ap}
 use Rattle.exif_locations.specs.XmpErasing as xmp
 use Rattle.exif_locations.specs.IptcDatasets as iptc
 use Rattle.exif_locations.specs.IptcDatasets.{all_zero, dataset_at}

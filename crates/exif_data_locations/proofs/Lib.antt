@@ -1,0 +1,3 @@
+mod FieldSteps
+pub mod Refused
+mod ResourceSteps

@@ -1,0 +1,6 @@
+pub mod Erasing
+pub mod Examples
+pub mod FieldRegions
+pub mod Regions
+pub mod Resources
+pub mod Wanted

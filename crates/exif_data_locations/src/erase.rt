@@ -1,0 +1,170 @@
+//! The locations in Exif data.
+
+ghost use Rattle.std.specs.Prelude.{◌≡◌, ◌<◌, ◌^◌, length, All, IfOk, OnOk};
+ghost use Rattle.exif_data_locations.specs.Erasing.{checked, data_erased, fields_erased, gps_erased, has_number, if_read, noted_if, read_erased, unread_noted};
+ghost use Rattle.exif_data_locations.specs.Regions.{LiesIn, regions_erased};
+ghost use Rattle.exif_data_locations.specs.Wanted.{wanted};
+ghost use Rattle.exif_edit_base.specs.Readings.{read_of};
+
+use crate::field::regions_of;
+use crate::gps::{erase_gps, unchanged};
+use crate::region::{Region, erase_regions};
+use crate::wanted::set_all_wanted;
+use crate::why::Why;
+use exif_edit_base::limit::check_limit;
+use exif_edit_base::read::{locate, order_named, reads_as};
+use exif_edit_base::{EntryOffset, Error, Located};
+use exif_reader::stop::Stop;
+use exif_reader::tiff::Parsed;
+use exif_types::Field;
+use std::alloc::{AllocError, Global};
+
+// How many entries are read at most.
+const ENTRY_LIMIT: u64 = 1_000_000;
+
+// Notes a reason, if a test holds.
+fn note_if(test: bool, why: Why, whys: &mut Vec<Why>) -> Result<(), AllocError>
+    ensures { OnOk result (whys.new.items ≡ noted_if test why whys.old.items) }
+{
+    if test {
+        whys.push(why)?;
+    }
+    Ok(())
+}
+
+// Whether a field has this number in its tag.
+fn has_number(number: u16, fields: &[Field]) -> bool
+    ensures { result ≡ has_number number fields.now }
+{
+    for field in fields {
+        if field.tag.1 == number {
+            return true;
+        }
+    }
+    false
+}
+
+// Notes why what was not read may be a location.
+fn note_unread(parsed: &Parsed, whys: &mut Vec<Why>) -> Result<(), AllocError>
+    ensures { OnOk result (whys.new.items
+        ≡ unread_noted (read_of parsed.now) whys.old.items) }
+{
+    let fields = parsed.fields.as_slice();
+    note_if(!parsed.faults.is_empty(), Why::NotReadWhole, whys)?;
+    note_if(has_number(330, fields), Why::SubIfdsNotRead, whys)?;
+    note_if(has_number(37500, fields), Why::MakerNote, whys)
+}
+
+// Puts new data over the old ones, if they are read as it is wanted.
+fn put_if_read(
+    alloc: Global,
+    bytes: &mut [u8],
+    new: &[u8],
+    entries: &[EntryOffset],
+    mut parsed: Parsed,
+    whys: &mut Vec<Why>,
+) -> Result<(), AllocError>
+    requires long { length new.now ≡ length bytes.old }
+    requires small { length bytes.old < 2 ^ 32 }
+    ensures { OnOk result ((bytes.new, whys.new.items)
+        ≡ if_read (read_of parsed) entries.now bytes.old (new.now, whys.old.items)) }
+{
+    let order = order_named(parsed.little_endian);
+    set_all_wanted(
+        alloc,
+        order,
+        bytes,
+        new,
+        entries,
+        parsed.fields.as_mut_slice(),
+    )?;
+    if reads_as(alloc, new, &parsed)? {
+        bytes.copy_from_slice(new);
+    } else {
+        whys.push(Why::Shared)?;
+    }
+    Ok(())
+}
+
+// Erases the locations of regions, if the data are read as it is wanted then.
+fn erase_checked(
+    alloc: Global,
+    bytes: &mut [u8],
+    regions: &[Region],
+    entries: &[EntryOffset],
+    parsed: Parsed,
+    whys: &mut Vec<Why>,
+) -> Result<(), AllocError>
+    requires within { All (LiesIn (length bytes.old)) regions.now }
+    requires small { length bytes.old < 2 ^ 32 }
+    ensures { OnOk result ((bytes.new, whys.new.items)
+        ≡ checked (read_of parsed) entries.now bytes.old regions.now whys.old.items) }
+{
+    if regions.is_empty() {
+        return Ok(());
+    }
+    let mut new = Vec::from_slice(alloc, bytes)?;
+    erase_regions(new.as_mut_slice(), regions, whys)?;
+    put_if_read(alloc, bytes, new.as_slice(), entries, parsed, whys)
+}
+
+// Erases the locations of fields that were read.
+fn erase_read(
+    alloc: Global,
+    bytes: &mut [u8],
+    entries: &[EntryOffset],
+    parsed: Parsed,
+    whys: &mut Vec<Why>,
+) -> Result<(), AllocError>
+    requires small { length bytes.old < 2 ^ 32 }
+    ensures { OnOk result ((bytes.new, whys.new.items)
+        ≡ read_erased (read_of parsed) entries.now bytes.old whys.old.items) }
+{
+    let order = order_named(parsed.little_endian);
+    let regions = regions_of(alloc, order, bytes, parsed.fields.as_slice(), entries)?;
+    note_unread(&parsed, whys)?;
+    erase_checked(alloc, bytes, regions.as_slice(), entries, parsed, whys)
+}
+
+// Erases the locations of fields.
+fn erase_fields(alloc: Global, bytes: &mut [u8], whys: &mut Vec<Why>) -> Result<(), AllocError>
+    ensures { OnOk result ((bytes.new, whys.new.items)
+        ≡ fields_erased (bytes.old, whys.old.items)) }
+{
+    match locate(alloc, bytes) {
+        Ok(Located { parsed, walk }) => erase_read(alloc, bytes, walk.entries(), parsed, whys),
+        Err(Stop::Fault(_)) => Ok(()),
+        Err(Stop::OutOfMemory) => Err(AllocError),
+    }
+}
+
+// Erases GPS data and the locations of fields.
+fn erase_all(alloc: Global, bytes: &mut [u8]) -> Result<Vec<Why>, AllocError>
+    ensures { IfOk result (λ whys. (bytes.new, whys.items)
+        ≡ fields_erased (gps_erased bytes.old)) }
+{
+    let mut whys = erase_gps(alloc, bytes)?;
+    erase_fields(alloc, bytes, &mut whys)?;
+    Ok(whys)
+}
+
+/// Erases the locations in Exif data, in place, and answers why there may still be one. A TIFF file
+/// is Exif data, too.
+///
+/// Erased are the GPS data, as [`exif_edit::Edit::EraseGps`] does; the locations in the XMP packet
+/// of tag 700, in the IPTC data of tag 33723, and in both where the resources of Photoshop of tag
+/// 34377 have them; and the values of the tags of GeoTIFF. All other bytes stay, and so do all
+/// these but for GPS data where the data would not be read as before then, because bytes have two
+/// uses. Data with more than 1,000,000 entries stay whole.
+///
+/// It takes the memory of two readings and of a copy of the data. Out of memory leaves the data as
+/// they were, or without their GPS data.
+pub fn erase_locations(alloc: Global, bytes: &mut [u8]) -> Result<Vec<Why>, AllocError>
+    ensures { IfOk result (λ whys. (bytes.new, whys.items) ≡ data_erased bytes.old) }
+{
+    match check_limit(alloc, bytes, Some(ENTRY_LIMIT)) {
+        Ok(()) => erase_all(alloc, bytes),
+        Err(Error::OutOfMemory) => Err(AllocError),
+        Err(_) => unchanged(alloc),
+    }
+}

@@ -1,0 +1,17 @@
+//! Locations in Exif data, erased in place.
+//!
+//! [`erase_locations`] works on the Exif data of a file, and on a TIFF file, which has the same
+//! form. It erases GPS data, and the locations in XMP packets, IPTC data, resources of Photoshop
+//! and GeoTIFF tags, and answers why a location may still be there.
+#![tactic(auto)]
+
+mod erase;
+mod field;
+mod gps;
+mod region;
+mod resource;
+mod wanted;
+mod why;
+
+pub use erase::erase_locations;
+pub use why::Why;

@@ -1,0 +1,105 @@
+//! Regions of Exif data, and the locations in them.
+
+ghost use Rattle.std.specs.Prelude.{◌≡◌, ◌+◌, ◌≤◌, length, replicate, All, OnOk};
+ghost use Rattle.exif_data_locations.specs.Regions.{LiesIn, iptc_answer, region_erased, regions_erased, what_answer, xmp_answer};
+
+use crate::why::Why;
+use exif_locations::{iptc, xmp};
+use std::alloc::{AllocError, Global};
+
+/// What a region of Exif data holds.
+#[derive(Clone, Copy)]
+pub enum What {
+    /// An XMP packet.
+    Xmp,
+    /// IPTC data.
+    Iptc,
+    /// A value of a GeoTIFF tag.
+    GeoTiff,
+    /// Nothing that is known to say a location.
+    Other,
+    /// What may say one and stays, for this reason.
+    Left(Why),
+}
+
+/// So many bytes of Exif data from an offset on, which are of a field with this tag.
+#[derive(Clone, Copy)]
+pub struct Region {
+    pub tag: u16,
+    pub offset: usize,
+    pub len: usize,
+    pub what: What,
+}
+
+// Erases the locations of an XMP packet.
+fn erase_xmp(tag: u16, bytes: &mut [u8]) -> Option<Why>
+    ensures { (bytes.new, result) ≡ xmp_answer tag bytes.old }
+{
+    match xmp::erase_locations(bytes) {
+        Ok(_) => None,
+        Err(fault) => Some(Why::XmpNotRead(tag, fault)),
+    }
+}
+
+// Erases the locations of IPTC data.
+fn erase_iptc(tag: u16, bytes: &mut [u8]) -> Option<Why>
+    ensures { (bytes.new, result) ≡ iptc_answer tag bytes.old }
+{
+    match iptc::erase_locations(bytes) {
+        Ok(_) => None,
+        Err(fault) => Some(Why::IptcNotRead(tag, fault)),
+    }
+}
+
+// Makes zeros of all bytes.
+fn zero(bytes: &mut [u8])
+    ensures { bytes.new ≡ replicate (length bytes.old) 0 }
+{
+    bytes.fill(0);
+}
+
+// Erases the locations in what a region holds, and answers why it may still hold one.
+fn erase_what(tag: u16, what: What, bytes: &mut [u8]) -> Option<Why>
+    ensures { (bytes.new, result) ≡ what_answer tag what bytes.old }
+{
+    match what {
+        What::Xmp => erase_xmp(tag, bytes),
+        What::Iptc => erase_iptc(tag, bytes),
+        What::GeoTiff => {
+            zero(bytes);
+            None
+        }
+        What::Other => None,
+        What::Left(why) => Some(why),
+    }
+}
+
+// Erases the locations in one region, and notes why it may still hold one.
+fn erase_region(bytes: &mut [u8], region: Region, whys: &mut Vec<Why>) -> Result<(), AllocError>
+    requires { LiesIn (length bytes.old) region }
+    ensures { OnOk result ((bytes.new, whys.new.items)
+        ≡ region_erased region (bytes.old, whys.old.items)) }
+{
+    let end = region.offset + region.len;
+    let content = &mut bytes[region.offset..end];
+    if let Some(why) = erase_what(region.tag, region.what, content) {
+        whys.push(why)?;
+    }
+    Ok(())
+}
+
+/// Erases the locations in regions, one after the other, and notes why they may still hold one.
+pub fn erase_regions(
+    bytes: &mut [u8],
+    regions: &[Region],
+    whys: &mut Vec<Why>,
+) -> Result<(), AllocError>
+    requires { All (LiesIn (length bytes.old)) regions.now }
+    ensures { OnOk result ((bytes.new, whys.new.items)
+        ≡ regions_erased regions.now (bytes.old, whys.old.items)) }
+{
+    for region in regions {
+        erase_region(bytes, *region, whys)?;
+    }
+    Ok(())
+}

@@ -1,0 +1,60 @@
+//! Why Exif data may still hold a location.
+
+use exif_locations::{iptc, xmp};
+use std::fmt;
+
+/// Why Exif data may still hold a location.
+#[derive(Clone, Copy, Debug)]
+pub enum Why {
+    /// The data can't be read, or have too many entries: they are as they were.
+    NotChanged,
+    /// GPS data use bytes that have another use, too: they are as they were.
+    GpsShared,
+    /// GPS pointers are not followed.
+    GpsNotFollowed,
+    /// Not all of the data can be read.
+    NotReadWhole,
+    /// SubIFDs are not read, and may hold XMP.
+    SubIfdsNotRead,
+    /// There is a maker note, which is not read.
+    MakerNote,
+    /// The XMP packet of this tag can't be read, and is as it was.
+    XmpNotRead(u16, xmp::Fault),
+    /// The IPTC data of this tag can't be read, and are as they were.
+    IptcNotRead(u16, iptc::Fault),
+    /// Resources of Photoshop can't be read, and are as they were.
+    ResourcesNotRead,
+    /// A resource of Photoshop holds Exif data of its own.
+    ExifResource,
+    /// The value of this tag has a type that is not known.
+    TypeNotKnown(u16),
+    /// XMP, IPTC data, resources of Photoshop or GeoTIFF tags use bytes that have another use, too:
+    /// all of these are as they were.
+    Shared,
+}
+
+impl fmt::Display for Why {
+    fn fmt<W: fmt::Write>(&self, f: &mut fmt::Formatter<W>) -> fmt::Result {
+        match self {
+            Why::NotChanged => write!(f, "the data can't be read"),
+            Why::GpsShared => write!(f, "GPS data share their bytes with other data"),
+            Why::GpsNotFollowed => write!(f, "GPS pointers are not followed"),
+            Why::NotReadWhole => write!(f, "some of the data can't be read"),
+            Why::SubIfdsNotRead => write!(f, "SubIFDs are not read"),
+            Why::MakerNote => write!(f, "the maker note is not read"),
+            Why::XmpNotRead(tag, fault) => {
+                write!(f, "the XMP packet of tag {tag} can't be read ({fault})")
+            }
+            Why::IptcNotRead(tag, fault) => {
+                write!(f, "the IPTC data of tag {tag} can't be read ({fault})")
+            }
+            Why::ResourcesNotRead => write!(f, "resources of Photoshop can't be read"),
+            Why::ExifResource => write!(f, "a resource of Photoshop holds Exif data"),
+            Why::TypeNotKnown(tag) => write!(f, "the type of tag {tag} is not known"),
+            Why::Shared => write!(
+                f,
+                "XMP, IPTC or GeoTIFF data share their bytes with other data"
+            ),
+        }
+    }
+}

@@ -1,1 +1,0 @@
--- Parts one after the other.
