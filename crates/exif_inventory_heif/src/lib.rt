@@ -1,0 +1,11 @@
+//! The parts of a HEIF or AVIF file: which bytes make up the picture, and which hold metadata.
+//!
+//! [`inventory`] lists the parts of a file in order, from its first byte to its last.
+#![tactic(auto)]
+
+mod boxes;
+mod items;
+mod piece;
+mod role;
+mod span;
+mod walk;
