@@ -48,7 +48,7 @@ is_picture_type name =
     || bytes_eq name (codes "tmap")
 
 -- what the data of an item of a type are; its name and more follow
-abbrev pub type_kind : List ℕ → List ℕ → Kind
+unfoldable pub type_kind : List ℕ → List ℕ → Kind
 type_kind name bytes =
     if is_picture_type name then kind.Picture else
     if bytes_eq name (codes "Exif") then kind.Exif else
@@ -101,12 +101,14 @@ count_width version = if version == 0 then 2 else 4
 abbrev pub counted_items : ℕ → List ℕ → Option (List Item)
 counted_items count bytes = if nat_lt 16384 count then None else items_in count bytes
 
+-- the items of a list whose count has this width
+abbrev pub wide_count : ℕ → List ℕ → Option (List Item)
+wide_count width body = counted_items (number width (drop 4 body)) (drop (4 + width) body)
+
 -- the items of a list, if it can be read
 unfoldable pub items_of : List ℕ → Option (List Item)
 items_of body =
-    let width = count_width (slice_index body 0) in
-    if nat_lt (length body) 8 then None
-    else counted_items (number width (drop 4 body)) (drop (4 + width) body)
+    if nat_lt (length body) 8 then None else wide_count (count_width (slice_index body 0)) body
 
 -- whether an item has this number
 abbrev pub is_listed : ℕ → List Item → Bool

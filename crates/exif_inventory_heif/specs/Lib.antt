@@ -5,3 +5,5 @@ pub mod Pieces
 pub mod Walks
 pub mod Loops
 pub mod Items
+pub mod Extents
+pub mod Carving

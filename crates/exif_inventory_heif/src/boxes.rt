@@ -4,6 +4,7 @@ ghost use Rattle.std.specs.Prelude.{◌≡◌, ◌<◌, ◌≤◌, length, take,
 ghost use Rattle.exif_inventory_heif.specs.Boxes.{checked, head_of, name_of, content_of, number};
 
 /// The number in the first bytes, the highest first, where there are 2, 4 or 8; else 0.
+#[tactic(auto, unfolding(crate::specs::Boxes::number))]
 pub fn number(width: usize, bytes: &[u8]) -> usize
     requires { width ≤ length bytes.now }
     ensures { result ≡ number width bytes.now }

@@ -4,6 +4,8 @@
 #![tactic(auto)]
 
 mod boxes;
+mod carve;
+mod extents;
 mod items;
 mod piece;
 mod role;
