@@ -145,7 +145,7 @@ wide_entries w items room bytes =
     counted_entries w items room (number w.number bytes) (drop w.number bytes)
 
 -- whether a list of this version, with entries of these widths, can be read
-abbrev pub is_known : ℕ → Widths → Bool
+unfoldable pub is_known : ℕ → Widths → Bool
 is_known version w = nat_le version 2 && are_widths w
 
 -- the extents of a list of this version, with entries of these widths, if it can be read

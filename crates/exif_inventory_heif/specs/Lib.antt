@@ -7,3 +7,5 @@ pub mod Loops
 pub mod Items
 pub mod Extents
 pub mod Carving
+pub mod Inventories
+pub mod Examples

@@ -31,9 +31,14 @@ part_kind judged (Known k) = k
 part_kind judged Movie = kind.Unknown
 part_kind judged role = if judged then kind.Picture else kind.Unknown
 
--- where the data of a span begin
+-- where the data of a span of this role begin: with it, if it may hold both
+abbrev pub data_within : Role → Span → ℕ
+data_within (Known k) span = span.content
+data_within Movie span = span.content
+data_within role span = span.from
+
 abbrev pub data_from : Span → ℕ
-data_from span = elim span.role [ Known k ↦ span.content | Movie ↦ span.content | _ ↦ span.from ]
+data_from span = data_within span.role span
 
 -- the part of the file that a span is
 abbrev pub part_of : Bool → Span → Part

@@ -357,6 +357,7 @@ fn wide_entries(
 }
 
 // Whether a list of this version, with entries of these widths, can be read.
+#[tactic(auto, unfolding(crate::specs::Extents::is_known))]
 fn is_known(version: u8, w: Widths) -> bool
     ensures { result ≡ is_known version w }
 {

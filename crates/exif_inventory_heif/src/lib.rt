@@ -7,7 +7,10 @@ mod boxes;
 mod carve;
 mod extents;
 mod items;
+mod parts;
 mod piece;
 mod role;
 mod span;
 mod walk;
+
+pub use parts::inventory;
