@@ -1,5 +1,5 @@
 -- The entries of items, one after the other.
-use Rattle.std.proofs.Common.{◌≡◌, ◌<◌, ◌+◌, ◌-◌, ℕ, List, [], ◌∷◌, ◌++◌, drop, Option, Some, None, ap}
+use Rattle.std.proofs.Common.{◌≡◌, ◌<◌, ◌+◌, ◌-◌, ℕ, List, [], ◌∷◌, ◌++◌, drop, Some, None, ap}
 use Rattle.std.specs.Option.{option_map}
 use Rattle.exif_inventory_heif.specs.Items.{item_entry, item_step}
 use Rattle.exif_inventory_heif.specs.Loops.{repeated}

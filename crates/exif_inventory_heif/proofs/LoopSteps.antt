@@ -1,5 +1,5 @@
 -- Steps one after the other.
-use Rattle.std.proofs.Common.{◌≡◌, ◌<◌, ◌≤◌, ◌+◌, ◌-◌, ℕ, zero, suc, Option, Some, None, refl, ap, sym, ◌∙◌, arith}
+use Rattle.std.proofs.Common.{◌≡◌, ◌<◌, ◌≤◌, ◌+◌, ◌-◌, ℕ, suc, Option, Some, None, ap, sym, ◌∙◌, arith}
 use Rattle.exif_inventory_heif.specs.Loops.{and_then, repeated}
 
 one_less : (n i : ℕ) → i < n → n - i ≡ suc (n - (i + 1))

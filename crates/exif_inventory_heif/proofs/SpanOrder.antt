@@ -1,11 +1,10 @@
 -- Spans in order stay so where an extent is cut out.
-use Rattle.std.proofs.Common.{◌≡◌, ◌<◌, ◌≤◌, ◌+◌, ◌-◌, ℕ, Bool, true, false, cond, ltb, List, [], ◌∷◌, ◌++◌, length, drop, Option, Some, None, refl, ap, sym, subst, arith}
+use Rattle.std.proofs.Common.{◌≡◌, ◌<◌, ◌≤◌, ◌+◌, ◌-◌, ℕ, Bool, true, false, cond, ltb, List, [], ◌∷◌, ◌++◌, drop, Option, Some, None, refl, sym, subst, arith}
 use Rattle.std.proofs.lemmas.Bool.Decides.{nat_tests}
-use Rattle.std.specs.List.{flat_map}
 use Rattle.exif_inventory.specs.declared.kind.Kind.{Kind}
 use Rattle.exif_inventory.specs.declared.kind.Kind.TheVariants as kind
 use Rattle.exif_inventory_heif.specs.Boxes.{number}
-use Rattle.exif_inventory_heif.specs.Carving.{are_many, before, behind, carve_each, carve_one, carved, cut, cut_one, exif_content, exif_span, holds, is_alone, is_held, is_picture, item_span, kind_span, offset_behind, pieces, some_span}
+use Rattle.exif_inventory_heif.specs.Carving.{before, behind, carve_each, carve_one, carved, cut, cut_one, exif_content, exif_span, holds, item_span, kind_span, offset_behind, pieces, some_span}
 use Rattle.exif_inventory_heif.specs.Walks.{AreSpans}
 use Rattle.exif_inventory_heif.specs.declared.extents.Extent.{Extent}
 use Rattle.exif_inventory_heif.specs.declared.span.Span.{Span}

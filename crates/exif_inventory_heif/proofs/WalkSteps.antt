@@ -76,7 +76,7 @@ one_on start file state from bytes found w some positive within framed =
     let before : from + length bytes ≡ length file = w.ends in
     record {
       spans_are = w.spans_are ∙ ap (λ spans. found ++ spans) (walked_on state from bytes some positive)
-      ∙ sym (append_assoc found (span_at from piece ∷ []) (walked (length rest) piece.next (from + piece.len) rest));
+          ∙ sym (append_assoc found (span_at from piece ∷ []) (walked (length rest) piece.next (from + piece.len) rest));
       ends = omega arith;
       ordered = behind_ordered 0 found from (span_at from piece) w.ordered refl (omega arith) (omega arith);
     }

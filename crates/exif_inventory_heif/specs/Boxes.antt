@@ -1,5 +1,5 @@
 -- The headers of boxes (ISO/IEC 14496-12, 4.2).
-use Rattle.std.specs.Prelude.{ℕ, ◌+◌, ◌-◌, List, [], ◌∷◌, length, take, drop, slice_index, nat_lt, ◌||◌, ◌==◌, Option, Some, None, if◌then◌else◌}
+use Rattle.std.specs.Prelude.{ℕ, ◌-◌, List, length, take, drop, nat_lt, ◌||◌, ◌==◌, Option, Some, None, if◌then◌else◌}
 use Rattle.std.specs.Int.{from_be_bytes, w16, w32, w64}
 use Rattle.exif_inventory_heif.specs.declared.boxes.Head.{Head}
 
@@ -21,7 +21,7 @@ sized_head size bytes =
     if size == 0 then checked 8 (length bytes) (length bytes) else
     if size == 1
     then (if nat_lt (length bytes) 16 then None
-      else checked 16 (number 8 (drop 8 bytes)) (length bytes))
+    else checked 16 (number 8 (drop 8 bytes)) (length bytes))
     else checked 8 size (length bytes)
 
 -- the header at the front of bytes, if the box is whole

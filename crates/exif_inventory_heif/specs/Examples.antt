@@ -51,10 +51,10 @@ abbrev three_items : List ℕ
 three_items =
     brands
     ++ meta 167 (
-      0 ∷ 0 ∷ 0 ∷ 97 ∷ codes "iinf" ++ 0 ∷ 0 ∷ 0 ∷ 0 ∷ 0 ∷ 3 ∷ entry 1 (codes "hvc1")
-      ++ entry 2 (codes "Exif") ++ xmp_entry 3
-      ++ 0 ∷ 0 ∷ 0 ∷ 58 ∷ codes "iloc" ++ 0 ∷ 0 ∷ 0 ∷ 0 ∷ 0x44 ∷ 0 ∷ 0 ∷ 3 ∷ location 1 195 3
-      ++ location 2 198 6 ++ location 3 204 2)
+    0 ∷ 0 ∷ 0 ∷ 97 ∷ codes "iinf" ++ 0 ∷ 0 ∷ 0 ∷ 0 ∷ 0 ∷ 3 ∷ entry 1 (codes "hvc1")
+    ++ entry 2 (codes "Exif") ++ xmp_entry 3
+    ++ 0 ∷ 0 ∷ 0 ∷ 58 ∷ codes "iloc" ++ 0 ∷ 0 ∷ 0 ∷ 0 ∷ 0x44 ∷ 0 ∷ 0 ∷ 3 ∷ location 1 195 3
+    ++ location 2 198 6 ++ location 3 204 2)
     ++ 0 ∷ 0 ∷ 0 ∷ 20 ∷ codes "mdat" ++ 1 ∷ 2 ∷ 3 ∷ 0 ∷ 0 ∷ 0 ∷ 0 ∷ 4 ∷ 5 ∷ 6 ∷ 7 ∷ 8 ∷ []
 
 parts_of_three : heif_inventory three_items
@@ -70,10 +70,10 @@ abbrev shared : List ℕ
 shared =
     brands
     ++ meta 112 (
-      0 ∷ 0 ∷ 0 ∷ 56 ∷ codes "iinf" ++ 0 ∷ 0 ∷ 0 ∷ 0 ∷ 0 ∷ 2 ∷ entry 1 (codes "hvc1")
-      ++ entry 2 (codes "Exif")
-      ++ 0 ∷ 0 ∷ 0 ∷ 44 ∷ codes "iloc" ++ 0 ∷ 0 ∷ 0 ∷ 0 ∷ 0x44 ∷ 0 ∷ 0 ∷ 2 ∷ location 1 140 3
-      ++ location 2 142 4)
+    0 ∷ 0 ∷ 0 ∷ 56 ∷ codes "iinf" ++ 0 ∷ 0 ∷ 0 ∷ 0 ∷ 0 ∷ 2 ∷ entry 1 (codes "hvc1")
+    ++ entry 2 (codes "Exif")
+    ++ 0 ∷ 0 ∷ 0 ∷ 44 ∷ codes "iloc" ++ 0 ∷ 0 ∷ 0 ∷ 0 ∷ 0x44 ∷ 0 ∷ 0 ∷ 2 ∷ location 1 140 3
+    ++ location 2 142 4)
     ++ 0 ∷ 0 ∷ 0 ∷ 16 ∷ codes "mdat" ++ 1 ∷ 2 ∷ 3 ∷ 4 ∷ 5 ∷ 6 ∷ 7 ∷ 8 ∷ []
 
 parts_of_shared : heif_inventory shared

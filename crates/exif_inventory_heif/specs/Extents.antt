@@ -1,11 +1,11 @@
 -- Where the data of the items are (ISO/IEC 14496-12, 8.11.3).
-use Rattle.std.specs.Prelude.{ℕ, ◌+◌, ◌*◌, ◌/◌, ◌%◌, ◌^◌, max, List, [], ◌∷◌, ◌++◌, length, drop, slice_index, nat_lt, nat_le, Bool, true, false, not, ◌&&◌, ◌||◌, ◌==◌, Option, Some, None, if◌then◌else◌}
+use Rattle.std.specs.Prelude.{ℕ, ◌+◌, ◌/◌, ◌%◌, ◌^◌, max, List, [], ◌∷◌, ◌++◌, length, drop, slice_index, nat_lt, nat_le, Bool, not, ◌&&◌, ◌||◌, ◌==◌, Option, Some, None, if◌then◌else◌}
 use Rattle.std.specs.Option.{option_map}
 use Rattle.exif_inventory.specs.declared.kind.Kind.{Kind}
 use Rattle.exif_inventory.specs.declared.kind.Kind.TheVariants as kind
 use Rattle.exif_inventory_heif.specs.Boxes.{number}
 use Rattle.exif_inventory_heif.specs.Items.{kind_of}
-use Rattle.exif_inventory_heif.specs.Loops.{and_then, repeated}
+use Rattle.exif_inventory_heif.specs.Loops.{repeated}
 use Rattle.exif_inventory_heif.specs.declared.extents.EntryHead.{EntryHead}
 use Rattle.exif_inventory_heif.specs.declared.extents.Extent.{Extent}
 use Rattle.exif_inventory_heif.specs.declared.extents.Reading.{Reading}
@@ -94,7 +94,7 @@ unfoldable pub extent_at : Widths → Source → ℕ → Kind → List ℕ → O
 extent_at w source base k bytes =
     if nat_lt (length bytes) (extent_len w) then None
     else extent_from source k (source.from + base + number w.offset (drop w.index bytes))
-      (number w.len (drop (w.index + w.offset) bytes))
+    (number w.len (drop (w.index + w.offset) bytes))
 
 -- one extent more
 abbrev pub extent_step : Widths → Source → ℕ → Kind → List ℕ × List Extent
@@ -102,7 +102,7 @@ abbrev pub extent_step : Widths → Source → ℕ → Kind → List ℕ × List
 extent_step w source base k (rest, found) =
     if nat_le 65536 (length found) then None
     else option_map (λ extent. (drop (extent_len w) rest, found ++ extent ∷ []))
-      (extent_at w source base k rest)
+    (extent_at w source base k rest)
 
 -- what the data of an item are: metadata in more than one extent can't be read alone
 abbrev pub item_kind : Kind → ℕ → Kind
@@ -158,4 +158,4 @@ unfoldable pub extents_of : List Item → Room → List ℕ → Option (List Ext
 extents_of items room body =
     if nat_lt (length body) 10 then None
     else known_entries (slice_index body 0)
-      (widths_of (slice_index body 0) (number 2 (drop 4 body))) items room body
+    (widths_of (slice_index body 0) (number 2 (drop 4 body))) items room body

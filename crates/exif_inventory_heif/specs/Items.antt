@@ -1,6 +1,6 @@
 -- The items of a file, and what the data of each are (ISO/IEC 14496-12, 8.11.6; ISO/IEC 23008-12,
 -- 6.4.2, 6.6.2, annex A).
-use Rattle.std.specs.Prelude.{ℕ, suc, ◌+◌, List, [], ◌∷◌, ◌++◌, length, take, drop, slice_index, codes, nat_lt, nat_le, Bool, true, false, ◌&&◌, ◌||◌, ◌==◌, Option, Some, None, if◌then◌else◌}
+use Rattle.std.specs.Prelude.{ℕ, suc, ◌+◌, List, [], ◌∷◌, ◌++◌, length, take, drop, slice_index, codes, nat_lt, nat_le, Bool, true, ◌&&◌, ◌||◌, ◌==◌, Option, Some, None, if◌then◌else◌}
 use Rattle.std.specs.List.{list_any}
 use Rattle.std.specs.Option.{option_map}
 use Rattle.std.specs.Str.{bytes_eq}
@@ -77,7 +77,7 @@ abbrev pub headed_entry : List ℕ → Head → Option ItemEntry
 headed_entry bytes head =
     if bytes_eq (name_of bytes) (codes "infe")
     then option_map (λ item. record { item = item; len = head.len })
-      (item_of (content_of head bytes))
+    (item_of (content_of head bytes))
     else None
 
 -- the entry at the front of bytes

@@ -1,6 +1,6 @@
 -- The pieces of a file: its boxes, the header of its first `meta`, and the boxes in that
 -- (ISO/IEC 14496-12, 4.2, 8.11.1).
-use Rattle.std.specs.Prelude.{ℕ, suc, zero, ◌+◌, ◌-◌, min, List, length, take, codes, nat_lt, Bool, true, false, Option, Some, None, if◌then◌else◌}
+use Rattle.std.specs.Prelude.{ℕ, suc, zero, ◌+◌, ◌-◌, min, List, length, take, codes, nat_lt, Bool, false, Option, Some, None, if◌then◌else◌}
 use Rattle.std.specs.Str.{bytes_eq}
 use Rattle.exif_inventory.specs.declared.kind.Kind.TheVariants as kind
 use Rattle.exif_inventory_heif.specs.Boxes.{content_of, head_of, name_of}

@@ -1,5 +1,5 @@
 -- Spans of a file, each with its role.
-use Rattle.std.specs.Prelude.{ℕ, ◌-◌, List, [], ◌∷◌, take, drop, Bool, true, false, Option, Some, None, if◌then◌else◌}
+use Rattle.std.specs.Prelude.{ℕ, ◌-◌, List, [], ◌∷◌, take, drop, Bool, Option, Some, None, if◌then◌else◌}
 use Rattle.std.specs.List.{list_any}
 use Rattle.exif_inventory.specs.declared.kind.Kind.{Kind}
 use Rattle.exif_inventory.specs.declared.kind.Kind.TheVariants as kind

@@ -175,12 +175,7 @@ fn push_cut(
 }
 
 // Spans with an extent cut out of the one that holds it.
-fn cut(
-    alloc: Global,
-    file: &[u8],
-    extent: Extent,
-    spans: &[Span],
-) -> Result<Vec<Span>, AllocError>
+fn cut(alloc: Global, file: &[u8], extent: Extent, spans: &[Span]) -> Result<Vec<Span>, AllocError>
     ensures { IfOk result (λ v. v.items ≡ cut file.now extent spans.now) }
 {
     let mut found = Vec::new(alloc);

@@ -78,11 +78,7 @@ fn widths_of(version: u8, packed: usize) -> Widths
         number: if version == 2 { 4 } else { 2 },
         method: if version == 0 { 0 } else { 2 },
         base: (packed / 16 % 16) as u8,
-        index: if version == 0 {
-            0
-        } else {
-            (packed % 16) as u8
-        },
+        index: if version == 0 { 0 } else { (packed % 16) as u8 },
         offset: (packed / 4096 % 16) as u8,
         len: (packed / 256 % 16) as u8,
     }
@@ -259,13 +255,7 @@ fn item_kind(kind: Kind, count: usize) -> Kind
 {
     match kind {
         Kind::Picture => Kind::Picture,
-        _ => {
-            if count == 1 {
-                kind
-            } else {
-                Kind::Unknown
-            }
-        }
+        _ => { if count == 1 { kind } else { Kind::Unknown } }
     }
 }
 

@@ -94,11 +94,7 @@ fn extents_with(
 }
 
 // The extents of the items of a file with these spans.
-fn extents_in(
-    alloc: Global,
-    file: &[u8],
-    spans: &[Span],
-) -> Result<Option<Vec<Extent>>, AllocError>
+fn extents_in(alloc: Global, file: &[u8], spans: &[Span]) -> Result<Option<Vec<Extent>>, AllocError>
     ensures { IfOk result
         (λ extents. option_map (λ v. v.items) extents ≡ extents_in file.now spans.now) }
 {

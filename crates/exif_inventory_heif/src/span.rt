@@ -65,13 +65,7 @@ fn part_kind(judged: bool, role: Role) -> Kind
     match role {
         Role::Known(kind) => kind,
         Role::Movie => Kind::Unknown,
-        _ => {
-            if judged {
-                Kind::Picture
-            } else {
-                Kind::Unknown
-            }
-        }
+        _ => { if judged { Kind::Picture } else { Kind::Unknown } }
     }
 }
 

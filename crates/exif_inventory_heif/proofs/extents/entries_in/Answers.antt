@@ -1,4 +1,4 @@
-use Rattle.std.proofs.Common.{◌≡◌, ap, sym, ◌∙◌}
+use Rattle.std.proofs.Common.{ap, sym, ◌∙◌}
 use Rattle.std.specs.Option.{option_map}
 use Rattle.exif_inventory_heif.specs.Extents.{entries_in, entry_step, read_view}
 use Rattle.exif_inventory_heif.proofs.LoopSteps.{step_on, step_fails, steps_over}

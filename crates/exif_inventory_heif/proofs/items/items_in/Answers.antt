@@ -1,4 +1,4 @@
-use Rattle.std.proofs.Common.{◌≡◌, ◌-◌, length, take, drop, [], None, ap, sym, ◌∙◌, arith, rules}
+use Rattle.std.proofs.Common.{ap, sym, ◌∙◌, rules}
 use Rattle.std.proofs.lemmas.List.{take_rest}
 use Rattle.std.specs.Option.{option_map}
 use Rattle.exif_inventory_heif.specs.Items.{item_step, items_in}

@@ -1,5 +1,4 @@
-use Rattle.std.proofs.Common.{◌≡◌, ap, sym, ◌∙◌, rules}
-use Rattle.exif_inventory_heif.specs.Inventories.{judged_parts}
+use Rattle.std.proofs.Common.{rules}
 use Rattle.exif_inventory_heif.proofs.PartOrder.{parts_are}
 use Rattle.exif_inventory_heif.proofs.parts.parts_of.Goals as goal
 
