@@ -4,9 +4,9 @@ use Rattle.std.proofs.lemmas.List.Elements.{All-cons, All-nil}
 use Rattle.exif_inventory.proofs.WalkSteps.{all_inside}
 use Rattle.exif_inventory.specs.Promises.{AreInOrder, EndsIn, IsWithin}
 use Rattle.exif_inventory.specs.declared.part.Part.{Part}
-use Rattle.exif_inventory_heif.specs.Inventories.{extents_in, judged_parts, parts_of, settled}
+use Rattle.exif_inventory_heif.specs.Inventories.{extents_in, judged_parts, layout_of, parts_of, settled}
 use Rattle.exif_inventory_heif.specs.Spans.{data_from, data_within, has, part_of}
-use Rattle.exif_inventory_heif.specs.Walks.{AreSpans, spans_of}
+use Rattle.exif_inventory_heif.specs.Walks.{AreSpans}
 use Rattle.exif_inventory_heif.specs.declared.extents.Extent.{Extent}
 use Rattle.exif_inventory_heif.specs.declared.role.Role.{Role}
 use Rattle.exif_inventory_heif.specs.declared.role.Role.TheVariants.{Known, Movie}
@@ -46,19 +46,18 @@ settled_ordered : (file : List ℕ) (spans : List Span) (extents : Option (List 
 settled_ordered file spans None end h = h
 settled_ordered file spans (Some extents) end h = carved_ordered file extents spans (not (has Movie spans)) end h
 
+-- the layout of a file is in order
+pub layout_ordered : (file : List ℕ) (found spans : List Span) (judged : Bool) → AreSpans 0 found (length file)
+    → (spans, judged) ≡ settled file found (extents_in file found) → AreSpans 0 spans (length file)
+layout_ordered file found spans judged ordered s =
+    subst (λ (c : List Span × Bool). AreSpans 0 c.0 (length file)) (sym s) (settled_ordered file found (extents_in file found) (length file) ordered)
+
 -- the parts of a file are in order, and their data are in them
-pub parts_are : (file : List ℕ) (found spans : List Span) (judged : Bool) (out : List Part) → found ≡ spans_of file
-    → AreSpans 0 found (length file) → (spans, judged) ≡ settled file found (extents_in file found) → out ≡ judged_parts (spans, judged)
+pub parts_are : (file : List ℕ) (spans : List Span) (judged : Bool) (out : List Part) → AreSpans 0 spans (length file)
+    → (spans, judged) ≡ layout_of file → out ≡ judged_parts (spans, judged)
     → (out ≡ parts_of file) × AreInOrder 0 out (length file) × All IsWithin out × All (EndsIn (length file)) out
-unfolding parts_of
-parts_are file found spans judged out f ordered s o =
+parts_are file spans judged out ordered l o =
     let n = length file in
-    let by_found = settled_ordered file found (extents_in file found) n ordered in
-    let by_spans : AreSpans 0 spans n = subst (λ (c : List Span × Bool). AreSpans 0 c.0 n) (sym s) by_found in
-    let covers : AreInOrder 0 out n = subst (λ (ps : List Part). AreInOrder 0 ps n) (sym o) (parts_ordered judged 0 spans n by_spans) in
-    let within : All IsWithin out = subst (λ (ps : List Part). All IsWithin ps) (sym o) (parts_within judged 0 spans n by_spans) in (
-      o ∙ ap judged_parts (s ∙ ap (λ (xs : List Span). settled file xs (extents_in file xs)) f),
-      covers,
-      within,
-      all_inside 0 out n covers within,
-    )
+    let covers : AreInOrder 0 out n = subst (λ (ps : List Part). AreInOrder 0 ps n) (sym o) (parts_ordered judged 0 spans n ordered) in
+    let within : All IsWithin out = subst (λ (ps : List Part). All IsWithin ps) (sym o) (parts_within judged 0 spans n ordered) in
+    (o ∙ ap judged_parts l, covers, within, all_inside 0 out n covers within)

@@ -4,15 +4,15 @@ use Rattle.std.specs.List.{flat_map, list_any}
 use Rattle.exif_inventory.specs.declared.kind.Kind.{Kind}
 use Rattle.exif_inventory.specs.declared.kind.Kind.TheVariants as kind
 use Rattle.exif_inventory_heif.specs.Boxes.{number}
-use Rattle.exif_inventory_heif.specs.declared.carve.Carving.{Carving}
+use Rattle.exif_inventory_heif.specs.declared.span.Layout.{Layout}
 use Rattle.exif_inventory_heif.specs.declared.extents.Extent.{Extent}
 use Rattle.exif_inventory_heif.specs.declared.role.Role.{Role}
 use Rattle.exif_inventory_heif.specs.declared.role.Role.TheVariants.{Known, ItemData, MediaData}
 use Rattle.exif_inventory_heif.specs.declared.span.Span.{Span}
 
 -- the spans of a file, and whether what is left of those with items' data is the picture's
-abbrev pub carving_view : Carving → List Span × Bool
-carving_view c = (c.spans.items, c.judged)
+abbrev pub layout_view : Layout → List Span × Bool
+layout_view c = (c.spans.items, c.judged)
 
 -- whether data are those of a picture
 abbrev pub is_picture : Kind → Bool

@@ -67,10 +67,17 @@ settled file spans (Some extents) = carved file extents (spans, not (has Movie s
 abbrev pub judged_parts : List Span × Bool → List Part
 judged_parts (spans, judged) = map (part_of judged) spans
 
+-- the layout of a HEIF file
+unfoldable pub layout_of : List ℕ → List Span × Bool
+layout_of file = settled file (spans_of file) (extents_in file (spans_of file))
+
 -- the parts of a HEIF file
-unfoldable pub parts_of : List ℕ → List Part
-parts_of file =
-    judged_parts (settled file (spans_of file) (extents_in file (spans_of file)))
+abbrev pub parts_of : List ℕ → List Part
+parts_of file = judged_parts (layout_of file)
+
+-- the layout of a file, if it is a HEIF file
+abbrev pub heif_layout : List ℕ → Option (List Span × Bool)
+heif_layout file = if is_heif file then Some (layout_of file) else None
 
 -- the parts of a file, if it is a HEIF file
 abbrev pub heif_inventory : List ℕ → Option (List Part)

@@ -2,24 +2,17 @@
 
 ghost use Rattle.std.specs.Prelude.{◌≡◌, ◌≤◌, ◌++◌, not, count_by, length, IfOk, OnOk};
 ghost use Rattle.std.specs.List.{flat_map};
-ghost use Rattle.exif_inventory_heif.specs.Carving.{are_many, before, behind, carve_each, carve_one, carved, carving_view, cut, cut_one, exif_content, exif_span, holds, is_alone, is_held, is_picture, item_span, known_span, may_hold, meets, some_span};
+ghost use Rattle.exif_inventory_heif.specs.Carving.{are_many, before, behind, carve_each, carve_one, carved, layout_view, cut, cut_one, exif_content, exif_span, holds, is_alone, is_held, is_picture, item_span, known_span, may_hold, meets, some_span};
 
 use crate::boxes::number;
 use crate::extents::Extent;
 use crate::role::Role;
-use crate::span::Span;
+use crate::span::{Layout, Span};
 use exif_inventory::Kind;
 use std::alloc::{AllocError, Global};
 
 /// How many extents of metadata are cut out at most.
 pub const CUT_LIMIT: usize = 256;
-
-/// The spans of a file, and whether what is left of those with items' data is the picture's.
-#[derive(Drop)]
-pub struct Carving {
-    pub spans: Vec<Span>,
-    pub judged: bool,
-}
 
 // Whether data are those of a picture.
 fn is_picture(kind: Kind) -> bool
@@ -192,20 +185,20 @@ fn carve_one(
     file: &[u8],
     all: &[Extent],
     extent: Extent,
-    carving: Carving,
-) -> Result<Carving, AllocError>
+    carving: Layout,
+) -> Result<Layout, AllocError>
     ensures { IfOk result
-        (λ c. carving_view c ≡ carve_one file.now all.now extent (carving_view carving)) }
+        (λ c. layout_view c ≡ carve_one file.now all.now extent (layout_view carving)) }
 {
-    let Carving { spans, judged } = carving;
+    let Layout { spans, judged } = carving;
     if is_picture(extent.kind) {
-        return Ok(Carving { spans, judged });
+        return Ok(Layout { spans, judged });
     }
     if is_alone(extent, all) && is_held(extent, &spans) {
         let spans = cut(alloc, file, extent, &spans)?;
-        return Ok(Carving { spans, judged });
+        return Ok(Layout { spans, judged });
     }
-    Ok(Carving {
+    Ok(Layout {
         spans,
         judged: false,
     })
@@ -216,10 +209,10 @@ fn carve_each(
     alloc: Global,
     file: &[u8],
     extents: &[Extent],
-    carving: Carving,
-) -> Result<Carving, AllocError>
+    carving: Layout,
+) -> Result<Layout, AllocError>
     ensures { IfOk result
-        (λ c. carving_view c ≡ carve_each file.now extents.now extents.now (carving_view carving)) }
+        (λ c. layout_view c ≡ carve_each file.now extents.now extents.now (layout_view carving)) }
 {
     let mut so_far = carving;
     for extent in extents {
@@ -235,13 +228,13 @@ pub fn carved(
     alloc: Global,
     file: &[u8],
     extents: &[Extent],
-    carving: Carving,
-) -> Result<Carving, AllocError>
+    carving: Layout,
+) -> Result<Layout, AllocError>
     ensures { IfOk result
-        (λ c. carving_view c ≡ carved file.now extents.now (carving_view carving)) }
+        (λ c. layout_view c ≡ carved file.now extents.now (layout_view carving)) }
 {
     if are_many(extents) {
-        return Ok(Carving {
+        return Ok(Layout {
             spans: carving.spans,
             judged: false,
         });

@@ -13,4 +13,6 @@ mod role;
 mod span;
 mod walk;
 
-pub use parts::inventory;
+pub use parts::{inventory, layout};
+pub use role::Role;
+pub use span::{Layout, Span, part_of};

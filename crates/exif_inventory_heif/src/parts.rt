@@ -4,15 +4,16 @@ ghost use Rattle.std.specs.Prelude.{◌≡◌, length, All, IfOk, IfSome};
 ghost use Rattle.std.specs.List.{list_any};
 ghost use Rattle.std.specs.Option.{option_map};
 ghost use Rattle.exif_inventory.specs.Promises.{AreInOrder, EndsIn, IsWithin};
-ghost use Rattle.exif_inventory_heif.specs.Carving.{carving_view};
-ghost use Rattle.exif_inventory_heif.specs.Inventories.{any_brand, extents_in, extents_with, has_brand, heif_inventory, is_brand, is_heif, items_in_file, judged_parts, parts_of, settled};
+ghost use Rattle.exif_inventory_heif.specs.Carving.{layout_view};
+ghost use Rattle.exif_inventory_heif.specs.Inventories.{any_brand, extents_in, extents_with, has_brand, heif_inventory, heif_layout, is_brand, is_heif, items_in_file, judged_parts, layout_of, parts_of, settled};
+ghost use Rattle.exif_inventory_heif.specs.Walks.{AreSpans};
 
 use crate::boxes::{content_of, head_of, name_of};
-use crate::carve::{Carving, carved};
+use crate::carve::carved;
 use crate::extents::{Extent, Room, extents_of};
 use crate::items::{Item, items_of};
 use crate::role::Role;
-use crate::span::{Span, has, only, part_of, payload};
+use crate::span::{Layout, Span, has, only, part_of, payload};
 use crate::walk::spans_of;
 use exif_inventory::Part;
 use std::alloc::{AllocError, Global};
@@ -105,16 +106,16 @@ fn extents_in(alloc: Global, file: &[u8], spans: &[Span]) -> Result<Option<Vec<E
 }
 
 // The spans of a file with the metadata cut out of them, if its items can be read.
-fn settled(alloc: Global, file: &[u8], spans: Vec<Span>) -> Result<Carving, AllocError>
+fn settled(alloc: Global, file: &[u8], spans: Vec<Span>) -> Result<Layout, AllocError>
     ensures { IfOk result
-        (λ c. carving_view c ≡ settled file.now spans.items (extents_in file.now spans.items)) }
+        (λ c. layout_view c ≡ settled file.now spans.items (extents_in file.now spans.items)) }
 {
     match extents_in(alloc, file, &spans)? {
         Some(extents) => {
             let judged = !has(Role::Movie, &spans);
-            carved(alloc, file, &extents, Carving { spans, judged })
+            carved(alloc, file, &extents, Layout { spans, judged })
         }
-        None => Ok(Carving {
+        None => Ok(Layout {
             spans,
             judged: false,
         }),
@@ -132,6 +133,17 @@ fn judged_parts(alloc: Global, judged: bool, spans: &[Span]) -> Result<Vec<Part>
     Ok(parts)
 }
 
+// The layout of a HEIF file.
+#[tactic(auto, unfolding(crate::specs::Inventories::layout_of))]
+fn layout_of(alloc: Global, file: &[u8]) -> Result<Layout, AllocError>
+    ensures layout { IfOk result (λ layout. layout_view layout ≡ layout_of file.now) }
+    ensures ordered { IfOk result (λ layout. AreSpans 0 layout.spans.items (length file.now)) }
+{
+    let spans = spans_of(alloc, file)?;
+    let layout = settled(alloc, file, spans)?;
+    Ok(layout)
+}
+
 // The parts of a HEIF file.
 fn parts_of(alloc: Global, file: &[u8]) -> Result<Vec<Part>, AllocError>
     ensures parts { IfOk result (λ parts. parts.items ≡ parts_of file.now) }
@@ -139,10 +151,23 @@ fn parts_of(alloc: Global, file: &[u8]) -> Result<Vec<Part>, AllocError>
     ensures within { IfOk result (λ parts. All IsWithin parts.items) }
     ensures inside { IfOk result (λ parts. All (EndsIn (length file.now)) parts.items) }
 {
-    let found = spans_of(alloc, file)?;
-    let Carving { spans, judged } = settled(alloc, file, found)?;
+    let Layout { spans, judged } = layout_of(alloc, file)?;
     let parts = judged_parts(alloc, judged, &spans)?;
     Ok(parts)
+}
+
+/// The layout of a HEIF or AVIF file: the spans that its parts are, each with its role. `None` for
+/// a file of another format. It takes memory for the lists.
+pub fn layout(alloc: Global, file: &[u8]) -> Result<Option<Layout>, AllocError>
+    ensures answer { IfOk result (λ layout. option_map layout_view layout ≡ heif_layout file.now) }
+    ensures ordered { IfOk result (λ found. IfSome found
+        (λ layout. AreSpans 0 layout.spans.items (length file.now))) }
+{
+    if is_heif(file) {
+        Ok(Some(layout_of(alloc, file)?))
+    } else {
+        Ok(None)
+    }
 }
 
 /// The parts of a HEIF or AVIF file, in the order of their bytes: each begins where the one before

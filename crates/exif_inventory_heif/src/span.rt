@@ -20,6 +20,16 @@ pub struct Span {
     pub end: usize,
 }
 
+/// The layout of a file.
+#[derive(Drop)]
+pub struct Layout {
+    /// Its spans, in order.
+    pub spans: Vec<Span>,
+    /// Whether what may hold the picture or metadata is the picture's: whether the data of all items
+    /// that are no pictures are spans of their own.
+    pub judged: bool,
+}
+
 /// Whether a span has this role.
 pub fn has(wanted: Role, spans: &[Span]) -> bool
     ensures { result ≡ has wanted spans.now }

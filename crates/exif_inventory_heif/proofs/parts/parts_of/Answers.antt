@@ -4,7 +4,5 @@ use Rattle.exif_inventory_heif.proofs.parts.parts_of.Goals as goal
 
 pub returns : goal.returns
 returns c =
-    let found = c.in_ok-found.found.items in
-    let spans = c.in_ok-spans.spans.items in
-    let p = parts_are c.args.file.now found spans c.in_ok-spans.judged c.in_ok-parts.parts.items c.in_ok-found.ensures.spans c.in_ok-found.ensures.ordered (search rules) (search rules) in
+    let p = parts_are c.args.file.now c.in_ok-spans.spans.items c.in_ok-spans.judged c.in_ok-parts.parts.items (search rules) (search rules) (search rules) in
     record { parts = p.0; covers = p.1; within = p.2; inside = p.3 }

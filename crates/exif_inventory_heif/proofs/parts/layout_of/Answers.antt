@@ -1,0 +1,7 @@
+use Rattle.std.proofs.Common.{rules}
+use Rattle.exif_inventory_heif.proofs.PartOrder.{layout_ordered}
+use Rattle.exif_inventory_heif.proofs.parts.layout_of.Goals as goal
+
+pub returns-clause-ordered : goal.returns-clause-ordered
+returns-clause-ordered c =
+    layout_ordered c.args.file.now c.in_ok-spans.spans.items c.in_ok-layout.layout.spans.items c.in_ok-layout.layout.judged c.in_ok-spans.ensures.ordered (search rules)
