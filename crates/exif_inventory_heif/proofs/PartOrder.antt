@@ -6,7 +6,7 @@ use Rattle.exif_inventory.specs.Promises.{AreInOrder, EndsIn, IsWithin}
 use Rattle.exif_inventory.specs.declared.part.Part.{Part}
 use Rattle.exif_inventory_heif.specs.Inventories.{extents_in, judged_parts, layout_of, parts_of, settled}
 use Rattle.exif_inventory_heif.specs.Spans.{data_from, data_within, has, part_of}
-use Rattle.exif_inventory_heif.specs.Walks.{AreSpans}
+use Rattle.exif_inventory_heif.specs.Walks.{AreSpans, IsInside}
 use Rattle.exif_inventory_heif.specs.declared.extents.Extent.{Extent}
 use Rattle.exif_inventory_heif.specs.declared.role.Role.{Role}
 use Rattle.exif_inventory_heif.specs.declared.role.Role.TheVariants.{Known, Movie}
@@ -51,6 +51,23 @@ pub layout_ordered : (file : List ℕ) (found spans : List Span) (judged : Bool)
     → (spans, judged) ≡ settled file found (extents_in file found) → AreSpans 0 spans (length file)
 layout_ordered file found spans judged ordered s =
     subst (λ (c : List Span × Bool). AreSpans 0 c.0 (length file)) (sym s) (settled_ordered file found (extents_in file found) (length file) ordered)
+
+not_before : (from : ℕ) (spans : List Span) (end : ℕ) → AreSpans from spans end → from ≤ end
+not_before from [] end h = omega arith
+not_before from (s ∷ spans) end h =
+    let at : s.from ≡ from = h.0 in
+    let f : s.from ≤ s.content = h.1 in
+    let c : s.content ≤ s.end = h.2 in
+    let l = not_before s.end spans end h.3 in
+    omega arith
+
+-- spans in order are within the bytes up to the end of the last one
+pub spans_inside : (from : ℕ) (spans : List Span) (end : ℕ) → AreSpans from spans end → All (IsInside end) spans
+spans_inside from [] end h = All-nil (IsInside end)
+spans_inside from (s ∷ spans) end h =
+    let f : s.from ≤ s.content = h.1 in
+    let c : s.content ≤ s.end = h.2 in
+    All-cons (IsInside end) s spans (omega arith, not_before s.end spans end h.3) (spans_inside s.end spans end h.3)
 
 -- the parts of a file are in order, and their data are in them
 pub parts_are : (file : List ℕ) (spans : List Span) (judged : Bool) (out : List Part) → AreSpans 0 spans (length file)

@@ -34,3 +34,7 @@ AreSpans from [] end = from ≡ end
 AreSpans from (span ∷ spans) end =
     (span.from ≡ from) × (span.from ≤ span.content) × (span.content ≤ span.end)
     × AreSpans span.end spans end
+
+-- a span is within a file of this length
+abbrev pub IsInside : ℕ → Span → Type 0
+IsInside n span = (span.from ≤ span.end) × (span.end ≤ n)

@@ -6,7 +6,7 @@ ghost use Rattle.std.specs.Option.{option_map};
 ghost use Rattle.exif_inventory.specs.Promises.{AreInOrder, EndsIn, IsWithin};
 ghost use Rattle.exif_inventory_heif.specs.Carving.{layout_view};
 ghost use Rattle.exif_inventory_heif.specs.Inventories.{any_brand, extents_in, extents_with, has_brand, heif_inventory, heif_layout, is_brand, is_heif, items_in_file, judged_parts, layout_of, parts_of, settled};
-ghost use Rattle.exif_inventory_heif.specs.Walks.{AreSpans};
+ghost use Rattle.exif_inventory_heif.specs.Walks.{AreSpans, IsInside};
 
 use crate::boxes::{content_of, head_of, name_of};
 use crate::carve::carved;
@@ -138,6 +138,8 @@ fn judged_parts(alloc: Global, judged: bool, spans: &[Span]) -> Result<Vec<Part>
 fn layout_of(alloc: Global, file: &[u8]) -> Result<Layout, AllocError>
     ensures layout { IfOk result (λ layout. layout_view layout ≡ layout_of file.now) }
     ensures ordered { IfOk result (λ layout. AreSpans 0 layout.spans.items (length file.now)) }
+    ensures inside { IfOk result
+        (λ layout. All (IsInside (length file.now)) layout.spans.items) }
 {
     let spans = spans_of(alloc, file)?;
     let layout = settled(alloc, file, spans)?;
@@ -162,6 +164,8 @@ pub fn layout(alloc: Global, file: &[u8]) -> Result<Option<Layout>, AllocError>
     ensures answer { IfOk result (λ layout. option_map layout_view layout ≡ heif_layout file.now) }
     ensures ordered { IfOk result (λ found. IfSome found
         (λ layout. AreSpans 0 layout.spans.items (length file.now))) }
+    ensures inside { IfOk result (λ found. IfSome found
+        (λ layout. All (IsInside (length file.now)) layout.spans.items)) }
 {
     if is_heif(file) {
         Ok(Some(layout_of(alloc, file)?))
