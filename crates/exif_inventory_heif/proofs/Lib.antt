@@ -1,0 +1,5 @@
+pub mod WalkSteps
+pub mod LoopSteps
+pub mod ItemSteps
+pub mod SpanOrder
+pub mod PartOrder

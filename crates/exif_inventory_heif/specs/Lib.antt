@@ -1,0 +1,11 @@
+pub mod Boxes
+pub mod Roles
+pub mod Spans
+pub mod Pieces
+pub mod Walks
+pub mod Loops
+pub mod Items
+pub mod Extents
+pub mod Carving
+pub mod Inventories
+pub mod Examples

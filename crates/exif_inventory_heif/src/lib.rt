@@ -1,0 +1,18 @@
+//! The parts of a HEIF or AVIF file: which bytes make up the picture, and which hold metadata.
+//!
+//! [`inventory`] lists the parts of a file in order, from its first byte to its last.
+#![tactic(auto)]
+
+mod boxes;
+mod carve;
+mod extents;
+mod items;
+mod parts;
+mod piece;
+mod role;
+mod span;
+mod walk;
+
+pub use parts::{inventory, layout};
+pub use role::Role;
+pub use span::{Layout, Span, part_of};

@@ -1,0 +1,10 @@
+//! All metadata out of a HEIF or AVIF file, in place.
+//!
+//! [`scrub`] changes no byte of the picture, moves none, and answers which parts stay that may hold
+//! metadata.
+#![tactic(auto)]
+
+mod blank;
+mod file;
+
+pub use file::scrub;
