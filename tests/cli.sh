@@ -108,17 +108,26 @@ check "no metadata is left in the JPEG" sh -c '! grep -aqE "xmpmeta|comment|behi
 check "no metadata is left in the WebP" sh -c '! grep -aq xmpmeta work/new.whole.webp'
 gives "scrub of a picture without metadata gives it again" 0 "$mexaldor" scrub --force files/plain.jpg work/plain.jpg
 check "it is the same" cmp files/plain.jpg work/plain.jpg
-gives "TIFF files are refused" 1 "$mexaldor" scrub work/whole.tif work/new.tif
-says "the refusal names what there is" --places-only
-check "nothing was written" test ! -e work/new.tif
+gives "TIFF files lose their metadata" 0 "$mexaldor" scrub work/whole.tif work/new.tif
+check "no text is left in the TIFF file" sh -c '! grep -aqE "Maker|description|notes|2020" work/new.tif'
+check "it has its length" test "$(wc -c <work/new.tif)" = "$(wc -c <work/whole.tif)"
+gives "what describes the picture is left" 0 "$mexaldor" show work/new.tif
+holds "its resolution" "XResolution primary 72"
+check "and no orientation" sh -c '! grep -q Orientation out'
+gives "which --keep-orientation keeps" 0 "$mexaldor" scrub --force --keep-orientation work/whole.tif work/new.tif
+"$mexaldor" show work/new.tif >out
+holds "in a TIFF file too" "Orientation primary row 0 at right and column 0 at top"
+gives "scrub of a scrubbed TIFF file gives it again" 0 "$mexaldor" scrub --force --keep-orientation work/new.tif work/again.tif
+check "it is the same TIFF file" cmp work/new.tif work/again.tif
 gives "HEIF files lose their fields" 0 "$mexaldor" scrub --in-place work/whole.heic
 gives "the HEIF file has no field" 0 "$mexaldor" show work/whole.heic
 check "nor a line of one" test "$(wc -l <out)" = 1
 fresh
 gives "GPS data are erased in all" 3 "$mexaldor" scrub --places-only -i work/whole.jpg work/whole.tif work/big.tif work/whole.webp work/whole.heic
-says "a comment may hold a location" "work/whole.jpg: still there: a comment at offset"
+says "a comment may hold a location" "work/whole.jpg: still there: comment at offset"
 says "so may what follows the picture" "work/whole.jpg: still there: data after the picture at offset"
-check "nothing else is reported" test "$(grep -c 'still there' err)" = 2
+check "nothing else is reported of it" test "$(grep -c 'still there' err)" = 2
+check "but maker notes are, of each file" test "$(grep -c 'the maker note is not read' err)" = 5
 printf 'MM\000*\000\000\000\010\000\001\210\045\000\015\000\000\000\001\000\000\000\310\000\000\000\000' >work/outside.tif
 gives "a GPS pointer that is not followed is reported" 3 "$mexaldor" scrub --places-only -i work/outside.tif
 says "the file of a GPS pointer that is not followed is named" "work/outside.tif: GPS data may be left"

@@ -86,8 +86,10 @@ struct mexaldor_answer mexaldor_check(const uint8_t *file, size_t length, uint8_
 uint32_t mexaldor_erase_locations(uint8_t *file, size_t length);
 
 /* Writes a copy of a file without its metadata to `out`. JPEG and WebP files lose all metadata; the
- * colour profile and what decoders need stay. In a HEIF file only the Exif fields are erased, and
- * XMP stays. A TIFF file is refused. The new file is not longer than the old one, except that a
+ * colour profile and what decoders need stay. In HEIF and TIFF files what is not the picture becomes
+ * zeros or empty data where it is; a raw file is refused, and so is a TIFF file whose picture is
+ * stored in an unknown way. If parts that may hold metadata stay, the status is MEXALDOR_FAULTS, and
+ * mexaldor_check lists them. The new file is not longer than the old one, except that a
  * WebP file may gain a missing pad byte: `room == length + 1` is always enough. A JPEG stream that
  * ends before its picture does is written as far as it goes, with MEXALDOR_FAULTS. After a refusal
  * `out` is not changed. */

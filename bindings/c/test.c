@@ -200,8 +200,8 @@ static void refusals(const char *folder)
 {
     struct bytes tiff = file(folder, "whole.tif");
     uint8_t room[4] = {1, 2, 3, 4};
-    struct mexaldor_answer answer = mexaldor_scrub(tiff.at, tiff.length, room, sizeof room);
-    check("the picture of a TIFF file stays", answer.status == MEXALDOR_PICTURE_DATA);
+    struct mexaldor_answer answer = mexaldor_scrub(tiff.at, 12, room, sizeof room);
+    check("a TIFF file that is cut off is refused", answer.status == MEXALDOR_INVALID_FORMAT);
     check("and the buffer", answer.length == 0 && memcmp(room, "\1\2\3\4", 4) == 0);
     check("nothing is no file", mexaldor_scrub(NULL, 0, NULL, 0).status == MEXALDOR_INVALID_FORMAT);
     check("nothing has no GPS data", mexaldor_erase_gps(NULL, 0) != MEXALDOR_OK);
@@ -268,7 +268,7 @@ int main(int count, char **words)
     for (int i = 0; i < 2; i++) {
         locations(words[1], containers[i]);
     }
-    for (int i = 0; i < 3; i++) {
+    for (int i = 0; i < 4; i++) {
         scrubs(words[1], containers[i]);
     }
     pads();

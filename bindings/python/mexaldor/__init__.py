@@ -175,8 +175,9 @@ def scrub(source: Source) -> bytes:
     """Return a copy of a file without its metadata.
 
     JPEG and WebP files lose all metadata; the colour profile and what decoders need stay. In HEIF
-    files only the Exif fields are erased, and XMP stays. TIFF files are refused. A JPEG stream that
-    ends before its picture does is copied as far as it goes.
+    and TIFF files what is not the picture becomes zeros or empty data where it is; raw files are
+    refused. Parts that may hold metadata and stay are listed by `check`. A JPEG stream that ends
+    before its picture does is copied as far as it goes.
     """
     data = _bytes(source)
     room = ctypes.create_string_buffer(len(data) + 1)

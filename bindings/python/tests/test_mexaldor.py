@@ -124,13 +124,12 @@ class Pictures(unittest.TestCase):
             self.refused(status, mexaldor.set, path, assignment)
 
     def test_metadata_are_taken_out(self):
-        for name in ["whole.jpg", "whole.webp", "whole.heic"]:
+        for name in ["whole.jpg", "whole.webp", "whole.heic", "whole.tif"]:
             old = (self.folder / name).read_bytes()
             new = mexaldor.scrub(old)
             self.assertLessEqual(len(new), len(old))
             self.assertNotIn(b"Maker", new)
             self.assertEqual(mexaldor.scrub(new), new)
-        self.refused(Status.PICTURE_DATA, mexaldor.scrub, self.folder / "whole.tif")
 
     def test_a_webp_file_without_its_last_pad_byte_gets_it(self):
         image = b"WEBPVP8L\x05\0\0\0/\x01\x80\0\x10"

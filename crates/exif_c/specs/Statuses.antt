@@ -8,10 +8,12 @@ use Rattle.exif_edit_base.specs.Causes.{Cause, no_field, no_directory, full_dire
 use Rattle.exif_edit_base.specs.declared.error.Error.{Error}
 use Rattle.exif_edit_base.specs.declared.error.Error.TheVariants as edit
 use Rattle.exif_change.specs.Changed.{Undone}
-use Rattle.exif_change.specs.Refusals.{Why, editing, no_date, no_thumbnail, not_of_its_type, out_of_range, picture_data, reading, second_exif, unknown_format}
+use Rattle.exif_change.specs.Refusals.{Why, editing, no_date, no_thumbnail, not_of_its_type, out_of_range, reading, second_exif, tiff_fault, unknown_format}
 use Rattle.exif_change.specs.Refusals as why
 use Rattle.exif_change.specs.declared.refusal.Refusal.{Refusal}
 use Rattle.exif_change.specs.declared.refusal.Refusal.TheVariants as change
+use Rattle.exif_scrub_tiff.specs.declared.fault.Fault.{Fault}
+use Rattle.exif_scrub_tiff.specs.declared.fault.Fault.TheVariants as fault
 use Rattle.exif_c.specs.declared.status.Status.{Status}
 use Rattle.exif_c.specs.declared.status.Status.TheVariants as status
 
@@ -141,13 +143,21 @@ edit_status (edit.Header fault) = status.InvalidHeader
 edit_status (edit.Container cause) = error_status cause
 edit_status edit.OutOfMemory = status.OutOfMemory
 
+-- that of a TIFF file that is not scrubbed
+abbrev pub tiff_status : Fault → Status
+tiff_status fault.NoHeader = status.InvalidFormat
+tiff_status fault.Broken = status.InvalidFormat
+tiff_status fault.TooManyDirectories = status.InvalidFormat
+tiff_status fault.Raw = status.NotSupported
+tiff_status fault.NotSupported = status.NotSupported
+
 -- that of a refusal of a change
 abbrev pub refusal_status : Refusal → Status
 refusal_status (change.Reading cause) = error_status cause
 refusal_status (change.Editing cause) = edit_status cause
 refusal_status change.UnknownFormat = status.InvalidFormat
 refusal_status change.FieldNotFound = status.FieldNotFound
-refusal_status change.PictureData = status.PictureData
+refusal_status (change.Tiff fault) = tiff_status fault
 refusal_status (change.NotOfItsType tag) = status.NotOfItsType
 refusal_status (change.OutOfRange tag) = status.OutOfRange
 refusal_status change.SecondExif = status.SecondExif
@@ -161,7 +171,7 @@ abbrev pub why_status : Why → Status
 why_status (reading refusal) = kind_status refusal
 why_status (editing cause) = cause_status cause
 why_status unknown_format = status.InvalidFormat
-why_status picture_data = status.PictureData
+why_status (tiff_fault fault) = tiff_status fault
 why_status second_exif = status.SecondExif
 why_status (why.too_long tag) = status.TooBig
 why_status why.no_field = status.FieldNotFound

@@ -3,11 +3,12 @@
 ghost use Rattle.std.specs.Prelude.{◌≡◌, ◌==◌, length, find, Option};
 ghost use Rattle.std.specs.Option.{option_copied};
 ghost use Rattle.exif_c.specs.Buffers.{filled};
-ghost use Rattle.exif_c.specs.Statuses.{all, edit_status, error_status, named, number_of, refusal_status, status_text, text_of};
+ghost use Rattle.exif_c.specs.Statuses.{all, edit_status, error_status, named, number_of, refusal_status, status_text, text_of, tiff_status};
 
 use crate::buffer::given;
 use exif::Error;
 use exif_change::Refusal;
+use exif_scrub_tiff::Fault;
 
 /// How a call ended.
 #[derive(Clone, Copy)]
@@ -216,6 +217,16 @@ pub fn edit_status(error: &exif_edit::Error) -> Status
     }
 }
 
+// That of a TIFF file that is not scrubbed.
+fn tiff_status(fault: Fault) -> Status
+    ensures { result ≡ tiff_status fault }
+{
+    match fault {
+        Fault::NoHeader | Fault::Broken | Fault::TooManyDirectories => Status::InvalidFormat,
+        Fault::Raw | Fault::NotSupported => Status::NotSupported,
+    }
+}
+
 /// That of a refusal of a change.
 pub fn refusal_status(refusal: &Refusal) -> Status
     ensures { result ≡ refusal_status refusal.now }
@@ -225,7 +236,7 @@ pub fn refusal_status(refusal: &Refusal) -> Status
         Refusal::Editing(cause) => edit_status(cause),
         Refusal::UnknownFormat => Status::InvalidFormat,
         Refusal::FieldNotFound => Status::FieldNotFound,
-        Refusal::PictureData => Status::PictureData,
+        Refusal::Tiff(fault) => tiff_status(*fault),
         Refusal::NotOfItsType(_) => Status::NotOfItsType,
         Refusal::OutOfRange(_) => Status::OutOfRange,
         Refusal::SecondExif => Status::SecondExif,

@@ -4,6 +4,7 @@ use Rattle.std.specs.Option.{option_map}
 use Rattle.exif_types.specs.declared.tag.Tag.{Tag}
 use Rattle.exif_edit_base.specs.Causes.{Cause, cause_of}
 use Rattle.exif_clock.specs.declared.shift.Unmoved.{Unmoved}
+use Rattle.exif_inventory.specs.declared.part.Part.{Part}
 use Rattle.exif_privacy.specs.declared.stays.Stays.{Stays}
 use Rattle.exif_change.specs.declared.changed.Changed.{Changed}
 use Rattle.exif_change.specs.declared.changed.Left.{Left}
@@ -15,6 +16,7 @@ pub data Undone : Type 0 where
   unset : Tag → Cause → Undone
   cut_off : Undone
   stays : Stays → Undone
+  still_there : Part → Undone
 
 -- what the program says of it; a refused edit has a cause
 abbrev pub undone_of : Left → Option Undone
@@ -22,6 +24,7 @@ undone_of (left.Date tag why) = Some (unmoved tag why)
 undone_of (left.Edit tag e) = option_map (unset tag) (cause_of e)
 undone_of left.CutOff = Some cut_off
 undone_of (left.Stays s) = Some (stays s)
+undone_of (left.Part part) = Some (still_there part)
 
 -- the new bytes of a file, and what was left undone
 pub record Change : Type 0 where

@@ -1,23 +1,26 @@
 -- Metadata taken out of files.
-use Rattle.std.specs.Prelude.{ℕ, List, [], ◌∷◌, map, Option, None, Some, Result, Ok, Err}
+use Rattle.std.specs.Prelude.{ℕ, Bool, true, false, List, [], ◌∷◌, ◌++◌, map, Option, None, Some, Result, Ok, Err}
 use Rattle.exif_table.specs.declared.context.Context.TheVariants as context
 use Rattle.exif_types.specs.Refusals.{Refusal, not_found}
-use Rattle.exif_containers.specs.Container.{container_answer, format_in}
+use Rattle.exif_containers.specs.Container.{format_in}
 use Rattle.exif_containers.specs.declared.container.Format.{Format}
 use Rattle.exif_containers.specs.declared.container.Format.TheVariants.{Tiff, Jpeg, Heif, WebP}
 use Rattle.exif_segments.specs.declared.remove.Remove.TheVariants.{Metadata}
 use Rattle.exif_edit_base.specs.Causes.{Cause, no_data}
-use Rattle.exif_edit_base.specs.GpsOffsets.{Left, leftovers}
 use Rattle.exif_edit.specs.declared.edits.Edit.{Edit}
 use Rattle.exif_edit.specs.declared.edits.Edit.TheVariants.{EraseAll, EraseGps}
 use Rattle.exif_edit_files.specs.InFiles.{edited_file}
 use Rattle.exif_rewrite.specs.ScrubbedExif.{scrubbed_answer, wanted}
 use Rattle.exif_types.specs.declared.tag.Tag.{Tag}
+use Rattle.exif_inventory.specs.declared.part.Part.{Part}
 use Rattle.exif_privacy.specs.Erasing as privacy
 use Rattle.exif_privacy.specs.declared.stays.Stays.{Stays}
-use Rattle.exif_change.specs.Changed.{Change, stays, whole}
+use Rattle.exif_scrub_heif.specs.Scrubbing as heif
+use Rattle.exif_scrub_tiff.specs.Scrubbing as tiff
+use Rattle.exif_scrub_tiff.specs.declared.fault.Fault.{Fault}
+use Rattle.exif_change.specs.Changed.{Change, stays, still_there, whole}
 use Rattle.exif_change.specs.Reading.{Contents, entry_limit, file_contents}
-use Rattle.exif_change.specs.Refusals.{Why, as_read, editing, picture_data, unknown_format, ◌>>=◌}
+use Rattle.exif_change.specs.Refusals.{Why, as_read, editing, tiff_fault, unknown_format, ◌>>=◌}
 use Rattle.exif_change.specs.Rewriting.{rewritten}
 use Rattle.exif_change.specs.declared.scrubbing.Removed.{Removed}
 use Rattle.exif_change.specs.declared.scrubbing.Removed.TheVariants as removed
@@ -31,13 +34,6 @@ if_edited old (Err cause) = Err (editing cause)
 -- a file with its fields erased by an edit
 abbrev pub erased : Edit → List ℕ → Result Change Why
 erased edit file = if_edited file (edited_file entry_limit edit file)
-
--- what may be GPS data of a file and is not erased with them, if it has Exif data
-abbrev pub left_in : List ℕ → Option Left
-left_in file = elim (container_answer file) [
-  | Ok bytes ↦ elim (leftovers bytes) [ Ok left ↦ Some left | Err cause ↦ None ]
-  | Err refusal ↦ None
-]
 
 -- what a picture needs to be shown upright: its orientation (Exif 2.32, 4.6.4 A)
 abbrev pub upright : List Tag
@@ -59,12 +55,37 @@ abbrev pub without_metadata : Format → Removed → List ℕ → Result Change 
 without_metadata format removed file =
     kept removed file >>= λ put. as_read (rewritten format Metadata put file)
 
--- a file without its metadata, by its format: rewritten, or edited; those of TIFF data stay
+-- a change that left these parts too, which may hold metadata
+abbrev pub with_parts : List Part → Result Change Why → Result Change Why
+with_parts parts (Ok change) = Ok (record {
+  file = change.file;
+  undone = change.undone ++ map (λ part. Some (still_there part)) parts;
+})
+with_parts parts (Err why) = Err why
+
+-- a HEIF file whose metadata were taken out, with what its Exif data say erased too, and the parts
+-- that stay
+abbrev pub heif_emptied : List ℕ × Option (List Part) → Result Change Why
+heif_emptied (file, None) = erased EraseAll file
+heif_emptied (file, Some parts) = with_parts parts (erased EraseAll file)
+
+-- whether the orientation stays
+abbrev pub keeps_orientation : Removed → Bool
+keeps_orientation removed.AllButOrientation = true
+keeps_orientation removed.Metadata = false
+keeps_orientation removed.Gps = false
+
+-- a TIFF file whose metadata were taken out, or why not
+abbrev pub tiff_emptied : Result (List ℕ) Fault → Result Change Why
+tiff_emptied (Ok new) = Ok (whole new)
+tiff_emptied (Err fault) = Err (tiff_fault fault)
+
+-- a file without its metadata, by its format: rewritten, or changed in place
 abbrev pub emptied : Format → Removed → List ℕ → Result Change Why
 emptied Jpeg removed file = without_metadata Jpeg removed file
 emptied WebP removed file = without_metadata WebP removed file
-emptied Heif removed file = erased EraseAll file
-emptied Tiff removed file = Err picture_data
+emptied Heif removed file = heif_emptied (heif.scrubbed file)
+emptied Tiff removed file = tiff_emptied (tiff.scrubbed (keeps_orientation removed) file)
 
 -- a file without the locations of its parts, and those that may still hold one; a file of which no
 -- parts are known without its GPS data
@@ -73,12 +94,16 @@ if_parted (new, Some parts) =
     Ok (record { file = new; undone = map (λ part. Some (stays part)) parts })
 if_parted (new, None) = erased EraseGps new
 
+-- a file whose GPS data were erased, or as it was where they can't be
+abbrev pub gps_erased : List ℕ → List ℕ
+gps_erased file = elim (edited_file entry_limit EraseGps file) [ Ok new ↦ new | Err cause ↦ file ]
+
 -- a file without locations, by its format
 abbrev pub unlocated : Format → List ℕ → Result Change Why
 unlocated Jpeg file = if_parted (privacy.erased file)
 unlocated WebP file = if_parted (privacy.erased file)
 unlocated Tiff file = if_parted (privacy.erased file)
-unlocated Heif file = erased EraseGps file
+unlocated Heif file = if_parted (privacy.erased (gps_erased file))
 
 -- a file of a format without what is taken out
 abbrev pub scrubbed_as : Format → Removed → List ℕ → Result Change Why

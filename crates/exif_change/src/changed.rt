@@ -5,6 +5,7 @@ ghost use Rattle.exif_change.specs.Changed.{change_of, whole};
 
 use exif::Tag;
 use exif_clock::Unmoved;
+use exif_inventory::Part;
 use exif_privacy::Stays;
 use std::alloc::Global;
 use std::fmt;
@@ -41,6 +42,8 @@ pub enum Left {
     CutOff,
     /// A part of the file may still hold a location.
     Stays(Stays),
+    /// A part of the file may still hold metadata.
+    Part(Part),
 }
 
 impl fmt::Display for Left {
@@ -56,6 +59,13 @@ impl fmt::Display for Left {
             Left::Edit(tag, cause) => write!(f, "{tag} was not moved: {cause}"),
             Left::CutOff => write!(f, "The JPEG stream ends before its picture does"),
             Left::Stays(stays) => write!(f, "{stays}"),
+            Left::Part(part) => {
+                let (kind, offset) = (part.kind, part.offset);
+                write!(
+                    f,
+                    "still there: {kind} at offset {offset}, which may hold metadata"
+                )
+            }
         }
     }
 }

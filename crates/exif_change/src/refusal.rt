@@ -4,6 +4,7 @@ ghost use Rattle.std.specs.Prelude.{◌≡◌};
 ghost use Rattle.exif_change.specs.declared.refusal.Refusal.TheVariants.{Editing, OutOfMemory, Reading};
 
 use exif::Tag;
+use exif_scrub_tiff::Fault;
 use std::alloc::{AllocError, AllocFailed};
 use std::fmt;
 
@@ -16,8 +17,8 @@ pub enum Refusal {
     Editing(exif_edit::Error),
     /// The file is neither TIFF, JPEG, HEIF nor WebP.
     UnknownFormat,
-    /// The metadata of TIFF data can't be taken out: the picture is in the same data.
-    PictureData,
+    /// The metadata of a TIFF file can't be taken out: its picture can't be told apart.
+    Tiff(Fault),
     /// The file has more than one block of Exif data, and only one would be left.
     SecondExif,
     /// The file has no space for Exif data with the value of this tag.
@@ -74,12 +75,7 @@ impl fmt::Display for Refusal {
             Refusal::Reading(cause) => write!(f, "{cause}"),
             Refusal::Editing(cause) => write!(f, "{cause}"),
             Refusal::UnknownFormat => write!(f, "Unknown image format"),
-            Refusal::PictureData => {
-                write!(
-                    f,
-                    "The picture is in the same data (--places-only erases its GPS data)"
-                )
-            }
+            Refusal::Tiff(fault) => write!(f, "{fault}"),
             Refusal::SecondExif => {
                 write!(
                     f,

@@ -1,10 +1,12 @@
 //! Metadata taken out of a file.
 
-ghost use Rattle.std.specs.Prelude.{◌≡◌, map, IfOk, Some};
+ghost use Rattle.std.specs.Prelude.{◌≡◌, map, IfOk, Ok, Some};
 ghost use Rattle.std.specs.Option.{option_map};
 ghost use Rattle.exif_types.specs.Refusals.{Gives};
 ghost use Rattle.exif_change.specs.Changed.{change_of, stays, undone_of};
-ghost use Rattle.exif_change.specs.Changes.{erased, if_parted, kept, left_in, orientation_in, scrubbed, scrubbed_as, unlocated, without_metadata};
+ghost use Rattle.exif_change.specs.Changes.{erased, gps_erased, heif_emptied, if_parted, keeps_orientation, kept, orientation_in, scrubbed, scrubbed_as, tiff_emptied, unlocated, with_parts, without_metadata};
+ghost use Rattle.exif_scrub_heif.specs.Scrubbing.{scrubbed as heif_scrubbed};
+ghost use Rattle.exif_scrub_tiff.specs.Scrubbing.{scrubbed as tiff_scrubbed};
 ghost use Rattle.exif_privacy.specs.Erasing.{erased as privacy_erased};
 ghost use Rattle.exif_change.specs.Reading.{file_contents};
 ghost use Rattle.exif_change.specs.Refusals.{Answers};
@@ -13,11 +15,9 @@ use crate::changed::{Changed, Left};
 use crate::reading::ENTRY_LIMIT;
 use crate::rewriting::rewritten;
 use crate::{Refusal, read};
-use exif::Counted;
 use exif_containers::container::{Format, format_of};
-use exif_containers::exif_attr_of_stream;
-use exif_edit::{Unerased, leftovers};
 use exif_edit_files::{Edit, Error, apply_in_file};
+use exif_inventory::Part;
 use exif_privacy::{Stays, erase_locations};
 use exif_rewrite::{Remove, UPRIGHT, scrubbed_exif};
 use std::alloc::{AllocError, Global};
@@ -29,17 +29,17 @@ pub enum Removed {
     Metadata,
     /// All metadata but for the picture's orientation.
     AllButOrientation,
-    /// What says where the picture was taken: in JPEG, WebP and TIFF files the locations of all
-    /// Exif data, XMP and IPTC; in HEIF files the GPS data of Exif alone.
+    /// What says where the picture was taken: the locations of all Exif data, XMP and IPTC.
     Gps,
 }
 
-/// The file without its metadata. JPEG and WebP lose them; in HEIF files the fields of the Exif
-/// data are erased where they are; TIFF data are refused, but for their locations. A HEIF file that
-/// has no Exif data stays as it is where only those would change. Where locations are erased, no
-/// byte moves, and the answer has the parts that may still hold one ([`erase_locations`]). Of a
-/// JPEG stream that ends before its picture does what is there is kept. It takes the memory of the
-/// file and of the new one.
+/// The file without its metadata. JPEG and WebP files are written again without them. In HEIF files
+/// they are overwritten where they are ([`exif_scrub_heif::scrub`]), and the fields of the Exif data
+/// are erased: the picture's own rotation stays. Of TIFF files the directories of the pictures stay
+/// ([`exif_scrub_tiff::scrub`]). Where locations are erased, no byte moves. The answer has the parts
+/// that may still hold metadata, or a location ([`erase_locations`]). Of a JPEG stream that ends
+/// before its picture does what is there is kept. It takes the memory of the file and of the new
+/// one.
 pub fn scrub(alloc: Global, file: Vec<u8>, removed: Removed) -> Result<Changed, Refusal>
     ensures { Answers change_of result (scrubbed removed file.items) }
 {
@@ -60,8 +60,8 @@ fn scrubbed_as(
 {
     match (removed, format) {
         (Removed::Gps, _) => unlocated(alloc, format, file),
-        (_, Format::Tiff) => Err(Refusal::PictureData),
-        (_, Format::Heif) => erased(alloc, file, &Edit::EraseAll),
+        (_, Format::Tiff) => tiff_emptied(alloc, file.as_slice(), removed),
+        (_, Format::Heif) => heif_emptied(alloc, file),
         (_, Format::Jpeg | Format::WebP) => emptied(alloc, format, file.as_slice(), removed),
     }
 }
@@ -72,7 +72,65 @@ fn unlocated(alloc: Global, format: Format, file: Vec<u8>) -> Result<Changed, Re
 {
     match format {
         Format::Jpeg | Format::WebP | Format::Tiff => parts_unlocated(alloc, file),
-        Format::Heif => erased(alloc, file, &Edit::EraseGps),
+        Format::Heif => parts_unlocated(alloc, gps_erased(alloc, file)?),
+    }
+}
+
+// The file with its GPS data erased, or as it is where they can't be: also those of an item in
+// several extents, which no part has whole.
+fn gps_erased(alloc: Global, mut file: Vec<u8>) -> Result<Vec<u8>, AllocError>
+    ensures { IfOk result (λ new. new.items ≡ gps_erased file.items) }
+{
+    match apply_in_file(
+        alloc,
+        &Edit::EraseGps,
+        Some(ENTRY_LIMIT),
+        file.as_mut_slice(),
+    ) {
+        Err(Error::OutOfMemory) => Err(AllocError),
+        Ok(()) | Err(_) => Ok(file),
+    }
+}
+
+// The HEIF file without its metadata.
+fn heif_emptied(alloc: Global, mut file: Vec<u8>) -> Result<Changed, Refusal>
+    ensures { Answers change_of result (heif_emptied (heif_scrubbed file.items)) }
+{
+    match exif_scrub_heif::scrub(alloc, file.as_mut_slice())? {
+        Some(parts) => {
+            let changed = erased(alloc, file, &Edit::EraseAll)?;
+            with_parts(alloc, changed, parts.as_slice())
+        }
+        None => erased(alloc, file, &Edit::EraseAll),
+    }
+}
+
+// A change that left these parts too.
+fn with_parts(alloc: Global, changed: Changed, parts: &[Part]) -> Result<Changed, Refusal>
+    ensures { Answers change_of result (with_parts parts.now (Ok (change_of changed))) }
+{
+    let Changed { file, mut left } = changed;
+    for part in parts {
+        left.push(Left::Part(*part))?;
+    }
+    Ok(Changed { file, left })
+}
+
+// Whether the orientation stays.
+fn keeps_orientation(removed: Removed) -> bool
+    ensures { result ≡ keeps_orientation removed }
+{
+    matches!(removed, Removed::AllButOrientation)
+}
+
+// The TIFF file without its metadata.
+fn tiff_emptied(alloc: Global, file: &[u8], removed: Removed) -> Result<Changed, Refusal>
+    ensures { Answers change_of result
+        (tiff_emptied (tiff_scrubbed (keeps_orientation removed) file.now)) }
+{
+    match exif_scrub_tiff::scrub(alloc, file, keeps_orientation(removed))? {
+        Ok(new) => Ok(Changed::whole(alloc, new)),
+        Err(fault) => Err(Refusal::Tiff(fault)),
     }
 }
 
@@ -148,24 +206,5 @@ fn orientation_of(alloc: Global, file: &[u8]) -> Result<Option<Vec<u8>>, exif::E
             Err(exif::Error::OutOfMemory)
         }
         Err(_no_fields) => Ok(None),
-    }
-}
-
-/// What may be GPS data of a file's Exif data and stays when they are erased, as
-/// [`leftovers`] has it; nothing of a file without Exif data. A program is to report it. It takes
-/// the memory of one reading.
-pub fn unerased(alloc: Global, file: &[u8]) -> Result<Option<Unerased>, AllocError>
-    ensures { IfOk result (λ left. left ≡ left_in file.now) }
-{
-    let data = match exif_attr_of_stream(alloc, &mut Counted::new(file)) {
-        Ok(data) => data,
-        Err(exif::Error::OutOfMemory | exif::Error::Io(_) | exif::Error::PartialResult(_)) =>
-            return Err(AllocError),
-        Err(_) => return Ok(None),
-    };
-    match leftovers(alloc, data.as_slice()) {
-        Ok(left) => Ok(Some(left)),
-        Err(Error::OutOfMemory) => Err(AllocError),
-        Err(_) => Ok(None),
     }
 }

@@ -1,11 +1,11 @@
 -- Which parts of a file hold a location.
-use Rattle.std.specs.Prelude.{ℕ, List, [], ◌∷◌, map, Option, Some, None, if◌then◌else◌}
+use Rattle.std.specs.Prelude.{ℕ, List, [], ◌∷◌, map, Option, if◌then◌else◌}
 use Rattle.std.specs.Option.{option_map}
 use Rattle.std.specs.Str.{bytes_eq}
-use Rattle.exif_inventory.specs.Walks.{inventory}
 use Rattle.exif_inventory.specs.declared.kind.Kind.{Kind}
 use Rattle.exif_inventory.specs.declared.part.Part.{Part}
 use Rattle.exif_privacy.specs.Erasing.{data_of}
+use Rattle.exif_privacy.specs.Files.{parts_of}
 use Rattle.exif_privacy.specs.Parts.{part_answer}
 use Rattle.exif_privacy.specs.declared.stays.Why.{Why}
 use Rattle.exif_check.specs.declared.checked.Checked.{Checked}
@@ -13,13 +13,13 @@ use Rattle.exif_check.specs.declared.checked.Location.{Location}
 use Rattle.exif_check.specs.declared.checked.Location.TheVariants.{Absent, Present, Unknown}
 
 -- data that stay as they are may hold a location, if there is a reason
-abbrev pub location_by : Option Why → Location
-location_by None = Absent
-location_by (Some why) = Unknown
+abbrev pub location_by : List Why → Location
+location_by [] = Absent
+location_by (why ∷ whys) = Unknown
 
 -- data hold a location if erasing it changes them
-abbrev pub location_from : List ℕ → List ℕ × Option Why → Location
-location_from bytes (new, why) = if bytes_eq new bytes then location_by why else Present
+abbrev pub location_from : List ℕ → List ℕ × List Why → Location
+location_from bytes (new, whys) = if bytes_eq new bytes then location_by whys else Present
 
 -- whether data of this kind hold a location
 abbrev pub location_in : Kind → List ℕ → Location
@@ -32,7 +32,7 @@ part_checked file part =
 
 -- the parts of a file with theirs
 abbrev pub checked : List ℕ → Option (List Checked)
-checked file = option_map (λ parts. map (part_checked file) parts) (inventory file)
+checked file = option_map (λ parts. map (part_checked file) parts) (parts_of file)
 
 -- the one of two judgements that weighs more
 abbrev pub location_among : Location → Location → Location

@@ -4,8 +4,8 @@ ghost use Rattle.std.specs.Prelude.{◌≡◌, ◌+◌, ◌≤◌, length, IfOk}
 ghost use Rattle.std.specs.Option.{option_map};
 ghost use Rattle.exif_check.specs.Checking.{checked, location_among, location_in, location_of, part_checked};
 
-use exif_inventory::{Kind, Part, inventory};
-use exif_privacy::erase_part;
+use exif_inventory::{Kind, Part};
+use exif_privacy::{erase_part, parts_of};
 use std::alloc::{AllocError, Global};
 
 /// Whether data hold a location.
@@ -33,13 +33,13 @@ fn tried(alloc: Global, kind: Kind, bytes: &[u8]) -> Result<Location, AllocError
     ensures { IfOk result (λ location. location ≡ location_in kind bytes.now) }
 {
     let mut new = Vec::from_slice(alloc, bytes)?;
-    let why = erase_part(alloc, kind, &mut new)?;
+    let whys = erase_part(alloc, kind, &mut new)?;
     if new.as_slice() != bytes {
         Ok(Location::Present)
-    } else if why.is_some() {
-        Ok(Location::Unknown)
-    } else {
+    } else if whys.is_empty() {
         Ok(Location::Absent)
+    } else {
+        Ok(Location::Unknown)
     }
 }
 
@@ -75,19 +75,19 @@ fn part_checked(alloc: Global, part: Part, file: &[u8]) -> Result<Checked, Alloc
     Ok(Checked { part, location })
 }
 
-/// The parts of a JPEG or WebP file, in the order of their bytes, each with whether it holds a
-/// location: `None` for a file of another format. Together they are the whole file.
+/// The parts of a JPEG, WebP, HEIF or TIFF file, in the order of their bytes, each with whether it
+/// holds a location: `None` for a file of another format. Together they are the whole file.
 ///
 /// A part holds a location if erasing locations changes it. It may hold one if it can't be read, or
 /// is of a kind that is not looked at: comments, trailers, content credentials, parts of long XMP
-/// packets, and what is not known. Maker notes and texts are not looked at either, and are not
-/// reported.
+/// packets, and what is not known; so are Exif data with a maker note. Texts are not looked at, and
+/// are not reported.
 ///
 /// It takes memory for the list, and for a copy of the longest part with Exif, XMP or IPTC data.
 pub fn check(alloc: Global, file: &[u8]) -> Result<Option<Vec<Checked>>, AllocError>
     ensures { IfOk result (λ found. option_map (λ v. v.items) found ≡ checked file.now) }
 {
-    let Some(parts) = inventory(alloc, file)? else {
+    let Some(parts) = parts_of(alloc, file)? else {
         return Ok(None);
     };
     let mut all = Vec::new(alloc);

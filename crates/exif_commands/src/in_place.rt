@@ -1,12 +1,12 @@
 //! Files that are changed in place, each once.
 
-use crate::change::{ChangeEdit, Left};
+use crate::change::ChangeEdit;
 use crate::console::Console;
 use crate::files::{Session, Stop};
 use crate::pending::Next;
 use crate::request::Change;
 use exif::Sink;
-use exif_change::Refusal;
+use exif_change::{Left, Refusal};
 use exif_decisions::{Counts, Escaped};
 use exif_files::{Failure, HostFiles, Keeping, Reporter, Status, WriteError, change_all};
 use std::alloc::AllocError;

@@ -6,6 +6,7 @@ ghost use Rattle.exif_inventory.specs.Promises.{EndsIn};
 ghost use Rattle.exif_privacy.specs.Files.{is_tiff, parts_of, tiff_part};
 
 use exif_inventory::{Kind, Part, inventory};
+use exif_inventory_heif as heif;
 use std::alloc::{AllocError, Global};
 
 // Whether a file is TIFF data.
@@ -32,7 +33,8 @@ fn tiff_parts(alloc: Global, len: usize) -> Result<Vec<Part>, AllocError>
     Ok(parts)
 }
 
-/// The parts of a JPEG or WebP file, and those of a TIFF file: all of it is Exif data.
+/// The parts of a JPEG, WebP, HEIF or AVIF file in the order of their bytes, and that of a TIFF
+/// file: all of it is Exif data. `None` for a file of another format.
 pub fn parts_of(alloc: Global, file: &[u8]) -> Result<Option<Vec<Part>>, AllocError>
     ensures value { IfOk result (λ parts. option_map (λ v. v.items) parts ≡ parts_of file.now) }
     ensures inside { IfOk result (λ found. IfSome found
@@ -41,5 +43,8 @@ pub fn parts_of(alloc: Global, file: &[u8]) -> Result<Option<Vec<Part>>, AllocEr
     if is_tiff(file) {
         return Ok(Some(tiff_parts(alloc, file.len())?));
     }
-    inventory(alloc, file)
+    match inventory(alloc, file)? {
+        Some(parts) => Ok(Some(parts)),
+        None => heif::inventory(alloc, file),
+    }
 }

@@ -26,32 +26,10 @@ pub struct Stays {
     pub why: Why,
 }
 
-// What a part is called.
-fn name_of(kind: Kind) -> &'static str {
-    match kind {
-        Kind::Picture => "the picture",
-        Kind::Jfif => "the JFIF header",
-        Kind::JfifThumbnail => "the JFIF thumbnail",
-        Kind::Exif => "the Exif data",
-        Kind::Xmp => "the XMP packet",
-        Kind::ExtendedXmp => "a part of a long XMP packet",
-        Kind::Photoshop => "a resource of Photoshop",
-        Kind::Iptc => "the IPTC data",
-        Kind::Comment => "a comment",
-        Kind::IccProfile => "the colour profile",
-        Kind::Adobe => "the Adobe segment",
-        Kind::MultiPicture => "the index of pictures",
-        Kind::ContentCredentials => "content credentials",
-        Kind::Trailer => "data after the picture",
-        Kind::Unknown => "unknown data",
-        Kind::Broken => "data that are cut off",
-    }
-}
-
 // Why Exif data, which are called this and are at this offset, may still hold a location.
 fn write_exif<W: fmt::Write>(
     f: &mut fmt::Formatter<W>,
-    name: &str,
+    name: Kind,
     offset: usize,
     why: exif_data_locations::Why,
 ) -> fmt::Result {
@@ -77,7 +55,7 @@ fn write_exif<W: fmt::Write>(
 
 impl fmt::Display for Stays {
     fn fmt<W: fmt::Write>(&self, f: &mut fmt::Formatter<W>) -> fmt::Result {
-        let name = name_of(self.part.kind);
+        let name = self.part.kind;
         let offset = self.part.offset;
         match self.why {
             Why::XmpNotRead(fault) => write!(

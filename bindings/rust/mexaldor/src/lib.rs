@@ -176,8 +176,9 @@ pub fn erase_gps(file: &mut [u8]) -> Result<(), Refused> {
 
 /// Returns a copy of a file without its metadata.
 ///
-/// JPEG and WebP files lose all metadata; the colour profile and what decoders need stay. In HEIF
-/// files only the Exif fields are erased, and XMP stays. TIFF files are refused.
+/// JPEG and WebP files lose all metadata; the colour profile and what decoders need stay. In HEIF and
+/// TIFF files what is not the picture becomes zeros or empty data where it is; raw files are refused.
+/// [`check`] lists parts that may hold metadata and stay.
 pub fn scrub(file: &[u8]) -> Result<Vec<u8>, Refused> {
     // A WebP file whose last payload lacks its pad byte gets one.
     let mut new = vec![0; file.len() + 1];

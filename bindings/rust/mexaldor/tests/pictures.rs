@@ -35,7 +35,6 @@ fn faults_are_passed_over_or_refused() {
 fn what_is_no_picture_is_refused() {
     assert_eq!(read(b""), Err(Refused::INVALID_FORMAT));
     assert_eq!(scrub(b""), Err(Refused::INVALID_FORMAT));
-    assert_eq!(scrub(&picture("whole.tif")), Err(Refused::PICTURE_DATA));
     assert_eq!(Refused::OUT_OF_MEMORY.to_string(), "Out of memory");
 }
 
@@ -106,7 +105,7 @@ fn a_refusal_changes_nothing() {
 
 #[test]
 fn metadata_are_taken_out() {
-    for name in &CONTAINERS[..3] {
+    for name in CONTAINERS {
         let old = picture(name);
         let new = scrub(&old).expect(name);
         assert!(new.len() <= old.len());
