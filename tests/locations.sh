@@ -1,6 +1,6 @@
 #!/bin/sh
-# Erases the locations of JPEG, WebP and TIFF files that hold one in each way, made by hand: the secret is gone,
-# all else is as it was, and what may still hold a location is reported.
+# Files that hold a location in each way, made by hand: where locations are erased the secret is gone, all else
+# is as it was, and what may still hold a location is reported; where all metadata go, so does every secret.
 . "$(dirname "$0")/checks.sh"
 
 python3 - files <<'P'
@@ -95,6 +95,42 @@ tiff_file("sub_ifds.tif", tiff((330, 4, b"\0\0\0\0"), (700, 1, xmp)) + SECRET)
 tiff_file("maker_note.tif", tiff((33723, 7, iptc), (37500, 7, SECRET)))
 tiff_file("broken_xmp.tif", tiff((700, 1, b"<City" + SECRET)))
 tiff_file("cut.tif", tiff((33723, 7, city + title))[:-1])
+
+
+def box(name, body):
+    return struct.pack(">I", len(body) + 8) + name + body
+
+
+def heif(name, items, behind=b""):
+    """A HEIF file with these items, each of a type, with a content type and data, after a picture."""
+    items = [(b"hvc1", b"", b"the picture")] + items
+    brand = box(b"ftyp", b"mif1\0\0\0\0mif1heic")
+    entries = b""
+    for number, (kind, content, _) in enumerate(items, 1):
+        entries += box(b"infe", struct.pack(">IHH", 2 << 24, number, 0) + kind + b"\0" + content)
+    entries = box(b"iinf", struct.pack(">IH", 0, len(items)) + entries)
+
+    def meta(offset):
+        located = struct.pack(">IHH", 0, 0x4400, len(items))
+        for number, (_, _, content) in enumerate(items, 1):
+            located += struct.pack(">HHHII", number, 0, 1, offset, len(content))
+            offset += len(content)
+        return box(b"meta", b"\0" * 4 + entries + box(b"iloc", located))
+
+    offset = len(brand) + len(meta(0)) + 8
+    whole = brand + meta(offset) + box(b"mdat", b"".join(content for _, _, content in items))
+    open(os.path.join(folder, name), "wb").write(whole + behind)
+
+
+EXIF_ITEM = (b"Exif", b"", b"\0\0\0\0" + exif)
+XMP_ITEM = (b"mime", b"application/rdf+xml\0", xmp)
+heif("exif.heic", [EXIF_ITEM])
+heif("xmp.heic", [XMP_ITEM])
+heif("both.heic", [EXIF_ITEM, XMP_ITEM])
+heif("twice.heic", [EXIF_ITEM, XMP_ITEM, EXIF_ITEM, XMP_ITEM])
+heif("unknown_item.heic", [EXIF_ITEM, (b"uri ", b"x\0", SECRET)])
+heif("unknown_box.heic", [XMP_ITEM], box(b"uuid", b"u" * 16 + SECRET))
+heif("broken_xmp.heic", [(b"mime", b"application/rdf+xml\0", b"<City" + SECRET)])
 # what is not looked at, or can't be read
 jpeg("comment.jpg", EXIF + segment(0xFE, SECRET))
 jpeg("trailer.jpg", EXIF, SECRET)
@@ -141,7 +177,7 @@ stays() {
 }
 
 for file in exif.jpg exif_twice.jpg xmp.jpg xmp_twice.jpg iptc.jpg all.jpg second_picture.jpg exif.webp xmp.webp both.webp \
-    gps.tif fields.tif fields.jpg fields.webp; do
+    gps.tif fields.tif fields.jpg fields.webp exif.heic xmp.heic both.heic twice.heic; do
     erased "$file"
 done
 check "what names no location stays in XMP" grep -qaF "dc:source='kept'" new.xmp.jpg
@@ -155,10 +191,33 @@ stays broken_xmp.jpg 1 "XMP packet at offset"
 stays broken_iptc.jpg 1 "IPTC data at offset"
 stays broken_exif.jpg 1 "Exif data at offset 2, which can't be changed"
 stays unknown.webp 1 "unknown data at offset"
-stays sub_ifds.tif 1 "the Exif data at offset 0: SubIFDs are not read"
-stays maker_note.tif 1 "the Exif data at offset 0: the maker note is not read"
-stays broken_xmp.tif 1 "the Exif data at offset 0: the XMP packet of tag 700 can't be read"
-stays cut.tif 1 "the Exif data at offset 0: some of the data can't be read"
+stays sub_ifds.tif 1 "Exif data at offset 0: SubIFDs are not read"
+stays maker_note.tif 1 "Exif data at offset 0: the maker note is not read"
+stays broken_xmp.tif 1 "Exif data at offset 0: the XMP packet of tag 700 can't be read"
+stays cut.tif 1 "Exif data at offset 0: some of the data can't be read"
+
+stays unknown_item.heic 1 "unknown data at offset"
+stays unknown_box.heic 1 "unknown data at offset"
+stays broken_xmp.heic 1 "XMP packet at offset"
+
+# cleaned FILE: with all metadata out no secret is left, and once more changes nothing.
+cleaned() {
+    gives "$1 is scrubbed" 0 "$mexaldor" scrub --force "files/$1" "clean.$1"
+    check "$1: no secret is left in any part" test "$(secrets "clean.$1")" = 0
+    gives "$1 is scrubbed again" 0 "$mexaldor" scrub --force "clean.$1" "again.$1"
+    check "$1: scrubbed twice is scrubbed once" cmp "clean.$1" "again.$1"
+    gives "check finds no location in the clean $1" 0 "$mexaldor" check "clean.$1"
+}
+
+for file in all.jpg second_picture.jpg fields.jpg comment.jpg trailer.jpg unknown.jpg long_xmp.jpg broken_xmp.jpg broken_iptc.jpg \
+    broken_exif.jpg both.webp fields.webp unknown.webp gps.tif fields.tif maker_note.tif broken_xmp.tif cut.tif \
+    exif.heic xmp.heic both.heic twice.heic unknown_item.heic unknown_box.heic broken_xmp.heic; do
+    cleaned "$file"
+done
+check "the picture of a HEIF file stays" grep -qaF "the picture" clean.both.heic
+check "a HEIF file keeps its length" test "$(wc -c <files/both.heic)" = "$(wc -c <clean.both.heic)"
+gives "a directory below one that is not there is refused" 1 "$mexaldor" scrub --force files/sub_ifds.tif clean.tif
+says "and says why" "data of the picture lead out of the file"
 
 # What check prints, whole.
 printf '%s\n' "files/all.jpg: Exif data at offset 2 (73 bytes): a location" >wanted
