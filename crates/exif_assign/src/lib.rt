@@ -3,6 +3,7 @@
 
 mod assignment;
 mod fitting;
+pub mod laws;
 mod rules;
 mod spelled;
 mod values;

@@ -1,6 +1,7 @@
 pub mod ReadLemmas
 pub mod Refused
 pub mod Scrubbed
+pub mod SecondFound
 pub mod SetInPlace
 pub mod SetKept
 pub mod SetWhole

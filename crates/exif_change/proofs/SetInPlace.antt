@@ -1,30 +1,32 @@
 -- Files in which fields were set in place.
-use Rattle.std.proofs.Common.{◌≡◌, ◌<◌, ◌^◌, ◌∙◌, ℕ, Bool, true, false, List, [], ◌∷◌, ◌++◌, length, None, Result, Ok, Err, if◌then◌else◌, refl, sym, ap, subst}
-use Rattle.std.specs.Prelude.{◌||◌, not}
+use Rattle.std.proofs.Common.{◌≡◌, ◌<◌, ◌^◌, ◌∙◌, ℕ, Bool, true, false, List, [], ◌∷◌, ◌++◌, length, Some, None, Result, Ok, Err, if◌then◌else◌, refl, sym, ap, subst}
+use Rattle.std.specs.Prelude.{◌||◌, nat_lt, not}
 use Rattle.std.specs.List.{list_any}
 use Rattle.std.proofs.lemmas.Bool.{false≢true}
 use Rattle.exif_base.specs.Orders.{number_of}
 use Rattle.exif_base.specs.declared.endian.Order.{Order}
 use Rattle.exif_text.specs.declared.ifd.In.{In}
-use Rattle.exif_types.specs.Lookup.{is_named}
+use Rattle.exif_types.specs.Lookup.{is_named, last_named}
 use Rattle.exif_types.specs.Refusals.{Refusal}
 use Rattle.exif_types.specs.declared.field.Field.{Field}
 use Rattle.exif_types.specs.declared.tag.Tag.{Tag}
 use Rattle.exif_types.specs.declared.value.Value.{Value}
 use Rattle.exif_tiff.specs.Answers.{Answer, Refused, answer_of, raw_answer, shown}
-use Rattle.exif_tiff.specs.Trace.{content_of, faults_of, fields_of, header, limited, ordered_trace, trace}
+use Rattle.exif_tiff.specs.Trace.{content_of, faults_of, fields_of, header, limited, ordered_trace, trace, visits_of}
 use Rattle.exif_tiff.specs.declared.fault.Fault.{Fault}
+use Rattle.exif_tiff.specs.declared.fault.Fault.TheVariants.{TooManyEntries}
 use Rattle.exif_reader.proofs.TiffAnswers.{trace_right}
 use Rattle.exif_containers.specs.Container.{container_answer}
 use Rattle.exif_containers.proofs.Replacing.{data_are_located}
 use Rattle.exif_layout.specs.Encoding.{moved_to}
-use Rattle.exif_edit_base.specs.Causes.{Cause}
+use Rattle.exif_edit_base.specs.Causes.{Cause, wrong_header}
 use Rattle.exif_edit_base.specs.Causes as causes
 use Rattle.exif_edit_base.specs.Finding.{replaced, with_value}
 use Rattle.exif_edit_base.specs.Patches.{patched}
 use Rattle.exif_edit_base.specs.Rereading.{without_entry_offsets}
-use Rattle.exif_edit_base.proofs.CauseSteps.{bound as edit_bound, ok_same}
+use Rattle.exif_edit_base.proofs.CauseSteps.{bound as edit_bound, ok_same, passed}
 use Rattle.exif_edit_base.proofs.ReadSteps.{is_refused, not_refused, unshown, unshown_shown}
+use Rattle.exif_edit.specs.Edits.{edited, reads_past}
 use Rattle.exif_edit.specs.Promises.{ReadAs}
 use Rattle.exif_edit.specs.Removing.{without_named}
 use Rattle.exif_edit_files.specs.InFiles.{IsEditedIn, file_patches}
@@ -99,15 +101,21 @@ wider p q more (x ∷ xs) = by_tests (p x) (q x) refl refl (wider p q more xs)
     by_tests false false e g h = rw g (ap (λ ys. x ∷ ys) h)
 
 -- a file in which one field was set
-record WasKept (g : Field) (file bytes new : List ℕ) : Type 0 where
-  kept : List ℕ
-  held : container_answer new ≡ Ok kept
-  faults : faults_of (trace kept) ≡ faults_of (trace bytes)
-  others : without_named g.tag g.ifd_num (fields_of (trace kept))
+pub record WasKept (g : Field) (file bytes new : List ℕ) : Type 0 where
+  pub few : nat_lt 1000000 (visits_of (trace bytes)) ≡ false
+  pub kept : List ℕ
+  pub held : container_answer new ≡ Ok kept
+  pub faults : faults_of (trace kept) ≡ faults_of (trace bytes)
+  pub offset : ℕ
+  pub fields : fields_of (trace kept)
+      ≡ replaced g.tag g.ifd_num (moved_to offset g.value) (fields_of (trace bytes))
+  pub others : without_named g.tag g.ifd_num (fields_of (trace kept))
       ≡ without_named g.tag g.ifd_num (fields_of (trace bytes))
-  as_long : length new ≡ length file
+  pub found : (moved : ℕ) × (last_named (fields_of (trace kept)) g.tag g.ifd_num
+      ≡ Some (record { tag = g.tag; ifd_num = g.ifd_num; value = moved_to moved g.value }))
+  pub as_long : length new ≡ length file
 
-one_kept : (g : Field) (file bytes new : List ℕ) → length file < 2 ^ 64
+pub one_kept : (g : Field) (file bytes new : List ℕ) → length file < 2 ^ 64
     → container_answer file ≡ Ok bytes → field_set g file ≡ Ok new → WasKept g file bytes new
 one_kept g file bytes new short held e =
     let b = edit_bound (file_patches entry_limit (setting g) file) (λ ps. Ok (patched ps file)) new
@@ -121,10 +129,21 @@ one_kept g file bytes new short held e =
     let t = traced i.new
     (replaced g.tag g.ifd_num (moved_to i.promised.0.offset g.value)
     (fields_of (trace i.at.bytes))) (faults_of (trace i.at.bytes)) i.promised.0.reads in
+    let p = passed (reads_past entry_limit (setting g) i.at.bytes) (wrong_header TooManyEntries)
+    (λ a. edited (setting g) i.at.bytes) i.new i.edited in
+    let f = i.promised.1 true (fields_of (trace i.new)) (faults_of (trace i.at.bytes))
+    (i.promised.0.reads true
+    ∙ ap (λ fs. shown fs (faults_of (trace i.at.bytes))) (sym t.fields)) in
     record {
+      few = ap (λ xs. nat_lt 1000000 (visits_of (trace xs))) (sym same) ∙ p.0;
       kept = i.new;
       held = i.holds;
       faults = t.faults ∙ ap (λ xs. faults_of (trace xs)) same;
+      offset = i.promised.0.offset;
+      fields = t.fields
+          ∙ ap (λ xs. replaced g.tag g.ifd_num (moved_to i.promised.0.offset g.value)
+          (fields_of (trace xs))) same;
+      found = f;
       others = ap (without_named g.tag g.ifd_num) t.fields
           ∙ (replaced_others g.tag g.ifd_num (moved_to i.promised.0.offset g.value)
           (fields_of (trace i.at.bytes))

@@ -1,6 +1,5 @@
 -- JPEG files in whose data fields were set.
-use Rattle.std.proofs.Common.{◌≡◌, ◌<◌, ◌^◌, ◌-◌, ◌∙◌, ◌+◌, ℕ, Bool, true, false, List, [], ◌∷◌, take, length, Option, Some, Result, Ok, Err, if◌then◌else◌, refl, sym, ap, subst}
-use Rattle.std.specs.Prelude.{nat_le}
+use Rattle.std.proofs.Common.{◌≡◌, ◌<◌, ◌^◌, ◌-◌, ◌∙◌, ℕ, Bool, true, false, List, [], ◌∷◌, take, length, Option, Some, Result, Ok, Err, if◌then◌else◌, refl, sym, ap, subst}
 use Rattle.exif_types.specs.Refusals as types
 use Rattle.exif_types.specs.declared.field.Field.{Field}
 use Rattle.exif_types.specs.declared.tag.Tag.{Tag}
@@ -26,11 +25,12 @@ use Rattle.exif_change.specs.Changed.{Change, Undone, whole}
 use Rattle.exif_change.specs.Growing.{grown_by, grown_file, item_moved, longest, naming, put, put_alone, replaced, too_long_for}
 use Rattle.exif_change.specs.Refusals.{Why, as_edited, as_read, second_exif, ◌>>=◌}
 use Rattle.exif_change.specs.Rewriting.{if_whole, rewritten, rewritten_jpeg, rewritten_webp, stream_ended}
+use Rattle.exif_change.specs.Second.{has_second}
 use Rattle.exif_change.specs.SetLaws.{HoldsSet}
 
 -- ---- steps that came through
 
-bound : {A B : Type 0} (x : Result A Why) (f : A → Result B Why) (b : B) → (x >>= f) ≡ Ok b
+pub bound : {A B : Type 0} (x : Result A Why) (f : A → Result B Why) (b : B) → (x >>= f) ≡ Ok b
     → (a : A) × (x ≡ Ok a) × (f a ≡ Ok b)
 bound (Ok a) f b e = (a, refl, e)
 bound {B = B} (Err why) f b e = absurd (err_ok e)
@@ -38,7 +38,7 @@ bound {B = B} (Err why) f b e = absurd (err_ok e)
     err_ok : ◌≡◌ {A = Result B Why} (Err why) (Ok b) → ⊥
     err_ok e = cc
 
-edited_ok : {A : Type 0} (x : Result A Cause) (a : A) → as_edited x ≡ Ok a → x ≡ Ok a
+pub edited_ok : {A : Type 0} (x : Result A Cause) (a : A) → as_edited x ≡ Ok a → x ≡ Ok a
 edited_ok {A = A} (Ok y) a e = ap (λ z. Ok z) (ok_same e)
   where
     ok_same : ◌≡◌ {A = Result A Why} (Ok y) (Ok a) → y ≡ a
@@ -79,7 +79,7 @@ change_or other (Err why) = other
 edit_same : (a b : List ℕ) → ◌≡◌ {A = Result (List ℕ) Cause} (Ok a) (Ok b) → a ≡ b
 edit_same a b e = cc
 
-tiff_same : (a b : List ℕ) → ◌≡◌ {A = Result Change Why} (Ok (whole a)) (Ok (whole b)) → a ≡ b
+pub tiff_same : (a b : List ℕ) → ◌≡◌ {A = Result Change Why} (Ok (whole a)) (Ok (whole b)) → a ≡ b
 unfolding change_or
 tiff_same a b e = ap (λ r. (change_or (whole b) r).file) e
 
@@ -131,15 +131,13 @@ put_answers remove put file new law is e short =
 -- ---- the whole
 
 -- what was put into a JPEG or WebP file was written again
-put_written : (format : Format) (n : ℕ) (data' : List ℕ) (fields : List Field) (file new : List ℕ)
-    → put_alone format n data' fields file ≡ Ok (whole new)
+put_written : (format : Format) (data' : List ℕ) (fields : List Field) (file new : List ℕ)
+    → put_alone format data' fields file ≡ Ok (whole new)
     → as_read (rewritten format Exif (Some data') file) ≡ Ok (whole new)
-put_written format n data' fields file new e =
+put_written format data' fields file new e =
     let b = bound (put format data' fields file)
-    (λ made. if nat_le (length made.file + n + 8) (length file + length data')
-    then Err second_exif else Ok made) (whole new) e in
-    let same = else_same (nat_le (length b.0.file + n + 8) (length file + length data'))
-    b.0 (whole new) b.2 in
+    (λ made. if has_second format file then Err second_exif else Ok made) (whole new) e in
+    let same = else_same (has_second format file) b.0 (whole new) b.2 in
     naming_ok (longest fields) (rewritten format Exif (Some data') file) b.0 b.1
     ∙ ap (λ c. Ok c) same
 
@@ -186,6 +184,20 @@ heif_answers data' file new e =
     let out : grown g.0 file ≡ new = edit_same (grown g.0 file) b.0 g.2 ∙ same in
     subst (λ xs. container_answer xs ≡ Ok data') out (growth_sound file data' g.0 g.1).holds
 
+-- a file that is written again is known by its first bytes
+abbrev pub IsKnown : Format → List ℕ → Type 0
+IsKnown Tiff file = Unit {0}
+IsKnown Jpeg file = format_in (take 4096 file) ≡ Some Jpeg
+IsKnown WebP file = format_in (take 4096 file) ≡ Some WebP
+IsKnown Heif file = Unit {0}
+
+pub known_by : (format : Format) (file : List ℕ) → format_in (take 4096 file) ≡ Some format
+    → IsKnown format file
+known_by Tiff file is = tt
+known_by Jpeg file is = is
+known_by WebP file is = is
+known_by Heif file is = tt
+
 -- a new file of a format has these data
 abbrev pub Found : Format → List ℕ → List ℕ → Type 0
 Found Tiff new data' = data' ≡ new
@@ -196,7 +208,7 @@ Found Heif new data' = container_answer new ≡ Ok data'
 -- the data in which fields were set are those of the new file
 pub data_found : (format : Format) (fields : List Field) (file bytes new : List ℕ)
     → ((remove : Remove) (put : Option (List ℕ)) (bytes : List ℕ) → IsFound remove put bytes)
-    → format_in (take 4096 file) ≡ Some format → container_answer file ≡ Ok bytes
+    → IsKnown format file → container_answer file ≡ Ok bytes
     → grown_file format fields file ≡ Ok (whole new) → length new < 2 ^ 64
     → (data' : List ℕ) × (fields_grown fields bytes ≡ Ok data') × Found format new data'
 unfolding grown_file
@@ -204,18 +216,18 @@ data_found format fields file bytes new law is held e short =
     let g : grown_by format fields (Ok bytes) file ≡ Ok (whole new) =
     sym (ap (λ r. grown_by format fields r file) held) ∙ e in
     let a = bound (as_edited (fields_grown fields bytes))
-    (λ data'. replaced format (length bytes) data' fields file) (whole new) g in
+    (λ data'. replaced format data' fields file) (whole new) g in
     (a.0, edited_ok (fields_grown fields bytes) a.0 a.1, by_format format is a.0 a.2)
   where
-    by_format : (f : Format) → format_in (take 4096 file) ≡ Some f → (data' : List ℕ)
-        → replaced f (length bytes) data' fields file ≡ Ok (whole new) → Found f new data'
+    by_format : (f : Format) → IsKnown f file → (data' : List ℕ)
+        → replaced f data' fields file ≡ Ok (whole new) → Found f new data'
     by_format Tiff is data' e = tiff_same data' new e
     by_format Jpeg is data' e =
         put_answers Exif (Some data') file new law is
-        (put_written Jpeg (length bytes) data' fields file new e) short
+        (put_written Jpeg data' fields file new e) short
     by_format WebP is data' e =
         webp_answers data' file new law is
-        (put_written WebP (length bytes) data' fields file new e) short
+        (put_written WebP data' fields file new e) short
     by_format Heif is data' e = heif_answers data' file new e
 
 -- fields that were set in the data of a file are read of the new one
@@ -226,7 +238,7 @@ pub set_in_file : (format : Format) (fields : List Field) (file bytes new : List
     → grown_file format fields file ≡ Ok (whole new) → length new < 2 ^ 64
     → HoldsSet format fields bytes new (container_answer new)
 set_in_file format fields file bytes new law set is held e short =
-    let d = data_found format fields file bytes new law is held e short in
+    let d = data_found format fields file bytes new law (known_by format file is) held e short in
     by_format format d.0 (set fields bytes d.0 d.1) d.2
   where
     by_format : (f : Format) (data' : List ℕ) → AreSet fields bytes data' → Found f new data'

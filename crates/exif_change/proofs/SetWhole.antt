@@ -23,11 +23,11 @@ use Rattle.exif_change.specs.Growing.{grown_file}
 use Rattle.exif_change.specs.InPlace.{field_set, fit_by, fitting_set, needs_space}
 use Rattle.exif_change.specs.SetLaws.{GivesOthers, HoldsOthers, KeepsOthers}
 use Rattle.exif_change.proofs.SetInPlace.{all_kept, wider}
-use Rattle.exif_change.proofs.SetKept.{Found, data_found}
+use Rattle.exif_change.proofs.SetKept.{Found, data_found, known_by}
 
 -- ---- names
 
-is_set_append : (xs ys : List Field) (f : Field)
+pub is_set_append : (xs ys : List Field) (f : Field)
     → is_set (xs ++ ys) f ≡ (is_set xs f || is_set ys f)
 is_set_append [] ys f = refl
 is_set_append (x ∷ xs) ys f = by_test (same_name x f) (is_set_append xs ys f)
@@ -37,11 +37,11 @@ is_set_append (x ∷ xs) ys f = by_test (same_name x f) (is_set_append xs ys f)
     by_test true h = refl
     by_test false h = h
 
-in_front : (xs ys : List Field) (f : Field) → is_set xs f ≡ true → is_set (xs ++ ys) f ≡ true
+pub in_front : (xs ys : List Field) (f : Field) → is_set xs f ≡ true → is_set (xs ++ ys) f ≡ true
 in_front xs ys f h = is_set_append xs ys f ∙ ap (λ b. b || is_set ys f) h
 
 -- what is left over is among what was to be set
-left_among : (fields left left' : List Field) (file new : List ℕ)
+pub left_among : (fields left left' : List Field) (file new : List ℕ)
     → fitting_set fields (file, left) ≡ Ok (new, left') → (f : Field) → is_set left' f ≡ true
     → is_set (fields ++ left) f ≡ true
 left_among [] left left' file new e f h =
@@ -98,7 +98,7 @@ grown_faults (g ∷ gs) old new e =
     grown_faults gs b.0 new b.2 ∙ (was_set g old b.0 b.1).faults
 
 -- data in which fields were set keep all others of a wider choice
-grown_kept : (sets gs : List Field) (old new : List ℕ)
+pub grown_kept : (sets gs : List Field) (old new : List ℕ)
     → ((f : Field) → is_set gs f ≡ true → is_set sets f ≡ true) → fields_grown gs old ≡ Ok new
     → KeepsOthers sets old new
 grown_kept sets gs old new more e =
@@ -117,7 +117,7 @@ grown_kept sets gs old new more e =
 
 -- ---- the whole
 
-both_kept : (sets : List Field) (old mid new : List ℕ) → KeepsOthers sets old mid
+pub both_kept : (sets : List Field) (old mid new : List ℕ) → KeepsOthers sets old mid
     → KeepsOthers sets mid new → KeepsOthers sets old new
 both_kept sets old mid new a b =
     record { faults = b.faults ∙ a.faults; others = b.others ∙ a.others }
@@ -150,7 +150,7 @@ set_whole format fields repeated rest field file bytes mid new law short small h
         → HoldsOthers format sets bytes new (container_answer new)
     by_mid (Err refusal) h k = absurd k
     by_mid (Ok old) h k =
-        let d = data_found format (field ∷ rest) mid old new law is h e small in
+        let d = data_found format (field ∷ rest) mid old new law (known_by format mid is) h e small in
         by_format format d.0
         (both_kept sets bytes old d.0 k
         (grown_kept sets (field ∷ rest) old d.0

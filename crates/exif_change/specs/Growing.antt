@@ -1,5 +1,5 @@
 -- Files with fields set in their Exif data, which become longer, or in new ones.
-use Rattle.std.specs.Prelude.{ℕ, ◌+◌, ◌^◌, nat_le, nat_lt, if◌then◌else◌, false, List, [], ◌∷◌, length, Option, Some, None, Result, Ok, Err}
+use Rattle.std.specs.Prelude.{ℕ, ◌^◌, nat_lt, if◌then◌else◌, false, List, [], ◌∷◌, Option, Some, None, Result, Ok, Err}
 use Rattle.exif_base.specs.Orders.{order_named}
 use Rattle.exif_types.specs.Refusals as types
 use Rattle.exif_types.specs.Refusals.{not_found, too_big}
@@ -20,6 +20,7 @@ use Rattle.exif_grow_files.specs.Items.{item_grown}
 use Rattle.exif_change.specs.Changed.{Change, whole}
 use Rattle.exif_change.specs.Refusals.{Why, as_edited, as_read, reading, second_exif, too_long, ◌>>=◌}
 use Rattle.exif_change.specs.Rewriting.{rewritten}
+use Rattle.exif_change.specs.Second.{has_second}
 
 -- data, unless they can't be written
 abbrev pub unless_fault : Option WriteFault → List ℕ → Result (List ℕ) types.Refusal
@@ -63,29 +64,27 @@ naming tag answer = as_read answer
 abbrev pub put : Format → List ℕ → List Field → List ℕ → Result Change Why
 put format data' fields file = naming (longest fields) (rewritten format Exif (Some data') file)
 
--- the file with new Exif data in place of its own, of which there are n bytes
-abbrev pub put_alone : Format → ℕ → List ℕ → List Field → List ℕ → Result Change Why
-put_alone format n data' fields file =
+-- the file with new Exif data in place of its own, unless it has others too
+abbrev pub put_alone : Format → List ℕ → List Field → List ℕ → Result Change Why
+put_alone format data' fields file =
     put format data' fields file
-    >>= λ new. if nat_le (length new.file + n + 8) (length file + length data')
-    then Err second_exif else Ok new
+    >>= λ new. if has_second format file then Err second_exif else Ok new
 
 -- a HEIF file with new Exif data, whose item is put behind the file
 abbrev pub item_moved : List ℕ → List ℕ → Result Change Why
 item_moved data' file = as_edited (item_grown file data') >>= λ new. Ok (whole new)
 
--- a file with new Exif data in place of its own, of which there are n bytes
-abbrev pub replaced : Format → ℕ → List ℕ → List Field → List ℕ → Result Change Why
-replaced Tiff n data' fields file = Ok (whole data')
-replaced Jpeg n data' fields file = put_alone Jpeg n data' fields file
-replaced WebP n data' fields file = put_alone WebP n data' fields file
-replaced Heif n data' fields file = item_moved data' file
+-- a file with new Exif data in place of its own
+abbrev pub replaced : Format → List ℕ → List Field → List ℕ → Result Change Why
+replaced Tiff data' fields file = Ok (whole data')
+replaced Jpeg data' fields file = put_alone Jpeg data' fields file
+replaced WebP data' fields file = put_alone WebP data' fields file
+replaced Heif data' fields file = item_moved data' file
 
 -- a file with fields set in the Exif data that it has
 abbrev pub grown_in : Format → List Field → List ℕ → List ℕ → Result Change Why
 grown_in format fields bytes file =
-    as_edited (fields_grown fields bytes)
-    >>= λ data'. replaced format (length bytes) data' fields file
+    as_edited (fields_grown fields bytes) >>= λ data'. replaced format data' fields file
 
 -- a file with new Exif data that hold fields
 abbrev pub created_in : Format → List Field → List ℕ → Result Change Why

@@ -10,6 +10,7 @@ ghost use Rattle.exif_change.specs.Refusals.{Answers};
 use crate::Refusal;
 use crate::changed::Changed;
 use crate::rewriting::rewritten;
+use crate::second::has_second;
 use exif::experimental::Writer;
 use exif::{Counted, Error, Field, Tag};
 use exif_containers::container::Format;
@@ -18,9 +19,6 @@ use exif_grow_fields::set_fields;
 use exif_grow_files::with_data;
 use exif_rewrite::Remove;
 use std::alloc::Global;
-
-// No segment or chunk of Exif data has fewer bytes, its header included.
-const SHORTEST_BLOCK: u128 = 8;
 
 /// The file with fields set in its Exif data by [`set_fields`], or in new Exif data if it has none.
 #[tactic(auto, unfolding(crate::specs::Growing::grown_file))]
@@ -50,7 +48,7 @@ fn grown(
     ensures { Answers change_of result (grown_in format fields.now old.now file.now) }
 {
     match set_fields(alloc, old, fields) {
-        Ok(data) => replaced(alloc, format, old.len(), data, fields, file),
+        Ok(data) => replaced(alloc, format, data, fields, file),
         Err(error) => Err(Refusal::Editing(error)),
     }
 }
@@ -82,23 +80,20 @@ fn created(alloc: Global, format: Format, fields: &[Field], file: &[u8]) -> Resu
     }
 }
 
-// The file with new Exif data in place of its own, of which there are so many bytes.
+// The file with new Exif data in place of its own.
 fn replaced(
     alloc: Global,
     format: Format,
-    old_len: usize,
     exif: Vec<u8>,
     fields: &[Field],
     file: &[u8],
 ) -> Result<Changed, Refusal>
     ensures { Answers change_of result
-        (replaced format old_len exif.items fields.now file.now) }
+        (replaced format exif.items fields.now file.now) }
 {
     match format {
         Format::Tiff => Ok(Changed::whole(alloc, exif)),
-        Format::Jpeg | Format::WebP => {
-            put_alone(alloc, format, old_len, exif.as_slice(), fields, file)
-        }
+        Format::Jpeg | Format::WebP => { put_alone(alloc, format, exif.as_slice(), fields, file) }
         Format::Heif => item_moved(alloc, exif.as_slice(), file),
     }
 }
@@ -118,18 +113,14 @@ fn item_moved(alloc: Global, exif: &[u8], file: &[u8]) -> Result<Changed, Refusa
 fn put_alone(
     alloc: Global,
     format: Format,
-    old_len: usize,
     exif: &[u8],
     fields: &[Field],
     file: &[u8],
 ) -> Result<Changed, Refusal>
-    ensures { Answers change_of result
-        (put_alone format old_len exif.now fields.now file.now) }
+    ensures { Answers change_of result (put_alone format exif.now fields.now file.now) }
 {
     let new = put(alloc, format, exif, fields, file)?;
-    let after = new.file.len() as u128 + old_len as u128 + SHORTEST_BLOCK;
-    let before = file.len() as u128 + exif.len() as u128;
-    if after <= before {
+    if has_second(alloc, format, file)? {
         return Err(Refusal::SecondExif);
     }
     Ok(new)

@@ -12,6 +12,7 @@ mod reading;
 mod refusal;
 mod rewriting;
 mod scrubbing;
+mod second;
 pub mod set_laws;
 mod setting;
 mod thumbnails;

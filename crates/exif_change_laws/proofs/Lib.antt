@@ -6,8 +6,14 @@ mod MovedTexts
 mod NoField
 mod OrientationImage
 mod ScrubbedFiles
+mod SetAgain
+mod SetAssigned
+mod SetBytes
 mod SetFields
+mod SetFormats
 mod SetItself
+mod SetNames
+mod SetTogether
 mod SetTwice
 mod ShiftedBack
 mod ShiftedFiles

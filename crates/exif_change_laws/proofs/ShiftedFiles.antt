@@ -263,15 +263,15 @@ first_read by fields (tag ∷ tags) file final bytes short held some e =
     by_option follows None some e = follows some e
     by_option follows (Some field) some e = by_moved (moved_value by field.value) e
 
-shown_in : (fields : List Field) (faults : List Fault) → fields_in (shown fields faults) ≡ Ok fields
+pub shown_in : (fields : List Field) (faults : List Fault) → fields_in (shown fields faults) ≡ Ok fields
 shown_in fields [] = refl
 shown_in fields (fault ∷ faults) = refl
 
-fields_same : (a b : List Field) → ◌≡◌ {A = Result (List Field) Refusal} (Ok a) (Ok b) → a ≡ b
+pub fields_same : (a b : List Field) → ◌≡◌ {A = Result (List Field) Refusal} (Ok a) (Ok b) → a ≡ b
 fields_same a b e = cc
 
 -- the fields that are read before a change
-contents_are : (bytes : List ℕ) (contents : Contents) → data_contents bytes ≡ Ok contents → fields_in (raw_answer true entry_limit bytes) ≡ Ok contents.fields
+pub contents_are : (bytes : List ℕ) (contents : Contents) → data_contents bytes ≡ Ok contents → fields_in (raw_answer true entry_limit bytes) ≡ Ok contents.fields
 unfolding data_contents
 contents_are bytes contents e = by_fields (fields_in (raw_answer true entry_limit bytes)) (without_fault (header bytes)) e
   where

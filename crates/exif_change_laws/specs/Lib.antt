@@ -1,3 +1,4 @@
+pub mod Assigned
 pub mod Examples
 pub mod Positions
 pub mod Scrubbed

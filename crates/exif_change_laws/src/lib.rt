@@ -23,6 +23,8 @@ ghost use Rattle.exif_change_laws.specs.Positions.{KeepsPositions};
 ghost use Rattle.exif_change_laws.specs.Scrubbed.{HasNoField, is_rewritten, orientation, orientation_alone};
 ghost use Rattle.exif_change_laws.specs.Shifted.{all_read};
 
+pub mod sets;
+
 use exif_clock::laws::a_moved_date_is_moved_back;
 use exif_rewrite::laws::file_answers_what_was_put;
 use exif_tiff::laws::limits_cut_readings;
