@@ -1,8 +1,8 @@
 -- What comes in place of bytes is as long as they are.
-use Rattle.std.proofs.Common.{◌≡◌, ◌<◌, ◌≤◌, ◌+◌, ◌-◌, ℕ, Bool, true, false, cond, ltb, leb, List, [], ◌∷◌, ◌++◌, length, take, drop, replicate, codes, refl, sym, ◌∙◌, arith}
+use Rattle.std.proofs.Common.{◌≡◌, ◌≤◌, ◌-◌, ℕ, Bool, true, false, cond, ltb, leb, List, [], ◌++◌, length, replicate, refl, ◌∙◌, arith}
 use Rattle.std.proofs.lemmas.Bool.Decides.{nat_tests}
 use Rattle.std.proofs.lemmas.Grind.{common_steps}
-use Rattle.exif_scrub_heif.specs.Blanks.{as_free, blanked, cleared_from, free_front, freed, no_fields, no_properties, padded, renamed}
+use Rattle.exif_scrub_heif.specs.Blanks.{blanked, cleared_from, free_front, freed, no_fields, no_properties, padded, renamed}
 use Rattle.exif_scrub_heif.specs.declared.blank.Blank.{Blank}
 use Rattle.exif_scrub_heif.specs.declared.blank.Blank.TheVariants.{Nothing, Fields, Packet, Zeros, Free}
 
