@@ -189,7 +189,8 @@ pub fn layout(alloc: Global, file: &[u8]) -> Result<Option<Layout>, AllocError>
 /// The items are not understood where their lists can't be read, where data of an item that is no
 /// picture's are shared, in no box for such data, or not in the file, and where the file has tracks
 /// as well. Then what may be the picture's or not, in `meta` and in the boxes with data, is not
-/// known, and no part of the picture. It takes memory for the lists.
+/// known, and no part of the picture. So are files with more than 16,384 items, 65,536 extents or
+/// boxes, or 256 extents of items that are no pictures. It takes memory for the lists.
 pub fn inventory(alloc: Global, file: &[u8]) -> Result<Option<Vec<Part>>, AllocError>
     ensures answer { IfOk result
         (λ parts. option_map (λ v. v.items) parts ≡ heif_inventory file.now) }
