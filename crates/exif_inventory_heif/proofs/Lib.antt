@@ -3,3 +3,4 @@ pub mod LoopSteps
 pub mod ItemSteps
 pub mod SpanOrder
 pub mod PartOrder
+pub mod Apart

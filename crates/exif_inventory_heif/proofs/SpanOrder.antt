@@ -54,12 +54,12 @@ item_ordered extent file h = kind_ordered extent.kind extent file h
 
 -- ---- a span with an extent cut out
 
-record Held (extent : Extent) (span : Span) : Type 0 where
-  least : span.content ≤ extent.from
-  some : extent.from < extent.end
-  most : extent.end ≤ span.end
+pub record Held (extent : Extent) (span : Span) : Type 0 where
+  pub least : span.content ≤ extent.from
+  pub some : extent.from < extent.end
+  pub most : extent.end ≤ span.end
 
-held_of : (extent : Extent) (span : Span) → holds extent span ≡ true → Held extent span
+pub held_of : (extent : Extent) (span : Span) → holds extent span ≡ true → Held extent span
 held_of extent span h = record {
   least = grind (arith, nat_tests);
   some = grind (arith, nat_tests);
@@ -113,7 +113,7 @@ carve_if true b file extent spans judged end h = h
 carve_if false true file extent spans judged end h = cut_ordered file extent 0 spans end h
 carve_if false false file extent spans judged end h = h
 
-one_carved : (file : List ℕ) (all : List Extent) (extent : Extent) (carving : List Span × Bool) (end : ℕ) → AreSpans 0 carving.0 end
+pub one_carved : (file : List ℕ) (all : List Extent) (extent : Extent) (carving : List Span × Bool) (end : ℕ) → AreSpans 0 carving.0 end
     → AreSpans 0 (carve_one file all extent carving).0 end
 unfolding carve_one
 one_carved file all extent (spans, judged) end h = carve_if _ _ file extent spans judged end h

@@ -123,8 +123,8 @@ carve_each file all (extent ∷ extents) carving =
 abbrev pub are_many : List Extent → Bool
 are_many extents = nat_lt 256 (count_by (λ extent. not (is_picture extent.kind)) extents)
 
--- spans with all extents of metadata cut out
+-- spans with all extents of metadata cut out, if these are not many, nor the spans
 unfoldable pub carved : List ℕ → List Extent → List Span × Bool → List Span × Bool
 carved file extents (spans, judged) =
-    if are_many extents then (spans, false)
+    if are_many extents || nat_lt 65536 (length spans) then (spans, false)
     else carve_each file extents extents (spans, judged)

@@ -8,4 +8,5 @@ pub mod Items
 pub mod Extents
 pub mod Carving
 pub mod Inventories
+pub mod Promises
 pub mod Examples

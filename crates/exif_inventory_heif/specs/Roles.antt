@@ -1,6 +1,6 @@
 -- What a box is, by its name and its content (ISO/IEC 14496-12, 4.2, 8.1, 8.11; C2PA Technical
 -- Specification, "Embedding manifests into BMFF-based assets"; XMP Specification, Part 3).
-use Rattle.std.specs.Prelude.{ℕ, List, [], ◌∷◌, take, codes, Bool, true, false, ◌&&◌, ◌||◌, ◌==◌, Option, Some, None, unwrap_or, if◌then◌else◌}
+use Rattle.std.specs.Prelude.{ℕ, List, [], ◌∷◌, length, take, codes, nat_le, Bool, true, false, ◌&&◌, ◌||◌, ◌==◌, Option, Some, None, unwrap_or, if◌then◌else◌}
 use Rattle.std.specs.Str.{bytes_eq}
 use Rattle.exif_inventory.specs.declared.kind.Kind.{Kind}
 use Rattle.exif_inventory.specs.declared.kind.Kind.TheVariants as kind
@@ -35,11 +35,16 @@ xmp_name =
     0xbe ∷ 0x7a ∷ 0xcf ∷ 0xcb ∷ 0x97 ∷ 0xa9 ∷ 0x42 ∷ 0xe8
     ∷ 0x9c ∷ 0x71 ∷ 0x99 ∷ 0x94 ∷ 0x91 ∷ 0xe3 ∷ 0xaf ∷ 0xac ∷ []
 
+-- whether a content begins with a name
+abbrev pub begins : List ℕ → List ℕ → Bool
+begins name content =
+    nat_le (length name) (length content) && bytes_eq (take (length name) content) name
+
 -- what a box of a type of its own is, by the 16 bytes that name it
 abbrev pub uuid_kind : List ℕ → Kind
 uuid_kind content =
-    if bytes_eq (take 16 content) credentials_name then kind.ContentCredentials else
-    if bytes_eq (take 16 content) xmp_name then kind.Xmp else kind.Unknown
+    if begins credentials_name content then kind.ContentCredentials else
+    if begins xmp_name content then kind.Xmp else kind.Unknown
 
 -- what a box is that may be anywhere
 abbrev pub common_role : List ℕ → List ℕ → Role

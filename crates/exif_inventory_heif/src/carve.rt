@@ -11,8 +11,10 @@ use crate::span::{Layout, Span};
 use exif_inventory::Kind;
 use std::alloc::{AllocError, Global};
 
-/// How many extents of metadata are cut out at most.
-pub const CUT_LIMIT: usize = 256;
+// How many extents of metadata are cut out at most.
+const CUT_LIMIT: usize = 256;
+// Of how many spans they are cut out at most.
+const SPAN_LIMIT: usize = 65_536;
 
 // Whether data are those of a picture.
 fn is_picture(kind: Kind) -> bool
@@ -221,8 +223,8 @@ fn carve_each(
     Ok(so_far)
 }
 
-/// Spans with all extents of metadata cut out. Where one can't be, or there are too many, what is
-/// left of the spans with items' data is not judged.
+/// Spans with all extents of metadata cut out. Where one can't be, or there are too many of them or
+/// of the spans, what is left of the spans with items' data is not judged.
 #[tactic(auto, unfolding(crate::specs::Carving::carved))]
 pub fn carved(
     alloc: Global,
@@ -233,7 +235,7 @@ pub fn carved(
     ensures { IfOk result
         (λ c. layout_view c ≡ carved file.now extents.now (layout_view carving)) }
 {
-    if are_many(extents) {
+    if are_many(extents) || carving.spans.len() > SPAN_LIMIT {
         return Ok(Layout {
             spans: carving.spans,
             judged: false,

@@ -11,8 +11,8 @@ use crate::span::Span;
 use exif_inventory::Kind;
 use std::alloc::{AllocError, Global};
 
-/// How many extents are read at most.
-pub const EXTENT_LIMIT: usize = 65_536;
+// How many extents are read at most.
+const EXTENT_LIMIT: usize = 65_536;
 
 /// Bytes of the file that are data of an item.
 #[derive(Clone, Copy, Debug)]

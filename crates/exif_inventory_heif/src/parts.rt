@@ -6,6 +6,7 @@ ghost use Rattle.std.specs.Option.{option_map};
 ghost use Rattle.exif_inventory.specs.Promises.{AreInOrder, EndsIn, IsWithin};
 ghost use Rattle.exif_inventory_heif.specs.Carving.{layout_view};
 ghost use Rattle.exif_inventory_heif.specs.Inventories.{any_brand, extents_in, extents_with, has_brand, heif_inventory, heif_layout, is_brand, is_heif, items_in_file, judged_parts, layout_of, parts_of, settled};
+ghost use Rattle.exif_inventory_heif.specs.Promises.{PictureIsApart};
 ghost use Rattle.exif_inventory_heif.specs.Walks.{AreSpans, IsInside};
 
 use crate::boxes::{content_of, head_of, name_of};
@@ -140,6 +141,7 @@ fn layout_of(alloc: Global, file: &[u8]) -> Result<Layout, AllocError>
     ensures ordered { IfOk result (λ layout. AreSpans 0 layout.spans.items (length file.now)) }
     ensures inside { IfOk result
         (λ layout. All (IsInside (length file.now)) layout.spans.items) }
+    ensures apart { IfOk result (λ layout. PictureIsApart file.now (layout_view layout)) }
 {
     let spans = spans_of(alloc, file)?;
     let layout = settled(alloc, file, spans)?;
@@ -166,6 +168,8 @@ pub fn layout(alloc: Global, file: &[u8]) -> Result<Option<Layout>, AllocError>
         (λ layout. AreSpans 0 layout.spans.items (length file.now))) }
     ensures inside { IfOk result (λ found. IfSome found
         (λ layout. All (IsInside (length file.now)) layout.spans.items)) }
+    ensures apart { IfOk result (λ found. IfSome found
+        (λ layout. PictureIsApart file.now (layout_view layout))) }
 {
     if is_heif(file) {
         Ok(Some(layout_of(alloc, file)?))
@@ -185,7 +189,8 @@ pub fn layout(alloc: Global, file: &[u8]) -> Result<Option<Layout>, AllocError>
 /// The items are not understood where their lists can't be read, where data of an item that is no
 /// picture's are shared, in no box for such data, or not in the file, and where the file has tracks
 /// as well. Then what may be the picture's or not, in `meta` and in the boxes with data, is not
-/// known, and no part of the picture. It takes memory for the lists.
+/// known, and no part of the picture. So are files with more than 16,384 items, 65,536 extents or
+/// boxes, or 256 extents of items that are no pictures. It takes memory for the lists.
 pub fn inventory(alloc: Global, file: &[u8]) -> Result<Option<Vec<Part>>, AllocError>
     ensures answer { IfOk result
         (λ parts. option_map (λ v. v.items) parts ≡ heif_inventory file.now) }

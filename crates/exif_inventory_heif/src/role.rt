@@ -1,9 +1,14 @@
 //! What a box is, by its name and its content (ISO/IEC 14496-12, 4.2; ISO/IEC 23008-12, 10.2).
 
 ghost use Rattle.std.specs.Prelude.{◌≡◌};
-ghost use Rattle.exif_inventory_heif.specs.Roles.{child_name, child_role, common_role, free_kind, is_zeros, same_role, top_name, top_role, uuid_kind};
+ghost use Rattle.exif_inventory_heif.specs.Roles.{begins, child_name, child_role, common_role, free_kind, is_zeros, same_role, top_name, top_role, uuid_kind};
 
 use exif_inventory::Kind;
+
+// The type of a box with content credentials.
+const CREDENTIALS: &[u8] = b"\xd8\xfe\xc3\xd6\x1b\x0e\x48\x3c\x92\x97\x58\x28\x87\x7e\xc4\x81";
+// The type of a box with an XMP packet.
+const XMP: &[u8] = b"\xbe\x7a\xcf\xcb\x97\xa9\x42\xe8\x9c\x71\x99\x94\x91\xe3\xaf\xac";
 
 /// What a span of a file is, before its items are known.
 #[derive(Clone, Copy, Debug)]
@@ -60,50 +65,23 @@ fn free_kind(content: &[u8]) -> Kind
     }
 }
 
+// Whether a content begins with a name.
+fn begins(name: &[u8], content: &[u8]) -> bool
+    ensures { result ≡ begins name.now content.now }
+{
+    content.len() >= name.len() && content[..name.len()] == name[..]
+}
+
 // What a box of a type of its own is, by the 16 bytes that name it.
 fn uuid_kind(content: &[u8]) -> Kind
     ensures { result ≡ uuid_kind content.now }
 {
-    match content {
-        [
-            0xd8,
-            0xfe,
-            0xc3,
-            0xd6,
-            0x1b,
-            0x0e,
-            0x48,
-            0x3c,
-            0x92,
-            0x97,
-            0x58,
-            0x28,
-            0x87,
-            0x7e,
-            0xc4,
-            0x81,
-            ..
-        ] => { Kind::ContentCredentials }
-        [
-            0xbe,
-            0x7a,
-            0xcf,
-            0xcb,
-            0x97,
-            0xa9,
-            0x42,
-            0xe8,
-            0x9c,
-            0x71,
-            0x99,
-            0x94,
-            0x91,
-            0xe3,
-            0xaf,
-            0xac,
-            ..
-        ] => { Kind::Xmp }
-        _ => Kind::Unknown,
+    if begins(CREDENTIALS, content) {
+        Kind::ContentCredentials
+    } else if begins(XMP, content) {
+        Kind::Xmp
+    } else {
+        Kind::Unknown
     }
 }
 

@@ -25,8 +25,8 @@ pub struct Span {
 pub struct Layout {
     /// Its spans, in order.
     pub spans: Vec<Span>,
-    /// Whether what may hold the picture or metadata is the picture's: whether the data of all items
-    /// that are no pictures are spans of their own.
+    /// Whether what may hold the picture or metadata is the picture's: whether the data of all
+    /// items that are no pictures are spans of their own.
     pub judged: bool,
 }
 

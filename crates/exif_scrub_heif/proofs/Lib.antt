@@ -1,0 +1,2 @@
+pub mod BlankSteps
+pub mod SpanSteps

@@ -1,2 +1,4 @@
 pub mod Blanks
 pub mod Scrubbing
+pub mod Promises
+pub mod Examples

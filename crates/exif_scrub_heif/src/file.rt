@@ -2,6 +2,8 @@
 
 ghost use Rattle.std.specs.Prelude.{◌≡◌, ◌≤◌, length, IfOk, OnOk};
 ghost use Rattle.std.specs.Option.{option_map};
+ghost use Rattle.exif_inventory_heif.specs.Inventories.{heif_layout};
+ghost use Rattle.exif_scrub_heif.specs.Promises.{AllBecome};
 ghost use Rattle.exif_scrub_heif.specs.Scrubbing.{is_other, left_of, scrubbed, span_scrubbed, stays};
 
 use crate::blank::{Blank, overwrite, span_blank};
@@ -56,7 +58,9 @@ fn scrub_span(
 ///
 /// Out of memory leaves each part as it was, or scrubbed.
 pub fn scrub(alloc: Global, file: &mut [u8]) -> Result<Option<Vec<Part>>, AllocError>
-    ensures { IfOk result (λ left. (file.new, option_map (λ v. v.items) left) ≡ scrubbed file.old) }
+    ensures answer { IfOk result
+        (λ left. (file.new, option_map (λ v. v.items) left) ≡ scrubbed file.old) }
+    ensures each { IfOk result (λ _. AllBecome file.old file.new (heif_layout file.old)) }
 {
     let Some(found) = layout(alloc, file)? else {
         return Ok(None);
