@@ -1,5 +1,5 @@
 -- Files whose metadata were taken out, by their formats.
-use Rattle.std.proofs.Common.{◌≡◌, ◌∙◌, ◌<◌, ◌^◌, ◌==◌, inl, inr, ℕ, true, false, Bool, List, [], ◌∷◌, length, take, Option, Some, None, Result, Ok, Err, if◌then◌else◌, refl, sym, ap, subst, arith}
+use Rattle.std.proofs.Common.{◌≡◌, ◌∙◌, ◌<◌, ◌^◌, ◌==◌, inl, inr, ℕ, true, false, Bool, List, [], ◌∷◌, ◌++◌, length, map, take, Option, Some, None, Result, Ok, Err, if◌then◌else◌, refl, sym, ap, subst, arith}
 use Rattle.std.proofs.lemmas.Bool.{and_parts, false≢true}
 use Rattle.std.proofs.lemmas.Bool.Decides.{nat_tests}
 use Rattle.exif_types.specs.Refusals as types
@@ -33,10 +33,12 @@ use Rattle.exif_rewrite.specs.RewrittenFile.{at_once, file_rewriting, rewriting_
 use Rattle.exif_rewrite.proofs.FileHeads.{jpeg_head, webp_head}
 use Rattle.exif_rewrite_jpeg.specs.Rewriting.{Rewriting, finished}
 use Rattle.exif_rewrite_webp.specs.RewrittenWebp.{webp_rewriting}
-use Rattle.exif_change.specs.Changed.{Change, whole}
-use Rattle.exif_change.specs.Changes.{erased, if_edited, scrubbed, scrubbed_as}
+use Rattle.exif_inventory.specs.declared.part.Part.{Part}
+use Rattle.exif_scrub_heif.specs.Scrubbing as heif
+use Rattle.exif_change.specs.Changed.{Change, Undone, still_there, whole}
+use Rattle.exif_change.specs.Changes.{erased, heif_emptied, if_edited, scrubbed, scrubbed_as, with_parts}
 use Rattle.exif_change.specs.Reading.{Contents, data_contents, entry_limit, file_contents}
-use Rattle.exif_change.specs.Refusals.{Why, as_read, picture_data, reading, unknown_format}
+use Rattle.exif_change.specs.Refusals.{Why, as_read, reading, unknown_format}
 use Rattle.exif_change.specs.Rewriting.{if_whole, rewritten, rewritten_webp}
 use Rattle.exif_change.specs.declared.scrubbing.Removed.{Removed}
 use Rattle.exif_change.specs.declared.scrubbing.Removed.TheVariants as removed
@@ -233,19 +235,42 @@ erased_read file new laws short e = by_edit (edited_file entry_limit EraseAll fi
 
 -- ---- all formats
 
+-- a change that left no part, and nothing else, is whole
+with_parts_whole : (parts : List Part) (change : Result Change Why) (new : List ℕ) → with_parts parts change ≡ Ok (whole new) → change ≡ Ok (whole new)
+with_parts_whole parts (Err why) new e = absurd (no_ok why (whole new) e)
+with_parts_whole parts (Ok change) new e = ap (λ (c : Change). let y : Result Change Why = Ok c in y) same
+  where
+    joined : change.undone ++ map (λ part. Some (still_there part)) parts ≡ []
+    joined = ap (λ (x : Result Change Why). elim x [ Ok c ↦ c.undone | Err why ↦ [] ]) e
+
+    front : {X : Type 0} (xs ys : List X) → xs ++ ys ≡ [] → xs ≡ []
+    front [] ys h = refl
+    front (x ∷ xs) ys h = absurd (cc)
+
+    file_is : change.file ≡ new
+    file_is = ap (λ (x : Result Change Why). elim x [ Ok c ↦ c.file | Err why ↦ new ]) e
+
+    same : change ≡ whole new
+    same = ap (λ (f : List ℕ). record { file = f; undone = change.undone }) file_is ∙ ap (λ (u : List (Option Undone)). record { file = new; undone = u }) (front change.undone _ joined)
+
+-- a HEIF file without its metadata
+pub heif_read : (made : List ℕ × Option (List Part)) (new : List ℕ) → Limits → length made.0 < 2 ^ 64 → heif_emptied made ≡ Ok (whole new) → HasNoField (file_contents new)
+heif_read (file, None) new limits short e = erased_read file new limits short e
+heif_read (file, Some parts) new limits short e = erased_read file new limits short (with_parts_whole parts (erased EraseAll file) new e)
+
 -- a file without its metadata
 pub scrubbed_read : (file new : List ℕ) → ((remove : Remove) (put : Option (List ℕ)) (bytes : List ℕ) → IsFound remove put bytes) → Limits
-    → length file < 2 ^ 64 → length new < 2 ^ 64 → scrubbed removed.Metadata file ≡ Ok (whole new) → HasNoField (file_contents new)
-scrubbed_read file new law limits short small e = by_format (format_in file) refl e
+    → (format_in file ≡ Some Tiff → ⊥) → length (heif.scrubbed file).0 < 2 ^ 64 → length new < 2 ^ 64 → scrubbed removed.Metadata file ≡ Ok (whole new) → HasNoField (file_contents new)
+scrubbed_read file new law limits other short small e = by_format (format_in file) refl e
   where
     by_format : (o : Option Format) → format_in file ≡ o
         → ◌≡◌ {A = Result Change Why} (elim o [ Some format ↦ scrubbed_as format removed.Metadata file | None ↦ Err unknown_format ]) (Ok (whole new))
         → HasNoField (file_contents new)
     by_format None f e = absurd (no_ok unknown_format (whole new) e)
-    by_format (Some Tiff) f e = absurd (no_ok picture_data (whole new) e)
+    by_format (Some Tiff) f e = absurd (other f)
     by_format (Some Jpeg) f e = nothing_read new (rewritten_answers Jpeg None file new law refl f e small)
     by_format (Some WebP) f e = nothing_read new (rewritten_answers WebP None file new law refl f e small)
-    by_format (Some Heif) f e = erased_read file new limits short e
+    by_format (Some Heif) f e = heif_read (heif.scrubbed file) new limits short e
 
 -- what is made of a file by its format
 pub scrubbed_by : (format : Format) (removed : Removed) (file : List ℕ) → format_in file ≡ Some format → scrubbed removed file ≡ scrubbed_as format removed file

@@ -8,7 +8,8 @@ ghost use Rattle.exif_types.specs.declared.value.Value.{Value};
 ghost use Rattle.exif_tiff.specs.Visits.{AreBytes};
 ghost use Rattle.exif_containers.specs.Container.{container_answer, format_in};
 ghost use Rattle.exif_containers.specs.declared.container.Format.{Format};
-ghost use Rattle.exif_containers.specs.declared.container.Format.TheVariants.{Heif, WebP};
+ghost use Rattle.exif_containers.specs.declared.container.Format.TheVariants.{Heif, Tiff, WebP};
+ghost use Rattle.exif_scrub_heif.specs.Scrubbing.{scrubbed as heif_scrubbed};
 ghost use Rattle.exif_rewrite.specs.FileLaws.{AnswersPut};
 ghost use Rattle.exif_rewrite.specs.ScrubbedExif.{wanted};
 ghost use Rattle.exif_clock.specs.Shift.{moved_value, opposite};
@@ -52,14 +53,18 @@ pub fn a_scrubbed_webp_file_keeps_the_orientation()
 }
 
 /// Of a JPEG, WebP or HEIF file without its metadata no field is read, and of a HEIF file none
-/// where the orientation is to be kept either: its fields are all erased.
+/// where the orientation is to be kept either: its fields are all erased. Of a TIFF file those that
+/// describe its pictures stay.
 pub fn a_scrubbed_file_has_no_field()
     ensures all { (file new : List ℕ)
-        → scrubbed Metadata file ≡ Ok (whole new) → length file < 2 ^ 64 → length new < 2 ^ 64
+        → (format_in file ≡ Some Tiff → ⊥)
+        → scrubbed Metadata file ≡ Ok (whole new)
+        → length (heif_scrubbed file).0 < 2 ^ 64 → length new < 2 ^ 64
         → HasNoField (file_contents new) }
     ensures heif { (file new : List ℕ)
         → format_in file ≡ Some Heif
-        → scrubbed AllButOrientation file ≡ Ok (whole new) → length file < 2 ^ 64
+        → scrubbed AllButOrientation file ≡ Ok (whole new)
+        → length (heif_scrubbed file).0 < 2 ^ 64
         → HasNoField (file_contents new) }
 {
     file_answers_what_was_put();
