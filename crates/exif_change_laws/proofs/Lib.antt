@@ -12,6 +12,7 @@ mod SetBytes
 mod SetFields
 mod SetFormats
 mod SetItself
+mod SetMade
 mod SetNames
 mod SetTogether
 mod SetTwice
