@@ -10,6 +10,7 @@ mod SetAgain
 mod SetAssigned
 mod SetBytes
 mod SetFields
+mod SetFileBytes
 mod SetFormats
 mod SetItself
 mod SetMade

@@ -1,6 +1,6 @@
 -- The format of a file in which fields were set in place.
 use Rattle.std.proofs.Common.{◌≡◌, ◌∙◌, ◌<◌, ◌-◌, ◌^◌, ℕ, Bool, true, false, List, [], ◌∷◌, ◌++◌, length, take, Option, Some, None, Result, Ok, Err, if◌then◌else◌, refl, sym, ap, subst, arith, length-append}
-use Rattle.exif_types.specs.Refusals.{Refusal, ◌>>=◌}
+use Rattle.exif_types.specs.Refusals.{Refusal}
 use Rattle.exif_types.specs.declared.field.Field.{Field}
 use Rattle.exif_isobmff.specs.Extents as heif
 use Rattle.exif_isobmff.specs.Extents.{located_exif}

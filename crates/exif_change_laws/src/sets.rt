@@ -10,9 +10,11 @@ ghost use Rattle.exif_containers.specs.Container.{container_answer};
 ghost use Rattle.exif_edit.specs.Setting.{set_answer};
 ghost use Rattle.exif_assign.specs.declared.assignment.Assignment.{Assignment};
 ghost use Rattle.exif_change.specs.Changed.{whole};
+ghost use Rattle.exif_change.specs.InPlace.{field_set};
 ghost use Rattle.exif_change.specs.Reading.{Contents, file_contents};
 ghost use Rattle.exif_change.specs.Setting.{assigned_fields, set_file};
 ghost use Rattle.exif_change_laws.specs.Assigned.{GivesAssigned, GivesAssignedAgain, KeepsEntry};
+ghost use Rattle.exif_change_laws.specs.Positions.{extents};
 
 use exif_assign::laws::values_are_of_their_types;
 use exif_rewrite::laws::file_answers_what_was_put;
@@ -58,4 +60,14 @@ pub fn a_value_that_is_set_again_changes_no_byte()
     ensures { (tag : Name) (k : Ifd) (value : Content) (old new again : List ℕ)
         → set_answer old tag k value ≡ Ok new → set_answer new tag k value ≡ Ok again
         → KeepsEntry tag k old new → again ≡ new }
+{}
+
+/// The same of a field in a file: no byte of the file changes, if its Exif data are in the same
+/// extents then, as they are in TIFF, JPEG and WebP files.
+pub fn a_field_that_is_set_again_changes_no_byte_of_a_file()
+    ensures { (field : Field) (file new again bytes kept : List ℕ) → length file < 2 ^ 64
+        → container_answer file ≡ Ok bytes → container_answer new ≡ Ok kept
+        → field_set field file ≡ Ok new → field_set field new ≡ Ok again
+        → KeepsEntry field.tag field.ifd_num bytes kept → extents again ≡ extents new
+        → again ≡ new }
 {}
