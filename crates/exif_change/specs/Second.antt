@@ -1,5 +1,5 @@
--- Whether a file has more than one block of Exif data: where it is written again, all go, and one is
--- put in their place.
+-- Whether a file has more than one block of Exif data: where it is written again, all go, and one
+-- is put in their place.
 use Rattle.std.specs.Prelude.{ℕ, ◌-◌, ◌^◌, nat_lt, Bool, true, false, List, ◌∷◌, ◌++◌, length, take, drop, Some, None, Ok, Err}
 use Rattle.std.specs.List.{filter}
 use Rattle.exif_containers.specs.declared.container.Format.{Format}

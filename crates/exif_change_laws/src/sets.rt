@@ -35,9 +35,9 @@ pub fn assigned_values_are_read()
     limits_cut_readings();
 }
 
-/// Where the same values are set in a file twice, the second time nothing that is read changes: each
-/// field of an assigned name has the value that it had, all other fields are as they were, in their
-/// order, and so are the faults. Of the new file at most 1,000,000 entries are read.
+/// Where the same values are set in a file twice, the second time nothing that is read changes:
+/// each field of an assigned name has the value that it had, all other fields are as they were, in
+/// their order, and so are the faults. Of the new file at most 1,000,000 entries are read.
 pub fn values_that_are_set_again_are_read_as_before()
     ensures { (assignments : List Assignment) (sets : List Field × List Field)
         (file new again : List ℕ) (old now : Contents)
@@ -54,8 +54,8 @@ pub fn values_that_are_set_again_are_read_as_before()
     limits_cut_readings();
 }
 
-/// Where a value was set in Exif data in place, and is set again, no byte changes: if both times the
-/// last field of its name has its entry at the same offset.
+/// Where a value was set in Exif data in place, and is set again, no byte changes: if both times
+/// the last field of its name has its entry at the same offset.
 pub fn a_value_that_is_set_again_changes_no_byte()
     ensures { (tag : Name) (k : Ifd) (value : Content) (old new again : List ℕ)
         → set_answer old tag k value ≡ Ok new → set_answer new tag k value ≡ Ok again
