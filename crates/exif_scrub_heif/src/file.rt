@@ -54,7 +54,7 @@ fn scrub_span(
 /// known zeros. Boxes with an XMP packet or content credentials, and boxes that are not known,
 /// become free space of the same size. No byte moves, and of all other parts none changes: tracks
 /// (`moov`), what is cut off, and, where the items are not understood, the boxes with their data
-/// stay, and are answered.
+/// stay, and are answered. Bytes of such boxes that no item has are the picture's, and stay.
 ///
 /// Out of memory leaves each part as it was, or scrubbed.
 pub fn scrub(alloc: Global, file: &mut [u8]) -> Result<Option<Vec<Part>>, AllocError>
