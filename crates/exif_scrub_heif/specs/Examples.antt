@@ -59,7 +59,8 @@ scrubbed_file : scrubbed (brands ++ 0 ∷ 0 ∷ 0 ∷ 26 ∷ codes "uuid" ++ 0xb
     ∷ 0 ∷ 0 ∷ 0 ∷ 10 ∷ codes "udta" ++ 5 ∷ 6 ∷ 0 ∷ 0 ∷ 0 ∷ 9 ∷ codes "mdat" ++ 1 ∷ 2 ∷ 3 ∷ [])
     ≡ (
       brands ++ 0 ∷ 0 ∷ 0 ∷ 26 ∷ codes "free" ++ replicate 18 0
-          ++ 0 ∷ 0 ∷ 0 ∷ 10 ∷ codes "udta" ++ 5 ∷ 6 ∷ 0 ∷ 0 ∷ 0 ∷ 9 ∷ codes "mdat" ++ 1 ∷ 2 ∷ 3 ∷ [],
+          ++ 0 ∷ 0 ∷ 0 ∷ 10 ∷ codes "udta" ++ 5 ∷ 6 ∷ 0 ∷ 0 ∷ 0 ∷ 9 ∷ codes "mdat"
+          ++ 1 ∷ 2 ∷ 3 ∷ [],
       Some (part kind.Unknown 46 10 54 2 ∷ part kind.Unknown 56 9 56 9
           ∷ part kind.Broken 65 2 65 2 ∷ []),
     )
