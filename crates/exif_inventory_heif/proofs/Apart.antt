@@ -20,6 +20,10 @@ either_of : (a b : Bool) → (a || b) ≡ true → (a ≡ true) ⊎ (b ≡ true)
 either_of true b h = inl refl
 either_of false b h = inr h
 
+first_of : (a b : Bool) → (a && b) ≡ true → a ≡ true
+first_of true b h = refl
+first_of false b h = cc
+
 second_of : (a b : Bool) → (a && b) ≡ true → b ≡ true
 second_of true b h = h
 second_of false b h = cc
@@ -148,41 +152,41 @@ cut_clear file e from (s ∷ spans) end o any other =
 
 -- ---- all extents
 
-judged_if : (a b : Bool) (file : List ℕ) (e : Extent) (spans : List Span) (judged : Bool)
-    → (let made : List Span × Bool = cond a (spans, judged) (cond b (cut file e spans, judged) (spans, false)) in made.1 ≡ true) → judged ≡ true
-judged_if true b file e spans judged h = h
-judged_if false true file e spans judged h = h
-judged_if false false file e spans judged h = cc
+judged_if : (a b k : Bool) (file : List ℕ) (e : Extent) (spans : List Span) (judged : Bool)
+    → (let made : List Span × Bool = cond a (spans, judged && k) (cond b (cut file e spans, judged) (spans, false)) in made.1 ≡ true) → judged ≡ true
+judged_if true b k file e spans judged h = first_of judged k h
+judged_if false true k file e spans judged h = h
+judged_if false false k file e spans judged h = cc
 
 one_judged : (file : List ℕ) (all : List Extent) (e : Extent) (c : List Span × Bool) → (carve_one file all e c).1 ≡ true → c.1 ≡ true
 unfolding carve_one
-one_judged file all e (spans, judged) h = judged_if _ _ file e spans judged h
+one_judged file all e (spans, judged) h = judged_if _ _ (is_held e spans) file e spans judged h
 
-made_clear : (a b : Bool) (file : List ℕ) (e : Extent) (spans : List Span) (judged : Bool) (end : ℕ) → AreSpans 0 spans end → is_picture e.kind ≡ false
+made_clear : (a b k : Bool) (file : List ℕ) (e : Extent) (spans : List Span) (judged : Bool) (end : ℕ) → AreSpans 0 spans end → is_picture e.kind ≡ false
     → a ≡ false → (b ≡ true → is_held e spans ≡ true)
-    → (let made : List Span × Bool = cond a (spans, judged) (cond b (cut file e spans, judged) (spans, false)) in made.1 ≡ true)
-    → let made : List Span × Bool = cond a (spans, judged) (cond b (cut file e spans, judged) (spans, false)) in Clear e made.0
-made_clear true b file e spans judged end o other n held h = absurd (clash true refl n)
-made_clear false true file e spans judged end o other n held h = cut_clear file e 0 spans end o (held refl) other
-made_clear false false file e spans judged end o other n held h = absurd (clash false h refl)
+    → (let made : List Span × Bool = cond a (spans, judged && k) (cond b (cut file e spans, judged) (spans, false)) in made.1 ≡ true)
+    → let made : List Span × Bool = cond a (spans, judged && k) (cond b (cut file e spans, judged) (spans, false)) in Clear e made.0
+made_clear true b k file e spans judged end o other n held h = absurd (clash true refl n)
+made_clear false true k file e spans judged end o other n held h = cut_clear file e 0 spans end o (held refl) other
+made_clear false false k file e spans judged end o other n held h = absurd (clash false h refl)
 
 one_carved_clear : (file : List ℕ) (all : List Extent) (e : Extent) (c : List Span × Bool) (end : ℕ) → AreSpans 0 c.0 end → is_picture e.kind ≡ false
     → (carve_one file all e c).1 ≡ true → Clear e (carve_one file all e c).0
 unfolding carve_one
 one_carved_clear file all e (spans, judged) end o other h =
-    made_clear (is_picture e.kind) (is_alone e all && is_held e spans) file e spans judged end o other other (second_of (is_alone e all) (is_held e spans)) h
+    made_clear (is_picture e.kind) (is_alone e all && is_held e spans) (is_held e spans) file e spans judged end o other other (second_of (is_alone e all) (is_held e spans)) h
 
-made_kept : (a b : Bool) (file : List ℕ) (e z : Extent) (spans : List Span) (judged : Bool) (end : ℕ) → AreSpans 0 spans end
+made_kept : (a b k : Bool) (file : List ℕ) (e z : Extent) (spans : List Span) (judged : Bool) (end : ℕ) → AreSpans 0 spans end
     → (a ≡ false → is_picture e.kind ≡ false) → Clear z spans
-    → let made : List Span × Bool = cond a (spans, judged) (cond b (cut file e spans, judged) (spans, false)) in Clear z made.0
-made_kept true b file e z spans judged end o other a = a
-made_kept false true file e z spans judged end o other a = cut_kept file e z 0 spans end o (other refl) a
-made_kept false false file e z spans judged end o other a = a
+    → let made : List Span × Bool = cond a (spans, judged && k) (cond b (cut file e spans, judged) (spans, false)) in Clear z made.0
+made_kept true b k file e z spans judged end o other a = a
+made_kept false true k file e z spans judged end o other a = cut_kept file e z 0 spans end o (other refl) a
+made_kept false false k file e z spans judged end o other a = a
 
 one_carved_kept : (file : List ℕ) (all : List Extent) (e z : Extent) (c : List Span × Bool) (end : ℕ) → AreSpans 0 c.0 end → Clear z c.0
     → Clear z (carve_one file all e c).0
 unfolding carve_one
-one_carved_kept file all e z (spans, judged) end o a = made_kept (is_picture e.kind) _ file e z spans judged end o (λ n. n) a
+one_carved_kept file all e z (spans, judged) end o a = made_kept (is_picture e.kind) _ (is_held e spans) file e z spans judged end o (λ n. n) a
 
 each_judged : (file : List ℕ) (all es : List Extent) (c : List Span × Bool) → (carve_each file all es c).1 ≡ true → c.1 ≡ true
 each_judged file all [] c h = h

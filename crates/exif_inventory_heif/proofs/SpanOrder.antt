@@ -1,10 +1,10 @@
 -- Spans in order stay so where an extent is cut out.
-use Rattle.std.proofs.Common.{◌≡◌, ◌<◌, ◌≤◌, ◌+◌, ◌-◌, ℕ, Bool, true, false, cond, ltb, List, [], ◌∷◌, ◌++◌, drop, Option, Some, None, refl, sym, subst, arith}
+use Rattle.std.proofs.Common.{◌≡◌, ◌<◌, ◌≤◌, ◌+◌, ◌-◌, ℕ, Bool, true, false, cond, ◌&&◌, ltb, List, [], ◌∷◌, ◌++◌, drop, Option, Some, None, refl, sym, subst, arith}
 use Rattle.std.proofs.lemmas.Bool.Decides.{nat_tests}
 use Rattle.exif_inventory.specs.declared.kind.Kind.{Kind}
 use Rattle.exif_inventory.specs.declared.kind.Kind.TheVariants as kind
 use Rattle.exif_inventory_heif.specs.Boxes.{number}
-use Rattle.exif_inventory_heif.specs.Carving.{before, behind, carve_each, carve_one, carved, cut, cut_one, exif_content, exif_span, holds, item_span, kind_span, offset_behind, pieces, some_span}
+use Rattle.exif_inventory_heif.specs.Carving.{before, behind, carve_each, carve_one, carved, cut, cut_one, exif_content, exif_span, holds, is_held, item_span, kind_span, offset_behind, pieces, some_span}
 use Rattle.exif_inventory_heif.specs.Walks.{AreSpans}
 use Rattle.exif_inventory_heif.specs.declared.extents.Extent.{Extent}
 use Rattle.exif_inventory_heif.specs.declared.span.Span.{Span}
@@ -106,17 +106,17 @@ cut_ordered file extent from (s ∷ spans) end h =
 
 -- ---- all extents
 
-carve_if : (a b : Bool) (file : List ℕ) (extent : Extent) (spans : List Span) (judged : Bool) (end : ℕ) → AreSpans 0 spans end
-    → let made : List Span × Bool = cond a (spans, judged) (cond b (cut file extent spans, judged) (spans, false)) in
+carve_if : (a b k : Bool) (file : List ℕ) (extent : Extent) (spans : List Span) (judged : Bool) (end : ℕ) → AreSpans 0 spans end
+    → let made : List Span × Bool = cond a (spans, judged && k) (cond b (cut file extent spans, judged) (spans, false)) in
     AreSpans 0 made.0 end
-carve_if true b file extent spans judged end h = h
-carve_if false true file extent spans judged end h = cut_ordered file extent 0 spans end h
-carve_if false false file extent spans judged end h = h
+carve_if true b k file extent spans judged end h = h
+carve_if false true k file extent spans judged end h = cut_ordered file extent 0 spans end h
+carve_if false false k file extent spans judged end h = h
 
 pub one_carved : (file : List ℕ) (all : List Extent) (extent : Extent) (carving : List Span × Bool) (end : ℕ) → AreSpans 0 carving.0 end
     → AreSpans 0 (carve_one file all extent carving).0 end
 unfolding carve_one
-one_carved file all extent (spans, judged) end h = carve_if _ _ file extent spans judged end h
+one_carved file all extent (spans, judged) end h = carve_if _ _ (is_held extent spans) file extent spans judged end h
 
 each_carved : (file : List ℕ) (all extents : List Extent) (carving : List Span × Bool) (end : ℕ) → AreSpans 0 carving.0 end
     → AreSpans 0 (carve_each file all extents carving).0 end

@@ -106,10 +106,11 @@ cut_one file extent span = if holds extent span then pieces file extent span els
 abbrev pub cut : List ℕ → Extent → List Span → List Span
 cut file extent spans = flat_map (cut_one file extent) spans
 
--- spans with an extent of metadata cut out; if it can't be, no span with items' data is judged
+-- spans with an extent of metadata cut out; if it can't be, or if no span with items' data holds an
+-- extent of a picture, these spans are not judged
 unfoldable pub carve_one : List ℕ → List Extent → Extent → List Span × Bool → List Span × Bool
 carve_one file all extent (spans, judged) =
-    if is_picture extent.kind then (spans, judged) else
+    if is_picture extent.kind then (spans, judged && is_held extent spans) else
     if is_alone extent all && is_held extent spans then (cut file extent spans, judged)
     else (spans, false)
 
@@ -126,5 +127,5 @@ are_many extents = nat_lt 256 (count_by (λ extent. not (is_picture extent.kind)
 -- spans with all extents of metadata cut out, if these are not many, nor the spans
 unfoldable pub carved : List ℕ → List Extent → List Span × Bool → List Span × Bool
 carved file extents (spans, judged) =
-    if are_many extents || nat_lt 65536 (length spans) then (spans, false)
+    if are_many extents || nat_lt 4096 (length spans) then (spans, false)
     else carve_each file extents extents (spans, judged)

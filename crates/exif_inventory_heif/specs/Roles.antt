@@ -59,7 +59,7 @@ abbrev pub top_name : List ℕ → Option Role
 top_name name =
     if bytes_eq name (codes "ftyp") || bytes_eq name (codes "styp")
     then Some (Known kind.Picture) else
-    if bytes_eq name (codes "mdat") then Some MediaData else
+    if bytes_eq name (codes "mdat") || bytes_eq name (codes "imda") then Some MediaData else
     if bytes_eq name (codes "moov") || bytes_eq name (codes "moof") then Some Movie else None
 
 -- whether a child of `meta` describes the picture

@@ -14,7 +14,7 @@ use std::alloc::{AllocError, Global};
 // How many extents of metadata are cut out at most.
 const CUT_LIMIT: usize = 256;
 // Of how many spans they are cut out at most.
-const SPAN_LIMIT: usize = 65_536;
+const SPAN_LIMIT: usize = 4_096;
 
 // Whether data are those of a picture.
 fn is_picture(kind: Kind) -> bool
@@ -180,7 +180,8 @@ fn cut(alloc: Global, file: &[u8], extent: Extent, spans: &[Span]) -> Result<Vec
     Ok(found)
 }
 
-// Spans with an extent of metadata cut out; if it can't be, no span with items' data is judged.
+// Spans with an extent of metadata cut out; if it can't be, or if no span with items' data holds an
+// extent of a picture, these spans are not judged.
 #[tactic(auto, unfolding(crate::specs::Carving::carve_one))]
 fn carve_one(
     alloc: Global,
@@ -194,6 +195,7 @@ fn carve_one(
 {
     let Layout { spans, judged } = carving;
     if is_picture(extent.kind) {
+        let judged = judged && is_held(extent, &spans);
         return Ok(Layout { spans, judged });
     }
     if is_alone(extent, all) && is_held(extent, &spans) {

@@ -186,11 +186,12 @@ pub fn layout(alloc: Global, file: &[u8]) -> Result<Option<Layout>, AllocError>
 /// box that holds them; what is left of the box is the picture's, also where no item has it.
 /// Neighbours are not joined.
 ///
-/// The items are not understood where their lists can't be read, where data of an item that is no
-/// picture's are shared, in no box for such data, or not in the file, and where the file has tracks
-/// as well. Then what may be the picture's or not, in `meta` and in the boxes with data, is not
-/// known, and no part of the picture. So are files with more than 16,384 items, 65,536 extents or
-/// boxes, or 256 extents of items that are no pictures. It takes memory for the lists.
+/// The items are not understood where their lists can't be read, where data of an item are in no
+/// box for such data, or not in the file, where data of an item that is no picture are shared, and
+/// where the file has tracks as well. Then what may be the picture's or not, in `meta` and in the
+/// boxes with data, is not known, and no part of the picture. So it is with more than 16,384 items,
+/// 65,536 extents, 4,096 boxes, or 256 extents of items that are no pictures. It takes memory for
+/// the lists.
 pub fn inventory(alloc: Global, file: &[u8]) -> Result<Option<Vec<Part>>, AllocError>
     ensures answer { IfOk result
         (λ parts. option_map (λ v. v.items) parts ≡ heif_inventory file.now) }

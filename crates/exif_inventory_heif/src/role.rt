@@ -103,7 +103,7 @@ fn top_name(name: &[u8]) -> Option<Role>
 {
     match name {
         b"ftyp" | b"styp" => Some(Role::Known(Kind::Picture)),
-        b"mdat" => Some(Role::MediaData),
+        b"mdat" | b"imda" => Some(Role::MediaData),
         b"moov" | b"moof" => Some(Role::Movie),
         _ => None,
     }

@@ -84,37 +84,37 @@ bytes_long span file o w =
     length-take-le (span.end - span.from) (drop span.from file) (omega arith)
 
 -- what spans behind a changed one become, they become of the file before
-moved : (from : ℕ) (spans : List Span) (end : ℕ) (span : Span) (new file out : List ℕ) → Fits span new file → AreSpans from spans end
-    → span.end ≤ from → All (Becomes (with_bytes span new file) out) spans → All (Becomes file out) spans
-moved from [] end span new file out f o h a = All-nil (Becomes file out)
-moved from (s ∷ spans) end span new file out f o h a =
+moved : (judged : Bool) (from : ℕ) (spans : List Span) (end : ℕ) (span : Span) (new file out : List ℕ) → Fits span new file → AreSpans from spans end
+    → span.end ≤ from → All (Becomes judged (with_bytes span new file) out) spans → All (Becomes judged file out) spans
+moved judged from [] end span new file out f o h a = All-nil (Becomes judged file out)
+moved judged from (s ∷ spans) end span new file out f o h a =
     let at : s.from ≡ from = o.0 in
     let c : s.from ≤ s.content = o.1 in
     let e : s.content ≤ s.end = o.2 in
-    let first : Becomes (with_bytes span new file) out s = a 0 s (omega arith) in
+    let first : Becomes judged (with_bytes span new file) out s = a 0 s (omega arith) in
     let same : bytes_of s (with_bytes span new file) ≡ bytes_of s file = ap (take (s.end - s.from)) (behind_stays span new file s.from f (omega arith)) in
-    All-cons (Becomes file out) s spans (first ∙ ap (blanked (span_blank s)) same)
-    (moved s.end spans end span new file out f o.3 (omega arith) (λ k d i. a (suc k) d (omega arith)))
+    All-cons (Becomes judged file out) s spans (first ∙ ap (blanked (span_blank judged s)) same)
+    (moved judged s.end spans end span new file out f o.3 (omega arith) (λ k d i. a (suc k) d (omega arith)))
 
 -- what becomes of a file whose spans are changed one after the other
 pub record Each (judged : Bool) (from : ℕ) (spans : List Span) (file : List ℕ) (left : List Part) : Type 0 where
   pub front : take from (spans_scrubbed judged spans (file, left)).0 ≡ take from file
   pub long : length (spans_scrubbed judged spans (file, left)).0 ≡ length file
-  pub each : All (Becomes file (spans_scrubbed judged spans (file, left)).0) spans
+  pub each : All (Becomes judged file (spans_scrubbed judged spans (file, left)).0) spans
 
 pub each_becomes : (judged : Bool) (from : ℕ) (spans : List Span) (end : ℕ) (file : List ℕ) (left : List Part) → AreSpans from spans end
     → end ≤ length file → Each judged from spans file left
-each_becomes judged from [] end file left o h = record { front = refl; long = refl; each = All-nil (Becomes file file) }
+each_becomes judged from [] end file left o h = record { front = refl; long = refl; each = All-nil (Becomes judged file file) }
 each_becomes judged from (s ∷ spans) end file left o h =
     let at : s.from ≡ from = o.0 in
     let c : s.from ≤ s.content = o.1 in
     let e : s.content ≤ s.end = o.2 in
     let inside : s.end ≤ end = not_before s.end spans end o.3 in
-    let new = blanked (span_blank s) (bytes_of s file) in
+    let new = blanked (span_blank judged s) (bytes_of s file) in
     let f : Fits s new file = record {
       ordered = omega arith;
       within = omega arith;
-      long = blanked_long (span_blank s) (bytes_of s file) ∙ bytes_long s file (omega arith) (omega arith);
+      long = blanked_long (span_blank judged s) (bytes_of s file) ∙ bytes_long s file (omega arith) (omega arith);
     } in
     let next = with_bytes s new file in
     let l : length next ≡ length file = with_long s new file f in
@@ -127,7 +127,7 @@ each_becomes judged from (s ∷ spans) end file left o h =
     record {
       front = ahead ∙ front_stays s new file from f (omega arith);
       long = rest.long ∙ l;
-      each = All-cons (Becomes file out) s spans own (moved s.end spans end s new file out f o.3 (omega arith) rest.each);
+      each = All-cons (Becomes judged file out) s spans own (moved judged s.end spans end s new file out f o.3 (omega arith) rest.each);
     }
   where
     not_before : (from : ℕ) (spans : List Span) (end : ℕ) → AreSpans from spans end → from ≤ end
@@ -150,4 +150,4 @@ all_become file out left layout spans items judged n l o i over made =
     ∙ ap (λ (xs : List Span). (spans_scrubbed judged xs (file, [])).0) i in
     let e = each_becomes judged 0 spans (length file) file [] o (omega arith) in
     subst (λ (l : Option (List Span × Bool)). AllBecome file out l) (sym l)
-    (o, subst (λ (r : List ℕ). All (Becomes file r) spans) (sym out_is) e.each)
+    (o, subst (λ (r : List ℕ). All (Becomes judged file r) spans) (sym out_is) e.each)

@@ -1,6 +1,6 @@
 -- What comes in place of metadata (TIFF 6.0, Section 2; ISO/IEC 23008-12, A.2.1; XMP Specification,
 -- Part 1, 7.3.3; ISO/IEC 14496-12, 8.1.2).
-use Rattle.std.specs.Prelude.{ℕ, ◌-◌, List, [], ◌∷◌, ◌++◌, length, take, drop, replicate, codes, nat_lt, nat_le, ◌==◌, if◌then◌else◌}
+use Rattle.std.specs.Prelude.{ℕ, ◌-◌, List, [], ◌∷◌, ◌++◌, length, take, drop, replicate, codes, nat_lt, Bool, nat_le, ◌==◌, if◌then◌else◌}
 use Rattle.std.specs.Str.{bytes_eq}
 use Rattle.exif_inventory.specs.declared.kind.Kind.TheVariants as kind
 use Rattle.exif_inventory_heif.specs.declared.role.Role.{Role}
@@ -54,17 +54,22 @@ blanked Zeros bytes = padded [] 0 bytes
 blanked Free bytes = as_free bytes
 
 -- an item's data, or a box, which has a header
-abbrev pub item_or_box : Span → Blank → Blank
-item_or_box span item = if span.content == span.from then item else Free
+abbrev pub item_or_box : Span → Blank → Blank → Blank
+item_or_box span item box = if span.content == span.from then item else box
+
+-- what becomes of a box that is not known: where the items are not understood, it may hold data of
+-- a picture
+abbrev pub unknown_box : Bool → Blank
+unknown_box judged = if judged then Free else Nothing
 
 -- what becomes of a span of this role
-abbrev pub role_blank : Role → Span → Blank
-role_blank (Known kind.Exif) span = Fields
-role_blank (Known kind.Xmp) span = item_or_box span Packet
-role_blank (Known kind.Unknown) span = item_or_box span Zeros
-role_blank (Known kind.ContentCredentials) span = Free
-role_blank role span = Nothing
+abbrev pub role_blank : Bool → Role → Span → Blank
+role_blank judged (Known kind.Exif) span = Fields
+role_blank judged (Known kind.Xmp) span = item_or_box span Packet Free
+role_blank judged (Known kind.Unknown) span = item_or_box span Zeros (unknown_box judged)
+role_blank judged (Known kind.ContentCredentials) span = Free
+role_blank judged role span = Nothing
 
 -- what becomes of a span
-abbrev pub span_blank : Span → Blank
-span_blank span = role_blank span.role span
+abbrev pub span_blank : Bool → Span → Blank
+span_blank judged span = role_blank judged span.role span

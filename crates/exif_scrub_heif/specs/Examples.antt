@@ -1,5 +1,6 @@
 -- Worked examples: what becomes of bytes, by bytes written by hand.
 use Rattle.std.specs.Prelude.{◌≡◌, refl, ℕ, List, [], ◌∷◌, ◌++◌, codes, replicate, Some}
+use Rattle.exif_inventory.specs.declared.kind.Kind.{Kind}
 use Rattle.exif_inventory.specs.declared.kind.Kind.TheVariants as kind
 use Rattle.exif_inventory.specs.declared.part.Part.{Part}
 use Rattle.exif_inventory_heif.specs.Boxes.{head_of, number}
@@ -40,33 +41,28 @@ large = refl
 abbrev brands : List ℕ
 brands = 0 ∷ 0 ∷ 0 ∷ 20 ∷ codes "ftypheic" ++ 0 ∷ 0 ∷ 0 ∷ 0 ∷ codes "mif1"
 
--- the data of a file without items, and what is cut off, stay and are answered
-data_stay : Part
-data_stay = record {
-  kind = kind.Unknown;
+-- a part from an offset on, with its data
+abbrev part : Kind → ℕ → ℕ → ℕ → ℕ → Part
+part k offset len from data_len = record {
+  kind = k;
   picture = 0;
-  offset = 30;
-  len = 9;
-  data_offset = 30;
-  data_len = 9;
+  offset = offset;
+  len = len;
+  data_offset = from;
+  data_len = data_len;
 }
 
-cut_off : Part
-cut_off = record {
-  kind = kind.Broken;
-  picture = 0;
-  offset = 39;
-  len = 2;
-  data_offset = 39;
-  data_len = 2;
-}
-
-scrubbed_file : scrubbed (brands ++ 0 ∷ 0 ∷ 0 ∷ 10 ∷ codes "udta" ++ 5 ∷ 6 ∷ 0 ∷ 0 ∷ 0 ∷ 9
-    ∷ codes "mdat" ++ 1 ∷ 2 ∷ 3 ∷ [])
+-- of a file without items a box of an XMP packet becomes free space; a box that is not known, the
+-- data, and what is cut off, stay and are answered
+scrubbed_file : scrubbed (brands ++ 0 ∷ 0 ∷ 0 ∷ 26 ∷ codes "uuid" ++ 0xbe ∷ 0x7a ∷ 0xcf ∷ 0xcb
+    ∷ 0x97 ∷ 0xa9 ∷ 0x42 ∷ 0xe8 ∷ 0x9c ∷ 0x71 ∷ 0x99 ∷ 0x94 ∷ 0x91 ∷ 0xe3 ∷ 0xaf ∷ 0xac ∷ 5 ∷ 6
+    ∷ 0 ∷ 0 ∷ 0 ∷ 10 ∷ codes "udta" ++ 5 ∷ 6 ∷ 0 ∷ 0 ∷ 0 ∷ 9 ∷ codes "mdat" ++ 1 ∷ 2 ∷ 3 ∷ [])
     ≡ (
-      brands ++ 0 ∷ 0 ∷ 0 ∷ 10 ∷ codes "free" ++ 0 ∷ 0 ∷ 0 ∷ 0 ∷ 0 ∷ 9 ∷ codes "mdat" ++ 1 ∷ 2
-          ∷ 3 ∷ [],
-      Some (data_stay ∷ cut_off ∷ []),
+      brands ++ 0 ∷ 0 ∷ 0 ∷ 26 ∷ codes "free" ++ replicate 18 0
+          ++ 0 ∷ 0 ∷ 0 ∷ 10 ∷ codes "udta" ++ 5 ∷ 6 ∷ 0 ∷ 0 ∷ 0 ∷ 9 ∷ codes "mdat"
+          ++ 1 ∷ 2 ∷ 3 ∷ [],
+      Some (part kind.Unknown 46 10 54 2 ∷ part kind.Unknown 56 9 56 9
+          ∷ part kind.Broken 65 2 65 2 ∷ []),
     )
-unfolding layout_of walked top_piece head_of number blanked data_stay cut_off
+unfolding layout_of walked top_piece head_of number blanked
 scrubbed_file = refl

@@ -31,13 +31,13 @@ stays how = false
 -- the part that a span is, if it stays and may hold metadata
 abbrev pub left_of : Bool → Span → List Part
 left_of judged span =
-    if stays (span_blank span) && is_other (part_of judged span).kind
+    if stays (span_blank judged span) && is_other (part_of judged span).kind
     then part_of judged span ∷ [] else []
 
 -- a file without the metadata of a span, and one part more that stays, if it may hold metadata
 abbrev pub span_scrubbed : Bool → Span → List ℕ × List Part → List ℕ × List Part
 span_scrubbed judged span (file, left) = (
-  with_bytes span (blanked (span_blank span) (bytes_of span file)) file,
+  with_bytes span (blanked (span_blank judged span) (bytes_of span file)) file,
   left ++ left_of judged span,
 )
 

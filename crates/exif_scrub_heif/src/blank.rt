@@ -1,7 +1,7 @@
 //! What comes in place of metadata.
 
 ghost use Rattle.std.specs.Prelude.{◌≡◌, ◌<◌, ◌≤◌, ◌-◌, length, replicate};
-ghost use Rattle.exif_scrub_heif.specs.Blanks.{as_free, blanked, cleared_from, free_front, freed, item_or_box, no_fields, no_properties, padded, renamed, role_blank, span_blank};
+ghost use Rattle.exif_scrub_heif.specs.Blanks.{as_free, blanked, cleared_from, free_front, freed, item_or_box, no_fields, no_properties, padded, renamed, role_blank, span_blank, unknown_box};
 
 use exif_inventory::Kind;
 use exif_inventory_heif::{Role, Span};
@@ -89,24 +89,32 @@ pub fn overwrite(how: Blank, bytes: &mut [u8])
 }
 
 // An item's data, or a box, which has a header.
-fn item_or_box(span: Span, item: Blank) -> Blank
-    ensures { result ≡ item_or_box span item }
+fn item_or_box(span: Span, item: Blank, whole: Blank) -> Blank
+    ensures { result ≡ item_or_box span item whole }
 {
     if span.content == span.from {
         item
     } else {
-        Blank::Free
+        whole
     }
 }
 
-/// What becomes of a span.
-pub fn span_blank(span: Span) -> Blank
-    ensures { result ≡ span_blank span }
+// What becomes of a box that is not known: where the items are not understood, it may hold data of
+// a picture.
+fn unknown_box(judged: bool) -> Blank
+    ensures { result ≡ unknown_box judged }
+{
+    if judged { Blank::Free } else { Blank::Nothing }
+}
+
+/// What becomes of a span, where the items are or are not understood.
+pub fn span_blank(judged: bool, span: Span) -> Blank
+    ensures { result ≡ span_blank judged span }
 {
     match span.role {
         Role::Known(Kind::Exif) => Blank::Fields,
-        Role::Known(Kind::Xmp) => item_or_box(span, Blank::Packet),
-        Role::Known(Kind::Unknown) => item_or_box(span, Blank::Zeros),
+        Role::Known(Kind::Xmp) => item_or_box(span, Blank::Packet, Blank::Free),
+        Role::Known(Kind::Unknown) => item_or_box(span, Blank::Zeros, unknown_box(judged)),
         Role::Known(Kind::ContentCredentials) => Blank::Free,
         _ => Blank::Nothing,
     }

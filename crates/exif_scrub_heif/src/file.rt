@@ -37,7 +37,7 @@ fn scrub_span(
     ensures { OnOk result ((file.new, left.new.items)
         ≡ span_scrubbed judged span (file.old, left.old.items)) }
 {
-    let how = span_blank(span);
+    let how = span_blank(judged, span);
     overwrite(how, &mut file[span.from..span.end]);
     let part = part_of(judged, span);
     if stays(how) && is_other(part.kind) {
@@ -53,8 +53,9 @@ fn scrub_span(
 /// The data of Exif and XMP items become empty data of their kind, those of items that are not
 /// known zeros. Boxes with an XMP packet or content credentials, and boxes that are not known,
 /// become free space of the same size. No byte moves, and of all other parts none changes: tracks
-/// (`moov`), what is cut off, and, where the items are not understood, the boxes with their data
-/// stay, and are answered.
+/// (`moov`), what is cut off, and, where the items are not understood, boxes that are not known and
+/// those with the items' data stay, and are answered. Bytes of the latter that no item has are the
+/// picture's otherwise, and stay.
 ///
 /// Out of memory leaves each part as it was, or scrubbed.
 pub fn scrub(alloc: Global, file: &mut [u8]) -> Result<Option<Vec<Part>>, AllocError>
