@@ -113,5 +113,7 @@ scrubbed_as format removed.AllButOrientation file = emptied format removed.AllBu
 
 -- a file without what is taken out
 abbrev pub scrubbed : Removed → List ℕ → Result Change Why
-scrubbed removed file =
-    elim (format_in file) [ Some format ↦ scrubbed_as format removed file | None ↦ Err unknown_format ]
+scrubbed removed file = elim (format_in file) [
+  | Some format ↦ scrubbed_as format removed file
+  | None ↦ Err unknown_format
+]

@@ -4,7 +4,7 @@ ghost use Rattle.std.specs.Prelude.{◌≡◌, map, IfOk, Ok, Some};
 ghost use Rattle.std.specs.Option.{option_map};
 ghost use Rattle.exif_types.specs.Refusals.{Gives};
 ghost use Rattle.exif_change.specs.Changed.{change_of, stays, undone_of};
-ghost use Rattle.exif_change.specs.Changes.{erased, gps_erased, heif_emptied, if_parted, keeps_orientation, kept, orientation_in, scrubbed, scrubbed_as, tiff_emptied, unlocated, with_parts, without_metadata};
+ghost use Rattle.exif_change.specs.Changes.{emptied, erased, gps_erased, heif_emptied, if_parted, keeps_orientation, kept, orientation_in, scrubbed, scrubbed_as, tiff_emptied, unlocated, with_parts, without_metadata};
 ghost use Rattle.exif_scrub_heif.specs.Scrubbing.{scrubbed as heif_scrubbed};
 ghost use Rattle.exif_scrub_tiff.specs.Scrubbing.{scrubbed as tiff_scrubbed};
 ghost use Rattle.exif_privacy.specs.Erasing.{erased as privacy_erased};
@@ -33,13 +33,13 @@ pub enum Removed {
     Gps,
 }
 
-/// The file without its metadata. JPEG and WebP files are written again without them. In HEIF files
-/// they are overwritten where they are ([`exif_scrub_heif::scrub`]), and the fields of the Exif data
-/// are erased: the picture's own rotation stays. Of TIFF files the directories of the pictures stay
-/// ([`exif_scrub_tiff::scrub`]). Where locations are erased, no byte moves. The answer has the parts
-/// that may still hold metadata, or a location ([`erase_locations`]). Of a JPEG stream that ends
-/// before its picture does what is there is kept. It takes the memory of the file and of the new
-/// one.
+/// The file without its metadata. JPEG and WebP files are written again without them. In HEIF
+/// files they are overwritten where they are ([`exif_scrub_heif::scrub`]), and the fields of the
+/// Exif data are erased: the picture's own rotation stays. Of TIFF files the directories of the
+/// pictures stay ([`exif_scrub_tiff::scrub`]). Where locations are erased, no byte moves. The
+/// answer has the parts that may still hold metadata, or a location ([`erase_locations`]). Of a
+/// JPEG stream that ends before its picture does what is there is kept. It takes the memory of the
+/// file and of the new one.
 pub fn scrub(alloc: Global, file: Vec<u8>, removed: Removed) -> Result<Changed, Refusal>
     ensures { Answers change_of result (scrubbed removed file.items) }
 {
@@ -58,11 +58,25 @@ fn scrubbed_as(
 ) -> Result<Changed, Refusal>
     ensures { Answers change_of result (scrubbed_as format removed file.items) }
 {
-    match (removed, format) {
-        (Removed::Gps, _) => unlocated(alloc, format, file),
-        (_, Format::Tiff) => tiff_emptied(alloc, file.as_slice(), removed),
-        (_, Format::Heif) => heif_emptied(alloc, file),
-        (_, Format::Jpeg | Format::WebP) => emptied(alloc, format, file.as_slice(), removed),
+    match removed {
+        Removed::Gps => unlocated(alloc, format, file),
+        Removed::Metadata | Removed::AllButOrientation => emptied(alloc, format, file, removed),
+    }
+}
+
+// The file of a format without its metadata, but for what is kept.
+fn emptied(
+    alloc: Global,
+    format: Format,
+    file: Vec<u8>,
+    removed: Removed,
+) -> Result<Changed, Refusal>
+    ensures { Answers change_of result (emptied format removed file.items) }
+{
+    match format {
+        Format::Jpeg | Format::WebP => without_metadata(alloc, format, file.as_slice(), removed),
+        Format::Heif => heif_emptied(alloc, file),
+        Format::Tiff => tiff_emptied(alloc, file.as_slice(), removed),
     }
 }
 
@@ -171,7 +185,12 @@ fn erased(alloc: Global, mut file: Vec<u8>, edit: &Edit) -> Result<Changed, Refu
 }
 
 // The JPEG or WebP file without its metadata, but for what is kept.
-fn emptied(alloc: Global, format: Format, file: &[u8], removed: Removed) -> Result<Changed, Refusal>
+fn without_metadata(
+    alloc: Global,
+    format: Format,
+    file: &[u8],
+    removed: Removed,
+) -> Result<Changed, Refusal>
     ensures { Answers change_of result (without_metadata format removed file.now) }
 {
     let kept = kept(alloc, file, removed)?;

@@ -37,8 +37,8 @@ fn erase_in_part(
     note_all(part, whys.as_slice(), stays)
 }
 
-/// Erases the locations in a JPEG, WebP, HEIF or TIFF file, in place, and answers the parts that may
-/// still hold one, in their order: `None` for a file of another format, which stays as it is. A
+/// Erases the locations in a JPEG, WebP, HEIF or TIFF file, in place, and answers the parts that
+/// may still hold one, in their order: `None` for a file of another format, which stays as it is. A
 /// part is answered for each reason why it may. A TIFF file is one part, of Exif data.
 ///
 /// Erased are the locations of each part with Exif data, as

@@ -37,8 +37,8 @@ directory_closed order old p count (kept, new) =
 abbrev pub directory_kept : Order → List ℕ → Bool → Bool → ℕ → List ℕ → Result (List ℕ) Fault
 directory_kept order old keeps_orientation is_nested p new =
     number_in (number_of order) 2 old p
-    >>= λ count. entries_kept (number_of order) old keeps_orientation is_nested (p + 2) count (p + 2)
-    0 new
+    >>= λ count. entries_kept (number_of order) old keeps_orientation is_nested (p + 2) count
+    (p + 2) 0 new
     >>= λ made. directory_closed order old p count made
 
 -- the offset of the directory behind one

@@ -44,8 +44,8 @@ fn keep_directory(
     at: u32,
     new: &mut [u8],
 ) -> Result<(), Fault>
-    ensures { Puts result new.new (directory_kept old.entry.order old.entry.bytes.now keeps_orientation
-        is_nested at new.old) }
+    ensures { Puts result new.new (directory_kept old.entry.order old.entry.bytes.now
+        keeps_orientation is_nested at new.old) }
 {
     let at = u64::from(at);
     let count = old.short(at)?;

@@ -19,8 +19,8 @@ fn keep_strips(
 ) -> Result<(), Fault>
     requires offsets { offsets < 2 ^ 62 }
     requires lengths { lengths < 2 ^ 62 }
-    ensures { Puts result new.new (strips_from (number_of old.entry.order) old.entry.bytes.now offsets
-        lengths count 0 new.old) }
+    ensures { Puts result new.new (strips_from (number_of old.entry.order)
+        old.entry.bytes.now offsets lengths count 0 new.old) }
 {
     for index in 0..count {
         let at = u64::from(item_at(old, offsets, index)?);
@@ -39,8 +39,8 @@ fn keep_named(
     new: &mut [u8],
 ) -> Result<(), Fault>
     requires { first < 2 ^ 61 }
-    ensures { Puts result new.new (strips_kept (number_of old.entry.order) old.entry.bytes.now count first
-        tags.0 tags.1 new.old) }
+    ensures { Puts result new.new (strips_kept (number_of old.entry.order)
+        old.entry.bytes.now count first tags.0 tags.1 new.old) }
 {
     let Some(offsets) = entry_named(old, count, first, tags.0)? else {
         return Ok(());
