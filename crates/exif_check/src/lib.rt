@@ -5,10 +5,10 @@
 #![tactic(auto)]
 
 mod checked;
-mod json;
 mod line;
 mod names;
+mod object;
 
 pub use checked::{Checked, Location, check, location_of};
-pub use json::check_json;
 pub use line::{Line, is_listed};
+pub use object::check_json;

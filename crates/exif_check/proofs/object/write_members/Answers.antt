@@ -1,6 +1,6 @@
 use Rattle.std.proofs.Common.{refl}
 use Rattle.exif_json.proofs.Prints.{prints_then}
-use Rattle.exif_check.proofs.json.write_members.Goals as goal
+use Rattle.exif_check.proofs.object.write_members.Goals as goal
 
 pub returns : goal.returns
 returns c =

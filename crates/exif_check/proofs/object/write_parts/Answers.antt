@@ -1,6 +1,6 @@
 use Rattle.exif_check.specs.Json.{part_json}
 use Rattle.exif_json.proofs.Prints.{listed_all}
-use Rattle.exif_check.proofs.json.write_parts.Goals as goal
+use Rattle.exif_check.proofs.object.write_parts.Goals as goal
 
 pub returns : goal.returns
 returns c =

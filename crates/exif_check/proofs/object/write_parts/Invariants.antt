@@ -1,6 +1,6 @@
 use Rattle.exif_check.specs.Json.{part_json}
 use Rattle.exif_json.proofs.Prints.{HasListed}
-use Rattle.exif_check.proofs.json.write_parts.Given as goal
+use Rattle.exif_check.proofs.object.write_parts.Given as goal
 
 -- the parts so far
 abbrev pub invariant-loop-checked : goal.invariant-loop-checked
