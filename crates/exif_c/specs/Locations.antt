@@ -45,13 +45,18 @@ abbrev pub stays_status : List Stays → Status
 stays_status [] = status.Well
 stays_status (it ∷ stays) = status.LocationPossible
 
--- the status of a file whose locations were erased, if its format is known
-abbrev pub erased_status : Option (List Stays) → Status
-erased_status (Some stays) = stays_status stays
-erased_status None = status.InvalidFormat
+-- a file whose locations were erased, and its status, if its format is known
+abbrev pub erased_as : List ℕ × Option (List Stays) → Option (List ℕ × Status)
+erased_as (new, None) = None
+erased_as (new, Some stays) = Some (new, stays_status stays)
+
+-- a file is this one, with its status, or its format is not known and it is as it was
+abbrev pub EndsAs : ℕ → List ℕ → List ℕ → Option (List ℕ × Status) → Type 0
+EndsAs number old new (Some made) = (number ≡ number_of made.1) × (new ≡ made.0)
+EndsAs number old new None = (number ≡ number_of status.InvalidFormat) × (new ≡ old)
 
 -- the locations of a file are erased, or memory ran out and it is as it was
 abbrev pub ErasesLocations : ℕ → List ℕ → List ℕ → Type 0
 ErasesLocations number old new =
-    ((number ≡ number_of (erased_status (erased old).1)) × (new ≡ (erased old).0))
+    EndsAs number old new (erased_as (erased old))
     ⊎ ((number ≡ number_of status.OutOfMemory) × (new ≡ old))

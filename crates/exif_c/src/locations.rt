@@ -1,7 +1,9 @@
 //! Locations in files: found, and erased.
 
-ghost use Rattle.exif_c.specs.Locations.{Checks, ErasesLocations, location_status, stays_status};
-ghost use Rattle.std.specs.Prelude.{◌≡◌};
+ghost use Rattle.std.specs.Prelude.{◌≡◌, length, IfOk, IfSome};
+ghost use Rattle.std.specs.Option.{option_map};
+ghost use Rattle.exif_privacy.specs.Erasing.{erased};
+ghost use Rattle.exif_c.specs.Locations.{Checks, ErasesLocations, erased_as, location_status, stays_status};
 
 use crate::buffer::{Answer, given, nothing};
 use crate::status::Status;
@@ -52,9 +54,14 @@ fn stays_status(stays: &[Stays]) -> Status
 }
 
 // The file without its locations, and how that ended.
-fn erased(alloc: Global, file: &[u8]) -> Result<Option<(Vec<u8>, Status)>, AllocError> {
+fn erased(alloc: Global, file: &[u8]) -> Result<Option<(Vec<u8>, Status)>, AllocError>
+    ensures value { IfOk result (λ made. option_map (λ m. (m.0.items, m.1)) made
+        ≡ erased_as (erased file.now)) }
+    ensures long { IfOk result (λ made. IfSome made
+        (λ m. length m.0.items ≡ length file.now)) }
+{
     let mut new = Vec::from_slice(alloc, file)?;
-    match erase_locations(alloc, &mut new)? {
+    match erase_locations(alloc, new.as_mut_slice())? {
         Some(stays) => {
             let status = stays_status(stays.as_slice());
             Ok(Some((new, status)))
