@@ -223,6 +223,7 @@ fn tiff_status(fault: Fault) -> Status
 {
     match fault {
         Fault::NoHeader | Fault::Broken | Fault::TooManyDirectories => Status::InvalidFormat,
+        Fault::SharedBytes => Status::SharedBytes,
         Fault::Raw | Fault::NotSupported => Status::NotSupported,
     }
 }

@@ -8,7 +8,7 @@ use Rattle.exif_base.specs.declared.endian.Order.TheVariants.{Big, Little}
 use Rattle.exif_scrub_tiff.specs.Directories.{chain_kept}
 use Rattle.exif_scrub_tiff.specs.Keeping.{◌>>=◌, kept_bytes, number_in}
 use Rattle.exif_scrub_tiff.specs.declared.fault.Fault.{Fault}
-use Rattle.exif_scrub_tiff.specs.declared.fault.Fault.TheVariants.{NoHeader, Raw}
+use Rattle.exif_scrub_tiff.specs.declared.fault.Fault.TheVariants.{NoHeader, Raw, SharedBytes}
 
 -- the order of the numbers of a TIFF file; Canon's CR2 files have a mark behind the header
 abbrev pub order_in : List ℕ → Result Order Fault
@@ -25,9 +25,23 @@ file_kept keeps_orientation file new =
     >>= λ headed. number_in (number_of order) 4 file 4
     >>= λ first. chain_kept order file keeps_orientation 1000 first headed
 
+-- zeros but for what stays of a file
+abbrev pub kept_once : Bool → List ℕ → Result (List ℕ) Fault
+kept_once keeps_orientation file = file_kept keeps_orientation file (replicate (length file) 0)
+
+-- a new file, if it is what stays of it
+abbrev pub if_same : List ℕ → Result (List ℕ) Fault → Result (List ℕ) Fault
+if_same new (Ok again) = if bytes_eq again new then Ok new else Err SharedBytes
+if_same new (Err fault) = Err SharedBytes
+
+-- so of a file that was made: all of it stays where it is scrubbed again
+abbrev pub settled : Bool → List ℕ → Result (List ℕ) Fault
+settled keeps_orientation new = if_same new (kept_once keeps_orientation new)
+
 -- a file without its metadata: zeros but for what stays
 abbrev pub scrubbed : Bool → List ℕ → Result (List ℕ) Fault
-scrubbed keeps_orientation file = file_kept keeps_orientation file (replicate (length file) 0)
+scrubbed keeps_orientation file =
+    kept_once keeps_orientation file >>= settled keeps_orientation
 
 -- the bytes of a file that a call made
 abbrev pub file_made : Result (Vec ℕ Global) Fault → Result (List ℕ) Fault

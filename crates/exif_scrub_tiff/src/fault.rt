@@ -11,6 +11,8 @@ pub enum Fault {
     Broken,
     /// It has more than 1,000 directories in a row: they may go in a circle.
     TooManyDirectories,
+    /// Its directories, values or strips share bytes, so that the new file would say something else.
+    SharedBytes,
     /// It is a raw file: DNG, or a picture in a camera's own encoding.
     Raw,
     /// Its directories are nested, or its picture is stored in a way that is not known.
@@ -23,6 +25,7 @@ impl fmt::Display for Fault {
             Fault::NoHeader => "no TIFF header",
             Fault::Broken => "data of the picture lead out of the file",
             Fault::TooManyDirectories => "too many directories",
+            Fault::SharedBytes => "data of the picture share bytes with each other",
             Fault::Raw => "raw files are not changed; use an XMP sidecar",
             Fault::NotSupported => "the picture is stored in a way that is not supported",
         })

@@ -10,6 +10,7 @@ mod directory;
 mod entry;
 mod fault;
 mod file;
+pub mod laws;
 mod picture;
 mod tags;
 
