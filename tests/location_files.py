@@ -1,0 +1,137 @@
+"""Makes files that hold a location in each way, beside those of make_files.py: location_files.py FOLDER."""
+import os, struct, sys
+
+folder = sys.argv[1]
+SECRET = b"Zzyzx47"
+plain = open(os.path.join(folder, "plain.jpg"), "rb").read()
+
+
+def segment(code, content):
+    return b"\xff" + bytes([code]) + struct.pack(">H", len(content) + 2) + content
+
+
+# TIFF data with a GPS directory whose GPSProcessingMethod and GPSLatitudeRef are secret
+gps = struct.pack(">HHHI4sHHIII", 2, 1, 2, 2, b"N", 27, 7, len(SECRET), 56, 0)
+exif = b"MM\0*\0\0\0\x08" + struct.pack(">HHHIII", 1, 0x8825, 4, 1, 26, 0) + gps
+exif += SECRET
+xmp = b"""<?xpacket begin='' id='W5M0MpCehiHzreSzNTczkc9d'?><x:xmpmeta xmlns:x='adobe:ns:meta/'>
+<rdf:RDF xmlns:rdf='http://www.w3.org/1999/02/22-rdf-syntax-ns#'><rdf:Description rdf:about=''
+ xmlns:photoshop='http://ns.adobe.com/photoshop/1.0/' xmlns:exif='http://ns.adobe.com/exif/1.0/'
+ xmlns:dc='http://purl.org/dc/elements/1.1/' photoshop:City='Zzyzx47' dc:source='kept'>
+<exif:GPSLatitude>47,Zzyzx47N</exif:GPSLatitude></rdf:Description></rdf:RDF></x:xmpmeta><?xpacket end='w'?>"""
+city = b"\x1c\x02\x5a" + struct.pack(">H", len(SECRET)) + SECRET
+title = b"\x1c\x02\x05\0\x04kept"
+iptc = title + city
+resource = b"8BIM\x04\x04\0\0" + struct.pack(">I", len(iptc)) + iptc + b"\0" * (len(iptc) % 2)
+digest = b"8BIM\x04\x25\0\0" + struct.pack(">I", 16) + b"d" * 16
+
+
+def tiff(*fields):
+    """TIFF data of one directory with these fields, each a tag, a type (4: LONG, or one of a byte) and its bytes."""
+    at, values = 8 + 2 + 12 * len(fields) + 4, b""
+    data = b"MM\0*\0\0\0\x08" + struct.pack(">H", len(fields))
+    for tag, kind, value in fields:
+        data += struct.pack(">HHI", tag, kind, len(value) // (4 if kind == 4 else 1))
+        if len(value) <= 4:
+            data += value.ljust(4, b"\0")
+        else:
+            data += struct.pack(">I", at + len(values))
+            values += value
+    return data + b"\0\0\0\0" + values
+
+
+def tiff_file(name, data):
+    open(os.path.join(folder, name), "wb").write(data)
+
+
+EXIF = segment(0xE1, b"Exif\0\0" + exif)
+XMP = segment(0xE1, b"http://ns.adobe.com/xap/1.0/\0" + xmp)
+IPTC = segment(0xED, b"Photoshop 3.0\0" + digest + resource)
+LONG = segment(0xE1, b"http://ns.adobe.com/xmp/extension/\0" + b"0" * 32 + struct.pack(">II", 7, 0) + SECRET)
+
+
+def jpeg(name, segments, behind=b""):
+    open(os.path.join(folder, name), "wb").write(plain[:2] + segments + plain[2:] + behind)
+
+
+def chunk(name, content):
+    return name + struct.pack("<I", len(content)) + content + b"\0" * (len(content) % 2)
+
+
+def webp(name, chunks):
+    whole = open(os.path.join(folder, "whole.webp"), "rb").read()
+    picture, at = b"", 12
+    while at < len(whole):
+        size = struct.unpack("<I", whole[at + 4 : at + 8])[0]
+        if whole[at : at + 4] not in (b"EXIF", b"XMP "):
+            picture += whole[at : at + 8 + size + size % 2]
+        at += 8 + size + size % 2
+    body = b"WEBP" + picture + chunks
+    open(os.path.join(folder, name), "wb").write(b"RIFF" + struct.pack("<I", len(body)) + body)
+
+
+jpeg("exif.jpg", EXIF)
+jpeg("exif_twice.jpg", EXIF + EXIF)
+jpeg("xmp.jpg", XMP)
+jpeg("xmp_twice.jpg", XMP + XMP)
+jpeg("iptc.jpg", IPTC)
+jpeg("all.jpg", EXIF + XMP + IPTC)
+jpeg("second_picture.jpg", EXIF, plain[:2] + EXIF + XMP + plain[2:])
+webp("exif.webp", chunk(b"EXIF", exif))
+webp("xmp.webp", chunk(b"XMP ", xmp))
+webp("both.webp", chunk(b"EXIF", exif) + chunk(b"XMP ", xmp))
+# what is in TIFF data: XMP, IPTC, resources of Photoshop and GeoTIFF
+fields = tiff((700, 1, xmp), (33723, 7, iptc), (34377, 1, digest + resource), (34737, 2, SECRET + b"\0"))
+tiff_file("gps.tif", exif)
+tiff_file("fields.tif", fields)
+jpeg("fields.jpg", segment(0xE1, b"Exif\0\0" + fields))
+webp("fields.webp", chunk(b"EXIF", fields))
+tiff_file("sub_ifds.tif", tiff((330, 4, b"\0\0\0\0"), (700, 1, xmp)) + SECRET)
+tiff_file("maker_note.tif", tiff((33723, 7, iptc), (37500, 7, SECRET)))
+tiff_file("broken_xmp.tif", tiff((700, 1, b"<City" + SECRET)))
+tiff_file("cut.tif", tiff((33723, 7, city + title))[:-1])
+
+
+def box(name, body):
+    return struct.pack(">I", len(body) + 8) + name + body
+
+
+def heif(name, items, behind=b""):
+    """A HEIF file with these items, each of a type, with a content type and data, after a picture."""
+    items = [(b"hvc1", b"", b"the picture")] + items
+    brand = box(b"ftyp", b"mif1\0\0\0\0mif1heic")
+    entries = b""
+    for number, (kind, content, _) in enumerate(items, 1):
+        entries += box(b"infe", struct.pack(">IHH", 2 << 24, number, 0) + kind + b"\0" + content)
+    entries = box(b"iinf", struct.pack(">IH", 0, len(items)) + entries)
+
+    def meta(offset):
+        located = struct.pack(">IHH", 0, 0x4400, len(items))
+        for number, (_, _, content) in enumerate(items, 1):
+            located += struct.pack(">HHHII", number, 0, 1, offset, len(content))
+            offset += len(content)
+        return box(b"meta", b"\0" * 4 + entries + box(b"iloc", located))
+
+    offset = len(brand) + len(meta(0)) + 8
+    whole = brand + meta(offset) + box(b"mdat", b"".join(content for _, _, content in items))
+    open(os.path.join(folder, name), "wb").write(whole + behind)
+
+
+EXIF_ITEM = (b"Exif", b"", b"\0\0\0\0" + exif)
+XMP_ITEM = (b"mime", b"application/rdf+xml\0", xmp)
+heif("exif.heic", [EXIF_ITEM])
+heif("xmp.heic", [XMP_ITEM])
+heif("both.heic", [EXIF_ITEM, XMP_ITEM])
+heif("twice.heic", [EXIF_ITEM, XMP_ITEM, EXIF_ITEM, XMP_ITEM])
+heif("unknown_item.heic", [EXIF_ITEM, (b"uri ", b"x\0", SECRET)])
+heif("unknown_box.heic", [XMP_ITEM], box(b"uuid", b"u" * 16 + SECRET))
+heif("broken_xmp.heic", [(b"mime", b"application/rdf+xml\0", b"<City" + SECRET)])
+# what is not looked at, or can't be read
+jpeg("comment.jpg", EXIF + segment(0xFE, SECRET))
+jpeg("trailer.jpg", EXIF, SECRET)
+jpeg("unknown.jpg", EXIF + segment(0xE9, SECRET))
+jpeg("long_xmp.jpg", XMP + LONG)
+jpeg("broken_xmp.jpg", EXIF + segment(0xE1, b"http://ns.adobe.com/xap/1.0/\0<City" + SECRET))
+jpeg("broken_iptc.jpg", segment(0xED, b"Photoshop 3.0\0" + resource.replace(b"\x1c\x02\x5a", b"\x1d\x02\x5a")))
+jpeg("broken_exif.jpg", segment(0xE1, b"Exif\0\0XX" + SECRET) + XMP)
+webp("unknown.webp", chunk(b"EXIF", exif) + chunk(b"ABCD", SECRET))
