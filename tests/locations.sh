@@ -94,19 +94,13 @@ gives "no picture is checked" 1 "$mexaldor" check files/text.txt
 says "and refused by name" "files/text.txt: Unknown image format"
 gives "a folder is checked" 3 "$mexaldor" check -q -r --json files
 cp out checked
-check "each line is an object, whose parts cover its file" python3 - "$root/docs/check.schema.json" checked <<'P'
-import json, os, sys
+check "each line is an object, whose parts cover its file" env PYTHONPATH="$root/tests" python3 - "$root/docs/check.schema.json" checked <<'P'
+import os, sys
 
-schema = json.load(open(sys.argv[1]))
-objects = [json.loads(line) for line in open(sys.argv[2])]
-assert len(objects) >= 20, len(objects)
-try:
-    import jsonschema
-    for it in objects:
-        jsonschema.validate(it, schema)
-except ImportError:
-    print("the schema was not tried: python3 has no jsonschema")
-for it in objects:
+import objects
+
+read = objects.read(sys.argv[1], sys.argv[2], 20)
+for it in read:
     if "error" in it:
         continue
     at = 0
@@ -114,7 +108,7 @@ for it in objects:
         assert part["offset"] == at, it["path"]
         at += part["length"]
     assert at == os.path.getsize(it["path"]), it["path"]
-found = {it["path"].split("/")[-1]: it["location"] for it in objects if "error" not in it}
+found = {it["path"].split("/")[-1]: it["location"] for it in read if "error" not in it}
 assert found["exif.jpg"] == found["xmp.webp"] == "yes", found
 assert found["plain.jpg"] == "no", found
 P
