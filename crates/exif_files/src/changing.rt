@@ -13,13 +13,22 @@ use crate::system::FileSystem;
 use std::alloc::{AllocError, AllocFailed, Global};
 use std::io;
 
-/// A changed file, and what was left undone.
+/// A changed file, and what is reported of it.
 #[derive(Drop)]
-pub struct Edited<L> {
+pub struct Edited<L, N> {
     /// The bytes of the new file.
     pub file: Vec<u8>,
-    /// What was left undone and is to be reported.
+    /// What is reported.
+    pub report: Report<L, N>,
+}
+
+/// What is reported of a changed file.
+#[derive(Drop)]
+pub struct Report<L, N> {
+    /// What was left undone: the file is incomplete where there is any.
     pub left: Vec<L>,
+    /// What the user is to know of a change that is complete.
+    pub notes: Vec<N>,
 }
 
 /// Why there is no changed file.
@@ -36,6 +45,9 @@ pub trait Edit {
     /// What may be left undone.
     type Left: Drop;
 
+    /// What the user may have to know.
+    type Note: Drop;
+
     /// Why a file is refused.
     type Refusal: Drop;
 
@@ -47,7 +59,7 @@ pub trait Edit {
         &self,
         alloc: Global,
         old: &[u8],
-    ) -> Result<Edited<Self::Left>, EditError<Self::Refusal>>
+    ) -> Result<Edited<Self::Left, Self::Note>, EditError<Self::Refusal>>
         ensures answered { IfOk result (λ edited. answer self.now old.now edited.file.items) };
 }
 
@@ -131,9 +143,9 @@ fn write_over<F: FileSystem>(
     )
 }
 
-/// Changes a file in place, and answers what was left undone: the bytes at Ok are an answer of the
-/// edit to those that were there. In every state of the run the old file is there or the new one,
-/// whole.
+/// Changes a file in place, and answers what is reported of it: the bytes at Ok are an answer of
+/// the edit to those that were there. In every state of the run the old file is there or the new
+/// one, whole.
 ///
 /// A file that is its own answer is not written, nor is one that is refused. It takes the memory of
 /// the old file and of the new one, and what the edit takes.
@@ -143,7 +155,7 @@ pub fn change<F: FileSystem, E: Edit>(
     edit: &E,
     name: &str,
     keeping: Keeping,
-) -> Result<Vec<E::Left>, Failure<E::Refusal>>
+) -> Result<Report<E::Left, E::Note>, Failure<E::Refusal>>
     ensures done { OnOk result (Run
         (IsWholeChange (E.answer edit.now) name.now (backup_if keeping.backup name.now)
         keeping.times (none_failed (F.failures files.old) (F.failures files.new)))
@@ -166,12 +178,12 @@ pub fn change<F: FileSystem, E: Edit>(
         Ok(old) => old,
         Err(error) => return Err(Failure::Reading(error)),
     };
-    let Edited { file: new, left } = edit.apply(alloc, old.as_slice())?;
+    let Edited { file: new, report } = edit.apply(alloc, old.as_slice())?;
     if new.as_slice() == old.as_slice() {
-        return Ok(left);
+        return Ok(report);
     }
     match write_over(alloc, files, name, keeping, new.as_slice()) {
-        Ok(()) => Ok(left),
+        Ok(()) => Ok(report),
         Err(error) => Err(Failure::Writing(error)),
     }
 }

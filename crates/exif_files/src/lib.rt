@@ -16,7 +16,7 @@ mod running;
 mod system;
 mod temporary;
 
-pub use changing::{Edit, EditError, Edited, Failure, Keeping, change};
+pub use changing::{Edit, EditError, Edited, Failure, Keeping, Report, change};
 pub use creating::create_new;
 pub use failure::WriteError;
 pub use host::{HostFiles, folder_of};

@@ -11,16 +11,16 @@ ghost use Rattle.exif_files.specs.Changed.{IsWholeChange, IsOutcome};
 ghost use Rattle.exif_files.specs.Parts.{Takes};
 ghost use Rattle.exif_files.specs.Each.{IsEachWhole, IsEachDone, AreOnce};
 
-use crate::changing::{Edit, Failure, Keeping, change};
+use crate::changing::{Edit, Failure, Keeping, Report, change};
 use crate::outcome::Status;
 use crate::system::FileSystem;
 use std::alloc::{AllocError, Global};
 use std::collections::BTreeSet;
 
 /// What hears of each file of a run.
-pub trait Reporter<L, R> {
-    /// The file of the name of this index was changed, and what was left undone; or it was not.
-    fn report(&mut self, index: usize, outcome: Result<Vec<L>, Failure<R>>);
+pub trait Reporter<L, N, R> {
+    /// The file of the name of this index was changed, and what is reported of it; or it was not.
+    fn report(&mut self, index: usize, outcome: Result<Report<L, N>, Failure<R>>);
 }
 
 /// Changes the files of these names in place, each once however often it is named, and reports
@@ -29,7 +29,7 @@ pub trait Reporter<L, R> {
 ///
 /// In every state of the run each file is the old one or its answer, whole: also where the process
 /// is killed, and where memory runs out, which alone ends the run.
-pub fn change_all<F: FileSystem, E: Edit, P: Reporter<E::Left, E::Refusal>>(
+pub fn change_all<F: FileSystem, E: Edit, P: Reporter<E::Left, E::Note, E::Refusal>>(
     alloc: Global,
     files: &mut F,
     edit: &E,
@@ -69,7 +69,7 @@ pub fn change_all<F: FileSystem, E: Edit, P: Reporter<E::Left, E::Refusal>>(
 }
 
 // Changes a file, unless its name was seen, and adds what became of it to the results.
-fn change_next<F: FileSystem, E: Edit, P: Reporter<E::Left, E::Refusal>>(
+fn change_next<F: FileSystem, E: Edit, P: Reporter<E::Left, E::Note, E::Refusal>>(
     alloc: Global,
     files: &mut F,
     edit: &E,
@@ -113,7 +113,7 @@ fn insert(alloc: Global, seen: &mut BTreeSet<String>, name: &str) -> Result<bool
 }
 
 // Changes a file and reports it.
-fn change_one<F: FileSystem, E: Edit, P: Reporter<E::Left, E::Refusal>>(
+fn change_one<F: FileSystem, E: Edit, P: Reporter<E::Left, E::Note, E::Refusal>>(
     alloc: Global,
     files: &mut F,
     edit: &E,
@@ -135,13 +135,13 @@ fn change_one<F: FileSystem, E: Edit, P: Reporter<E::Left, E::Refusal>>(
 }
 
 // The status of a file: it is refused at an error, and incomplete where something was left undone.
-fn status_of<L, R>(changed: &Result<Vec<L>, Failure<R>>) -> Status
-    ensures ok { IfOk changed.now (λ left.
-        result ≡ (if length left.items == 0 then Success else Incomplete)) }
+fn status_of<L, N, R>(changed: &Result<Report<L, N>, Failure<R>>) -> Status
+    ensures ok { IfOk changed.now (λ report.
+        result ≡ (if length report.left.items == 0 then Success else Incomplete)) }
     ensures err { OnErr changed.now (result ≡ Refused) }
 {
     match changed {
-        Ok(left) if left.is_empty() => Status::Success,
+        Ok(report) if report.left.is_empty() => Status::Success,
         Ok(_) => Status::Incomplete,
         Err(_) => Status::Refused,
     }

@@ -3,8 +3,8 @@
 ghost use Rattle.std.specs.Prelude.{⊤};
 
 use exif_files::{
-    Edit, EditError, Edited, Failure, HostFiles, Keeping, Reporter, Status, WriteError, change,
-    change_all, create_new, replace,
+    Edit, EditError, Edited, Failure, HostFiles, Keeping, Report, Reporter, Status, WriteError,
+    change, change_all, create_new, replace,
 };
 use exif_files_memory::{MemoryFiles, Stored};
 use std::alloc::Global;
@@ -18,11 +18,13 @@ struct Unspaced;
 impl Edit for Unspaced {
     type Left = u8;
 
+    type Note = u8;
+
     type Refusal = u8;
 
     ghost answer = { λ _ _ _. ⊤ };
 
-    fn apply(&self, alloc: Global, old: &[u8]) -> Result<Edited<u8>, EditError<u8>> {
+    fn apply(&self, alloc: Global, old: &[u8]) -> Result<Edited<u8, u8>, EditError<u8>> {
         if old.is_empty() {
             return Err(EditError::Refused(1));
         }
@@ -34,7 +36,10 @@ impl Edit for Unspaced {
         }
         Ok(Edited {
             file,
-            left: Vec::new(alloc),
+            report: Report {
+                left: Vec::new(alloc),
+                notes: Vec::new(alloc),
+            },
         })
     }
 }
@@ -46,8 +51,8 @@ struct Heard {
     refused: u32,
 }
 
-impl Reporter<u8, u8> for Heard {
-    fn report(&mut self, _index: usize, outcome: Result<Vec<u8>, Failure<u8>>) {
+impl Reporter<u8, u8, u8> for Heard {
+    fn report(&mut self, _index: usize, outcome: Result<Report<u8, u8>, Failure<u8>>) {
         if outcome.is_ok() {
             self.changed = self.changed.saturating_add(1);
         } else {
