@@ -81,6 +81,38 @@ done
 cleaned unknown_item.heic
 check "the picture of a HEIF file stays" grep -qaF "the picture" clean.both.heic
 check "a HEIF file keeps its length" test "$(wc -c <files/both.heic)" = "$(wc -c <clean.both.heic)"
+# notes FILE: how many lines the last command wrote about a file.
+notes() {
+    grep -c "files/$1" err
+}
+
+# The colour profile, and pictures behind the first one.
+for file in profile.jpg profile.webp; do
+    gives "$file is scrubbed" 0 "$mexaldor" scrub --force "files/$file" "clean.$file"
+    says "its colour profile is named" "files/$file: the colour profile stays; --strip-color removes it"
+    check "once" test "$(notes "$file")" = 1
+    check "and stays" grep -qaF profile "clean.$file"
+    gives "$file is scrubbed without its colour profile" 0 "$mexaldor" scrub --strip-color "files/$file" "bare.$file"
+    check "nothing is reported" test ! -s err
+    check "the profile is gone" test "$(grep -caF -e profile -e ICC "bare.$file")" = 0
+    check "and so is the secret" test "$(secrets "bare.$file")" = 0
+done
+check "a JPEG without its profile is the picture" cmp files/plain.jpg bare.profile.jpg
+check "a WebP file without its profile is the picture" cmp files/plain.webp bare.profile.webp
+gives "a HEIF file keeps its colour profile" 3 "$mexaldor" scrub --strip-color files/exif.heic bare.heic
+says "and it is said" "files/exif.heic: HEIF and TIFF files keep their colour profile"
+check "all else is done" cmp bare.heic clean.exif.heic
+gives "locations and the profile" 2 "$mexaldor" scrub --locations-only --strip-color files/profile.jpg bare.jpg
+gives "a picture behind the first one" 0 "$mexaldor" scrub --force files/second_picture.jpg clean.jpg
+says "is removed by name" "files/second_picture.jpg: the picture behind the first one was removed"
+gives "without notes" 0 "$mexaldor" scrub -q --force files/profile.jpg clean.jpg
+check "nothing is reported" test ! -s err
+mkdir notes
+cp files/profile.jpg files/second_picture.jpg notes
+gives "in place" 0 "$mexaldor" scrub --in-place -r notes
+says "the profile is named" "notes/profile.jpg: the colour profile stays"
+says "and the picture" "notes/second_picture.jpg: the picture behind the first one was removed"
+says "and both are counted as changed" "2 changed, 0 refused"
 gives "a directory below one that is not there is refused" 1 "$mexaldor" scrub --force files/sub_ifds.tif clean.tif
 says "and says why" "data of the picture lead out of the file"
 

@@ -1,3 +1,4 @@
+pub mod FoundParts
 pub mod ReadLemmas
 pub mod Refused
 pub mod Scrubbed

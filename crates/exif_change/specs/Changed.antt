@@ -17,6 +17,7 @@ pub data Undone : Type 0 where
   cut_off : Undone
   stays : Stays → Undone
   still_there : Part → Undone
+  color_kept : Undone
 
 -- what the program says of it; a refused edit has a cause
 abbrev pub undone_of : Left → Option Undone
@@ -25,6 +26,7 @@ undone_of (left.Edit tag e) = option_map (unset tag) (cause_of e)
 undone_of left.CutOff = Some cut_off
 undone_of (left.Stays s) = Some (stays s)
 undone_of (left.Part part) = Some (still_there part)
+undone_of left.Color = Some color_kept
 
 -- the new bytes of a file, and what was left undone
 pub record Change : Type 0 where

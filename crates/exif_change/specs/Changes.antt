@@ -1,5 +1,5 @@
 -- Metadata taken out of files.
-use Rattle.std.specs.Prelude.{ℕ, Bool, true, false, List, [], ◌∷◌, ◌++◌, map, Option, None, Some, Result, Ok, Err}
+use Rattle.std.specs.Prelude.{ℕ, Bool, true, false, List, [], ◌∷◌, ◌++◌, map, is_some, Option, None, Some, Result, Ok, Err}
 use Rattle.exif_table.specs.declared.context.Context.TheVariants as context
 use Rattle.exif_types.specs.Refusals.{Refusal, not_found}
 use Rattle.exif_containers.specs.Container.{format_in}
@@ -10,6 +10,7 @@ use Rattle.exif_edit_base.specs.Causes.{Cause, no_data}
 use Rattle.exif_edit.specs.declared.edits.Edit.{Edit}
 use Rattle.exif_edit.specs.declared.edits.Edit.TheVariants.{EraseAll, EraseGps}
 use Rattle.exif_edit_files.specs.InFiles.{edited_file}
+use Rattle.exif_rewrite.specs.Color.{colorless}
 use Rattle.exif_rewrite.specs.ScrubbedExif.{scrubbed_answer, wanted}
 use Rattle.exif_types.specs.declared.tag.Tag.{Tag}
 use Rattle.exif_inventory.specs.declared.part.Part.{Part}
@@ -18,7 +19,8 @@ use Rattle.exif_privacy.specs.declared.stays.Stays.{Stays}
 use Rattle.exif_scrub_heif.specs.Scrubbing as heif
 use Rattle.exif_scrub_tiff.specs.Scrubbing as tiff
 use Rattle.exif_scrub_tiff.specs.declared.fault.Fault.{Fault}
-use Rattle.exif_change.specs.Changed.{Change, stays, still_there, whole}
+use Rattle.exif_change.specs.Changed.{Change, color_kept, stays, whole}
+use Rattle.exif_change.specs.Found.{with_found, with_parts}
 use Rattle.exif_change.specs.Reading.{Contents, entry_limit, file_contents}
 use Rattle.exif_change.specs.Refusals.{Why, as_read, editing, tiff_fault, unknown_format, ◌>>=◌}
 use Rattle.exif_change.specs.Rewriting.{rewritten}
@@ -53,15 +55,8 @@ kept removed.Gps file = Ok None
 -- a JPEG or WebP file without its metadata, but for what is kept
 abbrev pub without_metadata : Format → Removed → List ℕ → Result Change Why
 without_metadata format removed file =
-    kept removed file >>= λ put. as_read (rewritten format Metadata put file)
-
--- a change that left these parts too, which may hold metadata
-abbrev pub with_parts : List Part → Result Change Why → Result Change Why
-with_parts parts (Ok change) = Ok (record {
-  file = change.file;
-  undone = change.undone ++ map (λ part. Some (still_there part)) parts;
-})
-with_parts parts (Err why) = Err why
+    kept removed file
+    >>= λ put. with_found (is_some put) (as_read (rewritten format Metadata put file))
 
 -- a HEIF file whose metadata were taken out, with what its Exif data say erased too, and the parts
 -- that stay
@@ -116,4 +111,17 @@ abbrev pub scrubbed : Removed → List ℕ → Result Change Why
 scrubbed removed file = elim (format_in file) [
   | Some format ↦ scrubbed_as format removed file
   | None ↦ Err unknown_format
+]
+
+-- a change that left the colour profile too
+abbrev pub with_color : Result Change Why → Result Change Why
+with_color (Ok change) =
+    Ok (record { file = change.file; undone = change.undone ++ Some color_kept ∷ [] })
+with_color (Err why) = Err why
+
+-- a file without its colour profile, which HEIF and TIFF files keep, and without what is removed
+abbrev pub scrubbed_with_color : Removed → List ℕ → Result Change Why
+scrubbed_with_color removed file = elim (colorless file) [
+  | Some new ↦ scrubbed removed new
+  | None ↦ with_color (scrubbed removed file)
 ]

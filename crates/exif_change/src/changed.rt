@@ -44,6 +44,8 @@ pub enum Left {
     Stays(Stays),
     /// A part of the file may still hold metadata.
     Part(Part),
+    /// The colour profile, which was to be removed, stays: the file's format keeps it.
+    Color,
 }
 
 impl fmt::Display for Left {
@@ -66,6 +68,7 @@ impl fmt::Display for Left {
                     "still there: {kind} at offset {offset}, which may hold metadata"
                 )
             }
+            Left::Color => write!(f, "HEIF and TIFF files keep their colour profile"),
         }
     }
 }

@@ -5,9 +5,11 @@
 
 mod changed;
 mod dates;
+mod found;
 mod growing;
 mod in_place;
 pub mod laws;
+mod notes;
 mod reading;
 mod refusal;
 mod rewriting;
@@ -21,8 +23,9 @@ pub use changed::{Changed, Left};
 pub use dates::{Dates, shift};
 pub use exif_assign::Assignment;
 pub use exif_clock::{ClockShift, Unmoved};
+pub use notes::{Color, Note, scrub_notes};
 pub use reading::{ENTRY_LIMIT, read};
 pub use refusal::Refusal;
-pub use scrubbing::{Removed, scrub};
+pub use scrubbing::{Removed, scrub, scrub_with_color};
 pub use setting::{set, set_here};
 pub use thumbnails::thumbnail;

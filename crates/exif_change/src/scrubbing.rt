@@ -4,7 +4,7 @@ ghost use Rattle.std.specs.Prelude.{◌≡◌, map, IfOk, Ok, Some};
 ghost use Rattle.std.specs.Option.{option_map};
 ghost use Rattle.exif_types.specs.Refusals.{Gives};
 ghost use Rattle.exif_change.specs.Changed.{change_of, stays, undone_of};
-ghost use Rattle.exif_change.specs.Changes.{emptied, erased, gps_erased, heif_emptied, if_parted, keeps_orientation, kept, orientation_in, scrubbed, scrubbed_as, tiff_emptied, unlocated, with_parts, without_metadata};
+ghost use Rattle.exif_change.specs.Changes.{emptied, erased, gps_erased, heif_emptied, if_parted, keeps_orientation, kept, orientation_in, scrubbed, scrubbed_as, scrubbed_with_color, tiff_emptied, unlocated, with_color, without_metadata};
 ghost use Rattle.exif_scrub_heif.specs.Scrubbing.{scrubbed as heif_scrubbed};
 ghost use Rattle.exif_scrub_tiff.specs.Scrubbing.{scrubbed as tiff_scrubbed};
 ghost use Rattle.exif_privacy.specs.Erasing.{erased as privacy_erased};
@@ -12,14 +12,14 @@ ghost use Rattle.exif_change.specs.Reading.{file_contents};
 ghost use Rattle.exif_change.specs.Refusals.{Answers};
 
 use crate::changed::{Changed, Left};
+use crate::found::{with_found, with_parts};
 use crate::reading::ENTRY_LIMIT;
 use crate::rewriting::rewritten;
 use crate::{Refusal, read};
 use exif_containers::container::{Format, format_of};
 use exif_edit_files::{Edit, Error, apply_in_file};
-use exif_inventory::Part;
 use exif_privacy::{Stays, erase_locations};
-use exif_rewrite::{Remove, UPRIGHT, scrubbed_exif};
+use exif_rewrite::{Remove, UPRIGHT, scrubbed_exif, without_color_profile};
 use std::alloc::{AllocError, Global};
 
 /// What is taken out.
@@ -37,9 +37,9 @@ pub enum Removed {
 /// files they are overwritten where they are ([`exif_scrub_heif::scrub`]), and the fields of the
 /// Exif data are erased: the picture's own rotation stays. Of TIFF files the directories of the
 /// pictures stay ([`exif_scrub_tiff::scrub`]). Where locations are erased, no byte moves. The
-/// answer has the parts that may still hold metadata, or a location ([`erase_locations`]). Of a
-/// JPEG stream that ends before its picture does what is there is kept. It takes the memory of the
-/// file and of the new one.
+/// answer has each part of the new file that is none of the picture's and may hold metadata, or a
+/// location ([`erase_locations`]). Of a JPEG stream that ends before its picture does what is there
+/// is kept. It takes the memory of the file and of the new one.
 pub fn scrub(alloc: Global, file: Vec<u8>, removed: Removed) -> Result<Changed, Refusal>
     ensures { Answers change_of result (scrubbed removed file.items) }
 {
@@ -47,6 +47,30 @@ pub fn scrub(alloc: Global, file: Vec<u8>, removed: Removed) -> Result<Changed, 
         Some(format) => scrubbed_as(alloc, format, file, removed),
         None => Err(Refusal::UnknownFormat),
     }
+}
+
+/// The file without its colour profile, and without what is removed beside it. HEIF and TIFF files
+/// keep their profile, which is answered.
+pub fn scrub_with_color(
+    alloc: Global,
+    file: Vec<u8>,
+    removed: Removed,
+) -> Result<Changed, Refusal>
+    ensures { Answers change_of result (scrubbed_with_color removed file.items) }
+{
+    match without_color_profile(alloc, file.as_slice())? {
+        Some(new) => scrub(alloc, new, removed),
+        None => with_color(scrub(alloc, file, removed)?),
+    }
+}
+
+// A change that left the colour profile too.
+fn with_color(changed: Changed) -> Result<Changed, Refusal>
+    ensures { Answers change_of result (with_color (Ok (change_of changed))) }
+{
+    let Changed { file, mut left } = changed;
+    left.push(Left::Color)?;
+    Ok(Changed { file, left })
 }
 
 // The file of a format without what is taken out.
@@ -119,17 +143,6 @@ fn heif_emptied(alloc: Global, mut file: Vec<u8>) -> Result<Changed, Refusal>
     }
 }
 
-// A change that left these parts too.
-fn with_parts(alloc: Global, changed: Changed, parts: &[Part]) -> Result<Changed, Refusal>
-    ensures { Answers change_of result (with_parts parts.now (Ok (change_of changed))) }
-{
-    let Changed { file, mut left } = changed;
-    for part in parts {
-        left.push(Left::Part(*part))?;
-    }
-    Ok(Changed { file, left })
-}
-
 // Whether the orientation stays.
 fn keeps_orientation(removed: Removed) -> bool
     ensures { result ≡ keeps_orientation removed }
@@ -196,7 +209,7 @@ fn without_metadata(
     let kept = kept(alloc, file, removed)?;
     let exif = kept.as_deref();
     match rewritten(alloc, format, file, exif, Remove::Metadata) {
-        Ok(changed) => Ok(changed),
+        Ok(changed) => with_found(alloc, exif.is_some(), changed),
         Err(error) => Err(Refusal::Reading(error)),
     }
 }

@@ -1,5 +1,5 @@
 -- Files of which the orientation alone is kept.
-use Rattle.std.proofs.Common.{◌≡◌, ◌∙◌, ◌<◌, ◌^◌, true, ℕ, List, [], ◌∷◌, length, Option, Some, None, Result, Ok, Err, refl, sym, ap}
+use Rattle.std.proofs.Common.{◌≡◌, ◌∙◌, ◌<◌, ◌^◌, true, ℕ, List, [], ◌∷◌, length, is_some, Option, Some, None, Result, Ok, Err, refl, sym, ap}
 use Rattle.exif_base.specs.declared.endian.Order.{Order}
 use Rattle.exif_types.specs.Refusals as types
 use Rattle.exif_types.specs.Refusals.{Refusal}
@@ -20,10 +20,12 @@ use Rattle.exif_rewrite.specs.FileLaws.{AnswersPut, IsFound}
 use Rattle.exif_rewrite.specs.ScrubbedExif.{image_or, scrubbed_answer, wanted}
 use Rattle.exif_change.specs.Changed.{whole}
 use Rattle.exif_change.specs.Changes.{kept, orientation_in, scrubbed, upright}
+use Rattle.exif_change.specs.Found.{with_found}
 use Rattle.exif_change.specs.Reading.{Contents, data_contents, fields_in, file_contents, without_fault}
 use Rattle.exif_change.specs.Refusals.{Why, as_read, reading, ◌>>=◌}
 use Rattle.exif_change.specs.Rewriting.{rewritten}
 use Rattle.exif_change.specs.declared.scrubbing.Removed.TheVariants.{AllButOrientation}
+use Rattle.exif_change.proofs.FoundParts.{with_found_whole}
 use Rattle.exif_change_laws.specs.Scrubbed.{HasNoField, is_rewritten, orientation, orientation_alone}
 use Rattle.exif_change_laws.proofs.OrientationImage.{told_order, told_read}
 use Rattle.exif_change_laws.proofs.ScrubbedFiles.{nothing_read, put_read, rewritten_answers, scrubbed_by}
@@ -42,7 +44,7 @@ no_ok why x e = cc
 -- a file that is written again, by what is kept of it
 scrubbed_so : (format : Format) (file new : List ℕ) → is_rewritten format ≡ true → format_in file ≡ Some format
     → scrubbed AllButOrientation file ≡ Ok (whole new)
-    → (kept AllButOrientation file >>= λ put. as_read (rewritten format Metadata put file)) ≡ Ok (whole new)
+    → (kept AllButOrientation file >>= λ put. with_found (is_some put) (as_read (rewritten format Metadata put file))) ≡ Ok (whole new)
 scrubbed_so Jpeg file new r f e = sym (scrubbed_by Jpeg AllButOrientation file f) ∙ e
 scrubbed_so WebP file new r f e = sym (scrubbed_by WebP AllButOrientation file f) ∙ e
 scrubbed_so Heif file new r f e = absurd (false_true r)
@@ -60,7 +62,8 @@ pub kept_answers : (format : Format) (put : Option (List ℕ)) (file new : List 
     → scrubbed AllButOrientation file ≡ Ok (whole new) → length new < 2 ^ 64 → AnswersPut put (container_answer new)
 kept_answers format put file new law r f k e short =
     rewritten_answers format put file new law r f
-    (sym (ap (λ (x : Result (Option (List ℕ)) Why). x >>= (λ put. as_read (rewritten format Metadata put file))) k) ∙ scrubbed_so format file new r f e) short
+    (with_found_whole (is_some put) (as_read (rewritten format Metadata put file)) new
+    (sym (ap (λ (x : Result (Option (List ℕ)) Why). x >>= (λ put. with_found (is_some put) (as_read (rewritten format Metadata put file)))) k) ∙ scrubbed_so format file new r f e)) short
 
 -- the orientation alone is read
 pub orientation_kept : (format : Format) (file new : List ℕ) (contents : Contents) (number : ℕ) → ((remove : Remove) (put : Option (List ℕ)) (bytes : List ℕ) → IsFound remove put bytes)
@@ -88,7 +91,7 @@ orientation_kept format file new contents number law r f read told small e short
         (alone_read contents.order number small)
     by_fault (Some cause) w =
         absurd (no_ok (reading (write_refusal cause)) (whole new)
-        (sym (ap (λ (x : Result (Option (List ℕ)) Why). x >>= (λ put. as_read (rewritten format Metadata put file))) (made (Some cause) w)) ∙ scrubbed_so format file new r f e))
+        (sym (ap (λ (x : Result (Option (List ℕ)) Why). x >>= (λ put. with_found (is_some put) (as_read (rewritten format Metadata put file)))) (made (Some cause) w)) ∙ scrubbed_so format file new r f e))
 
 -- where nothing is kept, nothing is read
 pub nothing_kept : (format : Format) (file new : List ℕ) → ((remove : Remove) (put : Option (List ℕ)) (bytes : List ℕ) → IsFound remove put bytes)

@@ -35,13 +35,14 @@ use Rattle.exif_rewrite_jpeg.specs.Rewriting.{Rewriting, finished}
 use Rattle.exif_rewrite_webp.specs.RewrittenWebp.{webp_rewriting}
 use Rattle.exif_inventory.specs.declared.part.Part.{Part}
 use Rattle.exif_scrub_heif.specs.Scrubbing as heif
-use Rattle.exif_change.specs.Changed.{Change, Undone, still_there, whole}
-use Rattle.exif_change.specs.Changes.{erased, heif_emptied, if_edited, scrubbed, scrubbed_as, with_parts}
+use Rattle.exif_change.specs.Changed.{Change, whole}
+use Rattle.exif_change.specs.Changes.{erased, heif_emptied, if_edited, scrubbed, scrubbed_as}
 use Rattle.exif_change.specs.Reading.{Contents, data_contents, entry_limit, file_contents}
 use Rattle.exif_change.specs.Refusals.{Why, as_read, reading, unknown_format}
 use Rattle.exif_change.specs.Rewriting.{if_whole, rewritten, rewritten_webp}
 use Rattle.exif_change.specs.declared.scrubbing.Removed.{Removed}
 use Rattle.exif_change.specs.declared.scrubbing.Removed.TheVariants as removed
+use Rattle.exif_change.proofs.FoundParts.{with_found_whole, with_parts_whole}
 use Rattle.exif_change.proofs.Scrubbed.{scrubbed_answers}
 use Rattle.exif_change_laws.specs.Scrubbed.{HasNoField, is_rewritten}
 use Rattle.exif_change_laws.proofs.NoField.{none_in_data}
@@ -235,24 +236,6 @@ erased_read file new laws short e = by_edit (edited_file entry_limit EraseAll fi
 
 -- ---- all formats
 
--- a change that left no part, and nothing else, is whole
-with_parts_whole : (parts : List Part) (change : Result Change Why) (new : List ℕ) → with_parts parts change ≡ Ok (whole new) → change ≡ Ok (whole new)
-with_parts_whole parts (Err why) new e = absurd (no_ok why (whole new) e)
-with_parts_whole parts (Ok change) new e = ap (λ (c : Change). let y : Result Change Why = Ok c in y) same
-  where
-    joined : change.undone ++ map (λ part. Some (still_there part)) parts ≡ []
-    joined = ap (λ (x : Result Change Why). elim x [ Ok c ↦ c.undone | Err why ↦ [] ]) e
-
-    front : {X : Type 0} (xs ys : List X) → xs ++ ys ≡ [] → xs ≡ []
-    front [] ys h = refl
-    front (x ∷ xs) ys h = absurd (cc)
-
-    file_is : change.file ≡ new
-    file_is = ap (λ (x : Result Change Why). elim x [ Ok c ↦ c.file | Err why ↦ new ]) e
-
-    same : change ≡ whole new
-    same = ap (λ (f : List ℕ). record { file = f; undone = change.undone }) file_is ∙ ap (λ (u : List (Option Undone)). record { file = new; undone = u }) (front change.undone _ joined)
-
 -- a HEIF file without its metadata
 pub heif_read : (made : List ℕ × Option (List Part)) (new : List ℕ) → Limits → length made.0 < 2 ^ 64 → heif_emptied made ≡ Ok (whole new) → HasNoField (file_contents new)
 heif_read (file, None) new limits short e = erased_read file new limits short e
@@ -268,8 +251,8 @@ scrubbed_read file new law limits other short small e = by_format (format_in fil
         → HasNoField (file_contents new)
     by_format None f e = absurd (no_ok unknown_format (whole new) e)
     by_format (Some Tiff) f e = absurd (other f)
-    by_format (Some Jpeg) f e = nothing_read new (rewritten_answers Jpeg None file new law refl f e small)
-    by_format (Some WebP) f e = nothing_read new (rewritten_answers WebP None file new law refl f e small)
+    by_format (Some Jpeg) f e = nothing_read new (rewritten_answers Jpeg None file new law refl f (with_found_whole false (as_read (rewritten Jpeg Metadata None file)) new e) small)
+    by_format (Some WebP) f e = nothing_read new (rewritten_answers WebP None file new law refl f (with_found_whole false (as_read (rewritten WebP Metadata None file)) new e) small)
     by_format (Some Heif) f e = heif_read (heif.scrubbed file) new limits short e
 
 -- what is made of a file by its format

@@ -1,16 +1,21 @@
 -- What a change makes of a file.
-use Rattle.std.specs.Prelude.{◌≡◌, ℕ, List, Result, Ok, Err}
+use Rattle.std.specs.Prelude.{◌≡◌, ℕ, List, [], Result, Ok, Err}
 use Rattle.exif_change.specs.Changed as changed
-use Rattle.exif_change.specs.Changes.{scrubbed}
+use Rattle.exif_change.specs.Changes.{scrubbed, scrubbed_with_color}
+use Rattle.exif_change.specs.Notes.{scrub_notes}
 use Rattle.exif_change.specs.Refusals.{Why}
 use Rattle.exif_change.specs.Setting.{set_file}
 use Rattle.exif_change.specs.Shifting.{shifted}
+use Rattle.exif_change.specs.declared.notes.Color.TheVariants.{Keep, Strip}
+use Rattle.exif_change.specs.declared.notes.Note.{Note}
+use Rattle.exif_change.specs.declared.scrubbing.Removed.TheVariants.{AllButOrientation, Gps, Metadata}
 use Rattle.exif_commands.specs.declared.request.Change.{Change}
 use Rattle.exif_commands.specs.declared.request.Change.TheVariants.{Scrub, Set, Shift}
 
 -- the metadata are removed, the values are set, or the dates are moved; or why not
 abbrev pub answer_of : Change → List ℕ → Result changed.Change Why
-answer_of (Scrub removed) old = scrubbed removed old
+answer_of (Scrub removed Keep) old = scrubbed removed old
+answer_of (Scrub removed Strip) old = scrubbed_with_color removed old
 answer_of (Set values) old = set_file values.items old
 answer_of (Shift by dates) old = shifted by dates old
 
@@ -22,3 +27,11 @@ file_of (Err why) = Err why
 -- the bytes of the new file are exactly these
 abbrev pub IsAnswerOf : Change → List ℕ → List ℕ → Type 0
 IsAnswerOf change old new = file_of (answer_of change old) ≡ Ok new
+
+-- what the user is to know of a change
+abbrev pub notes_of : Change → List ℕ → List Note
+notes_of (Scrub Metadata color) old = scrub_notes color old
+notes_of (Scrub AllButOrientation color) old = scrub_notes color old
+notes_of (Scrub Gps color) old = []
+notes_of (Set values) old = []
+notes_of (Shift by dates) old = []

@@ -3,12 +3,14 @@
 ghost use Rattle.std.specs.Prelude.{◌≡◌, IfOk, IfErr};
 ghost use Rattle.exif_change.specs.Changed.{change_of};
 ghost use Rattle.exif_change.specs.Refusals.{Answers, Fails};
-ghost use Rattle.exif_commands.specs.Answers.{IsAnswerOf, answer_of};
+ghost use Rattle.exif_commands.specs.Answers.{IsAnswerOf, answer_of, notes_of};
 
 use crate::request::Change;
-use exif_change::{Changed, Left, Refusal, scrub, set, shift};
-use exif_files::{Edit, EditError, Edited};
-use std::alloc::Global;
+use exif_change::{
+    Changed, Color, Left, Note, Refusal, Removed, scrub, scrub_notes, scrub_with_color, set, shift,
+};
+use exif_files::{Edit, EditError, Edited, Report};
+use std::alloc::{AllocError, Global};
 
 /// The changed file, and what was left undone in it.
 pub fn change_bytes(alloc: Global, change: &Change<'_>, old: &[u8]) -> Result<Changed, Refusal>
@@ -16,9 +18,22 @@ pub fn change_bytes(alloc: Global, change: &Change<'_>, old: &[u8]) -> Result<Ch
 {
     let old = Vec::from_slice(alloc, old)?;
     match change {
-        Change::Scrub(removed) => scrub(alloc, old, *removed),
+        Change::Scrub(removed, Color::Keep) => scrub(alloc, old, *removed),
+        Change::Scrub(removed, Color::Strip) => scrub_with_color(alloc, old, *removed),
         Change::Shift(by, dates) => shift(alloc, old, *by, *dates),
         Change::Set(values) => set(alloc, old, values.as_slice()),
+    }
+}
+
+/// What the user is to know of a change of these bytes.
+pub fn notes_of(alloc: Global, change: &Change<'_>, old: &[u8]) -> Result<Vec<Note>, AllocError>
+    ensures { IfOk result (λ notes. notes.items ≡ notes_of change.now old.now) }
+{
+    match change {
+        Change::Scrub(Removed::Metadata | Removed::AllButOrientation, color) => {
+            scrub_notes(alloc, old, *color)
+        }
+        _ => Ok(Vec::new(alloc)),
     }
 }
 
@@ -29,13 +44,21 @@ pub struct ChangeEdit<'c, 'a>(pub &'c Change<'a>);
 impl<'c, 'a> Edit for ChangeEdit<'c, 'a> {
     type Left = Left;
 
+    type Note = Note;
+
     type Refusal = Refusal;
 
     ghost answer = { λ edit. IsAnswerOf edit.0.now };
 
-    fn apply(&self, alloc: Global, old: &[u8]) -> Result<Edited<Left>, EditError<Refusal>> {
+    fn apply(&self, alloc: Global, old: &[u8]) -> Result<Edited<Left, Note>, EditError<Refusal>> {
+        let Ok(notes) = notes_of(alloc, self.0, old) else {
+            return Err(EditError::OutOfMemory);
+        };
         match change_bytes(alloc, self.0, old) {
-            Ok(Changed { file, left }) => Ok(Edited { file, left }),
+            Ok(Changed { file, left }) => Ok(Edited {
+                file,
+                report: Report { left, notes },
+            }),
             Err(Refusal::OutOfMemory) => Err(EditError::OutOfMemory),
             Err(refusal) => Err(EditError::Refused(refusal)),
         }

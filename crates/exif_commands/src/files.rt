@@ -1,11 +1,12 @@
 //! Many files, one after the other: what is wrong with one is reported, and the others go on.
 
-use crate::change::change_bytes;
+use crate::change::{change_bytes, notes_of};
 use crate::check::{check_file, refused_line};
 use crate::console::Console;
 use crate::in_place::change_in_place;
 use crate::inputs::{Head, head_of_file, open, read_file};
 use crate::json::object_of;
+use crate::notes::NoteLine;
 use crate::output::{out_of, write_out};
 use crate::pending::{Next, Pending};
 use crate::request::{Change, Form, Reading, Request, Target, Task};
@@ -220,7 +221,19 @@ impl<'r, 'a, W: Sink, E: Sink> Session<'r, 'a, W, E> {
             self.say(path, left)?;
             status = Status::Incomplete;
         }
+        self.say_notes(what, path, old.as_slice())?;
         Ok(status)
+    }
+
+    // Writes the notes on a change of these bytes.
+    fn say_notes(&mut self, what: &Change<'_>, path: &str, old: &[u8]) -> Result<(), Stop> {
+        if self.request.quiet {
+            return Ok(());
+        }
+        for note in notes_of(self.rt.alloc(), what, old)? {
+            self.say(path, &NoteLine(note))?;
+        }
+        Ok(())
     }
 
     fn write_thumbnail(&mut self, path: &str, to: &str, force: bool) -> Result<Status, Stop> {

@@ -3,12 +3,13 @@
 use crate::change::ChangeEdit;
 use crate::console::Console;
 use crate::files::{Session, Stop};
+use crate::notes::NoteLine;
 use crate::pending::Next;
 use crate::request::Change;
 use exif::Sink;
-use exif_change::{Left, Refusal};
+use exif_change::{Left, Note, Refusal};
 use exif_decisions::{Counts, Escaped};
-use exif_files::{Failure, HostFiles, Keeping, Reporter, Status, WriteError, change_all};
+use exif_files::{Failure, HostFiles, Keeping, Report, Reporter, Status, WriteError, change_all};
 use std::alloc::AllocError;
 use std::io::{self, ErrorKind};
 use std::{fmt, fs};
@@ -46,10 +47,13 @@ pub fn change_in_place<W: Sink, E: Sink>(
         session.rt,
         change,
         keeping,
-        paths.as_slice(),
-        keys.as_slice(),
-        &mut session.console,
-        &mut session.pending.counts,
+        Messages {
+            paths: paths.as_slice(),
+            keys: keys.as_slice(),
+            quiet: session.request.quiet,
+            console: &mut session.console,
+            counts: &mut session.pending.counts,
+        },
     )?;
     for status in results.iter().flatten() {
         worst = worst.or_worse(*status);
@@ -58,24 +62,16 @@ pub fn change_in_place<W: Sink, E: Sink>(
 }
 
 // Changes the files, and reports each.
-fn change_files<'p, 'k, 'c, 'r, 'n, 'h, 'a, E: Sink>(
+fn change_files<E: Sink>(
     rt: &HostRuntime,
-    change: &'h Change<'a>,
+    change: &Change<'_>,
     keeping: Keeping,
-    paths: &'p [String],
-    keys: &'k [String],
-    console: &'c mut Console<'r, E>,
-    counts: &'n mut Counts,
+    mut messages: Messages<'_, '_, '_, '_, '_, E>,
 ) -> Result<Vec<Option<Status>>, AllocError> {
     let edit = ChangeEdit(change);
     let mut files = HostFiles::new(rt);
-    let mut report = Report {
-        paths,
-        keys,
-        console,
-        counts,
-    };
-    change_all(rt.alloc(), &mut files, &edit, keys, keeping, &mut report)
+    let keys = messages.keys;
+    change_all(rt.alloc(), &mut files, &edit, keys, keeping, &mut messages)
 }
 
 impl Plan {
@@ -123,26 +119,42 @@ fn key_of(rt: &HostRuntime, path: &str) -> io::Result<String> {
     Ok(String::from_str(rt.alloc(), path.as_path().as_str())?)
 }
 
-// Reports each file.
+// Writes what is reported of each file.
 #[derive(Drop)]
-struct Report<'p, 'k, 'c, 'r, 'n, E> {
+struct Messages<'p, 'k, 'c, 'r, 'n, E> {
     paths: &'p [String],
     keys: &'k [String],
+    quiet: bool,
     console: &'c mut Console<'r, E>,
     counts: &'n mut Counts,
 }
 
-impl<'p, 'k, 'c, 'r, 'n, E: Sink> Reporter<Left, Refusal> for Report<'p, 'k, 'c, 'r, 'n, E> {
-    fn report(&mut self, index: usize, outcome: Result<Vec<Left>, Failure<Refusal>>) {
+impl<'p, 'k, 'c, 'r, 'n, E: Sink> Messages<'p, 'k, 'c, 'r, 'n, E> {
+    // Writes what was left undone in a changed file, and its notes.
+    fn say_all(&mut self, path: &str, report: &Report<Left, Note>) {
+        for left in report.left.iter() {
+            self.console.say(path, left);
+        }
+        if self.quiet {
+            return;
+        }
+        for note in report.notes.iter() {
+            self.console.say(path, &NoteLine(*note));
+        }
+    }
+}
+
+impl<'p, 'k, 'c, 'r, 'n, E: Sink> Reporter<Left, Note, Refusal>
+    for Messages<'p, 'k, 'c, 'r, 'n, E>
+{
+    fn report(&mut self, index: usize, outcome: Result<Report<Left, Note>, Failure<Refusal>>) {
         let (path, key) = match (self.paths.get(index), self.keys.get(index)) {
             (Some(path), Some(key)) => (path.as_str(), key.as_str()),
             _ => ("", ""),
         };
         match outcome {
-            Ok(left) => {
-                for left in left.iter() {
-                    self.console.say(path, left);
-                }
+            Ok(report) => {
+                self.say_all(path, &report);
                 self.counts.add(Status::Success);
             }
             Err(failure) => {

@@ -9,6 +9,7 @@ mod in_place;
 mod inputs;
 mod json;
 mod lines;
+mod notes;
 mod output;
 mod pending;
 mod progress;

@@ -1,6 +1,6 @@
 //! What the arguments request.
 
-use exif_change::{Assignment, ClockShift, Dates, Removed};
+use exif_change::{Assignment, ClockShift, Color, Dates, Removed};
 use exif_files::Keeping;
 
 /// What the arguments request.
@@ -14,7 +14,7 @@ pub struct Request<'a> {
     pub names_from_input: bool,
     /// Whether the pictures in folders are processed too.
     pub recursive: bool,
-    /// Whether neither progress nor a summary is written.
+    /// Whether neither progress, notes nor a summary are written.
     pub quiet: bool,
 }
 
@@ -56,8 +56,8 @@ pub enum Form {
 /// How a file is changed.
 #[derive(Drop)]
 pub enum Change<'a> {
-    /// Metadata are removed.
-    Scrub(Removed),
+    /// Metadata are removed, and maybe the colour profile.
+    Scrub(Removed, Color),
     /// Values are set.
     Set(Vec<Assignment<'a>>),
     /// Dates are moved.

@@ -1,3 +1,5 @@
+pub mod Color
+pub mod ColorExamples
 pub mod FileLaws
 pub mod RewrittenFile
 pub mod ScrubbedExif

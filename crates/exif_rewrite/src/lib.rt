@@ -1,12 +1,15 @@
-//! Whole files written again: without their Exif data or all metadata, and with new Exif data.
+//! Whole files written again: without their Exif data, all metadata or
+//! their colour profile, and with new Exif data.
 #![tactic(auto)]
 
 pub mod by_head;
+mod color;
 pub mod laws;
 pub mod scrubbed;
 pub mod scrubbing;
 
 pub use by_head::rewrite;
+pub use color::without_color_profile;
 pub use exif_rewrite_jpeg::{Ended, rewrite_jpeg, rewrite_jpeg_as_it_stands};
 pub use exif_rewrite_webp::rewrite_webp;
 pub use exif_segments::Remove;

@@ -99,7 +99,9 @@ fn replacing<'a>(alloc: Global, command: Command<'a>) -> Result<Command<'a>, All
 }
 
 fn locations_only<'a>(alloc: Global, id: &'a str, help: &'a str) -> Result<Arg<'a>, AllocError> {
-    options::flag(alloc, id, help).conflicts_with("keep-orientation")
+    options::flag(alloc, id, help)
+        .conflicts_with("keep-orientation")?
+        .conflicts_with("strip-color")
 }
 
 fn scrub<'a>(alloc: Global) -> Result<Command<'a>, AllocError> {
@@ -109,6 +111,7 @@ fn scrub<'a>(alloc: Global) -> Result<Command<'a>, AllocError> {
             "mexaldor scrub [OPTIONS] FILE OUT\n       mexaldor scrub [OPTIONS] --in-place FILE...",
         )
         .arg(options::flag(alloc, "keep-orientation", "Keep the orientation"))?
+        .arg(options::flag(alloc, "strip-color", "Also remove the colour profile"))?
         .arg(locations_only(alloc, "locations-only", "Only erase locations, in place")?)?
         .arg(locations_only(alloc, "places-only", "The same as --locations-only")?)?;
     changing(alloc, command)?.arg(options::words(

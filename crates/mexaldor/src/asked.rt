@@ -3,7 +3,7 @@
 use crate::arguments::subcommand;
 use clap::error::ErrorKind;
 use clap::{ArgMatches, Error};
-use exif_change::{Assignment, ClockShift, Dates, ENTRY_LIMIT, Removed};
+use exif_change::{Assignment, ClockShift, Color, Dates, ENTRY_LIMIT, Removed};
 use exif_commands::{Change, Form, Keeping, Reading, Request, Target, Task};
 use exif_decisions::{Escaped, is_assignment, nearest};
 use std::alloc::{AllocError, Global};
@@ -51,7 +51,8 @@ fn parsed<'a>(
         "shift" => shift_of(alloc, matches),
         "scrub" => {
             let files = words_of(alloc, matches)?;
-            changing(alloc, Change::Scrub(removed_of(matches)), matches, files)
+            let change = Change::Scrub(removed_of(matches), color_of(matches));
+            changing(alloc, change, matches, files)
         }
         "check" => {
             let files = words_of(alloc, matches)?;
@@ -229,6 +230,14 @@ fn removed_of(matches: &ArgMatches<'_>) -> Removed {
         Removed::AllButOrientation
     } else {
         Removed::Metadata
+    }
+}
+
+fn color_of(matches: &ArgMatches<'_>) -> Color {
+    if matches.get_flag("strip-color") {
+        Color::Strip
+    } else {
+        Color::Keep
     }
 }
 

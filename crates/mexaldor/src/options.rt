@@ -47,7 +47,7 @@ pub fn null<'a>(alloc: Global) -> Arg<'a> {
 }
 
 pub fn quiet<'a>(alloc: Global) -> Arg<'a> {
-    flag(alloc, "quiet", "Do not show progress or a summary").short('q')
+    flag(alloc, "quiet", "Do not show progress, notes or a summary").short('q')
 }
 
 pub fn in_place<'a>(alloc: Global) -> Arg<'a> {

@@ -1,6 +1,6 @@
 use Rattle.std.proofs.Common.{◌≡◌, ◌++◌, Some, drop, map}
 use Rattle.exif_change.specs.Changed.{still_there, undone_of}
-use Rattle.exif_change.proofs.scrubbing.with_parts.Given as goal
+use Rattle.exif_change.proofs.found.with_parts.Given as goal
 
 -- what was left so far, and the parts that are left over, are all that was left
 abbrev pub invariant-loop-part : goal.invariant-loop-part

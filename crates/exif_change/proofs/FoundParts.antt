@@ -1,0 +1,32 @@
+-- What is found in a new file: where nothing was left, nothing was found; and what was found was left.
+use Rattle.std.proofs.Common.{◌≡◌, ◌∙◌, ℕ, suc, Bool, true, false, List, [], ◌∷◌, ◌++◌, map, All, Option, Some, None, Result, Ok, Err, refl, sym, ap, subst}
+use Rattle.exif_inventory.specs.declared.part.Part.{Part}
+use Rattle.exif_change.specs.Changed.{Change, Undone, still_there, whole}
+use Rattle.exif_change.specs.Found.{belongs, foreign, found_in, with_found, with_parts}
+use Rattle.exif_change.specs.Refusals.{Why}
+
+no_ok : {X : Type 0} (why : Why) (x : X) → ◌≡◌ {A = Result X Why} (Err why) (Ok x) → ⊥
+no_ok why x e = cc
+
+-- a change that left no part, and nothing else, is whole
+pub with_parts_whole : (parts : List Part) (change : Result Change Why) (new : List ℕ) → with_parts parts change ≡ Ok (whole new) → change ≡ Ok (whole new)
+with_parts_whole parts (Err why) new e = absurd (no_ok why (whole new) e)
+with_parts_whole parts (Ok change) new e = ap (λ (c : Change). let y : Result Change Why = Ok c in y) same
+  where
+    joined : change.undone ++ map (λ part. Some (still_there part)) parts ≡ []
+    joined = ap (λ (x : Result Change Why). elim x [ Ok c ↦ c.undone | Err why ↦ [] ]) e
+
+    front : {X : Type 0} (xs ys : List X) → xs ++ ys ≡ [] → xs ≡ []
+    front [] ys h = refl
+    front (x ∷ xs) ys h = absurd (cc)
+
+    file_is : change.file ≡ new
+    file_is = ap (λ (x : Result Change Why). elim x [ Ok c ↦ c.file | Err why ↦ new ]) e
+
+    same : change ≡ whole new
+    same = ap (λ (f : List ℕ). record { file = f; undone = change.undone }) file_is ∙ ap (λ (u : List (Option Undone)). record { file = new; undone = u }) (front change.undone _ joined)
+
+-- and so is one in which nothing was found
+pub with_found_whole : (put : Bool) (change : Result Change Why) (new : List ℕ) → with_found put change ≡ Ok (whole new) → change ≡ Ok (whole new)
+with_found_whole put (Err why) new e = absurd (no_ok why (whole new) e)
+with_found_whole put (Ok change) new e = with_parts_whole (found_in put change.file) (Ok change) new e

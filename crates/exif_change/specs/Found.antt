@@ -1,0 +1,44 @@
+-- Metadata that are found in a new file: what is none of its picture's is answered.
+use Rattle.std.specs.Prelude.{ℕ, ◌==◌, ◌&&◌, Bool, true, false, List, [], ◌∷◌, ◌++◌, map, Option, None, Some, Result, Ok, Err, if◌then◌else◌}
+use Rattle.exif_inventory.specs.Walks.{inventory}
+use Rattle.exif_inventory.specs.declared.kind.Kind.{Kind}
+use Rattle.exif_inventory.specs.declared.kind.Kind.TheVariants as kind
+use Rattle.exif_inventory.specs.declared.part.Part.{Part}
+use Rattle.exif_change.specs.Changed.{Change, still_there}
+use Rattle.exif_change.specs.Refusals.{Why}
+
+-- whether a part of this kind is what a picture needs, or Exif data that were put
+abbrev pub is_wanted : Bool → Kind → Bool
+is_wanted put kind.Picture = true
+is_wanted put kind.Jfif = true
+is_wanted put kind.Adobe = true
+is_wanted put kind.IccProfile = true
+is_wanted put kind.Exif = put
+is_wanted put k = false
+
+-- whether a part belongs to a file without metadata: to its first picture
+abbrev pub belongs : Bool → Part → Bool
+belongs put part = (part.picture == 0) && is_wanted put part.kind
+
+-- the parts that do not, behind others
+abbrev pub foreign : Bool → List Part → List Part → List Part
+foreign put [] found = found
+foreign put (part ∷ parts) found =
+    foreign put parts (if belongs put part then found else found ++ part ∷ [])
+
+-- those of a JPEG or WebP file
+abbrev pub found_in : Bool → List ℕ → List Part
+found_in put file = elim (inventory file) [ Some parts ↦ foreign put parts [] | None ↦ [] ]
+
+-- a change that left these parts too, which may hold metadata
+abbrev pub with_parts : List Part → Result Change Why → Result Change Why
+with_parts parts (Ok change) = Ok (record {
+  file = change.file;
+  undone = change.undone ++ map (λ part. Some (still_there part)) parts;
+})
+with_parts parts (Err why) = Err why
+
+-- a JPEG or WebP file that was rewritten, with what is found in it that does not belong there
+abbrev pub with_found : Bool → Result Change Why → Result Change Why
+with_found put (Ok change) = with_parts (found_in put change.file) (Ok change)
+with_found put (Err why) = Err why

@@ -1,0 +1,70 @@
+//! Metadata that are found in a new file.
+
+ghost use Rattle.std.specs.Prelude.{◌≡◌, ◌++◌, [], IfOk, Ok};
+ghost use Rattle.exif_change.specs.Changed.{change_of};
+ghost use Rattle.exif_change.specs.Found.{belongs, foreign, found_in, with_found, with_parts};
+ghost use Rattle.exif_change.specs.Refusals.{Answers};
+
+use crate::Refusal;
+use crate::changed::{Changed, Left};
+use exif_inventory::{Kind, Part, inventory};
+use std::alloc::{AllocError, Global};
+
+// Whether a part belongs to a file without metadata: it is what the first picture needs, or Exif
+// data that were put.
+fn belongs(put: bool, part: Part) -> bool
+    ensures { result ≡ belongs put part }
+{
+    part.picture == 0
+        && match part.kind {
+            Kind::Picture | Kind::Jfif | Kind::Adobe | Kind::IccProfile => true,
+            Kind::Exif => put,
+            _ => false,
+        }
+}
+
+// The parts that do not.
+fn foreign(alloc: Global, put: bool, parts: &[Part]) -> Result<Vec<Part>, AllocError>
+    ensures { IfOk result (λ found. found.items ≡ foreign put parts.now []) }
+{
+    let mut found = Vec::new(alloc);
+    for part in parts {
+        if !belongs(put, *part) {
+            found.push(*part)?;
+        }
+    }
+    Ok(found)
+}
+
+// Those of a JPEG or WebP file.
+fn found_in(alloc: Global, put: bool, file: &[u8]) -> Result<Vec<Part>, AllocError>
+    ensures { IfOk result (λ found. found.items ≡ found_in put file.now) }
+{
+    match inventory(alloc, file)? {
+        Some(parts) => foreign(alloc, put, &parts),
+        None => Ok(Vec::new(alloc)),
+    }
+}
+
+/// A change that left these parts too.
+pub(crate) fn with_parts(
+    alloc: Global,
+    changed: Changed,
+    parts: &[Part],
+) -> Result<Changed, Refusal>
+    ensures { Answers change_of result (with_parts parts.now (Ok (change_of changed))) }
+{
+    let Changed { file, mut left } = changed;
+    for part in parts {
+        left.push(Left::Part(*part))?;
+    }
+    Ok(Changed { file, left })
+}
+
+/// A JPEG or WebP file that was rewritten, with what is found in it that does not belong there.
+pub(crate) fn with_found(alloc: Global, put: bool, changed: Changed) -> Result<Changed, Refusal>
+    ensures { Answers change_of result (with_found put (Ok (change_of changed))) }
+{
+    let found = found_in(alloc, put, changed.file.as_slice())?;
+    with_parts(alloc, changed, &found)
+}

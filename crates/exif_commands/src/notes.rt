@@ -1,0 +1,22 @@
+//! Notes on a change, in words.
+
+use exif_change::Note;
+use std::fmt;
+
+/// What the user is to know of a change, as a line.
+#[derive(Clone, Copy)]
+pub struct NoteLine(pub Note);
+
+impl fmt::Display for NoteLine {
+    fn fmt<W: fmt::Write>(&self, f: &mut fmt::Formatter<W>) -> fmt::Result {
+        match self.0 {
+            Note::ColorProfile => {
+                f.write_str("the colour profile stays; --strip-color removes it")
+            }
+            Note::Pictures(1) => f.write_str("the picture behind the first one was removed"),
+            Note::Pictures(count) => {
+                write!(f, "{count} pictures behind the first one were removed")
+            }
+        }
+    }
+}
