@@ -105,6 +105,8 @@ check "all else is done" cmp bare.heic clean.exif.heic
 gives "locations and the profile" 2 "$mexaldor" scrub --locations-only --strip-color files/profile.jpg bare.jpg
 gives "a picture behind the first one" 0 "$mexaldor" scrub --force files/second_picture.jpg clean.jpg
 says "is removed by name" "files/second_picture.jpg: the picture behind the first one was removed"
+gives "the orientation of a HEIF file" 0 "$mexaldor" scrub --force --keep-orientation files/exif.heic clean.heic
+says "is that of its own rotation" "files/exif.heic: the rotation that is stored with the picture stays; the orientation of Exif does not"
 gives "without notes" 0 "$mexaldor" scrub -q --force files/profile.jpg clean.jpg
 check "nothing is reported" test ! -s err
 mkdir notes

@@ -1,9 +1,12 @@
 -- What is found in a new file: where nothing was left, nothing was found; and what was found was left.
-use Rattle.std.proofs.Common.{◌≡◌, ◌∙◌, ℕ, suc, Bool, true, false, List, [], ◌∷◌, ◌++◌, map, All, Option, Some, None, Result, Ok, Err, refl, sym, ap, subst}
+use Rattle.std.proofs.Common.{◌≡◌, ◌∙◌, ℕ, suc, Bool, true, false, List, [], ◌∷◌, ◌++◌, map, All, Contains, slice_index_or, Option, Some, None, Result, Ok, Err, refl, sym, ap, subst}
+use Rattle.std.proofs.lemmas.List.Elements.{Contains-append_right}
+use Rattle.exif_inventory.specs.Walks.{inventory}
 use Rattle.exif_inventory.specs.declared.part.Part.{Part}
 use Rattle.exif_change.specs.Changed.{Change, Undone, still_there, whole}
-use Rattle.exif_change.specs.Found.{belongs, foreign, found_in, with_found, with_parts}
+use Rattle.exif_change.specs.Found.{belongs, foreign, found_in, IsAnswered, with_found, with_parts}
 use Rattle.exif_change.specs.Refusals.{Why}
+use Rattle.exif_change.proofs.FoundAll.{contains_map, foreign_all}
 
 no_ok : {X : Type 0} (why : Why) (x : X) → ◌≡◌ {A = Result X Why} (Err why) (Ok x) → ⊥
 no_ok why x e = cc
@@ -30,3 +33,27 @@ with_parts_whole parts (Ok change) new e = ap (λ (c : Change). let y : Result C
 pub with_found_whole : (put : Bool) (change : Result Change Why) (new : List ℕ) → with_found put change ≡ Ok (whole new) → change ≡ Ok (whole new)
 with_found_whole put (Err why) new e = absurd (no_ok why (whole new) e)
 with_found_whole put (Ok change) new e = with_parts_whole (found_in put change.file) (Ok change) new e
+
+-- each part of the new file that does not belong there is among what was left
+pub found_answered : (put : Bool) (made : Result Change Why) (change : Change) (parts : List Part) → with_found put made ≡ Ok change → inventory change.file ≡ Some parts
+    → All (IsAnswered put change.undone) parts
+found_answered put (Err why) change parts e is = absurd (no_ok why change e)
+found_answered put (Ok old) change parts e is = λ k d below no.
+    subst (λ (us : List (Option Undone)). Contains us (said (slice_index_or parts k d))) undone_is
+    (Contains-append_right old.undone (map said (found_in put old.file)) (said (slice_index_or parts k d))
+    (contains_map said (found_in put old.file) (slice_index_or parts k d)
+    (subst (λ (ps : List Part). Contains ps (slice_index_or parts k d)) (sym found_is) (foreign_all put parts [] k d below no))))
+  where
+    said : Part → Option Undone
+    said part = Some (still_there part)
+
+    file_is : old.file ≡ change.file
+    file_is = ap (λ (x : Result Change Why). elim x [ Ok c ↦ c.file | Err why ↦ [] ]) e
+
+    undone_is : old.undone ++ map said (found_in put old.file) ≡ change.undone
+    undone_is = ap (λ (x : Result Change Why). elim x [ Ok c ↦ c.undone | Err why ↦ [] ]) e
+
+    found_is : found_in put old.file ≡ foreign put parts []
+    found_is =
+        ap (λ (o : Option (List Part)). elim o as (λ _. List Part) [ Some parts ↦ foreign put parts [] | None ↦ [] ])
+        (ap inventory file_is ∙ is)

@@ -1,3 +1,4 @@
+pub mod FoundAll
 pub mod FoundParts
 pub mod ReadLemmas
 pub mod Refused

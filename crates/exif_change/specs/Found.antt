@@ -1,10 +1,10 @@
 -- Metadata that are found in a new file: what is none of its picture's is answered.
-use Rattle.std.specs.Prelude.{ℕ, ◌==◌, ◌&&◌, Bool, true, false, List, [], ◌∷◌, ◌++◌, map, Option, None, Some, Result, Ok, Err, if◌then◌else◌}
+use Rattle.std.specs.Prelude.{◌≡◌, ℕ, ◌==◌, ◌&&◌, Bool, true, false, List, [], ◌∷◌, ◌++◌, map, Contains, Option, None, Some, Result, Ok, Err, if◌then◌else◌}
 use Rattle.exif_inventory.specs.Walks.{inventory}
 use Rattle.exif_inventory.specs.declared.kind.Kind.{Kind}
 use Rattle.exif_inventory.specs.declared.kind.Kind.TheVariants as kind
 use Rattle.exif_inventory.specs.declared.part.Part.{Part}
-use Rattle.exif_change.specs.Changed.{Change, still_there}
+use Rattle.exif_change.specs.Changed.{Change, Undone, still_there}
 use Rattle.exif_change.specs.Refusals.{Why}
 
 -- whether a part of this kind is what a picture needs, or Exif data that were put
@@ -42,3 +42,8 @@ with_parts parts (Err why) = Err why
 abbrev pub with_found : Bool → Result Change Why → Result Change Why
 with_found put (Ok change) = with_parts (found_in put change.file) (Ok change)
 with_found put (Err why) = Err why
+
+-- a part that does not belong to a file without metadata is among what was left
+abbrev pub IsAnswered : Bool → List (Option Undone) → Part → Type 0
+IsAnswered put undone part =
+    belongs put part ≡ false → Contains undone (Some (still_there part))

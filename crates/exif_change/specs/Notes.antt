@@ -1,13 +1,18 @@
 -- What the user is to know of a file that is scrubbed.
 use Rattle.std.specs.Prelude.{ℕ, ◌==◌, ◌&&◌, nat_lt, Bool, true, false, List, [], ◌∷◌, ◌++◌, Option, None, Some, if◌then◌else◌}
 use Rattle.std.specs.List.{list_any}
+use Rattle.exif_containers.specs.Container.{format_in}
+use Rattle.exif_containers.specs.declared.container.Format.{Format}
+use Rattle.exif_containers.specs.declared.container.Format.TheVariants.{Heif}
 use Rattle.exif_inventory.specs.Walks.{inventory}
 use Rattle.exif_inventory.specs.declared.part.Part.{Part}
 use Rattle.exif_rewrite.specs.Color as color
 use Rattle.exif_change.specs.declared.notes.Color.{Color}
 use Rattle.exif_change.specs.declared.notes.Color.TheVariants.{Keep, Strip}
 use Rattle.exif_change.specs.declared.notes.Note.{Note}
-use Rattle.exif_change.specs.declared.notes.Note.TheVariants.{ColorProfile, Pictures}
+use Rattle.exif_change.specs.declared.notes.Note.TheVariants.{ColorProfile, OwnRotation, Pictures}
+use Rattle.exif_change.specs.declared.scrubbing.Removed.{Removed}
+use Rattle.exif_change.specs.declared.scrubbing.Removed.TheVariants.{AllButOrientation, Gps, Metadata}
 
 -- whether the colour profile stays
 abbrev pub keeps : Color → Bool
@@ -40,6 +45,22 @@ if_pictures most = if nat_lt 0 most then Pictures most ∷ [] else []
 abbrev pub notes_on : Color → List Part → List Note
 notes_on color parts = if_profile color parts ++ if_pictures (highest parts 0)
 
--- the notes on a JPEG or WebP file of which all metadata are removed
-abbrev pub scrub_notes : Color → List ℕ → List Note
-scrub_notes color file = elim (inventory file) [ Some parts ↦ notes_on color parts | None ↦ [] ]
+-- whether a file is a HEIF file
+abbrev pub is_heif : Option Format → Bool
+is_heif (Some Heif) = true
+is_heif format = false
+
+-- the notes on a file of another format, of which the orientation is kept or not
+abbrev pub other_notes : Bool → List ℕ → List Note
+other_notes kept file = if kept && is_heif (format_in file) then OwnRotation ∷ [] else []
+
+-- the notes on a file of which all metadata are removed, but maybe for its orientation
+abbrev pub emptied_notes : Bool → Color → List ℕ → List Note
+emptied_notes kept color file =
+    elim (inventory file) [ Some parts ↦ notes_on color parts | None ↦ other_notes kept file ]
+
+-- the notes on a file that is scrubbed
+abbrev pub scrub_notes : Removed → Color → List ℕ → List Note
+scrub_notes Metadata color file = emptied_notes false color file
+scrub_notes AllButOrientation color file = emptied_notes true color file
+scrub_notes Gps color file = []

@@ -1,8 +1,10 @@
 //! What the user is to know of a file that is scrubbed.
 
 ghost use Rattle.std.specs.Prelude.{◌≡◌, ◌++◌, IfOk, OnOk};
-ghost use Rattle.exif_change.specs.Notes.{has_profile, highest, if_pictures, if_profile, is_profile, keeps, scrub_notes};
+ghost use Rattle.exif_change.specs.Notes.{has_profile, highest, if_pictures, if_profile, is_profile, keeps, notes_on, other_notes, scrub_notes};
 
+use crate::scrubbing::Removed;
+use exif_containers::container::{Format, format_of};
 use exif_inventory::{Kind, Part, inventory};
 use std::alloc::{AllocError, Global};
 
@@ -22,6 +24,9 @@ pub enum Note {
     ColorProfile,
     /// So many pictures behind the first one are removed.
     Pictures(u64),
+    /// The orientation goes with the other fields: the rotation that a HEIF file stores with its
+    /// picture decides.
+    OwnRotation,
 }
 
 // Whether the profile stays.
@@ -79,15 +84,46 @@ fn note_pictures(parts: &[Part], notes: &mut Vec<Note>) -> Result<(), AllocError
     Ok(())
 }
 
-/// What the user is to know where all metadata of a JPEG or WebP file are removed: that its colour
-/// profile stays, and how many pictures behind the first one go.
-pub fn scrub_notes(alloc: Global, file: &[u8], color: Color) -> Result<Vec<Note>, AllocError>
-    ensures { IfOk result (λ notes. notes.items ≡ scrub_notes color file.now) }
+// The notes on a JPEG or WebP file with these parts.
+fn notes_on(alloc: Global, color: Color, parts: &[Part]) -> Result<Vec<Note>, AllocError>
+    ensures { IfOk result (λ notes. notes.items ≡ notes_on color parts.now) }
 {
     let mut notes = Vec::new(alloc);
-    if let Some(parts) = inventory(alloc, file)? {
-        note_profile(color, &parts, &mut notes)?;
-        note_pictures(&parts, &mut notes)?;
+    note_profile(color, parts, &mut notes)?;
+    note_pictures(parts, &mut notes)?;
+    Ok(notes)
+}
+
+// The notes on a file of another format, of which the orientation is kept or not.
+fn other_notes(alloc: Global, kept: bool, file: &[u8]) -> Result<Vec<Note>, AllocError>
+    ensures { IfOk result (λ notes. notes.items ≡ other_notes kept file.now) }
+{
+    let mut notes = Vec::new(alloc);
+    if kept && matches!(format_of(file), Some(Format::Heif)) {
+        notes.push(Note::OwnRotation)?;
     }
     Ok(notes)
+}
+
+/// What the user is to know where all metadata of a file are removed, but maybe for its
+/// orientation: of a JPEG or WebP file that its colour profile stays, and how many pictures behind
+/// the first one go; of a HEIF file that the rotation that it stores with the picture decides.
+/// Nothing where only locations are erased.
+pub fn scrub_notes(
+    alloc: Global,
+    file: &[u8],
+    removed: Removed,
+    color: Color,
+) -> Result<Vec<Note>, AllocError>
+    ensures { IfOk result (λ notes. notes.items ≡ scrub_notes removed color file.now) }
+{
+    let kept = match removed {
+        Removed::Metadata => false,
+        Removed::AllButOrientation => true,
+        Removed::Gps => return Ok(Vec::new(alloc)),
+    };
+    match inventory(alloc, file)? {
+        Some(parts) => notes_on(alloc, color, &parts),
+        None => other_notes(alloc, kept, file),
+    }
 }

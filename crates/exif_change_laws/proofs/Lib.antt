@@ -1,4 +1,5 @@
 mod DatesThemselves
+mod FoundFiles
 mod JoinedFiles
 mod KeptOrientation
 mod MovedFields

@@ -24,6 +24,7 @@ ghost use Rattle.exif_change_laws.specs.Positions.{KeepsPositions};
 ghost use Rattle.exif_change_laws.specs.Scrubbed.{HasNoField, is_rewritten, orientation, orientation_alone};
 ghost use Rattle.exif_change_laws.specs.Shifted.{all_read};
 
+pub mod found;
 pub mod sets;
 
 use exif_clock::laws::a_moved_date_is_moved_back;

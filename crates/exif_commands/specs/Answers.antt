@@ -8,7 +8,6 @@ use Rattle.exif_change.specs.Setting.{set_file}
 use Rattle.exif_change.specs.Shifting.{shifted}
 use Rattle.exif_change.specs.declared.notes.Color.TheVariants.{Keep, Strip}
 use Rattle.exif_change.specs.declared.notes.Note.{Note}
-use Rattle.exif_change.specs.declared.scrubbing.Removed.TheVariants.{AllButOrientation, Gps, Metadata}
 use Rattle.exif_commands.specs.declared.request.Change.{Change}
 use Rattle.exif_commands.specs.declared.request.Change.TheVariants.{Scrub, Set, Shift}
 
@@ -30,8 +29,6 @@ IsAnswerOf change old new = file_of (answer_of change old) ≡ Ok new
 
 -- what the user is to know of a change
 abbrev pub notes_of : Change → List ℕ → List Note
-notes_of (Scrub Metadata color) old = scrub_notes color old
-notes_of (Scrub AllButOrientation color) old = scrub_notes color old
-notes_of (Scrub Gps color) old = []
+notes_of (Scrub removed color) old = scrub_notes removed color old
 notes_of (Set values) old = []
 notes_of (Shift by dates) old = []

@@ -7,7 +7,7 @@ ghost use Rattle.exif_commands.specs.Answers.{IsAnswerOf, answer_of, notes_of};
 
 use crate::request::Change;
 use exif_change::{
-    Changed, Color, Left, Note, Refusal, Removed, scrub, scrub_notes, scrub_with_color, set, shift,
+    Changed, Color, Left, Note, Refusal, scrub, scrub_notes, scrub_with_color, set, shift,
 };
 use exif_files::{Edit, EditError, Edited, Report};
 use std::alloc::{AllocError, Global};
@@ -30,10 +30,8 @@ pub fn notes_of(alloc: Global, change: &Change<'_>, old: &[u8]) -> Result<Vec<No
     ensures { IfOk result (λ notes. notes.items ≡ notes_of change.now old.now) }
 {
     match change {
-        Change::Scrub(Removed::Metadata | Removed::AllButOrientation, color) => {
-            scrub_notes(alloc, old, *color)
-        }
-        _ => Ok(Vec::new(alloc)),
+        Change::Scrub(removed, color) => scrub_notes(alloc, old, *removed, *color),
+        Change::Set(_) | Change::Shift(_, _) => Ok(Vec::new(alloc)),
     }
 }
 

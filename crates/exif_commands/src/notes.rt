@@ -17,6 +17,9 @@ impl fmt::Display for NoteLine {
             Note::Pictures(count) => {
                 write!(f, "{count} pictures behind the first one were removed")
             }
+            Note::OwnRotation => f.write_str(
+                "the rotation that is stored with the picture stays; the orientation of Exif does not",
+            ),
         }
     }
 }
