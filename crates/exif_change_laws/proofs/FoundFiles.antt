@@ -17,18 +17,21 @@ use Rattle.exif_change.specs.Rewriting.{rewritten}
 use Rattle.exif_change.specs.declared.scrubbing.Removed.{Removed}
 use Rattle.exif_change.specs.declared.scrubbing.Removed.TheVariants.{AllButOrientation, Metadata}
 use Rattle.exif_change.proofs.FoundParts.{found_answered}
-use Rattle.exif_change_laws.specs.Scrubbed.{is_rewritten}
+use Rattle.exif_change_laws.specs.Scrubbed.{AllAnswered, IsScrubbedTo, is_written_again}
 use Rattle.exif_change_laws.proofs.ScrubbedFiles.{scrubbed_by}
 
 no_ok : (why : Why) (x : Change) → ◌≡◌ {A = Result Change Why} (Err why) (Ok x) → ⊥
 no_ok why x e = cc
 
-pub all_answered : (format : Format) (file : List ℕ) (change : Change) (parts : List Part) → is_rewritten format ≡ true → format_in file ≡ Some format
-    → scrubbed Metadata file ≡ Ok change → inventory change.file ≡ Some parts → All (IsAnswered false change.undone) parts
-all_answered Jpeg file change parts r f e is = found_answered false (as_read (rewritten Jpeg remove.Metadata None file)) change parts (sym (scrubbed_by Jpeg Metadata file f) ∙ e) is
-all_answered WebP file change parts r f e is = found_answered false (as_read (rewritten WebP remove.Metadata None file)) change parts (sym (scrubbed_by WebP Metadata file f) ∙ e) is
-all_answered Heif file change parts r f e is = absurd (false≢true r)
-all_answered Tiff file change parts r f e is = absurd (false≢true r)
+by_metadata : (file : List ℕ) (change : Change) (o : Option Format) → format_in file ≡ o → is_written_again o ≡ true → scrubbed Metadata file ≡ Ok change → AllAnswered false change
+by_metadata file change (Some Jpeg) f r e = λ parts is. found_answered false (as_read (rewritten Jpeg remove.Metadata None file)) change parts (sym (scrubbed_by Jpeg Metadata file f) ∙ e) is
+by_metadata file change (Some WebP) f r e = λ parts is. found_answered false (as_read (rewritten WebP remove.Metadata None file)) change parts (sym (scrubbed_by WebP Metadata file f) ∙ e) is
+by_metadata file change (Some Heif) f r e = absurd (false≢true r)
+by_metadata file change (Some Tiff) f r e = absurd (false≢true r)
+by_metadata file change None f r e = absurd (false≢true r)
+
+pub all_answered : (file : List ℕ) (change : Change) → IsScrubbedTo Metadata file change → AllAnswered false change
+all_answered file change h = by_metadata file change (format_in file) refl h.0 h.1
 
 -- what does not belong there with Exif data does not without
 fewer : (first : Bool) (k : Kind) → (first && is_wanted true k) ≡ false → (first && is_wanted false k) ≡ false
@@ -63,9 +66,12 @@ by_kept format file (Err why) change parts e is = absurd (no_ok why change e)
 by_kept format file (Ok put) change parts e is = λ k d below.
     weaker (is_some put) change.undone _ (found_answered (is_some put) (as_read (rewritten format remove.Metadata put file)) change parts e is k d below)
 
-pub kept_answered : (format : Format) (file : List ℕ) (change : Change) (parts : List Part) → is_rewritten format ≡ true → format_in file ≡ Some format
-    → scrubbed AllButOrientation file ≡ Ok change → inventory change.file ≡ Some parts → All (IsAnswered true change.undone) parts
-kept_answered Jpeg file change parts r f e is = by_kept Jpeg file (kept AllButOrientation file) change parts (sym (scrubbed_by Jpeg AllButOrientation file f) ∙ e) is
-kept_answered WebP file change parts r f e is = by_kept WebP file (kept AllButOrientation file) change parts (sym (scrubbed_by WebP AllButOrientation file f) ∙ e) is
-kept_answered Heif file change parts r f e is = absurd (false≢true r)
-kept_answered Tiff file change parts r f e is = absurd (false≢true r)
+by_all_else : (file : List ℕ) (change : Change) (o : Option Format) → format_in file ≡ o → is_written_again o ≡ true → scrubbed AllButOrientation file ≡ Ok change → AllAnswered true change
+by_all_else file change (Some Jpeg) f r e = λ parts is. by_kept Jpeg file (kept AllButOrientation file) change parts (sym (scrubbed_by Jpeg AllButOrientation file f) ∙ e) is
+by_all_else file change (Some WebP) f r e = λ parts is. by_kept WebP file (kept AllButOrientation file) change parts (sym (scrubbed_by WebP AllButOrientation file f) ∙ e) is
+by_all_else file change (Some Heif) f r e = absurd (false≢true r)
+by_all_else file change (Some Tiff) f r e = absurd (false≢true r)
+by_all_else file change None f r e = absurd (false≢true r)
+
+pub kept_answered : (file : List ℕ) (change : Change) → IsScrubbedTo AllButOrientation file change → AllAnswered true change
+kept_answered file change h = by_all_else file change (format_in file) refl h.0 h.1
