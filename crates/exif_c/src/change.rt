@@ -30,11 +30,12 @@ pub extern "C" fn mexaldor_erase_gps(alloc: Global, file: &mut [u8]) -> u32
     }
 }
 
-/// Puts a file without its metadata into a buffer: JPEG and WebP lose them, in HEIF files the
-/// fields of the Exif data are erased where they stand, TIFF data are refused. It is no longer than
-/// it was, but for a WebP file whose last payload lacks its pad byte, which it gets. A JPEG stream
-/// that ends before its picture does is written as far as it goes, with the status 1. After a
-/// refusal the buffer is as it was.
+/// Puts a file without its metadata into a buffer. JPEG and WebP files are written again without
+/// them; in HEIF and TIFF files what is not the picture becomes zeros or empty data in place. The
+/// colour profile stays. The new file is no longer than the old one, but for a WebP file whose last
+/// payload lacks its pad byte, which it gets. The status is 1 where a part that may hold metadata
+/// stays, or where a JPEG stream ends before its picture does, which is written as far as it goes.
+/// After a refusal the buffer is as it was.
 #[unsafe(no_mangle)]
 pub extern "C" fn mexaldor_scrub(alloc: Global, file: &[u8], out: &mut [u8]) -> Answer
     ensures { Puts result out.old out.new (scrubbed Metadata file.now) }
