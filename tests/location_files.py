@@ -20,8 +20,8 @@ xmp = b"""<?xpacket begin='' id='W5M0MpCehiHzreSzNTczkc9d'?><x:xmpmeta xmlns:x='
  xmlns:dc='http://purl.org/dc/elements/1.1/' photoshop:City='Zzyzx47' dc:source='kept'>
 <exif:GPSLatitude>47,Zzyzx47N</exif:GPSLatitude></rdf:Description></rdf:RDF></x:xmpmeta><?xpacket end='w'?>"""
 city = b"\x1c\x02\x5a" + struct.pack(">H", len(SECRET)) + SECRET
-title = b"\x1c\x02\x05\0\x04kept"
-iptc = title + city
+byline = b"\x1c\x02\x50\0\x04kept"
+iptc = byline + city
 resource = b"8BIM\x04\x04\0\0" + struct.pack(">I", len(iptc)) + iptc + b"\0" * (len(iptc) % 2)
 digest = b"8BIM\x04\x25\0\0" + struct.pack(">I", 16) + b"d" * 16
 
@@ -95,7 +95,7 @@ webp("fields.webp", chunk(b"EXIF", fields))
 tiff_file("sub_ifds.tif", tiff((330, 4, b"\0\0\0\0"), (700, 1, xmp)) + SECRET)
 tiff_file("maker_note.tif", tiff((33723, 7, iptc), (37500, 7, SECRET)))
 tiff_file("broken_xmp.tif", tiff((700, 1, b"<City" + SECRET)))
-tiff_file("cut.tif", tiff((33723, 7, city + title))[:-1])
+tiff_file("cut.tif", tiff((33723, 7, city + byline))[:-1])
 
 
 def box(name, body):
@@ -135,6 +135,13 @@ heif("broken_xmp.heic", [(b"mime", b"application/rdf+xml\0", b"<City" + SECRET)]
 # what is not looked at, or can't be read
 jpeg("comment.jpg", EXIF + segment(0xFE, SECRET))
 jpeg("trailer.jpg", EXIF, SECRET)
+# texts and keywords, of which nothing can be said
+jpeg("described.jpg", segment(0xE1, b"Exif\0\0" + tiff((270, 2, b"Near " + SECRET + b"\0"))))
+jpeg("undescribed.jpg", segment(0xE1, b"Exif\0\0" + tiff((270, 2, b"        \0"), (700, 1, xmp))))
+words = xmp.replace(b"dc:source='kept'", b"dc:description='" + SECRET + b"'")
+jpeg("words.jpg", segment(0xE1, b"http://ns.adobe.com/xap/1.0/\0" + words))
+jpeg("keywords.jpg", segment(0xED, b"Photoshop 3.0\0" + resource.replace(b"\x1c\x02\x50\0\x04kept", b"\x1c\x02\x19\0\x04word")))
+tiff_file("words.tif", tiff((700, 1, words), (33723, 7, iptc)))
 jpeg("unknown.jpg", EXIF + segment(0xE9, SECRET))
 jpeg("long_xmp.jpg", XMP + LONG)
 jpeg("broken_xmp.jpg", EXIF + segment(0xE1, b"http://ns.adobe.com/xap/1.0/\0<City" + SECRET))

@@ -40,12 +40,16 @@ stays() {
 }
 
 for file in exif.jpg exif_twice.jpg xmp.jpg xmp_twice.jpg iptc.jpg all.jpg second_picture.jpg exif.webp xmp.webp both.webp \
-    gps.tif fields.tif fields.jpg fields.webp exif.heic xmp.heic both.heic twice.heic; do
+    gps.tif fields.tif fields.jpg fields.webp exif.heic xmp.heic both.heic twice.heic undescribed.jpg; do
     erased "$file"
 done
 check "what names no location stays in XMP" grep -qaF "dc:source='kept'" new.xmp.jpg
 check "and in IPTC data" grep -qaF kept new.iptc.jpg
 
+stays described.jpg 1 "Exif data at offset 2: the text of ImageDescription is not judged"
+stays words.jpg 1 "XMP packet at offset 2 has texts, which are not judged"
+stays keywords.jpg 0 "IPTC data at offset 20 has texts, which are not judged"
+stays words.tif 1 "Exif data at offset 0: texts of tag 700 are not judged"
 stays comment.jpg 1 "comment at offset"
 stays trailer.jpg 1 "data after the picture at offset"
 stays unknown.jpg 1 "unknown data at offset"
@@ -166,7 +170,7 @@ if has exiftool; then
         check "exiftool finds no location in $file" test -z "$(exiftool -s -s -s -GPS:all -XMP-exif:GPSLatitude -XMP-photoshop:City -IPTC:City "new.$file" | tr -d ' \n')"
     done
     check "exiftool reads the other XMP" test "$(exiftool -s3 -XMP-dc:Source new.all.jpg)" = kept
-    check "exiftool reads the other IPTC data" test "$(exiftool -s3 -IPTC:ObjectName new.all.jpg)" = kept
+    check "exiftool reads the other IPTC data" test "$(exiftool -s3 -IPTC:By-line new.all.jpg)" = kept
 fi
 
 ends

@@ -14,6 +14,7 @@ use Rattle.exif_edit.specs.Edits.{limited_edit}
 use Rattle.exif_edit.specs.declared.edits.Edit.TheVariants.{EraseGps}
 use Rattle.exif_data_locations.specs.FieldRegions.{all_regions}
 use Rattle.exif_data_locations.specs.Regions.{regions_erased}
+use Rattle.exif_data_locations.specs.Texts.{texts_noted}
 use Rattle.exif_data_locations.specs.Wanted.{wanted}
 use Rattle.exif_data_locations.specs.declared.region.Region.{Region}
 use Rattle.exif_data_locations.specs.declared.why.Why.{Why}
@@ -55,13 +56,14 @@ gps_erased bytes = elim (limited_edit None EraseGps bytes) [
 abbrev pub has_number : ℕ → List Field → Bool
 has_number number fields = list_any (λ (f : Field). f.tag.1 == number) fields
 
--- reasons, and those why what was not read may be a location: faults, SubIFDs (TIFF/EP) and maker
--- notes (Exif 2.32, 4.6.5)
+-- reasons, and those why what was not read, or is not judged, may be a location: faults, SubIFDs
+-- (TIFF/EP), maker notes (Exif 2.32, 4.6.5) and texts
 abbrev pub unread_noted : Read → List Why → List Why
 unread_noted read whys =
-    noted_if (has_number 37500 read.fields) MakerNote
+    texts_noted read.fields
+    (noted_if (has_number 37500 read.fields) MakerNote
     (noted_if (has_number 330 read.fields) SubIfdsNotRead
-    (noted_if (not (length read.faults == 0)) NotReadWhole whys))
+    (noted_if (not (length read.faults == 0)) NotReadWhole whys)))
 
 -- new data, if they are read as it is wanted, or the old ones
 abbrev pub if_read : Read → List EntryOffset → List ℕ → List ℕ × List Why → List ℕ × List Why

@@ -7,6 +7,8 @@ use Rattle.exif_locations.specs.XmpErasing.{step_at}
 use Rattle.exif_locations.specs.XmpNames.{is_location, is_word}
 use Rattle.exif_locations.specs.XmpTokens.{attribute_at, content_at, markup_at, opening_at, tag_at}
 use Rattle.exif_locations.specs.declared.iptc.fault.Fault.TheVariants.{Cut}
+use Rattle.exif_table.specs.declared.context.Context.TheVariants.{Tiff}
+use Rattle.exif_types.specs.declared.tag.Tag.{Tag}
 use Rattle.exif_tiff.specs.Trace.{trace, ordered_trace}
 use Rattle.exif_edit_base.specs.GpsOffsets.{all_directories, chain_from, children_from, gps_offsets, gps_pointers, leftovers, pointers}
 use Rattle.exif_edit_base.specs.Locations.{directory_offsets, located, visited_gps}
@@ -14,7 +16,7 @@ use Rattle.exif_edit_base.specs.Readings.{reading}
 use Rattle.exif_edit.specs.Erasing.{erase_patches, gps_spans}
 use Rattle.exif_data_locations.specs.Erasing.{data_erased}
 use Rattle.exif_data_locations.specs.Resources.{resource_at, resources_by}
-use Rattle.exif_data_locations.specs.declared.why.Why.TheVariants.{NotChanged, GpsShared, NotReadWhole, SubIfdsNotRead, MakerNote, IptcNotRead, ResourcesNotRead, ExifResource, TypeNotKnown, Shared}
+use Rattle.exif_data_locations.specs.declared.why.Why.TheVariants.{NotChanged, GpsShared, NotReadWhole, SubIfdsNotRead, MakerNote, IptcNotRead, ResourcesNotRead, ExifResource, Text, TypeNotKnown, Shared}
 
 -- big-endian data, of which the directory at 8 has one entry, and its value is at 26
 abbrev one : List ℕ → List ℕ → List ℕ
@@ -123,6 +125,10 @@ abbrev two : List ℕ → List ℕ → List ℕ
 two entries value = 77 ∷ 77 ∷ 0 ∷ 42 ∷ 0 ∷ 0 ∷ 0 ∷ 8
     ∷ 0 ∷ 2 ∷ entries ++ 0 ∷ 0 ∷ 0 ∷ 0 ∷ value
 
+-- ImageDescription, which is a text
+abbrev description : Tag
+description = record { 0 = Tiff; 1 = 270 }
+
 -- a description and IPTC data with the same bytes, at 38
 abbrev sharing : List ℕ
 sharing =
@@ -131,7 +137,7 @@ sharing =
 
 -- stay, since the description would change
 sharing_stays : data_erased (sharing)
-    ≡ (sharing, Shared ∷ [])
+    ≡ (sharing, Text description ∷ Shared ∷ [])
 unfolding reading erase_patches visited_gps gps_spans gps_offsets gps_pointers all_directories children_from chain_from pointers leftovers directory_offsets located trace ordered_trace iptc.erased_by dataset_at
 sharing_stays = refl
 
@@ -144,7 +150,7 @@ sharing_gps =
 
 -- stays, since the description would change
 sharing_gps_stays : data_erased (sharing_gps)
-    ≡ (sharing_gps, GpsShared ∷ [])
+    ≡ (sharing_gps, GpsShared ∷ Text description ∷ [])
 unfolding reading erase_patches visited_gps gps_spans gps_offsets gps_pointers all_directories children_from chain_from pointers leftovers directory_offsets located trace ordered_trace
 sharing_gps_stays = refl
 

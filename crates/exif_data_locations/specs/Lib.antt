@@ -3,4 +3,5 @@ pub mod Examples
 pub mod FieldRegions
 pub mod Regions
 pub mod Resources
+pub mod Texts
 pub mod Wanted

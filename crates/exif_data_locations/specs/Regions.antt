@@ -1,12 +1,13 @@
 -- Regions of Exif data, and the locations in them.
-use Rattle.std.specs.Prelude.{ℕ, ◌+◌, ◌≤◌, List, [], ◌∷◌, ◌++◌, length, take, drop, replicate, Option, None, Some, Result, Ok, Err}
+use Rattle.std.specs.Prelude.{ℕ, ◌+◌, ◌≤◌, List, [], ◌∷◌, ◌++◌, length, take, drop, replicate, Bool, if◌then◌else◌, Option, None, Some, Result, Ok, Err}
 use Rattle.exif_locations.specs.XmpErasing as xmp
 use Rattle.exif_locations.specs.IptcDatasets as iptc
+use Rattle.exif_locations.specs.Texts.{iptc_has_texts, xmp_has_texts}
 use Rattle.exif_data_locations.specs.declared.region.Region.{Region}
 use Rattle.exif_data_locations.specs.declared.region.What.{What}
 use Rattle.exif_data_locations.specs.declared.region.What.TheVariants as what
 use Rattle.exif_data_locations.specs.declared.why.Why.{Why}
-use Rattle.exif_data_locations.specs.declared.why.Why.TheVariants.{XmpNotRead, IptcNotRead}
+use Rattle.exif_data_locations.specs.declared.why.Why.TheVariants.{XmpNotRead, IptcNotRead, Texts}
 
 -- new bytes, or the old ones and why they stay
 abbrev pub or_stays : {F : Type 0} → (F → Why) → List ℕ → Result (List ℕ) F → List ℕ × Option Why
@@ -21,10 +22,24 @@ xmp_answer tag bytes = or_stays (XmpNotRead tag) bytes (xmp.erased bytes)
 abbrev pub iptc_answer : ℕ → List ℕ → List ℕ × Option Why
 iptc_answer tag bytes = or_stays (IptcNotRead tag) bytes (iptc.erased bytes)
 
+-- bytes, and why they may still hold a location: for this reason, if for no other and if a test says
+-- so
+abbrev pub or_if : (List ℕ → Bool) → Why → List ℕ × Option Why → List ℕ × Option Why
+or_if test why (new, Some other) = (new, Some other)
+or_if test why (new, None) = (new, if test new then Some why else None)
+
+-- the same of a packet, which may hold texts
+abbrev pub xmp_judged : ℕ → List ℕ → List ℕ × Option Why
+xmp_judged tag bytes = or_if xmp_has_texts (Texts tag) (xmp_answer tag bytes)
+
+-- the same of IPTC data
+abbrev pub iptc_judged : ℕ → List ℕ → List ℕ × Option Why
+iptc_judged tag bytes = or_if iptc_has_texts (Texts tag) (iptc_answer tag bytes)
+
 -- what a region holds, without its locations, and why it may still hold one
 abbrev pub what_answer : ℕ → What → List ℕ → List ℕ × Option Why
-what_answer tag what.Xmp bytes = xmp_answer tag bytes
-what_answer tag what.Iptc bytes = iptc_answer tag bytes
+what_answer tag what.Xmp bytes = xmp_judged tag bytes
+what_answer tag what.Iptc bytes = iptc_judged tag bytes
 what_answer tag what.GeoTiff bytes = (replicate (length bytes) 0, None)
 what_answer tag what.Other bytes = (bytes, None)
 what_answer tag (what.Left why) bytes = (bytes, Some why)

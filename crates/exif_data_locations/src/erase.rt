@@ -9,6 +9,7 @@ ghost use Rattle.exif_edit_base.specs.Readings.{read_of};
 use crate::field::regions_of;
 use crate::gps::{erase_gps, unchanged};
 use crate::region::{Region, erase_regions};
+use crate::text::note_texts;
 use crate::wanted::set_all_wanted;
 use crate::why::Why;
 use exif_edit_base::limit::check_limit;
@@ -52,7 +53,8 @@ fn note_unread(parsed: &Parsed, whys: &mut Vec<Why>) -> Result<(), AllocError>
     let fields = parsed.fields.as_slice();
     note_if(!parsed.faults.is_empty(), Why::NotReadWhole, whys)?;
     note_if(has_number(330, fields), Why::SubIfdsNotRead, whys)?;
-    note_if(has_number(37500, fields), Why::MakerNote, whys)
+    note_if(has_number(37500, fields), Why::MakerNote, whys)?;
+    note_texts(fields, whys)
 }
 
 // Puts new data over the old ones, if they are read as it is wanted.

@@ -10,6 +10,7 @@ mod field;
 mod gps;
 mod region;
 mod resource;
+mod text;
 mod wanted;
 mod why;
 

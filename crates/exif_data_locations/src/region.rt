@@ -1,9 +1,10 @@
 //! Regions of Exif data, and the locations in them.
 
 ghost use Rattle.std.specs.Prelude.{◌≡◌, ◌+◌, ◌≤◌, length, replicate, All, OnOk};
-ghost use Rattle.exif_data_locations.specs.Regions.{LiesIn, iptc_answer, region_erased, regions_erased, what_answer, xmp_answer};
+ghost use Rattle.exif_data_locations.specs.Regions.{LiesIn, iptc_answer, iptc_judged, region_erased, regions_erased, what_answer, xmp_answer, xmp_judged};
 
 use crate::why::Why;
+use exif_locations::texts::{iptc_has_texts, xmp_has_texts};
 use exif_locations::{iptc, xmp};
 use std::alloc::{AllocError, Global};
 
@@ -51,6 +52,26 @@ fn erase_iptc(tag: u16, bytes: &mut [u8]) -> Option<Why>
     }
 }
 
+// The same of a packet, which may hold texts.
+fn judge_xmp(tag: u16, bytes: &mut [u8]) -> Option<Why>
+    ensures { (bytes.new, result) ≡ xmp_judged tag bytes.old }
+{
+    match erase_xmp(tag, bytes) {
+        None if xmp_has_texts(bytes) => Some(Why::Texts(tag)),
+        why => why,
+    }
+}
+
+// The same of IPTC data.
+fn judge_iptc(tag: u16, bytes: &mut [u8]) -> Option<Why>
+    ensures { (bytes.new, result) ≡ iptc_judged tag bytes.old }
+{
+    match erase_iptc(tag, bytes) {
+        None if iptc_has_texts(bytes) => Some(Why::Texts(tag)),
+        why => why,
+    }
+}
+
 // Makes zeros of all bytes.
 fn zero(bytes: &mut [u8])
     ensures { bytes.new ≡ replicate (length bytes.old) 0 }
@@ -63,8 +84,8 @@ fn erase_what(tag: u16, what: What, bytes: &mut [u8]) -> Option<Why>
     ensures { (bytes.new, result) ≡ what_answer tag what bytes.old }
 {
     match what {
-        What::Xmp => erase_xmp(tag, bytes),
-        What::Iptc => erase_iptc(tag, bytes),
+        What::Xmp => judge_xmp(tag, bytes),
+        What::Iptc => judge_iptc(tag, bytes),
         What::GeoTiff => {
             zero(bytes);
             None

@@ -1,6 +1,7 @@
 //! Why Exif data may still hold a location.
 
 use exif_locations::{iptc, xmp};
+use exif_types::Tag;
 use std::fmt;
 
 /// Why Exif data may still hold a location.
@@ -26,6 +27,10 @@ pub enum Why {
     ResourcesNotRead,
     /// A resource of Photoshop holds Exif data of its own.
     ExifResource,
+    /// The XMP packet or the IPTC data of this tag, or a resource in it, have texts or keywords.
+    Texts(u16),
+    /// This field is a text.
+    Text(Tag),
     /// The value of this tag has a type that is not known.
     TypeNotKnown(u16),
     /// XMP, IPTC data, resources of Photoshop or GeoTIFF tags use bytes that have another use, too:
@@ -50,6 +55,8 @@ impl fmt::Display for Why {
             }
             Why::ResourcesNotRead => write!(f, "resources of Photoshop can't be read"),
             Why::ExifResource => write!(f, "a resource of Photoshop holds Exif data"),
+            Why::Texts(tag) => write!(f, "texts of tag {tag} are not judged"),
+            Why::Text(tag) => write!(f, "the text of {tag} is not judged"),
             Why::TypeNotKnown(tag) => write!(f, "the type of tag {tag} is not known"),
             Why::Shared => write!(
                 f,

@@ -1,6 +1,8 @@
 pub mod IptcDatasets
 pub mod IptcPromises
 pub mod Spaced
+pub mod Texts
+pub mod TextsExamples
 pub mod XmpErasing
 pub mod XmpNames
 pub mod XmpPieces

@@ -3,4 +3,5 @@
 #![tactic(auto)]
 
 pub mod iptc;
+pub mod texts;
 pub mod xmp;
