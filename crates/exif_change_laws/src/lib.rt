@@ -25,6 +25,7 @@ ghost use Rattle.exif_change_laws.specs.Scrubbed.{HasNoField, is_rewritten, orie
 ghost use Rattle.exif_change_laws.specs.Shifted.{all_read};
 
 pub mod sets;
+pub mod shown;
 
 use exif_clock::laws::a_moved_date_is_moved_back;
 use exif_rewrite::laws::file_answers_what_was_put;
