@@ -20,4 +20,15 @@ mod SetTogether
 mod SetTwice
 mod ShiftedBack
 mod ShiftedFiles
+mod ShownAgain
+mod ShownDecimals
+mod ShownDigits
+mod ShownFractions
+mod ShownItems
+mod ShownKinds
+mod ShownNumbers
+mod ShownSigned
+mod ShownSingle
+mod ShownTags
+mod ShownValues
 mod ValueItself

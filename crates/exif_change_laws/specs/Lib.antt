@@ -4,3 +4,5 @@ pub mod Positions
 pub mod Scrubbed
 pub mod ScrubbedExamples
 pub mod Shifted
+pub mod Shown
+pub mod ShownExamples

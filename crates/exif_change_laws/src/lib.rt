@@ -26,6 +26,7 @@ ghost use Rattle.exif_change_laws.specs.Shifted.{all_read};
 
 pub mod found;
 pub mod sets;
+pub mod shown;
 
 use exif_clock::laws::a_moved_date_is_moved_back;
 use exif_rewrite::laws::file_answers_what_was_put;
