@@ -1,38 +1,33 @@
 -- Which parts of a file hold a location.
-use Rattle.std.specs.Prelude.{ℕ, List, [], ◌∷◌, map, Option, if◌then◌else◌}
+use Rattle.std.specs.Prelude.{ℕ, List, [], ◌∷◌, map, Option}
 use Rattle.std.specs.Option.{option_map}
-use Rattle.std.specs.Str.{bytes_eq}
-use Rattle.exif_inventory.specs.declared.kind.Kind.{Kind}
 use Rattle.exif_inventory.specs.declared.part.Part.{Part}
-use Rattle.exif_privacy.specs.Erasing.{data_of}
 use Rattle.exif_privacy.specs.Files.{parts_of}
-use Rattle.exif_privacy.specs.Parts.{part_answer}
+use Rattle.exif_privacy.specs.Judging.{judged}
 use Rattle.exif_privacy.specs.declared.stays.Why.{Why}
+use Rattle.exif_privacy.specs.declared.stays.Why.TheVariants.{StillThere}
+use Rattle.exif_privacy.specs.declared.unread.Unread.TheVariants.{Keep}
 use Rattle.exif_check.specs.declared.checked.Checked.{Checked}
 use Rattle.exif_check.specs.declared.checked.Location.{Location}
 use Rattle.exif_check.specs.declared.checked.Location.TheVariants.{Absent, Present, Unknown}
 
--- data that stay as they are may hold a location, if there is a reason
+-- whether a part with these reasons holds a location: erasing it changes it then
 abbrev pub location_by : List Why → Location
 location_by [] = Absent
+location_by (StillThere ∷ whys) = Present
 location_by (why ∷ whys) = Unknown
 
--- data hold a location if erasing it changes them
-abbrev pub location_from : List ℕ → List ℕ × List Why → Location
-location_from bytes (new, whys) = if bytes_eq new bytes then location_by whys else Present
-
--- whether data of this kind hold a location
-abbrev pub location_in : Kind → List ℕ → Location
-location_in k bytes = location_from bytes (part_answer k bytes)
-
 -- a part of a file with its judgement
-abbrev pub part_checked : List ℕ → Part → Checked
-part_checked file part =
-    record { part = part; location = location_in part.kind (data_of part file) }
+abbrev pub part_checked : Part × List Why → Checked
+part_checked (part, whys) = record { part = part; location = location_by whys }
 
--- the parts of a file with theirs
+-- these parts of a file with theirs
+abbrev pub parts_checked : List ℕ → List Part → List Checked
+parts_checked file parts = map part_checked (judged Keep file parts)
+
+-- all parts of a file with theirs, if its format is known
 abbrev pub checked : List ℕ → Option (List Checked)
-checked file = option_map (λ parts. map (part_checked file) parts) (parts_of file)
+checked file = option_map (parts_checked file) (parts_of file)
 
 -- the one of two judgements that weighs more
 abbrev pub location_among : Location → Location → Location

@@ -1,11 +1,12 @@
 //! The parts of a file, each with its judgement.
 
-ghost use Rattle.std.specs.Prelude.{◌≡◌, ◌+◌, ◌≤◌, length, IfOk};
+ghost use Rattle.std.specs.Prelude.{◌≡◌, length, All, IfOk};
 ghost use Rattle.std.specs.Option.{option_map};
-ghost use Rattle.exif_check.specs.Checking.{checked, location_among, location_in, location_of, part_checked};
+ghost use Rattle.exif_inventory.specs.Promises.{EndsIn};
+ghost use Rattle.exif_check.specs.Checking.{checked, location_among, location_by, location_of, parts_checked};
 
-use exif_inventory::{Kind, Part};
-use exif_privacy::{erase_part, parts_of};
+use exif_inventory::Part;
+use exif_privacy::{Reasons, Unread, Why, parts_of};
 use std::alloc::{AllocError, Global};
 
 /// Whether data hold a location.
@@ -28,73 +29,51 @@ pub struct Checked {
     pub location: Location,
 }
 
-// Whether data of this kind hold a location: erasing it changes them then.
-fn tried(alloc: Global, kind: Kind, bytes: &[u8]) -> Result<Location, AllocError>
-    ensures { IfOk result (λ location. location ≡ location_in kind bytes.now) }
+// Whether a part with these reasons holds a location.
+fn location_by(whys: &[Why]) -> Location
+    ensures { result ≡ location_by whys.now }
 {
-    let mut new = Vec::from_slice(alloc, bytes)?;
-    let whys = erase_part(alloc, kind, &mut new)?;
-    if new.as_slice() != bytes {
-        Ok(Location::Present)
-    } else if whys.is_empty() {
-        Ok(Location::Absent)
-    } else {
-        Ok(Location::Unknown)
+    match whys.first() {
+        None => Location::Absent,
+        Some(Why::StillThere) => Location::Present,
+        Some(_) => Location::Unknown,
     }
 }
 
-// The same without a copy of data that are not looked at.
-fn location_in(alloc: Global, kind: Kind, bytes: &[u8]) -> Result<Location, AllocError>
-    ensures { IfOk result (λ location. location ≡ location_in kind bytes.now) }
+// These parts of a file with their judgements.
+fn check_parts(alloc: Global, file: &[u8], parts: &[Part]) -> Result<Vec<Checked>, AllocError>
+    requires { All (EndsIn (length file.now)) parts.now }
+    ensures { IfOk result (λ all. all.items ≡ parts_checked file.now parts.now) }
 {
-    match kind {
-        Kind::Exif | Kind::Xmp | Kind::Iptc => tried(alloc, kind, bytes),
-        Kind::ExtendedXmp
-        | Kind::Comment
-        | Kind::ContentCredentials
-        | Kind::Trailer
-        | Kind::Unknown
-        | Kind::Broken => Ok(Location::Unknown),
-        Kind::Picture
-        | Kind::Jfif
-        | Kind::JfifThumbnail
-        | Kind::Photoshop
-        | Kind::IccProfile
-        | Kind::Adobe
-        | Kind::MultiPicture => Ok(Location::Absent),
+    let mut all = Vec::new(alloc);
+    let mut reasons = Reasons::none(alloc);
+    for (index, part) in parts.iter().enumerate() {
+        reasons = reasons.next(alloc, Unread::Keep, file, &parts[index..])?;
+        all.push(Checked {
+            part: *part,
+            location: location_by(reasons.whys.as_slice()),
+        })?;
     }
-}
-
-// A part of a file with its judgement.
-fn part_checked(alloc: Global, part: Part, file: &[u8]) -> Result<Checked, AllocError>
-    requires { part.data_offset + part.data_len ≤ length file.now }
-    ensures { IfOk result (λ checked. checked ≡ part_checked file.now part) }
-{
-    let end = part.data_offset + part.data_len;
-    let location = location_in(alloc, part.kind, &file[part.data_offset..end])?;
-    Ok(Checked { part, location })
+    Ok(all)
 }
 
 /// The parts of a JPEG, WebP, HEIF or TIFF file, in the order of their bytes, each with whether it
 /// holds a location: `None` for a file of another format. Together they are the whole file.
 ///
-/// A part holds a location if erasing locations changes it. It may hold one if it can't be read, or
-/// is of a kind that is not looked at: comments, trailers, content credentials, parts of long XMP
-/// packets, and what is not known; so are Exif data with a maker note. Texts are not looked at, and
-/// are not reported.
+/// A part holds a location if erasing locations changes it, and so does each portion of an extended
+/// XMP packet that has one. A part may hold one if it can't be read, or is of a kind that is not
+/// looked at, and has other bytes than zeros: comments, trailers, content credentials, other parts
+/// of long XMP packets, and what is not known; so are Exif data with a maker note. Texts are not
+/// looked at, and are not reported.
 ///
-/// It takes memory for the list, and for a copy of the longest part with Exif, XMP or IPTC data.
+/// It takes memory for the list, and for copies of the longest part with Exif, XMP or IPTC data.
 pub fn check(alloc: Global, file: &[u8]) -> Result<Option<Vec<Checked>>, AllocError>
     ensures { IfOk result (λ found. option_map (λ v. v.items) found ≡ checked file.now) }
 {
-    let Some(parts) = parts_of(alloc, file)? else {
-        return Ok(None);
-    };
-    let mut all = Vec::new(alloc);
-    for part in parts.iter() {
-        all.push(part_checked(alloc, *part, file)?)?;
+    match parts_of(alloc, file)? {
+        Some(parts) => Ok(Some(check_parts(alloc, file, parts.as_slice())?)),
+        None => Ok(None),
     }
-    Ok(Some(all))
 }
 
 // The one of two judgements that weighs more.

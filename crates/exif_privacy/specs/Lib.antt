@@ -1,3 +1,7 @@
+pub mod Data
 pub mod Parts
 pub mod Files
+pub mod Portions
+pub mod Judging
 pub mod Erasing
+pub mod Promises

@@ -1,6 +1,8 @@
 -- The locations in one part of a file.
-use Rattle.std.specs.Prelude.{ℕ, List, [], ◌∷◌, map, Option, None, Some, Result, Ok, Err}
+use Rattle.std.specs.Prelude.{ℕ, ◌-◌, ◌==◌, List, [], ◌∷◌, ◌++◌, codes, length, map, replicate, nat_le, Bool, Option, None, Some, Result, Ok, Err, if◌then◌else◌}
+use Rattle.std.specs.List.{list_all}
 use Rattle.std.specs.Option.{option_to_list}
+use Rattle.std.specs.Str.{bytes_eq}
 use Rattle.exif_data_locations.specs.Erasing.{data_erased}
 use Rattle.exif_data_locations.specs.declared.why.Why as data_why
 use Rattle.exif_inventory.specs.declared.kind.Kind.{Kind}
@@ -8,20 +10,43 @@ use Rattle.exif_inventory.specs.declared.kind.Kind.TheVariants as kind
 use Rattle.exif_locations.specs.XmpErasing as xmp
 use Rattle.exif_locations.specs.IptcDatasets as iptc
 use Rattle.exif_privacy.specs.declared.stays.Why.{Why}
-use Rattle.exif_privacy.specs.declared.stays.Why.TheVariants.{XmpNotRead, IptcNotRead, InExif, NotJudged}
+use Rattle.exif_privacy.specs.declared.stays.Why.TheVariants.{XmpNotRead, IptcNotRead, InExif, NotJudged, StillThere}
+use Rattle.exif_privacy.specs.declared.unread.Unread.{Unread}
+use Rattle.exif_privacy.specs.declared.unread.Unread.TheVariants.{Keep, Blank}
 
--- new bytes, or the old ones and why they stay
-abbrev pub or_stays : {F : Type 0} → (F → Why) → List ℕ → Result (List ℕ) F → List ℕ × Option Why
-or_stays why old (Ok new) = (new, None)
-or_stays why old (Err fault) = (old, Some (why fault))
+-- an XMP packet without properties (XMP Specification, Part 1, 7.3.3)
+abbrev pub no_properties : List ℕ
+no_properties = codes "<x:xmpmeta xmlns:x='adobe:ns:meta/'/>"
+
+-- as many bytes: that packet and spaces, or only spaces, if it does not fit
+abbrev pub blank_packet : List ℕ → List ℕ
+blank_packet bytes =
+    if nat_le (length no_properties) (length bytes)
+    then no_properties ++ replicate (length bytes - length no_properties) 32
+    else replicate (length bytes) 32
+
+-- as many zeros
+abbrev pub zeros : List ℕ → List ℕ
+zeros bytes = replicate (length bytes) 0
+
+-- data that can't be read, for a reason, or blank ones
+abbrev pub unread_answer : Unread → List ℕ → List ℕ → Why → List ℕ × Option Why
+unread_answer Keep blank old why = (old, Some why)
+unread_answer Blank blank old why = (blank, None)
+
+-- new bytes, or what becomes of the old ones if these can't be read
+abbrev pub or_unread : {F : Type 0} → Unread → (F → Why) → List ℕ → List ℕ → Result (List ℕ) F → List ℕ × Option Why
+or_unread unread why blank old (Ok new) = (new, None)
+or_unread unread why blank old (Err fault) = unread_answer unread blank old (why fault)
 
 -- an XMP packet without its locations
-abbrev pub xmp_answer : List ℕ → List ℕ × Option Why
-xmp_answer bytes = or_stays XmpNotRead bytes (xmp.erased bytes)
+abbrev pub xmp_answer : Unread → List ℕ → List ℕ × Option Why
+xmp_answer unread bytes =
+    or_unread unread XmpNotRead (blank_packet bytes) bytes (xmp.erased bytes)
 
 -- IPTC data without their locations
-abbrev pub iptc_answer : List ℕ → List ℕ × Option Why
-iptc_answer bytes = or_stays IptcNotRead bytes (iptc.erased bytes)
+abbrev pub iptc_answer : Unread → List ℕ → List ℕ × Option Why
+iptc_answer unread bytes = or_unread unread IptcNotRead (zeros bytes) bytes (iptc.erased bytes)
 
 -- new bytes, and the reason as a list
 abbrev pub listed : List ℕ × Option Why → List ℕ × List Why
@@ -31,15 +56,31 @@ listed (new, why) = (new, option_to_list why)
 abbrev pub in_exif : List ℕ × List data_why.Why → List ℕ × List Why
 in_exif (new, whys) = (new, map InExif whys)
 
+-- whether all bytes are zero
+abbrev pub all_zero : List ℕ → Bool
+all_zero bytes = list_all (λ b. b == 0) bytes
+
+-- why data that are not looked at may hold a location: zeros hold none
+abbrev pub unjudged : List ℕ → Option Why
+unjudged bytes = if all_zero bytes then None else Some NotJudged
+
 -- the data of a part without their locations, and why they may still hold one
-abbrev pub part_answer : Kind → List ℕ → List ℕ × List Why
-part_answer kind.Exif bytes = in_exif (data_erased bytes)
-part_answer kind.Xmp bytes = listed (xmp_answer bytes)
-part_answer kind.Iptc bytes = listed (iptc_answer bytes)
-part_answer kind.ExtendedXmp bytes = (bytes, NotJudged ∷ [])
-part_answer kind.Comment bytes = (bytes, NotJudged ∷ [])
-part_answer kind.ContentCredentials bytes = (bytes, NotJudged ∷ [])
-part_answer kind.Trailer bytes = (bytes, NotJudged ∷ [])
-part_answer kind.Unknown bytes = (bytes, NotJudged ∷ [])
-part_answer kind.Broken bytes = (bytes, NotJudged ∷ [])
-part_answer _ bytes = (bytes, [])
+abbrev pub part_answer : Unread → Kind → List ℕ → List ℕ × List Why
+part_answer unread kind.Exif bytes = in_exif (data_erased bytes)
+part_answer unread kind.Xmp bytes = listed (xmp_answer unread bytes)
+part_answer unread kind.Iptc bytes = listed (iptc_answer unread bytes)
+part_answer unread kind.ExtendedXmp bytes = listed (bytes, unjudged bytes)
+part_answer unread kind.Comment bytes = listed (bytes, unjudged bytes)
+part_answer unread kind.ContentCredentials bytes = listed (bytes, unjudged bytes)
+part_answer unread kind.Trailer bytes = listed (bytes, unjudged bytes)
+part_answer unread kind.Unknown bytes = listed (bytes, unjudged bytes)
+part_answer unread kind.Broken bytes = listed (bytes, unjudged bytes)
+part_answer unread _ bytes = (bytes, [])
+
+-- why data may hold a location: it would be erased, or else for the reasons why it would stay
+abbrev pub reasons_from : List ℕ → List ℕ × List Why → List Why
+reasons_from old (new, whys) = if bytes_eq new old then whys else StillThere ∷ []
+
+-- so of the data of a part
+abbrev pub part_reasons : Unread → Kind → List ℕ → List Why
+part_reasons unread k bytes = reasons_from bytes (part_answer unread k bytes)

@@ -1,11 +1,14 @@
 //! The locations in one part of a file.
 
-ghost use Rattle.std.specs.Prelude.{◌≡◌, IfOk, map};
+ghost use Rattle.std.specs.Prelude.{◌≡◌, false, IfOk, map};
 ghost use Rattle.std.specs.Option.{option_to_list};
-ghost use Rattle.exif_privacy.specs.Parts.{in_exif, iptc_answer, part_answer, xmp_answer};
+ghost use Rattle.exif_privacy.specs.Parts.{all_zero, in_exif, iptc_answer, part_answer, part_reasons, unjudged, xmp_answer};
+ghost use Rattle.exif_privacy.specs.Promises.{is_searched};
 ghost use Rattle.exif_data_locations.specs.Erasing.{data_erased};
 
+use crate::blank::{blank_packet, clear};
 use crate::stays::Why;
+use crate::unread::Unread;
 use exif_inventory::Kind;
 use exif_locations::{iptc, xmp};
 use std::alloc::{AllocError, Global};
@@ -22,22 +25,34 @@ fn listed(alloc: Global, why: Option<Why>) -> Result<Vec<Why>, AllocError>
 }
 
 // Erases the locations of an XMP packet.
-fn erase_xmp(bytes: &mut [u8]) -> Option<Why>
-    ensures { (bytes.new, result) ≡ xmp_answer bytes.old }
+fn erase_xmp(bytes: &mut [u8], unread: Unread) -> Option<Why>
+    ensures { (bytes.new, result) ≡ xmp_answer unread bytes.old }
 {
     match xmp::erase_locations(bytes) {
         Ok(_) => None,
-        Err(fault) => Some(Why::XmpNotRead(fault)),
+        Err(fault) => match unread {
+            Unread::Keep => Some(Why::XmpNotRead(fault)),
+            Unread::Blank => {
+                blank_packet(bytes);
+                None
+            }
+        },
     }
 }
 
 // Erases the locations of IPTC data.
-fn erase_iptc(bytes: &mut [u8]) -> Option<Why>
-    ensures { (bytes.new, result) ≡ iptc_answer bytes.old }
+fn erase_iptc(bytes: &mut [u8], unread: Unread) -> Option<Why>
+    ensures { (bytes.new, result) ≡ iptc_answer unread bytes.old }
 {
     match iptc::erase_locations(bytes) {
         Ok(_) => None,
-        Err(fault) => Some(Why::IptcNotRead(fault)),
+        Err(fault) => match unread {
+            Unread::Keep => Some(Why::IptcNotRead(fault)),
+            Unread::Blank => {
+                clear(bytes);
+                None
+            }
+        },
     }
 }
 
@@ -56,20 +71,91 @@ fn erase_exif(alloc: Global, bytes: &mut [u8]) -> Result<Vec<Why>, AllocError>
     all_in_exif(alloc, whys.as_slice())
 }
 
+// Whether all bytes are zero.
+fn all_zero(bytes: &[u8]) -> bool
+    ensures { result ≡ all_zero bytes.now }
+{
+    bytes.iter().all(|b| *b == 0)
+}
+
+// Why data that are not looked at may hold a location.
+fn unjudged(bytes: &[u8]) -> Option<Why>
+    ensures { result ≡ unjudged bytes.now }
+{
+    if all_zero(bytes) {
+        None
+    } else {
+        Some(Why::NotJudged)
+    }
+}
+
 /// Erases the locations in the data of a part, and answers why it may still hold one.
-pub fn erase_part(alloc: Global, kind: Kind, bytes: &mut [u8]) -> Result<Vec<Why>, AllocError>
-    ensures { IfOk result (λ whys. (bytes.new, whys.items) ≡ part_answer kind bytes.old) }
+pub fn erase_part(
+    alloc: Global,
+    unread: Unread,
+    kind: Kind,
+    bytes: &mut [u8],
+) -> Result<Vec<Why>, AllocError>
+    ensures value { IfOk result (λ whys. (bytes.new, whys.items)
+        ≡ part_answer unread kind bytes.old) }
+    ensures others { is_searched kind ≡ false → bytes.new ≡ bytes.old }
 {
     match kind {
         Kind::Exif => erase_exif(alloc, bytes),
-        Kind::Xmp => listed(alloc, erase_xmp(bytes)),
-        Kind::Iptc => listed(alloc, erase_iptc(bytes)),
+        Kind::Xmp => listed(alloc, erase_xmp(bytes, unread)),
+        Kind::Iptc => listed(alloc, erase_iptc(bytes, unread)),
         Kind::ExtendedXmp
         | Kind::Comment
         | Kind::ContentCredentials
         | Kind::Trailer
         | Kind::Unknown
-        | Kind::Broken => listed(alloc, Some(Why::NotJudged)),
+        | Kind::Broken => listed(alloc, unjudged(bytes)),
+        Kind::Picture
+        | Kind::Jfif
+        | Kind::JfifThumbnail
+        | Kind::Photoshop
+        | Kind::IccProfile
+        | Kind::Adobe
+        | Kind::MultiPicture => listed(alloc, None),
+    }
+}
+
+// Why data that are searched may hold a location, by a copy of them.
+fn tried(
+    alloc: Global,
+    unread: Unread,
+    kind: Kind,
+    bytes: &[u8],
+) -> Result<Vec<Why>, AllocError>
+    ensures { IfOk result (λ whys. whys.items ≡ part_reasons unread kind bytes.now) }
+{
+    let mut new = Vec::from_slice(alloc, bytes)?;
+    let whys = erase_part(alloc, unread, kind, &mut new)?;
+    if new.as_slice() == bytes {
+        Ok(whys)
+    } else {
+        listed(alloc, Some(Why::StillThere))
+    }
+}
+
+/// Why the data of a part may hold a location: it would be erased, or else for each reason why it
+/// would stay. Only data with Exif, XMP and IPTC are copied.
+pub fn part_reasons(
+    alloc: Global,
+    unread: Unread,
+    kind: Kind,
+    bytes: &[u8],
+) -> Result<Vec<Why>, AllocError>
+    ensures { IfOk result (λ whys. whys.items ≡ part_reasons unread kind bytes.now) }
+{
+    match kind {
+        Kind::Exif | Kind::Xmp | Kind::Iptc => tried(alloc, unread, kind, bytes),
+        Kind::ExtendedXmp
+        | Kind::Comment
+        | Kind::ContentCredentials
+        | Kind::Trailer
+        | Kind::Unknown
+        | Kind::Broken => listed(alloc, unjudged(bytes)),
         Kind::Picture
         | Kind::Jfif
         | Kind::JfifThumbnail

@@ -15,6 +15,8 @@ pub enum Why {
     InExif(exif_data_locations::Why),
     /// What it holds is not looked at.
     NotJudged,
+    /// Erasing it again would change the part.
+    StillThere,
 }
 
 /// A part that may still hold a location.
@@ -70,6 +72,10 @@ impl fmt::Display for Stays {
             Why::NotJudged => write!(
                 f,
                 "still there: {name} at offset {offset}, which may hold a location"
+            ),
+            Why::StillThere => write!(
+                f,
+                "a location is still there: {name} at offset {offset}"
             ),
         }
     }

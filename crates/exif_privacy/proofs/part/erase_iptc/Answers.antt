@@ -1,13 +1,19 @@
-use Rattle.std.proofs.Common.{Some, ap, sym, ◌∙◌}
+use Rattle.std.proofs.Common.{ap, sym, ◌∙◌}
 use Rattle.exif_data_locations.proofs.Refused.{iptc_refused}
-use Rattle.exif_privacy.specs.Parts.{or_stays}
+use Rattle.exif_privacy.specs.Parts.{zeros}
 use Rattle.exif_privacy.specs.declared.stays.Why.TheVariants.{IptcNotRead}
+use Rattle.exif_privacy.proofs.PartSteps.{blanked, kept}
 use Rattle.exif_privacy.proofs.part.erase_iptc.Goals as goal
 
-pub returns-in-Err : goal.returns-in-Err
-returns-in-Err c =
+pub returns-in-Keep : goal.returns-in-Keep
+returns-in-Keep c =
     let old = c.args.bytes.now in
-    let fault = c.in-Err.fault in
-    let refused = iptc_refused old fault (sym c.in-Err.ensures.answer) in
-    ap (λ bytes. (bytes, Some (IptcNotRead fault))) c.in-Err.ensures.err
-    ∙ ap (or_stays IptcNotRead old) (sym refused)
+    kept IptcNotRead (zeros old) old _ _ c.in-Err.fault c.args.unread c.in-Keep.is
+    c.in-Err.ensures.err (iptc_refused old c.in-Err.fault (sym c.in-Err.ensures.answer))
+
+pub returns-in-Blank : goal.returns-in-Blank
+returns-in-Blank c =
+    let old = c.args.bytes.now in
+    blanked IptcNotRead (zeros old) old _ _ c.in-Err.fault c.args.unread c.in-Blank.is
+    (c.clear.ensures ∙ ap zeros c.in-Err.ensures.err)
+    (iptc_refused old c.in-Err.fault (sym c.in-Err.ensures.answer))

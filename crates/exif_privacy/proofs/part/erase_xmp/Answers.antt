@@ -1,13 +1,19 @@
-use Rattle.std.proofs.Common.{Some, ap, sym, ◌∙◌}
+use Rattle.std.proofs.Common.{ap, sym, ◌∙◌}
 use Rattle.exif_data_locations.proofs.Refused.{xmp_refused}
-use Rattle.exif_privacy.specs.Parts.{or_stays}
+use Rattle.exif_privacy.specs.Parts.{blank_packet}
 use Rattle.exif_privacy.specs.declared.stays.Why.TheVariants.{XmpNotRead}
+use Rattle.exif_privacy.proofs.PartSteps.{blanked, kept}
 use Rattle.exif_privacy.proofs.part.erase_xmp.Goals as goal
 
-pub returns-in-Err : goal.returns-in-Err
-returns-in-Err c =
+pub returns-in-Keep : goal.returns-in-Keep
+returns-in-Keep c =
     let old = c.args.bytes.now in
-    let fault = c.in-Err.fault in
-    let refused = xmp_refused old fault (sym c.in-Err.ensures.answer) in
-    ap (λ bytes. (bytes, Some (XmpNotRead fault))) c.in-Err.ensures.err
-    ∙ ap (or_stays XmpNotRead old) (sym refused)
+    kept XmpNotRead (blank_packet old) old _ _ c.in-Err.fault c.args.unread c.in-Keep.is
+    c.in-Err.ensures.err (xmp_refused old c.in-Err.fault (sym c.in-Err.ensures.answer))
+
+pub returns-in-Blank : goal.returns-in-Blank
+returns-in-Blank c =
+    let old = c.args.bytes.now in
+    blanked XmpNotRead (blank_packet old) old _ _ c.in-Err.fault c.args.unread c.in-Blank.is
+    (c.blank_packet.ensures ∙ ap blank_packet c.in-Err.ensures.err)
+    (xmp_refused old c.in-Err.fault (sym c.in-Err.ensures.answer))
