@@ -9,8 +9,9 @@ use Rattle.exif_inventory.specs.declared.kind.Kind.{Kind}
 use Rattle.exif_inventory.specs.declared.kind.Kind.TheVariants as kind
 use Rattle.exif_locations.specs.XmpErasing as xmp
 use Rattle.exif_locations.specs.IptcDatasets as iptc
+use Rattle.exif_locations.specs.Texts.{iptc_has_texts, xmp_has_texts}
 use Rattle.exif_privacy.specs.declared.stays.Why.{Why}
-use Rattle.exif_privacy.specs.declared.stays.Why.TheVariants.{XmpNotRead, IptcNotRead, InExif, NotJudged, StillThere}
+use Rattle.exif_privacy.specs.declared.stays.Why.TheVariants.{XmpNotRead, IptcNotRead, InExif, NotJudged, StillThere, Texts}
 use Rattle.exif_privacy.specs.declared.unread.Unread.{Unread}
 use Rattle.exif_privacy.specs.declared.unread.Unread.TheVariants.{Keep, Blank}
 
@@ -48,6 +49,19 @@ xmp_answer unread bytes =
 abbrev pub iptc_answer : Unread → List ℕ → List ℕ × Option Why
 iptc_answer unread bytes = or_unread unread IptcNotRead (zeros bytes) bytes (iptc.erased bytes)
 
+-- new bytes, which may hold texts, where there is no other reason
+abbrev pub or_texts : (List ℕ → Bool) → List ℕ × Option Why → List ℕ × Option Why
+or_texts has (new, Some why) = (new, Some why)
+or_texts has (new, None) = (new, if has new then Some Texts else None)
+
+-- an XMP packet without its locations, which may hold texts
+abbrev pub xmp_judged : Unread → List ℕ → List ℕ × Option Why
+xmp_judged unread bytes = or_texts xmp_has_texts (xmp_answer unread bytes)
+
+-- so IPTC data
+abbrev pub iptc_judged : Unread → List ℕ → List ℕ × Option Why
+iptc_judged unread bytes = or_texts iptc_has_texts (iptc_answer unread bytes)
+
 -- new bytes, and the reason as a list
 abbrev pub listed : List ℕ × Option Why → List ℕ × List Why
 listed (new, why) = (new, option_to_list why)
@@ -67,8 +81,8 @@ unjudged bytes = if all_zero bytes then None else Some NotJudged
 -- the data of a part without their locations, and why they may still hold one
 abbrev pub part_answer : Unread → Kind → List ℕ → List ℕ × List Why
 part_answer unread kind.Exif bytes = in_exif (data_erased bytes)
-part_answer unread kind.Xmp bytes = listed (xmp_answer unread bytes)
-part_answer unread kind.Iptc bytes = listed (iptc_answer unread bytes)
+part_answer unread kind.Xmp bytes = listed (xmp_judged unread bytes)
+part_answer unread kind.Iptc bytes = listed (iptc_judged unread bytes)
 part_answer unread kind.ExtendedXmp bytes = listed (bytes, unjudged bytes)
 part_answer unread kind.Comment bytes = listed (bytes, unjudged bytes)
 part_answer unread kind.ContentCredentials bytes = listed (bytes, unjudged bytes)

@@ -178,7 +178,7 @@ fn find_all(
 /// they follow one another and are all there. Of all other parts no byte changes. What can't be
 /// read stays and is answered, or is overwritten, as `unread` says. Comments, trailers, content
 /// credentials, other parts of long XMP packets, and segments and chunks that are not known stay
-/// and are answered, unless they are zeros. Texts are not looked at.
+/// and are answered, unless they are zeros; so do texts and keywords.
 ///
 /// What is answered is what is found in the new file. It takes the memory of a copy of the longest
 /// part with Exif, XMP or IPTC data. Out of memory leaves each part as it was, or with some of its

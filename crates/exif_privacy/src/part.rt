@@ -2,7 +2,7 @@
 
 ghost use Rattle.std.specs.Prelude.{◌≡◌, false, IfOk, map};
 ghost use Rattle.std.specs.Option.{option_to_list};
-ghost use Rattle.exif_privacy.specs.Parts.{all_zero, in_exif, iptc_answer, part_answer, part_reasons, unjudged, xmp_answer};
+ghost use Rattle.exif_privacy.specs.Parts.{all_zero, in_exif, iptc_answer, iptc_judged, part_answer, part_reasons, unjudged, xmp_answer, xmp_judged};
 ghost use Rattle.exif_privacy.specs.Promises.{is_searched};
 ghost use Rattle.exif_data_locations.specs.Erasing.{data_erased};
 
@@ -10,6 +10,7 @@ use crate::blank::{blank_packet, clear};
 use crate::stays::Why;
 use crate::unread::Unread;
 use exif_inventory::Kind;
+use exif_locations::texts::{iptc_has_texts, xmp_has_texts};
 use exif_locations::{iptc, xmp};
 use std::alloc::{AllocError, Global};
 
@@ -53,6 +54,26 @@ fn erase_iptc(bytes: &mut [u8], unread: Unread) -> Option<Why>
                 None
             }
         },
+    }
+}
+
+// Erases the locations of an XMP packet, which may hold texts.
+fn judge_xmp(bytes: &mut [u8], unread: Unread) -> Option<Why>
+    ensures { (bytes.new, result) ≡ xmp_judged unread bytes.old }
+{
+    match erase_xmp(bytes, unread) {
+        None if xmp_has_texts(bytes) => Some(Why::Texts),
+        why => why,
+    }
+}
+
+// So of IPTC data.
+fn judge_iptc(bytes: &mut [u8], unread: Unread) -> Option<Why>
+    ensures { (bytes.new, result) ≡ iptc_judged unread bytes.old }
+{
+    match erase_iptc(bytes, unread) {
+        None if iptc_has_texts(bytes) => Some(Why::Texts),
+        why => why,
     }
 }
 
@@ -102,8 +123,8 @@ pub fn erase_part(
 {
     match kind {
         Kind::Exif => erase_exif(alloc, bytes),
-        Kind::Xmp => listed(alloc, erase_xmp(bytes, unread)),
-        Kind::Iptc => listed(alloc, erase_iptc(bytes, unread)),
+        Kind::Xmp => listed(alloc, judge_xmp(bytes, unread)),
+        Kind::Iptc => listed(alloc, judge_iptc(bytes, unread)),
         Kind::ExtendedXmp
         | Kind::Comment
         | Kind::ContentCredentials

@@ -13,6 +13,8 @@ pub enum Why {
     IptcNotRead(iptc::Fault),
     /// The Exif data may still hold one, for this reason.
     InExif(exif_data_locations::Why),
+    /// It has texts or keywords, or a picture in XMP: they are not judged.
+    Texts,
     /// What it holds is not looked at.
     NotJudged,
     /// Erasing it again would change the part.
@@ -69,6 +71,10 @@ impl fmt::Display for Stays {
                 "still there: {name} at offset {offset}, which can't be read ({fault})"
             ),
             Why::InExif(why) => write_exif(f, name, offset, why),
+            Why::Texts => write!(
+                f,
+                "a location may be left: {name} at offset {offset} has texts, which are not judged"
+            ),
             Why::NotJudged => write!(
                 f,
                 "still there: {name} at offset {offset}, which may hold a location"
