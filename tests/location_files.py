@@ -47,7 +47,19 @@ def tiff_file(name, data):
 EXIF = segment(0xE1, b"Exif\0\0" + exif)
 XMP = segment(0xE1, b"http://ns.adobe.com/xap/1.0/\0" + xmp)
 IPTC = segment(0xED, b"Photoshop 3.0\0" + digest + resource)
-LONG = segment(0xE1, b"http://ns.adobe.com/xmp/extension/\0" + b"0" * 32 + struct.pack(">II", 7, 0) + SECRET)
+
+
+def extended(packet, length, *cuts):
+    """Segments with the portions of an extended XMP packet of this length, cut at these offsets."""
+    ends = [*cuts, len(packet)]
+    name = b"http://ns.adobe.com/xmp/extension/\0" + b"0" * 32
+    return [segment(0xE1, name + struct.pack(">II", length, a) + packet[a:b]) for a, b in zip([0, *cuts], ends)]
+
+
+LONG = extended(SECRET, 70)[0]
+# cut within both values of a location
+PORTIONS = extended(xmp, len(xmp), xmp.index(SECRET) + 3, xmp.rindex(SECRET) + 3)
+BROKEN = b"<City" + SECRET
 
 
 def jpeg(name, segments, behind=b""):
@@ -72,8 +84,11 @@ def webp(name, chunks):
 
 jpeg("exif.jpg", EXIF)
 jpeg("exif_twice.jpg", EXIF + EXIF)
+jpeg("zeros.jpg", EXIF + segment(0xFE, b"\0" * 9), b"\0" * 9)
 jpeg("xmp.jpg", XMP)
 jpeg("xmp_twice.jpg", XMP + XMP)
+jpeg("extended_xmp.jpg", XMP + b"".join(PORTIONS))
+jpeg("extended_xmp_only.jpg", EXIF + b"".join(PORTIONS) + IPTC)
 jpeg("iptc.jpg", IPTC)
 jpeg("all.jpg", EXIF + XMP + IPTC)
 jpeg("second_picture.jpg", EXIF, plain[:2] + EXIF + XMP + plain[2:])
@@ -144,7 +159,11 @@ jpeg("keywords.jpg", segment(0xED, b"Photoshop 3.0\0" + resource.replace(b"\x1c\
 tiff_file("words.tif", tiff((700, 1, words), (33723, 7, iptc)))
 jpeg("unknown.jpg", EXIF + segment(0xE9, SECRET))
 jpeg("long_xmp.jpg", XMP + LONG)
-jpeg("broken_xmp.jpg", EXIF + segment(0xE1, b"http://ns.adobe.com/xap/1.0/\0<City" + SECRET))
+jpeg("other_order.jpg", XMP + b"".join(PORTIONS[::-1]))
+jpeg("other_packet.jpg", XMP + PORTIONS[0] + PORTIONS[1].replace(b"0" * 32, b"1" * 32) + PORTIONS[2])
+jpeg("broken_extended.jpg", XMP + b"".join(extended(BROKEN, len(BROKEN), 3)))
+jpeg("broken_xmp.jpg", EXIF + segment(0xE1, b"http://ns.adobe.com/xap/1.0/\0" + BROKEN))
+jpeg("broken_long.jpg", segment(0xE1, b"http://ns.adobe.com/xap/1.0/\0" + xmp + BROKEN))
 jpeg("broken_iptc.jpg", segment(0xED, b"Photoshop 3.0\0" + resource.replace(b"\x1c\x02\x5a", b"\x1d\x02\x5a")))
 jpeg("broken_exif.jpg", segment(0xE1, b"Exif\0\0XX" + SECRET) + XMP)
 webp("unknown.webp", chunk(b"EXIF", exif) + chunk(b"ABCD", SECRET))

@@ -39,12 +39,15 @@ stays() {
     holds "as a part that may hold a location" ": may hold a location"
 }
 
-for file in exif.jpg exif_twice.jpg xmp.jpg xmp_twice.jpg iptc.jpg all.jpg second_picture.jpg exif.webp xmp.webp both.webp \
+for file in exif.jpg exif_twice.jpg zeros.jpg xmp.jpg xmp_twice.jpg extended_xmp.jpg extended_xmp_only.jpg iptc.jpg all.jpg second_picture.jpg exif.webp xmp.webp both.webp \
     gps.tif fields.tif fields.jpg fields.webp exif.heic xmp.heic both.heic twice.heic undescribed.jpg; do
     erased "$file"
 done
 check "what names no location stays in XMP" grep -qaF "dc:source='kept'" new.xmp.jpg
 check "and in IPTC data" grep -qaF kept new.iptc.jpg
+check "the halves of a location in two portions are in the file" test "$(grep -aoE 'Zzy|zx47' files/extended_xmp.jpg | wc -l)" = 8
+check "and gone with it" test "$(grep -aoE 'Zzy|zx47' new.extended_xmp.jpg | wc -l)" = 0
+check "what names no location stays in the portions" test "$(grep -aoF "dc:source='kept'" new.extended_xmp.jpg | wc -l)" = 2
 
 stays described.jpg 1 "Exif data at offset 2: the text of ImageDescription is not judged"
 stays words.jpg 1 "XMP packet at offset 2 has texts, which are not judged"
@@ -54,6 +57,10 @@ stays comment.jpg 1 "comment at offset"
 stays trailer.jpg 1 "data after the picture at offset"
 stays unknown.jpg 1 "unknown data at offset"
 stays long_xmp.jpg 1 "part of a long XMP packet at offset"
+stays other_order.jpg 0 "part of a long XMP packet at offset"
+check "no byte of portions in another order is new" test "$(grep -aoE 'Zzy|zx47' new.other_order.jpg | wc -l)" = 4
+stays other_packet.jpg 0 "part of a long XMP packet at offset"
+stays broken_extended.jpg 1 "part of a long XMP packet at offset"
 stays broken_xmp.jpg 1 "XMP packet at offset"
 stays broken_iptc.jpg 1 "IPTC data at offset"
 stays broken_exif.jpg 1 "Exif data at offset 2, which can't be changed"
@@ -67,6 +74,29 @@ stays unknown_item.heic 1 "unknown data at offset"
 stays unknown_box.heic 1 "unknown data at offset"
 stays broken_xmp.heic 1 "XMP packet at offset"
 
+# blanked FILE: what can't be read is reported, and with --force-blank overwritten: nothing is reported then.
+blanked() {
+    gives "$1 is changed, and what can't be read is reported" 3 "$mexaldor" scrub --force --locations-only "files/$1" "new.$1"
+    says "$1: the option that helps is named" "; --force-blank blanks it"
+    gives "$1 is blanked" 0 "$mexaldor" scrub --force --locations-only --force-blank "files/$1" "blank.$1"
+    check "$1: nothing is reported" test ! -s err
+    check "$1: no secret is left" test "$(secrets "blank.$1")" = 0
+    check "$1: the length stays" test "$(wc -c <"files/$1")" = "$(wc -c <"blank.$1")"
+    gives "the new $1 is changed" 0 "$mexaldor" scrub --force --locations-only "blank.$1" "again.$1"
+    check "$1: nothing is left to do" cmp "blank.$1" "again.$1"
+    gives "check finds no location in the new $1" 0 "$mexaldor" check "blank.$1"
+}
+
+for file in broken_xmp.jpg broken_long.jpg broken_iptc.jpg broken_extended.jpg broken_xmp.heic; do
+    blanked "$file"
+done
+check "a long packet has no properties then" grep -qaF "<x:xmpmeta xmlns:x='adobe:ns:meta/'/>   " blank.broken_long.jpg
+gives "--force-blank leaves what is not XMP or IPTC" 3 "$mexaldor" scrub --force --locations-only --force-blank files/comment.jpg new.jpg
+check "as it is without" cmp new.jpg new.comment.jpg
+gives "--force-blank alone is refused" 2 "$mexaldor" scrub --force --force-blank files/broken_xmp.jpg new.jpg
+says "and says what it requires" "--force-blank requires --locations-only"
+gives "--places-only is enough" 0 "$mexaldor" scrub --force --places-only --force-blank files/broken_xmp.jpg new.jpg
+
 # cleaned FILE: with all metadata out no secret is left, and once more changes nothing.
 cleaned() {
     gives "$1 is scrubbed" 0 "$mexaldor" scrub --force "files/$1" "clean.$1"
@@ -75,14 +105,14 @@ cleaned() {
     check "$1: scrubbed twice is scrubbed once" cmp "clean.$1" "again.$1"
 }
 
-for file in all.jpg second_picture.jpg fields.jpg comment.jpg trailer.jpg unknown.jpg long_xmp.jpg broken_xmp.jpg broken_iptc.jpg \
+for file in all.jpg second_picture.jpg fields.jpg comment.jpg trailer.jpg unknown.jpg long_xmp.jpg \
+    extended_xmp.jpg other_order.jpg broken_extended.jpg broken_xmp.jpg broken_long.jpg broken_iptc.jpg \
     broken_exif.jpg both.webp fields.webp unknown.webp gps.tif fields.tif maker_note.tif broken_xmp.tif cut.tif \
-    exif.heic xmp.heic both.heic twice.heic unknown_box.heic broken_xmp.heic; do
+    exif.heic xmp.heic both.heic twice.heic unknown_item.heic unknown_box.heic \
+    broken_xmp.heic; do
     cleaned "$file"
     gives "check finds no location in the clean $file" 0 "$mexaldor" check "clean.$file"
 done
-# an item that is not known stays as one of zeros, which check does not look into
-cleaned unknown_item.heic
 check "the picture of a HEIF file stays" grep -qaF "the picture" clean.both.heic
 check "a HEIF file keeps its length" test "$(wc -c <files/both.heic)" = "$(wc -c <clean.both.heic)"
 # notes FILE: how many lines the last command wrote about a file.

@@ -82,8 +82,10 @@ struct mexaldor_answer mexaldor_check(const uint8_t *file, size_t length, uint8_
 /* Erases the locations of a file in all its parts: the GPS data of Exif, and the properties and
  * datasets of XMP and IPTC that name a location. No other byte changes, and the file keeps its
  * length. The status is MEXALDOR_LOCATION_POSSIBLE if a part stays that may hold a location:
- * mexaldor_check says which. After any other status but MEXALDOR_OK the file is not changed. */
-uint32_t mexaldor_erase_locations(uint8_t *file, size_t length);
+ * mexaldor_check says which. After any other status but MEXALDOR_OK the file is not changed.
+ *
+ * force_blank: overwrite XMP packets and IPTC data that can't be read, which stay otherwise. */
+uint32_t mexaldor_erase_locations(uint8_t *file, size_t length, bool force_blank);
 
 /* Writes a copy of a file without its metadata to `out`. JPEG and WebP files lose all metadata; the
  * colour profile and what decoders need stay. In HEIF and TIFF files what is not the picture becomes

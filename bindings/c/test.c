@@ -159,14 +159,14 @@ static void locations(const char *folder, const char *name)
     check(name, answer.status == MEXALDOR_LOCATION_FOUND);
     room[answer.length < sizeof room ? answer.length : 0] = 0;
     check("a location is found", strstr((char *)room, "\"location\":\"yes\"") != NULL);
-    uint32_t status = mexaldor_erase_locations(new.at, new.length);
+    uint32_t status = mexaldor_erase_locations(new.at, new.length, false);
     check("locations are erased", status == MEXALDOR_OK || status == MEXALDOR_LOCATION_POSSIBLE);
     check("the status is that of what is left",
           mexaldor_check(new.at, new.length, NULL, 0).status == status);
     check("no latitude is left", !tells(new, "\"latitude\":"));
     check("other fields are left", tells(new, "\"orientation\":6"));
     check("no picture is refused", mexaldor_check(NULL, 0, NULL, 0).status == MEXALDOR_INVALID_FORMAT);
-    check("and not changed", mexaldor_erase_locations(NULL, 0) == MEXALDOR_INVALID_FORMAT);
+    check("and not changed", mexaldor_erase_locations(NULL, 0, false) == MEXALDOR_INVALID_FORMAT);
     free(new.at);
     free(old.at);
 }

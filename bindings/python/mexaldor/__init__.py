@@ -85,7 +85,7 @@ def _library() -> ctypes.CDLL:
     library.mexaldor_scrub.restype = _Answer
     library.mexaldor_check.argtypes = [some, size, some, size]
     library.mexaldor_check.restype = _Answer
-    library.mexaldor_erase_locations.argtypes = [some, size]
+    library.mexaldor_erase_locations.argtypes = [some, size, ctypes.c_bool]
     library.mexaldor_erase_locations.restype = ctypes.c_uint32
     library.mexaldor_erase_gps.argtypes = [some, size]
     library.mexaldor_erase_gps.restype = ctypes.c_uint32
@@ -157,15 +157,16 @@ def check(source: Source) -> Dict[str, Any]:
     return json.loads(room.raw[: answer.length])
 
 
-def erase_locations(source: Source) -> "tuple[bytes, bool]":
+def erase_locations(source: Source, force_blank: bool = False) -> "tuple[bytes, bool]":
     """Return a copy of a file, of the same length, with its locations erased, and whether a part
     stays that may hold one: `check` says which.
 
     Erased are the GPS data of Exif, and the properties and datasets of XMP and IPTC that name a
-    location. No other byte changes.
+    location. No other byte changes. XMP packets and IPTC data that can't be read stay, or are
+    overwritten if `force_blank` is true.
     """
     room, length = _room(_bytes(source))
-    status = _mexaldor.mexaldor_erase_locations(room, length)
+    status = _mexaldor.mexaldor_erase_locations(room, length, force_blank)
     if status not in (Status.OK, Status.LOCATION_POSSIBLE):
         raise _refused(status)
     return room.raw[:length], status == Status.LOCATION_POSSIBLE

@@ -1,5 +1,5 @@
 -- What the calls on locations do.
-use Rattle.std.specs.Prelude.{◌≡◌, ◌⊎◌, ℕ, List, [], ◌∷◌, Option, Some, None}
+use Rattle.std.specs.Prelude.{◌≡◌, ◌⊎◌, ℕ, Bool, true, false, List, [], ◌∷◌, Option, Some, None}
 use Rattle.json.specs.Print.{print}
 use Rattle.json.specs.Tree.{json_tokens}
 use Rattle.exif_containers.specs.Container.{format_in}
@@ -10,6 +10,8 @@ use Rattle.exif_check.specs.declared.checked.Location.{Location}
 use Rattle.exif_check.specs.declared.checked.Location.TheVariants.{Absent, Present, Unknown}
 use Rattle.exif_privacy.specs.Erasing.{erased}
 use Rattle.exif_privacy.specs.declared.stays.Stays.{Stays}
+use Rattle.exif_privacy.specs.declared.unread.Unread.{Unread}
+use Rattle.exif_privacy.specs.declared.unread.Unread.TheVariants.{Blank, Keep}
 use Rattle.exif_c.specs.Buffers.{Gives, GivesNothing}
 use Rattle.exif_c.specs.Statuses.{number_of}
 use Rattle.exif_c.specs.declared.status.Status.{Status}
@@ -55,8 +57,13 @@ abbrev pub EndsAs : ℕ → List ℕ → List ℕ → Option (List ℕ × Status
 EndsAs number old new (Some made) = (number ≡ number_of made.1) × (new ≡ made.0)
 EndsAs number old new None = (number ≡ number_of status.InvalidFormat) × (new ≡ old)
 
+-- what becomes of data that can't be read
+abbrev pub unread_by : Bool → Unread
+unread_by true = Blank
+unread_by false = Keep
+
 -- the locations of a file are erased, or memory ran out and it is as it was
-abbrev pub ErasesLocations : ℕ → List ℕ → List ℕ → Type 0
-ErasesLocations number old new =
-    EndsAs number old new (erased_as (erased old))
+abbrev pub ErasesLocations : Bool → ℕ → List ℕ → List ℕ → Type 0
+ErasesLocations force_blank number old new =
+    EndsAs number old new (erased_as (erased (unread_by force_blank) old))
     ⊎ ((number ≡ number_of status.OutOfMemory) × (new ≡ old))

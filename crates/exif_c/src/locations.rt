@@ -3,13 +3,13 @@
 ghost use Rattle.std.specs.Prelude.{◌≡◌, length, IfOk, IfSome};
 ghost use Rattle.std.specs.Option.{option_map};
 ghost use Rattle.exif_privacy.specs.Erasing.{erased};
-ghost use Rattle.exif_c.specs.Locations.{Checks, ErasesLocations, erased_as, location_status, stays_status};
+ghost use Rattle.exif_c.specs.Locations.{Checks, ErasesLocations, erased_as, location_status, stays_status, unread_by};
 
 use crate::buffer::{Answer, given, nothing};
 use crate::status::Status;
 use exif_check::{Location, check, check_json, location_of};
 use exif_containers::container::format_of;
-use exif_privacy::{Stays, erase_locations};
+use exif_privacy::{Stays, Unread, erase_locations};
 use std::alloc::{AllocError, Global};
 
 // The status of a file that was checked.
@@ -54,14 +54,18 @@ fn stays_status(stays: &[Stays]) -> Status
 }
 
 // The file without its locations, and how that ended.
-fn erased(alloc: Global, file: &[u8]) -> Result<Option<(Vec<u8>, Status)>, AllocError>
+fn erased(
+    alloc: Global,
+    file: &[u8],
+    unread: Unread,
+) -> Result<Option<(Vec<u8>, Status)>, AllocError>
     ensures value { IfOk result (λ made. option_map (λ m. (m.0.items, m.1)) made
-        ≡ erased_as (erased file.now)) }
+        ≡ erased_as (erased unread file.now)) }
     ensures long { IfOk result (λ made. IfSome made
         (λ m. length m.0.items ≡ length file.now)) }
 {
     let mut new = Vec::from_slice(alloc, file)?;
-    match erase_locations(alloc, new.as_mut_slice())? {
+    match erase_locations(alloc, new.as_mut_slice(), unread)? {
         Some(stays) => {
             let status = stays_status(stays.as_slice());
             Ok(Some((new, status)))
@@ -70,14 +74,26 @@ fn erased(alloc: Global, file: &[u8]) -> Result<Option<(Vec<u8>, Status)>, Alloc
     }
 }
 
-/// Erases the locations in a file, in the caller's buffer: its length stays. The status says
-/// whether a part stays that may hold one. After a refusal, and where memory runs out, the buffer
-/// is as it was.
-#[unsafe(no_mangle)]
-pub extern "C" fn mexaldor_erase_locations(alloc: Global, file: &mut [u8]) -> u32
-    ensures { ErasesLocations result file.old file.new }
+// What becomes of data that can't be read.
+fn unread_by(force_blank: bool) -> Unread
+    ensures { result ≡ unread_by force_blank }
 {
-    match erased(alloc, file) {
+    if force_blank {
+        Unread::Blank
+    } else {
+        Unread::Keep
+    }
+}
+
+/// Erases the locations in a file, in the caller's buffer: its length stays. XMP packets and IPTC
+/// data that can't be read stay, or are overwritten, if `force_blank` says so. The status says
+/// whether a part stays that may hold a location. After a refusal, and where memory runs out, the
+/// buffer is as it was.
+#[unsafe(no_mangle)]
+pub extern "C" fn mexaldor_erase_locations(alloc: Global, file: &mut [u8], force_blank: bool) -> u32
+    ensures { ErasesLocations force_blank result file.old file.new }
+{
+    match erased(alloc, file, unread_by(force_blank)) {
         Ok(Some((new, status))) => {
             file.copy_from_slice(new.as_slice());
             status.number()

@@ -16,6 +16,7 @@ use Rattle.exif_types.specs.declared.tag.Tag.{Tag}
 use Rattle.exif_inventory.specs.declared.part.Part.{Part}
 use Rattle.exif_privacy.specs.Erasing as privacy
 use Rattle.exif_privacy.specs.declared.stays.Stays.{Stays}
+use Rattle.exif_privacy.specs.declared.unread.Unread.{Unread}
 use Rattle.exif_scrub_heif.specs.Scrubbing as heif
 use Rattle.exif_scrub_tiff.specs.Scrubbing as tiff
 use Rattle.exif_scrub_tiff.specs.declared.fault.Fault.{Fault}
@@ -50,7 +51,7 @@ orientation_in (Err refusal) = Ok None
 abbrev pub kept : Removed → List ℕ → Result (Option (List ℕ)) Why
 kept removed.AllButOrientation file = as_read (orientation_in (file_contents file))
 kept removed.Metadata file = Ok None
-kept removed.Gps file = Ok None
+kept (removed.Gps unread) file = Ok None
 
 -- a JPEG or WebP file without its metadata, but for what is kept
 abbrev pub without_metadata : Format → Removed → List ℕ → Result Change Why
@@ -68,7 +69,7 @@ heif_emptied (file, Some parts) = with_parts parts (erased EraseAll file)
 abbrev pub keeps_orientation : Removed → Bool
 keeps_orientation removed.AllButOrientation = true
 keeps_orientation removed.Metadata = false
-keeps_orientation removed.Gps = false
+keeps_orientation (removed.Gps unread) = false
 
 -- a TIFF file whose metadata were taken out, or why not
 abbrev pub tiff_emptied : Result (List ℕ) Fault → Result Change Why
@@ -94,15 +95,15 @@ abbrev pub gps_erased : List ℕ → List ℕ
 gps_erased file = elim (edited_file entry_limit EraseGps file) [ Ok new ↦ new | Err cause ↦ file ]
 
 -- a file without locations, by its format
-abbrev pub unlocated : Format → List ℕ → Result Change Why
-unlocated Jpeg file = if_parted (privacy.erased file)
-unlocated WebP file = if_parted (privacy.erased file)
-unlocated Tiff file = if_parted (privacy.erased file)
-unlocated Heif file = if_parted (privacy.erased (gps_erased file))
+abbrev pub unlocated : Unread → Format → List ℕ → Result Change Why
+unlocated unread Jpeg file = if_parted (privacy.erased unread file)
+unlocated unread WebP file = if_parted (privacy.erased unread file)
+unlocated unread Tiff file = if_parted (privacy.erased unread file)
+unlocated unread Heif file = if_parted (privacy.erased unread (gps_erased file))
 
 -- a file of a format without what is taken out
 abbrev pub scrubbed_as : Format → Removed → List ℕ → Result Change Why
-scrubbed_as format removed.Gps file = unlocated format file
+scrubbed_as format (removed.Gps unread) file = unlocated unread format file
 scrubbed_as format removed.Metadata file = emptied format removed.Metadata file
 scrubbed_as format removed.AllButOrientation file = emptied format removed.AllButOrientation file
 

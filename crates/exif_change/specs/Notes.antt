@@ -63,4 +63,4 @@ emptied_notes kept color file =
 abbrev pub scrub_notes : Removed → Color → List ℕ → List Note
 scrub_notes Metadata color file = emptied_notes false color file
 scrub_notes AllButOrientation color file = emptied_notes true color file
-scrub_notes Gps color file = []
+scrub_notes (Gps unread) color file = []

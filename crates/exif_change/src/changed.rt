@@ -60,6 +60,9 @@ impl fmt::Display for Left {
             }
             Left::Edit(tag, cause) => write!(f, "{tag} was not moved: {cause}"),
             Left::CutOff => write!(f, "The JPEG stream ends before its picture does"),
+            Left::Stays(stays) if stays.why.can_be_blanked() => {
+                write!(f, "{stays}; --force-blank blanks it")
+            }
             Left::Stays(stays) => write!(f, "{stays}"),
             Left::Part(part) => {
                 let (kind, offset) = (part.kind, part.offset);

@@ -23,6 +23,7 @@ pub use changed::{Changed, Left};
 pub use dates::{Dates, shift};
 pub use exif_assign::Assignment;
 pub use exif_clock::{ClockShift, Unmoved};
+pub use exif_privacy::Unread;
 pub use notes::{Color, Note, scrub_notes};
 pub use reading::{ENTRY_LIMIT, read};
 pub use refusal::Refusal;

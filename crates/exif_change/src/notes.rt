@@ -120,7 +120,7 @@ pub fn scrub_notes(
     let kept = match removed {
         Removed::Metadata => false,
         Removed::AllButOrientation => true,
-        Removed::Gps => return Ok(Vec::new(alloc)),
+        Removed::Gps(_) => return Ok(Vec::new(alloc)),
     };
     match inventory(alloc, file)? {
         Some(parts) => notes_on(alloc, color, &parts),

@@ -18,7 +18,7 @@ use crate::rewriting::rewritten;
 use crate::{Refusal, read};
 use exif_containers::container::{Format, format_of};
 use exif_edit_files::{Edit, Error, apply_in_file};
-use exif_privacy::{Stays, erase_locations};
+use exif_privacy::{Stays, Unread, erase_locations};
 use exif_rewrite::{Remove, UPRIGHT, scrubbed_exif, without_color_profile};
 use std::alloc::{AllocError, Global};
 
@@ -29,8 +29,9 @@ pub enum Removed {
     Metadata,
     /// All metadata but for the picture's orientation.
     AllButOrientation,
-    /// What says where the picture was taken: the locations of all Exif data, XMP and IPTC.
-    Gps,
+    /// What says where the picture was taken: the locations of all Exif data, XMP and IPTC, and
+    /// what becomes of XMP and IPTC that can't be read.
+    Gps(Unread),
 }
 
 /// The file without its metadata. JPEG and WebP files are written again without them. In HEIF
@@ -83,7 +84,7 @@ fn scrubbed_as(
     ensures { Answers change_of result (scrubbed_as format removed file.items) }
 {
     match removed {
-        Removed::Gps => unlocated(alloc, format, file),
+        Removed::Gps(unread) => unlocated(alloc, unread, format, file),
         Removed::Metadata | Removed::AllButOrientation => emptied(alloc, format, file, removed),
     }
 }
@@ -105,12 +106,17 @@ fn emptied(
 }
 
 // The file without locations, by its format.
-fn unlocated(alloc: Global, format: Format, file: Vec<u8>) -> Result<Changed, Refusal>
-    ensures { Answers change_of result (unlocated format file.items) }
+fn unlocated(
+    alloc: Global,
+    unread: Unread,
+    format: Format,
+    file: Vec<u8>,
+) -> Result<Changed, Refusal>
+    ensures { Answers change_of result (unlocated unread format file.items) }
 {
     match format {
-        Format::Jpeg | Format::WebP | Format::Tiff => parts_unlocated(alloc, file),
-        Format::Heif => parts_unlocated(alloc, gps_erased(alloc, file)?),
+        Format::Jpeg | Format::WebP | Format::Tiff => parts_unlocated(alloc, unread, file),
+        Format::Heif => parts_unlocated(alloc, unread, gps_erased(alloc, file)?),
     }
 }
 
@@ -163,10 +169,10 @@ fn tiff_emptied(alloc: Global, file: &[u8], removed: Removed) -> Result<Changed,
 
 // The file without the locations of its parts, or without its GPS data where no parts of it are
 // known.
-fn parts_unlocated(alloc: Global, mut file: Vec<u8>) -> Result<Changed, Refusal>
-    ensures { Answers change_of result (if_parted (privacy_erased file.items)) }
+fn parts_unlocated(alloc: Global, unread: Unread, mut file: Vec<u8>) -> Result<Changed, Refusal>
+    ensures { Answers change_of result (if_parted (privacy_erased unread file.items)) }
 {
-    match erase_locations(alloc, file.as_mut_slice())? {
+    match erase_locations(alloc, file.as_mut_slice(), unread)? {
         Some(parts) => Ok(Changed {
             file,
             left: all_stay(alloc, parts.as_slice())?,
@@ -223,7 +229,7 @@ fn kept(alloc: Global, file: &[u8], removed: Removed) -> Result<Option<Vec<u8>>,
             Ok(kept) => Ok(kept),
             Err(error) => Err(Refusal::Reading(error)),
         },
-        Removed::Metadata | Removed::Gps => Ok(None),
+        Removed::Metadata | Removed::Gps(_) => Ok(None),
     }
 }
 

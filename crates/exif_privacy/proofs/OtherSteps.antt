@@ -42,8 +42,8 @@ pub of_more : (before parts behind : List Part) (old new : List ℕ) → OthersS
 of_more before parts behind old new s = record {
   long = s.long;
   bytes = λ k e.
-    s.bytes k (neither _ _ (sym (list_any-append (may_change k) parts behind)
-    ∙ (neither _ _ (sym (list_any-append (may_change k) before (parts ++ behind)) ∙ e)).1)).0;
+      s.bytes k (neither _ _ (sym (list_any-append (may_change k) parts behind)
+      ∙ (neither _ _ (sym (list_any-append (may_change k) before (parts ++ behind)) ∙ e)).1)).0;
 }
 
 pub of_take : (n : ℕ) (parts : List Part) (old new : List ℕ) → OthersStay (take n parts) old new → OthersStay parts old new
@@ -112,10 +112,10 @@ portion_stays p old new h e s =
     record {
       long = span_long (portion p).data_offset (portion p).data_len old new ends e;
       bytes = λ k out.
-        span_stays (portion p).data_offset (portion p).data_len k old new ends e
-        (portion_out p.data_offset p.data_len k
-        (outside p.data_offset (p.data_offset + p.data_len) k
-        (sym (ap (λ b. b && (nat_le p.data_offset k && nat_lt k (p.data_offset + p.data_len))) s) ∙ (neither _ _ out).0)));
+          span_stays (portion p).data_offset (portion p).data_len k old new ends e
+          (portion_out p.data_offset p.data_len k
+          (outside p.data_offset (p.data_offset + p.data_len) k
+          (sym (ap (λ b. b && (nat_le p.data_offset k && nat_lt k (p.data_offset + p.data_len))) s) ∙ (neither _ _ out).0)));
     }
 
 others_of : (P : Part → Type 0) (p : Part) (ps : List Part) → All P (p ∷ ps) → All P ps
@@ -134,8 +134,8 @@ portions_stay (p ∷ ps) packet file h e s =
     let one : OthersStay (p ∷ []) file mid = portion_stays p file (take n packet) (h 0 p (omega arith)) front (s 0 p (omega arith)) in
     let same : length file ≡ length mid = sym one.long in
     let more : OthersStay ps mid (put_back ps (drop n packet) mid) =
-      portions_stay ps (drop n packet) mid (subst (λ (m : ℕ). All (EndsIn m) ps) same (others_of (EndsIn (length file)) p ps h)) rest
-      (others_of (λ part. is_searched part.kind ≡ true) p ps s) in
+    portions_stay ps (drop n packet) mid (subst (λ (m : ℕ). All (EndsIn m) ps) same (others_of (EndsIn (length file)) p ps h)) rest
+    (others_of (λ part. is_searched part.kind ≡ true) p ps s) in
     both_stay (p ∷ ps) file mid (put_back ps (drop n packet) mid) (of_more [] (p ∷ []) ps file mid one) (of_drop 1 (p ∷ ps) mid (put_back ps (drop n packet) mid) more)
 
 searched_kind : (k : Kind) → is_extended k ≡ true → is_searched k ≡ true

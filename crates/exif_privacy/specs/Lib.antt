@@ -5,3 +5,4 @@ pub mod Portions
 pub mod Judging
 pub mod Erasing
 pub mod Promises
+pub mod Examples

@@ -1,5 +1,5 @@
 -- The locations in one part of a file.
-use Rattle.std.specs.Prelude.{ℕ, ◌-◌, ◌==◌, List, [], ◌∷◌, ◌++◌, codes, length, map, replicate, nat_le, Bool, Option, None, Some, Result, Ok, Err, if◌then◌else◌}
+use Rattle.std.specs.Prelude.{ℕ, ◌-◌, ◌==◌, List, [], ◌∷◌, ◌++◌, codes, length, map, replicate, nat_le, Bool, true, false, Option, None, Some, Result, Ok, Err, if◌then◌else◌}
 use Rattle.std.specs.List.{list_all}
 use Rattle.std.specs.Option.{option_to_list}
 use Rattle.std.specs.Str.{bytes_eq}
@@ -36,7 +36,8 @@ unread_answer Keep blank old why = (old, Some why)
 unread_answer Blank blank old why = (blank, None)
 
 -- new bytes, or what becomes of the old ones if these can't be read
-abbrev pub or_unread : {F : Type 0} → Unread → (F → Why) → List ℕ → List ℕ → Result (List ℕ) F → List ℕ × Option Why
+abbrev pub or_unread : {F : Type 0} → Unread → (F → Why) → List ℕ → List ℕ → Result (List ℕ) F
+    → List ℕ × Option Why
 or_unread unread why blank old (Ok new) = (new, None)
 or_unread unread why blank old (Err fault) = unread_answer unread blank old (why fault)
 
@@ -61,6 +62,12 @@ xmp_judged unread bytes = or_texts xmp_has_texts (xmp_answer unread bytes)
 -- so IPTC data
 abbrev pub iptc_judged : Unread → List ℕ → List ℕ × Option Why
 iptc_judged unread bytes = or_texts iptc_has_texts (iptc_answer unread bytes)
+
+-- whether the data of a part with this reason could be overwritten
+abbrev pub can_be_blanked : Why → Bool
+can_be_blanked (XmpNotRead fault) = true
+can_be_blanked (IptcNotRead fault) = true
+can_be_blanked _ = false
 
 -- new bytes, and the reason as a list
 abbrev pub listed : List ℕ × Option Why → List ℕ × List Why

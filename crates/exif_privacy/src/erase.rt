@@ -154,11 +154,7 @@ fn find(
 }
 
 // The parts of a file that may hold a location.
-fn find_all(
-    alloc: Global,
-    unread: Unread,
-    file: &[u8],
-) -> Result<Option<Vec<Stays>>, AllocError>
+fn find_all(alloc: Global, unread: Unread, file: &[u8]) -> Result<Option<Vec<Stays>>, AllocError>
     ensures { IfOk result (λ stays. option_map (λ v. v.items) stays
         ≡ found_in unread file.now) }
 {

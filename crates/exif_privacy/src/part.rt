@@ -142,12 +142,7 @@ pub fn erase_part(
 }
 
 // Why data that are searched may hold a location, by a copy of them.
-fn tried(
-    alloc: Global,
-    unread: Unread,
-    kind: Kind,
-    bytes: &[u8],
-) -> Result<Vec<Why>, AllocError>
+fn tried(alloc: Global, unread: Unread, kind: Kind, bytes: &[u8]) -> Result<Vec<Why>, AllocError>
     ensures { IfOk result (λ whys. whys.items ≡ part_reasons unread kind bytes.now) }
 {
     let mut new = Vec::from_slice(alloc, bytes)?;

@@ -1,5 +1,8 @@
 //! Parts of a file that may still hold a location.
 
+ghost use Rattle.std.specs.Prelude.{◌≡◌};
+ghost use Rattle.exif_privacy.specs.Parts.{can_be_blanked};
+
 use exif_inventory::{Kind, Part};
 use exif_locations::{iptc, xmp};
 use std::fmt;
@@ -19,6 +22,15 @@ pub enum Why {
     NotJudged,
     /// Erasing it again would change the part.
     StillThere,
+}
+
+impl Why {
+    /// Whether the part would be overwritten with [`Unread::Blank`](crate::Unread::Blank).
+    pub fn can_be_blanked(self) -> bool
+        ensures { result ≡ can_be_blanked self }
+    {
+        matches!(self, Why::XmpNotRead(_) | Why::IptcNotRead(_))
+    }
 }
 
 /// A part that may still hold a location.
@@ -79,10 +91,7 @@ impl fmt::Display for Stays {
                 f,
                 "still there: {name} at offset {offset}, which may hold a location"
             ),
-            Why::StillThere => write!(
-                f,
-                "a location is still there: {name} at offset {offset}"
-            ),
+            Why::StillThere => write!(f, "a location is still there: {name} at offset {offset}"),
         }
     }
 }

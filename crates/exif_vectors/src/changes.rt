@@ -3,7 +3,9 @@
 use crate::calls::{end_of, end_of_error, send};
 use exif::{Sink, Source};
 use exif_cases::{Call, Case, CaseError};
-use exif_change::{Assignment, Changed, ClockShift, Dates, Refusal, Removed, read, thumbnail};
+use exif_change::{
+    Assignment, Changed, ClockShift, Dates, Refusal, Removed, Unread, read, thumbnail,
+};
 use exif_segments::util::read_all;
 use std::alloc::{AllocError, Global};
 
@@ -70,7 +72,7 @@ fn removed(case: &Case) -> Removed {
     } else if case.removes_all {
         Removed::Metadata
     } else {
-        Removed::Gps
+        Removed::Gps(Unread::Keep)
     }
 }
 

@@ -113,7 +113,12 @@ fn scrub<'a>(alloc: Global) -> Result<Command<'a>, AllocError> {
         .arg(options::flag(alloc, "keep-orientation", "Keep the orientation"))?
         .arg(options::flag(alloc, "strip-color", "Also remove the colour profile"))?
         .arg(locations_only(alloc, "locations-only", "Only erase locations, in place")?)?
-        .arg(locations_only(alloc, "places-only", "The same as --locations-only")?)?;
+        .arg(locations_only(alloc, "places-only", "The same as --locations-only")?)?
+        .arg(options::flag(
+            alloc,
+            "force-blank",
+            "With --locations-only, also overwrite XMP and IPTC that can't be read",
+        ))?;
     changing(alloc, command)?.arg(options::words(
         alloc,
         "FILE",

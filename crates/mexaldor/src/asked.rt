@@ -3,7 +3,7 @@
 use crate::arguments::subcommand;
 use clap::error::ErrorKind;
 use clap::{ArgMatches, Error};
-use exif_change::{Assignment, ClockShift, Color, Dates, ENTRY_LIMIT, Removed};
+use exif_change::{Assignment, ClockShift, Color, Dates, ENTRY_LIMIT, Removed, Unread};
 use exif_commands::{Change, Form, Keeping, Reading, Request, Target, Task};
 use exif_decisions::{Escaped, is_assignment, nearest};
 use std::alloc::{AllocError, Global};
@@ -49,11 +49,7 @@ fn parsed<'a>(
         "thumbnail" => thumbnail_of(alloc, matches),
         "set" => set_of(alloc, matches),
         "shift" => shift_of(alloc, matches),
-        "scrub" => {
-            let files = words_of(alloc, matches)?;
-            let change = Change::Scrub(removed_of(matches), color_of(matches));
-            changing(alloc, change, matches, files)
-        }
+        "scrub" => scrub_of(alloc, matches),
         "check" => {
             let files = words_of(alloc, matches)?;
             request(alloc, Task::Check(form_of(matches)), matches, files)
@@ -76,6 +72,18 @@ fn words_of<'a>(alloc: Global, matches: &ArgMatches<'a>) -> Result<Vec<&'a str>,
 
 fn wrong<T: Drop>(alloc: Global, text: &str) -> Result<Result<T, Wrong>, AllocError> {
     Ok(Err(String::from_str(alloc, text)?))
+}
+
+fn scrub_of<'a>(
+    alloc: Global,
+    matches: &ArgMatches<'a>,
+) -> Result<Result<Request<'a>, Wrong>, AllocError> {
+    if matches.get_flag("force-blank") && !erases_locations(matches) {
+        return wrong(alloc, "--force-blank requires --locations-only");
+    }
+    let files = words_of(alloc, matches)?;
+    let change = Change::Scrub(removed_of(matches), color_of(matches));
+    changing(alloc, change, matches, files)
 }
 
 fn set_of<'a>(
@@ -223,9 +231,21 @@ fn keeping_of(matches: &ArgMatches<'_>) -> Keeping {
     }
 }
 
+fn unread_of(matches: &ArgMatches<'_>) -> Unread {
+    if matches.get_flag("force-blank") {
+        Unread::Blank
+    } else {
+        Unread::Keep
+    }
+}
+
+fn erases_locations(matches: &ArgMatches<'_>) -> bool {
+    matches.get_flag("locations-only") || matches.get_flag("places-only")
+}
+
 fn removed_of(matches: &ArgMatches<'_>) -> Removed {
-    if matches.get_flag("locations-only") || matches.get_flag("places-only") {
-        Removed::Gps
+    if erases_locations(matches) {
+        Removed::Gps(unread_of(matches))
     } else if matches.get_flag("keep-orientation") {
         Removed::AllButOrientation
     } else {

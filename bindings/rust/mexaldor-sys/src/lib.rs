@@ -30,7 +30,7 @@ extern "C" {
         room: usize,
     ) -> mexaldor_answer;
     /// Erases the locations of a file in place.
-    pub fn mexaldor_erase_locations(file: *mut u8, length: usize) -> u32;
+    pub fn mexaldor_erase_locations(file: *mut u8, length: usize, force_blank: bool) -> u32;
     /// Erases the GPS data of Exif in place.
     pub fn mexaldor_erase_gps(file: *mut u8, length: usize) -> u32;
     /// Makes a copy of a file without its metadata.

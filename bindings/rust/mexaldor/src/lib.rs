@@ -160,8 +160,23 @@ pub fn check(file: &[u8]) -> Result<Checked, Refused> {
 /// XMP and IPTC that name a location. Returns whether a part stays that may hold one: [`check`] says
 /// which.
 pub fn erase_locations(file: &mut [u8]) -> Result<bool, Refused> {
+    erase_locations_with(file, Unread::Keep)
+}
+
+/// What becomes of XMP packets and IPTC data that can't be read.
+#[derive(Clone, Copy, Debug, PartialEq, Eq)]
+pub enum Unread {
+    /// They stay.
+    Keep,
+    /// They are overwritten.
+    Blank,
+}
+
+/// The same, and overwrites XMP packets and IPTC data that can't be read, if `unread` says so.
+pub fn erase_locations_with(file: &mut [u8], unread: Unread) -> Result<bool, Refused> {
+    let force_blank = unread == Unread::Blank;
     // SAFETY: `file` has its length and is held by nobody else.
-    match unsafe { sys::mexaldor_erase_locations(file.as_mut_ptr(), file.len()) } {
+    match unsafe { sys::mexaldor_erase_locations(file.as_mut_ptr(), file.len(), force_blank) } {
         0 => Ok(false),
         40 => Ok(true),
         status => Err(Refused(status)),
