@@ -1,9 +1,10 @@
 //! Texts of Exif data, in which a location may be named.
 
 ghost use Rattle.std.specs.Prelude.{◌≡◌, OnOk};
-ghost use Rattle.exif_data_locations.specs.Texts.{is_shown, is_text, is_text_number, is_text_tag, show, shows, texts_noted};
+ghost use Rattle.exif_data_locations.specs.Texts.{is_shown, is_text, is_text_number, is_text_of, show, show_one, shows, texts_noted};
 
 use crate::why::Why;
+use exif_base::Items;
 use exif_types::{Context, Field, Tag, Value};
 use std::alloc::AllocError;
 
@@ -21,12 +22,24 @@ fn show(bytes: &[u8]) -> bool
     bytes.iter().any(|byte| is_shown(*byte))
 }
 
+// Whether one of some texts does.
+fn show_one(texts: &[Items<u8>]) -> bool
+    ensures { result ≡ show_one texts.now }
+{
+    for text in texts {
+        if show(text) {
+            return true;
+        }
+    }
+    false
+}
+
 // Whether a value shows something: a comment does so behind its character code.
 fn shows(value: &Value) -> bool
     ensures { result ≡ shows value.now }
 {
     match value {
-        Value::Ascii(texts) => texts.iter().any(|text| show(text)),
+        Value::Ascii(texts) => show_one(texts),
         Value::Byte(numbers) => show(numbers),
         Value::Undefined(bytes, _) => match bytes.get(8..) {
             Some(comment) => show(comment),
@@ -45,7 +58,7 @@ fn is_text_number(number: u16) -> bool
 
 // Whether a tag is of a text.
 fn is_text_tag(tag: Tag) -> bool
-    ensures { result ≡ is_text_tag tag }
+    ensures { result ≡ is_text_of tag.0 tag.1 }
 {
     match tag.0 {
         Context::Tiff => is_text_number(tag.1),
