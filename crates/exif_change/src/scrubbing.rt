@@ -52,11 +52,7 @@ pub fn scrub(alloc: Global, file: Vec<u8>, removed: Removed) -> Result<Changed, 
 
 /// The file without its colour profile, and without what is removed beside it. HEIF and TIFF files
 /// keep their profile, which is answered.
-pub fn scrub_with_color(
-    alloc: Global,
-    file: Vec<u8>,
-    removed: Removed,
-) -> Result<Changed, Refusal>
+pub fn scrub_with_color(alloc: Global, file: Vec<u8>, removed: Removed) -> Result<Changed, Refusal>
     ensures { Answers change_of result (scrubbed_with_color removed file.items) }
 {
     match without_color_profile(alloc, file.as_slice())? {

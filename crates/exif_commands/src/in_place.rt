@@ -145,8 +145,7 @@ impl<'p, 'k, 'c, 'r, 'n, E: Sink> Messages<'p, 'k, 'c, 'r, 'n, E> {
 }
 
 impl<'p, 'k, 'c, 'r, 'n, E: Sink> Reporter<Left, Note, Refusal>
-    for Messages<'p, 'k, 'c, 'r, 'n, E>
-{
+    for Messages<'p, 'k, 'c, 'r, 'n, E> {
     fn report(&mut self, index: usize, outcome: Result<Report<Left, Note>, Failure<Refusal>>) {
         let (path, key) = match (self.paths.get(index), self.keys.get(index)) {
             (Some(path), Some(key)) => (path.as_str(), key.as_str()),

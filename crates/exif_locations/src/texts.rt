@@ -36,8 +36,7 @@ fn begins_comment(bytes: &[u8]) -> bool
 fn begins_account(bytes: &[u8]) -> bool
     ensures { result ≡ begins_account bytes.now }
 {
-    begins_with(b"AltText", bytes)
-        || begins_with(b"ExtDescr", bytes)
+    begins_with(b"AltText", bytes) || begins_with(b"ExtDescr", bytes)
 }
 
 // Whether they begin with the name of one that holds keywords.

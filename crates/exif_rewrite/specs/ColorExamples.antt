@@ -13,8 +13,8 @@ jpeg = refl
 
 -- an extended header with the flags of a profile and of alpha, a profile of three bytes with its pad
 -- byte, and an image of two: of 44 bytes behind the size 12 go
-webp : colorless (codes "RIFF\x2c\0\0\0WEBPVP8X\x0a\0\0\0\x30\0\0\0\0\0\0\0\0\0ICCP\x03\0\0\0abc\0VP8 \x02\0\0\0xy")
-    ≡ Some (codes "RIFF\x20\0\0\0WEBPVP8X\x0a\0\0\0\x10\0\0\0\0\0\0\0\0\0VP8 \x02\0\0\0xy")
+webp : colorless (codes "RIFF,\0\0\0WEBPVP8X\n\0\0\00\0\0\0\0\0\0\0\0\0ICCP\u{3}\0\0\0abc\0VP8 \u{2}\0\0\0xy")
+    ≡ Some (codes "RIFF \0\0\0WEBPVP8X\n\0\0\0\u{10}\0\0\0\0\0\0\0\0\0VP8 \u{2}\0\0\0xy")
 unfolding walked chunk_piece shrunk unflagged
 webp = refl
 

@@ -10,5 +10,5 @@ use Rattle.exif_change_laws.proofs.a_scrubbed_webp_file_has_no_exif.Goals as goa
 
 pub returns : goal.returns
 returns c = λ file new format e short.
-    webp_answers None file new c.file_answers_what_was_put.ensures (webp_front file format) 
+    webp_answers None file new c.file_answers_what_was_put.ensures (webp_front file format)
     (with_found_whole false (as_read (rewritten WebP remove.Metadata None file)) new (sym (scrubbed_by WebP Metadata file format) ∙ e)) short
