@@ -1,10 +1,14 @@
 mod DatesThemselves
 mod JoinedFiles
 mod KeptOrientation
+mod MadeNumbers
+mod MadeTexts
+mod MadeValues
 mod MovedFields
 mod MovedTexts
 mod NoField
 mod OrientationImage
+mod RuleLists
 mod ScrubbedFiles
 mod SetAgain
 mod SetAssigned
@@ -22,6 +26,7 @@ mod ShiftedFiles
 mod ShownAgain
 mod ShownDecimals
 mod ShownDigits
+mod ShownFits
 mod ShownFractions
 mod ShownItems
 mod ShownKinds
