@@ -2,10 +2,14 @@ mod DatesThemselves
 mod FoundFiles
 mod JoinedFiles
 mod KeptOrientation
+mod MadeNumbers
+mod MadeTexts
+mod MadeValues
 mod MovedFields
 mod MovedTexts
 mod NoField
 mod OrientationImage
+mod RuleLists
 mod ScrubbedFiles
 mod SetAgain
 mod SetAssigned
@@ -23,6 +27,7 @@ mod ShiftedFiles
 mod ShownAgain
 mod ShownDecimals
 mod ShownDigits
+mod ShownFits
 mod ShownFractions
 mod ShownItems
 mod ShownKinds

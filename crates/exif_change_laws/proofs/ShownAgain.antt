@@ -13,7 +13,7 @@ use Rattle.exif_change_laws.proofs.ShownFractions.{as_large, billionths_again, d
 
 -- ---- the same text
 
-denom_not_zero : (k n : ℕ) → ((shortened k n).denom == 0) ≡ false
+pub denom_not_zero : (k n : ℕ) → ((shortened k n).denom == 0) ≡ false
 denom_not_zero k n = let positive : 0 < (shortened k n).denom = denom_pos k n in grind (arith, nat_tests)
 
 -- the text of the fraction that the decimal of two numbers is

@@ -20,10 +20,11 @@ use Rattle.exif_types.specs.declared.value.Value.{Value}
 use Rattle.exif_types.specs.declared.value.Value.TheVariants.{Byte, Ascii, Short, Long, Rational, SByte, Undefined, SShort, SLong, SRational, Float, Double, Unknown}
 use Rattle.exif_assign.specs.Texts.{rational_in, srational_in}
 use Rattle.exif_change_laws.specs.Shown.{IsParsedAs, IsShownAs, are_all, are_decimals, as_decimals, as_shown, as_shown_signed, is_decimal, is_signed_decimal, is_spelled, shown_fraction}
+use Rattle.exif_change_laws.proofs.RuleLists.{shows_degrees}
 use Rattle.exif_change_laws.proofs.ShownAgain.{signed_again, unsigned_again}
 use Rattle.exif_change_laws.proofs.ShownFractions.{signed_spelled, unsigned_spelled}
 use Rattle.exif_change_laws.proofs.ShownItems.{Spells}
-use Rattle.exif_change_laws.proofs.ShownTags.{fractions_of, shows_degrees}
+use Rattle.exif_change_laws.proofs.ShownTags.{fractions_of}
 use Rattle.exif_change_laws.proofs.ShownValues.{items_made, plain_read, read_of}
 
 -- the text of a value by the kind of its tag

@@ -19,11 +19,12 @@ use Rattle.exif_types.specs.declared.tag.Tag.{Tag}
 use Rattle.exif_types.specs.declared.value.Value.TheVariants.{Rational}
 use Rattle.exif_assign.specs.Texts.{fraction, items_in, rational_in}
 use Rattle.exif_change_laws.specs.Shown.{IsParsedAs, IsShownAs, as_shown, is_decimal, one, shortened, shown_decimal, shown_inverse, shown_one}
+use Rattle.exif_change_laws.proofs.RuleLists.{shows_degrees}
 use Rattle.exif_change_laws.proofs.ShownDecimals.{parts_text, tail_of, ten_pos}
 use Rattle.exif_change_laws.proofs.ShownFractions.{as_large, decimal_parts, quotient_spelled}
 use Rattle.exif_change_laws.proofs.ShownItems.{Spells, list_read}
 use Rattle.exif_change_laws.proofs.ShownKinds.{below, decimal_again, decimal_spelled, not_zero, text_by}
-use Rattle.exif_change_laws.proofs.ShownTags.{fractions_of, shows_degrees}
+use Rattle.exif_change_laws.proofs.ShownTags.{fractions_of}
 use Rattle.exif_change_laws.proofs.ShownValues.{read_of}
 
 -- a text of one fraction, for a tag that is not shown as degrees
