@@ -70,7 +70,7 @@ may_change k part =
 pub record OthersStay (parts : List Part) (old new : List ℕ) : Type 0 where
   pub long : length new ≡ length old
   pub bytes : (k : ℕ) → list_any (may_change k) parts ≡ false
-    → slice_index new k ≡ slice_index old k
+      → slice_index new k ≡ slice_index old k
 
 -- so where it has parts, and else all bytes are
 abbrev pub OthersStayIn : Option (List Part) → List ℕ → List ℕ → Type 0
