@@ -102,6 +102,10 @@ class Pictures(unittest.TestCase):
         plain = (self.folder / "plain.jpg").read_bytes()
         self.assertEqual(mexaldor.check(plain)["location"], "no")
         self.assertEqual(mexaldor.erase_locations(plain), (plain, False))
+        unread = plain[:2] + b"\xff\xe1\0\x24http://ns.adobe.com/xap/1.0/\0<City" + plain[2:]
+        self.assertEqual(mexaldor.erase_locations(unread), (unread, True))
+        blank = unread.replace(b"<City", b" " * 5)
+        self.assertEqual(mexaldor.erase_locations(unread, force_blank=True), (blank, False))
         self.refused(Status.INVALID_FORMAT, mexaldor.check, b"no picture")
         self.refused(Status.INVALID_FORMAT, mexaldor.erase_locations, b"no picture")
 

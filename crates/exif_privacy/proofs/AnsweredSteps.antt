@@ -1,5 +1,5 @@
 -- Parts that may hold a location are answered.
-use Rattle.std.proofs.Common.{◌≡◌, ◌-◌, ◌+◌, ℕ, zero, suc, Bool, true, false, ◌&&◌, cond, nat_eq, nat_le, List, [], ◌∷◌, take, map, Option, Some, refl, ap, sym, ◌∙◌, subst, arith}
+use Rattle.std.proofs.Common.{◌≡◌, ◌-◌, ◌+◌, ℕ, zero, suc, Bool, true, false, ◌&&◌, cond, nat_eq, nat_lt, List, [], ◌∷◌, take, map, Option, Some, refl, ap, sym, ◌∙◌, subst, arith}
 use Rattle.std.proofs.lemmas.List.Elements.{Contains-append_left, Contains-append_right}
 use Rattle.std.specs.List.{AllByRecursion, Contains, flat_map}
 use Rattle.std.specs.Option.{option_map}
@@ -8,7 +8,7 @@ use Rattle.exif_privacy.specs.Data.{data_of}
 use Rattle.exif_privacy.specs.Erasing.{all_stay, found, stays_for}
 use Rattle.exif_privacy.specs.Judging.{front_reasons, judged_from}
 use Rattle.exif_privacy.specs.Parts.{part_reasons}
-use Rattle.exif_privacy.specs.Portions.{full_len, goes_on, has_front, is_extended, joined_len, run_len}
+use Rattle.exif_privacy.specs.Portions.{full_len, goes_on, has_portion, is_extended, joined_len, run_len}
 use Rattle.exif_privacy.specs.Promises.{LeftIsAnswered, ReasonsAreItsOwn}
 use Rattle.exif_privacy.specs.declared.stays.Stays.{Stays}
 use Rattle.exif_privacy.specs.declared.stays.Why.{Why}
@@ -84,7 +84,7 @@ joined_if false n parts h = tt
 pub joined_extended : (file : List ℕ) (parts : List Part) → AllExtended (take (joined_len file parts) parts)
 joined_extended file [] = tt
 joined_extended file (p ∷ ps) =
-    joined_if (has_front p) (run_len file p 0 0 (p ∷ ps)) (p ∷ ps)
+    joined_if (has_portion p) (run_len file p 0 0 (p ∷ ps)) (p ∷ ps)
     (let same : run_len file p 0 0 (p ∷ ps) - 0 ≡ run_len file p 0 0 (p ∷ ps) = omega arith in
     subst (λ k. AllExtended (take k (p ∷ ps))) same (run_extended file p 0 0 (p ∷ ps)))
 
@@ -95,7 +95,7 @@ tail_extended zero p ps h = tt
 tail_extended (suc k) p ps h = let same : k ≡ suc k - 1 = omega arith in subst (λ n. AllExtended (take n ps)) same h.1
 
 not_joined : (file : List ℕ) (p : Part) (ps : List Part) → is_extended p.kind ≡ false → joined_len file (p ∷ ps) ≡ 0
-not_joined file p ps other = ap (λ b. cond (b && nat_le 40 p.data_len) (run_len file p 0 0 (p ∷ ps)) 0) other
+not_joined file p ps other = ap (λ b. cond (b && nat_lt 40 p.data_len) (run_len file p 0 0 (p ∷ ps)) 0) other
 
 both : (b : Bool) → b ≡ true → b ≡ false → ⊥
 both b t f = cc

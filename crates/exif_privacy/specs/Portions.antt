@@ -1,5 +1,5 @@
 -- The portions of extended XMP packets (XMP Specification, Part 3, 1.1.3.1).
-use Rattle.std.specs.Prelude.{ℕ, ◌+◌, ◌-◌, ◌==◌, ◌&&◌, min, List, [], ◌∷◌, length, take, drop, nat_le, Bool, true, false, if◌then◌else◌}
+use Rattle.std.specs.Prelude.{ℕ, ◌+◌, ◌-◌, ◌==◌, ◌&&◌, min, List, [], ◌∷◌, length, take, drop, nat_le, nat_lt, Bool, true, false, if◌then◌else◌}
 use Rattle.std.specs.List.{flat_map, sum_by}
 use Rattle.std.specs.Str.{bytes_eq}
 use Rattle.exif_inventory.specs.Resources.{number_of}
@@ -13,10 +13,10 @@ abbrev pub is_extended : Kind → Bool
 is_extended kind.ExtendedXmp = true
 is_extended _ = false
 
--- whether a part has all that comes before a portion: the GUID of its packet (32 bytes), the length
--- of the packet, and the offset of the portion in it (4 bytes each)
-abbrev pub has_front : Part → Bool
-has_front part = is_extended part.kind && nat_le 40 part.data_len
+-- whether a part has a portion, which is not empty, behind the GUID of its packet (32 bytes), the
+-- length of the packet, and the offset of the portion in it (4 bytes each)
+abbrev pub has_portion : Part → Bool
+has_portion part = is_extended part.kind && nat_lt 40 part.data_len
 
 -- the portion of a part alone
 abbrev pub portion : Part → Part
@@ -46,7 +46,7 @@ is_next first at bytes =
 -- whether a part goes on so with the packet that another part of the same picture begins
 abbrev pub goes_on : List ℕ → Part → ℕ → Part → Bool
 goes_on file first at part =
-    has_front part && (part.picture == first.picture)
+    has_portion part && (part.picture == first.picture)
     && is_next (data_of first file) at (data_of part file)
 
 -- how many parts are the packet that one of them begins, behind n parts with so many bytes of it:
@@ -62,7 +62,7 @@ run_len file first n at (part ∷ parts) =
 abbrev pub joined_len : List ℕ → List Part → ℕ
 joined_len file [] = 0
 joined_len file (part ∷ parts) =
-    if has_front part then run_len file part 0 0 (part ∷ parts) else 0
+    if has_portion part then run_len file part 0 0 (part ∷ parts) else 0
 
 -- the packet whose portions are in these parts
 abbrev pub joined : List Part → List ℕ → List ℕ

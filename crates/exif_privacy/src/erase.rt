@@ -176,9 +176,9 @@ fn find_all(alloc: Global, unread: Unread, file: &[u8]) -> Result<Option<Vec<Sta
 /// credentials, other parts of long XMP packets, and segments and chunks that are not known stay
 /// and are answered, unless they are zeros; so do texts and keywords.
 ///
-/// What is answered is what is found in the new file. It takes the memory of a copy of the longest
-/// part with Exif, XMP or IPTC data. Out of memory leaves each part as it was, or with some of its
-/// locations erased.
+/// What is answered is what is found in the new file. It takes the memory of two copies of the
+/// longest part with Exif, XMP or IPTC data, or of the longest extended packet. Out of memory leaves
+/// each part as it was, or with some of its locations erased.
 pub fn erase_locations(
     alloc: Global,
     file: &mut [u8],

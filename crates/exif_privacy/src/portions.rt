@@ -4,7 +4,7 @@ ghost use Rattle.std.specs.Prelude.{◌≡◌, ◌≤◌, ◌<◌, ◌+◌, ◌^
 ghost use Rattle.exif_inventory.specs.Promises.{EndsIn};
 ghost use Rattle.exif_inventory.specs.Resources.{number_of};
 ghost use Rattle.exif_privacy.specs.Data.{data_of};
-ghost use Rattle.exif_privacy.specs.Portions.{full_len, goes_on, has_front, is_next, joined, joined_len, portion, portions_len, put_back, run_len};
+ghost use Rattle.exif_privacy.specs.Portions.{full_len, goes_on, has_portion, is_next, joined, joined_len, portion, portions_len, put_back, run_len};
 ghost use Rattle.exif_privacy.specs.Promises.{AllSearched, OthersStay};
 
 use exif_inventory::{Kind, Part};
@@ -21,11 +21,11 @@ pub fn data_of(file: &[u8], part: Part) -> &[u8]
     &file[part.data_offset..part.data_offset + part.data_len]
 }
 
-// Whether a part has all that comes before a portion.
-fn has_front(part: Part) -> bool
-    ensures { result ≡ has_front part }
+// Whether a part has a portion, which is not empty.
+fn has_portion(part: Part) -> bool
+    ensures { result ≡ has_portion part }
 {
-    matches!(part.kind, Kind::ExtendedXmp) && part.data_len >= FRONT
+    matches!(part.kind, Kind::ExtendedXmp) && part.data_len > FRONT
 }
 
 // The portion of a part alone.
@@ -81,7 +81,7 @@ fn goes_on(file: &[u8], first: Part, at: usize, part: Part) -> bool
     requires ends { EndsIn (length file.now) part }
     ensures { result ≡ goes_on file.now first at part }
 {
-    has_front(part)
+    has_portion(part)
         && part.picture == first.picture
         && is_next(data_of(file, first), at, data_of(file, part))
 }
@@ -118,7 +118,7 @@ pub fn joined_len(file: &[u8], parts: &[Part]) -> usize
     ensures searched { AllSearched (take result parts.now) }
 {
     match parts {
-        [first, ..] if has_front(*first) => run_len(file, *first, parts),
+        [first, ..] if has_portion(*first) => run_len(file, *first, parts),
         _ => 0,
     }
 }

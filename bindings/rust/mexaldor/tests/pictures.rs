@@ -1,7 +1,8 @@
 //! The calls on the pictures of tests/make_files.py, whose folder MEXALDOR_PICTURES names.
 
 use mexaldor::{
-    check, erase_gps, erase_locations, read, read_with, scrub, set, Location, Options, Refused,
+    check, erase_gps, erase_locations, erase_locations_with, read, read_with, scrub, set, Location,
+    Options, Refused, Unread,
 };
 use std::path::PathBuf;
 
@@ -74,6 +75,14 @@ fn locations_are_found_and_erased() {
     }
     assert_eq!(check(b"no picture"), Err(Refused::INVALID_FORMAT));
     assert_eq!(erase_locations(&mut []), Err(Refused::INVALID_FORMAT));
+    let plain = picture("plain.jpg");
+    let unread = b"\xff\xe1\0\x24http://ns.adobe.com/xap/1.0/\0<City";
+    let mut file = [&plain[..2], &unread[..], &plain[2..]].concat();
+    let old = file.clone();
+    assert_eq!(erase_locations(&mut file), Ok(true));
+    assert_eq!(file, old);
+    assert_eq!(erase_locations_with(&mut file, Unread::Blank), Ok(false));
+    assert_eq!(check(&file).expect("plain.jpg").location, Location::Absent);
 }
 
 #[test]

@@ -1,4 +1,3 @@
-use Rattle.std.proofs.Common.{refl}
 use Rattle.exif_json.proofs.Prints.{prints_then}
 use Rattle.exif_check.proofs.object.write_members.Goals as goal
 
