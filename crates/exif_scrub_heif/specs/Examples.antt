@@ -1,5 +1,5 @@
 -- Worked examples: what becomes of bytes, by bytes written by hand.
-use Rattle.std.specs.Prelude.{◌≡◌, refl, ℕ, List, [], ◌∷◌, ◌++◌, codes, replicate, Some}
+use Rattle.std.specs.Prelude.{◌≡◌, refl, ℕ, List, [], ◌∷◌, ◌++◌, codes, replicate, Ok, Some}
 use Rattle.exif_inventory.specs.declared.kind.Kind.{Kind}
 use Rattle.exif_inventory.specs.declared.kind.Kind.TheVariants as kind
 use Rattle.exif_inventory.specs.declared.part.Part.{Part}
@@ -57,7 +57,7 @@ part k offset len from data_len = record {
 scrubbed_file : scrubbed (brands ++ 0 ∷ 0 ∷ 0 ∷ 26 ∷ codes "uuid" ++ 0xbe ∷ 0x7a ∷ 0xcf ∷ 0xcb
     ∷ 0x97 ∷ 0xa9 ∷ 0x42 ∷ 0xe8 ∷ 0x9c ∷ 0x71 ∷ 0x99 ∷ 0x94 ∷ 0x91 ∷ 0xe3 ∷ 0xaf ∷ 0xac ∷ 5 ∷ 6
     ∷ 0 ∷ 0 ∷ 0 ∷ 10 ∷ codes "udta" ++ 5 ∷ 6 ∷ 0 ∷ 0 ∷ 0 ∷ 9 ∷ codes "mdat" ++ 1 ∷ 2 ∷ 3 ∷ [])
-    ≡ (
+    ≡ Ok (
       brands ++ 0 ∷ 0 ∷ 0 ∷ 26 ∷ codes "free" ++ replicate 18 0
           ++ 0 ∷ 0 ∷ 0 ∷ 10 ∷ codes "udta" ++ 5 ∷ 6 ∷ 0 ∷ 0 ∷ 0 ∷ 9 ∷ codes "mdat"
           ++ 1 ∷ 2 ∷ 3 ∷ [],

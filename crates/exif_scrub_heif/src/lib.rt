@@ -5,6 +5,10 @@
 #![tactic(auto)]
 
 mod blank;
+mod fault;
 mod file;
+pub mod laws;
+mod settled;
 
+pub use fault::Fault;
 pub use file::scrub;
