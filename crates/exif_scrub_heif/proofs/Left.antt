@@ -11,10 +11,10 @@ use Rattle.exif_inventory_heif.specs.declared.role.Role.TheVariants.{Known, Movi
 use Rattle.exif_inventory_heif.specs.declared.span.Span.{Span}
 use Rattle.exif_scrub_heif.specs.Blanks.{blanked, role_blank, span_blank, unknown_box}
 use Rattle.exif_scrub_heif.specs.Promises.{AllKnown, IsEmpty, IsKnown}
-use Rattle.exif_scrub_heif.specs.Scrubbing.{bytes_of, is_other, is_settled, left_of, left_parts, scrubbed, stays}
+use Rattle.exif_scrub_heif.specs.Scrubbing.{bytes_of, is_other, is_settled, left_of, left_parts, scrubbed, settled, stays}
 use Rattle.exif_scrub_heif.specs.declared.blank.Blank.{Blank}
 use Rattle.exif_scrub_heif.specs.declared.blank.Blank.TheVariants.{Nothing, Packet, Zeros, Free}
-use Rattle.exif_scrub_heif.proofs.Twice.{both_true, scrubbed_settled, settled_bytes}
+use Rattle.exif_scrub_heif.proofs.Twice.{both_true, scrubbed_settled, settled_bytes, settled_is}
 
 -- what is to be shown of a part, of whose bytes nothing else becomes
 abbrev Shown : Bool → Role → Blank → List ℕ → Type 0 → Type 0
@@ -69,9 +69,13 @@ inventory_if : (t : Bool) (layout found : List Span × Bool) → ◌≡◌ {A = 
 inventory_if true layout found e = let same : layout ≡ found = cc in ap (λ (l : List Span × Bool). Some (judged_parts l)) same
 inventory_if false layout found e = absurd (cc)
 
+-- the parts of a settled file
+pub settled_known : (file : List ℕ) (left : List Part) → settled file ≡ Ok left → AllKnown file left (heif_inventory file)
+settled_known file left e =
+    let s = settled_is file left e in
+    subst (λ (parts : Option (List Part)). AllKnown file left parts) (sym (inventory_if (is_heif file) (layout_of file) (s.spans, s.judged) s.layout))
+    (each_known s.judged file left s.spans (λ p c. subst (λ (parts : List Part). Contains parts p) (sym s.parts) c) s.each)
+
+-- those of a scrubbed file
 pub all_known : (file new : List ℕ) (left : List Part) → scrubbed file ≡ Ok (new, Some left) → AllKnown new left (heif_inventory new)
-all_known file new left e =
-    let s = scrubbed_settled file new left e in
-    let same : left ≡ left_parts s.judged s.spans = let p = s.parts in cc in
-    subst (λ (parts : Option (List Part)). AllKnown new left parts) (sym (inventory_if (is_heif new) (layout_of new) (s.spans, s.judged) s.layout))
-    (each_known s.judged new left s.spans (λ p c. subst (λ (parts : List Part). Contains parts p) (sym same) c) s.each)
+all_known file new left e = settled_known new left (scrubbed_settled file new left e)

@@ -10,10 +10,10 @@ use Rattle.exif_inventory_heif.specs.declared.role.Role.TheVariants.{Known}
 use Rattle.exif_inventory_heif.specs.declared.span.Span.{Span}
 use Rattle.exif_scrub_heif.specs.Blanks.{blanked, role_blank}
 use Rattle.exif_scrub_heif.specs.Promises.{Becomes, KeepsPicture, PictureStays}
-use Rattle.exif_scrub_heif.specs.Scrubbing.{bytes_of, emptied, if_emptied, scrubbed, spans_emptied}
+use Rattle.exif_scrub_heif.specs.Scrubbing.{bytes_of, emptied, if_emptied, scrubbed, settled, spans_emptied}
 use Rattle.exif_scrub_heif.proofs.LayoutOrder.{heif_ordered}
 use Rattle.exif_scrub_heif.proofs.SpanSteps.{each_becomes}
-use Rattle.exif_scrub_heif.proofs.Twice.{same_answer, settled_is}
+use Rattle.exif_scrub_heif.proofs.Twice.{left_is, same_answer}
 
 -- nothing becomes of the picture's bytes
 picture_blank : (judged : Bool) (role : Role) (span : Span) (bytes : List ℕ) → part_kind judged role ≡ kind.Picture
@@ -40,10 +40,19 @@ emptied_kept old spans judged l =
           (λ span b. λ k. b ∙ picture_blank judged span.role span (bytes_of span old) k) spans e.each;
     }
 
+-- the file is as long as before
+pub emptied_long : (file : List ℕ) → length (emptied file (heif_layout file)).1 ≡ length file
+emptied_long file = by (heif_layout file) refl
+  where
+    by : (layout : Option (List Span × Bool)) → heif_layout file ≡ layout → length (emptied file layout).1 ≡ length file
+    by None l = refl
+    by (Some (spans, judged)) l = (emptied_kept file spans judged l).long
+
 pub kept : (old new : List ℕ) (left : Option (List Part)) → scrubbed old ≡ Ok (new, left) → Kept old new (heif_layout old)
 kept old new left e = by (heif_layout old) refl e
   where
     by : (layout : Option (List Span × Bool)) → heif_layout old ≡ layout → if_emptied (emptied old layout) ≡ Ok (new, left) → Kept old new layout
     by None l h = let same = (same_answer old new None left h).0 in record { long = ap length (sym same); picture = sym same }
     by (Some (spans, judged)) l h =
-        subst (λ (f : List ℕ). Kept old f (Some (spans, judged))) (settled_is (spans_emptied judged spans old) new left h).0 (emptied_kept old spans judged l)
+        let made = spans_emptied judged spans old in
+        subst (λ (f : List ℕ). Kept old f (Some (spans, judged))) (left_is made new left (settled made) h).1 (emptied_kept old spans judged l)

@@ -8,7 +8,7 @@ use Rattle.exif_inventory_heif.specs.Inventories.{heif_layout}
 use Rattle.exif_inventory_heif.specs.Walks.{AreSpans}
 use Rattle.exif_inventory_heif.specs.declared.span.Span.{Span}
 use Rattle.exif_scrub_heif.specs.Blanks.{blanked, span_blank}
-use Rattle.exif_scrub_heif.specs.Scrubbing.{bytes_of, emptied, if_emptied, is_settled, left_parts, scrubbed, settled, settled_by, span_emptied, spans_emptied, with_bytes}
+use Rattle.exif_scrub_heif.specs.Scrubbing.{bytes_of, emptied, if_emptied, is_settled, left_parts, scrubbed, settled, settled_by, span_emptied, spans_emptied, with_bytes, with_left}
 use Rattle.exif_scrub_heif.specs.declared.fault.Fault.{Fault}
 use Rattle.exif_scrub_heif.specs.declared.fault.Fault.TheVariants.{Unstable}
 use Rattle.exif_scrub_heif.proofs.LayoutOrder.{heif_ordered}
@@ -59,37 +59,42 @@ spans_stay judged from (s ∷ spans) end file o e =
 
 -- ---- a file that is settled
 
-pub record Settled (file : List ℕ) (left : Option (List Part)) : Type 0 where
+pub record Settled (file : List ℕ) (left : List Part) : Type 0 where
   pub spans : List Span
   pub judged : Bool
   pub layout : heif_layout file ≡ Some (spans, judged)
   pub each : list_all (is_settled judged file) spans ≡ true
-  pub parts : left ≡ Some (left_parts judged spans)
+  pub parts : left ≡ left_parts judged spans
 
-settled_if : (t : Bool) (file new : List ℕ) (left : Option (List Part)) (spans : List Span) (judged : Bool) → heif_layout file ≡ Some (spans, judged)
+settled_if : (t : Bool) (file : List ℕ) (left : List Part) (spans : List Span) (judged : Bool) → heif_layout file ≡ Some (spans, judged)
     → list_all (is_settled judged file) spans ≡ t
-    → ◌≡◌ {A = Answer} (if t then Ok (file, Some (left_parts judged spans)) else Err Unstable) (Ok (new, left))
-    → (file ≡ new) × Settled file left
-settled_if true file new left spans judged l h e =
-    let same = same_answer file new (Some (left_parts judged spans)) left e in
-    (same.0, record { spans = spans; judged = judged; layout = l; each = h; parts = sym same.1 })
-settled_if false file new left spans judged l h e = absurd (cc)
+    → ◌≡◌ {A = Result (List Part) Fault} (if t then Ok (left_parts judged spans) else Err Unstable) (Ok left)
+    → Settled file left
+settled_if true file left spans judged l h e = record { spans = spans; judged = judged; layout = l; each = h; parts = cc }
+settled_if false file left spans judged l h e = absurd (cc)
 
-pub settled_is : (file new : List ℕ) (left : Option (List Part)) → settled file ≡ Ok (new, left) → (file ≡ new) × Settled file left
-settled_is file new left e = by (heif_layout file) refl e
+pub settled_is : (file : List ℕ) (left : List Part) → settled file ≡ Ok left → Settled file left
+settled_is file left e = by (heif_layout file) refl e
   where
-    by : (layout : Option (List Span × Bool)) → heif_layout file ≡ layout → settled_by file layout ≡ Ok (new, left) → (file ≡ new) × Settled file left
+    by : (layout : Option (List Span × Bool)) → heif_layout file ≡ layout → settled_by file layout ≡ Ok left → Settled file left
     by None l h = absurd (cc)
-    by (Some (spans, judged)) l h = settled_if (list_all (is_settled judged file) spans) file new left spans judged l refl h
+    by (Some (spans, judged)) l h = settled_if (list_all (is_settled judged file) spans) file left spans judged l refl h
 
 -- a settled file is scrubbed already
-settled_stays : (file new : List ℕ) (left : Option (List Part)) → settled file ≡ Ok (new, left) → scrubbed file ≡ Ok (new, left)
-settled_stays file new left e =
-    let s = (settled_is file new left e).1 in
+settled_stays : (file : List ℕ) (left : List Part) → settled file ≡ Ok left → scrubbed file ≡ Ok (file, Some left)
+settled_stays file left e =
+    let s = settled_is file left e in
     ap (λ (l : Option (List Span × Bool)). if_emptied (emptied file l)) s.layout
-    ∙ ap settled (spans_stay s.judged 0 s.spans (length file) file (heif_ordered file s.spans s.judged s.layout) s.each) ∙ e
+    ∙ ap (λ (f : List ℕ). with_left f (settled f)) (spans_stay s.judged 0 s.spans (length file) file (heif_ordered file s.spans s.judged s.layout) s.each)
+    ∙ ap (with_left file) e
 
 -- ---- a scrubbed file
+
+-- the file and the parts of an answer are those of a settled file
+pub left_is : (file new : List ℕ) (left : Option (List Part)) (r : Result (List Part) Fault) → with_left file r ≡ Ok (new, left)
+    → (parts : List Part) × (file ≡ new) × (left ≡ Some parts) × (r ≡ Ok parts)
+left_is file new left (Err fault) e = absurd (cc)
+left_is file new left (Ok parts) e = let same = same_answer file new (Some parts) left e in (parts, same.0, sym same.1, refl)
 
 pub twice : (file new : List ℕ) (left : Option (List Part)) → scrubbed file ≡ Ok (new, left) → scrubbed new ≡ Ok (new, left)
 twice file new left e = by (heif_layout file) e
@@ -98,14 +103,18 @@ twice file new left e = by (heif_layout file) e
     by None h = subst (λ (f : List ℕ). scrubbed f ≡ Ok (new, left)) (same_answer file new None left h).0 e
     by (Some (spans, judged)) h =
         let made = spans_emptied judged spans file in
-        subst (λ (f : List ℕ). scrubbed f ≡ Ok (new, left)) (settled_is made new left h).0 (settled_stays made new left h)
+        let l = left_is made new left (settled made) h in
+        subst (λ (f : List ℕ). scrubbed f ≡ Ok (f, left)) l.1
+        (settled_stays made l.0 l.3 ∙ ap (λ (parts : Option (List Part)). let a : Answer = Ok (made, parts) in a) (sym l.2))
 
 -- a HEIF file that was scrubbed is settled
-pub scrubbed_settled : (file new : List ℕ) (left : List Part) → scrubbed file ≡ Ok (new, Some left) → Settled new (Some left)
+pub scrubbed_settled : (file new : List ℕ) (left : List Part) → scrubbed file ≡ Ok (new, Some left) → settled new ≡ Ok left
 scrubbed_settled file new left e = by (heif_layout file) e
   where
-    by : (layout : Option (List Span × Bool)) → if_emptied (emptied file layout) ≡ Ok (new, Some left) → Settled new (Some left)
+    by : (layout : Option (List Span × Bool)) → if_emptied (emptied file layout) ≡ Ok (new, Some left) → settled new ≡ Ok left
     by None h = let none = (same_answer file new None (Some left) h).1 in absurd (cc)
     by (Some (spans, judged)) h =
-        let p = settled_is (spans_emptied judged spans file) new (Some left) h in
-        subst (λ (f : List ℕ). Settled f (Some left)) p.0 p.1
+        let made = spans_emptied judged spans file in
+        let l = left_is made new (Some left) (settled made) h in
+        let same : left ≡ l.0 = let p = l.2 in cc in
+        sym (ap settled l.1) ∙ l.3 ∙ ap (λ (parts : List Part). let r : Result (List Part) Fault = Ok parts in r) (sym same)

@@ -63,26 +63,35 @@ is_settled judged file span = is_blank (span_blank judged span) (bytes_of span f
 abbrev pub left_parts : Bool → List Span → List Part
 left_parts judged spans = flat_map (left_of judged) spans
 
--- a file with this layout, and the parts that stay, if scrubbing it would change nothing
-abbrev pub settled_by : List ℕ → Option (List Span × Bool)
-    → Result (List ℕ × Option (List Part)) Fault
+-- the parts that stay of a file with this layout, if scrubbing it would change nothing
+abbrev pub settled_by : List ℕ → Option (List Span × Bool) → Result (List Part) Fault
 settled_by file None = Err Unstable
 settled_by file (Some (spans, judged)) =
-    if list_all (is_settled judged file) spans
-    then Ok (file, Some (left_parts judged spans)) else Err Unstable
+    if list_all (is_settled judged file) spans then Ok (left_parts judged spans) else Err Unstable
 
 -- so by its own layout
-abbrev pub settled : List ℕ → Result (List ℕ × Option (List Part)) Fault
+abbrev pub settled : List ℕ → Result (List Part) Fault
 settled file = settled_by file (heif_layout file)
 
--- a file that was emptied, or is of another format, is settled
+-- a file with the parts that stay
+abbrev pub with_left : List ℕ → Result (List Part) Fault
+    → Result (List ℕ × Option (List Part)) Fault
+with_left file (Ok left) = Ok (file, Some left)
+with_left file (Err fault) = Err fault
+
+-- a file that was emptied, with the parts that stay; a file of another format as it is
 abbrev pub if_emptied : Bool × List ℕ → Result (List ℕ × Option (List Part)) Fault
 if_emptied (false, file) = Ok (file, None)
-if_emptied (true, new) = settled new
+if_emptied (true, new) = with_left new (settled new)
 
 -- a file without its metadata, and the parts that stay and may hold some, if it is a HEIF file
 abbrev pub scrubbed : List ℕ → Result (List ℕ × Option (List Part)) Fault
 scrubbed file = if_emptied (emptied file (heif_layout file))
+
+-- the parts that a call answered
+abbrev pub parts_made : Result (Vec Part Global) Fault → Result (List Part) Fault
+parts_made (Ok left) = Ok left.items
+parts_made (Err fault) = Err fault
 
 -- the file that a call left, with the parts that it answered
 abbrev pub answered : List ℕ → Result (Option (Vec Part Global)) Fault

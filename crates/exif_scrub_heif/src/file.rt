@@ -7,7 +7,7 @@ ghost use Rattle.exif_scrub_heif.specs.Scrubbing.{answered, emptied, scrubbed, s
 
 use crate::blank::{overwrite, span_blank};
 use crate::fault::Fault;
-use crate::settled::settled;
+use crate::settled::parts_left;
 use exif_inventory::Part;
 use exif_inventory_heif::{Layout, Span, layout};
 use std::alloc::{AllocError, Global};
@@ -22,8 +22,10 @@ fn empty_span(file: &mut [u8], judged: bool, span: Span)
     overwrite(how, &mut file[span.from..span.end]);
 }
 
-// Takes all metadata out of a HEIF file, and answers whether it is one; another one stays.
-fn empty(alloc: Global, file: &mut [u8]) -> Result<bool, AllocError>
+/// Takes all metadata out of a HEIF or AVIF file, in place, and answers whether it is one: the
+/// first half of [`scrub`]. A file of another format stays as it is. Out of memory leaves each part
+/// as it was, or scrubbed.
+pub fn empty(alloc: Global, file: &mut [u8]) -> Result<bool, AllocError>
     ensures new { IfOk result
         (λ is_heif. (is_heif, file.new) ≡ emptied file.old (heif_layout file.old)) }
     ensures each { IfOk result (λ _. AllBecome file.old file.new (heif_layout file.old)) }
@@ -57,8 +59,11 @@ pub fn scrub(alloc: Global, file: &mut [u8]) -> Result<Result<Option<Vec<Part>>,
     ensures answer { IfOk result (λ made. answered file.new made ≡ scrubbed file.old) }
     ensures each { IfOk result (λ _. AllBecome file.old file.new (heif_layout file.old)) }
 {
-    if empty(alloc, file)? {
-        return settled(alloc, file);
+    if !empty(alloc, file)? {
+        return Ok(Ok(None));
     }
-    Ok(Ok(None))
+    match parts_left(alloc, file)? {
+        Ok(left) => Ok(Ok(Some(left))),
+        Err(fault) => Ok(Err(fault)),
+    }
 }

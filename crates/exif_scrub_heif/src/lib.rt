@@ -11,4 +11,5 @@ pub mod laws;
 mod settled;
 
 pub use fault::Fault;
-pub use file::scrub;
+pub use file::{empty, scrub};
+pub use settled::parts_left;

@@ -3,7 +3,7 @@
 ghost use Rattle.std.specs.List.{list_all};
 ghost use Rattle.std.specs.Prelude.{◌≡◌, ◌≤◌, ◌++◌, length, All, IfOk, OnOk};
 ghost use Rattle.exif_inventory_heif.specs.Walks.{IsInside};
-ghost use Rattle.exif_scrub_heif.specs.Scrubbing.{answered, is_other, is_settled, left_of, left_parts, settled, stays};
+ghost use Rattle.exif_scrub_heif.specs.Scrubbing.{is_other, is_settled, left_of, left_parts, parts_made, settled, stays};
 
 use crate::blank::{Blank, is_blank, span_blank};
 use crate::fault::Fault;
@@ -70,9 +70,10 @@ fn are_settled(judged: bool, file: &[u8], spans: &[Span]) -> bool
     true
 }
 
-/// The parts of a file that stay and may hold metadata, if scrubbing it would change nothing.
-pub fn settled(alloc: Global, file: &[u8]) -> Result<Result<Option<Vec<Part>>, Fault>, AllocError>
-    ensures { IfOk result (λ made. answered file.now made ≡ settled file.now) }
+/// The parts of a file without its metadata that stay though they may hold some, in their order.
+/// A file that [`scrub`](crate::scrub) would change is refused, and one that is no HEIF file.
+pub fn parts_left(alloc: Global, file: &[u8]) -> Result<Result<Vec<Part>, Fault>, AllocError>
+    ensures { IfOk result (λ made. parts_made made ≡ settled file.now) }
 {
     let Some(found) = layout(alloc, file)? else {
         return Ok(Err(Fault::Unstable));
@@ -81,5 +82,5 @@ pub fn settled(alloc: Global, file: &[u8]) -> Result<Result<Option<Vec<Part>>, F
     if !are_settled(judged, file, &spans) {
         return Ok(Err(Fault::Unstable));
     }
-    Ok(Ok(Some(left_parts(alloc, judged, &spans)?)))
+    Ok(Ok(left_parts(alloc, judged, &spans)?))
 }
