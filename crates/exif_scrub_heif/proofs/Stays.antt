@@ -10,7 +10,7 @@ use Rattle.exif_inventory_heif.specs.declared.role.Role.TheVariants.{Known}
 use Rattle.exif_inventory_heif.specs.declared.span.Span.{Span}
 use Rattle.exif_scrub_heif.specs.Blanks.{blanked, role_blank}
 use Rattle.exif_scrub_heif.specs.Promises.{Becomes, KeepsPicture, PictureStays}
-use Rattle.exif_scrub_heif.specs.Scrubbing.{bytes_of, emptied, if_emptied, scrubbed, settled, spans_emptied}
+use Rattle.exif_scrub_heif.specs.Scrubbing.{bytes_of, emptied, emptied_by, if_emptied, scrubbed, settled, spans_emptied}
 use Rattle.exif_scrub_heif.proofs.LayoutOrder.{heif_ordered}
 use Rattle.exif_scrub_heif.proofs.SpanSteps.{each_becomes}
 use Rattle.exif_scrub_heif.proofs.Twice.{left_is, same_answer}
@@ -41,17 +41,17 @@ emptied_kept old spans judged l =
     }
 
 -- the file is as long as before
-pub emptied_long : (file : List ℕ) → length (emptied file (heif_layout file)).1 ≡ length file
+pub emptied_long : (file : List ℕ) → length (emptied file).1 ≡ length file
 emptied_long file = by (heif_layout file) refl
   where
-    by : (layout : Option (List Span × Bool)) → heif_layout file ≡ layout → length (emptied file layout).1 ≡ length file
+    by : (layout : Option (List Span × Bool)) → heif_layout file ≡ layout → length (emptied_by file layout).1 ≡ length file
     by None l = refl
     by (Some (spans, judged)) l = (emptied_kept file spans judged l).long
 
 pub kept : (old new : List ℕ) (left : Option (List Part)) → scrubbed old ≡ Ok (new, left) → Kept old new (heif_layout old)
 kept old new left e = by (heif_layout old) refl e
   where
-    by : (layout : Option (List Span × Bool)) → heif_layout old ≡ layout → if_emptied (emptied old layout) ≡ Ok (new, left) → Kept old new layout
+    by : (layout : Option (List Span × Bool)) → heif_layout old ≡ layout → if_emptied (emptied_by old layout) ≡ Ok (new, left) → Kept old new layout
     by None l h = let same = (same_answer old new None left h).0 in record { long = ap length (sym same); picture = sym same }
     by (Some (spans, judged)) l h =
         let made = spans_emptied judged spans old in

@@ -8,7 +8,7 @@ use Rattle.exif_inventory_heif.specs.Inventories.{heif_layout}
 use Rattle.exif_inventory_heif.specs.Walks.{AreSpans}
 use Rattle.exif_inventory_heif.specs.declared.span.Span.{Span}
 use Rattle.exif_scrub_heif.specs.Blanks.{blanked, span_blank}
-use Rattle.exif_scrub_heif.specs.Scrubbing.{bytes_of, emptied, if_emptied, is_settled, left_parts, scrubbed, settled, settled_by, span_emptied, spans_emptied, with_bytes, with_left}
+use Rattle.exif_scrub_heif.specs.Scrubbing.{bytes_of, emptied_by, if_emptied, is_settled, left_parts, scrubbed, settled, settled_by, span_emptied, spans_emptied, with_bytes, with_left}
 use Rattle.exif_scrub_heif.specs.declared.fault.Fault.{Fault}
 use Rattle.exif_scrub_heif.specs.declared.fault.Fault.TheVariants.{Unstable}
 use Rattle.exif_scrub_heif.proofs.LayoutOrder.{heif_ordered}
@@ -84,7 +84,7 @@ settled_is file left e = by (heif_layout file) refl e
 settled_stays : (file : List ℕ) (left : List Part) → settled file ≡ Ok left → scrubbed file ≡ Ok (file, Some left)
 settled_stays file left e =
     let s = settled_is file left e in
-    ap (λ (l : Option (List Span × Bool)). if_emptied (emptied file l)) s.layout
+    ap (λ (l : Option (List Span × Bool)). if_emptied (emptied_by file l)) s.layout
     ∙ ap (λ (f : List ℕ). with_left f (settled f)) (spans_stay s.judged 0 s.spans (length file) file (heif_ordered file s.spans s.judged s.layout) s.each)
     ∙ ap (with_left file) e
 
@@ -99,7 +99,7 @@ left_is file new left (Ok parts) e = let same = same_answer file new (Some parts
 pub twice : (file new : List ℕ) (left : Option (List Part)) → scrubbed file ≡ Ok (new, left) → scrubbed new ≡ Ok (new, left)
 twice file new left e = by (heif_layout file) e
   where
-    by : (layout : Option (List Span × Bool)) → if_emptied (emptied file layout) ≡ Ok (new, left) → scrubbed new ≡ Ok (new, left)
+    by : (layout : Option (List Span × Bool)) → if_emptied (emptied_by file layout) ≡ Ok (new, left) → scrubbed new ≡ Ok (new, left)
     by None h = subst (λ (f : List ℕ). scrubbed f ≡ Ok (new, left)) (same_answer file new None left h).0 e
     by (Some (spans, judged)) h =
         let made = spans_emptied judged spans file in
@@ -111,7 +111,7 @@ twice file new left e = by (heif_layout file) e
 pub scrubbed_settled : (file new : List ℕ) (left : List Part) → scrubbed file ≡ Ok (new, Some left) → settled new ≡ Ok left
 scrubbed_settled file new left e = by (heif_layout file) e
   where
-    by : (layout : Option (List Span × Bool)) → if_emptied (emptied file layout) ≡ Ok (new, Some left) → settled new ≡ Ok left
+    by : (layout : Option (List Span × Bool)) → if_emptied (emptied_by file layout) ≡ Ok (new, Some left) → settled new ≡ Ok left
     by None h = let none = (same_answer file new None (Some left) h).1 in absurd (cc)
     by (Some (spans, judged)) h =
         let made = spans_emptied judged spans file in

@@ -51,9 +51,13 @@ spans_emptied judged (span ∷ spans) file =
     spans_emptied judged spans (span_emptied judged span file)
 
 -- whether a file has a layout, and the file without the metadata of its spans
-abbrev pub emptied : List ℕ → Option (List Span × Bool) → Bool × List ℕ
-emptied file None = (false, file)
-emptied file (Some (spans, judged)) = (true, spans_emptied judged spans file)
+abbrev pub emptied_by : List ℕ → Option (List Span × Bool) → Bool × List ℕ
+emptied_by file None = (false, file)
+emptied_by file (Some (spans, judged)) = (true, spans_emptied judged spans file)
+
+-- so by its own layout
+abbrev pub emptied : List ℕ → Bool × List ℕ
+emptied file = emptied_by file (heif_layout file)
 
 -- whether scrubbing would leave the bytes of a span as they are
 abbrev pub is_settled : Bool → List ℕ → Span → Bool
@@ -86,7 +90,7 @@ if_emptied (true, new) = with_left new (settled new)
 
 -- a file without its metadata, and the parts that stay and may hold some, if it is a HEIF file
 abbrev pub scrubbed : List ℕ → Result (List ℕ × Option (List Part)) Fault
-scrubbed file = if_emptied (emptied file (heif_layout file))
+scrubbed file = if_emptied (emptied file)
 
 -- the parts that a call answered
 abbrev pub parts_made : Result (Vec Part Global) Fault → Result (List Part) Fault

@@ -26,8 +26,7 @@ fn empty_span(file: &mut [u8], judged: bool, span: Span)
 /// first half of [`scrub`]. A file of another format stays as it is. Out of memory leaves each part
 /// as it was, or scrubbed.
 pub fn empty(alloc: Global, file: &mut [u8]) -> Result<bool, AllocError>
-    ensures new { IfOk result
-        (λ is_heif. (is_heif, file.new) ≡ emptied file.old (heif_layout file.old)) }
+    ensures new { IfOk result (λ is_heif. (is_heif, file.new) ≡ emptied file.old) }
     ensures each { IfOk result (λ _. AllBecome file.old file.new (heif_layout file.old)) }
 {
     let Some(found) = layout(alloc, file)? else {
