@@ -12,7 +12,7 @@ pub enum Fault {
 impl fmt::Display for Fault {
     fn fmt<W: fmt::Write>(&self, f: &mut fmt::Formatter<W>) -> fmt::Result {
         f.write_str(match self {
-            Fault::Unstable => "without its metadata the file would be read otherwise",
+            Fault::Unstable => "the file would be read otherwise without its metadata",
         })
     }
 }
