@@ -1,6 +1,7 @@
 mod DatesThemselves
 mod JoinedFiles
 mod KeptOrientation
+mod LeftKnown
 mod MovedFields
 mod MovedTexts
 mod NoField
@@ -19,4 +20,5 @@ mod SetTogether
 mod SetTwice
 mod ShiftedBack
 mod ShiftedFiles
+mod TiffSettled
 mod ValueItself
