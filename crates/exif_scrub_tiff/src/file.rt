@@ -1,6 +1,6 @@
 //! The whole file.
 
-ghost use Rattle.std.specs.Prelude.{◌≡◌, IfOk};
+ghost use Rattle.std.specs.Prelude.{◌≡◌, length, IfOk};
 ghost use Rattle.exif_scrub_tiff.specs.Keeping.{Puts};
 ghost use Rattle.exif_scrub_tiff.specs.Scrubbing.{file_kept, file_made, file_walked, is_settled, keeps_picture, kept_once, only_described, order_in, scrubbed};
 
@@ -58,7 +58,8 @@ fn kept_once(
     file: &[u8],
     keeps_orientation: bool,
 ) -> Result<Result<Vec<u8>, Fault>, AllocError>
-    ensures { IfOk result (λ made. file_made made ≡ kept_once keeps_orientation file.now) }
+    ensures made { IfOk result (λ made. file_made made ≡ kept_once keeps_orientation file.now) }
+    ensures long { IfOk result (λ made. IfOk made (λ new. length new.items ≡ length file.now)) }
 {
     let mut new = vec![in alloc; 0u8; file.len()]?;
     match keep_file(file, keeps_orientation, new.as_mut_slice()) {
@@ -114,7 +115,9 @@ pub fn scrub(
     file: &[u8],
     keeps_orientation: bool,
 ) -> Result<Result<Vec<u8>, Fault>, AllocError>
-    ensures { IfOk result (λ made. file_made made ≡ scrubbed keeps_orientation file.now) }
+    ensures answer { IfOk result
+        (λ made. file_made made ≡ scrubbed keeps_orientation file.now) }
+    ensures long { IfOk result (λ made. IfOk made (λ new. length new.items ≡ length file.now)) }
 {
     let new = match kept_once(alloc, file, keeps_orientation)? {
         Ok(new) => new,
