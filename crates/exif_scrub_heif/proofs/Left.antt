@@ -5,46 +5,47 @@ use Rattle.std.specs.List.{Contains, list_all}
 use Rattle.exif_inventory.specs.declared.kind.Kind.TheVariants as kind
 use Rattle.exif_inventory.specs.declared.part.Part.{Part}
 use Rattle.exif_inventory_heif.specs.Inventories.{heif_inventory, is_heif, judged_parts, layout_of}
-use Rattle.exif_inventory_heif.specs.Spans.{part_kind, part_of}
+use Rattle.exif_inventory_heif.specs.Spans.{data_within, part_kind, part_of}
 use Rattle.exif_inventory_heif.specs.declared.role.Role.{Role}
 use Rattle.exif_inventory_heif.specs.declared.role.Role.TheVariants.{Known, Movie}
 use Rattle.exif_inventory_heif.specs.declared.span.Span.{Span}
 use Rattle.exif_scrub_heif.specs.Blanks.{blanked, role_blank, span_blank, unknown_box}
-use Rattle.exif_scrub_heif.specs.Promises.{AllKnown, IsEmpty, IsKnown}
+use Rattle.exif_scrub_heif.specs.Promises.{AllKnown, IsBlank, IsKnown, empty_of}
 use Rattle.exif_scrub_heif.specs.Scrubbing.{bytes_of, is_other, is_settled, left_of, left_parts, scrubbed, settled, stays}
 use Rattle.exif_scrub_heif.specs.declared.blank.Blank.{Blank}
 use Rattle.exif_scrub_heif.specs.declared.blank.Blank.TheVariants.{Nothing, Packet, Zeros, Free}
 use Rattle.exif_scrub_heif.proofs.Twice.{both_true, scrubbed_settled, settled_bytes, settled_is}
 
 -- what is to be shown of a part, of whose bytes nothing else becomes
-abbrev Shown : Bool → Role → Blank → List ℕ → Type 0 → Type 0
-Shown judged role how bytes Answered =
+abbrev Shown : Bool → Role → Bool → Blank → List ℕ → Type 0 → Type 0
+Shown judged role is_item how bytes Answered =
     blanked how bytes ≡ bytes → ((stays how && is_other (part_kind judged role)) ≡ true → Answered)
-    → (part_kind judged role ≡ kind.Picture) ⊎ (IsEmpty (part_kind judged role) bytes ⊎ Answered)
+    → (part_kind judged role ≡ kind.Picture) ⊎ (IsBlank (empty_of (part_kind judged role) is_item) bytes ⊎ Answered)
 
-shown_xmp : (t judged : Bool) (bytes : List ℕ) (Answered : Type 0) → Shown judged (Known kind.Xmp) (if t then Packet else Free) bytes Answered
-shown_xmp true judged bytes Answered h c = inr (inl (inl h))
-shown_xmp false judged bytes Answered h c = inr (inl (inr h))
+shown_xmp : (t judged : Bool) (bytes : List ℕ) (Answered : Type 0) → Shown judged (Known kind.Xmp) t (if t then Packet else Free) bytes Answered
+shown_xmp true judged bytes Answered h c = inr (inl (refl, h))
+shown_xmp false judged bytes Answered h c = inr (inl (refl, h))
 
-shown_unknown : (t judged : Bool) (bytes : List ℕ) (Answered : Type 0) → Shown judged (Known kind.Unknown) (if t then Zeros else unknown_box judged) bytes Answered
-shown_unknown true judged bytes Answered h c = inr (inl (inl h))
-shown_unknown false true bytes Answered h c = inr (inl (inr h))
+shown_unknown : (t judged : Bool) (bytes : List ℕ) (Answered : Type 0) → Shown judged (Known kind.Unknown) t (if t then Zeros else unknown_box judged) bytes Answered
+shown_unknown true judged bytes Answered h c = inr (inl (refl, h))
+shown_unknown false true bytes Answered h c = inr (inl (refl, h))
 shown_unknown false false bytes Answered h c = inr (inr (c refl))
 
-shown_mixed : (judged : Bool) (bytes : List ℕ) (role : Role) (Answered : Type 0) → part_kind judged role ≡ (if judged then kind.Picture else kind.Unknown)
-    → Shown judged role Nothing bytes Answered
-shown_mixed true bytes role Answered k h c = inl k
-shown_mixed false bytes role Answered k h c = inr (inr (c (ap is_other k)))
+shown_mixed : (judged is_item : Bool) (bytes : List ℕ) (role : Role) (Answered : Type 0) → part_kind judged role ≡ (if judged then kind.Picture else kind.Unknown)
+    → Shown judged role is_item Nothing bytes Answered
+shown_mixed true is_item bytes role Answered k h c = inl k
+shown_mixed false is_item bytes role Answered k h c = inr (inr (c (ap is_other k)))
 
-shown : (judged : Bool) (role : Role) (span : Span) (bytes : List ℕ) (Answered : Type 0) → Shown judged role (role_blank judged role span) bytes Answered
+shown : (judged : Bool) (role : Role) (span : Span) (bytes : List ℕ) (Answered : Type 0)
+    → Shown judged role (data_within role span == span.from) (role_blank judged role span) bytes Answered
 shown judged (Known kind.Picture) span bytes Answered h c = inl refl
-shown judged (Known kind.Exif) span bytes Answered h c = inr (inl h)
+shown judged (Known kind.Exif) span bytes Answered h c = inr (inl (refl, h))
 shown judged (Known kind.Xmp) span bytes Answered h c = shown_xmp (span.content == span.from) judged bytes Answered h c
 shown judged (Known kind.Unknown) span bytes Answered h c = shown_unknown (span.content == span.from) judged bytes Answered h c
-shown judged (Known kind.ContentCredentials) span bytes Answered h c = inr (inl h)
+shown judged (Known kind.ContentCredentials) span bytes Answered h c = inr (inl (refl, h))
 shown judged (Known k) span bytes Answered h c = inr (inr (c refl))
 shown judged Movie span bytes Answered h c = inr (inr (c refl))
-shown judged role span bytes Answered h c = shown_mixed judged bytes role Answered refl h c
+shown judged role span bytes Answered h c = shown_mixed judged (data_within role span == span.from) bytes role Answered refl h c
 
 -- ---- all parts
 
