@@ -45,7 +45,8 @@ enum mexaldor_status {
     MEXALDOR_OUT_OF_RANGE = 36,     /* the standard does not have this value for the tag */
     MEXALDOR_NO_THUMBNAIL = 38,     /* 37 is not used */
     MEXALDOR_LOCATION_FOUND = 39,   /* a part of the file holds a location */
-    MEXALDOR_LOCATION_POSSIBLE = 40 /* a part of the file may hold a location */
+    MEXALDOR_LOCATION_POSSIBLE = 40, /* a part of the file may hold a location */
+    MEXALDOR_UNSTABLE = 41          /* a HEIF file would be read otherwise without its metadata */
 };
 
 /* The status of a call, and the length of its complete output in bytes. */

@@ -55,6 +55,7 @@ class Status(enum.IntEnum):
     NO_THUMBNAIL = 38
     LOCATION_FOUND = 39
     LOCATION_POSSIBLE = 40
+    UNSTABLE = 41
 
 
 class Refused(Exception):

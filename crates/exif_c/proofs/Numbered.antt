@@ -8,7 +8,7 @@ use Rattle.exif_edit_base.specs.Causes as cause
 use Rattle.exif_edit_base.specs.declared.error.Error.{Error}
 use Rattle.exif_edit_base.specs.declared.error.Error.TheVariants as edit
 use Rattle.exif_change.specs.Changed.{Change}
-use Rattle.exif_change.specs.Refusals.{Why, Fails, editing, no_date, no_thumbnail, not_of_its_type, out_of_range, reading, second_exif, tiff_fault, unknown_format}
+use Rattle.exif_change.specs.Refusals.{Why, Fails, editing, heif_fault, no_date, no_thumbnail, not_of_its_type, out_of_range, reading, second_exif, tiff_fault, unknown_format}
 use Rattle.exif_change.specs.Refusals as why
 use Rattle.exif_change.specs.declared.refusal.Refusal.{Refusal}
 use Rattle.exif_change.specs.declared.refusal.Refusal.TheVariants as change
@@ -60,6 +60,7 @@ numbered (change.Editing (edit.Container failure.OutOfMemory)) answer h = memory
 numbered (change.Editing edit.OutOfMemory) answer h = inr refl
 numbered change.UnknownFormat answer h = inl (unknown_format, h, refl)
 numbered (change.Tiff fault) answer h = inl (tiff_fault fault, h, refl)
+numbered (change.Heif fault) answer h = inl (heif_fault fault, h, refl)
 numbered change.SecondExif answer h = inl (second_exif, h, refl)
 numbered (change.TooLong tag) answer h = inl (why.too_long tag, h, refl)
 numbered change.FieldNotFound answer h = inl (why.no_field, h, refl)

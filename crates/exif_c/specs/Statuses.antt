@@ -8,7 +8,7 @@ use Rattle.exif_edit_base.specs.Causes.{Cause, no_field, no_directory, full_dire
 use Rattle.exif_edit_base.specs.declared.error.Error.{Error}
 use Rattle.exif_edit_base.specs.declared.error.Error.TheVariants as edit
 use Rattle.exif_change.specs.Changed.{Undone}
-use Rattle.exif_change.specs.Refusals.{Why, editing, no_date, no_thumbnail, not_of_its_type, out_of_range, reading, second_exif, tiff_fault, unknown_format}
+use Rattle.exif_change.specs.Refusals.{Why, editing, heif_fault, no_date, no_thumbnail, not_of_its_type, out_of_range, reading, second_exif, tiff_fault, unknown_format}
 use Rattle.exif_change.specs.Refusals as why
 use Rattle.exif_change.specs.declared.refusal.Refusal.{Refusal}
 use Rattle.exif_change.specs.declared.refusal.Refusal.TheVariants as change
@@ -45,6 +45,7 @@ number_of status.OutOfRange = 36
 number_of status.NoThumbnail = 38
 number_of status.LocationFound = 39
 number_of status.LocationPossible = 40
+number_of status.Unstable = 41
 
 -- its text
 abbrev pub text_of : Status → List ℕ
@@ -74,6 +75,7 @@ text_of status.OutOfRange = codes "The tag cannot have this value"
 text_of status.NoThumbnail = codes "No thumbnail"
 text_of status.LocationFound = codes "The file holds a location"
 text_of status.LocationPossible = codes "The file may hold a location"
+text_of status.Unstable = codes "The file would be read otherwise without its metadata"
 
 -- all of them
 abbrev pub all : List Status
@@ -84,7 +86,8 @@ all =
     status.SharedBytes ∷ status.PictureData ∷ status.InvalidHeader ∷
     status.NoDirectory ∷ status.FullDirectory ∷
     status.NoAssignment ∷ status.NotOfItsType ∷ status.SecondExif ∷ status.NoDate ∷
-    status.OutOfRange ∷ status.NoThumbnail ∷ status.LocationFound ∷ status.LocationPossible ∷ []
+    status.OutOfRange ∷ status.NoThumbnail ∷ status.LocationFound ∷ status.LocationPossible ∷
+    status.Unstable ∷ []
 
 -- the one of a number
 abbrev pub named : ℕ → Option Status
@@ -159,6 +162,7 @@ refusal_status (change.Editing cause) = edit_status cause
 refusal_status change.UnknownFormat = status.InvalidFormat
 refusal_status change.FieldNotFound = status.FieldNotFound
 refusal_status (change.Tiff fault) = tiff_status fault
+refusal_status (change.Heif fault) = status.Unstable
 refusal_status (change.NotOfItsType tag) = status.NotOfItsType
 refusal_status (change.OutOfRange tag) = status.OutOfRange
 refusal_status change.SecondExif = status.SecondExif
@@ -173,6 +177,7 @@ why_status (reading refusal) = kind_status refusal
 why_status (editing cause) = cause_status cause
 why_status unknown_format = status.InvalidFormat
 why_status (tiff_fault fault) = tiff_status fault
+why_status (heif_fault fault) = status.Unstable
 why_status second_exif = status.SecondExif
 why_status (why.too_long tag) = status.TooBig
 why_status why.no_field = status.FieldNotFound

@@ -65,6 +65,8 @@ pub enum Status {
     LocationFound,
     /// A part of the file may hold a location.
     LocationPossible,
+    /// A HEIF file would be read otherwise without its metadata.
+    Unstable,
 }
 
 impl Status {
@@ -99,6 +101,7 @@ impl Status {
             Status::NoThumbnail => 38,
             Status::LocationFound => 39,
             Status::LocationPossible => 40,
+            Status::Unstable => 41,
         }
     }
 
@@ -134,6 +137,7 @@ impl Status {
             Status::NoThumbnail => "No thumbnail",
             Status::LocationFound => "The file holds a location",
             Status::LocationPossible => "The file may hold a location",
+            Status::Unstable => "The file would be read otherwise without its metadata",
         }
     }
 
@@ -168,6 +172,7 @@ impl Status {
             Status::NoThumbnail,
             Status::LocationFound,
             Status::LocationPossible,
+            Status::Unstable,
         ]
     }
 
@@ -238,6 +243,7 @@ pub fn refusal_status(refusal: &Refusal) -> Status
         Refusal::UnknownFormat => Status::InvalidFormat,
         Refusal::FieldNotFound => Status::FieldNotFound,
         Refusal::Tiff(fault) => tiff_status(*fault),
+        Refusal::Heif(_) => Status::Unstable,
         Refusal::NotOfItsType(_) => Status::NotOfItsType,
         Refusal::OutOfRange(_) => Status::OutOfRange,
         Refusal::SecondExif => Status::SecondExif,

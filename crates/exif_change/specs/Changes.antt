@@ -18,12 +18,13 @@ use Rattle.exif_privacy.specs.Erasing as privacy
 use Rattle.exif_privacy.specs.declared.stays.Stays.{Stays}
 use Rattle.exif_privacy.specs.declared.unread.Unread.{Unread}
 use Rattle.exif_scrub_heif.specs.Scrubbing as heif
+use Rattle.exif_scrub_heif.specs.declared.fault.Fault as heif_faults
 use Rattle.exif_scrub_tiff.specs.Scrubbing as tiff
 use Rattle.exif_scrub_tiff.specs.declared.fault.Fault.{Fault}
 use Rattle.exif_change.specs.Changed.{Change, color_kept, stays, whole}
 use Rattle.exif_change.specs.Found.{with_found, with_parts}
 use Rattle.exif_change.specs.Reading.{Contents, entry_limit, file_contents}
-use Rattle.exif_change.specs.Refusals.{Why, as_read, editing, tiff_fault, unknown_format, ◌>>=◌}
+use Rattle.exif_change.specs.Refusals.{Why, as_read, editing, heif_fault, tiff_fault, unknown_format, ◌>>=◌}
 use Rattle.exif_change.specs.Rewriting.{rewritten}
 use Rattle.exif_change.specs.declared.scrubbing.Removed.{Removed}
 use Rattle.exif_change.specs.declared.scrubbing.Removed.TheVariants as removed
@@ -59,11 +60,17 @@ without_metadata format removed file =
     kept removed file
     >>= λ put. with_found (is_some put) (as_read (rewritten format Metadata put file))
 
--- a HEIF file whose metadata were taken out, with what its Exif data say erased too, and the parts
--- that stay
-abbrev pub heif_emptied : List ℕ × Option (List Part) → Result Change Why
-heif_emptied (file, None) = erased EraseAll file
-heif_emptied (file, Some parts) = with_parts parts (erased EraseAll file)
+-- a change of a HEIF file with the parts that stay, or why it is refused
+abbrev pub heif_left : Change → Result (List Part) heif_faults.Fault → Result Change Why
+heif_left change (Ok parts) = with_parts parts (Ok change)
+heif_left change (Err fault) = Err (heif_fault fault)
+
+-- a HEIF file whose metadata were taken out, if it is one, with what its Exif data say erased too,
+-- and the parts that then stay
+abbrev pub heif_emptied : Bool × List ℕ → Result Change Why
+heif_emptied (false, file) = erased EraseAll file
+heif_emptied (true, file) =
+    erased EraseAll file >>= λ change. heif_left change (heif.settled change.file)
 
 -- whether the orientation stays
 abbrev pub keeps_orientation : Removed → Bool
@@ -80,7 +87,7 @@ tiff_emptied (Err fault) = Err (tiff_fault fault)
 abbrev pub emptied : Format → Removed → List ℕ → Result Change Why
 emptied Jpeg removed file = without_metadata Jpeg removed file
 emptied WebP removed file = without_metadata WebP removed file
-emptied Heif removed file = heif_emptied (heif.scrubbed file)
+emptied Heif removed file = heif_emptied (heif.emptied file)
 emptied Tiff removed file = tiff_emptied (tiff.scrubbed (keeps_orientation removed) file)
 
 -- a file without the locations of its parts, and those that may still hold one; a file of which no

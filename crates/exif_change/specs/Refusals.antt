@@ -6,6 +6,7 @@ use Rattle.exif_types.specs.Refusals as types
 use Rattle.exif_types.specs.declared.tag.Tag.{Tag}
 use Rattle.exif_edit_base.specs.Causes.{Cause, cause_of}
 use Rattle.exif_edit_base.specs.declared.error.Error.TheVariants as edit
+use Rattle.exif_scrub_heif.specs.declared.fault.Fault as heif
 use Rattle.exif_scrub_tiff.specs.declared.fault.Fault.{Fault}
 use Rattle.exif_change.specs.declared.refusal.Refusal.{Refusal}
 use Rattle.exif_change.specs.declared.refusal.Refusal.TheVariants as refusal
@@ -16,6 +17,7 @@ pub data Why : Type 0 where
   editing : Cause → Why
   unknown_format : Why
   tiff_fault : Fault → Why
+  heif_fault : heif.Fault → Why
   second_exif : Why
   too_long : Tag → Why
   no_field : Why
@@ -30,6 +32,7 @@ why_of (refusal.Reading e) = option_map reading (refusal_of e)
 why_of (refusal.Editing e) = option_map editing (cause_of e)
 why_of refusal.UnknownFormat = Some unknown_format
 why_of (refusal.Tiff fault) = Some (tiff_fault fault)
+why_of (refusal.Heif fault) = Some (heif_fault fault)
 why_of refusal.SecondExif = Some second_exif
 why_of (refusal.TooLong tag) = Some (too_long tag)
 why_of refusal.FieldNotFound = Some no_field

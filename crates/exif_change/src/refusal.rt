@@ -4,6 +4,7 @@ ghost use Rattle.std.specs.Prelude.{◌≡◌};
 ghost use Rattle.exif_change.specs.declared.refusal.Refusal.TheVariants.{Editing, OutOfMemory, Reading};
 
 use exif::Tag;
+use exif_scrub_heif::Fault as HeifFault;
 use exif_scrub_tiff::Fault;
 use std::alloc::{AllocError, AllocFailed};
 use std::fmt;
@@ -19,6 +20,8 @@ pub enum Refusal {
     UnknownFormat,
     /// The metadata of a TIFF file can't be taken out: its picture can't be told apart.
     Tiff(Fault),
+    /// A HEIF file would be read otherwise without its metadata.
+    Heif(HeifFault),
     /// The file has more than one block of Exif data, and only one would be left.
     SecondExif,
     /// The file has no space for Exif data with the value of this tag.
@@ -76,6 +79,7 @@ impl fmt::Display for Refusal {
             Refusal::Editing(cause) => write!(f, "{cause}"),
             Refusal::UnknownFormat => write!(f, "Unknown image format"),
             Refusal::Tiff(fault) => write!(f, "{fault}"),
+            Refusal::Heif(fault) => write!(f, "{fault}"),
             Refusal::SecondExif => {
                 write!(
                     f,

@@ -4,8 +4,8 @@ ghost use Rattle.std.specs.Prelude.{◌≡◌, map, IfOk, Ok, Some};
 ghost use Rattle.std.specs.Option.{option_map};
 ghost use Rattle.exif_types.specs.Refusals.{Gives};
 ghost use Rattle.exif_change.specs.Changed.{change_of, stays, undone_of};
-ghost use Rattle.exif_change.specs.Changes.{emptied, erased, gps_erased, heif_emptied, if_parted, keeps_orientation, kept, orientation_in, scrubbed, scrubbed_as, scrubbed_with_color, tiff_emptied, unlocated, with_color, without_metadata};
-ghost use Rattle.exif_scrub_heif.specs.Scrubbing.{scrubbed as heif_scrubbed};
+ghost use Rattle.exif_change.specs.Changes.{emptied, erased, gps_erased, heif_emptied, heif_left, if_parted, keeps_orientation, kept, orientation_in, scrubbed, scrubbed_as, scrubbed_with_color, tiff_emptied, unlocated, with_color, without_metadata};
+ghost use Rattle.exif_scrub_heif.specs.Scrubbing.{emptied as heif_file_emptied, settled};
 ghost use Rattle.exif_scrub_tiff.specs.Scrubbing.{scrubbed as tiff_scrubbed};
 ghost use Rattle.exif_privacy.specs.Erasing.{erased as privacy_erased};
 ghost use Rattle.exif_change.specs.Reading.{file_contents};
@@ -35,7 +35,7 @@ pub enum Removed {
 }
 
 /// The file without its metadata. JPEG and WebP files are written again without them. In HEIF
-/// files they are overwritten where they are ([`exif_scrub_heif::scrub`]), and the fields of the
+/// files they are overwritten where they are ([`exif_scrub_heif::empty`]), and the fields of the
 /// Exif data are erased: the picture's own rotation stays. Of TIFF files the directories of the
 /// pictures stay ([`exif_scrub_tiff::scrub`]). Where locations are erased, no byte moves. The
 /// answer has each part of the new file that is none of the picture's and may hold metadata, or a
@@ -134,14 +134,22 @@ fn gps_erased(alloc: Global, mut file: Vec<u8>) -> Result<Vec<u8>, AllocError>
 
 // The HEIF file without its metadata.
 fn heif_emptied(alloc: Global, mut file: Vec<u8>) -> Result<Changed, Refusal>
-    ensures { Answers change_of result (heif_emptied (heif_scrubbed file.items)) }
+    ensures { Answers change_of result (heif_emptied (heif_file_emptied file.items)) }
 {
-    match exif_scrub_heif::scrub(alloc, file.as_mut_slice())? {
-        Some(parts) => {
-            let changed = erased(alloc, file, &Edit::EraseAll)?;
-            with_parts(alloc, changed, parts.as_slice())
-        }
-        None => erased(alloc, file, &Edit::EraseAll),
+    if exif_scrub_heif::empty(alloc, file.as_mut_slice())? {
+        return heif_left(alloc, erased(alloc, file, &Edit::EraseAll)?);
+    }
+    erased(alloc, file, &Edit::EraseAll)
+}
+
+// A change of a HEIF file with the parts that stay, unless scrubbing the file again changed it.
+fn heif_left(alloc: Global, changed: Changed) -> Result<Changed, Refusal>
+    ensures { Answers change_of result
+        (heif_left (change_of changed) (settled changed.file.items)) }
+{
+    match exif_scrub_heif::parts_left(alloc, changed.file.as_slice())? {
+        Ok(parts) => with_parts(alloc, changed, parts.as_slice()),
+        Err(fault) => Err(Refusal::Heif(fault)),
     }
 }
 

@@ -2,6 +2,7 @@ mod DatesThemselves
 mod FoundFiles
 mod JoinedFiles
 mod KeptOrientation
+mod LeftKnown
 mod MadeNumbers
 mod MadeTexts
 mod MadeValues
@@ -36,4 +37,5 @@ mod ShownSigned
 mod ShownSingle
 mod ShownTags
 mod ShownValues
+mod TiffSettled
 mod ValueItself

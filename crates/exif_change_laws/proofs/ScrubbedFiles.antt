@@ -35,10 +35,12 @@ use Rattle.exif_rewrite_jpeg.specs.Rewriting.{Rewriting, finished}
 use Rattle.exif_rewrite_webp.specs.RewrittenWebp.{webp_rewriting}
 use Rattle.exif_inventory.specs.declared.part.Part.{Part}
 use Rattle.exif_scrub_heif.specs.Scrubbing as heif
+use Rattle.exif_scrub_heif.specs.declared.fault.Fault as heif_faults
+use Rattle.exif_scrub_heif.proofs.Stays.{emptied_long}
 use Rattle.exif_change.specs.Changed.{Change, whole}
-use Rattle.exif_change.specs.Changes.{erased, heif_emptied, if_edited, scrubbed, scrubbed_as}
+use Rattle.exif_change.specs.Changes.{erased, heif_emptied, heif_left, if_edited, scrubbed, scrubbed_as}
 use Rattle.exif_change.specs.Reading.{Contents, data_contents, entry_limit, file_contents}
-use Rattle.exif_change.specs.Refusals.{Why, as_read, reading, unknown_format}
+use Rattle.exif_change.specs.Refusals.{Why, as_read, heif_fault, reading, unknown_format, ◌>>=◌}
 use Rattle.exif_change.specs.Rewriting.{if_whole, rewritten, rewritten_webp}
 use Rattle.exif_change.specs.declared.scrubbing.Removed.{Removed}
 use Rattle.exif_change.specs.declared.scrubbing.Removed.TheVariants as removed
@@ -236,14 +238,28 @@ erased_read file new laws short e = by_edit (edited_file entry_limit EraseAll fi
 
 -- ---- all formats
 
+-- a change of a HEIF file that left nothing is whole
+left_whole : (change : Change) (left : Result (List Part) heif_faults.Fault) (new : List ℕ) → heif_left change left ≡ Ok (whole new)
+    → ◌≡◌ {A = Result Change Why} (Ok change) (Ok (whole new))
+left_whole change (Ok parts) new e = with_parts_whole parts (Ok change) new e
+left_whole change (Err fault) new e = absurd (no_ok (heif_fault fault) (whole new) e)
+
+heif_whole : (made : Result Change Why) (new : List ℕ) → (made >>= λ change. heif_left change (heif.settled change.file)) ≡ Ok (whole new) → made ≡ Ok (whole new)
+heif_whole (Ok change) new e = left_whole change (heif.settled change.file) new e
+heif_whole (Err why) new e = absurd (no_ok why (whole new) e)
+
 -- a HEIF file without its metadata
-pub heif_read : (made : List ℕ × Option (List Part)) (new : List ℕ) → Limits → length made.0 < 2 ^ 64 → heif_emptied made ≡ Ok (whole new) → HasNoField (file_contents new)
-heif_read (file, None) new limits short e = erased_read file new limits short e
-heif_read (file, Some parts) new limits short e = erased_read file new limits short (with_parts_whole parts (erased EraseAll file) new e)
+pub heif_read : (made : Bool × List ℕ) (new : List ℕ) → Limits → length made.1 < 2 ^ 64 → heif_emptied made ≡ Ok (whole new) → HasNoField (file_contents new)
+heif_read (false, file) new limits short e = erased_read file new limits short e
+heif_read (true, file) new limits short e = erased_read file new limits short (heif_whole (erased EraseAll file) new e)
+
+-- it is as long as before
+pub heif_short : (file : List ℕ) → length file < 2 ^ 64 → length (heif.emptied file).1 < 2 ^ 64
+heif_short file short = let long : length (heif.emptied file).1 ≡ length file = emptied_long file in omega arith
 
 -- a file without its metadata
 pub scrubbed_read : (file new : List ℕ) → ((remove : Remove) (put : Option (List ℕ)) (bytes : List ℕ) → IsFound remove put bytes) → Limits
-    → (format_in file ≡ Some Tiff → ⊥) → length (heif.scrubbed file).0 < 2 ^ 64 → length new < 2 ^ 64 → scrubbed removed.Metadata file ≡ Ok (whole new) → HasNoField (file_contents new)
+    → (format_in file ≡ Some Tiff → ⊥) → length file < 2 ^ 64 → length new < 2 ^ 64 → scrubbed removed.Metadata file ≡ Ok (whole new) → HasNoField (file_contents new)
 scrubbed_read file new law limits other short small e = by_format (format_in file) refl e
   where
     by_format : (o : Option Format) → format_in file ≡ o
@@ -253,7 +269,7 @@ scrubbed_read file new law limits other short small e = by_format (format_in fil
     by_format (Some Tiff) f e = absurd (other f)
     by_format (Some Jpeg) f e = nothing_read new (rewritten_answers Jpeg None file new law refl f (with_found_whole false (as_read (rewritten Jpeg Metadata None file)) new e) small)
     by_format (Some WebP) f e = nothing_read new (rewritten_answers WebP None file new law refl f (with_found_whole false (as_read (rewritten WebP Metadata None file)) new e) small)
-    by_format (Some Heif) f e = heif_read (heif.scrubbed file) new limits short e
+    by_format (Some Heif) f e = heif_read (heif.emptied file) new limits (heif_short file short) e
 
 -- what is made of a file by its format
 pub scrubbed_by : (format : Format) (removed : Removed) (file : List ℕ) → format_in file ≡ Some format → scrubbed removed file ≡ scrubbed_as format removed file

@@ -1,5 +1,6 @@
 pub mod Assigned
 pub mod Examples
+pub mod Leaving
 pub mod Positions
 pub mod Scrubbed
 pub mod ScrubbedExamples

@@ -9,7 +9,6 @@ ghost use Rattle.exif_tiff.specs.Visits.{AreBytes};
 ghost use Rattle.exif_containers.specs.Container.{container_answer, format_in};
 ghost use Rattle.exif_containers.specs.declared.container.Format.{Format};
 ghost use Rattle.exif_containers.specs.declared.container.Format.TheVariants.{Heif, Tiff, WebP};
-ghost use Rattle.exif_scrub_heif.specs.Scrubbing.{scrubbed as heif_scrubbed};
 ghost use Rattle.exif_rewrite.specs.FileLaws.{AnswersPut};
 ghost use Rattle.exif_rewrite.specs.ScrubbedExif.{wanted};
 ghost use Rattle.exif_clock.specs.Shift.{moved_value, opposite};
@@ -25,6 +24,7 @@ ghost use Rattle.exif_change_laws.specs.Scrubbed.{HasNoField, is_rewritten, orie
 ghost use Rattle.exif_change_laws.specs.Shifted.{all_read};
 
 pub mod found;
+pub mod scrubs;
 pub mod sets;
 pub mod shown;
 
@@ -61,12 +61,12 @@ pub fn a_scrubbed_file_has_no_field()
     ensures all { (file new : List ℕ)
         → (format_in file ≡ Some Tiff → ⊥)
         → scrubbed Metadata file ≡ Ok (whole new)
-        → length (heif_scrubbed file).0 < 2 ^ 64 → length new < 2 ^ 64
+        → length file < 2 ^ 64 → length new < 2 ^ 64
         → HasNoField (file_contents new) }
     ensures heif { (file new : List ℕ)
         → format_in file ≡ Some Heif
         → scrubbed AllButOrientation file ≡ Ok (whole new)
-        → length (heif_scrubbed file).0 < 2 ^ 64
+        → length file < 2 ^ 64
         → HasNoField (file_contents new) }
 {
     file_answers_what_was_put();

@@ -1,3 +1,4 @@
+mod Alike
 mod FieldSteps
 pub mod Refused
 mod ResourceSteps

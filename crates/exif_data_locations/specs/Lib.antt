@@ -1,6 +1,7 @@
 pub mod Erasing
 pub mod Examples
 pub mod FieldRegions
+pub mod Promises
 pub mod Regions
 pub mod Resources
 pub mod Texts

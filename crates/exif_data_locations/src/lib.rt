@@ -8,6 +8,7 @@
 mod erase;
 mod field;
 mod gps;
+pub mod laws;
 mod region;
 mod resource;
 mod text;

@@ -17,7 +17,7 @@ padded_long text b bytes = padded_if (leb (length text) (length bytes)) text b b
 cleared_long : (front : ℕ) (bytes : List ℕ) → front ≤ length bytes → length (cleared_from front bytes) ≡ length bytes
 cleared_long front bytes h = grind (arith, common_steps)
 
-renamed_long : (bytes : List ℕ) → 8 ≤ length bytes → length (renamed bytes) ≡ length bytes
+pub renamed_long : (bytes : List ℕ) → 8 ≤ length bytes → length (renamed bytes) ≡ length bytes
 renamed_long bytes h = grind (arith, common_steps)
 
 freed_if : (t : Bool) (front : ℕ) (bytes : List ℕ) → 8 ≤ front → (t ≡ false → front ≤ length bytes)

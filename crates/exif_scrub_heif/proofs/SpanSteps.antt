@@ -2,12 +2,11 @@
 use Rattle.std.proofs.Common.{◌≡◌, ◌≤◌, ◌+◌, ◌-◌, ℕ, suc, Bool, List, [], ◌∷◌, ◌++◌, length, take, drop, All, Option, Some, refl, ap, sym, ◌∙◌, subst, arith, length-append, length-drop}
 use Rattle.std.proofs.lemmas.List.{drop-drop, drop-take, drop_all, drop_at, length-take-le, take-append-le, take-take, take_at}
 use Rattle.std.proofs.lemmas.List.Elements.{All-cons, All-nil}
-use Rattle.exif_inventory.specs.declared.part.Part.{Part}
 use Rattle.exif_inventory_heif.specs.Walks.{AreSpans}
 use Rattle.exif_inventory_heif.specs.declared.span.Span.{Span}
 use Rattle.exif_scrub_heif.specs.Blanks.{blanked, span_blank}
 use Rattle.exif_scrub_heif.specs.Promises.{AllBecome, Becomes}
-use Rattle.exif_scrub_heif.specs.Scrubbing.{bytes_of, left_of, spans_scrubbed, with_bytes}
+use Rattle.exif_scrub_heif.specs.Scrubbing.{bytes_of, spans_emptied, with_bytes}
 use Rattle.exif_scrub_heif.proofs.BlankSteps.{blanked_long}
 
 -- ---- other bytes in a span
@@ -97,15 +96,15 @@ moved judged from (s ∷ spans) end span new file out f o h a =
     (moved judged s.end spans end span new file out f o.3 (omega arith) (λ k d i. a (suc k) d (omega arith)))
 
 -- what becomes of a file whose spans are changed one after the other
-pub record Each (judged : Bool) (from : ℕ) (spans : List Span) (file : List ℕ) (left : List Part) : Type 0 where
-  pub front : take from (spans_scrubbed judged spans (file, left)).0 ≡ take from file
-  pub long : length (spans_scrubbed judged spans (file, left)).0 ≡ length file
-  pub each : All (Becomes judged file (spans_scrubbed judged spans (file, left)).0) spans
+pub record Each (judged : Bool) (from : ℕ) (spans : List Span) (file : List ℕ) : Type 0 where
+  pub front : take from (spans_emptied judged spans file) ≡ take from file
+  pub long : length (spans_emptied judged spans file) ≡ length file
+  pub each : All (Becomes judged file (spans_emptied judged spans file)) spans
 
-pub each_becomes : (judged : Bool) (from : ℕ) (spans : List Span) (end : ℕ) (file : List ℕ) (left : List Part) → AreSpans from spans end
-    → end ≤ length file → Each judged from spans file left
-each_becomes judged from [] end file left o h = record { front = refl; long = refl; each = All-nil (Becomes judged file file) }
-each_becomes judged from (s ∷ spans) end file left o h =
+pub each_becomes : (judged : Bool) (from : ℕ) (spans : List Span) (end : ℕ) (file : List ℕ) → AreSpans from spans end
+    → end ≤ length file → Each judged from spans file
+each_becomes judged from [] end file o h = record { front = refl; long = refl; each = All-nil (Becomes judged file file) }
+each_becomes judged from (s ∷ spans) end file o h =
     let at : s.from ≡ from = o.0 in
     let c : s.from ≤ s.content = o.1 in
     let e : s.content ≤ s.end = o.2 in
@@ -118,8 +117,8 @@ each_becomes judged from (s ∷ spans) end file left o h =
     } in
     let next = with_bytes s new file in
     let l : length next ≡ length file = with_long s new file f in
-    let rest = each_becomes judged s.end spans end next (left ++ left_of judged s) o.3 (omega arith) in
-    let out = (spans_scrubbed judged spans (next, left ++ left_of judged s)).0 in
+    let rest = each_becomes judged s.end spans end next o.3 (omega arith) in
+    let out = spans_emptied judged spans next in
     let ahead : take from out ≡ take from next =
     sym (take-take from s.end out (omega arith)) ∙ ap (take from) rest.front ∙ take-take from s.end next (omega arith) in
     let own : bytes_of s out ≡ new =
@@ -140,14 +139,14 @@ each_becomes judged from (s ∷ spans) end file left o h =
         omega arith
 
 -- all spans of a file, changed one after the other, become what is promised
-pub all_become : (file out : List ℕ) (left : List Part) (layout : Option (List Span × Bool)) (spans items : List Span) (judged : Bool) (n : ℕ)
+pub all_become : (file out : List ℕ) (layout : Option (List Span × Bool)) (spans items : List Span) (judged : Bool) (n : ℕ)
     → layout ≡ Some (spans, judged) → AreSpans 0 spans (length file) → items ≡ spans → length items ≤ n
-    → spans_scrubbed judged (drop n items) (out, left) ≡ spans_scrubbed judged items (file, []) → AllBecome file out layout
-all_become file out left layout spans items judged n l o i over made =
+    → spans_emptied judged (drop n items) out ≡ spans_emptied judged items file → AllBecome file out layout
+all_become file out layout spans items judged n l o i over made =
     let none : drop n items ≡ [] = drop_all n items over in
-    let out_is : out ≡ (spans_scrubbed judged spans (file, [])).0 =
-    ap (λ (m : List ℕ × List Part). m.0) (ap (λ (xs : List Span). spans_scrubbed judged xs (out, left)) (sym none) ∙ made)
-    ∙ ap (λ (xs : List Span). (spans_scrubbed judged xs (file, [])).0) i in
-    let e = each_becomes judged 0 spans (length file) file [] o (omega arith) in
+    let out_is : out ≡ spans_emptied judged spans file =
+    ap (λ (xs : List Span). spans_emptied judged xs out) (sym none) ∙ made
+    ∙ ap (λ (xs : List Span). spans_emptied judged xs file) i in
+    let e = each_becomes judged 0 spans (length file) file o (omega arith) in
     subst (λ (l : Option (List Span × Bool)). AllBecome file out l) (sym l)
     (o, subst (λ (r : List ℕ). All (Becomes judged file r) spans) (sym out_is) e.each)

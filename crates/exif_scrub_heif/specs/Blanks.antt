@@ -1,6 +1,6 @@
 -- What comes in place of metadata (TIFF 6.0, Section 2; ISO/IEC 23008-12, A.2.1; XMP Specification,
 -- Part 1, 7.3.3; ISO/IEC 14496-12, 8.1.2).
-use Rattle.std.specs.Prelude.{ℕ, ◌-◌, List, [], ◌∷◌, ◌++◌, length, take, drop, replicate, codes, nat_lt, Bool, nat_le, ◌==◌, if◌then◌else◌}
+use Rattle.std.specs.Prelude.{ℕ, ◌-◌, List, [], ◌∷◌, ◌++◌, length, take, drop, replicate, codes, nat_lt, Bool, true, nat_le, ◌==◌, ◌&&◌, if◌then◌else◌}
 use Rattle.std.specs.Str.{bytes_eq}
 use Rattle.exif_inventory.specs.declared.kind.Kind.TheVariants as kind
 use Rattle.exif_inventory_heif.specs.declared.role.Role.{Role}
@@ -52,6 +52,15 @@ blanked Fields bytes = padded no_fields 0 bytes
 blanked Packet bytes = padded no_properties 32 bytes
 blanked Zeros bytes = padded [] 0 bytes
 blanked Free bytes = as_free bytes
+
+-- whether bytes are what comes in place of them
+abbrev pub is_blank : Blank → List ℕ → Bool
+is_blank how bytes = bytes_eq (blanked how bytes) bytes
+
+-- whether all bytes are this one
+abbrev pub all_are : ℕ → List ℕ → Bool
+all_are b [] = true
+all_are b (x ∷ bytes) = (b == x) && all_are b bytes
 
 -- an item's data, or a box, which has a header
 abbrev pub item_or_box : Span → Blank → Blank → Blank

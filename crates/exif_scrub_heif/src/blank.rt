@@ -1,7 +1,8 @@
 //! What comes in place of metadata.
 
 ghost use Rattle.std.specs.Prelude.{◌≡◌, ◌<◌, ◌≤◌, ◌-◌, length, replicate};
-ghost use Rattle.exif_scrub_heif.specs.Blanks.{as_free, blanked, cleared_from, free_front, freed, item_or_box, no_fields, no_properties, padded, renamed, role_blank, span_blank, unknown_box};
+ghost use Rattle.std.specs.Str.{bytes_eq};
+ghost use Rattle.exif_scrub_heif.specs.Blanks.{all_are, as_free, blanked, cleared_from, free_front, freed, is_blank, item_or_box, no_fields, no_properties, padded, renamed, role_blank, span_blank, unknown_box};
 
 use exif_inventory::Kind;
 use exif_inventory_heif::{Role, Span};
@@ -20,6 +21,11 @@ pub enum Blank {
     /// A box: free space.
     Free,
 }
+
+// Exif data without fields: no bytes before the TIFF data, and these with an empty directory.
+const NO_FIELDS: &[u8] = b"\0\0\0\0MM\0*\0\0\0\x08\0\0\0\0\0\0";
+// An XMP packet without properties.
+const NO_PROPERTIES: &[u8] = b"<x:xmpmeta xmlns:x='adobe:ns:meta/'/>";
 
 // As many bytes: a text, if it fits, and then only this byte.
 fn pad(text: &[u8], b: u8, bytes: &mut [u8])
@@ -78,13 +84,58 @@ pub fn overwrite(how: Blank, bytes: &mut [u8])
 {
     match how {
         Blank::Nothing => {}
-        Blank::Fields => pad(b"\0\0\0\0MM\0*\0\0\0\x08\0\0\0\0\0\0", 0, bytes),
-        Blank::Packet => pad(b"<x:xmpmeta xmlns:x='adobe:ns:meta/'/>", b' ', bytes),
+        Blank::Fields => pad(NO_FIELDS, 0, bytes),
+        Blank::Packet => pad(NO_PROPERTIES, b' ', bytes),
         Blank::Zeros => pad(b"", 0, bytes),
         Blank::Free => {
             let front = free_front(bytes);
             make_free(front, bytes);
         }
+    }
+}
+
+// Whether all bytes are this one.
+fn all_are(b: u8, bytes: &[u8]) -> bool
+    ensures { result ≡ all_are b bytes.now }
+{
+    for x in bytes {
+        if b != *x {
+            return false;
+        }
+    }
+    true
+}
+
+// Whether bytes are a text, if it fits, and then only this byte.
+fn is_padded(text: &[u8], b: u8, bytes: &[u8]) -> bool
+    ensures { result ≡ bytes_eq (padded text.now b bytes.now) bytes.now }
+{
+    if text.len() <= bytes.len() {
+        text == &bytes[..text.len()] && all_are(b, &bytes[text.len()..])
+    } else {
+        all_are(b, bytes)
+    }
+}
+
+// Whether a box is free space, behind a header of so many bytes nothing but zeros.
+fn is_freed(front: usize, bytes: &[u8]) -> bool
+    requires { 8 ≤ front }
+    ensures { result ≡ bytes_eq (freed front bytes.now) bytes.now }
+{
+    bytes.len() < front || (bytes[4..8] == b"free"[..] && all_are(0, &bytes[front..]))
+}
+
+/// Whether bytes are what [`overwrite`] puts in their place.
+#[tactic(auto, unfolding(crate::specs::Blanks::blanked))]
+pub fn is_blank(how: Blank, bytes: &[u8]) -> bool
+    ensures { result ≡ is_blank how bytes.now }
+{
+    match how {
+        Blank::Nothing => true,
+        Blank::Fields => is_padded(NO_FIELDS, 0, bytes),
+        Blank::Packet => is_padded(NO_PROPERTIES, b' ', bytes),
+        Blank::Zeros => is_padded(b"", 0, bytes),
+        Blank::Free => is_freed(free_front(bytes), bytes),
     }
 }
 

@@ -1,50 +1,42 @@
 //! A file without its metadata.
 
-ghost use Rattle.std.specs.Prelude.{◌≡◌, ◌≤◌, length, IfOk, OnOk};
-ghost use Rattle.std.specs.Option.{option_map};
+ghost use Rattle.std.specs.Prelude.{◌≡◌, ◌≤◌, length, IfOk};
 ghost use Rattle.exif_inventory_heif.specs.Inventories.{heif_layout};
 ghost use Rattle.exif_scrub_heif.specs.Promises.{AllBecome};
-ghost use Rattle.exif_scrub_heif.specs.Scrubbing.{is_other, left_of, scrubbed, span_scrubbed, stays};
+ghost use Rattle.exif_scrub_heif.specs.Scrubbing.{answered, emptied, scrubbed, span_emptied};
 
-use crate::blank::{Blank, overwrite, span_blank};
-use exif_inventory::{Kind, Part};
-use exif_inventory_heif::{Layout, Span, layout, part_of};
+use crate::blank::{overwrite, span_blank};
+use crate::fault::Fault;
+use crate::settled::parts_left;
+use exif_inventory::Part;
+use exif_inventory_heif::{Layout, Span, layout};
 use std::alloc::{AllocError, Global};
 
-// Whether nothing becomes of a span's bytes.
-fn stays(how: Blank) -> bool
-    ensures { result ≡ stays how }
-{
-    matches!(how, Blank::Nothing)
-}
-
-// Whether a part is not the picture's.
-fn is_other(kind: Kind) -> bool
-    ensures { result ≡ is_other kind }
-{
-    !matches!(kind, Kind::Picture)
-}
-
-// Takes the metadata of a span out, and notes it if it stays and may hold metadata.
-fn scrub_span(
-    file: &mut [u8],
-    judged: bool,
-    span: Span,
-    left: &mut Vec<Part>,
-) -> Result<(), AllocError>
+// Takes the metadata of a span out.
+fn empty_span(file: &mut [u8], judged: bool, span: Span)
     requires ordered { span.from ≤ span.end }
     requires within { span.end ≤ length file.old }
-    ensures { OnOk result ((file.new, left.new.items)
-        ≡ span_scrubbed judged span (file.old, left.old.items)) }
+    ensures { file.new ≡ span_emptied judged span file.old }
 {
     let how = span_blank(judged, span);
     overwrite(how, &mut file[span.from..span.end]);
-    let part = part_of(judged, span);
-    if stays(how) && is_other(part.kind) {
-        left.push(part)?;
-        return Ok(());
+}
+
+/// Takes all metadata out of a HEIF or AVIF file, in place, and answers whether it is one: the
+/// first half of [`scrub`]. A file of another format stays as it is. Out of memory leaves each part
+/// as it was, or scrubbed.
+pub fn empty(alloc: Global, file: &mut [u8]) -> Result<bool, AllocError>
+    ensures new { IfOk result (λ is_heif. (is_heif, file.new) ≡ emptied file.old) }
+    ensures each { IfOk result (λ _. AllBecome file.old file.new (heif_layout file.old)) }
+{
+    let Some(found) = layout(alloc, file)? else {
+        return Ok(false);
+    };
+    let Layout { spans, judged } = found;
+    for span in spans.iter() {
+        empty_span(file, judged, *span);
     }
-    Ok(())
+    Ok(true)
 }
 
 /// Takes all metadata out of a HEIF or AVIF file, in place, and answers the parts that stay though
@@ -57,19 +49,20 @@ fn scrub_span(
 /// those with the items' data stay, and are answered. Bytes of the latter that no item has are the
 /// picture's otherwise, and stay.
 ///
+/// The answer is found in the new file: each part of it is the picture's, empty, or answered, and
+/// scrubbing it again changes nothing ([`crate::laws`]). A file of which that does not hold is
+/// refused ([`Fault`]). Then its metadata are overwritten all the same, so don't use the bytes.
+///
 /// Out of memory leaves each part as it was, or scrubbed.
-pub fn scrub(alloc: Global, file: &mut [u8]) -> Result<Option<Vec<Part>>, AllocError>
-    ensures answer { IfOk result
-        (λ left. (file.new, option_map (λ v. v.items) left) ≡ scrubbed file.old) }
+pub fn scrub(alloc: Global, file: &mut [u8]) -> Result<Result<Option<Vec<Part>>, Fault>, AllocError>
+    ensures answer { IfOk result (λ made. answered file.new made ≡ scrubbed file.old) }
     ensures each { IfOk result (λ _. AllBecome file.old file.new (heif_layout file.old)) }
 {
-    let Some(found) = layout(alloc, file)? else {
-        return Ok(None);
-    };
-    let Layout { spans, judged } = found;
-    let mut left = Vec::new(alloc);
-    for span in spans.iter() {
-        scrub_span(file, judged, *span, &mut left)?;
+    if !empty(alloc, file)? {
+        return Ok(Ok(None));
     }
-    Ok(Some(left))
+    match parts_left(alloc, file)? {
+        Ok(left) => Ok(Ok(Some(left))),
+        Err(fault) => Ok(Err(fault)),
+    }
 }

@@ -5,6 +5,11 @@
 #![tactic(auto)]
 
 mod blank;
+mod fault;
 mod file;
+pub mod laws;
+mod settled;
 
-pub use file::scrub;
+pub use fault::Fault;
+pub use file::{empty, scrub};
+pub use settled::parts_left;

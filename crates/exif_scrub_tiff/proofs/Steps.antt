@@ -4,12 +4,14 @@ use Rattle.std.proofs.lemmas.Bool.Decides.{nat_tests}
 use Rattle.exif_base.specs.Bytes.{Reading}
 use Rattle.exif_base.specs.Orders.{number_of}
 use Rattle.exif_base.specs.declared.endian.Order.{Order}
-use Rattle.exif_scrub_tiff.specs.Directories.{chain_kept, child_kept, children_from, children_kept, children_named, directory_kept, entries_kept, next_of, one_more}
+use Rattle.exif_scrub_tiff.specs.Directories.{chain_walked, child_walked, children_from, children_walked, children_named, directory_visited, entries_kept, next_of, one_more, tags_tested}
 use Rattle.exif_scrub_tiff.specs.Entries.{count_of, entry_kept, entry_named, item_at}
 use Rattle.exif_scrub_tiff.specs.Keeping.{◌>>=◌, kept_bytes, number_in}
 use Rattle.exif_scrub_tiff.specs.Pictures.{strip_kept, strips_from}
+use Rattle.exif_scrub_tiff.specs.Tags.{describes_picture}
 use Rattle.exif_scrub_tiff.specs.declared.fault.Fault.{Fault}
-use Rattle.exif_scrub_tiff.specs.declared.fault.Fault.TheVariants.{TooManyDirectories}
+use Rattle.exif_scrub_tiff.specs.declared.fault.Fault.TheVariants.{SharedBytes, TooManyDirectories}
+use Rattle.exif_scrub_tiff.specs.declared.pass.Pass.{Pass}
 
 -- ---- entries
 
@@ -27,6 +29,30 @@ entries_stop number old o n first left k e to kept new f is there put =
     rw is (ap (λ t. entry_kept number old o n e t new >>= λ (m : Bool × List ℕ). entries_kept number old o n first k (e + 12) (one_more m.0 kept) m.1) (sym there)
     ∙ ap (λ (r : Result (Bool × List ℕ) Fault). r >>= λ (m : Bool × List ℕ). entries_kept number old o n first k (e + 12) (one_more m.0 kept) m.1) put)
 
+-- ---- tags
+
+-- what is left to test behind an entry
+abbrev after : Reading → List ℕ → Bool → ℕ → ℕ → ℕ → Result Unit Fault
+after number old o k e tag = if describes_picture o tag then tags_tested number old o k (e + 12) else Err SharedBytes
+
+pub tags_step : (number : Reading) (old : List ℕ) (o : Bool) (left k e next tag : ℕ) → left ≡ suc k → next ≡ e + 12
+    → Ok tag ≡ number_in number 2 old e → describes_picture o tag ≡ true
+    → tags_tested number old o left e ≡ tags_tested number old o k next
+tags_step number old o left k e next tag is at read kept =
+    rw (is, at) (ap (λ (x : Result ℕ Fault). x >>= after number old o k e) (sym read)
+    ∙ ap (λ (b : Bool). if b then tags_tested number old o k (e + 12) else Err SharedBytes) kept)
+
+pub tags_stop : (number : Reading) (old : List ℕ) (o : Bool) (left k e tag : ℕ) → left ≡ suc k
+    → Ok tag ≡ number_in number 2 old e → describes_picture o tag ≡ false
+    → tags_tested number old o left e ≡ Err SharedBytes
+tags_stop number old o left k e tag is read other =
+    rw is (ap (λ (x : Result ℕ Fault). x >>= after number old o k e) (sym read)
+    ∙ ap (λ (b : Bool). if b then tags_tested number old o k (e + 12) else Err SharedBytes) other)
+
+pub tags_halt : (number : Reading) (old : List ℕ) (o : Bool) (left k e : ℕ) (f : Fault) → left ≡ suc k
+    → Err f ≡ number_in number 2 old e → tags_tested number old o left e ≡ Err f
+tags_halt number old o left k e f is read = rw is (ap (λ (x : Result ℕ Fault). x >>= after number old o k e) (sym read))
+
 -- ---- strips
 
 pub strips_step : (number : Reading) (old : List ℕ) (offsets lengths left k index : ℕ) (new made : List ℕ)
@@ -43,31 +69,31 @@ strips_stop number old offsets lengths left k index new f is put =
 
 -- ---- directories below one
 
-pub children_step : (order : Order) (old : List ℕ) (o : Bool) (e left k index p : ℕ) (new made : List ℕ)
-    → left ≡ suc k → item_at (number_of order) old e index ≡ Ok p → child_kept order old o p new ≡ Ok made
+pub children_step : (order : Order) (old : List ℕ) (o : Pass) (e left k index p : ℕ) (new made : List ℕ)
+    → left ≡ suc k → item_at (number_of order) old e index ≡ Ok p → child_walked order old o p new ≡ Ok made
     → children_from order old o e left index new ≡ children_from order old o e k (index + 1) made
 children_step order old o e left k index p new made is item put =
-    rw is (ap (λ (r : Result ℕ Fault). r >>= λ q. child_kept order old o q new >>= children_from order old o e k (index + 1)) item
+    rw is (ap (λ (r : Result ℕ Fault). r >>= λ q. child_walked order old o q new >>= children_from order old o e k (index + 1)) item
     ∙ ap (λ (r : Result (List ℕ) Fault). r >>= children_from order old o e k (index + 1)) put)
 
-pub children_stop : (order : Order) (old : List ℕ) (o : Bool) (e left k index p : ℕ) (new : List ℕ) (f : Fault)
-    → left ≡ suc k → item_at (number_of order) old e index ≡ Ok p → child_kept order old o p new ≡ Err f
+pub children_stop : (order : Order) (old : List ℕ) (o : Pass) (e left k index p : ℕ) (new : List ℕ) (f : Fault)
+    → left ≡ suc k → item_at (number_of order) old e index ≡ Ok p → child_walked order old o p new ≡ Err f
     → children_from order old o e left index new ≡ Err f
 children_stop order old o e left k index p new f is item put =
-    rw is (ap (λ (r : Result ℕ Fault). r >>= λ q. child_kept order old o q new >>= children_from order old o e k (index + 1)) item
+    rw is (ap (λ (r : Result ℕ Fault). r >>= λ q. child_walked order old o q new >>= children_from order old o e k (index + 1)) item
     ∙ ap (λ (r : Result (List ℕ) Fault). r >>= children_from order old o e k (index + 1)) put)
 
-pub children_halt : (order : Order) (old : List ℕ) (o : Bool) (e left k index : ℕ) (new : List ℕ) (f : Fault)
+pub children_halt : (order : Order) (old : List ℕ) (o : Pass) (e left k index : ℕ) (new : List ℕ) (f : Fault)
     → left ≡ suc k → item_at (number_of order) old e index ≡ Err f
     → children_from order old o e left index new ≡ Err f
 children_halt order old o e left k index new f is item =
-    rw is (ap (λ (r : Result ℕ Fault). r >>= λ q. child_kept order old o q new >>= children_from order old o e k (index + 1)) item)
+    rw is (ap (λ (r : Result ℕ Fault). r >>= λ q. child_walked order old o q new >>= children_from order old o e k (index + 1)) item)
 
 -- the directories below one are those of its entry
-pub children_whole : (order : Order) (old : List ℕ) (o : Bool) (p count e n : ℕ) (new : List ℕ)
+pub children_whole : (order : Order) (old : List ℕ) (o : Pass) (p count e n : ℕ) (new : List ℕ)
     → Ok count ≡ number_in (number_of order) 2 old p → Ok (Some e) ≡ entry_named (number_of order) old 330 count (p + 2)
     → Ok n ≡ count_of (number_of order) old e
-    → children_kept order old o p new ≡ children_from order old o e n 0 new
+    → children_walked order old o p new ≡ children_from order old o e n 0 new
 children_whole order old o p count e n new a b c =
     ap (λ (x : Result ℕ Fault). x >>= λ k. entry_named (number_of order) old 330 k (p + 2) >>= λ found. children_named order old o found new) (sym a)
     ∙ ap (λ (x : Result (Option ℕ) Fault). x >>= λ found. children_named order old o found new) (sym b)
@@ -112,60 +138,60 @@ no_zero : (p : ℕ) → p ≢ 0 → (p == 0) ≡ false
 no_zero p some = grind (arith, nat_tests)
 
 -- what a directory at an offset, those below it and the next ones make of the new file
-abbrev chained : Order → List ℕ → Bool → ℕ → ℕ → List ℕ → Result (List ℕ) Fault
+abbrev chained : Order → List ℕ → Pass → ℕ → ℕ → List ℕ → Result (List ℕ) Fault
 chained order old o k p new =
-    directory_kept order old o false p new
-    >>= λ made. children_kept order old o p made
+    directory_visited order old o false p new
+    >>= λ made. children_walked order old o p made
     >>= λ with. next_of (number_of order) old p
-    >>= λ next. chain_kept order old o k next with
+    >>= λ next. chain_walked order old o k next with
 
-chain_is : (order : Order) (old : List ℕ) (o : Bool) (left k p : ℕ) (new : List ℕ) → left ≡ suc k → p ≢ 0
-    → chain_kept order old o left p new ≡ chained order old o k p new
-unfolding chain_kept
+chain_is : (order : Order) (old : List ℕ) (o : Pass) (left k p : ℕ) (new : List ℕ) → left ≡ suc k → p ≢ 0
+    → chain_walked order old o left p new ≡ chained order old o k p new
+unfolding chain_walked
 chain_is order old o left k p new is some = rw is (ap (λ b. if b then Ok new else chained order old o k p new) (no_zero p some))
 
-pub chain_next : (order : Order) (old : List ℕ) (o : Bool) (left k p next : ℕ) (new made with : List ℕ)
-    → left ≡ suc k → p ≢ 0 → directory_kept order old o false p new ≡ Ok made → children_kept order old o p made ≡ Ok with
+pub chain_next : (order : Order) (old : List ℕ) (o : Pass) (left k p next : ℕ) (new made with : List ℕ)
+    → left ≡ suc k → p ≢ 0 → directory_visited order old o false p new ≡ Ok made → children_walked order old o p made ≡ Ok with
     → Ok next ≡ next_of (number_of order) old p
-    → chain_kept order old o left p new ≡ chain_kept order old o k next with
+    → chain_walked order old o left p new ≡ chain_walked order old o k next with
 chain_next order old o left k p next new made with is some a b c =
     chain_is order old o left k p new is some
-    ∙ ap (λ (x : Result (List ℕ) Fault). x >>= λ m. children_kept order old o p m >>= λ w. next_of (number_of order) old p >>= λ n. chain_kept order old o k n w) a
-    ∙ ap (λ (x : Result (List ℕ) Fault). x >>= λ w. next_of (number_of order) old p >>= λ n. chain_kept order old o k n w) b
-    ∙ ap (λ (x : Result ℕ Fault). x >>= λ n. chain_kept order old o k n with) (sym c)
+    ∙ ap (λ (x : Result (List ℕ) Fault). x >>= λ m. children_walked order old o p m >>= λ w. next_of (number_of order) old p >>= λ n. chain_walked order old o k n w) a
+    ∙ ap (λ (x : Result (List ℕ) Fault). x >>= λ w. next_of (number_of order) old p >>= λ n. chain_walked order old o k n w) b
+    ∙ ap (λ (x : Result ℕ Fault). x >>= λ n. chain_walked order old o k n with) (sym c)
 
-pub chain_first : (order : Order) (old : List ℕ) (o : Bool) (left k p : ℕ) (new : List ℕ) (f : Fault)
-    → left ≡ suc k → p ≢ 0 → directory_kept order old o false p new ≡ Err f → chain_kept order old o left p new ≡ Err f
+pub chain_first : (order : Order) (old : List ℕ) (o : Pass) (left k p : ℕ) (new : List ℕ) (f : Fault)
+    → left ≡ suc k → p ≢ 0 → directory_visited order old o false p new ≡ Err f → chain_walked order old o left p new ≡ Err f
 chain_first order old o left k p new f is some a =
     chain_is order old o left k p new is some
-    ∙ ap (λ (x : Result (List ℕ) Fault). x >>= λ m. children_kept order old o p m >>= λ w. next_of (number_of order) old p >>= λ n. chain_kept order old o k n w) a
+    ∙ ap (λ (x : Result (List ℕ) Fault). x >>= λ m. children_walked order old o p m >>= λ w. next_of (number_of order) old p >>= λ n. chain_walked order old o k n w) a
 
-pub chain_second : (order : Order) (old : List ℕ) (o : Bool) (left k p : ℕ) (new made : List ℕ) (f : Fault)
-    → left ≡ suc k → p ≢ 0 → directory_kept order old o false p new ≡ Ok made → children_kept order old o p made ≡ Err f
-    → chain_kept order old o left p new ≡ Err f
+pub chain_second : (order : Order) (old : List ℕ) (o : Pass) (left k p : ℕ) (new made : List ℕ) (f : Fault)
+    → left ≡ suc k → p ≢ 0 → directory_visited order old o false p new ≡ Ok made → children_walked order old o p made ≡ Err f
+    → chain_walked order old o left p new ≡ Err f
 chain_second order old o left k p new made f is some a b =
     chain_is order old o left k p new is some
-    ∙ ap (λ (x : Result (List ℕ) Fault). x >>= λ m. children_kept order old o p m >>= λ w. next_of (number_of order) old p >>= λ n. chain_kept order old o k n w) a
-    ∙ ap (λ (x : Result (List ℕ) Fault). x >>= λ w. next_of (number_of order) old p >>= λ n. chain_kept order old o k n w) b
+    ∙ ap (λ (x : Result (List ℕ) Fault). x >>= λ m. children_walked order old o p m >>= λ w. next_of (number_of order) old p >>= λ n. chain_walked order old o k n w) a
+    ∙ ap (λ (x : Result (List ℕ) Fault). x >>= λ w. next_of (number_of order) old p >>= λ n. chain_walked order old o k n w) b
 
-pub chain_third : (order : Order) (old : List ℕ) (o : Bool) (left k p : ℕ) (new made with : List ℕ) (f : Fault)
-    → left ≡ suc k → p ≢ 0 → directory_kept order old o false p new ≡ Ok made → children_kept order old o p made ≡ Ok with
+pub chain_third : (order : Order) (old : List ℕ) (o : Pass) (left k p : ℕ) (new made with : List ℕ) (f : Fault)
+    → left ≡ suc k → p ≢ 0 → directory_visited order old o false p new ≡ Ok made → children_walked order old o p made ≡ Ok with
     → Err f ≡ next_of (number_of order) old p
-    → chain_kept order old o left p new ≡ Err f
+    → chain_walked order old o left p new ≡ Err f
 chain_third order old o left k p new made with f is some a b c =
     chain_is order old o left k p new is some
-    ∙ ap (λ (x : Result (List ℕ) Fault). x >>= λ m. children_kept order old o p m >>= λ w. next_of (number_of order) old p >>= λ n. chain_kept order old o k n w) a
-    ∙ ap (λ (x : Result (List ℕ) Fault). x >>= λ w. next_of (number_of order) old p >>= λ n. chain_kept order old o k n w) b
-    ∙ ap (λ (x : Result ℕ Fault). x >>= λ n. chain_kept order old o k n with) (sym c)
+    ∙ ap (λ (x : Result (List ℕ) Fault). x >>= λ m. children_walked order old o p m >>= λ w. next_of (number_of order) old p >>= λ n. chain_walked order old o k n w) a
+    ∙ ap (λ (x : Result (List ℕ) Fault). x >>= λ w. next_of (number_of order) old p >>= λ n. chain_walked order old o k n w) b
+    ∙ ap (λ (x : Result ℕ Fault). x >>= λ n. chain_walked order old o k n with) (sym c)
 
 -- the end of a chain
-pub chain_ends : (order : Order) (old : List ℕ) (o : Bool) (left p : ℕ) (new : List ℕ) → p ≡ 0 → chain_kept order old o left p new ≡ Ok new
-unfolding chain_kept
+pub chain_ends : (order : Order) (old : List ℕ) (o : Pass) (left p : ℕ) (new : List ℕ) → p ≡ 0 → chain_walked order old o left p new ≡ Ok new
+unfolding chain_walked
 chain_ends order old o zero p new is = rw is refl
 chain_ends order old o (suc left) p new is = rw is refl
 
 -- no directory is left to keep
-pub chain_full : (order : Order) (old : List ℕ) (o : Bool) (left p : ℕ) (new : List ℕ) → left ≡ 0 → p ≢ 0
-    → chain_kept order old o left p new ≡ Err TooManyDirectories
-unfolding chain_kept
+pub chain_full : (order : Order) (old : List ℕ) (o : Pass) (left p : ℕ) (new : List ℕ) → left ≡ 0 → p ≢ 0
+    → chain_walked order old o left p new ≡ Err TooManyDirectories
+unfolding chain_walked
 chain_full order old o left p new is some = rw is (ap (λ b. if b then Ok new else Err TooManyDirectories) (no_zero p some))

@@ -8,8 +8,11 @@ use Rattle.exif_layout.specs.Encoding.{spelled}
 use Rattle.exif_scrub_tiff.specs.Entries.{count_of, entry_kept, entry_named, item_at}
 use Rattle.exif_scrub_tiff.specs.Keeping.{◌>>=◌, kept_bytes, number_in}
 use Rattle.exif_scrub_tiff.specs.Pictures.{picture_kept}
+use Rattle.exif_scrub_tiff.specs.Tags.{describes_picture}
 use Rattle.exif_scrub_tiff.specs.declared.fault.Fault.{Fault}
-use Rattle.exif_scrub_tiff.specs.declared.fault.Fault.TheVariants.{NotSupported, TooManyDirectories}
+use Rattle.exif_scrub_tiff.specs.declared.fault.Fault.TheVariants.{NotSupported, SharedBytes, TooManyDirectories}
+use Rattle.exif_scrub_tiff.specs.declared.pass.Pass.{Pass}
+use Rattle.exif_scrub_tiff.specs.declared.pass.Pass.TheVariants.{Keep, Pictures, Tags}
 
 -- how many entries stay, with one more where it does
 abbrev pub one_more : Bool → ℕ → ℕ
@@ -41,47 +44,75 @@ directory_kept order old keeps_orientation is_nested p new =
     (p + 2) 0 new
     >>= λ made. directory_closed order old p count made
 
+-- the new file with the picture of a directory alone
+abbrev pub directory_picture : Reading → List ℕ → ℕ → List ℕ → Result (List ℕ) Fault
+directory_picture number old p new =
+    number_in number 2 old p >>= λ count. picture_kept number old count (p + 2) new
+
+-- whether so many entries from e on all describe the picture; one that does not is refused
+abbrev pub tags_tested : Reading → List ℕ → Bool → ℕ → ℕ → Result Unit Fault
+tags_tested number old keeps_orientation zero e = Ok tt
+tags_tested number old keeps_orientation (suc left) e =
+    number_in number 2 old e >>= λ tag. if describes_picture keeps_orientation tag
+    then tags_tested number old keeps_orientation left (e + 12) else Err SharedBytes
+
+-- so of a directory
+abbrev pub directory_tested : Reading → List ℕ → Bool → ℕ → Result Unit Fault
+directory_tested number old keeps_orientation p =
+    number_in number 2 old p
+    >>= λ count. tags_tested number old keeps_orientation count (p + 2)
+
+-- the new file where a walk comes to a directory
+abbrev pub directory_visited : Order → List ℕ → Pass → Bool → ℕ → List ℕ
+    → Result (List ℕ) Fault
+directory_visited order old (Keep keeps_orientation) is_nested p new =
+    directory_kept order old keeps_orientation is_nested p new
+directory_visited order old Pictures is_nested p new =
+    directory_picture (number_of order) old p new
+directory_visited order old (Tags keeps_orientation) is_nested p new =
+    directory_tested (number_of order) old keeps_orientation p >>= λ u. Ok new
+
 -- the offset of the directory behind one
 abbrev pub next_of : Reading → List ℕ → ℕ → Result ℕ Fault
 next_of number old p =
     number_in number 2 old p >>= λ count. number_in number 4 old (p + 2 + 12 * count)
 
--- the new file with a directory below another one, behind which there is none
-abbrev pub child_kept : Order → List ℕ → Bool → ℕ → List ℕ → Result (List ℕ) Fault
-child_kept order old keeps_orientation p new =
+-- the new file after a walk to a directory below another one, behind which there is none
+abbrev pub child_walked : Order → List ℕ → Pass → ℕ → List ℕ → Result (List ℕ) Fault
+child_walked order old pass p new =
     next_of (number_of order) old p
-    >>= λ next. if next == 0 then directory_kept order old keeps_orientation true p new
+    >>= λ next. if next == 0 then directory_visited order old pass true p new
     else Err NotSupported
 
--- the new file with so many directories that an entry names, from an index on
-abbrev pub children_from : Order → List ℕ → Bool → ℕ → ℕ → ℕ → List ℕ → Result (List ℕ) Fault
-children_from order old keeps_orientation e zero index new = Ok new
-children_from order old keeps_orientation e (suc left) index new =
+-- so to so many directories that an entry names, from an index on
+abbrev pub children_from : Order → List ℕ → Pass → ℕ → ℕ → ℕ → List ℕ → Result (List ℕ) Fault
+children_from order old pass e zero index new = Ok new
+children_from order old pass e (suc left) index new =
     item_at (number_of order) old e index
-    >>= λ p. child_kept order old keeps_orientation p new
-    >>= children_from order old keeps_orientation e left (index + 1)
+    >>= λ p. child_walked order old pass p new
+    >>= children_from order old pass e left (index + 1)
 
--- so with those of an entry, if there is one
-abbrev pub children_named : Order → List ℕ → Bool → Option ℕ → List ℕ → Result (List ℕ) Fault
-children_named order old keeps_orientation None new = Ok new
-children_named order old keeps_orientation (Some e) new =
+-- so to those of an entry, if there is one
+abbrev pub children_named : Order → List ℕ → Pass → Option ℕ → List ℕ → Result (List ℕ) Fault
+children_named order old pass None new = Ok new
+children_named order old pass (Some e) new =
     count_of (number_of order) old e
-    >>= λ count. children_from order old keeps_orientation e count 0 new
+    >>= λ count. children_from order old pass e count 0 new
 
--- the new file with the directories below one
-abbrev pub children_kept : Order → List ℕ → Bool → ℕ → List ℕ → Result (List ℕ) Fault
-children_kept order old keeps_orientation p new =
+-- so to the directories below one
+abbrev pub children_walked : Order → List ℕ → Pass → ℕ → List ℕ → Result (List ℕ) Fault
+children_walked order old pass p new =
     number_in (number_of order) 2 old p
     >>= λ count. entry_named (number_of order) old 330 count (p + 2)
-    >>= λ found. children_named order old keeps_orientation found new
+    >>= λ found. children_named order old pass found new
 
--- the new file with at most so many directories of a chain, and those below them
-unfoldable pub chain_kept : Order → List ℕ → Bool → ℕ → ℕ → List ℕ → Result (List ℕ) Fault
-chain_kept order old keeps_orientation zero p new =
+-- so to at most so many directories of a chain, and to those below them
+unfoldable pub chain_walked : Order → List ℕ → Pass → ℕ → ℕ → List ℕ → Result (List ℕ) Fault
+chain_walked order old pass zero p new =
     if p == 0 then Ok new else Err TooManyDirectories
-chain_kept order old keeps_orientation (suc left) p new =
+chain_walked order old pass (suc left) p new =
     if p == 0 then Ok new else
-    (directory_kept order old keeps_orientation false p new
-    >>= λ made. children_kept order old keeps_orientation p made
+    (directory_visited order old pass false p new
+    >>= λ made. children_walked order old pass p made
     >>= λ with. next_of (number_of order) old p
-    >>= λ next. chain_kept order old keeps_orientation left next with)
+    >>= λ next. chain_walked order old pass left next with)

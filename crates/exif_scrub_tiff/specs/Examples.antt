@@ -1,8 +1,8 @@
 -- A worked example, by bytes written by hand.
 use Rattle.std.specs.Prelude.{◌≡◌, refl, ℕ, List, [], ◌∷◌, take, false, Ok, Err}
-use Rattle.exif_scrub_tiff.specs.Directories.{chain_kept}
+use Rattle.exif_scrub_tiff.specs.Directories.{chain_walked}
 use Rattle.exif_scrub_tiff.specs.Scrubbing.{scrubbed}
-use Rattle.exif_scrub_tiff.specs.declared.fault.Fault.TheVariants.{Broken, Raw}
+use Rattle.exif_scrub_tiff.specs.declared.fault.Fault.TheVariants.{Broken, SharedBytes}
 
 -- a picture of one strip of two bytes, with its width and an artist's name
 abbrev named : List ℕ
@@ -18,10 +18,22 @@ bare : scrubbed false named ≡ Ok (
     ∷ 17 ∷ 0 ∷ 4 ∷ 0 ∷ 0 ∷ 0 ∷ 1 ∷ 0 ∷ 0 ∷ 0 ∷ 68 ∷ 1 ∷ 23 ∷ 0 ∷ 4 ∷ 0 ∷ 0 ∷ 0 ∷ 1 ∷ 0 ∷ 0 ∷ 0
     ∷ 2 ∷ 0 ∷ 0 ∷ 0 ∷ 0 ∷ 0 ∷ 0 ∷ 0 ∷ 0 ∷ 0 ∷ 0 ∷ 0 ∷ 0 ∷ 0 ∷ 0 ∷ 0 ∷ 0 ∷ 0 ∷ 0 ∷ 0 ∷ 0 ∷ 0 ∷ 0
     ∷ 7 ∷ 9 ∷ [])
-unfolding chain_kept
+unfolding chain_walked
 bare = refl
 
 -- where the strip is cut off, the file is refused
 cut : scrubbed false (take 69 named) ≡ Err Broken
-unfolding chain_kept
+unfolding chain_walked
 cut = refl
+
+-- a strip that is the directory, with an artist's name in an entry
+abbrev covered : List ℕ
+covered =
+    77 ∷ 77 ∷ 0 ∷ 42 ∷ 0 ∷ 0 ∷ 0 ∷ 8 ∷ 0 ∷ 3 ∷ 1 ∷ 17 ∷ 0 ∷ 4 ∷ 0 ∷ 0 ∷ 0 ∷ 1 ∷ 0 ∷ 0 ∷ 0 ∷ 8 ∷ 1
+    ∷ 23 ∷ 0 ∷ 4 ∷ 0 ∷ 0 ∷ 0 ∷ 1 ∷ 0 ∷ 0 ∷ 0 ∷ 42 ∷ 1 ∷ 59 ∷ 0 ∷ 2 ∷ 0 ∷ 0 ∷ 0 ∷ 4 ∷ 66 ∷ 111 ∷ 98
+    ∷ 0 ∷ 0 ∷ 0 ∷ 0 ∷ 0 ∷ []
+
+-- is refused, since the name would stay
+shared : scrubbed false covered ≡ Err SharedBytes
+unfolding chain_walked
+shared = refl

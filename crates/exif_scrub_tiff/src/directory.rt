@@ -2,14 +2,16 @@
 
 ghost use Rattle.std.specs.Prelude.{◌≡◌, ◌<◌, ◌^◌};
 ghost use Rattle.exif_base.specs.Orders.{number_of};
-ghost use Rattle.exif_scrub_tiff.specs.Directories.{chain_kept, child_kept, children_from, children_kept, directory_kept, entries_kept, next_of};
+ghost use Rattle.exif_scrub_tiff.specs.Directories.{chain_walked, child_walked, children_from, children_walked, directory_kept, directory_picture, directory_tested, directory_visited, entries_kept, next_of, tags_tested};
 ghost use Rattle.exif_scrub_tiff.specs.Entries.{Goes};
 ghost use Rattle.exif_scrub_tiff.specs.Keeping.{Puts};
 
 use crate::bytes::{Old, keep};
 use crate::entry::{count_of, entry_named, item_at, keep_entry};
 use crate::fault::Fault;
+use crate::pass::Pass;
 use crate::picture::keep_picture;
+use crate::tags::describes_picture;
 use exif_layout::item::spelled_u16;
 
 // Keeps the entries of a directory that describe its picture, closed up: how many they are.
@@ -57,6 +59,60 @@ fn keep_directory(
     keep_picture(old, count, first, new)
 }
 
+// Keeps the picture of a directory alone.
+fn keep_directory_picture(old: Old<'_>, at: u32, new: &mut [u8]) -> Result<(), Fault>
+    ensures { Puts result new.new
+        (directory_picture (number_of old.entry.order) old.entry.bytes.now at new.old) }
+{
+    let count = old.short(u64::from(at))?;
+    keep_picture(old, count, u64::from(at) + 2, new)
+}
+
+// Refuses entries of which one does not describe the picture.
+fn test_tags(old: Old<'_>, keeps_orientation: bool, count: u16, first: u64) -> Result<(), Fault>
+    requires { first < 2 ^ 61 }
+    ensures { result ≡ tags_tested (number_of old.entry.order) old.entry.bytes.now
+        keeps_orientation count first }
+{
+    let mut left = count;
+    let mut at = first;
+    while left > 0 {
+        if !describes_picture(keeps_orientation, old.short(at)?) {
+            return Err(Fault::SharedBytes);
+        }
+        at += 12;
+        left -= 1;
+    }
+    Ok(())
+}
+
+// So of a directory.
+fn test_directory(old: Old<'_>, keeps_orientation: bool, at: u32) -> Result<(), Fault>
+    ensures { result ≡ directory_tested (number_of old.entry.order) old.entry.bytes.now
+        keeps_orientation at }
+{
+    let count = old.short(u64::from(at))?;
+    test_tags(old, keeps_orientation, count, u64::from(at) + 2)
+}
+
+// What a walk does with a directory.
+fn visit_directory(
+    old: Old<'_>,
+    pass: Pass,
+    is_nested: bool,
+    at: u32,
+    new: &mut [u8],
+) -> Result<(), Fault>
+    ensures { Puts result new.new
+        (directory_visited old.entry.order old.entry.bytes.now pass is_nested at new.old) }
+{
+    match pass {
+        Pass::Keep(keeps_orientation) => keep_directory(old, keeps_orientation, is_nested, at, new),
+        Pass::Pictures => keep_directory_picture(old, at, new),
+        Pass::Tags(keeps_orientation) => test_directory(old, keeps_orientation, at),
+    }
+}
+
 // The offset of the directory behind one.
 fn next_of(old: Old<'_>, at: u32) -> Result<u32, Fault>
     ensures { result ≡ next_of (number_of old.entry.order) old.entry.bytes.now at }
@@ -65,26 +121,21 @@ fn next_of(old: Old<'_>, at: u32) -> Result<u32, Fault>
     old.long(u64::from(at) + 2 + 12 * u64::from(count))
 }
 
-// Keeps a directory below another one, behind which there is none.
-fn keep_child(old: Old<'_>, keeps_orientation: bool, at: u32, new: &mut [u8]) -> Result<(), Fault>
+// A walk to a directory below another one, behind which there is none.
+fn walk_child(old: Old<'_>, pass: Pass, at: u32, new: &mut [u8]) -> Result<(), Fault>
     ensures { Puts result new.new
-        (child_kept old.entry.order old.entry.bytes.now keeps_orientation at new.old) }
+        (child_walked old.entry.order old.entry.bytes.now pass at new.old) }
 {
     if next_of(old, at)? != 0 {
         return Err(Fault::NotSupported);
     }
-    keep_directory(old, keeps_orientation, true, at, new)
+    visit_directory(old, pass, true, at, new)
 }
 
-// Keeps the directories below one.
-fn keep_children(
-    old: Old<'_>,
-    keeps_orientation: bool,
-    at: u32,
-    new: &mut [u8],
-) -> Result<(), Fault>
+// A walk to the directories below one.
+fn walk_children(old: Old<'_>, pass: Pass, at: u32, new: &mut [u8]) -> Result<(), Fault>
     ensures { Puts result new.new
-        (children_kept old.entry.order old.entry.bytes.now keeps_orientation at new.old) }
+        (children_walked old.entry.order old.entry.bytes.now pass at new.old) }
 {
     let count = old.short(u64::from(at))?;
     let Some(entry) = entry_named(old, count, u64::from(at) + 2, 330)? else {
@@ -93,21 +144,21 @@ fn keep_children(
     let children = count_of(old, entry)?;
     for index in 0..children {
         let child = item_at(old, entry, index)?;
-        keep_child(old, keeps_orientation, child, new)?;
+        walk_child(old, pass, child, new)?;
     }
     Ok(())
 }
 
-/// Keeps the directories of a chain, and those below them: at most so many.
-pub fn keep_chain(
+/// A walk to the directories of a chain, at most so many, and to those below them.
+pub fn walk_chain(
     old: Old<'_>,
-    keeps_orientation: bool,
+    pass: Pass,
     first: u32,
     most: u32,
     new: &mut [u8],
 ) -> Result<(), Fault>
     ensures { Puts result new.new
-        (chain_kept old.entry.order old.entry.bytes.now keeps_orientation most first new.old) }
+        (chain_walked old.entry.order old.entry.bytes.now pass most first new.old) }
 {
     let mut at = first;
     let mut left = most;
@@ -115,8 +166,8 @@ pub fn keep_chain(
         if left == 0 {
             return Err(Fault::TooManyDirectories);
         }
-        keep_directory(old, keeps_orientation, false, at, new)?;
-        keep_children(old, keeps_orientation, at, new)?;
+        visit_directory(old, pass, false, at, new)?;
+        walk_children(old, pass, at, new)?;
         at = next_of(old, at)?;
         left -= 1;
     }

@@ -1,12 +1,13 @@
 //! The whole file.
 
-ghost use Rattle.std.specs.Prelude.{◌≡◌, IfOk};
+ghost use Rattle.std.specs.Prelude.{◌≡◌, length, IfOk};
 ghost use Rattle.exif_scrub_tiff.specs.Keeping.{Puts};
-ghost use Rattle.exif_scrub_tiff.specs.Scrubbing.{file_kept, file_made, kept_once, order_in, scrubbed, settled};
+ghost use Rattle.exif_scrub_tiff.specs.Scrubbing.{file_kept, file_made, file_walked, is_settled, keeps_picture, kept_once, only_described, order_in, scrubbed};
 
 use crate::bytes::{Old, keep};
-use crate::directory::keep_chain;
+use crate::directory::walk_chain;
 use crate::fault::Fault;
+use crate::pass::Pass;
 use exif_base::Order;
 use std::alloc::{AllocError, Global};
 
@@ -32,15 +33,23 @@ fn order_in(file: &[u8]) -> Result<Order, Fault>
     }
 }
 
+// A walk over the directories of a file.
+fn walk_file(file: &[u8], pass: Pass, new: &mut [u8]) -> Result<(), Fault>
+    ensures { Puts result new.new (file_walked pass file.now new.old) }
+{
+    let order = order_in(file)?;
+    let old = Old { order, bytes: file };
+    let first = old.long(4)?;
+    walk_chain(old, pass, first, MOST, new)
+}
+
 // Keeps what of a file stays.
 fn keep_file(file: &[u8], keeps_orientation: bool, new: &mut [u8]) -> Result<(), Fault>
     ensures { Puts result new.new (file_kept keeps_orientation file.now new.old) }
 {
-    let order = order_in(file)?;
-    let old = Old { order, bytes: file };
+    order_in(file)?;
     keep(file, 0, 8, new, 0)?;
-    let first = old.long(4)?;
-    keep_chain(old, keeps_orientation, first, MOST, new)
+    walk_file(file, Pass::Keep(keeps_orientation), new)
 }
 
 // What stays of a file, in zeros of its length.
@@ -49,7 +58,8 @@ fn kept_once(
     file: &[u8],
     keeps_orientation: bool,
 ) -> Result<Result<Vec<u8>, Fault>, AllocError>
-    ensures { IfOk result (λ made. file_made made ≡ kept_once keeps_orientation file.now) }
+    ensures made { IfOk result (λ made. file_made made ≡ kept_once keeps_orientation file.now) }
+    ensures long { IfOk result (λ made. IfOk made (λ new. length new.items ≡ length file.now)) }
 {
     let mut new = vec![in alloc; 0u8; file.len()]?;
     match keep_file(file, keeps_orientation, new.as_mut_slice()) {
@@ -58,17 +68,37 @@ fn kept_once(
     }
 }
 
-// The new file, unless less or something else would stay of it.
-fn settled(
-    alloc: Global,
-    new: Vec<u8>,
-    keeps_orientation: bool,
-) -> Result<Result<Vec<u8>, Fault>, AllocError>
-    ensures { IfOk result (λ made. file_made made ≡ settled keeps_orientation new.items) }
+// Whether all tags of a file describe the picture.
+fn only_described(file: &[u8], keeps_orientation: bool) -> bool
+    ensures { result ≡ only_described keeps_orientation file.now }
 {
-    match kept_once(alloc, new.as_slice(), keeps_orientation)? {
-        Ok(again) if again.as_slice() == new.as_slice() => Ok(Ok(new)),
-        Ok(_) | Err(_) => Ok(Err(Fault::SharedBytes)),
+    match walk_file(file, Pass::Tags(keeps_orientation), &mut []) {
+        Ok(()) => true,
+        Err(_) => false,
+    }
+}
+
+// Whether all of a file stays where it is scrubbed, and it has no other tags.
+fn is_settled(alloc: Global, new: &[u8], keeps_orientation: bool) -> Result<bool, AllocError>
+    ensures { IfOk result (λ it. it ≡ is_settled keeps_orientation new.now) }
+{
+    match kept_once(alloc, new, keeps_orientation)? {
+        Ok(again) => Ok(again.as_slice() == new && only_described(new, keeps_orientation)),
+        Err(_) => Ok(false),
+    }
+}
+
+// Whether a new file has the picture's data as they were.
+fn keeps_picture(alloc: Global, old: &[u8], new: &[u8]) -> Result<bool, AllocError>
+    ensures { IfOk result (λ it. it ≡ keeps_picture old.now new.now) }
+{
+    if old == new {
+        return Ok(true);
+    }
+    let mut again = new.to_vec(alloc)?;
+    match walk_file(old, Pass::Pictures, again.as_mut_slice()) {
+        Ok(()) => Ok(again.as_slice() == new),
+        Err(_) => Ok(false),
     }
 }
 
@@ -77,17 +107,25 @@ fn settled(
 /// streams. Every other byte is zero. Nothing moves but entries, which close up. With
 /// `keeps_orientation` the orientation stays too.
 ///
-/// A file whose picture can't be told apart is refused ([`Fault`]); what comes out stays as it is
-/// where it is scrubbed again. It takes the memory of two new files.
+/// A file whose picture can't be told apart is refused ([`Fault`]). What comes out stays as it is
+/// where it is scrubbed again, has no other tags, and the picture's data are as they were
+/// ([`crate::laws`]). It takes the memory of two new files.
 pub fn scrub(
     alloc: Global,
     file: &[u8],
     keeps_orientation: bool,
 ) -> Result<Result<Vec<u8>, Fault>, AllocError>
-    ensures { IfOk result (λ made. file_made made ≡ scrubbed keeps_orientation file.now) }
+    ensures answer { IfOk result
+        (λ made. file_made made ≡ scrubbed keeps_orientation file.now) }
+    ensures long { IfOk result (λ made. IfOk made (λ new. length new.items ≡ length file.now)) }
 {
-    match kept_once(alloc, file, keeps_orientation)? {
-        Ok(new) => settled(alloc, new, keeps_orientation),
-        Err(fault) => Ok(Err(fault)),
+    let new = match kept_once(alloc, file, keeps_orientation)? {
+        Ok(new) => new,
+        Err(fault) => return Ok(Err(fault)),
+    };
+    let is_settled = is_settled(alloc, new.as_slice(), keeps_orientation)?;
+    if is_settled && keeps_picture(alloc, file, new.as_slice())? {
+        return Ok(Ok(new));
     }
+    Ok(Err(Fault::SharedBytes))
 }

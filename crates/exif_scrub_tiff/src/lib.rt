@@ -11,6 +11,7 @@ mod entry;
 mod fault;
 mod file;
 pub mod laws;
+mod pass;
 mod picture;
 mod tags;
 

@@ -62,6 +62,8 @@ impl Refused {
     pub const OUT_OF_RANGE: Refused = Refused(36);
     /// The file has no thumbnail.
     pub const NO_THUMBNAIL: Refused = Refused(38);
+    /// A HEIF file would be read otherwise without its metadata.
+    pub const UNSTABLE: Refused = Refused(41);
 
     /// The status number of `mexaldor.h`.
     pub fn number(self) -> u32 {

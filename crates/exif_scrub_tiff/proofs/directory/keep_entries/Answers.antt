@@ -1,5 +1,5 @@
 use Rattle.std.proofs.lemmas.Result.{err_from_is_err_and}
-use Rattle.std.proofs.Common.{◌≡◌, ◌+◌, ◌-◌, ◌*◌, ℕ, suc, sym, ◌∙◌, ap, refl, arith, rules}
+use Rattle.std.proofs.Common.{◌≡◌, ◌+◌, ◌-◌, ◌*◌, ℕ, sym, ◌∙◌, ap, refl, arith}
 use Rattle.exif_base.specs.Orders.{number_of}
 use Rattle.exif_scrub_tiff.specs.Directories.{entries_kept, one_more}
 use Rattle.exif_scrub_tiff.proofs.Steps.{entries_step, entries_stop}

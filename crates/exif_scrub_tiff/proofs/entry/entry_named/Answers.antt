@@ -1,4 +1,4 @@
-use Rattle.std.proofs.Common.{◌-◌, suc, sym, ◌∙◌, refl, arith}
+use Rattle.std.proofs.Common.{◌-◌, sym, ◌∙◌, refl, arith}
 use Rattle.exif_base.specs.Orders.{number_of}
 use Rattle.exif_scrub_tiff.proofs.Steps.{named_next}
 use Rattle.exif_scrub_tiff.proofs.entry.entry_named.Goals as goal

@@ -1,4 +1,4 @@
-use Rattle.std.proofs.Common.{◌≡◌, ◌<◌, ◌+◌, ◌*◌, ◌-◌, ◌^◌}
+use Rattle.std.proofs.Common.{◌≡◌, ◌<◌, ◌+◌, ◌*◌, ◌^◌}
 use Rattle.exif_base.specs.Orders.{number_of}
 use Rattle.exif_scrub_tiff.specs.Entries.{entry_named}
 use Rattle.exif_scrub_tiff.proofs.entry.entry_named.Given as goal

@@ -1,5 +1,5 @@
 use Rattle.std.proofs.lemmas.Result.{err_from_is_err_and}
-use Rattle.std.proofs.Common.{◌+◌, ◌-◌, suc, sym, ◌∙◌, ap, refl, arith, rules}
+use Rattle.std.proofs.Common.{◌+◌, ◌-◌, sym, ◌∙◌, arith, rules}
 use Rattle.exif_base.specs.Orders.{number_of}
 use Rattle.exif_scrub_tiff.proofs.Steps.{strip_first, strip_is, strip_second, strips_step, strips_stop}
 use Rattle.exif_scrub_tiff.proofs.picture.keep_strips.Goals as goal
