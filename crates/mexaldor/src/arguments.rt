@@ -110,6 +110,9 @@ fn scrub<'a>(alloc: Global) -> Result<Command<'a>, AllocError> {
         .override_usage(
             "mexaldor scrub [OPTIONS] FILE OUT\n       mexaldor scrub [OPTIONS] --in-place FILE...",
         )
+        .after_help(
+            "What stays: the colour profile, and in JPEG files the fields of the JFIF and Adobe segments; in TIFF files the tags that describe the picture. Whatever else may hold metadata, or with --locations-only a location, is reported, and the exit status is 3.",
+        )
         .arg(options::flag(alloc, "keep-orientation", "Keep the orientation"))?
         .arg(options::flag(alloc, "strip-color", "Also remove the colour profile"))?
         .arg(locations_only(alloc, "locations-only", "Only erase locations, in place")?)?
