@@ -3,6 +3,7 @@ pub mod Examples
 pub mod Positions
 pub mod Scrubbed
 pub mod ScrubbedExamples
+pub mod SetExamples
 pub mod Shifted
 pub mod Shown
 pub mod ShownExamples
