@@ -88,6 +88,10 @@ pub record SetTwice : Type 0 where
   pub few : visits_of (trace now.bytes) ≤ 1000000
   pub made : set_file first.assignments first.new ≡ Ok (whole again)
 
+-- the fields that were set both times
+abbrev pub both_set : SetTwice → List Field
+both_set s = all_set s.first
+
 -- Exif data in which a value was set in place twice, in the same entry
 pub record ValueSetTwice : Type 0 where
   pub tag : Tag
@@ -143,3 +147,7 @@ data_of_new fields = image Big (pushed_all fields [])
 -- the fields of such data, in the order in which they are written
 abbrev pub written : List Field → List Field
 written fields = flat (pushed_all fields [])
+
+-- those of the new file
+abbrev pub now_read : SetAnew → List Field
+now_read s = written (all_new s)

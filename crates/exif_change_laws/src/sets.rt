@@ -5,7 +5,7 @@ ghost use Rattle.exif_tiff.specs.Answers.{Whole};
 ghost use Rattle.exif_containers.specs.Container.{container_answer};
 ghost use Rattle.exif_layout.specs.Pushing.{HoldsInTagOrder};
 ghost use Rattle.exif_grow_fields.specs.Promises.{is_set};
-ghost use Rattle.exif_change_laws.specs.Assigned.{FieldSetTwice, GivesAssigned, GivesAssignedAgain, IsReadAs, SetAnew, SetOnce, SetTwice, ValueSetTwice, all_new, all_set, data_of_new, written};
+ghost use Rattle.exif_change_laws.specs.Assigned.{FieldSetTwice, GivesAssigned, GivesAssignedAgain, IsReadAs, SetAnew, SetOnce, SetTwice, ValueSetTwice, all_new, all_set, both_set, data_of_new, now_read};
 ghost use Rattle.exif_change_laws.specs.Shifted.{all_read};
 
 use exif_assign::laws::values_are_of_their_types;
@@ -23,15 +23,15 @@ pub fn assigned_values_are_read()
     limits_cut_readings();
 }
 
-/// Where values are set in a file without Exif data, which is a JPEG or WebP file then, the new file
-/// has new data: exactly the assigned fields are read of them, with their values, in the order of
-/// their tags, and no fault.
+/// Where values are set in a file without Exif data, which is a JPEG or WebP file then, it gets new
+/// ones: exactly the assigned fields are read of them, each with its value, in the order of their
+/// tags, and no fault.
 pub fn assigned_values_of_new_data_are_read()
     ensures answered { (s : SetAnew) → container_answer s.new ≡ Ok (data_of_new (all_new s)) }
     ensures read { (s : SetAnew) (lenient : Bool)
-        → all_read lenient s.new ≡ Ok (Whole (written (all_new s))) }
-    ensures values { (s : SetAnew) → All (IsReadAs (written (all_new s))) (all_new s) }
-    ensures others { (s : SetAnew) → All (λ f. is_set (all_new s) f ≡ true) (written (all_new s)) }
+        → all_read lenient s.new ≡ Ok (Whole (now_read s)) }
+    ensures values { (s : SetAnew) → All (IsReadAs (now_read s)) (all_new s) }
+    ensures others { (s : SetAnew) → All (λ f. is_set (all_new s) f ≡ true) (now_read s) }
     ensures sorted { (s : SetAnew) → HoldsInTagOrder (all_new s) }
 {
     values_are_of_their_types();
@@ -46,7 +46,7 @@ pub fn assigned_values_of_new_data_are_read()
 /// their order, and so are the faults. Of the new file at most 1,000,000 entries are read.
 pub fn values_that_are_set_again_are_read_as_before()
     ensures { (s : SetTwice)
-        → GivesAssignedAgain (all_set s.first) s.now.bytes (container_answer s.again) }
+        → GivesAssignedAgain (both_set s) s.now.bytes (container_answer s.again) }
 {
     values_are_of_their_types();
     file_answers_what_was_put();
