@@ -8,6 +8,9 @@ mod MadeTexts
 mod MadeValues
 mod MovedFields
 mod MovedTexts
+mod NewFields
+mod NewFiles
+mod NewRead
 mod NoField
 mod OrientationImage
 mod RuleLists

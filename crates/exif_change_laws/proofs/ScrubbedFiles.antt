@@ -107,7 +107,7 @@ webp_front file e = webp_head file (webp_told file e)
 
 -- ---- WebP files
 
-whole_told : (r : Result (List ℕ) Refusal) (new : List ℕ) → as_read (if_whole r) ≡ Ok (whole new) → r ≡ Ok new
+pub whole_told : (r : Result (List ℕ) Refusal) (new : List ℕ) → as_read (if_whole r) ≡ Ok (whole new) → r ≡ Ok new
 whole_told (Ok out) new e =
     let of : Result Change Why → List ℕ = λ x. elim x [ Ok change ↦ change.file | Err why ↦ new ] in
     ap (λ (xs : List ℕ). let r : Result (List ℕ) Refusal = Ok xs in r) (ap of e)

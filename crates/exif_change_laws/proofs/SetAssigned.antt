@@ -212,6 +212,19 @@ good_set fields (a ∷ later) sets made g e =
         subst (AreGood fields later) (same (with_field fields b.0 sets) next b.2)
         (good_more fields a later sets b.0 g (is_for a.tag (parts_of a).1 (type_for fields a.tag) b.0 b.1) n)
 
+-- the fields of assignments have different names
+pub distinct_fields : (fields : List Field) (assignments : List Assignment)
+    (made : List Field × List Field) → assigned_behind fields assignments ([], []) ≡ Ok made
+    → AreDistinct (made.0 ++ made.1)
+distinct_fields fields assignments made e =
+    (good_set fields assignments ([], []) made
+    (record {
+      distinct = tt;
+      first = All-nil (λ g. is_assigned assignments g.tag ≡ false);
+      second = All-nil (λ g. is_assigned assignments g.tag ≡ false);
+      once = All-nil (IsOnce fields);
+    }) e).distinct
+
 -- ---- the fields that were read
 
 -- the fields that are read of data, where there is no limit, are those of the trace

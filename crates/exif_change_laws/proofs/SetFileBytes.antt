@@ -1,5 +1,5 @@
 -- A field that is set over itself in a file changes no byte.
-use Rattle.std.proofs.Common.{◌≡◌, ◌∙◌, ◌<◌, ◌^◌, ℕ, List, All, length, Result, Ok, Err, sym, ap, subst}
+use Rattle.std.proofs.Common.{◌≡◌, ◌∙◌, ◌<◌, ◌^◌, ℕ, List, All, length, Result, Ok, sym, ap, subst}
 use Rattle.exif_types.specs.Refusals.{Refusal}
 use Rattle.exif_types.specs.declared.field.Field.{Field}
 use Rattle.exif_tiff.specs.declared.fault.Fault.TheVariants.{TooManyEntries}

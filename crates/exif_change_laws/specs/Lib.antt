@@ -4,6 +4,7 @@ pub mod Leaving
 pub mod Positions
 pub mod Scrubbed
 pub mod ScrubbedExamples
+pub mod SetExamples
 pub mod Shifted
 pub mod Shown
 pub mod ShownExamples

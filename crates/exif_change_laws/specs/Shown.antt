@@ -1,17 +1,21 @@
 -- What is read of the texts that are shown of values.
-use Rattle.std.specs.Prelude.{◌≡◌, ℕ, ℤ, zero, suc, pos, negsuc, neg_ℤ, unsigned_abs, ◌*◌, ◌*ℤ◌, ◌/◌, ◌%◌, ◌^◌, ◌==◌, ◌&&◌, ◌||◌, not, nat_le, nat_lt, if◌then◌else◌, Bool, false, List, [], ◌∷◌, map, Option, Some, None}
+use Rattle.std.specs.Prelude.{◌≡◌, ℕ, ℤ, zero, suc, pos, negsuc, neg_ℤ, unsigned_abs, ◌*◌, ◌*ℤ◌, ◌/◌, ◌%◌, ◌^◌, ◌==◌, ◌&&◌, ◌||◌, not, nat_le, nat_lt, if◌then◌else◌, Bool, true, false, List, [], ◌∷◌, map, Option, Some, None}
 use Rattle.std.specs.List.{list_all}
 use Rattle.exif_table.specs.declared.kind.TextKind.{TextKind}
 use Rattle.exif_table.specs.declared.kind.TextKind.TheVariants as K
 use Rattle.exif_text.specs.Decimal.{signs_differ}
+use Rattle.exif_text.specs.Plain.{plain_text}
 use Rattle.exif_text.specs.declared.field_type.FieldType.{FieldType}
 use Rattle.exif_text.specs.declared.rational.Rational.{Rational as Fraction}
 use Rattle.exif_text.specs.declared.rational.SRational.{SRational as SignedFraction}
+use Rattle.exif_types.specs.PlainValues.{plain_of}
+use Rattle.exif_types.specs.TagRows.{kind_of}
 use Rattle.exif_types.specs.ValueTexts.{text_of}
 use Rattle.exif_types.specs.ValueTypes.{field_type_of}
 use Rattle.exif_types.specs.declared.tag.Tag.{Tag}
 use Rattle.exif_types.specs.declared.value.Value.{Value}
 use Rattle.exif_types.specs.declared.value.Value.TheVariants.{Byte, Short, Long, Rational, SByte, SShort, SLong, SRational}
+use Rattle.exif_assign.specs.Fitting.{fits}
 use Rattle.exif_assign.specs.Rules.{form_of}
 use Rattle.exif_assign.specs.Texts.{fraction}
 use Rattle.exif_assign.specs.Values.{fitting, value_in}
@@ -65,6 +69,14 @@ is_spelled (Rational rs) = are_all is_quotient rs
 is_spelled (SRational rs) = are_all is_signed_quotient rs
 is_spelled _ = false
 
+-- such a value
+abbrev pub IsSpelled : Value → Type 0
+IsSpelled value = is_spelled value ≡ true
+
+-- its plain text
+abbrev pub own_text : Value → List ℕ
+own_text value = plain_text (plain_of value)
+
 -- ---- fractions that are shown as decimals
 
 -- n parts of 10 ^ k, without the zeros at the end of n
@@ -114,6 +126,19 @@ as_decimals (Rational rs) = Rational (map as_shown rs)
 as_decimals (SRational rs) = SRational (map as_shown_signed rs)
 as_decimals value = value
 
+-- such a value of a tag whose fractions are shown as decimals
+pub record HasDecimals (tag : Tag) (value : Value) : Type 0 where
+  pub kind : kind_of tag ≡ K.Decimal
+  pub decimals : are_decimals value ≡ true
+
+-- a value is in the range of a tag
+abbrev pub Fits : Tag → Value → Type 0
+Fits tag value = fits (form_of tag) value ≡ true
+
+-- the same is shown of two values
+abbrev pub AreAlike : Tag → Value → Value → Type 0
+AreAlike tag a b = text_of tag a ≡ text_of tag b
+
 -- ---- one fraction
 
 -- a value of one fraction
@@ -140,11 +165,24 @@ shown_one K.DigitalZoomRatio r = if r.num == 0 then None else shown_decimal r
 shown_one K.ExposureTime r = if nat_le r.denom r.num then shown_decimal r else shown_inverse r
 shown_one kind r = None
 
+-- a fraction of a tag is shown as one
+abbrev pub IsSingle : Tag → Fraction → Fraction → Type 0
+IsSingle tag r new = shown_one (kind_of tag) r ≡ Some new
+
+-- an exposure time is
+pub record IsExposure (tag : Tag) (r new : Fraction) : Type 0 where
+  pub kind : kind_of tag ≡ K.ExposureTime
+  pub shown : shown_one K.ExposureTime r ≡ Some new
+
 -- ---- numbers
 
 -- nine places suffice for the decimal of two numbers
 abbrev pub IsExact : ℕ → ℕ → Type 0
 IsExact num denom = num * 10 ^ 9 % denom ≡ 0
+
+-- so with signs
+abbrev pub IsExactSigned : SignedFraction → Type 0
+IsExactSigned r = IsExact (unsigned_abs r.num) (unsigned_abs r.denom)
 
 -- two fractions are the same number
 abbrev pub AreEqual : Fraction → Fraction → Type 0
