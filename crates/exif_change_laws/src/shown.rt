@@ -36,10 +36,13 @@ pub fn exact_decimals_are_the_same_numbers()
 {}
 
 /// One fraction is parsed back by the kind of its tag, where no word is shown of it: a decimal, and
-/// of an exposure time below one second `1/n`. An exposure time is shown as the same text again.
+/// of an exposure time below one second `1/n`. If no word is shown of the new one either, as of each
+/// exposure time, the same text is shown again.
 pub fn single_fractions_are_parsed_back()
     ensures parsed { (tag : Tag) (r new : Fraction)
         → IsSingle tag r new → IsShownAs tag (one r) (one new) }
     ensures again { (tag : Tag) (r new : Fraction)
+        → IsSingle tag r new → IsSingle tag new new → AreAlike tag (one new) (one r) }
+    ensures exposures { (tag : Tag) (r new : Fraction)
         → IsExposure tag r new → AreAlike tag (one new) (one r) }
 {}
