@@ -36,6 +36,7 @@ mod ShownFractions
 mod ShownItems
 mod ShownKinds
 mod ShownNumbers
+mod ShownSet
 mod ShownSigned
 mod ShownSingle
 mod ShownTags

@@ -61,12 +61,53 @@ module _ (tag : Tag) (r new : Fraction) (kind : TextKind) (is : kind_of tag ≡ 
       subst (λ xs. IsParsedAs tag xs (one new)) (sym (text_by tag (one r) kind is ∙ t))
       (one_read tag text new (ap shows_degrees is ∙ other) h)
 
+-- ---- decimals, where no word is shown
+
+-- a fraction is shown as the decimal that this one is
+record ShowsDecimal (kind : TextKind) (r new : Fraction) : Type 0 where
+  text : value_text kind (Rationals (r ∷ [])) ≡ rational_decimal r
+  is : shown_decimal r ≡ Some new
+
+module _ (r new : Fraction) where
   -- a test that must fail before the decimal
-  unless : (b : Bool) (word : List ℕ) (text : List ℕ)
+  unless : (kind : TextKind) (b : Bool) (word text : List ℕ)
       → value_text kind (Rationals (r ∷ [])) ≡ (if b then word else text) → text ≡ rational_decimal r
-      → (if b then None else shown_decimal r) ≡ Some new → IsShownAs tag (one r) (one new)
-  unless true word text t d e = absurd (none_some new e)
-  unless false word text t d e = in_text (rational_decimal r) (t ∙ d) (decimal_shown r new e)
+      → (if b then None else shown_decimal r) ≡ Some new → ShowsDecimal kind r new
+  unless kind true word text t d e = absurd (none_some new e)
+  unless kind false word text t d e = record { text = t ∙ d; is = e }
+
+  last : listed rational_decimal (r ∷ []) ≡ rational_decimal r
+  last = append-nil (rational_decimal r)
+
+  shows_decimal : shown_one K.Decimal r ≡ Some new → ShowsDecimal K.Decimal r new
+  shows_decimal e = record { text = last; is = e }
+
+  shows_optional : shown_one K.OptionalDecimal r ≡ Some new → ShowsDecimal K.OptionalDecimal r new
+  shows_optional e =
+      unless K.OptionalDecimal (r.denom == 0xffffffff) (codes "unknown") (rational_decimal r) refl refl e
+
+  shows_zoom : shown_one K.DigitalZoomRatio r ≡ Some new → ShowsDecimal K.DigitalZoomRatio r new
+  shows_zoom e =
+      unless K.DigitalZoomRatio (r.num == 0) (codes "unused") (listed rational_decimal (r ∷ [])) refl last e
+
+  shows_distance : shown_one K.SubjectDistance r ≡ Some new → ShowsDecimal K.SubjectDistance r new
+  shows_distance e = by_tests (r.num == 0) (r.num == 0xffffffff) refl e
+    where
+      by_tests : (a b : Bool) → value_text K.SubjectDistance (Rationals (r ∷ [])) ≡ (if a then codes "unknown" else (if b then codes "infinity" else listed rational_decimal (r ∷ [])))
+          → (if a || b then None else shown_decimal r) ≡ Some new → ShowsDecimal K.SubjectDistance r new
+      by_tests true b t e = absurd (none_some new e)
+      by_tests false true t e = absurd (none_some new e)
+      by_tests false false t e = record { text = t ∙ last; is = e }
+
+-- of the new one the same is shown, if that is a decimal too
+decimal_of_new : (kind : TextKind) (r new : Fraction) → ShowsDecimal kind r new → ShowsDecimal kind new new
+    → value_text kind (Rationals (new ∷ [])) ≡ value_text kind (Rationals (r ∷ []))
+decimal_of_new kind r new s n = n.text ∙ (by_test (is_decimal r) refl s.is ∙ sym s.text)
+  where
+    by_test : (b : Bool) → is_decimal r ≡ b → (if b then Some (as_shown r) else None) ≡ Some new
+        → rational_decimal new ≡ rational_decimal r
+    by_test true t e = ap rational_decimal (sym (some_same (as_shown r) new e)) ∙ decimal_again r t
+    by_test false t e = absurd (none_some new e)
 
 -- ---- exposure times below one second
 
@@ -241,26 +282,35 @@ pub single_shown : (tag : Tag) (r new : Fraction) → shown_one (kind_of tag) r 
     → IsShownAs tag (one r) (one new)
 single_shown tag r new e = by_view (view (kind_of tag)) refl e
   where
-    last : listed rational_decimal (r ∷ []) ≡ rational_decimal r
-    last = append-nil (rational_decimal r)
+    decimal_in_text : (kind : TextKind) → kind_of tag ≡ kind → shows_degrees kind ≡ false
+        → ShowsDecimal kind r new → IsShownAs tag (one r) (one new)
+    decimal_in_text kind k d s =
+        in_text tag r new kind k d (rational_decimal r) s.text (decimal_shown r new s.is)
 
     by_view : {kind : TextKind} → View kind → kind_of tag ≡ kind → shown_one kind r ≡ Some new
         → IsShownAs tag (one r) (one new)
-    by_view decimal_view k e =
-        in_text tag r new K.Decimal k refl (rational_decimal r) last (decimal_shown r new e)
-    by_view optional_view k e =
-        unless tag r new K.OptionalDecimal k refl (r.denom == 0xffffffff) (codes "unknown")
-        (rational_decimal r) refl refl e
-    by_view zoom_view k e =
-        unless tag r new K.DigitalZoomRatio k refl (r.num == 0) (codes "unused")
-        (listed rational_decimal (r ∷ [])) refl last e
-    by_view distance_view k e = by_tests (r.num == 0) (r.num == 0xffffffff) refl e
-      where
-        by_tests : (a b : Bool) → value_text K.SubjectDistance (Rationals (r ∷ [])) ≡ (if a then codes "unknown" else (if b then codes "infinity" else listed rational_decimal (r ∷ [])))
-            → (if a || b then None else shown_decimal r) ≡ Some new → IsShownAs tag (one r) (one new)
-        by_tests true b t e = absurd (none_some new e)
-        by_tests false true t e = absurd (none_some new e)
-        by_tests false false t e =
-            in_text tag r new K.SubjectDistance k refl (rational_decimal r) (t ∙ last) (decimal_shown r new e)
+    by_view decimal_view k e = decimal_in_text K.Decimal k refl (shows_decimal r new e)
+    by_view optional_view k e = decimal_in_text K.OptionalDecimal k refl (shows_optional r new e)
+    by_view zoom_view k e = decimal_in_text K.DigitalZoomRatio k refl (shows_zoom r new e)
+    by_view distance_view k e = decimal_in_text K.SubjectDistance k refl (shows_distance r new e)
     by_view exposure_view k e = exposure_shown tag r new k e
     by_view (other_view h) k e = absurd (none_some new (sym (h r) ∙ e))
+
+-- the same is shown again, if no word is shown of the new one
+pub single_again : (tag : Tag) (r new : Fraction) → shown_one (kind_of tag) r ≡ Some new
+    → shown_one (kind_of tag) new ≡ Some new → text_of tag (one new) ≡ text_of tag (one r)
+single_again tag r new e f = by_view (view (kind_of tag)) refl e f
+  where
+    decimals : (kind : TextKind) → kind_of tag ≡ kind → ShowsDecimal kind r new → ShowsDecimal kind new new
+        → text_of tag (one new) ≡ text_of tag (one r)
+    decimals kind k s n =
+        text_by tag (one new) kind k ∙ (decimal_of_new kind r new s n ∙ sym (text_by tag (one r) kind k))
+
+    by_view : {kind : TextKind} → View kind → kind_of tag ≡ kind → shown_one kind r ≡ Some new
+        → shown_one kind new ≡ Some new → text_of tag (one new) ≡ text_of tag (one r)
+    by_view decimal_view k e f = decimals K.Decimal k (shows_decimal r new e) (shows_decimal new new f)
+    by_view optional_view k e f = decimals K.OptionalDecimal k (shows_optional r new e) (shows_optional new new f)
+    by_view zoom_view k e f = decimals K.DigitalZoomRatio k (shows_zoom r new e) (shows_zoom new new f)
+    by_view distance_view k e f = decimals K.SubjectDistance k (shows_distance r new e) (shows_distance new new f)
+    by_view exposure_view k e f = exposure_again tag r new k e
+    by_view (other_view h) k e f = absurd (none_some new (sym (h r) ∙ e))

@@ -1,5 +1,5 @@
 -- What is read of the texts that are shown of values.
-use Rattle.std.specs.Prelude.{◌≡◌, ℕ, ℤ, zero, suc, pos, negsuc, neg_ℤ, unsigned_abs, ◌*◌, ◌*ℤ◌, ◌/◌, ◌%◌, ◌^◌, ◌==◌, ◌&&◌, ◌||◌, not, nat_le, nat_lt, if◌then◌else◌, Bool, true, false, List, [], ◌∷◌, map, Option, Some, None}
+use Rattle.std.specs.Prelude.{◌≡◌, ℕ, ℤ, zero, suc, pos, negsuc, neg_ℤ, unsigned_abs, ◌*◌, ◌*ℤ◌, ◌/◌, ◌%◌, ◌^◌, ◌==◌, ◌&&◌, ◌||◌, not, nat_le, nat_lt, if◌then◌else◌, Bool, true, false, List, [], ◌∷◌, map, Option, Some, None, Ok}
 use Rattle.std.specs.List.{list_all}
 use Rattle.exif_table.specs.declared.kind.TextKind.{TextKind}
 use Rattle.exif_table.specs.declared.kind.TextKind.TheVariants as K
@@ -8,10 +8,12 @@ use Rattle.exif_text.specs.Plain.{plain_text}
 use Rattle.exif_text.specs.declared.field_type.FieldType.{FieldType}
 use Rattle.exif_text.specs.declared.rational.Rational.{Rational as Fraction}
 use Rattle.exif_text.specs.declared.rational.SRational.{SRational as SignedFraction}
+use Rattle.exif_types.specs.Lookup.{last_named}
 use Rattle.exif_types.specs.PlainValues.{plain_of}
 use Rattle.exif_types.specs.TagRows.{kind_of}
 use Rattle.exif_types.specs.ValueTexts.{text_of}
 use Rattle.exif_types.specs.ValueTypes.{field_type_of}
+use Rattle.exif_types.specs.declared.field.Field.{Field}
 use Rattle.exif_types.specs.declared.tag.Tag.{Tag}
 use Rattle.exif_types.specs.declared.value.Value.{Value}
 use Rattle.exif_types.specs.declared.value.Value.TheVariants.{Byte, Short, Long, Rational, SByte, SShort, SLong, SRational}
@@ -19,6 +21,7 @@ use Rattle.exif_assign.specs.Fitting.{fits}
 use Rattle.exif_assign.specs.Rules.{form_of}
 use Rattle.exif_assign.specs.Texts.{fraction}
 use Rattle.exif_assign.specs.Values.{fitting, value_in}
+use Rattle.exif_change.specs.Setting.{field_for, primary}
 
 -- ---- texts that are read as values
 
@@ -191,3 +194,16 @@ AreEqual a b = a.num * b.denom ≡ b.num * a.denom
 -- so with signs
 abbrev pub AreEqualSigned : SignedFraction → SignedFraction → Type 0
 AreEqualSigned a b = a.num *ℤ b.denom ≡ b.num *ℤ a.denom
+
+-- ---- texts that are set
+
+-- the last field of a tag, of the primary image, with a value in the range of the tag
+pub record HasField (fields : List Field) (tag : Tag) (f : Field) : Type 0 where
+  pub read : last_named fields tag primary ≡ Some f
+  pub fits : Fits tag f.value
+
+-- what is shown of one value, assigned to its tag in a file with these fields, sets this value
+abbrev pub Sets : List Field → Tag → Value → Value → Type 0
+Sets fields tag value new =
+    field_for fields (tag, text_of tag value)
+    ≡ Ok (record { tag = tag; ifd_num = primary; value = new })

@@ -104,8 +104,8 @@ no_time : value_in (exif 0x829a) field_type.Rational (codes "1/66.666666666") �
 unfolding value_in
 no_time = refl
 
--- a distance of 4294967.295 m is read as 4294967295/1000, whose upper number says infinity: so no
--- law says that the same is shown again of each kind
+-- a distance of 4294967.295 m is read as 4294967295/1000, whose upper number says infinity: of this
+-- one a word is shown
 far : shown_one K.SubjectDistance (fraction 858993459 200) ≡ Some (fraction 4294967295 1000)
 unfolding shortened
 far = refl
@@ -117,3 +117,6 @@ far_shown = refl
 far_again : text_of (exif 0x9206) (one (fraction 4294967295 1000)) ≡ codes "infinity"
 unfolding text_of row_of_tag digits
 far_again = refl
+
+far_word : shown_one K.SubjectDistance (fraction 4294967295 1000) ≡ None
+far_word = refl

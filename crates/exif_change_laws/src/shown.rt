@@ -1,13 +1,14 @@
-//! Laws of texts that are shown: they are parsed back as the values of which they are shown.
+//! Laws of texts that are shown, without units: they are parsed back as the values that are shown.
 
-ghost use Rattle.std.specs.Prelude.{◌≡◌};
+ghost use Rattle.std.specs.Prelude.{◌≡◌, List};
 ghost use Rattle.exif_table.specs.declared.kind.TextKind.TheVariants as K;
 ghost use Rattle.exif_text.specs.declared.rational.Rational.{Rational as Fraction};
 ghost use Rattle.exif_text.specs.declared.rational.SRational.{SRational as SignedFraction};
 ghost use Rattle.exif_types.specs.TagRows.{kind_of};
+ghost use Rattle.exif_types.specs.declared.field.Field.{Field};
 ghost use Rattle.exif_types.specs.declared.tag.Tag.{Tag};
 ghost use Rattle.exif_types.specs.declared.value.Value.{Value};
-ghost use Rattle.exif_change_laws.specs.Shown.{AreEqual, AreEqualSigned, AreAlike, Fits, HasDecimals, IsExact, IsExactSigned, IsExposure, IsParsedAs, IsShownAs, IsSingle, IsSpelled, as_decimals, as_shown, as_shown_signed, one, own_text};
+ghost use Rattle.exif_change_laws.specs.Shown.{AreEqual, AreEqualSigned, AreAlike, Fits, HasDecimals, IsExact, IsExactSigned, IsExposure, IsParsedAs, IsShownAs, IsSingle, IsSpelled, as_decimals, as_shown, as_shown_signed, one, own_text, HasField, Sets};
 
 /// The plain text of numbers and fractions is parsed as exactly these, for each tag. It is what is
 /// shown of tags of which nothing more is known.
@@ -35,11 +36,28 @@ pub fn exact_decimals_are_the_same_numbers()
         → IsExactSigned r → AreEqualSigned (as_shown_signed r) r }
 {}
 
-/// One fraction is parsed back by the kind of its tag, where no word is shown of it: a decimal, and
-/// of an exposure time below one second `1/n`. An exposure time is shown as the same text again.
+/// One fraction is parsed back by the kind of its tag, where no word is shown of it: a decimal, or
+/// of an exposure time below one second `1/n`. If no word is shown of the new one either, the same
+/// text is shown again, and so it is of each exposure time.
 pub fn single_fractions_are_parsed_back()
     ensures parsed { (tag : Tag) (r new : Fraction)
         → IsSingle tag r new → IsShownAs tag (one r) (one new) }
     ensures again { (tag : Tag) (r new : Fraction)
+        → IsSingle tag r new → IsSingle tag new new → AreAlike tag (one new) (one r) }
+    ensures exposures { (tag : Tag) (r new : Fraction)
         → IsExposure tag r new → AreAlike tag (one new) (one r) }
+{}
+
+/// Where what is shown of a field is assigned to its tag, [`set`](exif_change::set) sets the value
+/// that the field has, and of decimals and of `1/n` the fractions that they are.
+pub fn shown_values_are_set_again()
+    ensures plain { (fields : List Field) (tag : Tag) (f : Field)
+        → HasField fields tag f → kind_of tag ≡ K.Plain → IsSpelled f.value
+        → Sets fields tag f.value f.value }
+    ensures decimals { (fields : List Field) (tag : Tag) (f : Field)
+        → HasField fields tag f → HasDecimals tag f.value
+        → Sets fields tag f.value (as_decimals f.value) }
+    ensures single { (fields : List Field) (tag : Tag) (f : Field) (r new : Fraction)
+        → HasField fields tag f → f.value ≡ one r → IsSingle tag r new → Fits tag (one new)
+        → Sets fields tag f.value (one new) }
 {}
