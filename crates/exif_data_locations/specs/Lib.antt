@@ -1,8 +1,10 @@
 pub mod Erasing
 pub mod Examples
 pub mod FieldRegions
+pub mod Locations
 pub mod Promises
 pub mod Regions
 pub mod Resources
 pub mod Texts
+pub mod Thumbnails
 pub mod Wanted
