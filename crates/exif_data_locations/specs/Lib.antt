@@ -6,5 +6,6 @@ pub mod Promises
 pub mod Regions
 pub mod Resources
 pub mod Texts
+pub mod ThumbnailExamples
 pub mod Thumbnails
 pub mod Wanted
