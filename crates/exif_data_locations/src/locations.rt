@@ -34,10 +34,11 @@ fn erase_with_thumbnail(alloc: Global, bytes: &mut [u8]) -> Result<Vec<Why>, All
 ///
 /// The thumbnail is a JPEG stream, which may have Exif data, XMP and IPTC data of its own (Exif
 /// 2.32, 4.5.8). Their locations are erased, too, unless the data would not be read as before then.
-/// What else it holds that may say a location has one reason together.
+/// What else it holds that may say a location has one reason together. A thumbnail that its Exif
+/// data have in turn is not looked at.
 ///
-/// It takes the memory of two readings and of a copy of the data, and so for the thumbnail. Out of memory leaves the data as
-/// they were, or without their GPS data.
+/// It takes the memory of two readings and of a copy of the data, and so for the thumbnail. Out of
+/// memory leaves the data as they were, or with some of their locations erased.
 pub fn erase_locations(alloc: Global, bytes: &mut [u8]) -> Result<Vec<Why>, AllocError>
     ensures { IfOk result (λ whys. (bytes.new, whys.items) ≡ data_erased bytes.old) }
 {

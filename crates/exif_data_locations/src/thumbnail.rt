@@ -1,4 +1,4 @@
-//! The thumbnail of Exif data (Exif 2.32, 4.5.8): a JPEG stream, which may have metadata of its own.
+//! The thumbnail of Exif data (Exif 2.32, 4.5.8): a JPEG stream with metadata of its own.
 
 ghost use Rattle.std.specs.Prelude.{◌≡◌, ◌+◌, ◌≤◌, false, length, All, IfOk, IfSome, OnOk};
 ghost use Rattle.std.specs.Str.{bytes_eq};

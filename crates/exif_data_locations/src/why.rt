@@ -67,7 +67,7 @@ impl fmt::Display for Why {
             Why::Thumbnail => write!(f, "the thumbnail may hold a location"),
             Why::Shared => write!(
                 f,
-                "XMP, IPTC or GeoTIFF data share their bytes with other data"
+                "XMP, IPTC or GeoTIFF data, or the thumbnail, share their bytes with other data"
             ),
         }
     }
