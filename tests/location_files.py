@@ -40,6 +40,13 @@ def tiff(*fields):
     return data + b"\0\0\0\0" + values
 
 
+def with_thumbnail(stream):
+    """TIFF data with an orientation, and a JPEG stream as their thumbnail."""
+    first = struct.pack(">HHHIHHI", 1, 274, 3, 1, 1, 0, 26)
+    second = struct.pack(">HHHIIHHIII", 2, 0x201, 4, 1, 56, 0x202, 4, 1, len(stream), 0)
+    return b"MM\0*\0\0\0\x08" + first + second + stream
+
+
 def tiff_file(name, data):
     open(os.path.join(folder, name), "wb").write(data)
 
@@ -106,6 +113,9 @@ fields = tiff((700, 1, xmp), (33723, 7, iptc), (34377, 1, digest + resource), (3
 tiff_file("gps.tif", exif)
 tiff_file("fields.tif", fields)
 jpeg("fields.jpg", segment(0xE1, b"Exif\0\0" + fields))
+# thumbnails with metadata of their own
+jpeg("thumbnail.jpg", segment(0xE1, b"Exif\0\0" + with_thumbnail(plain[:2] + EXIF + XMP + IPTC + plain[2:])))
+jpeg("commented_thumbnail.jpg", segment(0xE1, b"Exif\0\0" + with_thumbnail(plain[:2] + EXIF + segment(0xFE, SECRET) + plain[2:])))
 webp("fields.webp", chunk(b"EXIF", fields))
 tiff_file("sub_ifds.tif", tiff((330, 4, b"\0\0\0\0"), (700, 1, xmp)) + SECRET)
 tiff_file("maker_note.tif", tiff((33723, 7, iptc), (37500, 7, SECRET)))

@@ -40,11 +40,12 @@ stays() {
 }
 
 for file in exif.jpg exif_twice.jpg zeros.jpg xmp.jpg xmp_twice.jpg extended_xmp.jpg extended_xmp_only.jpg iptc.jpg all.jpg second_picture.jpg exif.webp xmp.webp both.webp \
-    gps.tif fields.tif fields.jpg fields.webp exif.heic xmp.heic both.heic twice.heic undescribed.jpg; do
+    gps.tif fields.tif fields.jpg fields.webp thumbnail.jpg exif.heic xmp.heic both.heic twice.heic undescribed.jpg; do
     erased "$file"
 done
 check "what names no location stays in XMP" grep -qaF "dc:source='kept'" new.xmp.jpg
 check "and in IPTC data" grep -qaF kept new.iptc.jpg
+check "what names no location stays in the XMP of a thumbnail" grep -qaF "dc:source='kept'" new.thumbnail.jpg
 check "the halves of a location in two portions are in the file" test "$(grep -aoE 'Zzy|zx47' files/extended_xmp.jpg | wc -l)" = 8
 check "and gone with it" test "$(grep -aoE 'Zzy|zx47' new.extended_xmp.jpg | wc -l)" = 0
 check "what names no location stays in the portions" test "$(grep -aoF "dc:source='kept'" new.extended_xmp.jpg | wc -l)" = 2
@@ -54,6 +55,7 @@ stays words.jpg 1 "XMP packet at offset 2 has texts, which are not judged"
 stays keywords.jpg 0 "IPTC data at offset 20 has texts, which are not judged"
 stays words.tif 1 "Exif data at offset 0: texts of tag 700 are not judged"
 stays comment.jpg 1 "comment at offset"
+stays commented_thumbnail.jpg 1 "Exif data at offset 2: the thumbnail may hold a location"
 stays trailer.jpg 1 "data after the picture at offset"
 stays unknown.jpg 1 "unknown data at offset"
 stays long_xmp.jpg 1 "part of a long XMP packet at offset"
@@ -105,7 +107,7 @@ cleaned() {
     check "$1: scrubbed twice is scrubbed once" cmp "clean.$1" "again.$1"
 }
 
-for file in all.jpg second_picture.jpg fields.jpg comment.jpg trailer.jpg unknown.jpg long_xmp.jpg \
+for file in all.jpg second_picture.jpg fields.jpg thumbnail.jpg commented_thumbnail.jpg comment.jpg trailer.jpg unknown.jpg long_xmp.jpg \
     extended_xmp.jpg other_order.jpg broken_extended.jpg broken_xmp.jpg broken_long.jpg broken_iptc.jpg \
     broken_exif.jpg both.webp fields.webp unknown.webp gps.tif fields.tif maker_note.tif broken_xmp.tif cut.tif \
     exif.heic xmp.heic both.heic twice.heic unknown_item.heic unknown_box.heic \

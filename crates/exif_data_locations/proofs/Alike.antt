@@ -1,6 +1,7 @@
 -- What is read of data without their locations.
 use Rattle.std.proofs.Common.{◌≡◌, ◌≤◌, ◌∙◌, ℕ, Bool, true, false, if◌then◌else◌, not, List, [], ◌∷◌, ◌++◌, length, map, Option, None, Some, Result, Ok, Err, refl, sym, ap, subst, arith}
 use Rattle.std.specs.List.{AllZip}
+use Rattle.std.specs.Str.{bytes_eq}
 use Rattle.exif_base.specs.Bytes.{Reading}
 use Rattle.exif_base.specs.Orders.{number_of, order_named}
 use Rattle.exif_tiff.specs.declared.fault.Fault.{Fault}
@@ -13,21 +14,24 @@ use Rattle.exif_edit_base.specs.Locations.{located}
 use Rattle.exif_edit_base.specs.Patches.{patched}
 use Rattle.exif_edit_base.specs.Readings.{Read, reading, reads_as}
 use Rattle.exif_edit_base.specs.Walked.{entry_of}
+use Rattle.exif_edit_base.specs.declared.patch.Span.{Span}
 use Rattle.exif_edit_base.proofs.CauseSteps.{bound, ok_same}
 use Rattle.exif_edit.specs.Edits.{allowed, edited, limited_edit}
 use Rattle.exif_edit.specs.Erasing.{erase_patches, without_gps}
 use Rattle.exif_edit.specs.declared.edits.Edit.TheVariants.{EraseGps}
 use Rattle.exif_edit.proofs.EraseSound.{was_erased}
 use Rattle.exif_edit.proofs.ReadSound.{reads_so}
-use Rattle.exif_data_locations.specs.Erasing.{checked, data_erased, entry_limit, fields_erased, gps_erased, gps_refused, is_followed, noted_if, read_erased}
+use Rattle.exif_data_locations.specs.Erasing.{checked, entry_limit, fields_erased, gps_erased, gps_refused, is_followed, noted_if, read_erased}
 use Rattle.exif_data_locations.specs.FieldRegions.{held_in}
+use Rattle.exif_data_locations.specs.Locations.{data_erased}
 use Rattle.exif_data_locations.specs.Promises.{IsKept, ReadsAlike, gps_left, left_within}
 use Rattle.exif_data_locations.specs.Regions.{regions_erased}
+use Rattle.exif_data_locations.specs.Thumbnails.{if_same, read_thumbnail_erased, span_erased, stretch_erased, thumbnail_erased, thumbnail_span}
 use Rattle.exif_data_locations.specs.Wanted.{held_field, new_value, wanted, wanted_fields, with_new}
 use Rattle.exif_data_locations.specs.declared.field.Holds.{Holds}
 use Rattle.exif_data_locations.specs.declared.region.Region.{Region}
 use Rattle.exif_data_locations.specs.declared.why.Why.{Why}
-use Rattle.exif_data_locations.specs.declared.why.Why.TheVariants.{GpsNotFollowed, NotChanged, Shared}
+use Rattle.exif_data_locations.specs.declared.why.Why.TheVariants.{GpsNotFollowed, NotChanged, Shared, Thumbnail}
 
 -- ---- fields
 
@@ -121,10 +125,33 @@ gps_fewer : (old : List ℕ) (read : Read) (r : Result (List ℕ) Cause) → rea
 gps_fewer old read (Ok new) e h = erased_fewer old new read e h
 gps_fewer old read (Err cause) e h = record { found = read; reads = e; fields_are = refl; fewer = omega arith }
 
+-- ---- the thumbnail
+
+same_after : (s t : Bool) (read : Read) (old new : List ℕ) (whys : List Why) → reading old ≡ Ok read → reads_as new read ≡ t
+    → let made : List ℕ × List Why = if s then (old, whys) else (if t then (new, whys) else (old, whys ++ Shared ∷ [])) in reading made.0 ≡ Ok read
+same_after true t read old new whys e h = e
+same_after false true read old new whys e h = reads_so new read h
+same_after false false read old new whys e h = e
+
+if_same_after : (read : Read) (old new : List ℕ) (whys : List Why) → reading old ≡ Ok read → reading (if_same read old new whys).0 ≡ Ok read
+if_same_after read old new whys e = same_after (bytes_eq old new) (reads_as new read) read old new whys e refl
+
+span_after : (span : Option Span) (read : Read) (bytes : List ℕ) (whys : List Why) → reading bytes ≡ Ok read
+    → let made : List ℕ × List Why = elim span [ Some s ↦ span_erased read bytes whys s | None ↦ (bytes, whys) ] in reading made.0 ≡ Ok read
+span_after None read bytes whys e = e
+span_after (Some span) read bytes whys e =
+    let made = stretch_erased span.offset span.len bytes in
+    if_same_after read bytes made.0 (noted_if made.1 Thumbnail whys) e
+
+thumbnail_after : (bytes : List ℕ) (whys : List Why) (read : Read) → reading bytes ≡ Ok read → reading (thumbnail_erased (bytes, whys)).0 ≡ Ok read
+thumbnail_after bytes whys read e =
+    subst (λ (x : Result Read Fault). reading (elim x as (λ _. List ℕ × List Why) [ Ok r ↦ read_thumbnail_erased r bytes whys | Err fault ↦ (bytes, whys) ]).0 ≡ Ok read) (sym e)
+    (span_after (thumbnail_span (length bytes) read.fields) read bytes whys e)
+
 -- ---- all
 
 alike_by : (x : Result (Unit {0}) Cause) (old : List ℕ) (read : Read) → reading old ≡ Ok read → within_limit entry_limit old ≡ x
-    → let made : List ℕ × List Why = elim x [ Ok _ ↦ fields_erased (gps_erased old) | Err cause ↦ (old, NotChanged ∷ []) ] in
+    → let made : List ℕ × List Why = elim x [ Ok _ ↦ thumbnail_erased (fields_erased (gps_erased old)) | Err cause ↦ (old, NotChanged ∷ []) ] in
     (found : Read) × (reading made.0 ≡ Ok found) × AllZip IsKept (left_within x old read.fields) found.fields
     × (length found.faults ≤ length read.faults)
 alike_by (Err cause) old read e h = (read, e, all_themselves read.fields, omega arith)
@@ -132,10 +159,11 @@ alike_by (Ok u) old read e h =
     let mid = gps_erased old in
     let f = gps_fewer old read (limited_edit None EraseGps old) e refl in
     let a = fields_after mid.0 mid.1 f.found f.reads in
+    let new = fields_erased mid in
     let few : length f.found.faults ≤ length read.faults = f.fewer in
     let same : length a.found.faults ≡ length f.found.faults = ap length a.faults in (
       a.found,
-      a.reads,
+      thumbnail_after new.0 new.1 a.found a.reads,
       subst (λ (fields : List Field). AllZip IsKept fields a.found.fields) f.fields_are a.fields,
       omega arith,
     )

@@ -2,3 +2,4 @@ mod Alike
 mod FieldSteps
 pub mod Refused
 mod ResourceSteps
+mod ThumbnailSteps

@@ -92,10 +92,10 @@ fields_erased (bytes, whys) = elim (reading bytes) [
 
 -- ---- all
 
--- Exif data without their locations, and why there may still be one; data with too many entries
--- stay
-abbrev pub data_erased : List ℕ → List ℕ × List Why
-data_erased bytes = elim (within_limit entry_limit bytes) [
+-- Exif data without their own locations, and why there may still be one, whatever their thumbnail
+-- holds; data with too many entries stay
+abbrev pub own_erased : List ℕ → List ℕ × List Why
+own_erased bytes = elim (within_limit entry_limit bytes) [
   | Ok _ ↦ fields_erased (gps_erased bytes)
   | Err cause ↦ (bytes, NotChanged ∷ [])
 ]

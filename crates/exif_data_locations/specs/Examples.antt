@@ -14,7 +14,7 @@ use Rattle.exif_edit_base.specs.GpsOffsets.{all_directories, chain_from, childre
 use Rattle.exif_edit_base.specs.Locations.{directory_offsets, located, visited_gps}
 use Rattle.exif_edit_base.specs.Readings.{reading}
 use Rattle.exif_edit.specs.Erasing.{erase_patches, gps_spans}
-use Rattle.exif_data_locations.specs.Erasing.{data_erased}
+use Rattle.exif_data_locations.specs.Locations.{data_erased}
 use Rattle.exif_data_locations.specs.Resources.{resource_at, resources_by}
 use Rattle.exif_data_locations.specs.declared.why.Why.TheVariants.{NotChanged, GpsShared, NotReadWhole, SubIfdsNotRead, MakerNote, IptcNotRead, ResourcesNotRead, ExifResource, Text, TypeNotKnown, Shared}
 

@@ -1,8 +1,11 @@
 pub mod Erasing
 pub mod Examples
 pub mod FieldRegions
+pub mod Locations
 pub mod Promises
 pub mod Regions
 pub mod Resources
 pub mod Texts
+pub mod ThumbnailExamples
+pub mod Thumbnails
 pub mod Wanted

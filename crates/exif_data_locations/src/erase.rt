@@ -1,7 +1,7 @@
-//! The locations in Exif data.
+//! The locations in Exif data, but for those in their thumbnail.
 
 ghost use Rattle.std.specs.Prelude.{◌≡◌, ◌<◌, ◌^◌, length, All, IfOk, OnOk};
-ghost use Rattle.exif_data_locations.specs.Erasing.{checked, data_erased, fields_erased, gps_erased, has_number, if_read, noted_if, read_erased, unread_noted};
+ghost use Rattle.exif_data_locations.specs.Erasing.{checked, fields_erased, gps_erased, has_number, if_read, own_erased, read_erased, unread_noted};
 ghost use Rattle.exif_data_locations.specs.Regions.{LiesIn, regions_erased};
 ghost use Rattle.exif_data_locations.specs.Wanted.{wanted};
 ghost use Rattle.exif_edit_base.specs.Readings.{read_of};
@@ -11,7 +11,7 @@ use crate::gps::{erase_gps, unchanged};
 use crate::region::{Region, erase_regions};
 use crate::text::note_texts;
 use crate::wanted::set_all_wanted;
-use crate::why::Why;
+use crate::why::{Why, note_if};
 use exif_edit_base::limit::check_limit;
 use exif_edit_base::read::{locate, order_named, reads_as};
 use exif_edit_base::{EntryOffset, Error, Located};
@@ -20,18 +20,8 @@ use exif_reader::tiff::Parsed;
 use exif_types::Field;
 use std::alloc::{AllocError, Global};
 
-// How many entries are read at most.
-const ENTRY_LIMIT: u64 = 1_000_000;
-
-// Notes a reason, if a test holds.
-fn note_if(test: bool, why: Why, whys: &mut Vec<Why>) -> Result<(), AllocError>
-    ensures { OnOk result (whys.new.items ≡ noted_if test why whys.old.items) }
-{
-    if test {
-        whys.push(why)?;
-    }
-    Ok(())
-}
+/// How many entries are read at most.
+pub const ENTRY_LIMIT: u64 = 1_000_000;
 
 // Whether a field has this number in its tag.
 fn has_number(number: u16, fields: &[Field]) -> bool
@@ -140,8 +130,8 @@ fn erase_fields(alloc: Global, bytes: &mut [u8], whys: &mut Vec<Why>) -> Result<
     }
 }
 
-// Erases GPS data and the locations of fields.
-fn erase_all(alloc: Global, bytes: &mut [u8]) -> Result<Vec<Why>, AllocError>
+/// Erases GPS data and the locations of fields.
+pub fn erase_all(alloc: Global, bytes: &mut [u8]) -> Result<Vec<Why>, AllocError>
     ensures { IfOk result (λ whys. (bytes.new, whys.items)
         ≡ fields_erased (gps_erased bytes.old)) }
 {
@@ -150,19 +140,10 @@ fn erase_all(alloc: Global, bytes: &mut [u8]) -> Result<Vec<Why>, AllocError>
     Ok(whys)
 }
 
-/// Erases the locations in Exif data, in place, and answers why there may still be one. A TIFF file
-/// is Exif data, too.
-///
-/// Erased are the GPS data, as [`exif_edit::Edit::EraseGps`] does; the locations in the XMP packet
-/// of tag 700, in the IPTC data of tag 33723, and in both where the resources of Photoshop of tag
-/// 34377 have them; and the values of the tags of GeoTIFF. All other bytes stay, and so do all
-/// these but for GPS data where the data would not be read as before then, because bytes have two
-/// uses. Data with more than 1,000,000 entries stay whole.
-///
-/// It takes the memory of two readings and of a copy of the data. Out of memory leaves the data as
-/// they were, or without their GPS data.
-pub fn erase_locations(alloc: Global, bytes: &mut [u8]) -> Result<Vec<Why>, AllocError>
-    ensures { IfOk result (λ whys. (bytes.new, whys.items) ≡ data_erased bytes.old) }
+/// Erases the locations in Exif data but for those in their thumbnail, and answers why there may
+/// still be one. Data with too many entries stay whole.
+pub fn erase_own(alloc: Global, bytes: &mut [u8]) -> Result<Vec<Why>, AllocError>
+    ensures { IfOk result (λ whys. (bytes.new, whys.items) ≡ own_erased bytes.old) }
 {
     match check_limit(alloc, bytes, Some(ENTRY_LIMIT)) {
         Ok(()) => erase_all(alloc, bytes),

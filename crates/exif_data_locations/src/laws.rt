@@ -3,7 +3,7 @@
 
 ghost use Rattle.std.specs.Prelude.{◌≡◌, ℕ, List, Ok};
 ghost use Rattle.exif_edit_base.specs.Readings.{Read, reading};
-ghost use Rattle.exif_data_locations.specs.Erasing.{data_erased};
+ghost use Rattle.exif_data_locations.specs.Locations.{data_erased};
 ghost use Rattle.exif_data_locations.specs.Promises.{ReadsAlike};
 
 /// Of data without their locations exactly the old fields are read, in their order, but those of

@@ -2,18 +2,20 @@
 //!
 //! [`erase_locations`] works on the Exif data of a file, and on a TIFF file, which has the same
 //! form. It erases GPS data, and the locations in XMP packets, IPTC data, resources of Photoshop
-//! and GeoTIFF tags, and answers why a location may still be there.
+//! and GeoTIFF tags, and in the thumbnail, and answers why a location may still be there.
 #![tactic(auto)]
 
 mod erase;
 mod field;
 mod gps;
 pub mod laws;
+mod locations;
 mod region;
 mod resource;
 mod text;
+mod thumbnail;
 mod wanted;
 mod why;
 
-pub use erase::erase_locations;
+pub use locations::erase_locations;
 pub use why::Why;

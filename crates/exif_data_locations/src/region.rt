@@ -79,8 +79,8 @@ fn zero(bytes: &mut [u8])
     bytes.fill(0);
 }
 
-// Erases the locations in what a region holds, and answers why it may still hold one.
-fn erase_what(tag: u16, what: What, bytes: &mut [u8]) -> Option<Why>
+/// Erases the locations in what a region holds, and answers why it may still hold one.
+pub fn erase_what(tag: u16, what: What, bytes: &mut [u8]) -> Option<Why>
     ensures { (bytes.new, result) ≡ what_answer tag what bytes.old }
 {
     match what {

@@ -1,7 +1,11 @@
 //! Why Exif data may still hold a location.
 
+ghost use Rattle.std.specs.Prelude.{◌≡◌, OnOk};
+ghost use Rattle.exif_data_locations.specs.Erasing.{noted_if};
+
 use exif_locations::{iptc, xmp};
 use exif_types::Tag;
+use std::alloc::AllocError;
 use std::fmt;
 
 /// Why Exif data may still hold a location.
@@ -33,8 +37,10 @@ pub enum Why {
     Text(Tag),
     /// The value of this tag has a type that is not known.
     TypeNotKnown(u16),
+    /// The thumbnail has metadata of its own that may say a location.
+    Thumbnail,
     /// XMP, IPTC data, resources of Photoshop or GeoTIFF tags use bytes that have another use, too:
-    /// all of these are as they were.
+    /// all of these are as they were. Or the thumbnail does, and is as it was.
     Shared,
 }
 
@@ -58,10 +64,21 @@ impl fmt::Display for Why {
             Why::Texts(tag) => write!(f, "texts of tag {tag} are not judged"),
             Why::Text(tag) => write!(f, "the text of {tag} is not judged"),
             Why::TypeNotKnown(tag) => write!(f, "the type of tag {tag} is not known"),
+            Why::Thumbnail => write!(f, "the thumbnail may hold a location"),
             Why::Shared => write!(
                 f,
-                "XMP, IPTC or GeoTIFF data share their bytes with other data"
+                "XMP, IPTC or GeoTIFF data, or the thumbnail, share their bytes with other data"
             ),
         }
     }
+}
+
+/// Notes a reason, if a test holds.
+pub fn note_if(test: bool, why: Why, whys: &mut Vec<Why>) -> Result<(), AllocError>
+    ensures { OnOk result (whys.new.items ≡ noted_if test why whys.old.items) }
+{
+    if test {
+        whys.push(why)?;
+    }
+    Ok(())
 }

@@ -4,7 +4,7 @@ ghost use Rattle.std.specs.Prelude.{◌≡◌, false, IfOk, map};
 ghost use Rattle.std.specs.Option.{option_to_list};
 ghost use Rattle.exif_privacy.specs.Parts.{all_zero, in_exif, iptc_answer, iptc_judged, part_answer, part_reasons, unjudged, xmp_answer, xmp_judged};
 ghost use Rattle.exif_privacy.specs.Promises.{is_searched};
-ghost use Rattle.exif_data_locations.specs.Erasing.{data_erased};
+ghost use Rattle.exif_data_locations.specs.Locations.{data_erased};
 
 use crate::blank::{blank_packet, clear};
 use crate::stays::Why;

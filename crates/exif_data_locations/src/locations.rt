@@ -1,0 +1,50 @@
+//! The locations in Exif data.
+
+ghost use Rattle.std.specs.Prelude.{◌≡◌, IfOk};
+ghost use Rattle.exif_data_locations.specs.Erasing.{fields_erased, gps_erased};
+ghost use Rattle.exif_data_locations.specs.Locations.{data_erased};
+ghost use Rattle.exif_data_locations.specs.Thumbnails.{thumbnail_erased};
+
+use crate::erase::{ENTRY_LIMIT, erase_all};
+use crate::gps::unchanged;
+use crate::thumbnail::erase_thumbnail;
+use crate::why::Why;
+use exif_edit_base::Error;
+use exif_edit_base::limit::check_limit;
+use std::alloc::{AllocError, Global};
+
+// Erases the locations in data, and then those in their thumbnail.
+fn erase_with_thumbnail(alloc: Global, bytes: &mut [u8]) -> Result<Vec<Why>, AllocError>
+    ensures { IfOk result (λ whys. (bytes.new, whys.items)
+        ≡ thumbnail_erased (fields_erased (gps_erased bytes.old))) }
+{
+    let mut whys = erase_all(alloc, bytes)?;
+    erase_thumbnail(alloc, bytes, &mut whys)?;
+    Ok(whys)
+}
+
+/// Erases the locations in Exif data, in place, and answers why there may still be one. A TIFF file
+/// is Exif data, too.
+///
+/// Erased are the GPS data, as [`exif_edit::Edit::EraseGps`] does; the locations in the XMP packet
+/// of tag 700, in the IPTC data of tag 33723, and in both where the resources of Photoshop of tag
+/// 34377 have them; and the values of the tags of GeoTIFF. All other bytes stay, and so do all
+/// these but for GPS data where the data would not be read as before then, because bytes have two
+/// uses. Data with more than 1,000,000 entries stay whole.
+///
+/// The thumbnail is a JPEG stream, which may have Exif data, XMP and IPTC data of its own (Exif
+/// 2.32, 4.5.8). Their locations are erased, too, unless the data would not be read as before then.
+/// What else it holds that may say a location has one reason together. A thumbnail that its Exif
+/// data have in turn is not looked at.
+///
+/// It takes the memory of two readings and of a copy of the data, and so for the thumbnail. Out of
+/// memory leaves the data as they were, or with some of their locations erased.
+pub fn erase_locations(alloc: Global, bytes: &mut [u8]) -> Result<Vec<Why>, AllocError>
+    ensures { IfOk result (λ whys. (bytes.new, whys.items) ≡ data_erased bytes.old) }
+{
+    match check_limit(alloc, bytes, Some(ENTRY_LIMIT)) {
+        Ok(()) => erase_with_thumbnail(alloc, bytes),
+        Err(Error::OutOfMemory) => Err(AllocError),
+        Err(_) => unchanged(alloc),
+    }
+}
