@@ -1,5 +1,5 @@
 -- The thumbnail of Exif data (Exif 2.32, 4.5.8): a JPEG stream, which may have metadata of its own.
-use Rattle.std.specs.Prelude.{ℕ, ◌+◌, ◌==◌, ◌||◌, not, nat_le, Bool, true, false, List, [], ◌∷◌, ◌++◌, length, take, drop, Option, None, Some, Ok, Err, if◌then◌else◌}
+use Rattle.std.specs.Prelude.{ℕ, ◌+◌, ◌==◌, ◌||◌, not, nat_le, Bool, true, false, List, [], ◌∷◌, ◌++◌, length, take, drop, is_some, Option, None, Some, Ok, Err, if◌then◌else◌}
 use Rattle.std.specs.List.{list_all}
 use Rattle.std.specs.Option.{option_and_then}
 use Rattle.std.specs.Str.{bytes_eq}
@@ -58,10 +58,6 @@ abbrev pub with_reason : List ℕ × Option Why → List ℕ × Bool
 with_reason (new, None) = (new, false)
 with_reason (new, Some why) = (new, true)
 
--- so with a list of reasons
-abbrev pub with_reasons : List ℕ × List Why → List ℕ × Bool
-with_reasons (new, whys) = (new, not (length whys == 0))
-
 -- whether all bytes are zero
 abbrev pub all_zero : List ℕ → Bool
 all_zero bytes = list_all (λ b. b == 0) bytes
@@ -86,10 +82,21 @@ what_of _ bytes = what.Other
 abbrev pub other_answer : Kind → List ℕ → List ℕ × Bool
 other_answer k bytes = with_reason (what_answer 0x201 (what_of k bytes) bytes)
 
--- the data of a part without their locations, and whether they may still hold one; Exif data have
--- no further thumbnail here
+-- whether data have a thumbnail
+abbrev pub has_thumbnail : List ℕ → Bool
+has_thumbnail bytes = elim (reading bytes) [
+  | Ok read ↦ is_some (thumbnail_span (length bytes) read.fields)
+  | Err fault ↦ false
+]
+
+-- new data, and whether they may hold a location: for a reason, or in a thumbnail
+abbrev pub with_further : List ℕ × List Why → List ℕ × Bool
+with_further (new, whys) = (new, not (length whys == 0) || has_thumbnail new)
+
+-- the data of a part without their locations, and whether they may still hold one; a further
+-- thumbnail in Exif data is not searched
 abbrev pub part_answer : Kind → List ℕ → List ℕ × Bool
-part_answer kind.Exif bytes = with_reasons (own_erased bytes)
+part_answer kind.Exif bytes = with_further (own_erased bytes)
 part_answer k bytes = other_answer k bytes
 
 -- so many bytes from an offset on

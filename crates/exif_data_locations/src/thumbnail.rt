@@ -2,7 +2,8 @@
 
 ghost use Rattle.std.specs.Prelude.{◌≡◌, ◌+◌, ◌≤◌, false, length, All, IfOk, IfSome, OnOk};
 ghost use Rattle.std.specs.Str.{bytes_eq};
-ghost use Rattle.exif_data_locations.specs.Thumbnails.{all_zero, chain_tag, if_same, number_named, other_answer, part_answer, part_erased, parts_erased, read_thumbnail_erased, second, span_erased, span_in, stream_erased, stretch_erased, thumbnail_erased, thumbnail_span, unjudged, what_of};
+ghost use Rattle.exif_data_locations.specs.Erasing.{own_erased};
+ghost use Rattle.exif_data_locations.specs.Thumbnails.{all_zero, chain_tag, has_thumbnail, if_same, number_named, other_answer, part_answer, part_erased, parts_erased, read_thumbnail_erased, second, span_erased, span_in, stream_erased, stretch_erased, thumbnail_erased, thumbnail_span, unjudged, what_of, with_further};
 ghost use Rattle.exif_edit_base.specs.Readings.{read_of};
 ghost use Rattle.exif_inventory.specs.Promises.{EndsIn};
 ghost use Rattle.exif_types.specs.Lookup.{is_named};
@@ -109,15 +110,33 @@ fn erase_other(kind: Kind, bytes: &mut [u8]) -> bool
     erase_what(OFFSET, what, bytes).is_some()
 }
 
+// Whether data have a thumbnail.
+fn has_thumbnail(alloc: Global, bytes: &[u8]) -> Result<bool, AllocError>
+    ensures { IfOk result (λ has. has ≡ has_thumbnail bytes.now) }
+{
+    match read(alloc, bytes) {
+        Ok(parsed) => Ok(thumbnail_span(bytes.len(), parsed.fields.as_slice()).is_some()),
+        Err(Stop::Fault(_)) => Ok(false),
+        Err(Stop::OutOfMemory) => Err(AllocError),
+    }
+}
+
+// Erases the locations of Exif data but for those in a further thumbnail, and answers whether they
+// may still hold one.
+fn erase_further(alloc: Global, bytes: &mut [u8]) -> Result<bool, AllocError>
+    ensures { IfOk result (λ left. (bytes.new, left) ≡ with_further (own_erased bytes.old)) }
+{
+    let whys = erase_own(alloc, bytes)?;
+    let further = has_thumbnail(alloc, bytes)?;
+    Ok(!whys.is_empty() || further)
+}
+
 // Erases the locations in the data of a part, and answers whether they may still hold one.
 fn erase_part(alloc: Global, kind: Kind, bytes: &mut [u8]) -> Result<bool, AllocError>
     ensures { IfOk result (λ left. (bytes.new, left) ≡ part_answer kind bytes.old) }
 {
     match kind {
-        Kind::Exif => {
-            let whys = erase_own(alloc, bytes)?;
-            Ok(!whys.is_empty())
-        }
+        Kind::Exif => erase_further(alloc, bytes),
         _ => Ok(erase_other(kind, bytes)),
     }
 }
