@@ -1,5 +1,5 @@
 -- What scrubbing leaves.
-use Rattle.std.specs.Prelude.{Bool, true, false, List, [], ◌∷◌, Option, None, Some}
+use Rattle.std.specs.Prelude.{Bool, true, false, List, [], ◌∷◌, Option, Some}
 use Rattle.exif_inventory.specs.declared.part.Part.{Part}
 use Rattle.exif_change.specs.Changed.{Undone, still_there}
 use Rattle.exif_change.specs.declared.scrubbing.Removed.{Removed}
