@@ -72,4 +72,4 @@ heif_known file new h e = emptied_known (heif.emptied file) new (found file h) e
 pub heif_taken : (removed : Removed) (file : List ℕ) → takes_metadata removed ≡ true → scrubbed_as Heif removed file ≡ heif_emptied (heif.emptied file)
 heif_taken removed.Metadata file t = refl
 heif_taken removed.AllButOrientation file t = refl
-heif_taken removed.Gps file t = absurd (cc)
+heif_taken (removed.Gps unread) file t = absurd (cc)

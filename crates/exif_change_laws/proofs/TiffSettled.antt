@@ -63,7 +63,7 @@ tiff_taken : (removed : Removed) (file : List ℕ) → takes_metadata removed �
     → scrubbed_as Tiff removed file ≡ tiff_emptied (tiff.scrubbed (keeps_orientation removed) file)
 tiff_taken removed.Metadata file t = refl
 tiff_taken removed.AllButOrientation file t = refl
-tiff_taken removed.Gps file t = absurd (cc)
+tiff_taken (removed.Gps unread) file t = absurd (cc)
 
 tiff_made : (made : Result (List ℕ) Fault) (change : Change) → tiff_emptied made ≡ Ok change → (new : List ℕ) × (made ≡ Ok new) × (change ≡ whole new)
 tiff_made (Ok new) change e = (new, refl, cc)

@@ -15,4 +15,4 @@ parts_left (one ∷ undone) = parts_left undone
 abbrev pub takes_metadata : Removed → Bool
 takes_metadata removed.Metadata = true
 takes_metadata removed.AllButOrientation = true
-takes_metadata removed.Gps = false
+takes_metadata (removed.Gps unread) = false

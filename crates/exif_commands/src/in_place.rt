@@ -47,13 +47,11 @@ pub fn change_in_place<W: Sink, E: Sink>(
         session.rt,
         change,
         keeping,
-        Messages {
-            paths: paths.as_slice(),
-            keys: keys.as_slice(),
-            quiet: session.request.quiet,
-            console: &mut session.console,
-            counts: &mut session.pending.counts,
-        },
+        session.request.quiet,
+        paths.as_slice(),
+        keys.as_slice(),
+        &mut session.console,
+        &mut session.pending.counts,
     )?;
     for status in results.iter().flatten() {
         worst = worst.or_worse(*status);
@@ -62,15 +60,25 @@ pub fn change_in_place<W: Sink, E: Sink>(
 }
 
 // Changes the files, and reports each.
-fn change_files<E: Sink>(
+fn change_files<'p, 'k, 'c, 'r, 'n, 'h, 'a, E: Sink>(
     rt: &HostRuntime,
-    change: &Change<'_>,
+    change: &'h Change<'a>,
     keeping: Keeping,
-    mut messages: Messages<'_, '_, '_, '_, '_, E>,
+    quiet: bool,
+    paths: &'p [String],
+    keys: &'k [String],
+    console: &'c mut Console<'r, E>,
+    counts: &'n mut Counts,
 ) -> Result<Vec<Option<Status>>, AllocError> {
     let edit = ChangeEdit(change);
     let mut files = HostFiles::new(rt);
-    let keys = messages.keys;
+    let mut messages = Messages {
+        paths,
+        keys,
+        quiet,
+        console,
+        counts,
+    };
     change_all(rt.alloc(), &mut files, &edit, keys, keeping, &mut messages)
 }
 
