@@ -83,7 +83,7 @@ check "of which none is left" test -z "$(exiftool -s -GPS:all work/new.jpg)"
 if has exiv2; then
     exiv2 -pe work/all.jpg | grep -v GPSInfo | grep -v GPSTag >old 2>/dev/null
     exiv2 -pe work/new.jpg >new 2>/dev/null
-    check "exiv2 reads no place" sh -c '! grep -q GPSInfo new'
+    check "exiv2 reads no GPS data" sh -c '! grep -q GPSInfo new'
     "$mexaldor" set --force work/all.jpg work/new.jpg Orientation=1
     exiv2 -pe work/all.jpg >old 2>/dev/null
     exiv2 -pe work/new.jpg >new 2>/dev/null
