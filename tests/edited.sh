@@ -51,7 +51,7 @@ check "and all else as before" test "$(diff old new | grep '^>' | grep -vc 'Date
 check "moved back, the file is the old one" cmp work/all.jpg work/new.jpg
 
 "$mexaldor" scrub --force --places-only work/all.jpg work/new.jpg
-check "exiftool reads no place" test -z "$(exiftool -s -GPS:all work/new.jpg)"
+check "exiftool reads no GPS data" test -z "$(exiftool -s -GPS:all work/new.jpg)"
 seen work/new.jpg >new
 check "and all else as before" test "$(diff old new | grep -v '^[0-9]' | grep -vc 'GPS')" = 0
 check "the length stays then" test "$(wc -c <work/all.jpg)" = "$(wc -c <work/new.jpg)"

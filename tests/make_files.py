@@ -20,10 +20,10 @@ def item(order, kind, value):
     return b"".join(struct.pack(order + ("H" if kind == SHORT else "I"), it) for it in value), len(value)
 
 
-def directory(order, place, entries, following=0):
-    """A directory at a place: its bytes, with its values behind it."""
+def directory(order, offset, entries, following=0):
+    """A directory at an offset: its bytes, with its values behind it."""
     head, behind = struct.pack(order + "H", len(entries)), b""
-    rest = place + 2 + 12 * len(entries) + 4
+    rest = offset + 2 + 12 * len(entries) + 4
     for tag, kind, value in sorted(entries):
         text, count = item(order, kind, value)
         head += struct.pack(order + "HHI", tag, kind, count)
@@ -45,19 +45,19 @@ def tiff(first, exif=(), gps=(), thumbnail=b"", order="<"):
     first, exif, gps = list(first), list(exif), list(gps)
     names = [(0x8769, exif), (0x8825, gps)]
     first += [(tag, LONG, [0]) for tag, below in names if below]
-    place = 8 + size(first)
+    offset = 8 + size(first)
     data = b""
     for tag, below in names:
         if below:
-            first = [it for it in first if it[0] != tag] + [(tag, LONG, [place])]
-            data += directory(order, place, below)
-            place += size(below)
+            first = [it for it in first if it[0] != tag] + [(tag, LONG, [offset])]
+            data += directory(order, offset, below)
+            offset += size(below)
     following = 0
     if thumbnail:
-        following = place
+        following = offset
         second = [(0x103, SHORT, [6]), (0x201, LONG, [0]), (0x202, LONG, [len(thumbnail)])]
-        second[1] = (0x201, LONG, [place + size(second)])
-        data += directory(order, place, second) + thumbnail
+        second[1] = (0x201, LONG, [offset + size(second)])
+        data += directory(order, offset, second) + thumbnail
     start = b"II*\0\x08\0\0\0" if order == "<" else b"MM\0*\0\0\0\x08"
     return start + directory(order, 8, first, following) + data
 
@@ -105,12 +105,12 @@ def heif(data):
     entries = box(b"iinf", b"\0\0\0\0\0\x01" + entry)
     payload = b"\0\0\0\0" + data
 
-    def meta(place):
-        located = b"\0\0\0\0\x44\0\0\x01\0\x01\0\0\0\x01" + struct.pack(">II", place, len(payload))
+    def meta(offset):
+        located = b"\0\0\0\0\x44\0\0\x01\0\x01\0\0\0\x01" + struct.pack(">II", offset, len(payload))
         return box(b"meta", b"\0\0\0\0" + entries + box(b"iloc", located))
 
-    place = len(brand) + len(meta(0)) + 8
-    return brand + meta(place) + box(b"mdat", payload)
+    offset = len(brand) + len(meta(0)) + 8
+    return brand + meta(offset) + box(b"mdat", payload)
 
 
 THUMBNAIL = b"\xff\xd8\xff\xd9"
