@@ -1,7 +1,12 @@
 -- What scrubbing leaves.
-use Rattle.std.specs.Prelude.{Bool, true, false, List, [], ◌∷◌, Option, Some}
+use Rattle.std.specs.Prelude.{◌≡◌, ℕ, Bool, true, false, List, [], ◌∷◌, Option, Some, Ok}
+use Rattle.exif_containers.specs.Container.{format_in}
+use Rattle.exif_containers.specs.declared.container.Format.{Format}
 use Rattle.exif_inventory.specs.declared.part.Part.{Part}
-use Rattle.exif_change.specs.Changed.{Undone, still_there}
+use Rattle.exif_inventory_heif.specs.Inventories.{heif_inventory}
+use Rattle.exif_scrub_heif.specs.Promises.{AllKnown}
+use Rattle.exif_change.specs.Changed.{Change, Undone, still_there}
+use Rattle.exif_change.specs.Changes.{scrubbed}
 use Rattle.exif_change.specs.declared.scrubbing.Removed.{Removed}
 use Rattle.exif_change.specs.declared.scrubbing.Removed.TheVariants as removed
 
@@ -16,3 +21,16 @@ abbrev pub takes_metadata : Removed → Bool
 takes_metadata removed.Metadata = true
 takes_metadata removed.AllButOrientation = true
 takes_metadata (removed.Gps unread) = false
+
+-- a file of a format was scrubbed: all its metadata were taken out, maybe but for the orientation
+pub record Emptied (format : Format) : Type 0 where
+  pub removed : Removed
+  pub file : List ℕ
+  pub change : Change
+  pub takes : takes_metadata removed ≡ true
+  pub of_format : format_in file ≡ Some format
+  pub made : scrubbed removed file ≡ Ok change
+
+-- each part of a new HEIF file is the picture's, or says nothing, or was left undone
+abbrev pub IsAllKnown : Change → Type 0
+IsAllKnown change = AllKnown change.file (parts_left change.undone) (heif_inventory change.file)
