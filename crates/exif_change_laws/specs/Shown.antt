@@ -207,3 +207,20 @@ abbrev pub Sets : List Field → Tag → Value → Value → Type 0
 Sets fields tag value new =
     field_for fields (tag, text_of tag value)
     ≡ Ok (record { tag = tag; ifd_num = primary; value = new })
+
+-- a field that a file has among its fields
+pub record Held : Type 0 where
+  pub fields : List Field
+  pub tag : Tag
+  pub field : Field
+  pub has : HasField fields tag field
+
+-- what is shown of it, assigned to its tag, sets this value
+abbrev pub SetsTo : Held → Value → Type 0
+SetsTo h new = Sets h.fields h.tag h.field.value new
+
+-- it is one fraction, of which another one is shown that fits the tag
+pub record HoldsOne (h : Held) (r new : Fraction) : Type 0 where
+  pub value : h.field.value ≡ one r
+  pub shown : IsSingle h.tag r new
+  pub fits : Fits h.tag (one new)

@@ -5,10 +5,9 @@ ghost use Rattle.exif_table.specs.declared.kind.TextKind.TheVariants as K;
 ghost use Rattle.exif_text.specs.declared.rational.Rational.{Rational as Fraction};
 ghost use Rattle.exif_text.specs.declared.rational.SRational.{SRational as SignedFraction};
 ghost use Rattle.exif_types.specs.TagRows.{kind_of};
-ghost use Rattle.exif_types.specs.declared.field.Field.{Field};
 ghost use Rattle.exif_types.specs.declared.tag.Tag.{Tag};
 ghost use Rattle.exif_types.specs.declared.value.Value.{Value};
-ghost use Rattle.exif_change_laws.specs.Shown.{AreEqual, AreEqualSigned, AreAlike, Fits, HasDecimals, IsExact, IsExactSigned, IsExposure, IsParsedAs, IsShownAs, IsSingle, IsSpelled, as_decimals, as_shown, as_shown_signed, one, own_text, HasField, Sets};
+ghost use Rattle.exif_change_laws.specs.Shown.{AreAlike, AreEqual, AreEqualSigned, Fits, HasDecimals, Held, HoldsOne, IsExact, IsExactSigned, IsExposure, IsParsedAs, IsShownAs, IsSingle, IsSpelled, SetsTo, as_decimals, as_shown, as_shown_signed, one, own_text};
 
 /// The plain text of numbers and fractions is parsed as exactly these, for each tag. It is what is
 /// shown of tags of which nothing more is known.
@@ -51,13 +50,9 @@ pub fn single_fractions_are_parsed_back()
 /// Where what is shown of a field is assigned to its tag, [`set`](exif_change::set) sets the value
 /// that the field has, and of decimals and of `1/n` the fractions that they are.
 pub fn shown_values_are_set_again()
-    ensures plain { (fields : List Field) (tag : Tag) (f : Field)
-        → HasField fields tag f → kind_of tag ≡ K.Plain → IsSpelled f.value
-        → Sets fields tag f.value f.value }
-    ensures decimals { (fields : List Field) (tag : Tag) (f : Field)
-        → HasField fields tag f → HasDecimals tag f.value
-        → Sets fields tag f.value (as_decimals f.value) }
-    ensures single { (fields : List Field) (tag : Tag) (f : Field) (r new : Fraction)
-        → HasField fields tag f → f.value ≡ one r → IsSingle tag r new → Fits tag (one new)
-        → Sets fields tag f.value (one new) }
+    ensures plain { (h : Held)
+        → kind_of h.tag ≡ K.Plain → IsSpelled h.field.value → SetsTo h h.field.value }
+    ensures decimals { (h : Held)
+        → HasDecimals h.tag h.field.value → SetsTo h (as_decimals h.field.value) }
+    ensures single { (h : Held) (r new : Fraction) → HoldsOne h r new → SetsTo h (one new) }
 {}
