@@ -89,7 +89,7 @@ blanked() {
     gives "check finds no location in the new $1" 0 "$mexaldor" check "blank.$1"
 }
 
-for file in broken_xmp.jpg broken_long.jpg broken_iptc.jpg broken_extended.jpg broken_xmp.heic; do
+for file in broken_xmp.jpg broken_long.jpg broken_iptc.jpg broken_extended.jpg broken_xmp.heic broken_xmp.tif; do
     blanked "$file"
 done
 check "a long packet has no properties then" grep -qaF "<x:xmpmeta xmlns:x='adobe:ns:meta/'/>   " blank.broken_long.jpg
@@ -136,7 +136,7 @@ done
 check "a JPEG without its profile is the picture" cmp files/plain.jpg bare.profile.jpg
 check "a WebP file without its profile is the picture" cmp files/plain.webp bare.profile.webp
 gives "a HEIF file keeps its colour profile" 3 "$mexaldor" scrub --strip-color files/exif.heic bare.heic
-says "and it is said" "files/exif.heic: HEIF and TIFF files keep their colour profile"
+says "and it is said" "files/exif.heic: the colour profile stays in files of this format"
 check "all else is done" cmp bare.heic clean.exif.heic
 gives "locations and the profile" 2 "$mexaldor" scrub --locations-only --strip-color files/profile.jpg bare.jpg
 gives "a picture behind the first one" 0 "$mexaldor" scrub --force files/second_picture.jpg clean.jpg

@@ -10,8 +10,8 @@ use Rattle.exif_check.specs.declared.checked.Location.{Location}
 use Rattle.exif_check.specs.declared.checked.Location.TheVariants.{Absent, Present, Unknown}
 use Rattle.exif_privacy.specs.Erasing.{erased}
 use Rattle.exif_privacy.specs.declared.stays.Stays.{Stays}
-use Rattle.exif_privacy.specs.declared.unread.Unread.{Unread}
-use Rattle.exif_privacy.specs.declared.unread.Unread.TheVariants.{Blank, Keep}
+use Rattle.exif_locations.specs.declared.unread.Unread.{Unread}
+use Rattle.exif_locations.specs.declared.unread.Unread.TheVariants.{Blank, Keep}
 use Rattle.exif_c.specs.Buffers.{Gives, GivesNothing}
 use Rattle.exif_c.specs.Statuses.{number_of}
 use Rattle.exif_c.specs.declared.status.Status.{Status}

@@ -16,7 +16,7 @@ use Rattle.exif_types.specs.declared.tag.Tag.{Tag}
 use Rattle.exif_inventory.specs.declared.part.Part.{Part}
 use Rattle.exif_privacy.specs.Erasing as privacy
 use Rattle.exif_privacy.specs.declared.stays.Stays.{Stays}
-use Rattle.exif_privacy.specs.declared.unread.Unread.{Unread}
+use Rattle.exif_locations.specs.declared.unread.Unread.{Unread}
 use Rattle.exif_scrub_heif.specs.Scrubbing as heif
 use Rattle.exif_scrub_heif.specs.declared.fault.Fault as heif_faults
 use Rattle.exif_scrub_tiff.specs.Scrubbing as tiff

@@ -71,7 +71,7 @@ impl fmt::Display for Left {
                     "still there: {kind} at offset {offset}, which may hold metadata"
                 )
             }
-            Left::Color => write!(f, "HEIF and TIFF files keep their colour profile"),
+            Left::Color => write!(f, "the colour profile stays in files of this format"),
         }
     }
 }

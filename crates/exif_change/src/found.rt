@@ -10,9 +10,9 @@ use crate::changed::{Changed, Left};
 use exif_inventory::{Kind, Part, inventory};
 use std::alloc::{AllocError, Global};
 
-// Whether a part belongs to a file without metadata: it is what the first picture needs, or Exif
-// data that were put.
-fn belongs(put: bool, part: Part) -> bool
+/// Whether a part belongs to a file without metadata: it is what the first picture needs, or Exif
+/// data that were put.
+pub fn belongs(put: bool, part: Part) -> bool
     ensures { result ≡ belongs put part }
 {
     part.picture == 0
@@ -62,7 +62,7 @@ pub(crate) fn with_parts(
 }
 
 /// A JPEG or WebP file that was rewritten, with what is found in it that does not belong there.
-pub(crate) fn with_found(alloc: Global, put: bool, changed: Changed) -> Result<Changed, Refusal>
+pub fn with_found(alloc: Global, put: bool, changed: Changed) -> Result<Changed, Refusal>
     ensures { Answers change_of result (with_found put (Ok (change_of changed))) }
 {
     let found = found_in(alloc, put, changed.file.as_slice())?;

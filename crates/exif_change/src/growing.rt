@@ -181,8 +181,8 @@ fn longest(fields: &[Field]) -> Option<Tag>
     Some(longest_after(&fields[1..], fields[0].tag, most))
 }
 
-// New Exif data that hold these fields alone, big endian.
-fn new_data(alloc: Global, fields: &[Field]) -> Result<Vec<u8>, Error>
+/// New Exif data that hold these fields alone, big endian.
+pub fn new_data(alloc: Global, fields: &[Field]) -> Result<Vec<u8>, Error>
     ensures { Gives (λ bytes. bytes.items) result (new_data fields.now) }
 {
     let mut writer = Writer::new(alloc);

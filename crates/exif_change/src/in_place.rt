@@ -49,7 +49,7 @@ fn set_by(edit: Edit) -> Option<Field>
 
 /// Fields that are to be set in a file.
 #[derive(Drop)]
-pub(crate) struct Sets {
+pub struct Sets {
     /// Those that are set in place, if they fit.
     pub single: Vec<Field>,
     /// Those whose name more than one field of the file has: they are set in the data.

@@ -171,9 +171,9 @@ fn tiff_emptied(alloc: Global, file: &[u8], removed: Removed) -> Result<Changed,
     }
 }
 
-// The file without the locations of its parts, or without its GPS data where no parts of it are
-// known.
-fn parts_unlocated(alloc: Global, unread: Unread, mut file: Vec<u8>) -> Result<Changed, Refusal>
+/// The file without the locations of its parts ([`erase_locations`]), or without its GPS data where
+/// no parts of it are known, and what may still hold one.
+pub fn parts_unlocated(alloc: Global, unread: Unread, mut file: Vec<u8>) -> Result<Changed, Refusal>
     ensures { Answers change_of result (if_parted (privacy_erased unread file.items)) }
 {
     match erase_locations(alloc, file.as_mut_slice(), unread)? {
@@ -224,8 +224,8 @@ fn without_metadata(
     }
 }
 
-// What is put in place of the metadata of a file.
-fn kept(alloc: Global, file: &[u8], removed: Removed) -> Result<Option<Vec<u8>>, Refusal>
+/// The Exif data that are put in place of the metadata of a file, if some are kept.
+pub fn kept(alloc: Global, file: &[u8], removed: Removed) -> Result<Option<Vec<u8>>, Refusal>
     ensures { Answers (option_map (λ made. made.items)) result (kept removed file.now) }
 {
     match removed {

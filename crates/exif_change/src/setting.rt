@@ -108,8 +108,9 @@ fn assigned_fields(
     }
 }
 
-// The fields that are to be set in a file where these were read.
-fn assigned(
+/// The fields that are to be set in a file where these were read, of those of one tag the last: for
+/// callers that know where a file has its Exif data.
+pub fn assigned(
     alloc: Global,
     exif: Option<&Exif>,
     assignments: &[Assignment<'_>],

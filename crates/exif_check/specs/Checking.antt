@@ -6,7 +6,7 @@ use Rattle.exif_privacy.specs.Files.{parts_of}
 use Rattle.exif_privacy.specs.Judging.{judged}
 use Rattle.exif_privacy.specs.declared.stays.Why.{Why}
 use Rattle.exif_privacy.specs.declared.stays.Why.TheVariants.{StillThere}
-use Rattle.exif_privacy.specs.declared.unread.Unread.TheVariants.{Keep}
+use Rattle.exif_locations.specs.declared.unread.Unread.TheVariants.{Keep}
 use Rattle.exif_check.specs.declared.checked.Checked.{Checked}
 use Rattle.exif_check.specs.declared.checked.Location.{Location}
 use Rattle.exif_check.specs.declared.checked.Location.TheVariants.{Absent, Present, Unknown}

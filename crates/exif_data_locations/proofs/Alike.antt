@@ -21,6 +21,7 @@ use Rattle.exif_edit.specs.Erasing.{erase_patches, without_gps}
 use Rattle.exif_edit.specs.declared.edits.Edit.TheVariants.{EraseGps}
 use Rattle.exif_edit.proofs.EraseSound.{was_erased}
 use Rattle.exif_edit.proofs.ReadSound.{reads_so}
+use Rattle.exif_locations.specs.declared.unread.Unread.{Unread}
 use Rattle.exif_data_locations.specs.Erasing.{checked, entry_limit, fields_erased, gps_erased, gps_refused, is_followed, noted_if, read_erased}
 use Rattle.exif_data_locations.specs.FieldRegions.{held_in}
 use Rattle.exif_data_locations.specs.Locations.{data_erased}
@@ -81,17 +82,17 @@ if_after true read entries old new whys e h = record {
 }
 if_after false read entries old new whys e h = unchanged read old e
 
-checked_after : (regions : List Region) (read : Read) (entries : List EntryOffset) (bytes : List ℕ) (whys : List Why) → reading bytes ≡ Ok read
-    → After read (checked read entries bytes regions whys).0
-checked_after [] read entries bytes whys e = unchanged read bytes e
-checked_after (r ∷ regions) read entries bytes whys e =
-    let made = regions_erased (r ∷ regions) (bytes, whys) in
+checked_after : (unread : Unread) (regions : List Region) (read : Read) (entries : List EntryOffset) (bytes : List ℕ) (whys : List Why) → reading bytes ≡ Ok read
+    → After read (checked unread read entries bytes regions whys).0
+checked_after unread [] read entries bytes whys e = unchanged read bytes e
+checked_after unread (r ∷ regions) read entries bytes whys e =
+    let made = regions_erased unread (r ∷ regions) (bytes, whys) in
     if_after (reads_as made.0 (wanted read entries bytes made.0)) read entries bytes made.0 made.1 e refl
 
-fields_after : (bytes : List ℕ) (whys : List Why) (read : Read) → reading bytes ≡ Ok read → After read (fields_erased (bytes, whys)).0
-fields_after bytes whys read e =
-    subst (λ (x : Result Read Fault). After read (elim x as (λ _. List ℕ × List Why) [ Ok r ↦ read_erased r (map entry_of (located bytes)) bytes whys | Err fault ↦ (bytes, whys) ]).0) (sym e)
-    (checked_after _ read (map entry_of (located bytes)) bytes _ e)
+fields_after : (unread : Unread) (bytes : List ℕ) (whys : List Why) (read : Read) → reading bytes ≡ Ok read → After read (fields_erased unread (bytes, whys)).0
+fields_after unread bytes whys read e =
+    subst (λ (x : Result Read Fault). After read (elim x as (λ _. List ℕ × List Why) [ Ok r ↦ read_erased unread r (map entry_of (located bytes)) bytes whys | Err fault ↦ (bytes, whys) ]).0) (sym e)
+    (checked_after unread _ read (map entry_of (located bytes)) bytes _ e)
 
 -- ---- GPS data erased
 
@@ -136,39 +137,39 @@ same_after false false read old new whys e h = e
 if_same_after : (read : Read) (old new : List ℕ) (whys : List Why) → reading old ≡ Ok read → reading (if_same read old new whys).0 ≡ Ok read
 if_same_after read old new whys e = same_after (bytes_eq old new) (reads_as new read) read old new whys e refl
 
-span_after : (span : Option Span) (read : Read) (bytes : List ℕ) (whys : List Why) → reading bytes ≡ Ok read
-    → let made : List ℕ × List Why = elim span [ Some s ↦ span_erased read bytes whys s | None ↦ (bytes, whys) ] in reading made.0 ≡ Ok read
-span_after None read bytes whys e = e
-span_after (Some span) read bytes whys e =
-    let made = stretch_erased span.offset span.len bytes in
+span_after : (unread : Unread) (span : Option Span) (read : Read) (bytes : List ℕ) (whys : List Why) → reading bytes ≡ Ok read
+    → let made : List ℕ × List Why = elim span [ Some s ↦ span_erased unread read bytes whys s | None ↦ (bytes, whys) ] in reading made.0 ≡ Ok read
+span_after unread None read bytes whys e = e
+span_after unread (Some span) read bytes whys e =
+    let made = stretch_erased unread span.offset span.len bytes in
     if_same_after read bytes made.0 (noted_if made.1 Thumbnail whys) e
 
-thumbnail_after : (bytes : List ℕ) (whys : List Why) (read : Read) → reading bytes ≡ Ok read → reading (thumbnail_erased (bytes, whys)).0 ≡ Ok read
-thumbnail_after bytes whys read e =
-    subst (λ (x : Result Read Fault). reading (elim x as (λ _. List ℕ × List Why) [ Ok r ↦ read_thumbnail_erased r bytes whys | Err fault ↦ (bytes, whys) ]).0 ≡ Ok read) (sym e)
-    (span_after (thumbnail_span (length bytes) read.fields) read bytes whys e)
+thumbnail_after : (unread : Unread) (bytes : List ℕ) (whys : List Why) (read : Read) → reading bytes ≡ Ok read → reading (thumbnail_erased unread (bytes, whys)).0 ≡ Ok read
+thumbnail_after unread bytes whys read e =
+    subst (λ (x : Result Read Fault). reading (elim x as (λ _. List ℕ × List Why) [ Ok r ↦ read_thumbnail_erased unread r bytes whys | Err fault ↦ (bytes, whys) ]).0 ≡ Ok read) (sym e)
+    (span_after unread (thumbnail_span (length bytes) read.fields) read bytes whys e)
 
 -- ---- all
 
-alike_by : (x : Result (Unit {0}) Cause) (old : List ℕ) (read : Read) → reading old ≡ Ok read → within_limit entry_limit old ≡ x
-    → let made : List ℕ × List Why = elim x [ Ok _ ↦ thumbnail_erased (fields_erased (gps_erased old)) | Err cause ↦ (old, NotChanged ∷ []) ] in
+alike_by : (unread : Unread) (x : Result (Unit {0}) Cause) (old : List ℕ) (read : Read) → reading old ≡ Ok read → within_limit entry_limit old ≡ x
+    → let made : List ℕ × List Why = elim x [ Ok _ ↦ thumbnail_erased unread (fields_erased unread (gps_erased old)) | Err cause ↦ (old, NotChanged ∷ []) ] in
     (found : Read) × (reading made.0 ≡ Ok found) × AllZip IsKept (left_within x old read.fields) found.fields
     × (length found.faults ≤ length read.faults)
-alike_by (Err cause) old read e h = (read, e, all_themselves read.fields, omega arith)
-alike_by (Ok u) old read e h =
+alike_by unread (Err cause) old read e h = (read, e, all_themselves read.fields, omega arith)
+alike_by unread (Ok u) old read e h =
     let mid = gps_erased old in
     let f = gps_fewer old read (limited_edit None EraseGps old) e refl in
-    let a = fields_after mid.0 mid.1 f.found f.reads in
-    let new = fields_erased mid in
+    let a = fields_after unread mid.0 mid.1 f.found f.reads in
+    let new = fields_erased unread mid in
     let few : length f.found.faults ≤ length read.faults = f.fewer in
     let same : length a.found.faults ≡ length f.found.faults = ap length a.faults in (
       a.found,
-      thumbnail_after new.0 new.1 a.found a.reads,
+      thumbnail_after unread new.0 new.1 a.found a.reads,
       subst (λ (fields : List Field). AllZip IsKept fields a.found.fields) f.fields_are a.fields,
       omega arith,
     )
 
-pub alike : (bytes : List ℕ) (read : Read) → reading bytes ≡ Ok read → ReadsAlike bytes read (reading (data_erased bytes).0)
-alike bytes read e =
-    let a = alike_by (within_limit entry_limit bytes) bytes read e refl in
+pub alike : (unread : Unread) (bytes : List ℕ) (read : Read) → reading bytes ≡ Ok read → ReadsAlike bytes read (reading (data_erased unread bytes).0)
+alike unread bytes read e =
+    let a = alike_by unread (within_limit entry_limit bytes) bytes read e refl in
     subst (λ (r : Result Read Fault). ReadsAlike bytes read r) (sym a.1) (record { fields = a.2; faults = a.3 })

@@ -1,5 +1,4 @@
 mod Alike
 mod FieldSteps
-pub mod Refused
 mod ResourceSteps
 mod ThumbnailSteps

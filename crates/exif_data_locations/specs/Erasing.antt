@@ -12,6 +12,7 @@ use Rattle.exif_edit_base.specs.Readings.{Read, reading, reads_as}
 use Rattle.exif_edit_base.specs.Walked.{entry_of}
 use Rattle.exif_edit.specs.Edits.{limited_edit}
 use Rattle.exif_edit.specs.declared.edits.Edit.TheVariants.{EraseGps}
+use Rattle.exif_locations.specs.declared.unread.Unread.{Unread}
 use Rattle.exif_data_locations.specs.FieldRegions.{all_regions}
 use Rattle.exif_data_locations.specs.Regions.{regions_erased}
 use Rattle.exif_data_locations.specs.Texts.{texts_noted}
@@ -71,22 +72,23 @@ if_read read entries old (new, whys) =
     if reads_as new (wanted read entries old new) then (new, whys) else (old, whys ++ Shared ∷ [])
 
 -- data without the locations of regions
-abbrev pub checked : Read → List EntryOffset → List ℕ → List Region → List Why → List ℕ × List Why
-checked read entries bytes [] whys = (bytes, whys)
-checked read entries bytes (r ∷ regions) whys =
-    if_read read entries bytes (regions_erased (r ∷ regions) (bytes, whys))
+abbrev pub checked : Unread → Read → List EntryOffset → List ℕ → List Region → List Why
+    → List ℕ × List Why
+checked unread read entries bytes [] whys = (bytes, whys)
+checked unread read entries bytes (r ∷ regions) whys =
+    if_read read entries bytes (regions_erased unread (r ∷ regions) (bytes, whys))
 
 -- data that are read so, without the locations of their fields
-abbrev pub read_erased : Read → List EntryOffset → List ℕ → List Why → List ℕ × List Why
-read_erased read entries bytes whys =
-    checked read entries bytes
+abbrev pub read_erased : Unread → Read → List EntryOffset → List ℕ → List Why → List ℕ × List Why
+read_erased unread read entries bytes whys =
+    checked unread read entries bytes
     (all_regions (number_of (order_named read.little)) bytes read.fields entries)
     (unread_noted read whys)
 
 -- data without the locations of their fields
-abbrev pub fields_erased : List ℕ × List Why → List ℕ × List Why
-fields_erased (bytes, whys) = elim (reading bytes) [
-  | Ok read ↦ read_erased read (map entry_of (located bytes)) bytes whys
+abbrev pub fields_erased : Unread → List ℕ × List Why → List ℕ × List Why
+fields_erased unread (bytes, whys) = elim (reading bytes) [
+  | Ok read ↦ read_erased unread read (map entry_of (located bytes)) bytes whys
   | Err fault ↦ (bytes, whys)
 ]
 
@@ -94,8 +96,8 @@ fields_erased (bytes, whys) = elim (reading bytes) [
 
 -- Exif data without their own locations, and why there may still be one, whatever their thumbnail
 -- holds; data with too many entries stay
-abbrev pub own_erased : List ℕ → List ℕ × List Why
-own_erased bytes = elim (within_limit entry_limit bytes) [
-  | Ok _ ↦ fields_erased (gps_erased bytes)
+abbrev pub own_erased : Unread → List ℕ → List ℕ × List Why
+own_erased unread bytes = elim (within_limit entry_limit bytes) [
+  | Ok _ ↦ fields_erased unread (gps_erased bytes)
   | Err cause ↦ (bytes, NotChanged ∷ [])
 ]

@@ -1,5 +1,5 @@
 -- Worked examples: the definitions compute what erasing gives.
-use Rattle.std.specs.Prelude.{ℕ, ◌≡◌, refl, List, [], ◌∷◌, ◌++◌, codes}
+use Rattle.std.specs.Prelude.{ℕ, ◌≡◌, refl, List, [], ◌∷◌, ◌++◌, codes, replicate}
 use Rattle.exif_locations.specs.IptcDatasets as iptc
 use Rattle.exif_locations.specs.IptcDatasets.{dataset_at}
 use Rattle.exif_locations.specs.XmpErasing as xmp
@@ -14,6 +14,7 @@ use Rattle.exif_edit_base.specs.GpsOffsets.{all_directories, chain_from, childre
 use Rattle.exif_edit_base.specs.Locations.{directory_offsets, located, visited_gps}
 use Rattle.exif_edit_base.specs.Readings.{reading}
 use Rattle.exif_edit.specs.Erasing.{erase_patches, gps_spans}
+use Rattle.exif_locations.specs.declared.unread.Unread.TheVariants.{Keep, Blank}
 use Rattle.exif_data_locations.specs.Locations.{data_erased}
 use Rattle.exif_data_locations.specs.Resources.{resource_at, resources_by}
 use Rattle.exif_data_locations.specs.declared.why.Why.TheVariants.{NotChanged, GpsShared, NotReadWhole, SubIfdsNotRead, MakerNote, IptcNotRead, ResourcesNotRead, ExifResource, Text, TypeNotKnown, Shared}
@@ -38,7 +39,7 @@ abbrev iptc_data : List ℕ → List ℕ
 iptc_data name = one (131 ∷ 187 ∷ 0 ∷ 7 ∷ 0 ∷ 0 ∷ 0 ∷ 10 ∷ []) (city name ++ 9 ∷ [])
 
 -- the byte behind them stays
-iptc_erased : data_erased (iptc_data (codes "Basel"))
+iptc_erased : data_erased Keep (iptc_data (codes "Basel"))
     ≡ (iptc_data erased, [])
 unfolding reading erase_patches visited_gps gps_spans gps_offsets gps_pointers all_directories children_from chain_from pointers leftovers directory_offsets located trace ordered_trace iptc.erased_by dataset_at
 iptc_erased = refl
@@ -48,7 +49,7 @@ abbrev xmp_data : List ℕ → List ℕ
 xmp_data packet = one (2 ∷ 188 ∷ 0 ∷ 1 ∷ 0 ∷ 0 ∷ 0 ∷ 19 ∷ []) packet
 
 -- the attribute becomes spaces
-xmp_erased : data_erased (xmp_data (codes "<a x:City='Basel'/>"))
+xmp_erased : data_erased Keep (xmp_data (codes "<a x:City='Basel'/>"))
     ≡ (xmp_data (codes "<a               />"), [])
 unfolding reading erase_patches visited_gps gps_spans gps_offsets gps_pointers all_directories children_from chain_from pointers leftovers directory_offsets located trace ordered_trace xmp.erased_by step_at content_at markup_at opening_at tag_at attribute_at is_location is_word
 xmp_erased = refl
@@ -58,7 +59,7 @@ abbrev scale_data : List ℕ → List ℕ
 scale_data value = one (131 ∷ 14 ∷ 0 ∷ 12 ∷ 0 ∷ 0 ∷ 0 ∷ 1 ∷ []) value
 
 -- it becomes zeros
-scale_erased : data_erased (scale_data (64 ∷ 1 ∷ 2 ∷ 3 ∷ 4 ∷ 5 ∷ 6 ∷ 7 ∷ []))
+scale_erased : data_erased Keep (scale_data (64 ∷ 1 ∷ 2 ∷ 3 ∷ 4 ∷ 5 ∷ 6 ∷ 7 ∷ []))
     ≡ (scale_data (0 ∷ 0 ∷ 0 ∷ 0 ∷ 0 ∷ 0 ∷ 0 ∷ 0 ∷ []), [])
 unfolding reading erase_patches visited_gps gps_spans gps_offsets gps_pointers all_directories children_from chain_from pointers leftovers directory_offsets located trace ordered_trace
 scale_erased = refl
@@ -71,7 +72,7 @@ resources_data name =
     ++ 56 ∷ 66 ∷ 73 ∷ 77 ∷ 4 ∷ 34 ∷ 0 ∷ 0 ∷ 0 ∷ 0 ∷ 0 ∷ 0 ∷ [])
 
 -- the first is erased, and the second reported
-resources_erased : data_erased (resources_data (codes "Basel"))
+resources_erased : data_erased Keep (resources_data (codes "Basel"))
     ≡ (resources_data erased, ExifResource ∷ [])
 unfolding reading erase_patches visited_gps gps_spans gps_offsets gps_pointers all_directories children_from chain_from pointers leftovers directory_offsets located trace ordered_trace resource_at resources_by iptc.erased_by dataset_at
 resources_erased = refl
@@ -83,7 +84,7 @@ cut_resource =
     (56 ∷ 66 ∷ 73 ∷ 77 ∷ 4 ∷ 4 ∷ 0 ∷ 0 ∷ 0 ∷ 0 ∷ 0 ∷ 10 ∷ 28 ∷ [])
 
 -- is reported
-cut_resource_stays : data_erased (cut_resource)
+cut_resource_stays : data_erased Keep (cut_resource)
     ≡ (cut_resource, ResourcesNotRead ∷ [])
 unfolding reading erase_patches visited_gps gps_spans gps_offsets gps_pointers all_directories children_from chain_from pointers leftovers directory_offsets located trace ordered_trace resource_at resources_by iptc.erased_by dataset_at
 cut_resource_stays = refl
@@ -93,17 +94,23 @@ abbrev cut_iptc : List ℕ
 cut_iptc = one (131 ∷ 187 ∷ 0 ∷ 7 ∷ 0 ∷ 0 ∷ 0 ∷ 9 ∷ []) (city (codes "Base"))
 
 -- is reported
-cut_iptc_stays : data_erased (cut_iptc)
+cut_iptc_stays : data_erased Keep (cut_iptc)
     ≡ (cut_iptc, IptcNotRead 33723 Cut ∷ [])
 unfolding reading erase_patches visited_gps gps_spans gps_offsets gps_pointers all_directories children_from chain_from pointers leftovers directory_offsets located trace ordered_trace iptc.erased_by dataset_at
 cut_iptc_stays = refl
+
+-- or overwritten
+cut_iptc_is_cleared : data_erased Blank (cut_iptc)
+    ≡ (one (131 ∷ 187 ∷ 0 ∷ 7 ∷ 0 ∷ 0 ∷ 0 ∷ 9 ∷ []) (replicate 9 0), [])
+unfolding reading erase_patches visited_gps gps_spans gps_offsets gps_pointers all_directories children_from chain_from pointers leftovers directory_offsets located trace ordered_trace iptc.erased_by dataset_at
+cut_iptc_is_cleared = refl
 
 -- XMP of type UTF-8 (Exif 3.0, 4.6.2), which reading does not know
 abbrev utf8 : List ℕ
 utf8 = one (2 ∷ 188 ∷ 0 ∷ 129 ∷ 0 ∷ 0 ∷ 0 ∷ 5 ∷ []) (codes "<a/> ")
 
 -- is reported
-utf8_stays : data_erased (utf8)
+utf8_stays : data_erased Keep (utf8)
     ≡ (utf8, TypeNotKnown 700 ∷ [])
 unfolding reading erase_patches visited_gps gps_spans gps_offsets gps_pointers all_directories children_from chain_from pointers leftovers directory_offsets located trace ordered_trace
 utf8_stays = refl
@@ -113,7 +120,7 @@ abbrev outside : List ℕ
 outside = one (131 ∷ 187 ∷ 0 ∷ 7 ∷ 0 ∷ 0 ∷ 0 ∷ 10 ∷ []) []
 
 -- are reported
-outside_stays : data_erased (outside)
+outside_stays : data_erased Keep (outside)
     ≡ (outside, NotReadWhole ∷ [])
 unfolding reading erase_patches visited_gps gps_spans gps_offsets gps_pointers all_directories children_from chain_from pointers leftovers directory_offsets located trace ordered_trace
 outside_stays = refl
@@ -136,7 +143,7 @@ sharing =
     ∷ 131 ∷ 187 ∷ 0 ∷ 7 ∷ 0 ∷ 0 ∷ 0 ∷ 10 ∷ 0 ∷ 0 ∷ 0 ∷ 38 ∷ []) (city (codes "Basel"))
 
 -- stay, since the description would change
-sharing_stays : data_erased (sharing)
+sharing_stays : data_erased Keep (sharing)
     ≡ (sharing, Text description ∷ Shared ∷ [])
 unfolding reading erase_patches visited_gps gps_spans gps_offsets gps_pointers all_directories children_from chain_from pointers leftovers directory_offsets located trace ordered_trace iptc.erased_by dataset_at
 sharing_stays = refl
@@ -149,7 +156,7 @@ sharing_gps =
     (0 ∷ 1 ∷ 0 ∷ 1 ∷ 0 ∷ 2 ∷ 0 ∷ 0 ∷ 0 ∷ 2 ∷ 78 ∷ 0 ∷ 0 ∷ 0 ∷ 0 ∷ 0 ∷ 0 ∷ 0 ∷ [])
 
 -- stays, since the description would change
-sharing_gps_stays : data_erased (sharing_gps)
+sharing_gps_stays : data_erased Keep (sharing_gps)
     ≡ (sharing_gps, GpsShared ∷ Text description ∷ [])
 unfolding reading erase_patches visited_gps gps_spans gps_offsets gps_pointers all_directories children_from chain_from pointers leftovers directory_offsets located trace ordered_trace
 sharing_gps_stays = refl
@@ -161,7 +168,7 @@ unread =
     ∷ 146 ∷ 124 ∷ 0 ∷ 7 ∷ 0 ∷ 0 ∷ 0 ∷ 4 ∷ 1 ∷ 2 ∷ 3 ∷ 4 ∷ []) []
 
 -- are reported
-unread_stays : data_erased (unread)
+unread_stays : data_erased Keep (unread)
     ≡ (unread, SubIfdsNotRead ∷ MakerNote ∷ [])
 unfolding reading erase_patches visited_gps gps_spans gps_offsets gps_pointers all_directories children_from chain_from pointers leftovers directory_offsets located trace ordered_trace
 unread_stays = refl
@@ -169,7 +176,7 @@ unread_stays = refl
 -- ---- none
 
 -- data without a header
-no_header : data_erased (77 ∷ 77 ∷ 0 ∷ 42 ∷ [])
+no_header : data_erased Keep (77 ∷ 77 ∷ 0 ∷ 42 ∷ [])
     ≡ (77 ∷ 77 ∷ 0 ∷ 42 ∷ [], NotChanged ∷ [])
 unfolding reading erase_patches visited_gps gps_spans gps_offsets gps_pointers all_directories children_from chain_from pointers leftovers directory_offsets located trace ordered_trace
 no_header = refl

@@ -1,26 +1,28 @@
 -- Regions of Exif data, and the locations in them.
-use Rattle.std.specs.Prelude.{ℕ, ◌+◌, ◌≤◌, List, [], ◌∷◌, ◌++◌, length, take, drop, replicate, Bool, if◌then◌else◌, Option, None, Some, Result, Ok, Err}
-use Rattle.exif_locations.specs.XmpErasing as xmp
-use Rattle.exif_locations.specs.IptcDatasets as iptc
+use Rattle.std.specs.Prelude.{ℕ, ◌+◌, ◌≤◌, List, [], ◌∷◌, ◌++◌, length, take, drop, replicate, Bool, true, false, if◌then◌else◌, Option, None, Some}
 use Rattle.exif_locations.specs.Texts.{iptc_has_texts, xmp_has_texts}
+use Rattle.exif_locations.specs.Unread as packets
+use Rattle.exif_locations.specs.Unread.{because}
+use Rattle.exif_locations.specs.declared.unread.Unread.{Unread}
 use Rattle.exif_data_locations.specs.declared.region.Region.{Region}
 use Rattle.exif_data_locations.specs.declared.region.What.{What}
 use Rattle.exif_data_locations.specs.declared.region.What.TheVariants as what
 use Rattle.exif_data_locations.specs.declared.why.Why.{Why}
 use Rattle.exif_data_locations.specs.declared.why.Why.TheVariants.{XmpNotRead, IptcNotRead, Texts}
 
--- new bytes, or the old ones and why they stay
-abbrev pub or_stays : {F : Type 0} → (F → Why) → List ℕ → Result (List ℕ) F → List ℕ × Option Why
-or_stays why old (Ok new) = (new, None)
-or_stays why old (Err fault) = (old, Some (why fault))
-
 -- an XMP packet without its locations
-abbrev pub xmp_answer : ℕ → List ℕ → List ℕ × Option Why
-xmp_answer tag bytes = or_stays (XmpNotRead tag) bytes (xmp.erased bytes)
+abbrev pub xmp_answer : ℕ → Unread → List ℕ → List ℕ × Option Why
+xmp_answer tag unread bytes = because (XmpNotRead tag) (packets.xmp_answer unread bytes)
 
 -- IPTC data without their locations
-abbrev pub iptc_answer : ℕ → List ℕ → List ℕ × Option Why
-iptc_answer tag bytes = or_stays (IptcNotRead tag) bytes (iptc.erased bytes)
+abbrev pub iptc_answer : ℕ → Unread → List ℕ → List ℕ × Option Why
+iptc_answer tag unread bytes = because (IptcNotRead tag) (packets.iptc_answer unread bytes)
+
+-- whether what this reason is about could be overwritten
+abbrev pub can_be_blanked : Why → Bool
+can_be_blanked (XmpNotRead tag fault) = true
+can_be_blanked (IptcNotRead tag fault) = true
+can_be_blanked _ = false
 
 -- bytes, and why they may still hold a location: for this reason, if for no other and if a test says
 -- so
@@ -29,20 +31,20 @@ or_if test why (new, Some other) = (new, Some other)
 or_if test why (new, None) = (new, if test new then Some why else None)
 
 -- the same of a packet, which may hold texts
-abbrev pub xmp_judged : ℕ → List ℕ → List ℕ × Option Why
-xmp_judged tag bytes = or_if xmp_has_texts (Texts tag) (xmp_answer tag bytes)
+abbrev pub xmp_judged : ℕ → Unread → List ℕ → List ℕ × Option Why
+xmp_judged tag unread bytes = or_if xmp_has_texts (Texts tag) (xmp_answer tag unread bytes)
 
 -- the same of IPTC data
-abbrev pub iptc_judged : ℕ → List ℕ → List ℕ × Option Why
-iptc_judged tag bytes = or_if iptc_has_texts (Texts tag) (iptc_answer tag bytes)
+abbrev pub iptc_judged : ℕ → Unread → List ℕ → List ℕ × Option Why
+iptc_judged tag unread bytes = or_if iptc_has_texts (Texts tag) (iptc_answer tag unread bytes)
 
 -- what a region holds, without its locations, and why it may still hold one
-abbrev pub what_answer : ℕ → What → List ℕ → List ℕ × Option Why
-what_answer tag what.Xmp bytes = xmp_judged tag bytes
-what_answer tag what.Iptc bytes = iptc_judged tag bytes
-what_answer tag what.GeoTiff bytes = (replicate (length bytes) 0, None)
-what_answer tag what.Other bytes = (bytes, None)
-what_answer tag (what.Left why) bytes = (bytes, Some why)
+abbrev pub what_answer : ℕ → Unread → What → List ℕ → List ℕ × Option Why
+what_answer tag unread what.Xmp bytes = xmp_judged tag unread bytes
+what_answer tag unread what.Iptc bytes = iptc_judged tag unread bytes
+what_answer tag unread what.GeoTiff bytes = (replicate (length bytes) 0, None)
+what_answer tag unread what.Other bytes = (bytes, None)
+what_answer tag unread (what.Left why) bytes = (bytes, Some why)
 
 -- a region lies in data of a length
 abbrev pub LiesIn : ℕ → Region → Type 0
@@ -67,11 +69,12 @@ abbrev pub region_made : Region → List ℕ × Option Why → List ℕ × List 
 region_made region (new, why) (bytes, whys) = (with_content region new bytes, noted whys why)
 
 -- data without the locations of a region, and why there may still be one
-abbrev pub region_erased : Region → List ℕ × List Why → List ℕ × List Why
-region_erased region (bytes, whys) =
-    region_made region (what_answer region.tag region.what (content_of region bytes)) (bytes, whys)
+abbrev pub region_erased : Unread → Region → List ℕ × List Why → List ℕ × List Why
+region_erased unread region (bytes, whys) =
+    region_made region (what_answer region.tag unread region.what (content_of region bytes)) (bytes, whys)
 
 -- so with regions one after the other
-abbrev pub regions_erased : List Region → List ℕ × List Why → List ℕ × List Why
-regions_erased [] made = made
-regions_erased (region ∷ regions) made = regions_erased regions (region_erased region made)
+abbrev pub regions_erased : Unread → List Region → List ℕ × List Why → List ℕ × List Why
+regions_erased unread [] made = made
+regions_erased unread (region ∷ regions) made =
+    regions_erased unread regions (region_erased unread region made)

@@ -10,6 +10,7 @@ use Rattle.exif_edit_base.specs.GpsOffsets.{all_directories, chain_from, childre
 use Rattle.exif_edit_base.specs.Locations.{directory_offsets, located, visited_gps}
 use Rattle.exif_edit_base.specs.Readings.{reading}
 use Rattle.exif_edit.specs.Erasing.{erase_patches, gps_spans}
+use Rattle.exif_locations.specs.declared.unread.Unread.TheVariants.{Keep}
 use Rattle.exif_data_locations.specs.Locations.{data_erased}
 use Rattle.exif_data_locations.specs.declared.why.Why.TheVariants.{Shared, Thumbnail}
 
@@ -37,25 +38,25 @@ commented comment =
     0xff ∷ 0xd8 ∷ 0xff ∷ 0xfe ∷ 0 ∷ 7 ∷ comment ++ 0xff ∷ 0xd9 ∷ []
 
 -- is reported
-comment_stays : data_erased (thumbnail_data orientation 13 (commented (codes "Basel")))
+comment_stays : data_erased Keep (thumbnail_data orientation 13 (commented (codes "Basel")))
     ≡ (thumbnail_data orientation 13 (commented (codes "Basel")), Thumbnail ∷ [])
 unfolding reading erase_patches visited_gps gps_spans gps_offsets gps_pointers all_directories children_from chain_from pointers leftovers directory_offsets located trace ordered_trace walked stream_piece between_piece
 comment_stays = refl
 
 -- but zeros are not
-zeros_stay : data_erased (thumbnail_data orientation 13 (commented (codes "\0\0\0\0\0")))
+zeros_stay : data_erased Keep (thumbnail_data orientation 13 (commented (codes "\0\0\0\0\0")))
     ≡ (thumbnail_data orientation 13 (commented (codes "\0\0\0\0\0")), [])
 unfolding reading erase_patches visited_gps gps_spans gps_offsets gps_pointers all_directories children_from chain_from pointers leftovers directory_offsets located trace ordered_trace walked stream_piece between_piece
 zeros_stay = refl
 
 -- nor is a stream that is longer than the data
-cut_stays : data_erased (thumbnail_data orientation 14 (commented (codes "Basel")))
+cut_stays : data_erased Keep (thumbnail_data orientation 14 (commented (codes "Basel")))
     ≡ (thumbnail_data orientation 14 (commented (codes "Basel")), [])
 unfolding reading erase_patches visited_gps gps_spans gps_offsets gps_pointers all_directories children_from chain_from pointers leftovers directory_offsets located trace ordered_trace walked stream_piece between_piece
 cut_stays = refl
 
 -- bytes that begin no stream
-no_stream_stays : data_erased (thumbnail_data orientation 5 (codes "Basel"))
+no_stream_stays : data_erased Keep (thumbnail_data orientation 5 (codes "Basel"))
     ≡ (thumbnail_data orientation 5 (codes "Basel"), [])
 unfolding reading erase_patches visited_gps gps_spans gps_offsets gps_pointers all_directories children_from chain_from pointers leftovers directory_offsets located trace ordered_trace walked stream_piece between_piece
 no_stream_stays = refl
@@ -69,7 +70,7 @@ resourced name =
     ++ 0xff ∷ 0xd9 ∷ []
 
 -- the city becomes spaces
-city_erased : data_erased (thumbnail_data orientation 44 (resourced (codes "Basel")))
+city_erased : data_erased Keep (thumbnail_data orientation 44 (resourced (codes "Basel")))
     ≡ (thumbnail_data orientation 44 (resourced (codes "     ")), [])
 unfolding reading erase_patches visited_gps gps_spans gps_offsets gps_pointers all_directories children_from chain_from pointers leftovers directory_offsets located trace ordered_trace walked stream_piece between_piece resource_piece iptc.erased_by dataset_at
 city_erased = refl
@@ -79,7 +80,7 @@ abbrev artist : List ℕ
 artist = 1 ∷ 59 ∷ 0 ∷ 2 ∷ 0 ∷ 0 ∷ 0 ∷ 5 ∷ 0 ∷ 0 ∷ 0 ∷ 93 ∷ []
 
 -- since the artist would change
-shared_city_stays : data_erased (thumbnail_data artist 44 (resourced (codes "Basel")))
+shared_city_stays : data_erased Keep (thumbnail_data artist 44 (resourced (codes "Basel")))
     ≡ (thumbnail_data artist 44 (resourced (codes "Basel")), Shared ∷ [])
 unfolding reading erase_patches visited_gps gps_spans gps_offsets gps_pointers all_directories children_from chain_from pointers leftovers directory_offsets located trace ordered_trace walked stream_piece between_piece resource_piece iptc.erased_by dataset_at
 shared_city_stays = refl
@@ -95,7 +96,7 @@ nested name =
     ++ 0xff ∷ 0xd9 ∷ []
 
 -- the city becomes spaces there, too
-nested_city_erased : data_erased (thumbnail_data orientation 50 (nested (codes "Basel")))
+nested_city_erased : data_erased Keep (thumbnail_data orientation 50 (nested (codes "Basel")))
     ≡ (thumbnail_data orientation 50 (nested (codes "     ")), [])
 unfolding reading erase_patches visited_gps gps_spans gps_offsets gps_pointers all_directories children_from chain_from pointers leftovers directory_offsets located trace ordered_trace walked stream_piece between_piece iptc.erased_by dataset_at
 nested_city_erased = refl

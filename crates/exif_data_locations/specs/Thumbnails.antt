@@ -7,6 +7,7 @@ use Rattle.exif_inventory.specs.Walks.{inventory}
 use Rattle.exif_inventory.specs.declared.kind.Kind.{Kind}
 use Rattle.exif_inventory.specs.declared.kind.Kind.TheVariants as kind
 use Rattle.exif_inventory.specs.declared.part.Part.{Part}
+use Rattle.exif_locations.specs.declared.unread.Unread.{Unread}
 use Rattle.exif_table.specs.declared.context.Context.TheVariants.{Tiff}
 use Rattle.exif_text.specs.declared.ifd.In.{In}
 use Rattle.exif_types.specs.Lookup.{last_named}
@@ -79,8 +80,8 @@ what_of kind.Broken bytes = unjudged bytes
 what_of _ bytes = what.Other
 
 -- such data without their locations, and whether they may still hold one
-abbrev pub other_answer : Kind → List ℕ → List ℕ × Bool
-other_answer k bytes = with_reason (what_answer 0x201 (what_of k bytes) bytes)
+abbrev pub other_answer : Unread → Kind → List ℕ → List ℕ × Bool
+other_answer unread k bytes = with_reason (what_answer 0x201 unread (what_of k bytes) bytes)
 
 -- whether data have a thumbnail
 abbrev pub has_thumbnail : List ℕ → Bool
@@ -95,9 +96,9 @@ with_further (new, whys) = (new, not (length whys == 0) || has_thumbnail new)
 
 -- the data of a part without their locations, and whether they may still hold one; a further
 -- thumbnail in Exif data is not searched
-abbrev pub part_answer : Kind → List ℕ → List ℕ × Bool
-part_answer kind.Exif bytes = with_further (own_erased bytes)
-part_answer k bytes = other_answer k bytes
+abbrev pub part_answer : Unread → Kind → List ℕ → List ℕ × Bool
+part_answer unread kind.Exif bytes = with_further (own_erased unread bytes)
+part_answer unread k bytes = other_answer unread k bytes
 
 -- so many bytes from an offset on
 abbrev pub bytes_at : ℕ → ℕ → List ℕ → List ℕ
@@ -112,21 +113,22 @@ abbrev pub placed : ℕ → ℕ → List ℕ → List ℕ × Bool → List ℕ �
 placed offset len bytes (new, left) = (with_bytes offset len new bytes, left)
 
 -- a stream without the locations of a part, and whether that may still hold one
-abbrev pub part_erased : Part → List ℕ → List ℕ × Bool
-part_erased part bytes =
+abbrev pub part_erased : Unread → Part → List ℕ → List ℕ × Bool
+part_erased unread part bytes =
     placed part.data_offset part.data_len bytes
-    (part_answer part.kind (bytes_at part.data_offset part.data_len bytes))
+    (part_answer unread part.kind (bytes_at part.data_offset part.data_len bytes))
 
 -- so with parts one after the other, where one before them may hold a location or not
-abbrev pub parts_erased : List Part → Bool → List ℕ → List ℕ × Bool
-parts_erased [] left bytes = (bytes, left)
-parts_erased (part ∷ parts) left bytes =
-    let made = part_erased part bytes in parts_erased parts (left || made.1) made.0
+abbrev pub parts_erased : Unread → List Part → Bool → List ℕ → List ℕ × Bool
+parts_erased unread [] left bytes = (bytes, left)
+parts_erased unread (part ∷ parts) left bytes =
+    let made = part_erased unread part bytes in
+    parts_erased unread parts (left || made.1) made.0
 
 -- a stream without the locations of its parts, and whether it may still hold one; other bytes stay
-abbrev pub stream_erased : List ℕ → List ℕ × Bool
-stream_erased bytes = elim (inventory bytes) [
-  | Some parts ↦ parts_erased parts false bytes
+abbrev pub stream_erased : Unread → List ℕ → List ℕ × Bool
+stream_erased unread bytes = elim (inventory bytes) [
+  | Some parts ↦ parts_erased unread parts false bytes
   | None ↦ (bytes, false)
 ]
 
@@ -144,25 +146,25 @@ with_thumbnail read bytes whys (new, left) = if_same read bytes new (noted_if le
 
 -- data without the locations in a stream that is so many bytes of them, and whether that may still
 -- hold one
-abbrev pub stretch_erased : ℕ → ℕ → List ℕ → List ℕ × Bool
-stretch_erased offset len bytes =
-    placed offset len bytes (stream_erased (bytes_at offset len bytes))
+abbrev pub stretch_erased : Unread → ℕ → ℕ → List ℕ → List ℕ × Bool
+stretch_erased unread offset len bytes =
+    placed offset len bytes (stream_erased unread (bytes_at offset len bytes))
 
 -- data without the locations in a stream in them
-abbrev pub span_erased : Read → List ℕ → List Why → Span → List ℕ × List Why
-span_erased read bytes whys span =
-    with_thumbnail read bytes whys (stretch_erased span.offset span.len bytes)
+abbrev pub span_erased : Unread → Read → List ℕ → List Why → Span → List ℕ × List Why
+span_erased unread read bytes whys span =
+    with_thumbnail read bytes whys (stretch_erased unread span.offset span.len bytes)
 
 -- data that are read so, without the locations in their thumbnail
-abbrev pub read_thumbnail_erased : Read → List ℕ → List Why → List ℕ × List Why
-read_thumbnail_erased read bytes whys = elim (thumbnail_span (length bytes) read.fields) [
-  | Some span ↦ span_erased read bytes whys span
+abbrev pub read_thumbnail_erased : Unread → Read → List ℕ → List Why → List ℕ × List Why
+read_thumbnail_erased unread read bytes whys = elim (thumbnail_span (length bytes) read.fields) [
+  | Some span ↦ span_erased unread read bytes whys span
   | None ↦ (bytes, whys)
 ]
 
 -- data without the locations in their thumbnail, if they have one, and the reasons with its own
-abbrev pub thumbnail_erased : List ℕ × List Why → List ℕ × List Why
-thumbnail_erased (bytes, whys) = elim (reading bytes) [
-  | Ok read ↦ read_thumbnail_erased read bytes whys
+abbrev pub thumbnail_erased : Unread → List ℕ × List Why → List ℕ × List Why
+thumbnail_erased unread (bytes, whys) = elim (reading bytes) [
+  | Ok read ↦ read_thumbnail_erased unread read bytes whys
   | Err fault ↦ (bytes, whys)
 ]

@@ -15,6 +15,7 @@ use crate::why::{Why, note_if};
 use exif_edit_base::limit::check_limit;
 use exif_edit_base::read::{locate, order_named, reads_as};
 use exif_edit_base::{EntryOffset, Error, Located};
+use exif_locations::Unread;
 use exif_reader::stop::Stop;
 use exif_reader::tiff::Parsed;
 use exif_types::Field;
@@ -81,6 +82,7 @@ fn put_if_read(
 // Erases the locations of regions, if the data are read as it is wanted then.
 fn erase_checked(
     alloc: Global,
+    unread: Unread,
     bytes: &mut [u8],
     regions: &[Region],
     entries: &[EntryOffset],
@@ -90,19 +92,20 @@ fn erase_checked(
     requires within { All (LiesIn (length bytes.old)) regions.now }
     requires small { length bytes.old < 2 ^ 32 }
     ensures { OnOk result ((bytes.new, whys.new.items)
-        ≡ checked (read_of parsed) entries.now bytes.old regions.now whys.old.items) }
+        ≡ checked unread (read_of parsed) entries.now bytes.old regions.now whys.old.items) }
 {
     if regions.is_empty() {
         return Ok(());
     }
     let mut new = Vec::from_slice(alloc, bytes)?;
-    erase_regions(new.as_mut_slice(), regions, whys)?;
+    erase_regions(unread, new.as_mut_slice(), regions, whys)?;
     put_if_read(alloc, bytes, new.as_slice(), entries, parsed, whys)
 }
 
 // Erases the locations of fields that were read.
 fn erase_read(
     alloc: Global,
+    unread: Unread,
     bytes: &mut [u8],
     entries: &[EntryOffset],
     parsed: Parsed,
@@ -110,43 +113,58 @@ fn erase_read(
 ) -> Result<(), AllocError>
     requires small { length bytes.old < 2 ^ 32 }
     ensures { OnOk result ((bytes.new, whys.new.items)
-        ≡ read_erased (read_of parsed) entries.now bytes.old whys.old.items) }
+        ≡ read_erased unread (read_of parsed) entries.now bytes.old whys.old.items) }
 {
     let order = order_named(parsed.little_endian);
     let regions = regions_of(alloc, order, bytes, parsed.fields.as_slice(), entries)?;
     note_unread(&parsed, whys)?;
-    erase_checked(alloc, bytes, regions.as_slice(), entries, parsed, whys)
+    erase_checked(
+        alloc,
+        unread,
+        bytes,
+        regions.as_slice(),
+        entries,
+        parsed,
+        whys,
+    )
 }
 
 // Erases the locations of fields.
-fn erase_fields(alloc: Global, bytes: &mut [u8], whys: &mut Vec<Why>) -> Result<(), AllocError>
+fn erase_fields(
+    alloc: Global,
+    unread: Unread,
+    bytes: &mut [u8],
+    whys: &mut Vec<Why>,
+) -> Result<(), AllocError>
     ensures { OnOk result ((bytes.new, whys.new.items)
-        ≡ fields_erased (bytes.old, whys.old.items)) }
+        ≡ fields_erased unread (bytes.old, whys.old.items)) }
 {
     match locate(alloc, bytes) {
-        Ok(Located { parsed, walk }) => erase_read(alloc, bytes, walk.entries(), parsed, whys),
+        Ok(Located { parsed, walk }) => {
+            erase_read(alloc, unread, bytes, walk.entries(), parsed, whys)
+        }
         Err(Stop::Fault(_)) => Ok(()),
         Err(Stop::OutOfMemory) => Err(AllocError),
     }
 }
 
 /// Erases GPS data and the locations of fields.
-pub fn erase_all(alloc: Global, bytes: &mut [u8]) -> Result<Vec<Why>, AllocError>
+pub fn erase_all(alloc: Global, unread: Unread, bytes: &mut [u8]) -> Result<Vec<Why>, AllocError>
     ensures { IfOk result (λ whys. (bytes.new, whys.items)
-        ≡ fields_erased (gps_erased bytes.old)) }
+        ≡ fields_erased unread (gps_erased bytes.old)) }
 {
     let mut whys = erase_gps(alloc, bytes)?;
-    erase_fields(alloc, bytes, &mut whys)?;
+    erase_fields(alloc, unread, bytes, &mut whys)?;
     Ok(whys)
 }
 
 /// Erases the locations in Exif data but for those in their thumbnail, and answers why there may
 /// still be one. Data with too many entries stay whole.
-pub fn erase_own(alloc: Global, bytes: &mut [u8]) -> Result<Vec<Why>, AllocError>
-    ensures { IfOk result (λ whys. (bytes.new, whys.items) ≡ own_erased bytes.old) }
+pub fn erase_own(alloc: Global, unread: Unread, bytes: &mut [u8]) -> Result<Vec<Why>, AllocError>
+    ensures { IfOk result (λ whys. (bytes.new, whys.items) ≡ own_erased unread bytes.old) }
 {
     match check_limit(alloc, bytes, Some(ENTRY_LIMIT)) {
-        Ok(()) => erase_all(alloc, bytes),
+        Ok(()) => erase_all(alloc, unread, bytes),
         Err(Error::OutOfMemory) => Err(AllocError),
         Err(_) => unchanged(alloc),
     }

@@ -3,6 +3,7 @@
 
 ghost use Rattle.std.specs.Prelude.{◌≡◌, ℕ, List, Ok};
 ghost use Rattle.exif_edit_base.specs.Readings.{Read, reading};
+ghost use Rattle.exif_locations.specs.declared.unread.Unread.{Unread};
 ghost use Rattle.exif_data_locations.specs.Locations.{data_erased};
 ghost use Rattle.exif_data_locations.specs.Promises.{ReadsAlike};
 
@@ -10,7 +11,7 @@ ghost use Rattle.exif_data_locations.specs.Promises.{ReadsAlike};
 /// GPS data where these are erased, and there are no more faults than before. The value of a field
 /// is the old one, unless its tag is one of XMP, IPTC, the resources of Photoshop or GeoTIFF.
 pub fn all_other_fields_stay()
-    ensures { (bytes : List ℕ) (read : Read)
+    ensures { (unread : Unread) (bytes : List ℕ) (read : Read)
         → reading bytes ≡ Ok read
-        → ReadsAlike bytes read (reading (data_erased bytes).0) }
+        → ReadsAlike bytes read (reading (data_erased unread bytes).0) }
 {}

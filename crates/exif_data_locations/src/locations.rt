@@ -11,15 +11,20 @@ use crate::thumbnail::erase_thumbnail;
 use crate::why::Why;
 use exif_edit_base::Error;
 use exif_edit_base::limit::check_limit;
+use exif_locations::Unread;
 use std::alloc::{AllocError, Global};
 
 // Erases the locations in data, and then those in their thumbnail.
-fn erase_with_thumbnail(alloc: Global, bytes: &mut [u8]) -> Result<Vec<Why>, AllocError>
+fn erase_with_thumbnail(
+    alloc: Global,
+    unread: Unread,
+    bytes: &mut [u8],
+) -> Result<Vec<Why>, AllocError>
     ensures { IfOk result (λ whys. (bytes.new, whys.items)
-        ≡ thumbnail_erased (fields_erased (gps_erased bytes.old))) }
+        ≡ thumbnail_erased unread (fields_erased unread (gps_erased bytes.old))) }
 {
-    let mut whys = erase_all(alloc, bytes)?;
-    erase_thumbnail(alloc, bytes, &mut whys)?;
+    let mut whys = erase_all(alloc, unread, bytes)?;
+    erase_thumbnail(alloc, unread, bytes, &mut whys)?;
     Ok(whys)
 }
 
@@ -30,7 +35,8 @@ fn erase_with_thumbnail(alloc: Global, bytes: &mut [u8]) -> Result<Vec<Why>, All
 /// of tag 700, in the IPTC data of tag 33723, and in both where the resources of Photoshop of tag
 /// 34377 have them; and the values of the tags of GeoTIFF. All other bytes stay, and so do all
 /// these but for GPS data where the data would not be read as before then, because bytes have two
-/// uses. Data with more than 1,000,000 entries stay whole.
+/// uses. XMP and IPTC that can't be read stay and are answered, or are overwritten, as `unread`
+/// says. Data with more than 1,000,000 entries stay whole.
 ///
 /// The thumbnail is a JPEG stream, which may have Exif data, XMP and IPTC data of its own (Exif
 /// 2.32, 4.5.8). Their locations are erased, too, unless the data would not be read as before then.
@@ -39,11 +45,15 @@ fn erase_with_thumbnail(alloc: Global, bytes: &mut [u8]) -> Result<Vec<Why>, All
 ///
 /// It takes the memory of two readings and of a copy of the data, and so for the thumbnail. Out of
 /// memory leaves the data as they were, or with some of their locations erased.
-pub fn erase_locations(alloc: Global, bytes: &mut [u8]) -> Result<Vec<Why>, AllocError>
-    ensures { IfOk result (λ whys. (bytes.new, whys.items) ≡ data_erased bytes.old) }
+pub fn erase_locations(
+    alloc: Global,
+    unread: Unread,
+    bytes: &mut [u8],
+) -> Result<Vec<Why>, AllocError>
+    ensures { IfOk result (λ whys. (bytes.new, whys.items) ≡ data_erased unread bytes.old) }
 {
     match check_limit(alloc, bytes, Some(ENTRY_LIMIT)) {
-        Ok(()) => erase_with_thumbnail(alloc, bytes),
+        Ok(()) => erase_with_thumbnail(alloc, unread, bytes),
         Err(Error::OutOfMemory) => Err(AllocError),
         Err(_) => unchanged(alloc),
     }

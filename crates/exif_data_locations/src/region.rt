@@ -5,7 +5,7 @@ ghost use Rattle.exif_data_locations.specs.Regions.{LiesIn, iptc_answer, iptc_ju
 
 use crate::why::Why;
 use exif_locations::texts::{iptc_has_texts, xmp_has_texts};
-use exif_locations::{iptc, xmp};
+use exif_locations::{Unread, unread};
 use std::alloc::{AllocError, Global};
 
 /// What a region of Exif data holds.
@@ -33,40 +33,40 @@ pub struct Region {
 }
 
 // Erases the locations of an XMP packet.
-fn erase_xmp(tag: u16, bytes: &mut [u8]) -> Option<Why>
-    ensures { (bytes.new, result) ≡ xmp_answer tag bytes.old }
+fn erase_xmp(tag: u16, unread: Unread, bytes: &mut [u8]) -> Option<Why>
+    ensures { (bytes.new, result) ≡ xmp_answer tag unread bytes.old }
 {
-    match xmp::erase_locations(bytes) {
-        Ok(_) => None,
-        Err(fault) => Some(Why::XmpNotRead(tag, fault)),
+    match unread::erase_xmp(unread, bytes) {
+        Some(fault) => Some(Why::XmpNotRead(tag, fault)),
+        None => None,
     }
 }
 
 // Erases the locations of IPTC data.
-fn erase_iptc(tag: u16, bytes: &mut [u8]) -> Option<Why>
-    ensures { (bytes.new, result) ≡ iptc_answer tag bytes.old }
+fn erase_iptc(tag: u16, unread: Unread, bytes: &mut [u8]) -> Option<Why>
+    ensures { (bytes.new, result) ≡ iptc_answer tag unread bytes.old }
 {
-    match iptc::erase_locations(bytes) {
-        Ok(_) => None,
-        Err(fault) => Some(Why::IptcNotRead(tag, fault)),
+    match unread::erase_iptc(unread, bytes) {
+        Some(fault) => Some(Why::IptcNotRead(tag, fault)),
+        None => None,
     }
 }
 
 // The same of a packet, which may hold texts.
-fn judge_xmp(tag: u16, bytes: &mut [u8]) -> Option<Why>
-    ensures { (bytes.new, result) ≡ xmp_judged tag bytes.old }
+fn judge_xmp(tag: u16, unread: Unread, bytes: &mut [u8]) -> Option<Why>
+    ensures { (bytes.new, result) ≡ xmp_judged tag unread bytes.old }
 {
-    match erase_xmp(tag, bytes) {
+    match erase_xmp(tag, unread, bytes) {
         None if xmp_has_texts(bytes) => Some(Why::Texts(tag)),
         why => why,
     }
 }
 
 // The same of IPTC data.
-fn judge_iptc(tag: u16, bytes: &mut [u8]) -> Option<Why>
-    ensures { (bytes.new, result) ≡ iptc_judged tag bytes.old }
+fn judge_iptc(tag: u16, unread: Unread, bytes: &mut [u8]) -> Option<Why>
+    ensures { (bytes.new, result) ≡ iptc_judged tag unread bytes.old }
 {
-    match erase_iptc(tag, bytes) {
+    match erase_iptc(tag, unread, bytes) {
         None if iptc_has_texts(bytes) => Some(Why::Texts(tag)),
         why => why,
     }
@@ -80,12 +80,12 @@ fn zero(bytes: &mut [u8])
 }
 
 /// Erases the locations in what a region holds, and answers why it may still hold one.
-pub fn erase_what(tag: u16, what: What, bytes: &mut [u8]) -> Option<Why>
-    ensures { (bytes.new, result) ≡ what_answer tag what bytes.old }
+pub fn erase_what(tag: u16, unread: Unread, what: What, bytes: &mut [u8]) -> Option<Why>
+    ensures { (bytes.new, result) ≡ what_answer tag unread what bytes.old }
 {
     match what {
-        What::Xmp => judge_xmp(tag, bytes),
-        What::Iptc => judge_iptc(tag, bytes),
+        What::Xmp => judge_xmp(tag, unread, bytes),
+        What::Iptc => judge_iptc(tag, unread, bytes),
         What::GeoTiff => {
             zero(bytes);
             None
@@ -96,14 +96,19 @@ pub fn erase_what(tag: u16, what: What, bytes: &mut [u8]) -> Option<Why>
 }
 
 // Erases the locations in one region, and notes why it may still hold one.
-fn erase_region(bytes: &mut [u8], region: Region, whys: &mut Vec<Why>) -> Result<(), AllocError>
+fn erase_region(
+    unread: Unread,
+    bytes: &mut [u8],
+    region: Region,
+    whys: &mut Vec<Why>,
+) -> Result<(), AllocError>
     requires { LiesIn (length bytes.old) region }
     ensures { OnOk result ((bytes.new, whys.new.items)
-        ≡ region_erased region (bytes.old, whys.old.items)) }
+        ≡ region_erased unread region (bytes.old, whys.old.items)) }
 {
     let end = region.offset + region.len;
     let content = &mut bytes[region.offset..end];
-    if let Some(why) = erase_what(region.tag, region.what, content) {
+    if let Some(why) = erase_what(region.tag, unread, region.what, content) {
         whys.push(why)?;
     }
     Ok(())
@@ -111,16 +116,17 @@ fn erase_region(bytes: &mut [u8], region: Region, whys: &mut Vec<Why>) -> Result
 
 /// Erases the locations in regions, one after the other, and notes why they may still hold one.
 pub fn erase_regions(
+    unread: Unread,
     bytes: &mut [u8],
     regions: &[Region],
     whys: &mut Vec<Why>,
 ) -> Result<(), AllocError>
     requires { All (LiesIn (length bytes.old)) regions.now }
     ensures { OnOk result ((bytes.new, whys.new.items)
-        ≡ regions_erased regions.now (bytes.old, whys.old.items)) }
+        ≡ regions_erased unread regions.now (bytes.old, whys.old.items)) }
 {
     for region in regions {
-        erase_region(bytes, *region, whys)?;
+        erase_region(unread, bytes, *region, whys)?;
     }
     Ok(())
 }

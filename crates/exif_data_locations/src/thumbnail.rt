@@ -14,6 +14,7 @@ use crate::why::{Why, note_if};
 use exif_edit_base::patch::Span;
 use exif_edit_base::read::{read, reads_as};
 use exif_inventory::{Kind, Part, inventory};
+use exif_locations::Unread;
 use exif_reader::stop::Stop;
 use exif_reader::tiff::Parsed;
 use exif_types::{Context, Field};
@@ -103,11 +104,11 @@ fn what_of(kind: Kind, bytes: &[u8]) -> What
 }
 
 // Erases the locations of such data, and answers whether they may still hold one.
-fn erase_other(kind: Kind, bytes: &mut [u8]) -> bool
-    ensures { (bytes.new, result) ≡ other_answer kind bytes.old }
+fn erase_other(unread: Unread, kind: Kind, bytes: &mut [u8]) -> bool
+    ensures { (bytes.new, result) ≡ other_answer unread kind bytes.old }
 {
     let what = what_of(kind, bytes);
-    erase_what(OFFSET, what, bytes).is_some()
+    erase_what(OFFSET, unread, what, bytes).is_some()
 }
 
 // Whether data have a thumbnail.
@@ -123,52 +124,68 @@ fn has_thumbnail(alloc: Global, bytes: &[u8]) -> Result<bool, AllocError>
 
 // Erases the locations of Exif data but for those in a further thumbnail, and answers whether they
 // may still hold one.
-fn erase_further(alloc: Global, bytes: &mut [u8]) -> Result<bool, AllocError>
-    ensures { IfOk result (λ left. (bytes.new, left) ≡ with_further (own_erased bytes.old)) }
+fn erase_further(alloc: Global, unread: Unread, bytes: &mut [u8]) -> Result<bool, AllocError>
+    ensures { IfOk result (λ left. (bytes.new, left)
+        ≡ with_further (own_erased unread bytes.old)) }
 {
-    let whys = erase_own(alloc, bytes)?;
+    let whys = erase_own(alloc, unread, bytes)?;
     let further = has_thumbnail(alloc, bytes)?;
     Ok(!whys.is_empty() || further)
 }
 
 // Erases the locations in the data of a part, and answers whether they may still hold one.
-fn erase_part(alloc: Global, kind: Kind, bytes: &mut [u8]) -> Result<bool, AllocError>
-    ensures { IfOk result (λ left. (bytes.new, left) ≡ part_answer kind bytes.old) }
+fn erase_part(
+    alloc: Global,
+    unread: Unread,
+    kind: Kind,
+    bytes: &mut [u8],
+) -> Result<bool, AllocError>
+    ensures { IfOk result (λ left. (bytes.new, left) ≡ part_answer unread kind bytes.old) }
 {
     match kind {
-        Kind::Exif => erase_further(alloc, bytes),
-        _ => Ok(erase_other(kind, bytes)),
+        Kind::Exif => erase_further(alloc, unread, bytes),
+        _ => Ok(erase_other(unread, kind, bytes)),
     }
 }
 
 // Erases the locations in one part of a stream, and answers whether it may still hold one.
-fn erase_in_part(alloc: Global, bytes: &mut [u8], part: Part) -> Result<bool, AllocError>
+fn erase_in_part(
+    alloc: Global,
+    unread: Unread,
+    bytes: &mut [u8],
+    part: Part,
+) -> Result<bool, AllocError>
     requires { EndsIn (length bytes.old) part }
-    ensures { IfOk result (λ left. (bytes.new, left) ≡ part_erased part bytes.old) }
+    ensures { IfOk result (λ left. (bytes.new, left) ≡ part_erased unread part bytes.old) }
 {
     let end = part.data_offset + part.data_len;
-    erase_part(alloc, part.kind, &mut bytes[part.data_offset..end])
+    erase_part(alloc, unread, part.kind, &mut bytes[part.data_offset..end])
 }
 
 // Erases the locations in parts one after the other, and answers whether one may still hold one.
-fn erase_parts(alloc: Global, bytes: &mut [u8], parts: &[Part]) -> Result<bool, AllocError>
+fn erase_parts(
+    alloc: Global,
+    unread: Unread,
+    bytes: &mut [u8],
+    parts: &[Part],
+) -> Result<bool, AllocError>
     requires { All (EndsIn (length bytes.old)) parts.now }
-    ensures { IfOk result (λ left. (bytes.new, left) ≡ parts_erased parts.now false bytes.old) }
+    ensures { IfOk result (λ left. (bytes.new, left) ≡ parts_erased unread parts.now false bytes.old) }
 {
     let mut left = false;
     for part in parts {
-        let found = erase_in_part(alloc, bytes, *part)?;
+        let found = erase_in_part(alloc, unread, bytes, *part)?;
         left = left || found;
     }
     Ok(left)
 }
 
 // Erases the locations in a stream, and answers whether it may still hold one.
-fn erase_stream(alloc: Global, bytes: &mut [u8]) -> Result<bool, AllocError>
-    ensures { IfOk result (λ left. (bytes.new, left) ≡ stream_erased bytes.old) }
+fn erase_stream(alloc: Global, unread: Unread, bytes: &mut [u8]) -> Result<bool, AllocError>
+    ensures { IfOk result (λ left. (bytes.new, left) ≡ stream_erased unread bytes.old) }
 {
     match inventory(alloc, bytes)? {
-        Some(parts) => erase_parts(alloc, bytes, parts.as_slice()),
+        Some(parts) => erase_parts(alloc, unread, bytes, parts.as_slice()),
         None => Ok(false),
     }
 }
@@ -177,15 +194,16 @@ fn erase_stream(alloc: Global, bytes: &mut [u8]) -> Result<bool, AllocError>
 // hold one.
 fn erase_stretch(
     alloc: Global,
+    unread: Unread,
     bytes: &mut [u8],
     offset: usize,
     len: usize,
 ) -> Result<bool, AllocError>
     requires { offset + len ≤ length bytes.old }
-    ensures { IfOk result (λ left. (bytes.new, left) ≡ stretch_erased offset len bytes.old) }
+    ensures { IfOk result (λ left. (bytes.new, left) ≡ stretch_erased unread offset len bytes.old) }
 {
     let end = offset + len;
-    erase_stream(alloc, &mut bytes[offset..end])
+    erase_stream(alloc, unread, &mut bytes[offset..end])
 }
 
 // Whether new data are the old ones.
@@ -221,6 +239,7 @@ fn put_if_same(
 // Erases the locations in a stream in data.
 fn erase_span(
     alloc: Global,
+    unread: Unread,
     bytes: &mut [u8],
     span: Span,
     parsed: &Parsed,
@@ -228,10 +247,11 @@ fn erase_span(
 ) -> Result<(), AllocError>
     requires { span.offset + span.len ≤ length bytes.old }
     ensures { OnOk result ((bytes.new, whys.new.items)
-        ≡ span_erased (read_of parsed.now) bytes.old whys.old.items span) }
+        ≡ span_erased unread (read_of parsed.now) bytes.old whys.old.items span) }
 {
     let mut new = Vec::from_slice(alloc, bytes)?;
-    let left = erase_stretch(alloc, new.as_mut_slice(), span.offset as usize, span.len)?;
+    let data = new.as_mut_slice();
+    let left = erase_stretch(alloc, unread, data, span.offset as usize, span.len)?;
     note_if(left, Why::Thumbnail, whys)?;
     put_if_same(alloc, bytes, new.as_slice(), parsed, whys)
 }
@@ -239,15 +259,16 @@ fn erase_span(
 // Erases the locations in the thumbnail of data that were read.
 fn erase_read(
     alloc: Global,
+    unread: Unread,
     bytes: &mut [u8],
     parsed: &Parsed,
     whys: &mut Vec<Why>,
 ) -> Result<(), AllocError>
     ensures { OnOk result ((bytes.new, whys.new.items)
-        ≡ read_thumbnail_erased (read_of parsed.now) bytes.old whys.old.items) }
+        ≡ read_thumbnail_erased unread (read_of parsed.now) bytes.old whys.old.items) }
 {
     match thumbnail_span(bytes.len(), parsed.fields.as_slice()) {
-        Some(span) => erase_span(alloc, bytes, span, parsed, whys),
+        Some(span) => erase_span(alloc, unread, bytes, span, parsed, whys),
         None => Ok(()),
     }
 }
@@ -255,14 +276,15 @@ fn erase_read(
 /// Erases the locations in the thumbnail of data, and notes why there may still be one.
 pub fn erase_thumbnail(
     alloc: Global,
+    unread: Unread,
     bytes: &mut [u8],
     whys: &mut Vec<Why>,
 ) -> Result<(), AllocError>
     ensures { OnOk result ((bytes.new, whys.new.items)
-        ≡ thumbnail_erased (bytes.old, whys.old.items)) }
+        ≡ thumbnail_erased unread (bytes.old, whys.old.items)) }
 {
     match read(alloc, bytes) {
-        Ok(parsed) => erase_read(alloc, bytes, &parsed, whys),
+        Ok(parsed) => erase_read(alloc, unread, bytes, &parsed, whys),
         Err(Stop::Fault(_)) => Ok(()),
         Err(Stop::OutOfMemory) => Err(AllocError),
     }

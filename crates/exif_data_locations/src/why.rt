@@ -2,6 +2,7 @@
 
 ghost use Rattle.std.specs.Prelude.{◌≡◌, OnOk};
 ghost use Rattle.exif_data_locations.specs.Erasing.{noted_if};
+ghost use Rattle.exif_data_locations.specs.Regions.{can_be_blanked};
 
 use exif_locations::{iptc, xmp};
 use exif_types::Tag;
@@ -42,6 +43,15 @@ pub enum Why {
     /// XMP, IPTC data, resources of Photoshop or GeoTIFF tags use bytes that have another use, too:
     /// all of these are as they were. Or the thumbnail does, and is as it was.
     Shared,
+}
+
+impl Why {
+    /// Whether what can't be read would be overwritten with [`Unread::Blank`](exif_locations::Unread).
+    pub fn can_be_blanked(self) -> bool
+        ensures { result ≡ can_be_blanked self }
+    {
+        matches!(self, Why::XmpNotRead(..) | Why::IptcNotRead(..))
+    }
 }
 
 impl fmt::Display for Why {

@@ -1,5 +1,7 @@
 pub mod IptcLawSteps
 pub mod IptcWalkSteps
+pub mod Refused
+pub mod UnreadSteps
 pub mod XmpAgreeing
 pub mod XmpDepthSteps
 pub mod XmpLawSteps

@@ -3,6 +3,8 @@ pub mod IptcPromises
 pub mod Spaced
 pub mod Texts
 pub mod TextsExamples
+pub mod Unread
+pub mod UnreadExamples
 pub mod XmpErasing
 pub mod XmpNames
 pub mod XmpPieces

@@ -4,4 +4,7 @@
 
 pub mod iptc;
 pub mod texts;
+pub mod unread;
 pub mod xmp;
+
+pub use unread::Unread;

@@ -12,7 +12,7 @@ use Rattle.exif_privacy.specs.Portions.{full_len, goes_on, has_portion, is_exten
 use Rattle.exif_privacy.specs.Promises.{LeftIsAnswered, ReasonsAreItsOwn}
 use Rattle.exif_privacy.specs.declared.stays.Stays.{Stays}
 use Rattle.exif_privacy.specs.declared.stays.Why.{Why}
-use Rattle.exif_privacy.specs.declared.unread.Unread.{Unread}
+use Rattle.exif_locations.specs.declared.unread.Unread.{Unread}
 use Rattle.exif_privacy.proofs.TwiceSteps.{found_there}
 
 -- ---- lists

@@ -8,7 +8,7 @@ use Rattle.exif_privacy.specs.Judging.{first_reasons, front_reasons}
 use Rattle.exif_privacy.specs.Parts.{part_reasons}
 use Rattle.exif_privacy.specs.Portions.{joined, joined_len}
 use Rattle.exif_privacy.specs.declared.stays.Why.{Why}
-use Rattle.exif_privacy.specs.declared.unread.Unread.{Unread}
+use Rattle.exif_locations.specs.declared.unread.Unread.{Unread}
 
 reasons_of : (unread : Unread) (file : List ℕ) (p : Part) (ps : List Part) (n : ℕ) → (n ≡ 0 → ⊥)
     → front_reasons unread file n p ps ≡ part_reasons unread kind.Xmp (joined (take n (p ∷ ps)) file)

@@ -18,7 +18,7 @@ use Rattle.exif_privacy.specs.Promises.{TwiceIsOnce, is_still_there, would_chang
 use Rattle.exif_privacy.specs.declared.stays.Stays.{Stays}
 use Rattle.exif_privacy.specs.declared.stays.Why.{Why}
 use Rattle.exif_privacy.specs.declared.stays.Why.TheVariants.{StillThere}
-use Rattle.exif_privacy.specs.declared.unread.Unread.{Unread}
+use Rattle.exif_locations.specs.declared.unread.Unread.{Unread}
 
 -- data put where they are
 pub same_data : (part : Part) (file : List ℕ) → with_data part (data_of part file) file ≡ file

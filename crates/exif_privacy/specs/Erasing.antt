@@ -11,7 +11,7 @@ use Rattle.exif_privacy.specs.Parts.{part_answer}
 use Rattle.exif_privacy.specs.Portions.{joined, joined_len, put_back}
 use Rattle.exif_privacy.specs.declared.stays.Stays.{Stays}
 use Rattle.exif_privacy.specs.declared.stays.Why.{Why}
-use Rattle.exif_privacy.specs.declared.unread.Unread.{Unread}
+use Rattle.exif_locations.specs.declared.unread.Unread.{Unread}
 
 -- a part that may hold a location, for a reason
 abbrev pub stays_for : Part → Why → Stays

@@ -6,10 +6,10 @@ use Rattle.exif_locations.specs.XmpErasing.{erased_by, step_at}
 use Rattle.exif_locations.specs.XmpNames.{is_location, is_word}
 use Rattle.exif_locations.specs.XmpTokens.{attribute_at, content_at, markup_at, opening_at, tag_at}
 use Rattle.exif_privacy.specs.Erasing.{found, parts_erased, stays_for}
-use Rattle.exif_privacy.specs.Parts.{blank_packet, part_answer, part_reasons}
+use Rattle.exif_privacy.specs.Parts.{part_answer, part_reasons}
 use Rattle.exif_privacy.specs.Portions.{joined, joined_len, run_len}
 use Rattle.exif_privacy.specs.declared.stays.Why.TheVariants.{NotJudged, StillThere}
-use Rattle.exif_privacy.specs.declared.unread.Unread.TheVariants.{Keep}
+use Rattle.exif_locations.specs.declared.unread.Unread.TheVariants.{Keep}
 
 -- a comment of zeros holds nothing, another one may hold a location
 zeros_hold_nothing : part_answer Keep kind.Comment (0 ∷ 0 ∷ []) ≡ (0 ∷ 0 ∷ [], [])
@@ -17,13 +17,6 @@ zeros_hold_nothing = refl
 
 others_may : part_reasons Keep kind.Comment (0 ∷ 7 ∷ []) ≡ NotJudged ∷ []
 others_may = refl
-
--- packets of 40 bytes and of 3 that are overwritten
-long_packet : blank_packet (replicate 40 60) ≡ codes "<x:xmpmeta xmlns:x='adobe:ns:meta/'/>   "
-long_packet = refl
-
-short_packet : blank_packet (codes "<a>") ≡ codes "   "
-short_packet = refl
 
 -- the data of a portion: a GUID of this letter, the length of the packet, and the offset in it
 abbrev held : ℕ → ℕ → ℕ → List ℕ → List ℕ

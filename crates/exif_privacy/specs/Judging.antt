@@ -7,7 +7,7 @@ use Rattle.exif_privacy.specs.Parts.{part_reasons}
 use Rattle.exif_privacy.specs.Portions.{joined, joined_len}
 use Rattle.exif_privacy.specs.declared.reasons.Reasons.{Reasons}
 use Rattle.exif_privacy.specs.declared.stays.Why.{Why}
-use Rattle.exif_privacy.specs.declared.unread.Unread.{Unread}
+use Rattle.exif_locations.specs.declared.unread.Unread.{Unread}
 
 -- reasons, and of how many parts that follow they are, too
 abbrev pub reasons_view : Reasons → List Why × ℕ

@@ -1,54 +1,27 @@
 -- The locations in one part of a file.
-use Rattle.std.specs.Prelude.{ℕ, ◌-◌, ◌==◌, List, [], ◌∷◌, ◌++◌, codes, length, map, replicate, nat_le, Bool, true, false, Option, None, Some, Result, Ok, Err, if◌then◌else◌}
+use Rattle.std.specs.Prelude.{ℕ, ◌==◌, List, [], ◌∷◌, map, Bool, true, false, Option, None, Some, if◌then◌else◌}
 use Rattle.std.specs.List.{list_all}
 use Rattle.std.specs.Option.{option_to_list}
 use Rattle.std.specs.Str.{bytes_eq}
 use Rattle.exif_data_locations.specs.Locations.{data_erased}
+use Rattle.exif_data_locations.specs.Regions.{can_be_blanked as unread_in_data}
 use Rattle.exif_data_locations.specs.declared.why.Why as data_why
 use Rattle.exif_inventory.specs.declared.kind.Kind.{Kind}
 use Rattle.exif_inventory.specs.declared.kind.Kind.TheVariants as kind
-use Rattle.exif_locations.specs.XmpErasing as xmp
-use Rattle.exif_locations.specs.IptcDatasets as iptc
 use Rattle.exif_locations.specs.Texts.{iptc_has_texts, xmp_has_texts}
+use Rattle.exif_locations.specs.Unread as packets
+use Rattle.exif_locations.specs.Unread.{because}
+use Rattle.exif_locations.specs.declared.unread.Unread.{Unread}
 use Rattle.exif_privacy.specs.declared.stays.Why.{Why}
 use Rattle.exif_privacy.specs.declared.stays.Why.TheVariants.{XmpNotRead, IptcNotRead, InExif, NotJudged, StillThere, Texts}
-use Rattle.exif_privacy.specs.declared.unread.Unread.{Unread}
-use Rattle.exif_privacy.specs.declared.unread.Unread.TheVariants.{Keep, Blank}
-
--- an XMP packet without properties (XMP Specification, Part 1, 7.3.3)
-abbrev pub no_properties : List ℕ
-no_properties = codes "<x:xmpmeta xmlns:x='adobe:ns:meta/'/>"
-
--- as many bytes: that packet and spaces, or only spaces, if it does not fit
-abbrev pub blank_packet : List ℕ → List ℕ
-blank_packet bytes =
-    if nat_le (length no_properties) (length bytes)
-    then no_properties ++ replicate (length bytes - length no_properties) 32
-    else replicate (length bytes) 32
-
--- as many zeros
-abbrev pub zeros : List ℕ → List ℕ
-zeros bytes = replicate (length bytes) 0
-
--- data that can't be read, for a reason, or blank ones
-abbrev pub unread_answer : Unread → List ℕ → List ℕ → Why → List ℕ × Option Why
-unread_answer Keep blank old why = (old, Some why)
-unread_answer Blank blank old why = (blank, None)
-
--- new bytes, or what becomes of the old ones if these can't be read
-abbrev pub or_unread : {F : Type 0} → Unread → (F → Why) → List ℕ → List ℕ → Result (List ℕ) F
-    → List ℕ × Option Why
-or_unread unread why blank old (Ok new) = (new, None)
-or_unread unread why blank old (Err fault) = unread_answer unread blank old (why fault)
 
 -- an XMP packet without its locations
 abbrev pub xmp_answer : Unread → List ℕ → List ℕ × Option Why
-xmp_answer unread bytes =
-    or_unread unread XmpNotRead (blank_packet bytes) bytes (xmp.erased bytes)
+xmp_answer unread bytes = because XmpNotRead (packets.xmp_answer unread bytes)
 
 -- IPTC data without their locations
 abbrev pub iptc_answer : Unread → List ℕ → List ℕ × Option Why
-iptc_answer unread bytes = or_unread unread IptcNotRead (zeros bytes) bytes (iptc.erased bytes)
+iptc_answer unread bytes = because IptcNotRead (packets.iptc_answer unread bytes)
 
 -- new bytes, which may hold texts, where there is no other reason
 abbrev pub or_texts : (List ℕ → Bool) → List ℕ × Option Why → List ℕ × Option Why
@@ -63,10 +36,11 @@ xmp_judged unread bytes = or_texts xmp_has_texts (xmp_answer unread bytes)
 abbrev pub iptc_judged : Unread → List ℕ → List ℕ × Option Why
 iptc_judged unread bytes = or_texts iptc_has_texts (iptc_answer unread bytes)
 
--- whether the data of a part with this reason could be overwritten
+-- whether what this reason is about could be overwritten
 abbrev pub can_be_blanked : Why → Bool
 can_be_blanked (XmpNotRead fault) = true
 can_be_blanked (IptcNotRead fault) = true
+can_be_blanked (InExif why) = unread_in_data why
 can_be_blanked _ = false
 
 -- new bytes, and the reason as a list
@@ -87,7 +61,7 @@ unjudged bytes = if all_zero bytes then None else Some NotJudged
 
 -- the data of a part without their locations, and why they may still hold one
 abbrev pub part_answer : Unread → Kind → List ℕ → List ℕ × List Why
-part_answer unread kind.Exif bytes = in_exif (data_erased bytes)
+part_answer unread kind.Exif bytes = in_exif (data_erased unread bytes)
 part_answer unread kind.Xmp bytes = listed (xmp_judged unread bytes)
 part_answer unread kind.Iptc bytes = listed (iptc_judged unread bytes)
 part_answer unread kind.ExtendedXmp bytes = listed (bytes, unjudged bytes)

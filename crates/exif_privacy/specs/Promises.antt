@@ -13,7 +13,7 @@ use Rattle.exif_privacy.specs.Portions.{is_extended}
 use Rattle.exif_privacy.specs.declared.stays.Stays.{Stays}
 use Rattle.exif_privacy.specs.declared.stays.Why.{Why}
 use Rattle.exif_privacy.specs.declared.stays.Why.TheVariants.{StillThere}
-use Rattle.exif_privacy.specs.declared.unread.Unread.{Unread}
+use Rattle.exif_locations.specs.declared.unread.Unread.{Unread}
 
 -- whether a reason is that a location would be erased
 abbrev pub is_still_there : Why → Bool

@@ -12,8 +12,8 @@ use crate::parts::parts_of;
 use crate::portions::{join, joined_len, put_back};
 use crate::reasons::Reasons;
 use crate::stays::{Stays, Why};
-use crate::unread::Unread;
 use exif_inventory::{Kind, Part};
+use exif_locations::Unread;
 use std::alloc::{AllocError, Global};
 
 // Erases the locations in one part of a file.

@@ -4,7 +4,6 @@
 //! changes no other byte, and answers which parts stay that hold a location or may hold one.
 #![tactic(auto)]
 
-mod blank;
 mod erase;
 pub mod laws;
 mod part;
@@ -12,10 +11,9 @@ mod parts;
 mod portions;
 mod reasons;
 mod stays;
-mod unread;
 
 pub use erase::erase_locations;
+pub use exif_locations::Unread;
 pub use parts::parts_of;
 pub use reasons::Reasons;
 pub use stays::{Stays, Why};
-pub use unread::Unread;

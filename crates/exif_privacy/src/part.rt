@@ -6,12 +6,10 @@ ghost use Rattle.exif_privacy.specs.Parts.{all_zero, in_exif, iptc_answer, iptc_
 ghost use Rattle.exif_privacy.specs.Promises.{is_searched};
 ghost use Rattle.exif_data_locations.specs.Locations.{data_erased};
 
-use crate::blank::{blank_packet, clear};
 use crate::stays::Why;
-use crate::unread::Unread;
 use exif_inventory::Kind;
 use exif_locations::texts::{iptc_has_texts, xmp_has_texts};
-use exif_locations::{iptc, xmp};
+use exif_locations::{Unread, unread};
 use std::alloc::{AllocError, Global};
 
 // A reason, if there is one.
@@ -29,15 +27,9 @@ fn listed(alloc: Global, why: Option<Why>) -> Result<Vec<Why>, AllocError>
 fn erase_xmp(bytes: &mut [u8], unread: Unread) -> Option<Why>
     ensures { (bytes.new, result) ≡ xmp_answer unread bytes.old }
 {
-    match xmp::erase_locations(bytes) {
-        Ok(_) => None,
-        Err(fault) => match unread {
-            Unread::Keep => Some(Why::XmpNotRead(fault)),
-            Unread::Blank => {
-                blank_packet(bytes);
-                None
-            }
-        },
+    match unread::erase_xmp(unread, bytes) {
+        Some(fault) => Some(Why::XmpNotRead(fault)),
+        None => None,
     }
 }
 
@@ -45,15 +37,9 @@ fn erase_xmp(bytes: &mut [u8], unread: Unread) -> Option<Why>
 fn erase_iptc(bytes: &mut [u8], unread: Unread) -> Option<Why>
     ensures { (bytes.new, result) ≡ iptc_answer unread bytes.old }
 {
-    match iptc::erase_locations(bytes) {
-        Ok(_) => None,
-        Err(fault) => match unread {
-            Unread::Keep => Some(Why::IptcNotRead(fault)),
-            Unread::Blank => {
-                clear(bytes);
-                None
-            }
-        },
+    match unread::erase_iptc(unread, bytes) {
+        Some(fault) => Some(Why::IptcNotRead(fault)),
+        None => None,
     }
 }
 
@@ -85,10 +71,11 @@ fn all_in_exif(alloc: Global, whys: &[exif_data_locations::Why]) -> Result<Vec<W
 }
 
 // Erases the locations of Exif data.
-fn erase_exif(alloc: Global, bytes: &mut [u8]) -> Result<Vec<Why>, AllocError>
-    ensures { IfOk result (λ whys. (bytes.new, whys.items) ≡ in_exif (data_erased bytes.old)) }
+fn erase_exif(alloc: Global, unread: Unread, bytes: &mut [u8]) -> Result<Vec<Why>, AllocError>
+    ensures { IfOk result (λ whys. (bytes.new, whys.items)
+        ≡ in_exif (data_erased unread bytes.old)) }
 {
-    let whys = exif_data_locations::erase_locations(alloc, bytes)?;
+    let whys = exif_data_locations::erase_locations(alloc, unread, bytes)?;
     all_in_exif(alloc, whys.as_slice())
 }
 
@@ -122,7 +109,7 @@ pub fn erase_part(
     ensures others { is_searched kind ≡ false → bytes.new ≡ bytes.old }
 {
     match kind {
-        Kind::Exif => erase_exif(alloc, bytes),
+        Kind::Exif => erase_exif(alloc, unread, bytes),
         Kind::Xmp => listed(alloc, judge_xmp(bytes, unread)),
         Kind::Iptc => listed(alloc, judge_iptc(bytes, unread)),
         Kind::ExtendedXmp

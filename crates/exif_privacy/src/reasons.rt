@@ -7,8 +7,8 @@ ghost use Rattle.exif_privacy.specs.Judging.{first_reasons, next_reasons, reason
 use crate::part::part_reasons;
 use crate::portions::{data_of, join, joined_len};
 use crate::stays::Why;
-use crate::unread::Unread;
 use exif_inventory::{Kind, Part};
+use exif_locations::Unread;
 use std::alloc::{AllocError, Global};
 
 /// Why a part may hold a location.

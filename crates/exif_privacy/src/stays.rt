@@ -25,11 +25,15 @@ pub enum Why {
 }
 
 impl Why {
-    /// Whether the part would be overwritten with [`Unread::Blank`](crate::Unread::Blank).
+    /// Whether what can't be read would be overwritten with [`Unread::Blank`](crate::Unread::Blank).
     pub fn can_be_blanked(self) -> bool
         ensures { result ≡ can_be_blanked self }
     {
-        matches!(self, Why::XmpNotRead(_) | Why::IptcNotRead(_))
+        match self {
+            Why::XmpNotRead(_) | Why::IptcNotRead(_) => true,
+            Why::InExif(why) => why.can_be_blanked(),
+            _ => false,
+        }
     }
 }
 

@@ -12,5 +12,5 @@ mod reader;
 pub mod stop;
 pub mod tiff;
 
-pub use reader::{Reader, Sniffed};
+pub use reader::{Reader, Sniffed, errors_of};
 pub use tiff::parse_exif;

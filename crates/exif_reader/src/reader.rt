@@ -59,8 +59,8 @@ impl Model for Reader {
     ghost view = { λ r. record { lenient = r.lenient; limit = r.limit } };
 }
 
-// The errors of these faults.
-fn errors_of(alloc: Global, faults: &[Fault]) -> Result<Vec<Error>, AllocError>
+/// The errors that these faults are, with their messages.
+pub fn errors_of(alloc: Global, faults: &[Fault]) -> Result<Vec<Error>, AllocError>
     ensures texts { IfOk result
         (λ errors. map bytes_of (map told_text errors.items) ≡ map text_of faults.now) }
     ensures invalid { IfOk result (λ errors. All IsInvalidFormat errors.items) }
@@ -262,8 +262,11 @@ impl Reader {
         Ok(Sniffed { format, answer })
     }
 
-    // What is read of a stream whose signature is that of a container.
-    fn read_as<R: Source>(
+    /// What [`read_by_need`](Reader::read_by_need) answers of a stream whose signature is that of
+    /// this container, or of bytes that begin none. The first byte is at this offset of a source
+    /// that goes back; with none, the source does not go back. It is for callers that have read
+    /// the signature themselves.
+    pub fn read_as<R: Source>(
         &self,
         alloc: Global,
         format: Option<Format>,

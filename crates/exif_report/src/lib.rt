@@ -4,4 +4,4 @@
 pub mod lines;
 pub mod reporting;
 
-pub use reporting::{report, report_limited};
+pub use reporting::{found_of, report, report_limited, write_all};

@@ -72,8 +72,9 @@ fn write_errors<W: Sink>(alloc: Global, errors: &[Error], out: &mut W) -> Result
     Ok(())
 }
 
-/// The fields that were read, and the faults that were passed over.
-fn found_of(alloc: Global, answer: Result<Exif, Error>) -> Result<(Exif, Vec<Error>), Error>
+/// The fields that were read, and the faults that were skipped; an error that brings no fields comes
+/// back as it is.
+pub fn found_of(alloc: Global, answer: Result<Exif, Error>) -> Result<(Exif, Vec<Error>), Error>
     ensures finds { (expected : List ℕ → Answer) (container : Result (List ℕ) Refusal)
         → ReadsByNeed expected container answer.entry
         → Finds (given_by expected container) result }
@@ -91,8 +92,9 @@ fn found_of(alloc: Global, answer: Result<Exif, Error>) -> Result<(Exif, Vec<Err
     }
 }
 
-/// Writes a line for each field and for each fault, and flushes.
-fn write_all<W: Sink>(
+/// Writes the report of what was read: a line for each field and for each fault, and flushes. Where
+/// memory or the writer fails, a front of it may have been sent.
+pub fn write_all<W: Sink>(
     alloc: Global,
     exif: &Exif,
     errors: &[Error],

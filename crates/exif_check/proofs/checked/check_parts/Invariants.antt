@@ -1,7 +1,7 @@
 use Rattle.std.proofs.Common.{◌≡◌, ◌++◌, drop, map}
 use Rattle.exif_check.specs.Checking.{part_checked, parts_checked}
 use Rattle.exif_privacy.specs.Judging.{judged_from, reasons_view}
-use Rattle.exif_privacy.specs.declared.unread.Unread.TheVariants.{Keep}
+use Rattle.exif_locations.specs.declared.unread.Unread.TheVariants.{Keep}
 use Rattle.exif_check.proofs.checked.check_parts.Given as goal
 
 -- those that were judged, and those that are left, are all
