@@ -1,0 +1,4 @@
+pub mod DataGiven
+pub mod Joined
+pub mod Begins
+pub mod PictureLaws

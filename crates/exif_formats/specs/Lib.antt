@@ -1,0 +1,5 @@
+pub mod Failing
+pub mod Formats
+pub mod Laws
+pub mod Magic
+pub mod Pictures

@@ -1,0 +1,123 @@
+//! The formats of pictures, and their signatures.
+
+ghost use Rattle.std.specs.Prelude.{◌≡◌};
+ghost use Rattle.exif_formats.specs.Formats.{begins_jpeg_xl, begins_orf, begins_rw2, format_in, format_name, known_as, other_format_in};
+
+use exif_containers::container::{self, Format};
+use exif_jxl::{is_codestream, is_jxl};
+use exif_png::is_png;
+use exif_raw::cr3::is_cr3;
+use exif_raw::raf::is_raf;
+
+/// A format of pictures.
+#[derive(Clone, Copy, Debug, PartialEq, Eq)]
+pub enum PictureFormat {
+    /// TIFF data, which are the Exif data; also most raw files.
+    Tiff,
+    /// A JPEG stream.
+    Jpeg,
+    /// A HEIF or AVIF file.
+    Heif,
+    /// A WebP file.
+    WebP,
+    /// A PNG file.
+    Png,
+    /// A JPEG XL file, in its container or as a codestream.
+    JpegXl,
+    /// A raw file of Fujifilm.
+    Raf,
+    /// A raw file of Olympus.
+    Orf,
+    /// A raw file of Panasonic.
+    Rw2,
+    /// A raw file of Canon (CR3).
+    Cr3,
+}
+
+/// A container of Exif data as a format of pictures.
+pub fn known_as(format: Format) -> PictureFormat
+    ensures { result ≡ known_as format }
+{
+    match format {
+        Format::Tiff => PictureFormat::Tiff,
+        Format::Jpeg => PictureFormat::Jpeg,
+        Format::Heif => PictureFormat::Heif,
+        Format::WebP => PictureFormat::WebP,
+    }
+}
+
+impl PictureFormat {
+    /// Its name.
+    pub fn name(self) -> &'static str
+        ensures { result.now ≡ format_name self }
+    {
+        match self {
+            PictureFormat::Tiff => "TIFF",
+            PictureFormat::Jpeg => "JPEG",
+            PictureFormat::Heif => "HEIF",
+            PictureFormat::WebP => "WebP",
+            PictureFormat::Png => "PNG",
+            PictureFormat::JpegXl => "JPEG XL",
+            PictureFormat::Raf => "RAF",
+            PictureFormat::Orf => "ORF",
+            PictureFormat::Rw2 => "RW2",
+            PictureFormat::Cr3 => "CR3",
+        }
+    }
+}
+
+// Whether bytes begin a JPEG XL file.
+fn begins_jpeg_xl(bytes: &[u8]) -> bool
+    ensures { result ≡ begins_jpeg_xl bytes.now }
+{
+    is_jxl(bytes) || is_codestream(bytes)
+}
+
+// Whether bytes begin a raw file of Olympus: TIFF data with another number in place of 42.
+fn begins_orf(bytes: &[u8]) -> bool
+    ensures { result ≡ begins_orf bytes.now }
+{
+    bytes.len() >= 4
+        && (bytes[..4] == b"IIRO"[..] || bytes[..4] == b"IIRS"[..] || bytes[..4] == b"MMOR"[..])
+}
+
+// Whether bytes begin a raw file of Panasonic, so too.
+fn begins_rw2(bytes: &[u8]) -> bool
+    ensures { result ≡ begins_rw2 bytes.now }
+{
+    bytes.len() >= 4 && bytes[..4] == b"IIU\0"[..]
+}
+
+// The format that begins with these bytes, beside the containers of `exif_containers`.
+#[tactic(auto, unfolding(crate::specs::Formats::other_format_in))]
+fn other_format_of(signature: &[u8]) -> Option<PictureFormat>
+    ensures { result ≡ other_format_in signature.now }
+{
+    if is_png(signature) {
+        Some(PictureFormat::Png)
+    } else if begins_jpeg_xl(signature) {
+        Some(PictureFormat::JpegXl)
+    } else if is_raf(signature) {
+        Some(PictureFormat::Raf)
+    } else if begins_orf(signature) {
+        Some(PictureFormat::Orf)
+    } else if begins_rw2(signature) {
+        Some(PictureFormat::Rw2)
+    } else if is_cr3(signature) {
+        Some(PictureFormat::Cr3)
+    } else {
+        None
+    }
+}
+
+/// The format that begins with these bytes, of which 4096 suffice. A file that
+/// [`exif_containers::container::format_of`] knows has the format that it says.
+#[tactic(auto, unfolding(crate::specs::Formats::format_in))]
+pub fn format_of(signature: &[u8]) -> Option<PictureFormat>
+    ensures { result ≡ format_in signature.now }
+{
+    match container::format_of(signature) {
+        Some(format) => Some(known_as(format)),
+        None => other_format_of(signature),
+    }
+}

@@ -1,0 +1,17 @@
+//! Pictures of every format that is read, by their signature: TIFF, JPEG, HEIF and WebP as
+//! `exif_reader` reads them, and PNG, JPEG XL and raw files beside them.
+//!
+//! [`read_picture`] is what programs call. Raw files that are TIFF data (DNG, NEF, CR2, ARW, PEF)
+//! are read as such.
+#![tactic(auto)]
+
+mod cr3;
+mod format;
+pub mod laws;
+mod magic;
+mod options;
+mod picture;
+
+pub use format::{PictureFormat, format_of};
+pub use options::Options;
+pub use picture::{Picture, read_bytes, read_picture};

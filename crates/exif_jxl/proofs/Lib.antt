@@ -1,0 +1,4 @@
+pub mod BoxSteps
+pub mod LawsJxl
+pub mod ReadSteps
+pub mod TreesJxl

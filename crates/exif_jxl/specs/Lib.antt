@@ -1,0 +1,4 @@
+pub mod Jxl
+pub mod JxlSteps
+pub mod JxlGrammar
+pub mod Examples

@@ -1,0 +1,10 @@
+pub mod Cr3Boxes
+pub mod Cr3Brand
+pub mod Cr3Headers
+pub mod Cr3Loop
+pub mod Cr3Movie
+pub mod LawsBoxes
+pub mod LawsCr3
+pub mod LawsRaf
+pub mod Naming
+pub mod RafSteps
