@@ -334,12 +334,12 @@ check "the other file was shifted" test "$(grep -c '2020-02-29 00:30:00' out)" =
 
 # the summary of a folder
 fresh
-printf '\211PNG\r\n\032\nrest' >work/a.png
-cp work/a.png work/b.png
+printf 'BM----\0\0\0\0rest' >work/a.bmp
+cp work/a.bmp work/b.bmp
 printf 'GIF89a' >work/a.gif
 rm work/faulty.jpg work/cut.jpg work/plain.jpg work/plain.webp
 gives "pictures that are not supported are counted" 3 "$mexaldor" json -r work
-says "by their formats" "mexaldor: 7 read, 0 refused, 3 skipped (2 PNG, 1 GIF: format not supported)"
+says "by their formats" "mexaldor: 7 read, 0 refused, 3 skipped (1 GIF, 2 BMP: format not supported)"
 gives "a quiet run says nothing" 3 "$mexaldor" json -q -r work
 check "indeed" test ! -s err
 

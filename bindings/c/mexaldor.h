@@ -1,4 +1,5 @@
-/* mexaldor.h - read, edit and remove the Exif data of TIFF, JPEG, HEIF and WebP files.
+/* mexaldor.h - read, edit and remove the Exif data of TIFF, JPEG, HEIF and WebP files; read those of
+ * PNG, JPEG XL and raw files.
  *
  * A call reads the caller's bytes and writes its result into the caller's buffer. It keeps no
  * pointer and no state, so calls may run in any number of threads, over the same bytes too if none

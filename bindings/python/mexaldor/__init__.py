@@ -1,5 +1,7 @@
 """Read, edit and remove the Exif data of TIFF, JPEG, HEIF and WebP files.
 
+The data of PNG, JPEG XL and raw files are only read.
+
     >>> import mexaldor
     >>> mexaldor.read("holiday.jpg")["summary"]["orientation"]
     6

@@ -5,7 +5,6 @@ use Rattle.exif_types.specs.Refusals.{invalid_format, not_found, blank_value, to
 use Rattle.exif_types.specs.declared.error.Error.TheVariants as failure
 use Rattle.exif_edit_base.specs.Causes.{no_field, no_directory, full_directory, unknown_type, offset_named, shared, picture, wrong_header, no_data}
 use Rattle.exif_edit_base.specs.Causes as cause
-use Rattle.exif_edit_base.specs.declared.error.Error.{Error}
 use Rattle.exif_edit_base.specs.declared.error.Error.TheVariants as edit
 use Rattle.exif_change.specs.Changed.{Change}
 use Rattle.exif_change.specs.Refusals.{Why, Fails, editing, heif_fault, no_date, no_thumbnail, not_of_its_type, out_of_range, reading, second_exif, tiff_fault, unknown_format}

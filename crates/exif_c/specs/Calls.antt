@@ -1,11 +1,10 @@
 -- What the calls of the library for C do.
-use Rattle.std.specs.Prelude.{◌≡◌, ◌≢◌, ◌⊎◌, ◌==◌, ℕ, Bool, List, [], Option, Some, None, Result, Ok, Err, if◌then◌else◌}
+use Rattle.std.specs.Prelude.{◌≡◌, ◌⊎◌, ◌==◌, ℕ, Bool, List, [], take, Option, Some, None, Result, Ok, Err, if◌then◌else◌}
 use Rattle.exif_types.specs.Contents.{ExifContents}
 use Rattle.exif_types.specs.Failures.{Failure}
 use Rattle.exif_types.specs.declared.tag.Tag.{Tag}
-use Rattle.exif_tiff.specs.Answers.{raw_answer}
-use Rattle.exif_containers.specs.Container.{container_answer, format_in}
-use Rattle.exif_reader.specs.Files.{ReadsContainer}
+use Rattle.exif_formats.specs.Formats.{format_in}
+use Rattle.exif_formats.specs.Pictures.{ReadsPicture}
 use Rattle.exif_json.specs.Answers.{IsJsonOf}
 use Rattle.exif_edit_base.specs.Causes.{Cause}
 use Rattle.exif_change.specs.Changed.{Change}
@@ -34,9 +33,9 @@ meant limit = if limit == 0 then entry_limit else limit
 pub record IsReadInto (lenient : Bool) (limit : ℕ) (file old new : List ℕ) (answer : Answer)
     : Type 0 where
   pub read : Result ExifContents Failure
-  pub reads : ReadsContainer (raw_answer lenient (Some (meant limit))) (container_answer file) read
+  pub reads : ReadsPicture lenient (Some (meant limit)) file read
   pub text : List ℕ
-  pub json : IsJsonOf [] (format_in file) read text
+  pub json : IsJsonOf [] (format_in (take 4096 file)) read text
   pub gives : Gives (number_of (answer_status read)) text old new answer
 
 -- so, or memory ran out, and the buffer is as it was

@@ -2,7 +2,7 @@
 use Rattle.std.specs.Prelude.{◌≡◌, ◌⊎◌, ℕ, Bool, true, false, List, [], ◌∷◌, Option, Some, None}
 use Rattle.json.specs.Print.{print}
 use Rattle.json.specs.Tree.{json_tokens}
-use Rattle.exif_containers.specs.Container.{format_in}
+use Rattle.exif_formats.specs.Formats.{format_in}
 use Rattle.exif_check.specs.Checking.{checked, location_of}
 use Rattle.exif_check.specs.Json.{checked_json}
 use Rattle.exif_check.specs.declared.checked.Checked.{Checked}

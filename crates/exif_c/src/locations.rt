@@ -8,7 +8,7 @@ ghost use Rattle.exif_c.specs.Locations.{Checks, ErasesLocations, erased_as, loc
 use crate::buffer::{Answer, given, nothing};
 use crate::status::Status;
 use exif_check::{Location, check, check_json, location_of};
-use exif_containers::container::format_of;
+use exif_formats::format_of;
 use exif_privacy::{Stays, Unread, erase_locations};
 use std::alloc::{AllocError, Global};
 

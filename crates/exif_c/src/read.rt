@@ -1,16 +1,16 @@
 //! Files read.
 
-ghost use Rattle.std.specs.Prelude.{◌≡◌, Some};
-ghost use Rattle.exif_tiff.specs.Answers.{raw_answer};
-ghost use Rattle.exif_containers.specs.Container.{container_answer};
-ghost use Rattle.exif_reader.specs.Files.{ReadsContainer};
+ghost use Rattle.std.specs.Prelude.{◌≡◌, Some, take};
+ghost use Rattle.exif_formats.specs.Formats.{format_in};
+ghost use Rattle.exif_formats.specs.Pictures.{ReadsPicture};
 ghost use Rattle.exif_c.specs.Calls.{IsRead, answer_status, meant};
 
 use crate::buffer::{Answer, given, nothing};
 use crate::status::{Status, error_status};
-use exif::{Counted, Error, Exif, Reader};
+use exif::{Error, Exif};
 use exif_change::ENTRY_LIMIT;
-use exif_containers::container::format_of;
+use exif_containers::container::SNIFF_LEN;
+use exif_formats::{Options, Picture, read_bytes};
 use exif_json::json_of_answer;
 use std::alloc::Global;
 
@@ -28,9 +28,9 @@ pub extern "C" fn mexaldor_read(
 ) -> Answer
     ensures { IsRead lenient limit file.now out.old out.new result }
 {
-    let answer = read(alloc, file, lenient, meant(limit));
+    let Picture { format, answer } = read(alloc, file, lenient, meant(limit));
     let status = status_of(&answer);
-    match json_of_answer(alloc, b"", format_of(file), answer) {
+    match json_of_answer(alloc, b"", format, answer) {
         Ok(text) => given(out, &text, status),
         Err(_no_memory) => nothing(Status::OutOfMemory),
     }
@@ -44,12 +44,15 @@ fn meant(limit: u64) -> u64
 }
 
 // What a reader answers of a file.
-fn read(alloc: Global, file: &[u8], lenient: bool, limit: u64) -> Result<Exif, Error>
-    ensures { ReadsContainer (raw_answer lenient (Some limit)) (container_answer file.now) result }
+fn read(alloc: Global, file: &[u8], lenient: bool, limit: u64) -> Picture
+    ensures format { result.format ≡ format_in (take SNIFF_LEN file.now) }
+    ensures reads { ReadsPicture lenient (Some limit) file.now result.answer }
 {
-    let mut reader = Reader::new();
-    reader.continue_on_error(lenient).limit_entries(limit);
-    reader.read_from_container(alloc, &mut Counted::new(file))
+    let options = Options {
+        lenient,
+        limit: Some(limit),
+    };
+    read_bytes(options, alloc, file)
 }
 
 // The status of an answer.

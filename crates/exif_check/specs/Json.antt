@@ -2,7 +2,7 @@
 use Rattle.std.specs.Prelude.{ℕ, List, [], ◌∷◌, ◌++◌, codes, map, Option}
 use Rattle.json.specs.Json as J
 use Rattle.json.specs.Json.{Json}
-use Rattle.exif_containers.specs.declared.container.Format.{Format}
+use Rattle.exif_formats.specs.declared.format.PictureFormat.{PictureFormat}
 use Rattle.exif_json.specs.Files.{file_members}
 use Rattle.exif_json.specs.Trees.{array, object, unsigned}
 use Rattle.exif_check.specs.Checking.{location_of}
@@ -33,5 +33,5 @@ judged_members parts =
     ∷ (codes "parts", parts_json parts) ∷ []
 
 -- a file that was checked
-abbrev pub checked_json : List ℕ → Option Format → List Checked → Json
+abbrev pub checked_json : List ℕ → Option PictureFormat → List Checked → Json
 checked_json path format parts = object (file_members path format ++ judged_members parts)

@@ -9,7 +9,7 @@ ghost use Rattle.exif_check.specs.Json.{checked_json, judged_members, part_json,
 
 use crate::checked::{Checked, location_of};
 use crate::names::{kind_name, location_name};
-use exif_containers::container::Format;
+use exif_formats::PictureFormat;
 use exif_json::printer::Printer;
 use exif_json::write_file;
 use std::alloc::{AllocError, Global};
@@ -61,7 +61,7 @@ fn write_judged(printer: &mut Printer, parts: &[Checked]) -> Result<(), AllocErr
 fn write_checked(
     printer: &mut Printer,
     path: &[u8],
-    format: Option<Format>,
+    format: Option<PictureFormat>,
     parts: &[Checked],
 ) -> Result<(), AllocError>
     ensures { Prints result printer.old.out printer.new.out
@@ -79,7 +79,7 @@ fn write_checked(
 pub fn check_json(
     alloc: Global,
     path: &[u8],
-    format: Option<Format>,
+    format: Option<PictureFormat>,
     parts: &[Checked],
 ) -> Result<Vec<u8>, AllocError>
     ensures text { IfOk result (λ text. text.items

@@ -7,9 +7,9 @@ use crate::inputs::read_file;
 use crate::request::Form;
 use exif::Error;
 use exif_check::{Checked, Line, Location, check, check_json, is_listed, location_of};
-use exif_containers::container::format_of;
 use exif_decisions::Escaped;
 use exif_files::Status;
+use exif_formats::format_of;
 use exif_json::json_of_answer;
 use std::alloc::{AllocError, Global};
 

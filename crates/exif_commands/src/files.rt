@@ -4,7 +4,7 @@ use crate::change::{change_bytes, notes_of};
 use crate::check::{check_file, refused_line};
 use crate::console::Console;
 use crate::in_place::change_in_place;
-use crate::inputs::{Head, head_of_file, open, read_file};
+use crate::inputs::{Head, Use, head_of_file, open, read_file};
 use crate::json::object_of;
 use crate::notes::NoteLine;
 use crate::output::{out_of, write_out};
@@ -133,7 +133,11 @@ impl<'r, 'a, W: Sink, E: Sink> Session<'r, 'a, W, E> {
     /// Whether a file that was found is a picture, or can't be read, which is reported then. A
     /// picture in a format that is not supported is counted.
     pub fn is_picture(&mut self, path: &str) -> bool {
-        match head_of_file(self.rt, path) {
+        let wanted = match self.request.task {
+            Task::Show(..) | Task::Json(..) | Task::Thumbnail(..) => Use::Fields,
+            Task::Check(..) | Task::Change(..) => Use::Parts,
+        };
+        match head_of_file(self.rt, path, wanted) {
             Head::Picture | Head::Unreadable => true,
             Head::Other(head) => {
                 if let Some(format) = unsupported_of(head.as_slice()) {

@@ -1,8 +1,9 @@
 //! Files as they are read: a file that seeks costs what is read of it, anything else is taken into
 //! memory.
 
-use exif::{Counted, Error, Reader, Seekable, Sniffed};
+use exif::{Counted, Error, Seekable};
 use exif_containers::container::{SNIFF_LEN, format_of};
+use exif_formats::{Options, Picture, read_picture};
 use std::alloc::Global;
 use std::fs::File;
 use std::io::{self, Read, Seek, SeekFrom};
@@ -43,25 +44,42 @@ pub fn read_file(rt: &HostRuntime, path: &str) -> io::Result<Vec<u8>> {
     read_all(rt.alloc(), File::open(rt, path)?)
 }
 
-/// What the first bytes of a file show.
-#[derive(Drop)]
-pub enum Head {
-    /// A picture.
-    Picture,
-    /// Nothing, since the file can't be read.
-    Unreadable,
-    /// No picture that is supported: these bytes.
-    Other(Vec<u8>),
+/// What is done with a picture.
+#[derive(Clone, Copy)]
+pub enum Use {
+    /// Its fields are read.
+    Fields,
+    /// Its parts are checked, or it is changed.
+    Parts,
 }
 
 /// What the first bytes of a file show.
-pub fn head_of_file(rt: &HostRuntime, path: &str) -> Head {
+#[derive(Drop)]
+pub enum Head {
+    /// A picture of a format that is supported for this use.
+    Picture,
+    /// Nothing, since the file can't be read.
+    Unreadable,
+    /// No such picture: these bytes.
+    Other(Vec<u8>),
+}
+
+// Whether bytes begin a picture of a format that is supported for this use.
+fn is_supported(head: &[u8], wanted: Use) -> bool {
+    match wanted {
+        Use::Fields => exif_formats::format_of(head).is_some(),
+        Use::Parts => format_of(head).is_some(),
+    }
+}
+
+/// What the first bytes of a file show.
+pub fn head_of_file(rt: &HostRuntime, path: &str, wanted: Use) -> Head {
     let head = match File::open(rt, path) {
         Ok(mut file) => head_of(rt.alloc(), &mut file),
         Err(cause) => Err(cause),
     };
     match head {
-        Ok(head) if format_of(head.as_slice()).is_some() => Head::Picture,
+        Ok(head) if is_supported(head.as_slice(), wanted) => Head::Picture,
         Ok(head) => Head::Other(head),
         Err(_cause) => Head::Unreadable,
     }
@@ -76,9 +94,9 @@ fn head_of(alloc: Global, file: &mut File) -> io::Result<Vec<u8>> {
 }
 
 /// The format of what is read, and what a reader answers of it, in one pass.
-pub fn read(alloc: Global, by: &Reader, input: Input) -> Result<Sniffed, Error> {
+pub fn read(alloc: Global, options: Options, input: Input) -> Result<Picture, Error> {
     match input {
-        Input::Bytes(bytes) => by.read_with_format(alloc, &mut Counted::new(bytes.as_slice())),
-        Input::File(file) => by.read_with_format(alloc, &mut Seekable::new(file)),
+        Input::Bytes(bytes) => read_picture(options, alloc, &mut Counted::new(bytes.as_slice())),
+        Input::File(file) => read_picture(options, alloc, &mut Seekable::new(file)),
     }
 }

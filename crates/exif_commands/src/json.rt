@@ -2,9 +2,9 @@
 
 use crate::inputs::{Input, read};
 use crate::request::Reading;
-use exif::{Error, Exif, Reader, Sniffed};
-use exif_containers::container::Format;
+use exif::{Error, Exif};
 use exif_files::Status;
+use exif_formats::{Picture, PictureFormat};
 use exif_json::json_of_answer;
 use std::alloc::{AllocError, Global};
 use std::io;
@@ -16,15 +16,12 @@ pub fn object_of(
     path: &str,
     input: io::Result<Input>,
 ) -> Result<(Vec<u8>, Status), AllocError> {
-    let mut by = Reader::new();
-    by.continue_on_error(!reading.strict)
-        .limit_entries(reading.limit);
-    let sniffed = match input {
-        Ok(input) => read(alloc, &by, input),
+    let read = match input {
+        Ok(input) => read(alloc, reading.options(), input),
         Err(cause) => Err(Error::Io(cause)),
     };
-    match sniffed {
-        Ok(Sniffed { format, answer }) => answered(alloc, path.as_bytes(), format, answer),
+    match read {
+        Ok(Picture { format, answer }) => answered(alloc, path.as_bytes(), format, answer),
         Err(error) => answered(alloc, path.as_bytes(), None, Err(error)),
     }
 }
@@ -32,7 +29,7 @@ pub fn object_of(
 fn answered(
     alloc: Global,
     path: &[u8],
-    format: Option<Format>,
+    format: Option<PictureFormat>,
     answer: Result<Exif, Error>,
 ) -> Result<(Vec<u8>, Status), AllocError> {
     let status = match &answer {

@@ -2,6 +2,7 @@
 
 use exif_change::{Assignment, ClockShift, Color, Dates, Removed};
 use exif_files::Keeping;
+use exif_formats::Options;
 
 /// What the arguments request.
 #[derive(Drop)]
@@ -42,6 +43,16 @@ pub struct Reading {
     pub limit: u64,
     /// Whether long values are shown whole.
     pub full: bool,
+}
+
+impl Reading {
+    /// How a picture is read so.
+    pub fn options(self) -> Options {
+        Options {
+            lenient: !self.strict,
+            limit: Some(self.limit),
+        }
+    }
 }
 
 /// How an answer is written.

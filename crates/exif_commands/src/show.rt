@@ -1,13 +1,13 @@
 //! The report of a file, under a line with its name.
 
 use crate::files::Stop;
-use crate::inputs::{Input, open};
+use crate::inputs::{Input, open, read};
 use crate::lines::Lines;
 use crate::request::Reading;
-use exif::{Counted, Error, Seekable, Sink};
+use exif::{Counted, Error, Sink};
 use exif_base::send_all;
 use exif_decisions::Escaped;
-use exif_report::report_limited;
+use exif_report::{found_of, write_all};
 use std::alloc::Global;
 
 /// Writes the report of a file under a line with its name: how many faults were skipped, or why the
@@ -40,14 +40,8 @@ fn report_input<W: Sink>(
     input: Input,
     out: &mut W,
 ) -> Result<u64, Error> {
-    let (lenient, limit) = (!reading.strict, reading.limit);
-    match input {
-        Input::Bytes(bytes) => {
-            let mut source = Counted::new(bytes.as_slice());
-            report_limited(alloc, &mut source, out, lenient, limit)
-        }
-        Input::File(file) => {
-            report_limited(alloc, &mut Seekable::new(file), out, lenient, limit)
-        }
-    }
+    let picture = read(alloc, reading.options(), input)?;
+    let (exif, faults) = found_of(alloc, picture.answer)?;
+    write_all(alloc, &exif, faults.as_slice(), out)?;
+    Ok(faults.len() as u64)
 }

@@ -1,11 +1,18 @@
 //! Thumbnails that are written to files.
 
-use exif_change::{Refusal, read, thumbnail};
+use exif_change::{ENTRY_LIMIT, Refusal, thumbnail};
+use exif_formats::{Options, read_bytes};
+use exif_report::found_of;
 use std::alloc::Global;
 
 /// The thumbnail of a picture.
 pub fn thumbnail_of(alloc: Global, file: &[u8]) -> Result<Vec<u8>, Refusal> {
-    let exif = read(alloc, file).map_err(Refusal::Reading)?;
+    let options = Options {
+        lenient: true,
+        limit: Some(ENTRY_LIMIT),
+    };
+    let picture = read_bytes(options, alloc, file);
+    let (exif, _faults) = found_of(alloc, picture.answer).map_err(Refusal::Reading)?;
     match thumbnail(&exif) {
         Some(jpeg) => Ok(Vec::from_slice(alloc, jpeg)?),
         None => Err(Refusal::NoThumbnail),

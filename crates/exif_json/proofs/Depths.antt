@@ -16,7 +16,7 @@ use Rattle.exif_types.specs.Failures.{Failure, error_text}
 use Rattle.exif_types.specs.declared.error.Error.TheVariants as error
 use Rattle.exif_types.specs.ValueTypes.{count_of}
 use Rattle.exif_json.specs.Prints.{Prints}
-use Rattle.exif_containers.specs.declared.container.Format.{Format}
+use Rattle.exif_formats.specs.declared.format.PictureFormat.{PictureFormat}
 use Rattle.exif_json.specs.Fields.{count_json, field_json}
 use Rattle.exif_json.specs.Files.{answer_json, error_json, exif_members, fault_json, file_members, format_json, no_exif_json, no_exif_members, refusal_json}
 use Rattle.exif_json.specs.Coordinates.{Degrees}
@@ -110,12 +110,12 @@ summary_shallow fields =
     omega (arith, all.within)
 
 -- the path and the format are shallow
-file_shallow : (path : List ℕ) (format : Option Format) → AreShallow 1 (file_members path format)
+file_shallow : (path : List ℕ) (format : Option PictureFormat) → AreShallow 1 (file_members path format)
 file_shallow path format =
     record { within = omega (arith, text_shallow path, (maybe_shallow 1 (codes "format") format_json format (λ x. omega arith)).within) }
 
 -- the JSON of an answer nests no deeper than JSON that is read may
-pub answer_shallow : (path : List ℕ) (format : Option Format) (exif : ExifContents) (faults : List Failure) → depth (answer_json path format exif faults) ≤ max_depth
+pub answer_shallow : (path : List ℕ) (format : Option PictureFormat) (exif : ExifContents) (faults : List Failure) → depth (answer_json path format exif faults) ≤ max_depth
 answer_shallow path format exif faults =
     let rest : AreShallow 4 (exif_members exif faults) = record {
       within = omega (arith, summary_shallow exif.fields, items_shallow (field_json exif.fields) 3 (field_shallow exif.fields) exif.fields, items_shallow fault_json 0 (λ x. omega arith) faults);
@@ -124,13 +124,13 @@ answer_shallow path format exif faults =
     omega (arith, (both_shallow 4 _ _ file rest).within)
 
 -- the JSON of a picture without Exif data nests no deeper than JSON that is read may
-no_exif_shallow : (path : List ℕ) (format : Option Format) → depth (no_exif_json path format) ≤ max_depth
+no_exif_shallow : (path : List ℕ) (format : Option PictureFormat) → depth (no_exif_json path format) ≤ max_depth
 no_exif_shallow path format =
     let rest : AreShallow 1 no_exif_members = record { within = omega arith } in
     omega (arith, (both_shallow 1 _ _ (file_shallow path format) rest).within)
 
 -- the JSON of an error nests no deeper than JSON that is read may
-error_shallow : (path : List ℕ) (format : Option Format) (said : List ℕ) → depth (error_json path format said) ≤ max_depth
+error_shallow : (path : List ℕ) (format : Option PictureFormat) (said : List ℕ) → depth (error_json path format said) ≤ max_depth
 error_shallow path format said =
     let rest : AreShallow 1 ((codes "error", J.string said) ∷ []) = record { within = omega arith } in
     omega (arith, (both_shallow 1 _ _ (file_shallow path format) rest).within)
@@ -143,12 +143,12 @@ none_is_no_some : (y : Json) → (let o : Option Json = None in o ≡ Some y) �
 none_is_no_some y is = cc
 
 -- what is there of a shallow value is shallow
-mapped_shallow : (path : List ℕ) (format : Option Format) (o : Option (List ℕ)) (json : Json) → option_map (error_json path format) o ≡ Some json → depth json ≤ max_depth
+mapped_shallow : (path : List ℕ) (format : Option PictureFormat) (o : Option (List ℕ)) (json : Json) → option_map (error_json path format) o ≡ Some json → depth json ≤ max_depth
 mapped_shallow path format None json is = absurd (none_is_no_some json is)
 mapped_shallow path format (Some said) json is = subst (λ (j : Json). depth j ≤ max_depth) (some_is _ _ is) (error_shallow path format said)
 
 -- the JSON of a refusal nests no deeper than JSON that is read may
-pub refusal_shallow : (path : List ℕ) (format : Option Format) (e : Failure) (json : Json) → refusal_json path format e ≡ Some json → depth json ≤ max_depth
+pub refusal_shallow : (path : List ℕ) (format : Option PictureFormat) (e : Failure) (json : Json) → refusal_json path format e ≡ Some json → depth json ≤ max_depth
 refusal_shallow path format (error.NotFound what) json is = subst (λ (j : Json). depth j ≤ max_depth) (some_is _ _ is) (no_exif_shallow path format)
 refusal_shallow path format (error.InvalidFormat text) json is = mapped_shallow path format (error_text (error.InvalidFormat text)) json is
 refusal_shallow path format (error.Io cause) json is = mapped_shallow path format (error_text (error.Io cause)) json is

@@ -7,12 +7,12 @@ use Rattle.json.specs.Tree.{json_tokens}
 use Rattle.exif_types.specs.Contents.{ExifContents, PartialContents}
 use Rattle.exif_types.specs.Failures.{Failure, told_text}
 use Rattle.exif_types.specs.declared.error.Error.TheVariants as error
-use Rattle.exif_containers.specs.declared.container.Format.{Format}
+use Rattle.exif_formats.specs.declared.format.PictureFormat.{PictureFormat}
 use Rattle.exif_json.specs.Answers.{IsJsonOf, IsPrinted}
 use Rattle.exif_json.specs.Files.{answer_json}
 
 -- what was read, printed with the faults that were skipped, is the JSON of the partial result
-pub partial_json : {A E : Type 0} (items : A → List ℕ) (r : Result A E) (path : List ℕ) (format : Option Format)
+pub partial_json : {A E : Type 0} (items : A → List ℕ) (r : Result A E) (path : List ℕ) (format : Option PictureFormat)
     (partial : PartialContents (Bor (List ℕ))) (exif : ExifContents) (faults : List Failure)
     → exif ≡ partial.exif → map told_text faults ≡ partial.faults
     → IfOk r (λ a. items a ≡ print (json_tokens (answer_json path format exif faults)))

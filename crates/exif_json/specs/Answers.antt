@@ -6,7 +6,7 @@ use Rattle.json.specs.Tree.{json_tokens}
 use Rattle.exif_types.specs.Contents.{ExifContents}
 use Rattle.exif_types.specs.Failures.{Failure, told_text}
 use Rattle.exif_types.specs.declared.error.Error.TheVariants as error
-use Rattle.exif_containers.specs.declared.container.Format.{Format}
+use Rattle.exif_formats.specs.declared.format.PictureFormat.{PictureFormat}
 use Rattle.exif_json.specs.Files.{answer_json, refusal_json}
 
 -- a text is the print of a value, and is read back as it
@@ -15,7 +15,7 @@ IsPrinted json text = (text ≡ print (json_tokens json)) × (document text ≡ 
 
 -- a text is the JSON of an answer: of the fields, with the faults that were skipped, of a picture
 -- without Exif data, or of the error, but for that of a device, whose text is the system's
-abbrev pub IsJsonOf : List ℕ → Option Format → Result ExifContents Failure → List ℕ → Type 0
+abbrev pub IsJsonOf : List ℕ → Option PictureFormat → Result ExifContents Failure → List ℕ → Type 0
 IsJsonOf path format (Ok exif) text = IsPrinted (answer_json path format exif []) text
 IsJsonOf path format (Err (error.PartialResult partial)) text =
     (faults : List Failure) × (map told_text faults ≡ partial.faults)

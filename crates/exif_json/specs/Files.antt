@@ -5,22 +5,15 @@ use Rattle.json.specs.Json.{Json}
 use Rattle.exif_types.specs.Contents.{ExifContents}
 use Rattle.exif_types.specs.Failures.{Failure, told_text, bytes_of, error_text}
 use Rattle.exif_types.specs.declared.error.Error.TheVariants as error
-use Rattle.exif_containers.specs.declared.container.Format.{Format}
-use Rattle.exif_containers.specs.declared.container.Format.TheVariants.{Tiff, Jpeg, Heif, WebP}
+use Rattle.exif_formats.specs.Formats.{format_name}
+use Rattle.exif_formats.specs.declared.format.PictureFormat.{PictureFormat}
 use Rattle.exif_json.specs.Trees.{array, object}
 use Rattle.exif_json.specs.Texts.{text_json}
 use Rattle.exif_json.specs.Fields.{fields_json}
 use Rattle.exif_json.specs.Summaries.{maybe, summary_json}
 
--- the name of a format
-abbrev pub format_name : Format → List ℕ
-format_name Tiff = codes "TIFF"
-format_name Jpeg = codes "JPEG"
-format_name Heif = codes "HEIF"
-format_name WebP = codes "WebP"
-
 -- a format as its name
-abbrev pub format_json : Format → Json
+abbrev pub format_json : PictureFormat → Json
 format_json format = J.string (format_name format)
 
 -- the name of an order of bytes
@@ -28,7 +21,7 @@ abbrev pub order_name : Bool → List ℕ
 order_name little = if little then codes "little" else codes "big"
 
 -- the file's path, whose encoding is the system's, and its format, if it is known
-abbrev pub file_members : List ℕ → Option Format → List (List ℕ × Json)
+abbrev pub file_members : List ℕ → Option PictureFormat → List (List ℕ × Json)
 file_members path format =
     (codes "path", text_json path) ∷ maybe (codes "format") format_json format
 
@@ -49,7 +42,7 @@ exif_members exif faults =
     ∷ (codes "faults", faults_json faults) ∷ []
 
 -- a file that was read
-abbrev pub answer_json : List ℕ → Option Format → ExifContents → List Failure → Json
+abbrev pub answer_json : List ℕ → Option PictureFormat → ExifContents → List Failure → Json
 answer_json path format exif faults =
     object (file_members path format ++ exif_members exif faults)
 
@@ -59,16 +52,16 @@ no_exif_members =
     (codes "summary", object []) ∷ (codes "fields", array []) ∷ (codes "faults", array []) ∷ []
 
 -- a picture without Exif data
-abbrev pub no_exif_json : List ℕ → Option Format → Json
+abbrev pub no_exif_json : List ℕ → Option PictureFormat → Json
 no_exif_json path format = object (file_members path format ++ no_exif_members)
 
 -- a file that could not be read, with the text of the error
-abbrev pub error_json : List ℕ → Option Format → List ℕ → Json
+abbrev pub error_json : List ℕ → Option PictureFormat → List ℕ → Json
 error_json path format said =
     object (file_members path format ++ ((codes "error", J.string said) ∷ []))
 
 -- a file of which nothing was read: one without Exif data is no error, and an error of a device
 -- has the system's text, which is not defined here
-abbrev pub refusal_json : List ℕ → Option Format → Failure → Option Json
+abbrev pub refusal_json : List ℕ → Option PictureFormat → Failure → Option Json
 refusal_json path format (error.NotFound what) = Some (no_exif_json path format)
 refusal_json path format e = option_map (error_json path format) (error_text e)

@@ -6,7 +6,7 @@ ghost use Rattle.json.specs.Json.{document};
 ghost use Rattle.json.specs.Print.{print};
 ghost use Rattle.json.specs.Tree.{json_tokens};
 ghost use Rattle.exif_types.specs.Failures.{IsInvalidFormat, error_text};
-ghost use Rattle.exif_json.specs.Files.{answer_json, error_json, exif_members, fault_json, faults_json, file_members, format_json, format_name, no_exif_json, no_exif_members, order_name, refusal_json};
+ghost use Rattle.exif_json.specs.Files.{answer_json, error_json, exif_members, fault_json, faults_json, file_members, format_json, no_exif_json, no_exif_members, order_name, refusal_json};
 ghost use Rattle.exif_json.specs.Answers.{IsJsonOf};
 ghost use Rattle.exif_json.specs.Prints.{Prints};
 ghost use Rattle.exif_json.specs.Summaries.{maybe};
@@ -17,28 +17,16 @@ use crate::printer::Printer;
 use crate::summary::write_summary;
 use crate::texts::write_text;
 use exif::{Error, Exif};
-use exif_containers::container::Format;
+use exif_formats::PictureFormat;
 use std::alloc::{AllocError, Global};
 
-/// The name of what holds the Exif data.
-fn name_of(format: Format) -> &'static str
-    ensures { result.now ≡ format_name format }
-{
-    match format {
-        Format::Tiff => "TIFF",
-        Format::Jpeg => "JPEG",
-        Format::Heif => "HEIF",
-        Format::WebP => "WebP",
-    }
-}
-
 /// Writes the member of a format, where it is known.
-fn write_format(printer: &mut Printer, format: Option<Format>) -> Result<(), AllocError>
+fn write_format(printer: &mut Printer, format: Option<PictureFormat>) -> Result<(), AllocError>
     ensures { Prints result printer.old.out printer.new.out
         (parts_tokens (maybe (codes "format") format_json format)) }
 {
     match format {
-        Some(known) => printer.text_member("format", name_of(known)),
+        Some(known) => printer.text_member("format", known.name()),
         None => Ok(()),
     }
 }
@@ -47,7 +35,7 @@ fn write_format(printer: &mut Printer, format: Option<Format>) -> Result<(), All
 pub fn write_file(
     printer: &mut Printer,
     path: &[u8],
-    format: Option<Format>,
+    format: Option<PictureFormat>,
 ) -> Result<(), AllocError>
     ensures { Prints result printer.old.out printer.new.out
         (parts_tokens (file_members path.now format)) }
@@ -107,7 +95,7 @@ fn write_exif(printer: &mut Printer, exif: &Exif, faults: &[Error]) -> Result<()
 fn write_read(
     printer: &mut Printer,
     path: &[u8],
-    format: Option<Format>,
+    format: Option<PictureFormat>,
     exif: &Exif,
     faults: &[Error],
 ) -> Result<(), AllocError>
@@ -140,7 +128,7 @@ fn write_nothing(printer: &mut Printer) -> Result<(), AllocError>
 fn write_no_exif(
     printer: &mut Printer,
     path: &[u8],
-    format: Option<Format>,
+    format: Option<PictureFormat>,
 ) -> Result<(), AllocError>
     ensures { Prints result printer.old.out printer.new.out
         (json_tokens (no_exif_json path.now format)) }
@@ -155,7 +143,7 @@ fn write_no_exif(
 fn write_error(
     printer: &mut Printer,
     path: &[u8],
-    format: Option<Format>,
+    format: Option<PictureFormat>,
     error: &Error,
 ) -> Result<(), AllocError>
     ensures prints { IfSome (error_text error.now)
@@ -173,7 +161,7 @@ fn write_error(
 fn write_refusal(
     printer: &mut Printer,
     path: &[u8],
-    format: Option<Format>,
+    format: Option<PictureFormat>,
     error: &Error,
 ) -> Result<(), AllocError>
     ensures prints { IfSome (refusal_json path.now format error.now)
@@ -192,7 +180,7 @@ fn write_refusal(
 pub fn to_json(
     alloc: Global,
     path: &[u8],
-    format: Option<Format>,
+    format: Option<PictureFormat>,
     exif: &Exif,
     faults: &[Error],
 ) -> Result<Vec<u8>, AllocError>
@@ -215,7 +203,7 @@ pub fn to_json(
 pub fn refusal_json(
     alloc: Global,
     path: &[u8],
-    format: Option<Format>,
+    format: Option<PictureFormat>,
     error: &Error,
 ) -> Result<Vec<u8>, AllocError>
     ensures text { IfSome (refusal_json path.now format error.now)
@@ -234,7 +222,7 @@ pub fn refusal_json(
 pub fn json_of_answer(
     alloc: Global,
     path: &[u8],
-    format: Option<Format>,
+    format: Option<PictureFormat>,
     answer: Result<Exif, Error>,
 ) -> Result<Vec<u8>, AllocError>
     ensures json { IfOk result (λ text. IsJsonOf path.now format answer.entry text.items) }

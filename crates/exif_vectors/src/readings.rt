@@ -4,8 +4,8 @@ use crate::calls::{end_of_error, send};
 use exif::{Error, Exif, Field, Reader, Sink, Source, parse_exif};
 use exif_base::{Blocks, Counted};
 use exif_cases::{Case, CaseError, Kind};
-use exif_containers::container::format_of;
 use exif_containers::{exif_attr_of_stream, isobmff};
+use exif_formats::{Options, Picture, read_bytes};
 use exif_json::json_of_answer;
 use exif_report::{report, report_limited};
 use exif_segments::util::read_all;
@@ -61,6 +61,14 @@ fn by_blocks<R: Source>(alloc: Global, source: &mut R) -> Result<Vec<u8>, Error>
     jpeg::get_exif_attr(alloc, &mut Blocks::new(&mut block, 0, source))
 }
 
+// How a picture of a case is read.
+fn options_of(case: &Case) -> Options {
+    Options {
+        lenient: case.is_lenient,
+        limit: case.limit,
+    }
+}
+
 // The reader of a case.
 fn reader_of(case: &Case) -> Reader {
     let mut reader = Reader::new();
@@ -99,8 +107,8 @@ pub fn json<R: Source, W: Sink>(
     out: &mut W,
 ) -> Result<(), Error> {
     let file = read_all(alloc, source)?;
-    let format = format_of(file.as_slice());
-    let answer = match read(alloc, case, &mut Counted::new(file.as_slice())) {
+    let Picture { format, answer } = read_bytes(options_of(case), alloc, file.as_slice());
+    let answer = match answer {
         Err(Error::OutOfMemory) => return Err(Error::OutOfMemory),
         other => other,
     };

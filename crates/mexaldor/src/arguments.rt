@@ -8,7 +8,9 @@ use std::alloc::{AllocError, Global};
 pub fn command<'a>(alloc: Global) -> Result<Command<'a>, AllocError> {
     Command::new(alloc, "mexaldor")
         .version("0.1.0")
-        .about("Show, remove and edit the Exif metadata of pictures (TIFF, JPEG, HEIF, WebP)")
+        .about(
+            "Show, remove and edit the Exif metadata of pictures (TIFF, JPEG, HEIF, WebP; PNG, JPEG XL and raw files are only read)",
+        )
         .after_help(
             "Exit status: 0 on success, 1 if a file could not be processed, 2 for invalid arguments, 3 if something was skipped or left undone.",
         )

@@ -1,4 +1,5 @@
-//! Reads, edits and removes the Exif data of TIFF, JPEG, HEIF and WebP files.
+//! Reads, edits and removes the Exif data of TIFF, JPEG, HEIF and WebP files; reads those of PNG,
+//! JPEG XL and raw files.
 //!
 //! ```no_run
 //! # fn main() -> Result<(), Box<dyn std::error::Error>> {
