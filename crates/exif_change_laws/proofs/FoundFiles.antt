@@ -14,7 +14,6 @@ use Rattle.exif_change.specs.Changes.{kept, scrubbed}
 use Rattle.exif_change.specs.Found.{IsAnswered, is_wanted, with_found}
 use Rattle.exif_change.specs.Refusals.{Why, as_read, ◌>>=◌}
 use Rattle.exif_change.specs.Rewriting.{rewritten}
-use Rattle.exif_change.specs.declared.scrubbing.Removed.{Removed}
 use Rattle.exif_change.specs.declared.scrubbing.Removed.TheVariants.{AllButOrientation, Metadata}
 use Rattle.exif_change.proofs.FoundParts.{found_answered}
 use Rattle.exif_change_laws.specs.Scrubbed.{AllAnswered, IsScrubbedTo, is_written_again}

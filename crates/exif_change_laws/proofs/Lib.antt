@@ -13,6 +13,8 @@ mod NewFiles
 mod NewRead
 mod NoField
 mod OrientationImage
+mod PatchedSame
+mod HeifAgain
 mod RuleLists
 mod ScrubbedFiles
 mod SetAgain
