@@ -1,3 +1,4 @@
+mod Examples
 pub mod Failing
 pub mod Formats
 pub mod Laws
