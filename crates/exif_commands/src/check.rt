@@ -4,6 +4,7 @@ ghost use Rattle.std.specs.Prelude.{◌≡◌};
 ghost use Rattle.exif_commands.specs.Checks.{status_by};
 
 use crate::inputs::read_file;
+use crate::only_read::not_changed;
 use crate::request::Form;
 use exif::Error;
 use exif_check::{Checked, Line, Location, check, check_json, is_listed, location_of};
@@ -51,6 +52,14 @@ fn json_line(
     Ok(text)
 }
 
+// Why a file is not checked, of which no parts are known.
+fn not_checked(file: &[u8]) -> Error {
+    match not_changed(file) {
+        Some(_only_read) => Error::NotSupported("files of this format are not checked"),
+        None => Error::InvalidFormat("Unknown image format"),
+    }
+}
+
 /// What is written of a file, and its status; or why it was refused.
 pub fn check_file(
     rt: &HostRuntime,
@@ -63,7 +72,7 @@ pub fn check_file(
         Err(cause) => return Ok(Err(Error::Io(cause))),
     };
     let Some(parts) = check(alloc, file.as_slice())? else {
-        return Ok(Err(Error::InvalidFormat("Unknown image format")));
+        return Ok(Err(not_checked(file.as_slice())));
     };
     let text = match form {
         Form::Lines => lines_of(alloc, path, parts.as_slice())?.into_bytes(),

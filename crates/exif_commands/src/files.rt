@@ -7,6 +7,7 @@ use crate::in_place::change_in_place;
 use crate::inputs::{Head, Use, head_of_file, open, read_file};
 use crate::json::object_of;
 use crate::notes::NoteLine;
+use crate::only_read::not_changed;
 use crate::output::{out_of, write_out};
 use crate::pending::{Next, Pending};
 use crate::request::{Change, Form, Reading, Request, Target, Task};
@@ -214,7 +215,12 @@ impl<'r, 'a, W: Sink, E: Sink> Session<'r, 'a, W, E> {
         let new = match change_bytes(self.rt.alloc(), what, old.as_slice()) {
             Ok(new) => new,
             Err(Refusal::OutOfMemory) => return Err(Stop::OutOfMemory),
-            Err(refusal) => return self.refuse(path, &refusal),
+            Err(refusal) => {
+                return match not_changed(old.as_slice()) {
+                    Some(text) => self.refuse(path, &text),
+                    None => self.refuse(path, &refusal),
+                };
+            }
         };
         match write_out(self.rt, to, destination, new.file.as_slice(), self.out)? {
             Ok(()) => {}

@@ -4,6 +4,7 @@ use crate::change::ChangeEdit;
 use crate::console::Console;
 use crate::files::{Session, Stop};
 use crate::notes::NoteLine;
+use crate::only_read::file_not_changed;
 use crate::pending::Next;
 use crate::request::Change;
 use exif::Sink;
@@ -61,7 +62,7 @@ pub fn change_in_place<W: Sink, E: Sink>(
 
 // Changes the files, and reports each.
 fn change_files<'p, 'k, 'c, 'r, 'n, 'h, 'a, E: Sink>(
-    rt: &HostRuntime,
+    rt: &'r HostRuntime,
     change: &'h Change<'a>,
     keeping: Keeping,
     quiet: bool,
@@ -73,6 +74,7 @@ fn change_files<'p, 'k, 'c, 'r, 'n, 'h, 'a, E: Sink>(
     let edit = ChangeEdit(change);
     let mut files = HostFiles::new(rt);
     let mut messages = Messages {
+        rt,
         paths,
         keys,
         quiet,
@@ -130,6 +132,7 @@ fn key_of(rt: &HostRuntime, path: &str) -> io::Result<String> {
 // Writes what is reported of each file.
 #[derive(Drop)]
 struct Messages<'p, 'k, 'c, 'r, 'n, E> {
+    rt: &'r HostRuntime,
     paths: &'p [String],
     keys: &'k [String],
     quiet: bool,
@@ -150,6 +153,18 @@ impl<'p, 'k, 'c, 'r, 'n, E: Sink> Messages<'p, 'k, 'c, 'r, 'n, E> {
             self.console.say(path, &NoteLine(*note));
         }
     }
+
+    // Writes why a file was not changed.
+    fn say_failure(&mut self, path: &str, key: &str, failure: Failure<Refusal>) {
+        let only_read = match &failure {
+            Failure::Refused(_refusal) => file_not_changed(self.rt, path),
+            _ => None,
+        };
+        match only_read {
+            Some(text) => self.console.say(path, &text),
+            None => self.console.say(path, &Cause { failure, key }),
+        }
+    }
 }
 
 impl<'p, 'k, 'c, 'r, 'n, E: Sink> Reporter<Left, Note, Refusal>
@@ -165,7 +180,7 @@ impl<'p, 'k, 'c, 'r, 'n, E: Sink> Reporter<Left, Note, Refusal>
                 self.counts.add(Status::Success);
             }
             Err(failure) => {
-                self.console.say(path, &Cause { failure, key });
+                self.say_failure(path, key, failure);
                 self.counts.add(Status::Refused);
             }
         }

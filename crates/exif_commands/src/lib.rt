@@ -10,6 +10,7 @@ mod inputs;
 mod json;
 mod lines;
 mod notes;
+mod only_read;
 mod output;
 mod pending;
 mod progress;
