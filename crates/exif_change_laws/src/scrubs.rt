@@ -13,8 +13,8 @@ pub fn what_is_left_of_a_heif_file_is_answered()
     ensures { (s : Emptied Heif) → is_heif s.file ≡ true → IsAllKnown s.change }
 {}
 
-/// Where a HEIF file without its metadata is scrubbed again, it stays as it is, and the same is left
-/// undone, if it is not refused then.
+/// Where a HEIF file without its metadata is scrubbed again, it stays as it is, and the same is
+/// left undone, if it is not refused then.
 pub fn a_scrubbed_heif_file_stays()
     ensures { (s : EmptiedTwice) → s.again.change ≡ s.first.change }
 {}

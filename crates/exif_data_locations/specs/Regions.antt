@@ -71,7 +71,8 @@ region_made region (new, why) (bytes, whys) = (with_content region new bytes, no
 -- data without the locations of a region, and why there may still be one
 abbrev pub region_erased : Unread → Region → List ℕ × List Why → List ℕ × List Why
 region_erased unread region (bytes, whys) =
-    region_made region (what_answer region.tag unread region.what (content_of region bytes)) (bytes, whys)
+    region_made region (what_answer region.tag unread region.what (content_of region bytes))
+    (bytes, whys)
 
 -- so with regions one after the other
 abbrev pub regions_erased : Unread → List Region → List ℕ × List Why → List ℕ × List Why

@@ -170,7 +170,8 @@ fn erase_parts(
     parts: &[Part],
 ) -> Result<bool, AllocError>
     requires { All (EndsIn (length bytes.old)) parts.now }
-    ensures { IfOk result (λ left. (bytes.new, left) ≡ parts_erased unread parts.now false bytes.old) }
+    ensures { IfOk result (λ left. (bytes.new, left)
+        ≡ parts_erased unread parts.now false bytes.old) }
 {
     let mut left = false;
     for part in parts {

@@ -46,7 +46,8 @@ pub enum Why {
 }
 
 impl Why {
-    /// Whether what can't be read would be overwritten with [`Unread::Blank`](exif_locations::Unread).
+    /// Whether what can't be read would be overwritten with
+    /// [`Unread::Blank`](exif_locations::Unread).
     pub fn can_be_blanked(self) -> bool
         ensures { result ≡ can_be_blanked self }
     {

@@ -122,8 +122,8 @@ fn parse_all(alloc: Global, options: Options, found: &Parts) -> Result<Parsed, S
 fn finish(alloc: Global, bytes: Vec<u8>, parsed: Parsed) -> Result<Exif, Error>
     requires read { All IsRead parsed.fields.items }
     requires order { header bytes.items ≡ Ok (order_named parsed.little_endian) }
-    ensures reads { ReadsHeld HoldsData IsInterrupted (shown parsed.fields.items parsed.faults.items)
-        bytes.items result }
+    ensures reads { ReadsHeld HoldsData IsInterrupted
+        (shown parsed.fields.items parsed.faults.items) bytes.items result }
     ensures io { is_io result ≡ false }
 {
     let errors = errors_of(alloc, parsed.faults.as_slice())?;

@@ -25,7 +25,8 @@ pub enum Why {
 }
 
 impl Why {
-    /// Whether what can't be read would be overwritten with [`Unread::Blank`](crate::Unread::Blank).
+    /// Whether what can't be read would be overwritten with
+    /// [`Unread::Blank`](crate::Unread::Blank).
     pub fn can_be_blanked(self) -> bool
         ensures { result ≡ can_be_blanked self }
     {
