@@ -8,9 +8,9 @@ mod erase;
 mod fault;
 pub mod laws;
 mod names;
-mod scan;
+pub mod scan;
 mod step;
-mod token;
+pub mod token;
 
 pub use erase::{erase_locations, erase_locations_at, has_locations};
 pub use fault::Fault;
