@@ -1,0 +1,4 @@
+pub mod Characters
+pub mod EntrySteps
+pub mod Pieces
+pub mod Symbols

@@ -1,0 +1,73 @@
+-- The card of a picture.
+use Rattle.std.specs.Prelude.{ℕ, List, [], ◌++◌, Option, None, Some, codes}
+use denote.Ref.{Bor}
+use Rattle.base64.specs.Engines.{standard}
+use Rattle.base64.specs.GeneralPurpose.{encode_of}
+use Rattle.exif_page.specs.Escaping.{between, between_if}
+use Rattle.exif_page.specs.Paths.{file_name}
+use Rattle.exif_page.specs.declared.entries.Entry.{Entry}
+
+-- an attribute, where there is a text for it
+unfoldable pub attribute : List ℕ → Option (Bor (List ℕ)) → List ℕ
+attribute name None = []
+attribute name (Some text) =
+    codes " data-" ++ (name ++ between (codes "=\"") text.now (codes "\""))
+
+-- what the filters read: the path, the camera, the day and the location
+unfoldable pub attributes : Entry → List ℕ
+attributes entry =
+    attribute (codes "path") (Some entry.path)
+    ++ (attribute (codes "camera") entry.camera
+    ++ (attribute (codes "day") entry.day
+    ++ (attribute (codes "latitude") entry.latitude
+    ++ attribute (codes "longitude") entry.longitude)))
+
+-- bytes in base64 (RFC 4648, section 4), padded
+unfoldable pub base64 : List ℕ → List ℕ
+base64 bytes = encode_of standard bytes
+
+-- an image of JPEG data, as a data URL (RFC 2397), with a name in its place
+unfoldable pub image : List ℕ → List ℕ → List ℕ
+image name bytes =
+    codes "<img loading=\"lazy\" src=\"data:image/jpeg;base64,"
+    ++ (base64 bytes ++ between (codes "\" alt=\"") name (codes "\">\n"))
+
+-- the thumbnail, or a line that says that there is none
+unfoldable pub picture : List ℕ → Option (Bor (List ℕ)) → List ℕ
+picture name None = codes "<p class=\"none\">No thumbnail</p>\n"
+picture name (Some bytes) = image name bytes.now
+
+-- a location as a text with a geo URI (RFC 5870)
+unfoldable pub link : List ℕ → List ℕ → List ℕ
+link latitude longitude =
+    between (codes "<p><a href=\"geo:") latitude (codes ",")
+    ++ (between [] longitude (codes "\">")
+    ++ (between [] latitude (codes ", ")
+    ++ between [] longitude (codes "</a></p>\n")))
+
+-- a location, where both numbers are there
+unfoldable pub location : Option (Bor (List ℕ)) → Option (Bor (List ℕ)) → List ℕ
+location None longitude = []
+location (Some latitude) None = []
+location (Some latitude) (Some longitude) = link latitude.now longitude.now
+
+-- the lines below the name
+unfoldable pub facts : Entry → List ℕ
+facts entry =
+    between (codes "<p class=\"path\">") entry.path.now (codes "</p>\n")
+    ++ (between_if (codes "<p>") entry.time (codes "</p>\n")
+    ++ (between_if (codes "<p>") entry.camera (codes "</p>\n")
+    ++ (between_if (codes "<p>") entry.exposure (codes "</p>\n")
+    ++ location entry.latitude entry.longitude)))
+
+-- the name
+abbrev pub name_of : Entry → List ℕ
+name_of entry = file_name entry.path.now
+
+-- a card: a list item with the thumbnail, the name and the lines
+unfoldable pub card : Entry → List ℕ
+card entry =
+    codes "<li" ++ (attributes entry
+    ++ (codes ">\n" ++ (picture (name_of entry) entry.thumbnail
+    ++ (between (codes "<h3>") (name_of entry) (codes "</h3>\n")
+    ++ (facts entry ++ codes "</li>\n")))))

@@ -1,0 +1,93 @@
+-- Worked examples: the definitions compute what small pages hold.
+use Rattle.std.specs.Prelude.{◌≡◌, refl, ℕ, List, [], ◌++◌, None, Some, codes}
+use denote.Ref.{Bor}
+use Rattle.base64.specs.Rfc4648.{encode_symbols}
+use Rattle.exif_page.specs.Cards.{attribute, attributes, base64, card, facts, image, link, location, picture}
+use Rattle.exif_page.specs.Escaping.{between, between_if, escaped}
+use Rattle.exif_page.specs.Paths.{file_name}
+use Rattle.exif_page.specs.Sections.{closing, opening, section_of, start}
+use Rattle.exif_page.specs.declared.entries.Entry.{Entry}
+use Rattle.exif_page.specs.declared.sections.Section.TheVariants.{Closed, Day, Undated}
+
+escaped_all : escaped (codes "<a b=\"c\">'d' & e</a>")
+    ≡ codes "&lt;a b=&quot;c&quot;&gt;&#39;d&#39; &amp; e&lt;/a&gt;"
+unfolding escaped
+escaped_all = refl
+
+name_of_path : file_name (codes "2024/may/a.jpg") ≡ codes "a.jpg"
+name_of_path = refl
+
+name_of_name : file_name (codes "a.jpg") ≡ codes "a.jpg"
+name_of_name = refl
+
+name_of_folder : file_name (codes "may/") ≡ []
+name_of_folder = refl
+
+base64_of_man : base64 (codes "Man") ≡ codes "TWFu"
+unfolding base64 encode_symbols
+base64_of_man = refl
+
+base64_of_ma : base64 (codes "Ma") ≡ codes "TWE="
+unfolding base64 encode_symbols
+base64_of_ma = refl
+
+zurich : link (codes "47.3769") (codes "8.5417")
+    ≡ codes "<p><a href=\"geo:47.3769,8.5417\">47.3769, 8.5417</a></p>\n"
+unfolding link between escaped
+zurich = refl
+
+no_location : location None None ≡ []
+unfolding location
+no_location = refl
+
+a_thumbnail : image (codes "a&b.jpg") (codes "Man")
+    ≡ codes "<img loading=\"lazy\" src=\"data:image/jpeg;base64,TWFu\" alt=\"a&amp;b.jpg\">\n"
+unfolding image base64 encode_symbols between escaped
+a_thumbnail = refl
+
+no_attribute : attribute (codes "day") None ≡ []
+unfolding attribute
+no_attribute = refl
+
+-- a borrowed text
+abbrev text : List ℕ → Bor (List ℕ)
+text bytes = record { ref_ptr = (0, 0); now = bytes }
+
+abbrev beach : Entry
+beach = record {
+  path = text (codes "a/b.jpg");
+  day = Some (text (codes "2024-05-01"));
+  time = None;
+  camera = Some (text (codes "R&D"));
+  exposure = None;
+  latitude = Some (text (codes "1.5"));
+  longitude = None;
+  thumbnail = None;
+}
+
+-- no link without a longitude
+card_of_beach : card beach
+    ≡ codes "<li data-path=\"a/b.jpg\" data-camera=\"R&amp;D\" data-day=\"2024-05-01\""
+    ++ (codes " data-latitude=\"1.5\">\n<p class=\"none\">No thumbnail</p>\n<h3>b.jpg</h3>\n"
+    ++ codes "<p class=\"path\">a/b.jpg</p>\n<p>R&amp;D</p>\n</li>\n")
+unfolding card attributes attribute picture facts location between between_if escaped
+card_of_beach = refl
+
+first_day : opening Closed (section_of beach)
+    ≡ codes "<section>\n<h2>2024-05-01 <span></span></h2>\n<ul>\n"
+unfolding opening closing start between escaped
+first_day = refl
+
+same_day : opening (Day (text (codes "2024-05-01"))) (section_of beach) ≡ []
+unfolding opening
+same_day = refl
+
+next_day : opening (Day (text (codes "2024-04-30"))) (section_of beach)
+    ≡ codes "</ul>\n</section>\n<section>\n<h2>2024-05-01 <span></span></h2>\n<ul>\n"
+unfolding opening closing start between escaped
+next_day = refl
+
+no_day : opening (section_of beach) Undated
+    ≡ codes "</ul>\n</section>\n<section>\n<h2>Without a date <span></span></h2>\n<ul>\n"
+unfolding opening closing start
+no_day = refl

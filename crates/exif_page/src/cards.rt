@@ -1,0 +1,128 @@
+//! The card of a picture.
+
+ghost use Rattle.std.specs.Prelude.{◌≡◌, ◌++◌, OnOk};
+ghost use Rattle.exif_page.specs.Cards.{attribute, attributes, base64, card, facts, image, link, location, picture};
+
+use crate::entries::Entry;
+use crate::escaping::{push_between, push_between_if};
+use crate::paths::file_name;
+use base64::engine::general_purpose::STANDARD;
+use std::alloc::{AllocError, Global};
+
+// Appends an attribute of a card, where there is a text for it.
+#[tactic(auto, unfolding(crate::specs::Cards::attribute))]
+fn push_attribute(out: &mut Vec<u8>, name: &[u8], text: Option<&str>) -> Result<(), AllocError>
+    ensures { OnOk result (out.new.items
+        ≡ out.old.items ++ attribute name.now text.entry) }
+{
+    let Some(text) = text else {
+        return Ok(());
+    };
+    out.extend_from_slice(b" data-")?;
+    out.extend_from_slice(name)?;
+    push_between(out, b"=\"", text.as_bytes(), b"\"")
+}
+
+// Appends the attributes of a card, which the filters read.
+#[tactic(auto, unfolding(crate::specs::Cards::attributes))]
+fn push_attributes(out: &mut Vec<u8>, entry: &Entry) -> Result<(), AllocError>
+    ensures { OnOk result (out.new.items ≡ out.old.items ++ attributes entry.now) }
+{
+    push_attribute(out, b"path", Some(entry.path))?;
+    push_attribute(out, b"camera", entry.camera)?;
+    push_attribute(out, b"day", entry.day)?;
+    push_attribute(out, b"latitude", entry.latitude)?;
+    push_attribute(out, b"longitude", entry.longitude)
+}
+
+// Appends bytes in base64 (RFC 4648, section 4).
+#[tactic(auto, unfolding(crate::specs::Cards::base64))]
+fn push_base64(alloc: Global, out: &mut Vec<u8>, bytes: &[u8]) -> Result<(), AllocError>
+    ensures { OnOk result (out.new.items ≡ out.old.items ++ base64 bytes.now) }
+{
+    let text = STANDARD.encode(alloc, bytes)?;
+    out.extend_from_slice(text.as_bytes())
+}
+
+// Appends an image of JPEG data, as a data URL (RFC 2397).
+#[tactic(auto, unfolding(crate::specs::Cards::image))]
+fn push_image(alloc: Global, out: &mut Vec<u8>, name: &[u8], bytes: &[u8]) -> Result<(), AllocError>
+    ensures { OnOk result (out.new.items ≡ out.old.items ++ image name.now bytes.now) }
+{
+    out.extend_from_slice(b"<img loading=\"lazy\" src=\"data:image/jpeg;base64,")?;
+    push_base64(alloc, out, bytes)?;
+    push_between(out, b"\" alt=\"", name, b"\">\n")
+}
+
+// Appends the thumbnail, or a line that says that there is none.
+#[tactic(auto, unfolding(crate::specs::Cards::picture))]
+fn push_picture(
+    alloc: Global,
+    out: &mut Vec<u8>,
+    name: &[u8],
+    thumbnail: Option<&[u8]>,
+) -> Result<(), AllocError>
+    ensures { OnOk result (out.new.items ≡ out.old.items ++ picture name.now thumbnail.entry) }
+{
+    match thumbnail {
+        Some(bytes) => push_image(alloc, out, name, bytes),
+        None => out.extend_from_slice(b"<p class=\"none\">No thumbnail</p>\n"),
+    }
+}
+
+// Appends a location as a text with a geo URI (RFC 5870).
+#[tactic(auto, unfolding(crate::specs::Cards::link))]
+fn push_link(out: &mut Vec<u8>, latitude: &[u8], longitude: &[u8]) -> Result<(), AllocError>
+    ensures { OnOk result (out.new.items
+        ≡ out.old.items ++ link latitude.now longitude.now) }
+{
+    push_between(out, b"<p><a href=\"geo:", latitude, b",")?;
+    push_between(out, b"", longitude, b"\">")?;
+    push_between(out, b"", latitude, b", ")?;
+    push_between(out, b"", longitude, b"</a></p>\n")
+}
+
+// Appends a location, where both numbers are there.
+#[tactic(auto, unfolding(crate::specs::Cards::location))]
+fn push_location(
+    out: &mut Vec<u8>,
+    latitude: Option<&str>,
+    longitude: Option<&str>,
+) -> Result<(), AllocError>
+    ensures { OnOk result (out.new.items
+        ≡ out.old.items ++ location latitude.entry longitude.entry) }
+{
+    match (latitude, longitude) {
+        (Some(latitude), Some(longitude)) => {
+            push_link(out, latitude.as_bytes(), longitude.as_bytes())
+        }
+        _ => Ok(()),
+    }
+}
+
+// Appends the lines of a card: the path, and what is known of time, camera, exposure and location.
+#[tactic(auto, unfolding(crate::specs::Cards::facts))]
+fn push_facts(out: &mut Vec<u8>, entry: &Entry) -> Result<(), AllocError>
+    ensures { OnOk result (out.new.items ≡ out.old.items ++ facts entry.now) }
+{
+    push_between(out, b"<p class=\"path\">", entry.path.as_bytes(), b"</p>\n")?;
+    push_between_if(out, b"<p>", entry.time, b"</p>\n")?;
+    push_between_if(out, b"<p>", entry.camera, b"</p>\n")?;
+    push_between_if(out, b"<p>", entry.exposure, b"</p>\n")?;
+    push_location(out, entry.latitude, entry.longitude)
+}
+
+// Appends the card of a picture.
+#[tactic(auto, unfolding(crate::specs::Cards::card))]
+pub(crate) fn push_card(alloc: Global, out: &mut Vec<u8>, entry: &Entry) -> Result<(), AllocError>
+    ensures { OnOk result (out.new.items ≡ out.old.items ++ card entry.now) }
+{
+    let name = file_name(entry.path.as_bytes());
+    out.extend_from_slice(b"<li")?;
+    push_attributes(out, entry)?;
+    out.extend_from_slice(b">\n")?;
+    push_picture(alloc, out, name, entry.thumbnail)?;
+    push_between(out, b"<h3>", name, b"</h3>\n")?;
+    push_facts(out, entry)?;
+    out.extend_from_slice(b"</li>\n")
+}

@@ -1,0 +1,126 @@
+-- Worked examples: patterns, names and plans.
+use Rattle.std.specs.Prelude.{◌≡◌, refl, ℕ, List, [], ◌∷◌, Bool, not, Some, Ok, Err, codes}
+use Rattle.std.specs.Char.{encode_utf8}
+use Rattle.std.specs.Fmt.{digits}
+use Rattle.std.specs.Str.{chars, trim_end, trim_start}
+use Rattle.exif_files.specs.Each.{is_among}
+use Rattle.exif_rename.specs.Naming.{Known, named, safe}
+use Rattle.exif_rename.specs.Patterns.{parsed}
+use Rattle.exif_rename.specs.Planned.{fit_from, planned}
+use Rattle.exif_rename.specs.Wishes.{Wanted, moves_by}
+use Rattle.exif_rename.specs.declared.naming.Missing.TheVariants as missing
+use Rattle.exif_rename.specs.declared.naming.Taken.{Taken}
+use Rattle.exif_rename.specs.declared.pattern.DatePart.TheVariants.{Year, ShortYear, Month, Day}
+use Rattle.exif_rename.specs.declared.pattern.Fault.TheVariants.{Empty, PercentAtEnd, UnknownLetter, UnknownName, UnclosedBrace, LoneBrace, NoName}
+use Rattle.exif_rename.specs.declared.pattern.Part.TheVariants.{Literal, Date, Make, Model, Name}
+
+-- ---- patterns
+
+folders : parsed (codes "%Y/{Model}") ≡ Ok (Date Year ∷ Literal 47 ∷ Model ∷ [])
+folders = refl
+
+escapes : parsed (codes "%%{{}}") ≡ Ok (Literal 37 ∷ Literal 123 ∷ Literal 125 ∷ [])
+escapes = refl
+
+three_dots : parsed (codes "...") ≡ Ok (Literal 46 ∷ Literal 46 ∷ Literal 46 ∷ [])
+three_dots = refl
+
+nothing : parsed [] ≡ Err (record { fault = Empty; at = 0 })
+nothing = refl
+
+percent_at_end : parsed (codes "a%") ≡ Err (record { fault = PercentAtEnd; at = 1 })
+percent_at_end = refl
+
+unknown_letter : parsed (codes "%q") ≡ Err (record { fault = UnknownLetter; at = 0 })
+unknown_letter = refl
+
+unknown_name : parsed (codes "{Lens}") ≡ Err (record { fault = UnknownName; at = 0 })
+unknown_name = refl
+
+unclosed : parsed (codes "a{Make") ≡ Err (record { fault = UnclosedBrace; at = 1 })
+unclosed = refl
+
+lone_brace : parsed (codes "{Name}}") ≡ Err (record { fault = LoneBrace; at = 6 })
+lone_brace = refl
+
+absolute : parsed (codes "/a") ≡ Err (record { fault = NoName; at = 0 })
+absolute = refl
+
+double_slash : parsed (codes "a//b") ≡ Err (record { fault = NoName; at = 2 })
+double_slash = refl
+
+no_file : parsed (codes "a/") ≡ Err (record { fault = NoName; at = 2 })
+no_file = refl
+
+upwards : parsed (codes "%Y/../b") ≡ Err (record { fault = NoName; at = 3 })
+upwards = refl
+
+-- ---- names
+
+abbrev march : Taken
+march = record { year = 2024; month = 3; day = 9; hour = 7; minute = 5; second = 2 }
+
+-- a picture of an old camera, whose model is blank
+abbrev old_picture : Known
+old_picture = record { taken = Some march; make = Some (codes "A/B "); model = Some (codes " "); name = codes "IMG_1" }
+
+dated : named (Date Year ∷ Literal 45 ∷ Date Month ∷ Date Day ∷ Date ShortYear ∷ []) old_picture
+    ≡ Ok (codes "2024-030924")
+unfolding digits encode_utf8
+dated = refl
+
+with_make : named (Make ∷ Literal 95 ∷ Name ∷ []) old_picture ≡ Ok (codes "A_B_IMG_1")
+unfolding chars encode_utf8 trim_start trim_end
+with_make = refl
+
+blank_model : named (Name ∷ Model ∷ []) old_picture ≡ Err missing.Model
+unfolding chars encode_utf8 trim_start trim_end
+blank_model = refl
+
+parent : safe (codes "..") ≡ codes "__"
+unfolding chars encode_utf8 trim_start trim_end
+parent = refl
+
+-- `é:` in UTF-8
+accent : safe (195 ∷ 169 ∷ 58 ∷ []) ≡ 195 ∷ 169 ∷ 95 ∷ []
+unfolding chars encode_utf8 trim_start trim_end
+accent = refl
+
+-- ---- plans
+
+-- a picture and its sidecar, that are to have a name
+abbrev with_sidecar : Wanted
+with_sidecar = record {
+  base = codes "x";
+  files = record { old = codes "a.jpg"; ending = codes ".jpg" } ∷ record { old = codes "a.xmp"; ending = codes ".xmp" } ∷ [];
+}
+
+-- another picture, that has a number already, and a third one
+abbrev numbered : Wanted
+numbered = record { base = codes "x"; files = record { old = codes "x_1.jpg"; ending = codes ".jpg" } ∷ [] }
+
+abbrev third : Wanted
+third = record { base = codes "x"; files = record { old = codes "b.jpg"; ending = codes ".jpg" } ∷ [] }
+
+-- these files, a sidecar `x.xmp` and a folder `x.jpg`
+abbrev free_here : List ℕ → Bool
+free_here n = not (is_among n (codes "a.jpg" ∷ codes "a.xmp" ∷ codes "x_1.jpg" ∷ codes "b.jpg"
+    ∷ codes "x.xmp" ∷ codes "x.jpg" ∷ []))
+
+three : planned free_here (with_sidecar ∷ numbered ∷ third ∷ []) ≡ Ok (2 ∷ 1 ∷ 3 ∷ [])
+unfolding fit_from digits
+three = refl
+
+-- the name that the first of two equal wishes got is not given again, though nothing has it yet
+given_once : planned (λ n. not (is_among n (codes "b.jpg" ∷ []))) (third ∷ third ∷ []) ≡ Ok (0 ∷ 1 ∷ [])
+unfolding fit_from digits
+given_once = refl
+
+moves_of_both : moves_by with_sidecar 2
+    ≡ (codes "a.jpg", codes "x_2.jpg") ∷ (codes "a.xmp", codes "x_2.xmp") ∷ []
+unfolding digits
+moves_of_both = refl
+
+no_move : moves_by numbered 1 ≡ []
+unfolding digits
+no_move = refl

@@ -1,0 +1,10 @@
+pub mod Apart
+pub mod Examples
+pub mod Failures
+pub mod MoveParts
+pub mod Moves
+pub mod Naming
+pub mod Patterns
+pub mod Planned
+pub mod Views
+pub mod Wishes

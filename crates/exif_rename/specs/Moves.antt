@@ -1,0 +1,91 @@
+-- What a file that gets another name leaves.
+use Rattle.std.specs.Prelude.{◌≡◌, ◌≢◌, ◌≤◌, ◌⊎◌, ℕ, List, true, None, Some}
+use Rattle.exif_files.specs.States.{Entry, State, Holds, Elsewhere, ElsewhereOfTwo, IsUnchanged}
+use Rattle.exif_files.specs.Names.{IsFresh, OthersKept}
+use Rattle.exif_files.specs.Steps.{count_after}
+use Rattle.exif_files.specs.Written.{IsLeftOver}
+use Rattle.exif_files.specs.declared.failure.WriteError.{WriteError}
+use Rattle.exif_files.specs.declared.failure.WriteError.TheVariants.{OutOfMemory, Taken, Crowded}
+use Rattle.exif_rename.specs.declared.moving.Attributes.{Attributes}
+use Rattle.exif_rename.specs.declared.moving.Attributes.TheVariants.{Kept}
+
+-- the mode, the owner and the times of another file
+pub record IsAlike (f g : Entry) : Type 0 where
+  pub mode : g.mode ≡ f.mode
+  pub owner : g.owner ≡ f.owner
+  pub times : g.times ≡ f.times
+
+-- a name that nothing had has a file with the bytes of another
+abbrev pub IsCopy : List ℕ → List ℕ → State → State → Type 0
+IsCopy from to s t = (s.at to ≡ None)
+    × ((f : Entry) × (s.at from ≡ Some f) × Holds t to (λ g. g.bytes ≡ f.bytes))
+
+-- in each state: the name has what it had, or a whole copy, and every other name what it had
+pub record IsWholeCopy (from to : List ℕ) (s t : State) : Type 0 where
+  pub file : (t.at to ≡ s.at to) ⊎ IsCopy from to s t
+  pub others : OthersKept None to s t
+
+-- a copy, and every other name has what it had
+pub record IsCopied (from to : List ℕ) (s t : State) : Type 0 where
+  pub copy : IsCopy from to s t
+  pub others : Elsewhere to s t
+
+-- a copy that the disk has all of, with the attributes of the other file where they were kept
+pub record IsCopiedForGood (from to : List ℕ) (attributes : Attributes) (s t : State) : Type 0 where
+  pub free : s.at to ≡ None
+  pub file : (f : Entry) × (s.at from ≡ Some f)
+      × Holds t to (λ g. (g.bytes ≡ f.bytes) × (attributes ≡ Kept → IsAlike f g) × (g.kept ≡ true))
+  pub others : Elsewhere to s t
+  pub settled : t.settled to ≡ true
+
+-- It gave up by itself only where memory or free names ran out or the name is taken; else a call
+-- of the system failed.
+abbrev pub IsCaused : WriteError → ℕ → ℕ → Type 0
+IsCaused error failures failures' = error ≢ OutOfMemory → error ≢ Taken → error ≢ Crowded
+    → count_after true failures ≤ failures'
+
+-- What an error leaves: all as it was, which has a cause; or a copy, where the disk may not have
+-- all of it; or all as it was but for a hidden file, where its removal failed too.
+abbrev pub IsNotCopied : List ℕ → List ℕ → Type 0 → Type 0 → State → State → Type 0
+IsNotCopied from to cause twice s t =
+    (IsUnchanged s t × cause) ⊎ (IsCopied from to s t ⊎ (IsLeftOver to None s t × twice))
+
+-- In each state the whole file has one of the two names, the new name nothing else, and every other
+-- name what it had.
+pub record IsWholeMove (from to : List ℕ) (s t : State) : Type 0 where
+  pub file : (f : Entry) → s.at from ≡ Some f
+      → (t.at from ≡ Some f) ⊎ ((t.at from ≡ None) × IsCopy from to s t)
+  pub there : (t.at to ≡ s.at to) ⊎ IsCopy from to s t
+  pub others : (n : List ℕ) → n ≢ from → n ≢ to → (IsFresh None s n → ⊥) → t.at n ≡ s.at n
+
+-- the file has the other name, which nothing had
+pub record IsRenamed (from to : List ℕ) (s t : State) : Type 0 where
+  pub free : s.at to ≡ None
+  pub file : t.at to ≡ s.at from
+  pub gone : t.at from ≡ None
+  pub others : ElsewhereOfTwo from to s t
+
+-- a copy of the file, whose own name is gone
+pub record IsCopiedAway (from to : List ℕ) (attributes : Attributes) (s t : State) : Type 0 where
+  pub free : s.at to ≡ None
+  pub file : (f : Entry) × (s.at from ≡ Some f)
+      × Holds t to (λ g. (g.bytes ≡ f.bytes) × (attributes ≡ Kept → IsAlike f g) × (g.kept ≡ true))
+  pub gone : t.at from ≡ None
+  pub others : ElsewhereOfTwo from to s t
+
+-- The file has the other name, and the disk has that; or a copy has it, and the disk has that the
+-- old name is gone.
+abbrev pub IsMovedForGood : List ℕ → List ℕ → Attributes → State → State → Type 0
+IsMovedForGood from to attributes s t =
+    (IsRenamed from to s t × (t.settled to ≡ true) × (attributes ≡ Kept))
+    ⊎ (IsCopiedAway from to attributes s t × (t.settled from ≡ true))
+
+-- the same, where the disk may not have it
+abbrev pub IsMoved : List ℕ → List ℕ → State → State → Type 0
+IsMoved from to s t =
+    IsRenamed from to s t ⊎ ((attributes : Attributes) × IsCopiedAway from to attributes s t)
+
+-- What an error leaves: what one of a copy leaves; or the file has the other name, where only the
+-- disk may not have it.
+abbrev pub IsNotMoved : List ℕ → List ℕ → Type 0 → Type 0 → State → State → Type 0
+IsNotMoved from to cause twice s t = IsNotCopied from to cause twice s t ⊎ IsMoved from to s t

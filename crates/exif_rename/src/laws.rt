@@ -1,0 +1,32 @@
+//! Laws of plans and names. They hold for all wishes, states and texts, and speak of the
+//! definitions alone.
+
+ghost use Rattle.std.specs.Prelude.{◌≡◌, ◌≢◌, ◌<◌, ℕ, List, [], Bool, Ok, length, slice_index};
+ghost use Rattle.exif_rename.specs.Apart.{AreToFree, DifferAfter, all_moves, paths_by};
+ghost use Rattle.exif_rename.specs.Naming.{safe};
+ghost use Rattle.exif_rename.specs.Planned.{planned};
+ghost use Rattle.exif_rename.specs.Wishes.{Wanted};
+
+/// No two files get one path.
+pub fn new_paths_differ()
+    ensures { (free : List ℕ → Bool) (wishes : List Wanted) (numbers : List ℕ)
+        → planned free wishes ≡ Ok numbers → DifferAfter [] (paths_by wishes numbers) }
+{}
+
+/// Nothing has the path that a file is moved to: so no move overwrites a file.
+pub fn moves_are_to_free_paths()
+    ensures { (free : List ℕ → Bool) (wishes : List Wanted) (numbers : List ℕ)
+        → planned free wishes ≡ Ok numbers → AreToFree free (all_moves wishes numbers) }
+{}
+
+/// Each wish gets a number.
+pub fn each_wish_has_a_number()
+    ensures { (free : List ℕ → Bool) (wishes : List Wanted) (numbers : List ℕ)
+        → planned free wishes ≡ Ok numbers → length numbers ≡ length wishes }
+{}
+
+/// No text that a pattern brings in has a `/`: so only the pattern makes folders.
+pub fn safe_texts_have_no_slash()
+    ensures { (text : List ℕ) (i : ℕ)
+        → i < length (safe text) → slice_index (safe text) i ≢ 47 }
+{}

@@ -1,0 +1,15 @@
+//! Files that get new names: the plan of new paths, and the moves.
+#![tactic(auto)]
+
+pub mod laws;
+mod moving;
+mod naming;
+mod pattern;
+mod plan;
+mod wish;
+
+pub use moving::{Attributes, copy_file, move_file};
+pub use naming::{Facts, Missing, Taken};
+pub use pattern::{DatePart, Fault, Part, Pattern, PatternError};
+pub use plan::{PlanError, plan_names};
+pub use wish::{Move, Wish, WishFile};

@@ -1,0 +1,229 @@
+//! Which new paths files get.
+
+ghost use Rattle.std.specs.Prelude.{◌≡◌, ◌&&◌, ◌||◌, not, ℕ, List, Ok, Err, IfOk, IfErr, OnOk, map, string_bytes, true, false, if◌then◌else◌};
+ghost use Rattle.std.specs.BTreeSet.{contains_text};
+ghost use Rattle.std.specs.Str.{bytes_eq};
+ghost use Rattle.exif_files.specs.Each.{is_among};
+ghost use Rattle.exif_files.specs.States.{Now};
+ghost use Rattle.exif_files.specs.Steps.{count_after};
+ghost use Rattle.exif_rename.specs.Failures.{is_failed, IfCrowded};
+ghost use Rattle.exif_rename.specs.Planned.{free_in, fit, fits, planned, with_paths};
+ghost use Rattle.exif_rename.specs.Wishes.{File, candidate, file_of, wanted_of};
+ghost use Rattle.exif_rename.specs.declared.plan.PlanError.TheVariants.{Io, Crowded, OutOfMemory};
+
+use crate::wish::{Wish, WishFile, candidate, joined};
+use exif_files::FileSystem;
+use std::alloc::{AllocError, AllocFailed, Global};
+use std::collections::BTreeSet;
+use std::{fmt, io};
+
+// How many candidates of a name are tried.
+const TRIES: u32 = 100_000;
+
+/// Why there is no plan.
+#[derive(Debug, Drop)]
+pub enum PlanError {
+    /// A call of the system failed.
+    Io(io::Error),
+    /// No candidate is left for the wish of this index.
+    Crowded(usize),
+    /// Out of memory.
+    OutOfMemory,
+}
+
+impl From<io::Error> for PlanError {
+    ghost from_gives = { λ cause e. e ≡ Io cause };
+
+    fn from(e: io::Error) -> PlanError {
+        PlanError::Io(e)
+    }
+}
+
+impl From<AllocError> for PlanError {
+    ghost from_gives = { λ _ e. e ≡ OutOfMemory };
+
+    fn from(_e: AllocError) -> PlanError {
+        PlanError::OutOfMemory
+    }
+}
+
+impl<T: Drop> From<AllocFailed<T>> for PlanError {
+    ghost from_gives = { λ _ e. e ≡ OutOfMemory };
+
+    fn from(_e: AllocFailed<T>) -> PlanError {
+        PlanError::OutOfMemory
+    }
+}
+
+impl fmt::Display for PlanError {
+    fn fmt<W: fmt::Write>(&self, f: &mut fmt::Formatter<W>) -> fmt::Result {
+        match self {
+            PlanError::Io(cause) => write!(f, "{cause}"),
+            PlanError::Crowded(_) => write!(f, "all names with a number up to 99999 are taken"),
+            PlanError::OutOfMemory => write!(f, "out of memory"),
+        }
+    }
+}
+
+/// Which new names files get: the number of the candidate of each wish, from which
+/// [`Wish::moves`](crate::Wish::moves) makes the new paths. It is the first by which each file of
+/// the wish has a path that nothing has, or that is its own, and that no file was given before. It
+/// only asks which paths are free, and takes the memory of all new paths.
+pub fn plan_names<F: FileSystem>(
+    alloc: Global,
+    files: &mut F,
+    wishes: &[Wish],
+) -> Result<Vec<u32>, PlanError>
+    ensures planned { IfOk result (λ numbers. Now (F.states files.old)
+        (λ s. planned (free_in s) (map wanted_of wishes.now) ≡ Ok numbers.items)) }
+    ensures crowded { IfErr result (λ e. IfCrowded e (λ index. Now (F.states files.old)
+        (λ s. planned (free_in s) (map wanted_of wishes.now) ≡ Err index))) }
+    ensures same { F.states files.new ≡ F.states files.old }
+    ensures count { F.failures files.new ≡ count_after (is_failed result) (F.failures files.old) }
+{
+    let mut given: BTreeSet<String> = BTreeSet::new(alloc);
+    let mut numbers = Vec::new(alloc);
+    for (index, wish) in wishes.iter().enumerate() {
+        let Some(number) = first_fit(alloc, files, &given, wish)? else {
+            return Err(PlanError::Crowded(index));
+        };
+        numbers.push(number)?;
+        give_paths(alloc, &mut given, wish, number)?;
+    }
+    Ok(numbers)
+}
+
+// The first number whose candidate all files of a wish can have.
+fn first_fit<F: FileSystem>(
+    alloc: Global,
+    files: &mut F,
+    given: &BTreeSet<String>,
+    wish: &Wish,
+) -> Result<Option<u32>, PlanError>
+    ensures answer { IfOk result (λ number. (names : List (List ℕ))
+        → ((q : List ℕ) → contains_text given.now q ≡ is_among q names)
+        → Now (F.states files.old) (λ s. fit (free_in s) names (wanted_of wish.now) ≡ number)) }
+    ensures never { IfErr result (λ e. IfCrowded e (λ index. ⊥)) }
+    ensures same { F.states files.new ≡ F.states files.old }
+    ensures count { F.failures files.new ≡ count_after (is_failed result) (F.failures files.old) }
+{
+    for number in 0..TRIES {
+        let name = candidate(alloc, wish.base.as_str(), number)?;
+        if all_fit(alloc, files, given, name.as_str(), wish.files.as_slice())? {
+            return Ok(Some(number));
+        }
+    }
+    Ok(None)
+}
+
+// Whether all files of a wish can have their paths by a name.
+fn all_fit<F: FileSystem>(
+    alloc: Global,
+    files: &mut F,
+    given: &BTreeSet<String>,
+    name: &str,
+    wish_files: &[WishFile],
+) -> Result<bool, PlanError>
+    ensures answer { IfOk result (λ answer. (names : List (List ℕ))
+        → ((q : List ℕ) → contains_text given.now q ≡ is_among q names)
+        → Now (F.states files.old)
+        (λ s. fits (free_in s) names name.now (map file_of wish_files.now) ≡ answer)) }
+    ensures never { IfErr result (λ e. IfCrowded e (λ index. ⊥)) }
+    ensures same { F.states files.new ≡ F.states files.old }
+    ensures count { F.failures files.new ≡ count_after (is_failed result) (F.failures files.old) }
+{
+    let mut paths: Vec<String> = Vec::new(alloc);
+    for file in wish_files {
+        let path = joined(alloc, name, file.ending.as_str())?;
+        if !can_have(
+            files,
+            given,
+            paths.as_slice(),
+            path.as_str(),
+            file.old.as_str(),
+        )? {
+            return Ok(false);
+        }
+        paths.push(path)?;
+    }
+    Ok(true)
+}
+
+// Whether a file can have a path: no file was given it, and it is its own or nothing has it.
+fn can_have<F: FileSystem>(
+    files: &mut F,
+    given: &BTreeSet<String>,
+    paths: &[String],
+    path: &str,
+    old: &str,
+) -> Result<bool, PlanError>
+    ensures answer { IfOk result (λ answer. Now (F.states files.old) (λ s. answer
+        ≡ (not (contains_text given.now path.now || is_among path.now (map string_bytes paths.now))
+        && (bytes_eq path.now old.now || free_in s path.now)))) }
+    ensures never { IfErr result (λ e. IfCrowded e (λ index. ⊥)) }
+    ensures same { F.states files.new ≡ F.states files.old }
+    ensures count { F.failures files.new ≡ count_after (is_failed result) (F.failures files.old) }
+{
+    if given.contains(path) || is_among(paths, path) {
+        return Ok(false);
+    }
+    if path == old {
+        return Ok(true);
+    }
+    Ok(files.is_free(path)?)
+}
+
+// Whether a path is among others.
+fn is_among(paths: &[String], path: &str) -> bool
+    ensures { result ≡ is_among path.now (map string_bytes paths.now) }
+{
+    for other in paths {
+        if other.as_str() == path {
+            return true;
+        }
+    }
+    false
+}
+
+// Adds the paths that the files of a wish get by a candidate to those that were given.
+fn give_paths(
+    alloc: Global,
+    given: &mut BTreeSet<String>,
+    wish: &Wish,
+    number: u32,
+) -> Result<(), AllocError>
+    ensures { OnOk result ((names : List (List ℕ))
+        → ((q : List ℕ) → contains_text given.old q ≡ is_among q names)
+        → (q : List ℕ) → contains_text given.new q ≡ is_among q (with_paths
+        (candidate (wanted_of wish.now).base number) (wanted_of wish.now).files names)) }
+{
+    let name = candidate(alloc, wish.base.as_str(), number)?;
+    give_by(alloc, given, name.as_str(), wish.files.as_slice())
+}
+
+// Adds those by a name.
+fn give_by(
+    alloc: Global,
+    given: &mut BTreeSet<String>,
+    name: &str,
+    wish_files: &[WishFile],
+) -> Result<(), AllocError>
+    ensures { OnOk result ((names : List (List ℕ))
+        → ((q : List ℕ) → contains_text given.old q ≡ is_among q names)
+        → (q : List ℕ) → contains_text given.new q ≡ is_among q
+        (with_paths name.now (map file_of wish_files.now) names)) }
+{
+    for file in wish_files {
+        insert(given, joined(alloc, name, file.ending.as_str())?)?;
+    }
+    Ok(())
+}
+
+// Adds a path to those that were given.
+fn insert(given: &mut BTreeSet<String>, path: String) -> Result<(), AllocError>
+    ensures { OnOk result ((q : List ℕ) → contains_text given.new q
+        ≡ (if bytes_eq (string_bytes path) q then true else contains_text given.old q)) }
+{
+    given.insert(path)?;
+    Ok(())
+}

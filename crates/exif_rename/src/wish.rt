@@ -1,0 +1,86 @@
+//! The new names that are asked for, and the moves that give them.
+
+ghost use Rattle.std.specs.Prelude.{◌≡◌, ◌++◌, IfOk, map, string_bytes};
+ghost use Rattle.exif_rename.specs.Wishes.{file_of, wanted_of, move_of, candidate, moves_in, moves_by};
+
+use std::alloc::{AllocError, Global};
+
+/// A file that is to have a new path.
+#[derive(Debug, Drop)]
+pub struct WishFile {
+    /// The path that it has.
+    pub old: String,
+    /// What follows the new name in its new path, as `.JPG` or `.JPG.xmp`.
+    pub ending: String,
+}
+
+/// Files that are to have one new name: a picture, and those that go along.
+#[derive(Debug, Drop)]
+pub struct Wish {
+    /// The new path without what the files end in.
+    pub base: String,
+    /// The files, the picture first.
+    pub files: Vec<WishFile>,
+}
+
+/// A file that gets another path.
+#[derive(Debug, Drop)]
+pub struct Move {
+    /// The path that it has.
+    pub from: String,
+    /// The path that it gets.
+    pub to: String,
+}
+
+// Two texts as one.
+pub(crate) fn joined(alloc: Global, front: &str, back: &str) -> Result<String, AllocError>
+    ensures { IfOk result (λ text. string_bytes text ≡ front.now ++ back.now) }
+{
+    format!(in alloc; "{front}{back}")
+}
+
+// The candidate of a number: the base itself, `base_1`, `base_2` and so on.
+pub(crate) fn candidate(alloc: Global, base: &str, number: u32) -> Result<String, AllocError>
+    ensures { IfOk result (λ name. string_bytes name ≡ candidate base.now number) }
+{
+    if number == 0 {
+        return String::from_str(alloc, base);
+    }
+    format!(in alloc; "{base}_{number}")
+}
+
+// The move of a file to a path.
+fn make_move(alloc: Global, from: &str, to: String) -> Result<Move, AllocError>
+    ensures { IfOk result (λ made. move_of made ≡ (from.now, string_bytes to)) }
+{
+    let from = String::from_str(alloc, from)?;
+    Ok(Move { from, to })
+}
+
+// The moves of files to a name. A file that has its path already has none.
+fn moves_in(alloc: Global, name: &str, files: &[WishFile]) -> Result<Vec<Move>, AllocError>
+    ensures { IfOk result (λ moves. map move_of moves.items
+        ≡ moves_in name.now (map file_of files.now)) }
+{
+    let mut moves = Vec::new(alloc);
+    for file in files {
+        let to = joined(alloc, name, file.ending.as_str())?;
+        if to.as_str() != file.old.as_str() {
+            moves.push(make_move(alloc, file.old.as_str(), to)?)?;
+        }
+    }
+    Ok(moves)
+}
+
+impl Wish {
+    /// The moves that give the files the name of this number, in the order of the files.
+    /// [`plan_names`](crate::plan_names) chose the number. A file that has its new path already has
+    /// none.
+    pub fn moves(&self, alloc: Global, number: u32) -> Result<Vec<Move>, AllocError>
+        ensures { IfOk result (λ moves. map move_of moves.items
+            ≡ moves_by (wanted_of self.now) number) }
+    {
+        let name = candidate(alloc, self.base.as_str(), number)?;
+        moves_in(alloc, name.as_str(), self.files.as_slice())
+    }
+}

@@ -1,0 +1,14 @@
+pub mod Between
+pub mod Calendar
+pub mod Elements
+pub mod Examples
+pub mod FixTexts
+pub mod Numbers
+pub mod Reached
+pub mod Read
+pub mod Sorting
+pub mod States
+pub mod Steps
+pub mod Texts
+pub mod Times
+pub mod Walks
