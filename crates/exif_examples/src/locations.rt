@@ -3,7 +3,7 @@
 ghost use Rattle.std.specs.Prelude.{◌≡◌, Some, IfSome};
 ghost use Rattle.exif_table.specs.declared.context.Context.TheVariants as Context;
 ghost use Rattle.exif_types.specs.declared.value.Value.TheVariants as Value;
-ghost use Rattle.exif_json.specs.Finding.{found};
+ghost use Rattle.exif_summary.specs.Finding.{found};
 
 use crate::dates::text;
 use exif::{Exif, In, Rational, Tag, Value};

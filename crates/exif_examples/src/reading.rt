@@ -7,7 +7,7 @@ ghost use Rattle.exif_table.specs.declared.context.Context.TheVariants as Contex
 ghost use Rattle.exif_tiff.specs.Answers.{raw_answer};
 ghost use Rattle.exif_containers.specs.Container.{container_answer};
 ghost use Rattle.exif_reader.specs.Files.{ReadsByNeed, ReadsContainer};
-ghost use Rattle.exif_json.specs.Finding.{number_of};
+ghost use Rattle.exif_summary.specs.Finding.{number_of};
 ghost use Rattle.exif_report.specs.Lines.{field_line};
 
 use exif::{Error, Exif, In, ReadSeek, Reader, Seekable, Tag};

@@ -3,7 +3,7 @@
 ghost use Rattle.std.specs.Prelude.{◌≡◌, [], ◌∷◌, IfOk};
 ghost use Rattle.exif_table.specs.declared.context.Context.TheVariants as Context;
 ghost use Rattle.exif_types.specs.declared.value.Value.TheVariants.{Ascii};
-ghost use Rattle.exif_json.specs.Finding.{number_of};
+ghost use Rattle.exif_summary.specs.Finding.{number_of};
 
 use exif::{Error, Exif, Field, In, Tag, Value};
 use std::alloc::Global;

@@ -15,12 +15,20 @@ use Rattle.exif_types.specs.Contents.{ExifContents}
 use Rattle.exif_types.specs.Failures.{Failure, error_text}
 use Rattle.exif_types.specs.declared.error.Error.TheVariants as error
 use Rattle.exif_types.specs.ValueTypes.{count_of}
+use Rattle.json.specs.Word.{after_number}
+use Rattle.exif_json.specs.Flat.{column_members, columns_members, fact_members, flat_json, format_members, number_or_text, picture_members, shown_json, string_of}
+use Rattle.exif_json.specs.declared.flat.FileFacts.{FileFacts}
+use Rattle.exif_summary.specs.Columns.{Shown, cell_of, name_of}
+use Rattle.exif_summary.specs.Columns as shown
+use Rattle.exif_summary.specs.declared.columns.Column.{Column}
+use Rattle.exif_summary.specs.declared.columns.TheConstants.{COLUMNS}
 use Rattle.exif_json.specs.Prints.{Prints}
 use Rattle.exif_formats.specs.declared.format.PictureFormat.{PictureFormat}
 use Rattle.exif_json.specs.Fields.{count_json, field_json}
 use Rattle.exif_json.specs.Files.{answer_json, error_json, exif_members, fault_json, file_members, format_json, no_exif_json, no_exif_members, refusal_json}
-use Rattle.exif_json.specs.Coordinates.{Degrees}
-use Rattle.exif_json.specs.Dates.{fraction_taken}
+use Rattle.exif_summary.specs.Coordinates.{Degrees}
+use Rattle.exif_summary.specs.Dates.{fraction_of}
+use Rattle.exif_summary.specs.declared.dates.TheConstants.{TAKEN}
 use Rattle.exif_json.specs.Summaries.{camera_members, date_json, degrees_json, maybe, location_members, size_members, standing_members, summary_json}
 use Rattle.exif_json.specs.Texts.{latin1_json, text_json}
 use Rattle.exif_json.specs.Trees.{items_of, members_of, signed, unsigned}
@@ -102,7 +110,7 @@ texts_shallow name o = maybe_shallow 1 name text_json o text_shallow
 
 summary_shallow : (fields : List Field) → depth (summary_json fields) ≤ 2
 summary_shallow fields =
-    let standing : AreShallow 1 (standing_members fields) = both_shallow 1 _ _ (number_shallow _ _) (maybe_shallow 1 _ (date_json (fraction_taken fields)) _ (λ x. omega arith)) in
+    let standing : AreShallow 1 (standing_members fields) = both_shallow 1 _ _ (number_shallow _ _) (maybe_shallow 1 _ (date_json (fraction_of fields TAKEN)) _ (λ x. omega arith)) in
     let offset : AreShallow 1 (location_members fields) = both_shallow 1 _ _ (degrees_shallow _ _) (degrees_shallow _ _) in
     let camera : AreShallow 1 (camera_members fields) = both_shallow 1 _ _ (texts_shallow _ _) (texts_shallow _ _) in
     let size : AreShallow 1 (size_members fields) = both_shallow 1 _ _ (number_shallow _ _) (number_shallow _ _) in
@@ -122,6 +130,43 @@ answer_shallow path format exif faults =
     } in
     let file : AreShallow 4 (file_members path format) = record { within = omega (arith, (file_shallow path format).within) } in
     omega (arith, (both_shallow 4 _ _ file rest).within)
+
+-- a text is shallow, whether it is a number or not
+number_text_shallow : (text : List ℕ) (rest : Option (List ℕ)) → depth (number_or_text text rest) ≤ 0
+number_text_shallow text (Some []) = omega arith
+number_text_shallow text (Some (c ∷ rest)) = omega arith
+number_text_shallow text None = omega arith
+
+shown_shallow : (s : Shown) → depth (shown_json s) ≤ 0
+shown_shallow (shown.whole n) = omega arith
+shown_shallow (shown.decimal text) = number_text_shallow text (after_number text)
+shown_shallow (shown.bytes bytes) = omega arith
+shown_shallow (shown.date text) = omega arith
+
+columns_shallow : (fields : List Field) (columns : List Column) → AreShallow 1 (columns_members fields columns)
+columns_shallow fields [] = record { within = omega arith }
+columns_shallow fields (column ∷ columns) =
+    both_shallow 1 (column_members fields column) (columns_members fields columns)
+    (maybe_shallow 1 (name_of column) shown_json (cell_of fields column) (λ x. omega (arith, shown_shallow x)))
+    (columns_shallow fields columns)
+
+picture_shallow : (exif : Option (List Field)) → AreShallow 1 (picture_members exif)
+picture_shallow None = record { within = omega arith }
+picture_shallow (Some fields) = columns_shallow fields COLUMNS
+
+format_shallow : (format : Option PictureFormat) → AreShallow 1 (format_members format)
+format_shallow None = record { within = omega arith }
+format_shallow (Some format) = record { within = omega arith }
+
+facts_shallow : (facts : FileFacts) → AreShallow 1 (fact_members facts)
+facts_shallow facts =
+    both_shallow 1 ((codes "path", J.string (string_of facts.path.now)) ∷ []) _ (record { within = omega arith })
+    (both_shallow 1 _ _ (format_shallow facts.format)
+    (both_shallow 1 _ _ (number_shallow (codes "file_size") facts.size) (number_shallow (codes "file_modified") facts.modified)))
+
+-- the flat JSON nests no deeper than JSON that is read may
+pub flat_shallow : (facts : FileFacts) (exif : Option (List Field)) → depth (flat_json facts exif) ≤ max_depth
+flat_shallow facts exif = omega (arith, (both_shallow 1 _ _ (facts_shallow facts) (picture_shallow exif)).within)
 
 -- the JSON of a picture without Exif data nests no deeper than JSON that is read may
 no_exif_shallow : (path : List ℕ) (format : Option PictureFormat) → depth (no_exif_json path format) ≤ max_depth

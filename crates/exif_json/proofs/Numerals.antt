@@ -9,7 +9,7 @@ use Rattle.json.specs.Print.{IsNumber}
 use Rattle.json.proofs.Printed.Floats.{IsNumber-plain}
 use Rattle.ryu.specs.Plain.{IsPlain}
 use Rattle.exif_text.specs.Plain.{zero_filled}
-use Rattle.exif_json.specs.Coordinates.{degrees_text}
+use Rattle.exif_summary.specs.Coordinates.{degrees_text}
 
 true_is_no_false : true ≡ false → ⊥
 true_is_no_false e = subst (λ b. cond b (Unit {0}) ⊥) e tt

@@ -1,13 +1,10 @@
 pub mod Prints
-pub mod Seen
 pub mod Summaries
 pub mod Trees
 pub mod Texts
 pub mod Values
-pub mod Dates
 pub mod Fields
 pub mod Files
-pub mod Finding
-pub mod Coordinates
 pub mod Determined
 pub mod Answers
+pub mod Flat

@@ -5,16 +5,13 @@ use Rattle.json.specs.Json.{Json}
 use Rattle.exif_table.specs.declared.context.Context.TheVariants.{Tiff, Exif}
 use Rattle.exif_types.specs.declared.field.Field.{Field}
 use Rattle.exif_datetime.specs.declared.datetime.DateTime.{DateTime}
-use Rattle.exif_json.specs.Dates.{date_taken, fraction_taken, iso_text}
-use Rattle.exif_json.specs.Finding.{degrees_of, number_of, orientation_of, text_found}
-use Rattle.exif_json.specs.Coordinates.{Degrees, degrees_text, latitude, longitude}
+use Rattle.exif_summary.specs.Dates.{date_of, fraction_of, iso_text}
+use Rattle.exif_summary.specs.Finding.{degrees_of, number_of, orientation_of, text_found}
+use Rattle.exif_summary.specs.Coordinates.{Degrees, degrees_text, latitude, longitude}
+use Rattle.exif_summary.specs.Columns.{either_number}
+use Rattle.exif_summary.specs.declared.dates.TheConstants.{TAKEN}
 use Rattle.exif_json.specs.Texts.{text_json}
 use Rattle.exif_json.specs.Trees.{object, unsigned}
-
--- a number of the picture's own size, else of the image's
-abbrev pub either_number : Option ℕ → Option ℕ → Option ℕ
-either_number (Some n) other = Some n
-either_number None other = other
 
 -- a member where there is something to report
 abbrev pub maybe : {A : Type 0} → List ℕ → (A → Json) → Option A → List (List ℕ × Json)
@@ -33,7 +30,7 @@ date_json digits d = J.string (iso_text digits d)
 abbrev pub standing_members : List Field → List (List ℕ × Json)
 standing_members fields =
     maybe (codes "orientation") unsigned (orientation_of fields)
-    ++ maybe (codes "date_taken") (date_json (fraction_taken fields)) (date_taken fields)
+    ++ maybe (codes "date_taken") (date_json (fraction_of fields TAKEN)) (date_of fields TAKEN)
 
 -- where it was taken
 abbrev pub location_members : List Field → List (List ℕ × Json)

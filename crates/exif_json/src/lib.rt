@@ -3,6 +3,7 @@
 
 mod fields;
 mod files;
+mod flat;
 mod items;
 pub mod laws;
 pub mod printer;
@@ -11,3 +12,4 @@ mod texts;
 mod values;
 
 pub use files::{json_of_answer, refusal_json, to_json, write_file};
+pub use flat::{FileFacts, flat_json, mime_type};

@@ -3,26 +3,23 @@
 
 ghost use Rattle.std.specs.Prelude.{◌≡◌, codes, option_map};
 ghost use Rattle.json.specs.Json as J;
-ghost use Rattle.exif_json.specs.Finding.{number_of};
-ghost use Rattle.exif_json.specs.Coordinates.{latitude, longitude};
+ghost use Rattle.exif_summary.specs.Coordinates.{latitude, longitude};
 ghost use Rattle.exif_json.specs.Prints.{Prints};
-ghost use Rattle.exif_json.specs.Seen.{degrees_view};
-ghost use Rattle.exif_json.specs.Summaries.{camera_members, date_json, degrees_json, either_number, maybe, location_members, size_members, standing_members, summary_json};
+ghost use Rattle.exif_summary.specs.Seen.{degrees_view};
+ghost use Rattle.exif_json.specs.Summaries.{camera_members, date_json, degrees_json, maybe, location_members, size_members, standing_members, summary_json};
 ghost use Rattle.exif_json.specs.Texts.{text_json};
 ghost use Rattle.exif_json.specs.Trees.{parts_tokens, unsigned};
 ghost use Rattle.json.specs.Tree.{json_tokens};
 
-mod angles;
-mod dates;
-mod looking;
-
 use crate::printer::Printer;
 use crate::texts::write_text;
-use angles::{Degrees, LATITUDE, LONGITUDE, print_degrees};
-use dates::{Iso, find_date, find_fraction};
 use exif::{DateTime, Exif, Tag};
-use looking::{find_degrees, find_number, find_orientation, find_text};
+use exif_summary::{
+    Degrees, Iso, LATITUDE, LONGITUDE, TAKEN, find_date, find_degrees, find_either, find_fraction,
+    find_orientation, find_text,
+};
 use std::alloc::AllocError;
+use std::fmt::Write;
 
 /// Writes a member of a number, where there is one.
 fn write_number(printer: &mut Printer, name: &str, number: Option<u32>) -> Result<(), AllocError>
@@ -46,6 +43,18 @@ fn write_text_of(printer: &mut Printer, name: &str, text: Option<&[u8]>) -> Resu
             write_text(printer, bytes)
         }
         None => Ok(()),
+    }
+}
+
+/// Writes a coordinate as a number.
+fn print_degrees(printer: &mut Printer, degrees: Degrees) -> Result<(), AllocError>
+    ensures { Prints result printer.old.out printer.new.out
+        (json_tokens (degrees_json (degrees_view degrees))) }
+{
+    printer.text.clear();
+    match write!(printer.text, "{degrees}") {
+        Ok(()) => printer.out.number(&printer.text),
+        Err(_) => Err(AllocError),
     }
 }
 
@@ -83,24 +92,18 @@ fn write_date(
     }
 }
 
-/// A number of the picture's own size, else of the image's.
-fn either(exif: &Exif, own: Tag, whole: Tag) -> Option<u32>
-    ensures { result ≡ either_number (number_of exif.now.fields own.0 own.1)
-        (number_of exif.now.fields whole.0 whole.1) }
-{
-    match find_number(exif, own) {
-        Some(n) => Some(n),
-        None => find_number(exif, whole),
-    }
-}
-
 /// Writes the picture's orientation, and when it was taken.
 fn write_standing(printer: &mut Printer, exif: &Exif) -> Result<(), AllocError>
     ensures { Prints result printer.old.out printer.new.out
         (parts_tokens (standing_members exif.now.fields)) }
 {
     write_number(printer, "orientation", find_orientation(exif))?;
-    write_date(printer, "date_taken", find_date(exif), find_fraction(exif))
+    write_date(
+        printer,
+        "date_taken",
+        find_date(exif, TAKEN),
+        find_fraction(exif, TAKEN),
+    )
 }
 
 /// Writes where it was taken.
@@ -126,9 +129,9 @@ fn write_size(printer: &mut Printer, exif: &Exif) -> Result<(), AllocError>
     ensures { Prints result printer.old.out printer.new.out
         (parts_tokens (size_members exif.now.fields)) }
 {
-    let width = either(exif, Tag::PixelXDimension, Tag::ImageWidth);
+    let width = find_either(exif, Tag::PixelXDimension, Tag::ImageWidth);
     write_number(printer, "width", width)?;
-    let height = either(exif, Tag::PixelYDimension, Tag::ImageLength);
+    let height = find_either(exif, Tag::PixelYDimension, Tag::ImageLength);
     write_number(printer, "height", height)
 }
 

@@ -11,7 +11,7 @@ use crate::printer::Printer;
 use std::alloc::AllocError;
 
 /// Replaces the text with the characters whose numbers the bytes are.
-fn set_latin1(text: &mut String, bytes: &[u8]) -> Result<(), AllocError>
+pub(crate) fn set_latin1(text: &mut String, bytes: &[u8]) -> Result<(), AllocError>
     ensures { OnOk result (string_bytes text.new ≡ latin1 bytes.now) }
 {
     text.clear();

@@ -1,0 +1,46 @@
+-- What a catalogue knows of the pictures that it has, and what becomes of their rows.
+use Rattle.std.specs.Prelude.{ℕ, List, [], ◌∷◌, Bool, true, false, ◌==◌, ◌&&◌, ◌||◌, nat_eq, length, drop, Option, Some, None, if◌then◌else◌, codes}
+use Rattle.std.specs.Borrow.{Bor}
+use Rattle.std.specs.List.{ends_with, list_any, starts_with}
+use Rattle.exif_catalog.specs.declared.known.Known.{Known}
+use Rattle.exif_catalog.specs.declared.known.Stamp.{Stamp}
+
+-- what is behind a folder's path is nothing, or begins behind a `/` (47)
+abbrev pub ends_folder : List ℕ → List ℕ → Bool
+ends_folder root [] = true
+ends_folder root (byte ∷ rest) = byte == 47 || ends_with nat_eq root (codes "/")
+
+-- a path is a root, or below it
+abbrev pub is_below : List ℕ → List ℕ → Bool
+is_below path root =
+    if starts_with nat_eq path root then ends_folder root (drop (length root) path) else false
+
+-- so of one of the roots
+abbrev pub is_below_any : List ℕ → List (Bor (List ℕ)) → Bool
+is_below_any path roots = list_any (λ root. is_below path root.now) roots
+
+-- How a row's mark changes, if it does, by whether the file was seen, the mark, and whether it is
+-- below the roots: a file that was seen is not removed, and one that was looked for and not seen is.
+abbrev pub mark_for : Bool → Bool → Bool → Option Bool
+mark_for true true below = Some false
+mark_for true false below = None
+mark_for false true below = None
+mark_for false false below = if below then Some true else None
+
+-- so of a row
+abbrev pub mark_of : List ℕ → Known → List (Bor (List ℕ)) → Option Bool
+mark_of path known roots = mark_for known.is_seen known.is_removed (is_below_any path roots)
+
+-- a size and a time that are known are those
+abbrev pub is_stamp : Option Stamp → Stamp → Bool
+is_stamp None stamp = false
+is_stamp (Some known) stamp = known.size == stamp.size && known.modified == stamp.modified
+
+-- so of a row, if there is one
+abbrev pub has_stamp : Option Known → Stamp → Bool
+has_stamp None stamp = false
+has_stamp (Some known) stamp = is_stamp known.stamp stamp
+
+-- a row whose file was seen
+abbrev pub seen : Known → Known
+seen known = record known { is_seen = true }

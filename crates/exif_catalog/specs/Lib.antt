@@ -1,0 +1,9 @@
+pub mod Values
+pub mod Parameters
+pub mod Schema
+pub mod Known
+pub mod Tables
+pub mod Cells
+pub mod Runs
+pub mod Laws
+pub mod Examples

@@ -1,0 +1,36 @@
+-- A run over a catalogue.
+use Rattle.std.specs.Prelude.{◌≡◌, ℕ, List, [], ◌∷◌, Option, Some, None, if◌then◌else◌, option_map}
+use Rattle.std.specs.BTreeMap.{get_by_text}
+use Rattle.std.specs.Str.{bytes_eq}
+use Rattle.std.specs.String.{string_bytes}
+use Rattle.exif_catalog.specs.Known.{seen}
+use Rattle.exif_catalog.specs.declared.catalog.Catalog.{Catalog}
+use Rattle.exif_catalog.specs.declared.known.Known.{Known}
+use Rattle.exif_catalog.specs.declared.values.SqlValue.{SqlValue}
+use Rattle.exif_catalog.specs.declared.values.SqlValue.TheVariants as sql
+
+-- what a run knows of a path
+abbrev pub known_at : Catalog → List ℕ → Option Known
+known_at catalog path = get_by_text catalog.rows path
+
+-- what it knows of paths once a file was seen
+abbrev pub known_after : Catalog → List ℕ → List ℕ → Option Known
+known_after catalog path q =
+    if bytes_eq path q then option_map seen (known_at catalog path) else known_at catalog q
+
+-- the text of a value that is one
+abbrev pub text_in : SqlValue → Option (List ℕ)
+text_in (sql.Text t) = Some (string_bytes t)
+text_in sql.Null = None
+text_in (sql.Integer n) = None
+text_in (sql.Real t) = None
+
+-- the path with which a row begins
+abbrev pub path_of : List SqlValue → Option (List ℕ)
+path_of [] = None
+path_of (value ∷ values) = text_in value
+
+-- a run knows of each path what it knew, but that the file of a row was seen
+abbrev pub HasSeen : Catalog → Catalog → Option (List ℕ) → Type 0
+HasSeen old new None = (q : List ℕ) → known_at new q ≡ known_at old q
+HasSeen old new (Some path) = (q : List ℕ) → known_at new q ≡ known_after old path q

@@ -1,0 +1,73 @@
+-- The table of pictures, as SQL.
+use Rattle.std.specs.Prelude.{ℕ, ◌+◌, List, [], ◌∷◌, ◌++◌, codes}
+use Rattle.std.specs.Fmt.{decimal}
+use Rattle.std.specs.List.{flat_map}
+use Rattle.exif_summary.specs.Columns.{name_of}
+use Rattle.exif_summary.specs.declared.columns.Column.{Column}
+use Rattle.exif_summary.specs.declared.columns.Column.TheVariants as column
+
+-- a type of a STRICT table (SQLite, "STRICT Tables", section 2)
+pub data ColumnType : Type 0 where
+  whole : ColumnType
+  real : ColumnType
+  text : ColumnType
+
+-- which type a column has
+abbrev pub type_of : Column → ColumnType
+type_of column.Width = whole
+type_of column.Height = whole
+type_of column.Orientation = whole
+type_of column.Make = text
+type_of column.Model = text
+type_of column.Lens = text
+type_of column.BodySerial = text
+type_of column.LensSerial = text
+type_of column.Taken = text
+type_of column.Digitized = text
+type_of column.Changed = text
+type_of column.Exposure = real
+type_of column.FNumber = real
+type_of column.Sensitivity = whole
+type_of column.FocalLength = real
+type_of column.FocalLength35 = whole
+type_of column.Latitude = real
+type_of column.Longitude = real
+type_of column.Altitude = real
+type_of column.Artist = text
+type_of column.Copyright = text
+type_of column.Description = text
+type_of column.Thumbnail = whole
+
+-- its name
+abbrev pub type_name : ColumnType → List ℕ
+type_name whole = codes "INTEGER"
+type_name real = codes "REAL"
+type_name text = codes "TEXT"
+
+-- a column after others
+abbrev pub column_text : Column → List ℕ
+column_text column = codes ", " ++ name_of column ++ codes " " ++ type_name (type_of column)
+
+-- what makes the table
+abbrev pub create_text : List Column → List ℕ
+create_text columns =
+    codes "CREATE TABLE picture (path TEXT NOT NULL PRIMARY KEY, file_size INTEGER, "
+    ++ codes "file_modified INTEGER, hash TEXT, format TEXT, mime TEXT"
+    ++ flat_map column_text columns ++ codes ", removed INTEGER NOT NULL DEFAULT 0) STRICT"
+
+-- the parameter of a column: the number that a text is, where the column has numbers
+abbrev pub parameter : ColumnType → ℕ → List ℕ
+parameter real n = codes ", CAST(?" ++ decimal n ++ codes " AS REAL)"
+parameter whole n = codes ", ?" ++ decimal n
+parameter text n = codes ", ?" ++ decimal n
+
+-- those of columns, from a number on
+abbrev pub parameters : ℕ → List Column → List ℕ
+parameters n [] = []
+parameters n (column ∷ columns) = parameter (type_of column) n ++ parameters (n + 1) columns
+
+-- what writes a row: the six values of a file, those of the columns, and that it is there
+abbrev pub insert_text : List Column → List ℕ
+insert_text columns =
+    codes "INSERT OR REPLACE INTO picture VALUES (?1, ?2, ?3, ?4, ?5, ?6"
+    ++ parameters 7 columns ++ codes ", 0)"

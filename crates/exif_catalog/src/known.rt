@@ -1,0 +1,93 @@
+//! What a catalogue knows of the pictures that it has, and what becomes of their rows.
+
+ghost use Rattle.std.specs.Prelude.{◌≡◌, ℕ, List, if◌then◌else◌, option_map};
+ghost use Rattle.std.specs.BTreeMap.{get_by_text};
+ghost use Rattle.std.specs.Str.{bytes_eq};
+ghost use Rattle.exif_catalog.specs.Known.{has_stamp, is_below, is_below_any, is_stamp, mark_of, seen};
+
+use std::collections::BTreeMap;
+
+/// The size and the time of a file, by which a change is noticed.
+#[derive(Clone, Copy)]
+pub struct Stamp {
+    /// How many bytes it has.
+    pub size: u64,
+    /// When it was modified, in seconds from 1970 on.
+    pub modified: u64,
+}
+
+/// What is known of a picture that has a row.
+#[derive(Clone, Copy)]
+pub struct Known {
+    /// The size and the time that its file had.
+    pub stamp: Option<Stamp>,
+    /// Whether the row is marked as removed.
+    pub is_removed: bool,
+    /// Whether the file was seen in this run.
+    pub is_seen: bool,
+}
+
+/// The pictures that have rows, by their paths.
+pub type Rows = BTreeMap<String, Known>;
+
+/// Whether a path is a root, or below it.
+pub fn is_below(path: &str, root: &str) -> bool
+    ensures { result ≡ is_below path.now root.now }
+{
+    let root = root.as_bytes();
+    match path.as_bytes().strip_prefix(root) {
+        None => false,
+        Some([]) => true,
+        Some([next, ..]) => *next == b'/' || root.ends_with(b"/"),
+    }
+}
+
+// Whether it is so of one of the roots.
+fn is_below_any(path: &str, roots: &[&str]) -> bool
+    ensures { result ≡ is_below_any path.now roots.now }
+{
+    roots.iter().any(|root| is_below(path, root))
+}
+
+/// How a row's mark changes: a file that was seen is not removed, and one below the roots that was
+/// not seen is; `None` where the mark is right.
+pub fn mark_of(path: &str, known: Known, roots: &[&str]) -> Option<bool>
+    ensures { result ≡ mark_of path.now known roots.now }
+{
+    match (known.is_seen, known.is_removed) {
+        (true, true) => Some(false),
+        (false, false) if is_below_any(path, roots) => Some(true),
+        _ => None,
+    }
+}
+
+// Whether a size and a time that are known are those.
+fn is_stamp(known: Option<Stamp>, stamp: Stamp) -> bool
+    ensures { result ≡ is_stamp known stamp }
+{
+    match known {
+        Some(known) => known.size == stamp.size && known.modified == stamp.modified,
+        None => false,
+    }
+}
+
+/// Whether a picture has a row, and its file had this size and time.
+pub fn is_unchanged(rows: &Rows, path: &str, stamp: Stamp) -> bool
+    ensures { result ≡ has_stamp (get_by_text rows.now path.now) stamp }
+{
+    match rows.get(path) {
+        Some(known) => is_stamp(known.stamp, stamp),
+        None => false,
+    }
+}
+
+/// Notes that the file of a picture was seen.
+pub fn see(rows: &mut Rows, path: &str)
+    ensures { (q : List ℕ) → get_by_text rows.new q
+        ≡ (if bytes_eq path.now q then option_map seen (get_by_text rows.old path.now)
+        else get_by_text rows.old q) }
+{
+    if let Some(known) = rows.get_mut(path) {
+        known.is_seen = true;
+    }
+}

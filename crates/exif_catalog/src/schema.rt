@@ -1,0 +1,55 @@
+//! The tables of a catalogue, as SQL. docs/CATALOG.md describes them.
+
+ghost use Rattle.std.specs.Prelude.{◌≡◌};
+ghost use Rattle.exif_summary.specs.declared.columns.TheConstants.{COLUMNS};
+ghost use Rattle.exif_catalog.specs.Schema.{create_text, insert_text};
+
+/// The version of the tables.
+pub const VERSION: i64 = 1;
+
+/// Makes the table of the version.
+pub(crate) const CREATE_VERSION: &str = "CREATE TABLE catalog (version INTEGER NOT NULL) STRICT";
+
+/// Writes the version, its one row.
+pub(crate) const WRITE_VERSION: &str = "INSERT INTO catalog VALUES (1)";
+
+/// Reads the version.
+pub(crate) const READ_VERSION: &str = "SELECT version FROM catalog";
+
+/// Names the tables that are there.
+pub(crate) const READ_TABLES: &str = "SELECT name FROM sqlite_schema WHERE type = 'table'";
+
+/// Reads the text that made the table of pictures.
+pub(crate) const READ_CREATE: &str =
+    "SELECT sql FROM sqlite_schema WHERE type = 'table' AND name = 'picture'";
+
+/// Reads what a run has to know of each row.
+pub(crate) const READ_ROWS: &str = "SELECT path, file_size, file_modified, removed FROM picture";
+
+/// Marks a row as removed, or not.
+pub(crate) const MARK_ROW: &str = "UPDATE picture SET removed = ?2 WHERE path = ?1";
+
+/// The SQL text that makes the table of pictures: the columns of a file, those of
+/// [`exif_summary::COLUMNS`] in their order, and `removed`.
+pub fn create_text() -> &'static str
+    ensures { result.now ≡ create_text COLUMNS }
+{
+    "CREATE TABLE picture (path TEXT NOT NULL PRIMARY KEY, file_size INTEGER, \
+     file_modified INTEGER, hash TEXT, format TEXT, mime TEXT, width INTEGER, height INTEGER, \
+     orientation INTEGER, make TEXT, model TEXT, lens TEXT, body_serial TEXT, lens_serial TEXT, \
+     date_taken TEXT, date_digitized TEXT, date_modified TEXT, exposure_time REAL, \
+     f_number REAL, iso INTEGER, focal_length REAL, focal_length_35mm INTEGER, latitude REAL, \
+     longitude REAL, altitude REAL, artist TEXT, copyright TEXT, description TEXT, \
+     has_thumbnail INTEGER, removed INTEGER NOT NULL DEFAULT 0) STRICT"
+}
+
+/// The SQL text that writes a row, whose parameters are the values of
+/// [`row_values`](crate::row_values): a row of the same path is replaced. The text of a decimal
+/// number becomes the number.
+pub fn insert_text() -> &'static str
+    ensures { result.now ≡ insert_text COLUMNS }
+{
+    "INSERT OR REPLACE INTO picture VALUES (?1, ?2, ?3, ?4, ?5, ?6, ?7, ?8, ?9, ?10, ?11, ?12, \
+     ?13, ?14, ?15, ?16, ?17, CAST(?18 AS REAL), CAST(?19 AS REAL), ?20, CAST(?21 AS REAL), ?22, \
+     CAST(?23 AS REAL), CAST(?24 AS REAL), CAST(?25 AS REAL), ?26, ?27, ?28, ?29, 0)"
+}

@@ -1,0 +1,40 @@
+//! Where a picture was taken, by the track of a GPS receiver.
+#![tactic(auto)]
+
+ghost use Rattle.std.specs.Prelude.{◌≡◌, option_map};
+ghost use Rattle.exif_geotag.specs.Located.{fix_in, text_or, time_in};
+
+use exif_summary::find_text;
+use exif_track::{Fix, Track, exif_time_of};
+use exif_types::{Exif, Tag};
+
+// A text, or another where there is none.
+fn text_or<'a>(text: Option<&'a [u8]>, other: &'a [u8]) -> &'a [u8]
+    ensures { result.now ≡ text_or (option_map (λ t. t.now) text.entry) other.entry.now }
+{
+    match text {
+        Some(text) => text,
+        None => other,
+    }
+}
+
+/// When a picture was taken, in milliseconds of UTC as [`exif_track::time_of`] has them: by
+/// DateTimeOriginal, SubSecTimeOriginal and OffsetTimeOriginal, with `zone` as `+hh:mm` where the
+/// offset is not known, and UTC where `zone` is empty. `None` where the date or the offset can't be
+/// read.
+pub fn time_of_picture(exif: &Exif, zone: &[u8]) -> Option<u64>
+    ensures { result ≡ time_in exif.now.fields zone.now }
+{
+    let date = find_text(exif, Tag::DateTimeOriginal)?;
+    let subsec = text_or(find_text(exif, Tag::SubSecTimeOriginal), b"");
+    let offset = text_or(find_text(exif, Tag::OffsetTimeOriginal), zone);
+    exif_time_of(date, subsec, offset)
+}
+
+/// Where a picture was taken by a track; `None` where it has no date, or the track was nowhere then.
+pub fn fix_of_picture(exif: &Exif, zone: &[u8], track: &Track) -> Option<Fix>
+    ensures { result ≡ fix_in exif.now.fields zone.now track.now.points }
+{
+    let time = time_of_picture(exif, zone)?;
+    track.at(time)
+}

@@ -1,0 +1,89 @@
+-- Which pictures are asked for.
+use Rattle.std.specs.Prelude.{ℕ, ◌≡◌, ◌==◌, ◌&&◌, ◌||◌, nat_lt, nat_le, Bool, true, false, is_some, List, [], ◌∷◌, Option, Some, None, option_map}
+use Rattle.std.specs.Borrow.{Bor}
+use Rattle.std.specs.Char.{to_ascii_lowercase}
+use Rattle.exif_table.specs.declared.context.Context.TheVariants.{Tiff}
+use Rattle.exif_types.specs.Contents.{ExifContents}
+use Rattle.exif_types.specs.declared.field.Field.{Field}
+use Rattle.exif_summary.specs.Coordinates.{latitude, longitude}
+use Rattle.exif_summary.specs.Dates.{date_of}
+use Rattle.exif_summary.specs.Finding.{degrees_of, text_found}
+use Rattle.exif_summary.specs.declared.dates.TheConstants.{TAKEN}
+use Rattle.exif_select.specs.Dates.{stamp}
+use Rattle.exif_select.specs.declared.choice.Choice.{Choice}
+use Rattle.exif_select.specs.declared.choice.Facts.{Facts}
+
+-- when a picture was taken
+abbrev pub taken_in : List Field → Option ℕ
+taken_in fields =
+    option_map (λ d. stamp d.year d.month d.day d.hour d.minute d.second) (date_of fields TAKEN)
+
+-- whether it tells latitude and longitude
+abbrev pub is_located : List Field → Bool
+is_located fields = is_some (degrees_of fields latitude) && is_some (degrees_of fields longitude)
+
+-- the fields of a picture; it has none without Exif data
+abbrev pub fields_in : Option (Bor ExifContents) → List Field
+fields_in (Some exif) = exif.now.fields
+fields_in None = []
+
+-- whether facts are those of these fields
+abbrev pub AreFacts : List Field → Facts → Type 0
+AreFacts fields f =
+    (f.taken ≡ taken_in fields) × ((f.is_located ≡ is_located fields)
+    × ((option_map (λ t. t.now) f.make ≡ text_found fields Tiff 271)
+    × (option_map (λ t. t.now) f.model ≡ text_found fields Tiff 272)))
+
+-- whether a text begins with another one, in any case of its letters
+abbrev pub begins : List ℕ → List ℕ → Bool
+begins [] text = true
+begins (b ∷ part) [] = false
+begins (b ∷ part) (a ∷ text) = (to_ascii_lowercase a == to_ascii_lowercase b) && begins part text
+
+-- whether it contains another one
+abbrev pub contains : List ℕ → List ℕ → Bool
+contains part [] = begins part []
+contains part (a ∷ text) = begins part (a ∷ text) || contains part text
+
+-- whether a text, if there is one, contains another one
+abbrev pub fits : List ℕ → Option (List ℕ) → Bool
+fits part (Some text) = contains part text
+fits part None = false
+
+-- whether a time is known and not before another one, if one is given
+abbrev pub is_from : Option ℕ → Option ℕ → Bool
+is_from taken None = true
+is_from (Some taken) (Some after) = nat_le after taken
+is_from None (Some after) = false
+
+-- whether a time is known and before another one, if one is given
+abbrev pub is_till : Option ℕ → Option ℕ → Bool
+is_till taken None = true
+is_till (Some taken) (Some before) = nat_lt taken before
+is_till None (Some before) = false
+
+-- whether a fact is as it is asked for
+abbrev pub is_as : Bool → Option Bool → Bool
+is_as fact None = true
+is_as true (Some asked) = asked
+is_as false (Some true) = false
+is_as false (Some false) = true
+
+-- whether the make or the model contain a text, if one is given
+abbrev pub is_taken_by : Option (List ℕ) → Option (List ℕ) → Option (List ℕ) → Bool
+is_taken_by make model None = true
+is_taken_by make model (Some part) = fits part make || fits part model
+
+-- whether a picture meets each condition
+abbrev pub takes : Choice → Facts → Bool
+takes choice f =
+    is_from f.taken choice.after && (is_till f.taken choice.before
+    && (is_as (is_some f.taken) choice.date && (is_as f.is_located choice.location
+    && is_taken_by (option_map (λ t. t.now) f.make) (option_map (λ t. t.now) f.model)
+    (option_map (λ t. t.now) choice.camera))))
+
+-- whether a condition is given
+abbrev pub is_any : Choice → Bool
+is_any choice =
+    is_some choice.after || (is_some choice.before || (is_some choice.date
+    || (is_some choice.location || is_some choice.camera)))

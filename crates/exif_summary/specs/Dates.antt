@@ -1,0 +1,99 @@
+-- Dates of a picture (Exif 2.32, 4.6.4 and 4.6.5: DateTime, DateTimeOriginal, DateTimeDigitized, and
+-- the tags of their offsets and fractions), as ISO 8601 writes them.
+use Rattle.std.specs.Prelude.{ℕ, ℤ, suc, unsigned_abs, ◌/◌, ◌%◌, ◌==◌, nat_lt, Bool, ◌&&◌, ◌||◌, not, List, [], ◌++◌, codes, length, Option, Some, None, Result, Ok, Err, if◌then◌else◌, option_and_then}
+use Rattle.std.specs.Char.{is_ascii_digit}
+use Rattle.std.specs.List.{list_all}
+use Rattle.std.specs.Fmt.{decimal}
+use Rattle.std.specs.Int.{is_negative}
+use Rattle.exif_text.specs.Clock.{date_text, time_text}
+use Rattle.exif_text.specs.Plain.{zero_filled}
+use Rattle.exif_text.specs.Subsec.{subsec_bytes}
+use Rattle.exif_datetime.specs.Dates.{calendar_date, read_date, read_offset, time_of_day, with_offset}
+use Rattle.exif_types.specs.Refusals.{Refusal}
+use Rattle.exif_datetime.specs.declared.datetime.DateTime.{DateTime}
+use Rattle.exif_types.specs.declared.field.Field.{Field}
+use Rattle.exif_types.specs.declared.tag.Tag.{Tag}
+use Rattle.exif_summary.specs.declared.dates.Moment.{Moment}
+use Rattle.exif_summary.specs.Finding.{text_found}
+
+-- the digits of a fraction of a second: the bytes that are read of its text, if all are digits
+abbrev pub fraction_digits : List ℕ → List ℕ
+fraction_digits text =
+    if list_all is_ascii_digit (subsec_bytes text) then subsec_bytes text else []
+
+-- so, and none where there is no text
+abbrev pub fraction_in : Option (List ℕ) → List ℕ
+fraction_in None = []
+fraction_in (Some text) = fraction_digits text
+
+-- the text of a tag of the first image, if it has one
+abbrev pub text_of : List Field → Tag → Option (List ℕ)
+text_of fields tag = text_found fields tag.0 tag.1
+
+-- the digits of the fraction of the second of a date, as many as the file has
+abbrev pub fraction_of : List Field → Moment → List ℕ
+fraction_of fields moment = fraction_in (text_of fields moment.fraction)
+
+-- `.74`, and nothing where there are no digits
+abbrev pub fraction_text : List ℕ → List ℕ
+fraction_text digits = if length digits == 0 then [] else codes "." ++ digits
+
+-- `+09:00`
+abbrev pub minutes_text : Bool → ℕ → List ℕ
+minutes_text negative minutes =
+    (if negative then codes "-" else codes "+")
+    ++ (zero_filled 2 (decimal (minutes / 60)) ++ (codes ":" ++ zero_filled 2 (decimal (minutes % 60))))
+
+-- an offset from UTC as `+09:00`, and nothing where none is known, or it is of a day and more
+abbrev pub offset_text : Option ℤ → List ℕ
+offset_text None = []
+offset_text (Some minutes) =
+    if nat_lt (unsigned_abs minutes) 1440
+    then minutes_text (is_negative minutes) (unsigned_abs minutes) else []
+
+-- `2016-05-04T03:02:01.74+09:00`, with the digits of the fraction
+abbrev pub iso_text : List ℕ → DateTime → List ℕ
+iso_text digits d =
+    date_text (calendar_date d)
+    ++ (codes "T" ++ (time_text (time_of_day d) ++ (fraction_text digits ++ offset_text d.offset)))
+
+-- whether a year has a 29 February (Gregorian calendar; ISO 8601-1:2019, 4.2.1)
+abbrev pub is_leap_year : ℕ → Bool
+is_leap_year year = year % 4 == 0 && (not (year % 100 == 0) || year % 400 == 0)
+
+-- how many days a month has
+abbrev pub days_in_month : ℕ → ℕ → ℕ
+days_in_month year month =
+    if month == 2 then (if is_leap_year year then 29 else 28)
+    else (if month == 4 || (month == 6 || (month == 9 || month == 11)) then 30 else 31)
+
+-- whether the calendar has a day
+abbrev pub is_calendar_day : DateTime → Bool
+is_calendar_day d =
+    nat_lt 0 d.month && (nat_lt d.month 13
+    && (nat_lt 0 d.day && nat_lt d.day (suc (days_in_month d.year d.month))))
+
+-- whether a day has a time (a leap second counts)
+abbrev pub is_clock_time : DateTime → Bool
+is_clock_time d = nat_lt d.hour 24 && (nat_lt d.minute 60 && nat_lt d.second 61)
+
+-- a date, if it is one
+abbrev pub date_in : Result DateTime Refusal → Option DateTime
+date_in (Ok d) = Some d
+date_in (Err r) = None
+
+-- a date with the offset that a text spells, or as it was where none can be read
+abbrev pub with_zone : Option (List ℕ) → DateTime → DateTime
+with_zone None d = d
+with_zone (Some text) d = with_offset d (read_offset text)
+
+-- a date, if it is in the calendar, and its time in the day
+abbrev pub existing : DateTime → Option DateTime
+existing d = if is_calendar_day d && is_clock_time d then Some d else None
+
+-- a date of a picture
+abbrev pub date_of : List Field → Moment → Option DateTime
+date_of fields moment =
+    option_and_then (λ text. option_and_then
+    (λ d. existing (with_zone (text_of fields moment.offset) d)) (date_in (read_date text)))
+    (text_of fields moment.date)

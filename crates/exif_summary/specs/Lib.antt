@@ -1,0 +1,5 @@
+pub mod Finding
+pub mod Coordinates
+pub mod Dates
+pub mod Seen
+pub mod Columns
