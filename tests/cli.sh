@@ -5,7 +5,9 @@
 # arguments
 gives "no arguments ask for help" 2 "$mexaldor"
 gives "--help prints help" 0 "$mexaldor" --help
-holds "help names each subcommand" thumbnail
+for subcommand in show json check scrub set shift rename geotag touch thumbnail tags; do
+    holds "help names each subcommand" "  $subcommand "
+done
 gives "--version prints the version" 0 "$mexaldor" --version
 gives "an unknown subcommand is refused" 2 "$mexaldor" nothing
 gives "show needs a file" 2 "$mexaldor" show
@@ -21,7 +23,7 @@ gives "two ways to scrub are refused" 2 "$mexaldor" scrub --places-only --keep-o
 
 gives "a backup is of a file that is replaced" 2 "$mexaldor" scrub --backup files/whole.jpg x.jpg
 gives "many files don't go into one" 2 "$mexaldor" scrub -r files x.jpg
-says "the message says what is missing" "--recursive and --null require --in-place"
+says "the message says what is missing" "--recursive, --null and conditions require --in-place"
 check "nothing was written by these" test ! -e x.jpg
 
 # show

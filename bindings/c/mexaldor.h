@@ -1,5 +1,5 @@
-/* mexaldor.h - read, edit and remove the Exif data of TIFF, JPEG, HEIF and WebP files; read those of
- * PNG, JPEG XL and raw files.
+/* mexaldor.h - read, edit and remove the Exif data of TIFF, JPEG, HEIF and WebP files. PNG and JPEG XL
+ * files are read, scrubbed and searched for locations; raw files are only read.
  *
  * A call reads the caller's bytes and writes its result into the caller's buffer. It keeps no
  * pointer and no state, so calls may run in any number of threads, over the same bytes too if none
@@ -82,17 +82,17 @@ struct mexaldor_answer mexaldor_check(const uint8_t *file, size_t length, uint8_
                                       size_t room);
 
 /* Erases the locations of a file in all its parts: the GPS data of Exif, and the properties and
- * datasets of XMP and IPTC that name a location. No other byte changes, and the file keeps its
- * length. The status is MEXALDOR_LOCATION_POSSIBLE if a part stays that may hold a location:
+ * datasets of XMP and IPTC that name a location. No other byte changes but the CRCs of changed PNG
+ * chunks, and the file keeps its length. The status is MEXALDOR_LOCATION_POSSIBLE if a part stays that may hold a location:
  * mexaldor_check says which. After any other status but MEXALDOR_OK the file is not changed.
  *
  * force_blank: overwrite XMP packets and IPTC data that can't be read, which stay otherwise. */
 uint32_t mexaldor_erase_locations(uint8_t *file, size_t length, bool force_blank);
 
-/* Writes a copy of a file without its metadata to `out`. JPEG and WebP files lose all metadata; the
- * colour profile and what decoders need stay. In HEIF and TIFF files what is not the picture becomes
- * zeros or empty data where it is; a raw file is refused, and so is a TIFF file whose picture is
- * stored in an unknown way. If parts that may hold metadata stay, the status is MEXALDOR_FAULTS, and
+/* Writes a copy of a file without its metadata to `out`. JPEG, WebP and PNG files lose all metadata;
+ * the colour profile and what decoders need stay. In HEIF, JPEG XL and TIFF files what is not the
+ * picture becomes zeros or empty data where it is; a raw file is refused, and so is a TIFF file whose
+ * picture is stored in an unknown way. If parts that may hold metadata stay, the status is MEXALDOR_FAULTS, and
  * mexaldor_check lists them. The new file is not longer than the old one, except that a
  * WebP file may gain a missing pad byte: `room == length + 1` is always enough. A JPEG stream that
  * ends before its picture does is written as far as it goes, with MEXALDOR_FAULTS. After a refusal

@@ -1,6 +1,6 @@
 """Read, edit and remove the Exif data of TIFF, JPEG, HEIF and WebP files.
 
-The data of PNG, JPEG XL and raw files are only read.
+PNG and JPEG XL files are read, scrubbed and searched for locations; raw files are only read.
 
     >>> import mexaldor
     >>> mexaldor.read("holiday.jpg")["summary"]["orientation"]
@@ -178,9 +178,9 @@ def erase_locations(source: Source, force_blank: bool = False) -> "tuple[bytes, 
 def scrub(source: Source) -> bytes:
     """Return a copy of a file without its metadata.
 
-    JPEG and WebP files lose all metadata; the colour profile and what decoders need stay. In HEIF
-    and TIFF files what is not the picture becomes zeros or empty data where it is; raw files are
-    refused. Parts that may hold metadata and stay are listed by `check`. A JPEG stream that ends
+    JPEG, WebP and PNG files lose all metadata; the colour profile and what decoders need stay. In
+    HEIF, JPEG XL and TIFF files what is not the picture becomes zeros or empty data where it is;
+    raw files are refused. Parts that may hold metadata and stay are listed by `check`. A JPEG stream that ends
     before its picture does is copied as far as it goes.
     """
     data = _bytes(source)

@@ -5,16 +5,17 @@ ghost use Rattle.exif_assign.specs.Assigning.{assigned_in, parts_of};
 ghost use Rattle.exif_edit.specs.declared.edits.Edit.TheVariants.{EraseGps};
 ghost use Rattle.exif_edit_files.specs.InFiles.{edited_file};
 ghost use Rattle.exif_change.specs.Changed.{change_of};
-ghost use Rattle.exif_change.specs.Changes.{scrubbed};
 ghost use Rattle.exif_change.specs.Setting.{set_here};
 ghost use Rattle.exif_change.specs.declared.scrubbing.Removed.TheVariants.{Metadata};
+ghost use Rattle.exif_pictures.specs.Pictures.{picture_scrubbed};
 ghost use Rattle.exif_c.specs.Calls.{Ends, EndsBy, Puts, SetsBy, entry_limit};
 ghost use Rattle.exif_c.specs.Statuses.{undone_status};
 
 use crate::buffer::{Answer, given, nothing};
 use crate::status::{Status, edit_status, refusal_status};
-use exif_change::{Assignment, Changed, ENTRY_LIMIT, Removed, scrub, set_here};
+use exif_change::{Assignment, Changed, ENTRY_LIMIT, Removed, set_here};
 use exif_edit_files::{Edit, apply_in_file};
+use exif_pictures::scrub;
 use std::alloc::Global;
 
 /// Erases the GPS data in the Exif data of a file, in the caller's buffer: its length stays. After
@@ -30,15 +31,15 @@ pub extern "C" fn mexaldor_erase_gps(alloc: Global, file: &mut [u8]) -> u32
     }
 }
 
-/// Puts a file without its metadata into a buffer. JPEG and WebP files are written again without
-/// them; in HEIF and TIFF files what is not the picture becomes zeros or empty data in place. The
-/// colour profile stays. The new file is no longer than the old one, but for a WebP file whose last
+/// Puts a file without its metadata into a buffer. JPEG, WebP and PNG files are written again without
+/// them; in HEIF, JPEG XL and TIFF files what is not the picture becomes zeros or empty data in
+/// place. The colour profile stays. Raw files are refused. The new file is no longer than the old one, but for a WebP file whose last
 /// payload lacks its pad byte, which it gets. The status is 1 where a part that may hold metadata
 /// stays, or where a JPEG stream ends before its picture does, which is written as far as it goes.
 /// After a refusal the buffer is as it was.
 #[unsafe(no_mangle)]
 pub extern "C" fn mexaldor_scrub(alloc: Global, file: &[u8], out: &mut [u8]) -> Answer
-    ensures { Puts result out.old out.new (scrubbed Metadata file.now) }
+    ensures { Puts result out.old out.new (picture_scrubbed Metadata file.now) }
 {
     let Ok(file) = Vec::from_slice(alloc, file) else {
         return nothing(Status::OutOfMemory);

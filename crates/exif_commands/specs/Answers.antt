@@ -1,22 +1,19 @@
 -- What a change makes of a file.
 use Rattle.std.specs.Prelude.{◌≡◌, ℕ, List, [], Result, Ok, Err}
 use Rattle.exif_change.specs.Changed as changed
-use Rattle.exif_change.specs.Changes.{scrubbed, scrubbed_with_color}
-use Rattle.exif_change.specs.Notes.{scrub_notes}
 use Rattle.exif_change.specs.Refusals.{Why}
-use Rattle.exif_change.specs.Setting.{set_file}
-use Rattle.exif_change.specs.Shifting.{shifted}
 use Rattle.exif_change.specs.declared.notes.Color.TheVariants.{Keep, Strip}
 use Rattle.exif_change.specs.declared.notes.Note.{Note}
+use Rattle.exif_pictures.specs.Pictures.{picture_notes, picture_scrubbed, picture_scrubbed_with_color, picture_set, picture_shifted}
 use Rattle.exif_commands.specs.declared.request.Change.{Change}
 use Rattle.exif_commands.specs.declared.request.Change.TheVariants.{Scrub, Set, Shift}
 
 -- the metadata are removed, the values are set, or the dates are moved; or why not
 abbrev pub answer_of : Change → List ℕ → Result changed.Change Why
-answer_of (Scrub removed Keep) old = scrubbed removed old
-answer_of (Scrub removed Strip) old = scrubbed_with_color removed old
-answer_of (Set values) old = set_file values.items old
-answer_of (Shift by dates) old = shifted by dates old
+answer_of (Scrub removed Keep) old = picture_scrubbed removed old
+answer_of (Scrub removed Strip) old = picture_scrubbed_with_color removed old
+answer_of (Set values) old = picture_set values.items old
+answer_of (Shift by dates) old = picture_shifted by dates old
 
 -- the new bytes alone
 abbrev pub file_of : Result changed.Change Why → Result (List ℕ) Why
@@ -29,6 +26,6 @@ IsAnswerOf change old new = file_of (answer_of change old) ≡ Ok new
 
 -- what the user is to know of a change
 abbrev pub notes_of : Change → List ℕ → List Note
-notes_of (Scrub removed color) old = scrub_notes removed color old
+notes_of (Scrub removed color) old = picture_notes removed color old
 notes_of (Set values) old = []
 notes_of (Shift by dates) old = []

@@ -6,10 +6,9 @@ ghost use Rattle.exif_change.specs.Refusals.{Answers, Fails};
 ghost use Rattle.exif_commands.specs.Answers.{IsAnswerOf, answer_of, notes_of};
 
 use crate::request::Change;
-use exif_change::{
-    Changed, Color, Left, Note, Refusal, scrub, scrub_notes, scrub_with_color, set, shift,
-};
+use exif_change::{Changed, Color, Left, Note, Refusal};
 use exif_files::{Edit, EditError, Edited, Report};
+use exif_pictures::{scrub, scrub_notes, scrub_with_color, set, shift};
 use std::alloc::{AllocError, Global};
 
 /// The changed file, and what was left undone in it.

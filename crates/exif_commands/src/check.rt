@@ -4,13 +4,12 @@ ghost use Rattle.std.specs.Prelude.{◌≡◌};
 ghost use Rattle.exif_commands.specs.Checks.{status_by};
 
 use crate::inputs::read_file;
-use crate::only_read::not_changed;
 use crate::request::Form;
 use exif::Error;
 use exif_check::{Checked, Line, Location, check, check_json, is_listed, location_of};
 use exif_decisions::Escaped;
 use exif_files::Status;
-use exif_formats::format_of;
+use exif_formats::{PictureFormat, format_of};
 use exif_json::json_of_answer;
 use std::alloc::{AllocError, Global};
 
@@ -52,12 +51,16 @@ fn json_line(
     Ok(text)
 }
 
-// Why a file is not checked, of which no parts are known.
-fn not_checked(file: &[u8]) -> Error {
-    match not_changed(file) {
-        Some(_only_read) => Error::NotSupported("files of this format are not checked"),
-        None => Error::InvalidFormat("Unknown image format"),
-    }
+// What a file holds, or why it is not checked. A JPEG XL codestream without a container has no
+// metadata.
+fn parts_of(alloc: Global, file: &[u8]) -> Result<Result<Vec<Checked>, Error>, AllocError> {
+    let answer = match (check(alloc, file)?, format_of(file)) {
+        (Some(parts), _) => Ok(parts),
+        (None, Some(PictureFormat::JpegXl)) => Ok(Vec::new(alloc)),
+        (None, Some(_)) => Err(Error::NotSupported("files of this format are not checked")),
+        (None, None) => Err(Error::InvalidFormat("Unknown image format")),
+    };
+    Ok(answer)
 }
 
 /// What is written of a file, and its status; or why it was refused.
@@ -71,8 +74,9 @@ pub fn check_file(
         Ok(file) => file,
         Err(cause) => return Ok(Err(Error::Io(cause))),
     };
-    let Some(parts) = check(alloc, file.as_slice())? else {
-        return Ok(Err(not_checked(file.as_slice())));
+    let parts = match parts_of(alloc, file.as_slice())? {
+        Ok(parts) => parts,
+        Err(error) => return Ok(Err(error)),
     };
     let text = match form {
         Form::Lines => lines_of(alloc, path, parts.as_slice())?.into_bytes(),

@@ -2,25 +2,27 @@
 
 use crate::change::{change_bytes, notes_of};
 use crate::check::{check_file, refused_line};
-use crate::console::Console;
+use crate::choosing::is_chosen;
+use crate::geotag::geotag_files;
 use crate::in_place::change_in_place;
 use crate::inputs::{Head, Use, head_of_file, open, read_file};
-use crate::json::object_of;
-use crate::notes::NoteLine;
-use crate::only_read::not_changed;
+use crate::json::{object_of, summary_of};
 use crate::output::{out_of, write_out};
 use crate::pending::{Next, Pending};
+use crate::rename::rename_files;
 use crate::request::{Change, Form, Reading, Request, Target, Task};
 use crate::show::show;
-use crate::thumbnail::thumbnail_of;
+use crate::thumbnail::{thumbnail_name, thumbnail_of};
+use crate::touch::touch_file;
 use exif::Sink;
 use exif_base::send_all;
 use exif_change::Refusal;
+use exif_console::{Console, NoteLine};
 use exif_decisions::{Summary, status_of, unsupported_of};
 use exif_files::Status;
 use std::alloc::{AllocError, AllocFailed};
 use std::fmt::Display;
-use std::io;
+use std::{fs, io};
 
 /// Why a run ended before its last file.
 #[derive(Drop)]
@@ -81,6 +83,8 @@ pub fn run<'r, W: Sink, E: Sink>(
         Task::Change(change, Target::InPlace(keeping)) => {
             change_in_place(&mut session, change, *keeping)?
         }
+        Task::Rename(renaming) => rename_files(&mut session, renaming)?,
+        Task::Geotag(geotagging) => geotag_files(&mut session, geotagging)?,
         _ => session.process_all()?,
     };
     session.finish(worst)
@@ -93,7 +97,9 @@ impl<'r, 'a, W: Sink, E: Sink> Session<'r, 'a, W, E> {
         self.console.clear();
         if self.request.recursive && !self.request.quiet {
             let verb = match &self.request.task {
-                Task::Change(..) => "changed",
+                Task::Change(..) | Task::Geotag(..) => "changed",
+                Task::Rename(renaming) => renaming.verb(),
+                Task::Touch(_) => "touched",
                 _ => "read",
             };
             let counts = &self.pending.counts;
@@ -125,8 +131,10 @@ impl<'r, 'a, W: Sink, E: Sink> Session<'r, 'a, W, E> {
                 self.refuse(path.as_str(), &cause)
             }
             Next::Input => self.process("-"),
-            Next::Named(path) => self.process(path.as_str()),
-            Next::Found(path) if self.is_picture(path.as_str()) => self.process(path.as_str()),
+            Next::Named(path) => self.process_chosen(path.as_str()),
+            Next::Found(path) if self.is_picture(path.as_str()) => {
+                self.process_chosen(path.as_str())
+            }
             Next::Found(_no_picture) => Ok(Status::Success),
         }
     }
@@ -135,8 +143,9 @@ impl<'r, 'a, W: Sink, E: Sink> Session<'r, 'a, W, E> {
     /// picture in a format that is not supported is counted.
     pub fn is_picture(&mut self, path: &str) -> bool {
         let wanted = match self.request.task {
-            Task::Show(..) | Task::Json(..) | Task::Thumbnail(..) => Use::Fields,
-            Task::Check(..) | Task::Change(..) => Use::Parts,
+            Task::Show(..) | Task::Json(..) | Task::Summary(..) | Task::Rename(..) => Use::Fields,
+            Task::Thumbnail(..) | Task::Thumbnails(..) | Task::Touch(_) => Use::Fields,
+            Task::Check(..) | Task::Change(..) | Task::Geotag(..) => Use::Parts,
         };
         match head_of_file(self.rt, path, wanted) {
             Head::Picture | Head::Unreadable => true,
@@ -149,14 +158,31 @@ impl<'r, 'a, W: Sink, E: Sink> Session<'r, 'a, W, E> {
         }
     }
 
+    fn process_chosen(&mut self, path: &str) -> Result<Status, Stop> {
+        if is_chosen(self.rt, self.request, path)? {
+            self.process(path)
+        } else {
+            Ok(Status::Success)
+        }
+    }
+
     fn process(&mut self, path: &str) -> Result<Status, Stop> {
         let status = match &self.request.task {
             Task::Show(reading) => self.show(*reading, path)?,
             Task::Json(reading) => self.write_json(*reading, path)?,
+            Task::Summary(reading) => self.write_summary(*reading, path)?,
             Task::Check(form) => self.check(*form, path)?,
             Task::Change(what, Target::Out(to, force)) => self.change(what, path, to, *force)?,
             Task::Change(what, Target::InPlace(_)) => self.change(what, path, "-", false)?,
             Task::Thumbnail(to, force) => self.write_thumbnail(path, to, *force)?,
+            Task::Thumbnails(folder, force) => {
+                let _ = fs::create_dir_all(self.rt, folder);
+                let to = thumbnail_name(self.rt.alloc(), folder, path)?;
+                self.write_thumbnail(path, to.as_str(), *force)?
+            }
+            Task::Touch(zone) => self.touch(zone, path)?,
+            // these are done when all files are known
+            Task::Rename(_) | Task::Geotag(_) => Status::Success,
         };
         self.pending.counts.add(status);
         Ok(status)
@@ -181,6 +207,33 @@ impl<'r, 'a, W: Sink, E: Sink> Session<'r, 'a, W, E> {
         text.push(b'\n')?;
         send_all(self.out, text.as_slice()).map_err(Stop::Output)?;
         Ok(status)
+    }
+
+    // Writes the flat object of a file in a line.
+    fn write_summary(&mut self, reading: Reading, path: &str) -> Result<Status, Stop> {
+        match summary_of(self.rt, reading, path)? {
+            Ok((mut text, status)) => {
+                text.push(b'\n')?;
+                send_all(self.out, text.as_slice()).map_err(Stop::Output)?;
+                Ok(status)
+            }
+            Err(error) => self.refuse(path, &error),
+        }
+    }
+
+    // Sets the time of a file.
+    fn touch(&mut self, zone: &str, path: &str) -> Result<Status, Stop> {
+        match touch_file(self.rt, zone, path) {
+            Ok(true) => Ok(Status::Success),
+            Ok(false) => {
+                self.say(
+                    path,
+                    &"its time is not set: it has no date, or one before 1970",
+                )?;
+                Ok(Status::Incomplete)
+            }
+            Err(error) => self.refuse(path, &error),
+        }
     }
 
     // Writes what the parts of a file hold.
@@ -215,12 +268,7 @@ impl<'r, 'a, W: Sink, E: Sink> Session<'r, 'a, W, E> {
         let new = match change_bytes(self.rt.alloc(), what, old.as_slice()) {
             Ok(new) => new,
             Err(Refusal::OutOfMemory) => return Err(Stop::OutOfMemory),
-            Err(refusal) => {
-                return match not_changed(old.as_slice()) {
-                    Some(text) => self.refuse(path, &text),
-                    None => self.refuse(path, &refusal),
-                };
-            }
+            Err(refusal) => return self.refuse(path, &refusal),
         };
         match write_out(self.rt, to, destination, new.file.as_slice(), self.out)? {
             Ok(()) => {}
@@ -272,8 +320,8 @@ impl<'r, 'a, W: Sink, E: Sink> Session<'r, 'a, W, E> {
         Ok(Status::Refused)
     }
 
-    // Writes a message about a file, after all that was written before.
-    fn say<T: Display>(&mut self, path: &str, what: &T) -> Result<(), Stop> {
+    /// Writes a message about a file, after all that was written before.
+    pub fn say<T: Display>(&mut self, path: &str, what: &T) -> Result<(), Stop> {
         self.out.flush().map_err(Stop::Output)?;
         self.console.say(path, what);
         Ok(())

@@ -1,27 +1,26 @@
 //! Files that are changed in place, each once.
 
 use crate::change::ChangeEdit;
-use crate::console::Console;
+use crate::choosing::is_chosen;
 use crate::files::{Session, Stop};
-use crate::notes::NoteLine;
-use crate::only_read::file_not_changed;
 use crate::pending::Next;
 use crate::request::Change;
 use exif::Sink;
 use exif_change::{Left, Note, Refusal};
+use exif_console::{Console, NoteLine};
 use exif_decisions::{Counts, Escaped};
 use exif_files::{Failure, HostFiles, Keeping, Report, Reporter, Status, WriteError, change_all};
 use std::alloc::AllocError;
 use std::io::{self, ErrorKind};
 use std::{fmt, fs};
 
-// The files of a run, all found before the first is changed.
+/// The files of a run, all found before the first is changed.
 #[derive(Drop)]
-struct Plan {
-    // as they were named or found
-    paths: Vec<String>,
-    // where their links end
-    keys: Vec<String>,
+pub struct Plan {
+    /// As they were named or found.
+    pub paths: Vec<String>,
+    /// Where their links end.
+    pub keys: Vec<String>,
 }
 
 /// Changes each file that is named or found in place, once however often it is named, and answers
@@ -31,18 +30,7 @@ pub fn change_in_place<W: Sink, E: Sink>(
     change: &Change<'_>,
     keeping: Keeping,
 ) -> Result<Status, Stop> {
-    let alloc = session.rt.alloc();
-    let mut plan = Plan {
-        paths: Vec::new(alloc),
-        keys: Vec::new(alloc),
-    };
-    let mut worst = Status::Success;
-    for _ in 0..u64::MAX {
-        let Some(next) = session.pending.next(session.rt)? else {
-            break;
-        };
-        worst = worst.or_worse(plan.add(session, next)?);
-    }
+    let (plan, mut worst) = Plan::gather(session)?;
     let Plan { paths, keys } = plan;
     let results = change_files(
         session.rt,
@@ -61,8 +49,8 @@ pub fn change_in_place<W: Sink, E: Sink>(
 }
 
 // Changes the files, and reports each.
-fn change_files<'p, 'k, 'c, 'r, 'n, 'h, 'a, E: Sink>(
-    rt: &'r HostRuntime,
+fn change_files<'p, 'k, 'c, 'r, 'n, 'h, 'a, 't, E: Sink>(
+    rt: &'t HostRuntime,
     change: &'h Change<'a>,
     keeping: Keeping,
     quiet: bool,
@@ -74,7 +62,6 @@ fn change_files<'p, 'k, 'c, 'r, 'n, 'h, 'a, E: Sink>(
     let edit = ChangeEdit(change);
     let mut files = HostFiles::new(rt);
     let mut messages = Messages {
-        rt,
         paths,
         keys,
         quiet,
@@ -85,6 +72,25 @@ fn change_files<'p, 'k, 'c, 'r, 'n, 'h, 'a, E: Sink>(
 }
 
 impl Plan {
+    /// All files that are named or found, and the worst status of those that can't be followed.
+    pub fn gather<W: Sink, E: Sink>(
+        session: &mut Session<'_, '_, W, E>,
+    ) -> Result<(Plan, Status), Stop> {
+        let alloc = session.rt.alloc();
+        let mut plan = Plan {
+            paths: Vec::new(alloc),
+            keys: Vec::new(alloc),
+        };
+        let mut worst = Status::Success;
+        for _ in 0..u64::MAX {
+            let Some(next) = session.pending.next(session.rt)? else {
+                break;
+            };
+            worst = worst.or_worse(plan.add(session, next)?);
+        }
+        Ok((plan, worst))
+    }
+
     // Adds a file, or reports why it is none. Standard input is changed at once, into standard
     // output.
     fn add<W: Sink, E: Sink>(
@@ -96,6 +102,11 @@ impl Plan {
             Next::Input => session.change_input(),
             Next::Failed(path, cause) => refuse(session, path.as_str(), &cause),
             Next::Found(path) if !session.is_picture(path.as_str()) => {
+                drop(path);
+                Ok(Status::Success)
+            }
+            Next::Named(path) | Next::Found(path)
+                if !is_chosen(session.rt, session.request, path.as_str())? => {
                 drop(path);
                 Ok(Status::Success)
             }
@@ -111,6 +122,31 @@ impl Plan {
     }
 }
 
+/// Reports what became of a file that was changed, and answers its status.
+pub fn report_change<W: Sink, E: Sink>(
+    session: &mut Session<'_, '_, W, E>,
+    path: &str,
+    key: &str,
+    outcome: Result<Report<Left, Note>, Failure<Refusal>>,
+) -> Status {
+    let status = match &outcome {
+        Ok(report) if report.left.is_empty() => Status::Success,
+        Ok(_) => Status::Incomplete,
+        Err(_) => Status::Refused,
+    };
+    match outcome {
+        Ok(report) => {
+            for left in report.left.iter() {
+                session.console.say(path, left);
+            }
+        }
+        Err(failure) => session.console.say(path, &Cause { failure, key }),
+    }
+    session.pending.counts.add(status);
+    session.console.step(session.pending.len());
+    status
+}
+
 fn refuse<W: Sink, E: Sink>(
     session: &mut Session<'_, '_, W, E>,
     path: &str,
@@ -120,8 +156,8 @@ fn refuse<W: Sink, E: Sink>(
     session.refuse(path, cause)
 }
 
-// Where the links of a path end, if that is a regular file.
-fn key_of(rt: &HostRuntime, path: &str) -> io::Result<String> {
+/// Where the links of a path end, if that is a regular file.
+pub fn key_of(rt: &HostRuntime, path: &str) -> io::Result<String> {
     if !fs::metadata(rt, path)?.is_file() {
         return Err(io::Error::new(ErrorKind::InvalidInput, "not a regular file"));
     }
@@ -132,7 +168,6 @@ fn key_of(rt: &HostRuntime, path: &str) -> io::Result<String> {
 // Writes what is reported of each file.
 #[derive(Drop)]
 struct Messages<'p, 'k, 'c, 'r, 'n, E> {
-    rt: &'r HostRuntime,
     paths: &'p [String],
     keys: &'k [String],
     quiet: bool,
@@ -156,14 +191,7 @@ impl<'p, 'k, 'c, 'r, 'n, E: Sink> Messages<'p, 'k, 'c, 'r, 'n, E> {
 
     // Writes why a file was not changed.
     fn say_failure(&mut self, path: &str, key: &str, failure: Failure<Refusal>) {
-        let only_read = match &failure {
-            Failure::Refused(_refusal) => file_not_changed(self.rt, path),
-            _ => None,
-        };
-        match only_read {
-            Some(text) => self.console.say(path, &text),
-            None => self.console.say(path, &Cause { failure, key }),
-        }
+        self.console.say(path, &Cause { failure, key });
     }
 }
 

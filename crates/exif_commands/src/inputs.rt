@@ -2,8 +2,8 @@
 //! memory.
 
 use exif::{Counted, Error, Seekable};
-use exif_containers::container::{SNIFF_LEN, format_of};
-use exif_formats::{Options, Picture, read_picture};
+use exif_containers::container::SNIFF_LEN;
+use exif_formats::{Options, Picture, PictureFormat, format_of, read_picture};
 use std::alloc::Global;
 use std::fs::File;
 use std::io::{self, Read, Seek, SeekFrom};
@@ -64,11 +64,21 @@ pub enum Head {
     Other(Vec<u8>),
 }
 
+// Whether the parts of pictures of a format are known: raw files are only read.
+fn has_parts(format: PictureFormat) -> bool {
+    match format {
+        PictureFormat::Raf | PictureFormat::Orf | PictureFormat::Rw2 | PictureFormat::Cr3 => false,
+        PictureFormat::Tiff | PictureFormat::Jpeg | PictureFormat::Heif => true,
+        PictureFormat::WebP | PictureFormat::Png | PictureFormat::JpegXl => true,
+    }
+}
+
 // Whether bytes begin a picture of a format that is supported for this use.
 fn is_supported(head: &[u8], wanted: Use) -> bool {
-    match wanted {
-        Use::Fields => exif_formats::format_of(head).is_some(),
-        Use::Parts => format_of(head).is_some(),
+    match (format_of(head), wanted) {
+        (None, _) => false,
+        (Some(_), Use::Fields) => true,
+        (Some(format), Use::Parts) => has_parts(format),
     }
 }
 

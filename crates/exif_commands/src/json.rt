@@ -1,13 +1,16 @@
-//! The JSON object of a file.
+//! The JSON objects of a file.
 
-use crate::inputs::{Input, read};
+use crate::inputs::{Input, open, read};
 use crate::request::Reading;
 use exif::{Error, Exif};
 use exif_files::Status;
 use exif_formats::{Picture, PictureFormat};
-use exif_json::json_of_answer;
+use exif_json::{FileFacts, flat_json, json_of_answer};
+use exif_report::found_of;
 use std::alloc::{AllocError, Global};
+use std::fs::{self, Metadata};
 use std::io;
+use std::time::SystemTime;
 
 /// The object of a file, and the file's status.
 pub fn object_of(
@@ -39,4 +42,50 @@ fn answered(
     };
     let json = json_of_answer(alloc, path, format, answer)?;
     Ok((json, status))
+}
+
+// When a file was modified, in seconds from 1970 on, if it was after that.
+fn seconds_of(found: &Metadata) -> Option<u64> {
+    let modified = found.modified().ok()?;
+    let since = modified.duration_since(SystemTime::UNIX_EPOCH).ok()?;
+    Some(since.as_secs())
+}
+
+/// The flat object of a file, and the file's status; or why it was refused.
+pub fn summary_of(
+    rt: &HostRuntime,
+    reading: Reading,
+    path: &str,
+) -> Result<Result<(Vec<u8>, Status), Error>, AllocError> {
+    let alloc = rt.alloc();
+    let (size, modified) = match fs::metadata(rt, path) {
+        Ok(found) if found.is_file() => (Some(found.len()), seconds_of(&found)),
+        _ => (None, None),
+    };
+    let picture = match open(rt, path) {
+        Ok(input) => read(alloc, reading.options(), input),
+        Err(cause) => Err(Error::Io(cause)),
+    };
+    let Picture { format, answer } = match picture {
+        Ok(picture) => picture,
+        Err(error) => return Ok(Err(error)),
+    };
+    let facts = FileFacts {
+        path: path.as_bytes(),
+        format,
+        size,
+        modified,
+    };
+    match found_of(alloc, answer) {
+        Ok((exif, faults)) => {
+            let status = if faults.is_empty() {
+                Status::Success
+            } else {
+                Status::Incomplete
+            };
+            Ok(Ok((flat_json(alloc, &facts, Some(&exif))?, status)))
+        }
+        Err(Error::NotFound(_)) => Ok(Ok((flat_json(alloc, &facts, None)?, Status::Success))),
+        Err(error) => Ok(Err(error)),
+    }
 }

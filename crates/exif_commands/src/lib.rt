@@ -3,21 +3,20 @@
 
 mod change;
 mod check;
-mod console;
+mod choosing;
 mod files;
+mod geotag;
 mod in_place;
 mod inputs;
 mod json;
-mod lines;
-mod notes;
-mod only_read;
 mod output;
 mod pending;
-mod progress;
+mod rename;
 mod request;
 mod show;
 mod thumbnail;
+mod touch;
 
 pub use exif_files::Keeping;
 pub use files::{Stop, run};
-pub use request::{Change, Form, Reading, Request, Target, Task};
+pub use request::{Change, Form, Geotagging, Reading, Renaming, Request, Target, Task};

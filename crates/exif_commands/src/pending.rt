@@ -160,8 +160,8 @@ fn kind_of(found: &Metadata) -> Kind {
     }
 }
 
-// The last part of a path.
-fn name_of(path: &str) -> &str {
+/// The last part of a path.
+pub fn name_of(path: &str) -> &str {
     match path.rsplit_once('/') {
         Some((_, name)) => name,
         None => path,

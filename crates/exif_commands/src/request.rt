@@ -3,6 +3,8 @@
 use exif_change::{Assignment, ClockShift, Color, Dates, Removed};
 use exif_files::Keeping;
 use exif_formats::Options;
+use exif_rename::Pattern;
+use exif_select::Choice;
 
 /// What the arguments request.
 #[derive(Drop)]
@@ -17,6 +19,8 @@ pub struct Request<'a> {
     pub recursive: bool,
     /// Whether neither progress, notes nor a summary are written.
     pub quiet: bool,
+    /// Which of the pictures are processed.
+    pub choice: Choice<'a>,
 }
 
 /// What is done with each file.
@@ -30,8 +34,56 @@ pub enum Task<'a> {
     Check(Form),
     /// It is changed.
     Change(Change<'a>, Target<'a>),
+    /// Its flat JSON object is written in a line.
+    Summary(Reading),
     /// Its thumbnail is written to a file of this name; whether that may exist.
     Thumbnail(&'a str, bool),
+    /// Its thumbnail is written to this folder, under its own name; whether that may exist.
+    Thumbnails(&'a str, bool),
+    /// It gets another name.
+    Rename(Renaming<'a>),
+    /// Its modification time is set to when it was taken; the offset from UTC, as `+hh:mm`, of
+    /// pictures that name none.
+    Touch(&'a str),
+    /// Its location is set in place by a track.
+    Geotag(Geotagging<'a>),
+}
+
+/// How locations are set by a track.
+#[derive(Drop)]
+pub struct Geotagging<'a> {
+    /// The file of the track, as GPX.
+    pub track: &'a str,
+    /// The offset of the camera's clock from UTC, as `+hh:mm`, for pictures that name none.
+    pub zone: &'a str,
+    /// What is kept of the old files.
+    pub keeping: Keeping,
+}
+
+/// How files get other names.
+#[derive(Drop)]
+pub struct Renaming<'a> {
+    /// What the names are made of.
+    pub pattern: Pattern,
+    /// The folder that they are in; that of each file if there is none.
+    pub into: Option<&'a str>,
+    /// Whether the old files stay.
+    pub copy: bool,
+    /// Whether the new names are written only.
+    pub dry_run: bool,
+}
+
+impl Renaming<'_> {
+    /// What is done with the files, in a summary.
+    pub fn verb(&self) -> &'static str {
+        if self.dry_run {
+            "planned"
+        } else if self.copy {
+            "copied"
+        } else {
+            "renamed"
+        }
+    }
 }
 
 /// How a file is read.

@@ -2,10 +2,10 @@
 
 use crate::files::Stop;
 use crate::inputs::{Input, open, read};
-use crate::lines::Lines;
 use crate::request::Reading;
 use exif::{Counted, Error, Sink};
 use exif_base::send_all;
+use exif_console::Lines;
 use exif_decisions::Escaped;
 use exif_report::{found_of, write_all};
 use std::alloc::Global;

@@ -1,9 +1,10 @@
 //! Thumbnails that are written to files.
 
+use crate::pending::name_of;
 use exif_change::{ENTRY_LIMIT, Refusal, thumbnail};
 use exif_formats::{Options, read_bytes};
 use exif_report::found_of;
-use std::alloc::Global;
+use std::alloc::{AllocError, Global};
 
 /// The thumbnail of a picture.
 pub fn thumbnail_of(alloc: Global, file: &[u8]) -> Result<Vec<u8>, Refusal> {
@@ -17,4 +18,12 @@ pub fn thumbnail_of(alloc: Global, file: &[u8]) -> Result<Vec<u8>, Refusal> {
         Some(jpeg) => Ok(Vec::from_slice(alloc, jpeg)?),
         None => Err(Refusal::NoThumbnail),
     }
+}
+
+/// The file in a folder to which the thumbnail of a picture is written: `NAME.jpg`, where NAME is
+/// the picture's whole name, so that those of `a.png` and `a.heic` are two.
+pub fn thumbnail_name(alloc: Global, folder: &str, path: &str) -> Result<String, AllocError> {
+    let name = name_of(path);
+    let slash = if folder.ends_with('/') { "" } else { "/" };
+    format!(in alloc; "{folder}{slash}{name}.jpg")
 }

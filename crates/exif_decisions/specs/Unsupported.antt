@@ -2,7 +2,7 @@
 use Rattle.std.specs.Prelude.{ℕ, List, [], ◌∷◌, ◌++◌, Bool, ◌||◌, ◌&&◌, if◌then◌else◌, Option, None, Some, drop, nat_eq, codes}
 use Rattle.std.specs.List.{starts_with}
 use Rattle.exif_decisions.specs.declared.formats.Unsupported.{Unsupported}
-use Rattle.exif_decisions.specs.declared.formats.Unsupported.TheVariants.{Png, Gif, Bmp, Psd, JpegXl, Raw}
+use Rattle.exif_decisions.specs.declared.formats.Unsupported.TheVariants.{Gif, Bmp, Psd, Raw}
 
 -- raw files of Fujifilm, Canon (CRW, CR3), Panasonic, Olympus and Minolta
 abbrev pub raw_signature : List ℕ → Bool
@@ -14,13 +14,10 @@ raw_signature head = starts_with nat_eq head (codes "FUJIFILMCCD-RAW")
     || starts_with nat_eq head (codes "MMOR")
     || starts_with nat_eq head (0 ∷ codes "MRM")
 
--- PNG (section 5.2), GIF89a (section 17), BMP (its reserved fields are 0), Photoshop, JPEG XL (ISO
--- 18181-2)
+-- GIF89a (section 17), BMP (its reserved fields are 0), Photoshop
 abbrev pub unsupported : List ℕ → Option Unsupported
 unsupported head =
-    if starts_with nat_eq head (137 ∷ 80 ∷ 78 ∷ 71 ∷ 13 ∷ 10 ∷ 26 ∷ 10 ∷ []) then Some Png
-    else if starts_with nat_eq head (codes "GIF8") then Some Gif
+    if starts_with nat_eq head (codes "GIF8") then Some Gif
     else if starts_with nat_eq head (codes "BM") && starts_with nat_eq (drop 6 head) (0 ∷ 0 ∷ 0 ∷ 0 ∷ []) then Some Bmp
     else if starts_with nat_eq head (codes "8BPS") then Some Psd
-    else if starts_with nat_eq head (255 ∷ 10 ∷ []) || starts_with nat_eq head (0 ∷ 0 ∷ 0 ∷ 12 ∷ codes "JXL ") then Some JpegXl
     else if raw_signature head then Some Raw else None

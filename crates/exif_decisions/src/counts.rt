@@ -20,7 +20,7 @@ pub struct Counts {
     /// Files of the program's own that were found in folders.
     pub own: u64,
     // pictures in formats that are not supported, in the order of `ALL`
-    formats: [u64; 6],
+    formats: [u64; 4],
 }
 
 impl Counts {
@@ -31,7 +31,7 @@ impl Counts {
             refused: 0,
             links: 0,
             own: 0,
-            formats: [0; 6],
+            formats: [0; 4],
         }
     }
 
@@ -77,7 +77,7 @@ pub fn status_of(worst: Status, unsupported: u64) -> Status
     }
 }
 
-/// The summary of a run, as `812 changed, 3 refused, 14 skipped (12 PNG, 2 GIF: format not
+/// The summary of a run, as `812 changed, 3 refused, 14 skipped (12 GIF, 2 raw: format not
 /// supported)`.
 #[derive(Clone, Copy)]
 pub struct Summary<'a> {

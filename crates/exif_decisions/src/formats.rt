@@ -7,21 +7,17 @@ ghost use Rattle.exif_decisions.specs.Unsupported.{unsupported, raw_signature};
 /// A format of pictures that is known by its signature, and not supported.
 #[derive(Clone, Copy, PartialEq, Eq)]
 pub enum Unsupported {
-    Png,
     Gif,
     Bmp,
     Psd,
-    JpegXl,
     Raw,
 }
 
 /// All of them, in the order in which a summary names them.
-pub const ALL: [Unsupported; 6] = [
-    Unsupported::Png,
+pub const ALL: [Unsupported; 4] = [
     Unsupported::Gif,
     Unsupported::Bmp,
     Unsupported::Psd,
-    Unsupported::JpegXl,
     Unsupported::Raw,
 ];
 
@@ -29,32 +25,25 @@ impl Unsupported {
     /// Its name.
     pub fn name(self) -> &'static str {
         match self {
-            Unsupported::Png => "PNG",
             Unsupported::Gif => "GIF",
             Unsupported::Bmp => "BMP",
             Unsupported::Psd => "PSD",
-            Unsupported::JpegXl => "JPEG XL",
             Unsupported::Raw => "raw",
         }
     }
 }
 
-/// The format of a file that begins with these bytes, if it is one of these: PNG, GIF, BMP,
-/// Photoshop, JPEG XL, and the raw formats of Fujifilm, Canon (CRW, CR3), Panasonic, Olympus and
-/// Minolta.
+/// The format of a file that begins with these bytes, if it is one of these: GIF, BMP, Photoshop,
+/// and the raw formats of Fujifilm, Canon (CRW, CR3), Panasonic, Olympus and Minolta.
 pub fn unsupported_of(head: &[u8]) -> Option<Unsupported>
     ensures { result ≡ unsupported head.now }
 {
-    if head.starts_with(b"\x89PNG\r\n\x1a\n") {
-        Some(Unsupported::Png)
-    } else if head.starts_with(b"GIF8") {
+    if head.starts_with(b"GIF8") {
         Some(Unsupported::Gif)
     } else if head.starts_with(b"BM") && is_at(head, 6, b"\0\0\0\0") {
         Some(Unsupported::Bmp)
     } else if head.starts_with(b"8BPS") {
         Some(Unsupported::Psd)
-    } else if head.starts_with(b"\xff\x0a") || head.starts_with(b"\0\0\0\x0cJXL ") {
-        Some(Unsupported::JpegXl)
     } else if is_raw(head) {
         Some(Unsupported::Raw)
     } else {

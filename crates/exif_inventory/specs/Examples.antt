@@ -1,6 +1,8 @@
 -- Worked examples: the parts of files, by bytes written by hand.
 use Rattle.std.specs.Prelude.{◌≡◌, refl, ℕ, List, [], ◌∷◌, ◌++◌, codes, Some, None}
 use Rattle.exif_inventory.specs.JpegPieces.{between_piece, stream_piece}
+use Rattle.exif_inventory.specs.JxlPieces.{box_piece}
+use Rattle.exif_inventory.specs.PngPieces.{png_piece}
 use Rattle.exif_inventory.specs.Resources.{resource_piece}
 use Rattle.exif_inventory.specs.Walks.{inventory, walked}
 use Rattle.exif_inventory.specs.WebpPieces.{chunk_piece}
@@ -62,6 +64,89 @@ parts_of_webp : inventory webp
     ∷ part kind.Xmp 0 24 10 32 2 ∷ [])
 unfolding walked chunk_piece
 parts_of_webp = refl
+
+-- the signature of a PNG file
+abbrev png_signature : List ℕ
+png_signature = 0x89 ∷ codes "PNG" ++ 13 ∷ 10 ∷ 26 ∷ 10 ∷ []
+
+-- a PNG file: a palette entry, Exif data of two bytes, an XMP packet of two bytes behind a
+-- language, a comment, the end, and two bytes behind it
+abbrev png : List ℕ
+png =
+    png_signature
+    ++ 0 ∷ 0 ∷ 0 ∷ 3 ∷ codes "PLTE" ++ 1 ∷ 2 ∷ 3 ∷ 9 ∷ 9 ∷ 9 ∷ 9
+    ∷ 0 ∷ 0 ∷ 0 ∷ 2 ∷ codes "eXIf" ++ 4 ∷ 5 ∷ 9 ∷ 9 ∷ 9 ∷ 9
+    ∷ 0 ∷ 0 ∷ 0 ∷ 26 ∷ codes "iTXtXML:com.adobe.xmp\0\0\0en\0\0<>" ++ 9 ∷ 9 ∷ 9 ∷ 9
+    ∷ 0 ∷ 0 ∷ 0 ∷ 4 ∷ codes "tEXta\0bc" ++ 9 ∷ 9 ∷ 9 ∷ 9
+    ∷ 0 ∷ 0 ∷ 0 ∷ 0 ∷ codes "IEND" ++ 9 ∷ 9 ∷ 9 ∷ 9
+    ∷ 7 ∷ 8 ∷ []
+
+parts_of_png : inventory png
+    ≡ Some (part kind.Picture 0 0 23 0 23 ∷ part kind.Exif 0 23 14 31 2
+    ∷ part kind.Xmp 0 37 38 69 2 ∷ part kind.Comment 0 75 16 83 4
+    ∷ part kind.Picture 0 91 12 91 12 ∷ part kind.Trailer 0 103 2 103 2 ∷ [])
+unfolding walked png_piece
+parts_of_png = refl
+
+-- international text that is no packet, one whose packet is compressed, and one without its zeros;
+-- and then a chunk that is cut off
+abbrev png_texts : List ℕ
+png_texts =
+    png_signature
+    ++ 0 ∷ 0 ∷ 0 ∷ 4 ∷ codes "iTXta\0\0b" ++ 9 ∷ 9 ∷ 9 ∷ 9
+    ∷ 0 ∷ 0 ∷ 0 ∷ 23 ∷ codes "iTXtXML:com.adobe.xmp\0" ++ 1 ∷ 0 ∷ 0 ∷ 0 ∷ 3
+    ∷ 9 ∷ 9 ∷ 9 ∷ 9
+    ∷ 0 ∷ 0 ∷ 0 ∷ 22 ∷ codes "iTXtXML:com.adobe.xmp\0\0\0\0b" ++ 9 ∷ 9 ∷ 9 ∷ 9
+    ∷ 0 ∷ 0 ∷ 0 ∷ 9 ∷ codes "IDAT" ++ 1 ∷ 2 ∷ 3 ∷ 4 ∷ []
+
+parts_of_png_texts : inventory png_texts
+    ≡ Some (part kind.Picture 0 0 8 0 8 ∷ part kind.Comment 0 8 16 16 4
+    ∷ part kind.Comment 0 24 35 32 23 ∷ part kind.Comment 0 59 34 67 22
+    ∷ part kind.Broken 0 93 12 93 12 ∷ [])
+unfolding walked png_piece
+parts_of_png_texts = refl
+
+-- a JPEG XL file: its first box, Exif data behind an offset of 1, an XMP packet, compressed data, a
+-- box whose size has eight bytes, and one that goes to the end
+abbrev jxl : List ℕ
+jxl =
+    0 ∷ 0 ∷ 0 ∷ 12 ∷ codes "JXL " ++ 13 ∷ 10 ∷ 0x87 ∷ 10
+    ∷ 0 ∷ 0 ∷ 0 ∷ 15 ∷ codes "Exif" ++ 0 ∷ 0 ∷ 0 ∷ 1 ∷ 0 ∷ 4 ∷ 5
+    ∷ 0 ∷ 0 ∷ 0 ∷ 10 ∷ codes "xml <>" ++ 0 ∷ 0 ∷ 0 ∷ 13 ∷ codes "brobxml " ++ 3
+    ∷ 0 ∷ 0 ∷ 0 ∷ 1 ∷ codes "jumb" ++ 0 ∷ 0 ∷ 0 ∷ 0 ∷ 0 ∷ 0 ∷ 0 ∷ 17 ∷ 6
+    ∷ 0 ∷ 0 ∷ 0 ∷ 0 ∷ codes "jxlc" ++ 0xff ∷ 0x0a ∷ []
+
+parts_of_jxl : inventory jxl
+    ≡ Some (part kind.Picture 0 0 12 0 12 ∷ part kind.Exif 0 12 15 25 2
+    ∷ part kind.Xmp 0 27 10 35 2 ∷ part kind.Unknown 0 37 13 45 5
+    ∷ part kind.ContentCredentials 0 50 17 66 1 ∷ part kind.Picture 0 67 10 67 10 ∷ [])
+unfolding walked box_piece
+parts_of_jxl = refl
+
+-- Exif data whose offset is behind them, and a box that is cut off
+abbrev jxl_cut : List ℕ
+jxl_cut =
+    0 ∷ 0 ∷ 0 ∷ 12 ∷ codes "JXL " ++ 13 ∷ 10 ∷ 0x87 ∷ 10
+    ∷ 0 ∷ 0 ∷ 0 ∷ 13 ∷ codes "Exif" ++ 0 ∷ 0 ∷ 0 ∷ 2 ∷ 4
+    ∷ 0 ∷ 0 ∷ 0 ∷ 11 ∷ codes "xml <>" ++ []
+
+parts_of_jxl_cut : inventory jxl_cut
+    ≡ Some (part kind.Picture 0 0 12 0 12 ∷ part kind.Unknown 0 12 13 20 5
+    ∷ part kind.Broken 0 25 10 25 10 ∷ [])
+unfolding walked box_piece
+parts_of_jxl_cut = refl
+
+-- a picture that is cut off
+abbrev jxl_begun : List ℕ
+jxl_begun =
+    0 ∷ 0 ∷ 0 ∷ 12 ∷ codes "JXL " ++ 13 ∷ 10 ∷ 0x87 ∷ 10
+    ∷ 0 ∷ 0 ∷ 0 ∷ 10 ∷ codes "xml <>" ++ 0 ∷ 0 ∷ 0 ∷ 99 ∷ codes "jxlc" ++ 0xff ∷ 0x0a ∷ []
+
+parts_of_jxl_begun : inventory jxl_begun
+    ≡ Some (part kind.Picture 0 0 12 0 12 ∷ part kind.Xmp 0 12 10 20 2
+    ∷ part kind.Picture 0 22 10 22 10 ∷ [])
+unfolding walked box_piece
+parts_of_jxl_begun = refl
 
 -- a file of another format
 of_none : inventory (codes "II*\0") ≡ None

@@ -2,6 +2,8 @@ pub mod JpegKinds
 pub mod JpegPieces
 pub mod Resources
 pub mod WebpPieces
+pub mod PngPieces
+pub mod JxlPieces
 pub mod Pieces
 pub mod Walks
 pub mod Promises

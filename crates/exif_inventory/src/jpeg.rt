@@ -64,8 +64,8 @@ fn has_no_length(code: u8) -> bool
     matches!(code, 0x00 | 0x01 | 0xd0..=0xd9)
 }
 
-// Whether a content begins with an identifier.
-fn begins(content: &[u8], id: &[u8]) -> bool
+/// Whether a content begins with an identifier.
+pub fn begins(content: &[u8], id: &[u8]) -> bool
     ensures value { result ≡ begins id.now content.now }
     ensures long { result ≡ true → length id.now ≤ length content.now }
 {

@@ -5,7 +5,7 @@ use std::fmt;
 /// What a part of a file holds.
 #[derive(Clone, Copy, Debug, PartialEq, Eq)]
 pub enum Kind {
-    /// What the picture is made of: markers, tables, frames and scans; the image's chunks.
+    /// What the picture is made of: markers, tables, frames and scans; the image's chunks or boxes.
     Picture,
     /// The header of JFIF: the density of the picture, and maybe a small thumbnail.
     Jfif,
@@ -33,9 +33,9 @@ pub enum Kind {
     ContentCredentials,
     /// Bytes that follow a picture and begin none.
     Trailer,
-    /// A segment or chunk of a kind that is not known, or bytes between segments.
+    /// A segment, chunk or box of a kind that is not known, or bytes between segments.
     Unknown,
-    /// Bytes that end before the segment or chunk does that they begin.
+    /// Bytes that end before the segment, chunk or box does that they begin.
     Broken,
 }
 

@@ -1,12 +1,16 @@
 //! The parts of a picture's file: which bytes make up the picture, and which hold metadata.
 //!
-//! [`inventory`] lists the parts of a JPEG or WebP file in order, from its first byte to its last.
+//! [`inventory`] lists the parts of a JPEG, WebP, PNG or JPEG XL file in order, from its first byte
+//! to its last.
 #![tactic(auto)]
 
+mod bytes;
 mod jpeg;
+mod jxl;
 mod kind;
 mod part;
 mod piece;
+mod png;
 mod resource;
 mod walk;
 mod webp;

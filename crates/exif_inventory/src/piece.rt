@@ -4,7 +4,9 @@ ghost use Rattle.std.specs.Prelude.{◌≡◌, ◌<◌, ◌≤◌, ◌+◌, leng
 ghost use Rattle.exif_inventory.specs.Pieces.{piece_at, start_of};
 
 use crate::jpeg::{between_piece, is_stream, stream_piece};
+use crate::jxl::{box_piece, is_jxl};
 use crate::kind::Kind;
+use crate::png::{behind_png, is_png, png_piece, signature_piece};
 use crate::resource::resource_piece;
 use crate::webp::{chunk_piece, header_piece, is_webp};
 
@@ -21,6 +23,14 @@ pub enum State {
     Header,
     /// The chunks of a WebP file: so much space is left for them.
     Chunks(u64),
+    /// The signature of a PNG file.
+    PngSignature,
+    /// The chunks of a PNG file.
+    PngChunks,
+    /// What follows the last chunk of a PNG file.
+    PngEnd,
+    /// The boxes of a JPEG XL file.
+    JxlBoxes,
 }
 
 /// A piece of a file.
@@ -46,6 +56,10 @@ pub fn start_of(file: &[u8]) -> Option<State>
         Some(State::Between(0))
     } else if is_webp(file) {
         Some(State::Header)
+    } else if is_png(file) {
+        Some(State::PngSignature)
+    } else if is_jxl(file) {
+        Some(State::JxlBoxes)
     } else {
         None
     }
@@ -67,5 +81,9 @@ pub fn piece_at(state: State, bytes: &[u8]) -> Piece
         State::Between(picture) => between_piece(picture, bytes),
         State::Header => header_piece(bytes),
         State::Chunks(space) => chunk_piece(space, bytes),
+        State::PngSignature => signature_piece(bytes),
+        State::PngChunks => png_piece(bytes),
+        State::PngEnd => behind_png(bytes),
+        State::JxlBoxes => box_piece(bytes),
     }
 }

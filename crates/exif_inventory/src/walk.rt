@@ -86,8 +86,9 @@ fn parts_from(alloc: Global, start: State, file: &[u8]) -> Result<Vec<Part>, All
     Ok(done)
 }
 
-/// The parts of a JPEG or WebP file, in the order of their bytes: each begins where the one before
-/// it ends, and together they are the file. `None` for a file of another format.
+/// The parts of a JPEG, WebP, PNG or JPEG XL file, in the order of their bytes: each begins where
+/// the one before it ends, and together they are the file. `None` for a file of another format, and
+/// for a JPEG XL codestream without a container.
 ///
 /// A picture that follows the first one in a JPEG file, as a gain map or a preview does, has the
 /// next number, and parts of its own. It takes memory for the list.

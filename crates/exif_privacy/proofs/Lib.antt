@@ -1,4 +1,6 @@
 pub mod AnsweredSteps
+pub mod CrcSame
+pub mod CrcSteps
 pub mod FirstSteps
 pub mod OtherSteps
 pub mod PortionSteps

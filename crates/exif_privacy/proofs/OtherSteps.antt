@@ -18,7 +18,7 @@ use Rattle.exif_privacy.proofs.AnsweredSteps.{AllExtended, run_extended}
 use Rattle.exif_privacy.proofs.PortionSteps.{portion_long}
 use Rattle.exif_privacy.proofs.TwiceSteps.{same_data}
 
-neither : (a b : Bool) → (a || b) ≡ false → (a ≡ false) × (b ≡ false)
+pub neither : (a b : Bool) → (a || b) ≡ false → (a ≡ false) × (b ≡ false)
 neither true b e = absurd (never e)
   where
     never : true ≡ false → ⊥
@@ -31,7 +31,7 @@ all_stay parts file = record { long = refl; bytes = λ k e. refl }
 
 pub all_stay_in : (parts : Option (List Part)) (file : List ℕ) → OthersStayIn parts file file
 all_stay_in None file = refl
-all_stay_in (Some parts) file = all_stay parts file
+all_stay_in (Some parts) file = record { long = refl; bytes = λ k e. refl }
 
 -- one change after the other
 pub both_stay : (parts : List Part) (old mid new : List ℕ) → OthersStay parts old mid → OthersStay parts mid new → OthersStay parts old new
@@ -67,14 +67,14 @@ before at n k old new h e lt = grind (arith, common_steps)
 behind : (at n k : ℕ) (old new : List ℕ) → at + n ≤ length old → length new ≡ n → at + n ≤ k → get_or (take at old ++ (new ++ drop (at + n) old)) k 0 ≡ get_or old k 0
 behind at n k old new h e le = grind (arith, common_steps)
 
-outside : (at end k : ℕ) → (nat_le at k && nat_lt k end) ≡ false → (k < at) ⊎ (end ≤ k)
+pub outside : (at end k : ℕ) → (nat_le at k && nat_lt k end) ≡ false → (k < at) ⊎ (end ≤ k)
 outside at end k e = grind (arith, nat_tests)
 
-span_stays : (at n k : ℕ) (old new : List ℕ) → at + n ≤ length old → length new ≡ n → (k < at) ⊎ (at + n ≤ k) → get_or (take at old ++ (new ++ drop (at + n) old)) k 0 ≡ get_or old k 0
+pub span_stays : (at n k : ℕ) (old new : List ℕ) → at + n ≤ length old → length new ≡ n → (k < at) ⊎ (at + n ≤ k) → get_or (take at old ++ (new ++ drop (at + n) old)) k 0 ≡ get_or old k 0
 span_stays at n k old new h e (inl lt) = before at n k old new h e lt
 span_stays at n k old new h e (inr le) = behind at n k old new h e le
 
-span_long : (at n : ℕ) (old new : List ℕ) → at + n ≤ length old → length new ≡ n → length (take at old ++ (new ++ drop (at + n) old)) ≡ length old
+pub span_long : (at n : ℕ) (old new : List ℕ) → at + n ≤ length old → length new ≡ n → length (take at old ++ (new ++ drop (at + n) old)) ≡ length old
 span_long at n old new h e = grind (arith, common_steps)
 
 -- other data in a part

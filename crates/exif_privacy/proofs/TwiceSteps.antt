@@ -8,6 +8,7 @@ use Rattle.std.specs.Option.{option_map}
 use Rattle.std.specs.Str.{bytes_eq}
 use Rattle.exif_inventory.specs.declared.kind.Kind.TheVariants as kind
 use Rattle.exif_inventory.specs.declared.part.Part.{Part}
+use Rattle.exif_privacy.specs.Chunks.{mended}
 use Rattle.exif_privacy.specs.Data.{data_of, with_data}
 use Rattle.exif_privacy.specs.Erasing.{all_stay, erased, erased_by, found, found_in, front_erased, parts_erased, stays_for}
 use Rattle.exif_privacy.specs.Files.{parts_of}
@@ -19,6 +20,7 @@ use Rattle.exif_privacy.specs.declared.stays.Stays.{Stays}
 use Rattle.exif_privacy.specs.declared.stays.Why.{Why}
 use Rattle.exif_privacy.specs.declared.stays.Why.TheVariants.{StillThere}
 use Rattle.exif_locations.specs.declared.unread.Unread.{Unread}
+use Rattle.exif_privacy.proofs.CrcSame.{mended_same}
 
 -- data put where they are
 pub same_data : (part : Part) (file : List ℕ) → with_data part (data_of part file) file ≡ file
@@ -101,7 +103,9 @@ some_same e = cc
 
 by_parts : (unread : Unread) (new : List ℕ) (stays : List Stays) (parts : Option (List Part)) → option_map (found unread new) parts ≡ Some stays → list_any would_change stays ≡ false → erased_by unread new parts ≡ new
 by_parts unread new stays None e none = refl
-by_parts unread new stays (Some parts) e none = parts_settled unread new parts [] 0 (ap (list_any would_change) (some_same e) ∙ none)
+by_parts unread new stays (Some parts) e none =
+    ap (mended new parts) (parts_settled unread new parts [] 0 (ap (list_any would_change) (some_same e) ∙ none))
+    ∙ mended_same new parts
 
 -- what is answered is what is found in the new file
 pub found_there : (unread : Unread) (file new : List ℕ) (stays : List Stays) → erased unread file ≡ (new, Some stays) → found_in unread new ≡ Some stays

@@ -4,6 +4,7 @@ use Rattle.std.specs.List.{flat_map}
 use Rattle.std.specs.Option.{option_map}
 use Rattle.exif_inventory.specs.declared.kind.Kind.TheVariants as kind
 use Rattle.exif_inventory.specs.declared.part.Part.{Part}
+use Rattle.exif_privacy.specs.Chunks.{mended}
 use Rattle.exif_privacy.specs.Data.{data_of, with_data}
 use Rattle.exif_privacy.specs.Files.{parts_of}
 use Rattle.exif_privacy.specs.Judging.{judged}
@@ -63,10 +64,11 @@ parts_erased unread left (part ∷ parts) file =
     let next = next_erased unread left (part ∷ parts) file in
     parts_erased unread next.1 parts next.0
 
--- a file without the locations of these parts, if there are some
+-- a file without the locations of these parts, if there are some, and with the CRCs of chunks that
+-- were changed
 abbrev pub erased_by : Unread → List ℕ → Option (List Part) → List ℕ
 erased_by unread file None = file
-erased_by unread file (Some parts) = parts_erased unread 0 parts file
+erased_by unread file (Some parts) = mended file parts (parts_erased unread 0 parts file)
 
 -- a file without the locations of its parts, and those that may still hold one then, if its format
 -- is known

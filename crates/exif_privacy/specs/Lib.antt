@@ -3,6 +3,7 @@ pub mod Parts
 pub mod Files
 pub mod Portions
 pub mod Judging
+pub mod Chunks
 pub mod Erasing
 pub mod Promises
 pub mod Examples

@@ -1,9 +1,11 @@
 -- What holds of files whose locations were erased.
-use Rattle.std.specs.Prelude.{◌≡◌, ℕ, ◌+◌, List, length, slice_index, nat_le, nat_lt, Bool, true, false, ◌&&◌, Option, None, Some}
+use Rattle.std.specs.Prelude.{◌≡◌, ℕ, ◌+◌, List, length, slice_index, nat_le, nat_lt, Bool, true, false, ◌&&◌, ◌||◌, Option, None, Some}
 use Rattle.std.specs.List.{All, Contains, list_any}
 use Rattle.exif_inventory.specs.declared.kind.Kind.{Kind}
 use Rattle.exif_inventory.specs.declared.kind.Kind.TheVariants as kind
 use Rattle.exif_inventory.specs.declared.part.Part.{Part}
+use Rattle.exif_png.specs.Png.{begins_png}
+use Rattle.exif_privacy.specs.Chunks.{in_crc}
 use Rattle.exif_privacy.specs.Data.{data_of}
 use Rattle.exif_privacy.specs.Erasing.{erased, stays_for}
 use Rattle.exif_privacy.specs.Files.{parts_of}
@@ -66,13 +68,23 @@ may_change k part =
     is_searched part.kind
     && (nat_le part.data_offset k && nat_lt k (part.data_offset + part.data_len))
 
+-- whether it is, or is one of the last four of a part of a PNG file, which are its CRC
+abbrev pub may_be_new : List ℕ → ℕ → Part → Bool
+may_be_new file k part = may_change k part || (begins_png file && in_crc k part)
+
 -- a file is as long as before, and each byte that is in no such data is as it was
 pub record OthersStay (parts : List Part) (old new : List ℕ) : Type 0 where
   pub long : length new ≡ length old
   pub bytes : (k : ℕ) → list_any (may_change k) parts ≡ false
       → slice_index new k ≡ slice_index old k
 
+-- so with the CRCs of a PNG file
+pub record AllElseStays (parts : List Part) (old new : List ℕ) : Type 0 where
+  pub long : length new ≡ length old
+  pub bytes : (k : ℕ) → list_any (may_be_new old k) parts ≡ false
+      → slice_index new k ≡ slice_index old k
+
 -- so where it has parts, and else all bytes are
 abbrev pub OthersStayIn : Option (List Part) → List ℕ → List ℕ → Type 0
 OthersStayIn None old new = new ≡ old
-OthersStayIn (Some parts) old new = OthersStay parts old new
+OthersStayIn (Some parts) old new = AllElseStays parts old new

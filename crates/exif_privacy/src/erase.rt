@@ -5,8 +5,10 @@ ghost use Rattle.std.specs.Option.{option_map};
 ghost use Rattle.exif_inventory.specs.Promises.{EndsIn};
 ghost use Rattle.exif_privacy.specs.Erasing.{erased, erased_by, first_erased, found, found_in, joined_erased, next_erased, part_erased, parts_erased, stays_for};
 ghost use Rattle.exif_privacy.specs.Files.{parts_of};
-ghost use Rattle.exif_privacy.specs.Promises.{AllSearched, OthersStay, OthersStayIn};
+ghost use Rattle.exif_privacy.specs.Chunks.{mended};
+ghost use Rattle.exif_privacy.specs.Promises.{AllElseStays, AllSearched, OthersStay, OthersStayIn};
 
+use crate::chunks::mend_parts;
 use crate::part::erase_part;
 use crate::parts::parts_of;
 use crate::portions::{join, joined_len, put_back};
@@ -14,6 +16,7 @@ use crate::reasons::Reasons;
 use crate::stays::{Stays, Why};
 use exif_inventory::{Kind, Part};
 use exif_locations::Unread;
+use exif_png::is_png;
 use std::alloc::{AllocError, Global};
 
 // Erases the locations in one part of a file.
@@ -112,6 +115,27 @@ fn erase_parts(
     Ok(())
 }
 
+// Erases the locations in all these parts, and mends the CRCs of chunks.
+fn erase_and_mend(
+    alloc: Global,
+    unread: Unread,
+    file: &mut [u8],
+    parts: &[Part],
+) -> Result<(), AllocError>
+    requires { All (EndsIn (length file.old)) parts.now }
+    ensures value { OnOk result (file.new
+        ≡ mended file.old parts.now (parts_erased unread 0 parts.now file.old)) }
+    ensures others { AllElseStays parts.now file.old file.new }
+{
+    if !is_png(file) {
+        return erase_parts(alloc, unread, file, parts);
+    }
+    let old = Vec::from_slice(alloc, file)?;
+    let erased = erase_parts(alloc, unread, file, parts);
+    mend_parts(old.as_slice(), parts, file);
+    erased
+}
+
 // Erases the locations in all parts of a file.
 fn erase_all(alloc: Global, unread: Unread, file: &mut [u8]) -> Result<(), AllocError>
     ensures value { OnOk result (file.new
@@ -119,7 +143,7 @@ fn erase_all(alloc: Global, unread: Unread, file: &mut [u8]) -> Result<(), Alloc
     ensures others { OthersStayIn (parts_of file.old) file.old file.new }
 {
     match parts_of(alloc, file)? {
-        Some(parts) => erase_parts(alloc, unread, file, parts.as_slice()),
+        Some(parts) => erase_and_mend(alloc, unread, file, parts.as_slice()),
         None => Ok(()),
     }
 }
@@ -164,20 +188,22 @@ fn find_all(alloc: Global, unread: Unread, file: &[u8]) -> Result<Option<Vec<Sta
     }
 }
 
-/// Erases the locations in a JPEG, WebP, HEIF or TIFF file, in place, and answers the parts that
+/// Erases the locations in a JPEG, WebP, HEIF, PNG, JPEG XL or TIFF file, in place, and answers the parts that
 /// may still hold one, in their order: `None` for a file of another format, which stays as it is. A
 /// part is answered for each reason why it may. A TIFF file is one part, of Exif data.
 ///
 /// Erased are the locations of each part with Exif data, as
 /// [`exif_data_locations::erase_locations`] does, the properties of XMP packets and the datasets of
 /// IPTC data that name a location. The portions of an extended XMP packet are joined for this, if
-/// they follow one another and are all there. Of all other parts no byte changes. What can't be
+/// they follow one another and are all there. Of all other parts no byte changes. The CRCs of the
+/// chunks of a PNG file that were changed are mended. What can't be
 /// read stays and is answered, or is overwritten, as `unread` says. Comments, trailers, content
 /// credentials, other parts of long XMP packets, and segments and chunks that are not known stay
 /// and are answered, unless they are zeros; so do texts and keywords.
 ///
 /// What is answered is what is found in the new file. It takes the memory of two copies of the
-/// longest part with Exif, XMP or IPTC data, or of the longest extended packet. Out of memory leaves
+/// longest part with Exif, XMP or IPTC data, or of the longest extended packet, and of a copy of a
+/// PNG file. Out of memory leaves
 /// each part as it was, or with some of its locations erased.
 pub fn erase_locations(
     alloc: Global,

@@ -1,5 +1,5 @@
--- A JPEG or WebP file without its colour profile (ICC.1:2022, B.4; WebP Container Specification,
--- "Extended File Format", "Color Profile").
+-- A JPEG, WebP or PNG file without its colour profile (ICC.1:2022, B.4; WebP Container
+-- Specification, "Extended File Format", "Color Profile"; PNG Specification, 11.3.2.3).
 use Rattle.std.specs.Prelude.{ℕ, ◌+◌, ◌-◌, ◌/◌, ◌%◌, ◌==◌, ◌&&◌, List, [], ◌∷◌, ◌++◌, length, take, drop, codes, slice_index, slice_set, nat_lt, Bool, true, false, Option, None, Some, if◌then◌else◌}
 use Rattle.std.specs.Option.{option_map}
 use Rattle.std.specs.Str.{bytes_eq}
@@ -47,6 +47,6 @@ settled old new =
 abbrev pub without_profiles : List ℕ → List Part → List ℕ
 without_profiles file parts = settled file (with_staying parts file [])
 
--- a JPEG or WebP file without its colour profiles
+-- a JPEG, WebP or PNG file without its colour profiles
 abbrev pub colorless : List ℕ → Option (List ℕ)
 colorless file = option_map (without_profiles file) (inventory file)

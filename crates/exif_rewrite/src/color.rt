@@ -100,9 +100,10 @@ fn settle(old: &[u8], new: &mut [u8])
     }
 }
 
-/// The JPEG or WebP file without its colour profile: its `ICC_PROFILE` segments, or its `ICCP`
-/// chunk, whose size and flag the header loses. All other bytes stay, in their order. `None` for a
-/// file of another format. It takes the memory of the new file.
+/// The JPEG, WebP or PNG file without its colour profile: its `ICC_PROFILE` segments, its `ICCP`
+/// chunk, whose size and flag the header loses, or its `iCCP` chunk. All other bytes stay, in their
+/// order. A JPEG XL file stays as it is: its profile is part of the picture. `None` for a file of
+/// another format. It takes the memory of the new file.
 pub fn without_color_profile(alloc: Global, file: &[u8]) -> Result<Option<Vec<u8>>, AllocError>
     ensures { IfOk result (λ new. option_map (λ v. v.items) new ≡ colorless file.now) }
 {

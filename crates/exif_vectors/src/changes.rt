@@ -30,7 +30,7 @@ fn changed<W: Sink>(
 ) -> Result<String, CaseError> {
     let old = file.clone()?;
     let answer = match case.call {
-        Call::ScrubFile => exif_change::scrub(alloc, old, removed(case)),
+        Call::ScrubFile => exif_pictures::scrub(alloc, old, removed(case)),
         Call::Assign => assigned(alloc, case, old)?,
         Call::Shift => shifted(alloc, case, old)?,
         _ => thumbnail_of(alloc, old)?,
@@ -86,7 +86,7 @@ fn assigned(alloc: Global, case: &Case, old: Vec<u8>) -> Result<Answer, CaseErro
         };
         assignments.extend_from_slice(parsed.as_slice())?;
     }
-    Ok(exif_change::set(alloc, old, assignments.as_slice()))
+    Ok(exif_pictures::set(alloc, old, assignments.as_slice()))
 }
 
 fn shifted(alloc: Global, case: &Case, old: Vec<u8>) -> Result<Answer, CaseError> {
@@ -98,7 +98,7 @@ fn shifted(alloc: Global, case: &Case, old: Vec<u8>) -> Result<Answer, CaseError
     } else {
         Dates::All
     };
-    Ok(exif_change::shift(alloc, old, by, dates))
+    Ok(exif_pictures::shift(alloc, old, by, dates))
 }
 
 // The thumbnail of a file; nothing where there is none.

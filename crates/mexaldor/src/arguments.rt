@@ -9,7 +9,7 @@ pub fn command<'a>(alloc: Global) -> Result<Command<'a>, AllocError> {
     Command::new(alloc, "mexaldor")
         .version("0.1.0")
         .about(
-            "Show, remove and edit the Exif metadata of pictures (TIFF, JPEG, HEIF, WebP; PNG, JPEG XL and raw files are only read)",
+            "Show, remove and edit the Exif metadata of pictures (TIFF, JPEG, HEIF, WebP, PNG, JPEG XL; raw files are only read)",
         )
         .after_help(
             "Exit status: 0 on success, 1 if a file could not be processed, 2 for invalid arguments, 3 if something was skipped or left undone.",
@@ -22,6 +22,9 @@ pub fn command<'a>(alloc: Global) -> Result<Command<'a>, AllocError> {
         .subcommand(scrub(alloc)?)?
         .subcommand(set(alloc)?)?
         .subcommand(shift(alloc)?)?
+        .subcommand(rename(alloc)?)?
+        .subcommand(geotag(alloc)?)?
+        .subcommand(touch(alloc)?)?
         .subcommand(thumbnail(alloc)?)?
         .subcommand(tags(alloc))
 }
@@ -35,6 +38,9 @@ pub fn subcommand<'a>(alloc: Global, name: &str) -> Result<Command<'a>, AllocErr
         "scrub" => scrub(alloc)?.bin_name("mexaldor scrub"),
         "set" => set(alloc)?.bin_name("mexaldor set"),
         "shift" => shift(alloc)?.bin_name("mexaldor shift"),
+        "rename" => rename(alloc)?.bin_name("mexaldor rename"),
+        "geotag" => geotag(alloc)?.bin_name("mexaldor geotag"),
+        "touch" => touch(alloc)?.bin_name("mexaldor touch"),
         "thumbnail" => thumbnail(alloc)?.bin_name("mexaldor thumbnail"),
         _ => command(alloc),
     }
@@ -51,7 +57,12 @@ fn show<'a>(alloc: Global) -> Result<Command<'a>, AllocError> {
 fn json<'a>(alloc: Global) -> Result<Command<'a>, AllocError> {
     let command = Command::new(alloc, "json")
         .about("Print one JSON object per file, one per line")
-        .override_usage("mexaldor json [OPTIONS] PATH...");
+        .override_usage("mexaldor json [OPTIONS] PATH...")
+        .arg(options::flag(
+            alloc,
+            "summary",
+            "Print a flat object: size, camera, exposure, dates, location and texts",
+        ))?;
     reading(alloc, command)
 }
 
@@ -81,6 +92,23 @@ fn many<'a>(alloc: Global, command: Command<'a>) -> Result<Command<'a>, AllocErr
     command
         .arg(options::recursive(alloc))?
         .arg(options::null(alloc))?
+        .arg(options::date(
+            alloc,
+            "after",
+            "Only pictures taken at DATE or later, e.g. 2024-05 or 2024-05-01T12:30",
+        ))?
+        .arg(options::date(alloc, "before", "Only pictures taken before DATE"))?
+        .arg(options::camera(alloc))?
+        .arg(options::fact(
+            alloc,
+            "where",
+            "Only pictures whose Exif data tell FACT: date or location",
+        ))?
+        .arg(options::fact(
+            alloc,
+            "without",
+            "Only pictures whose Exif data do not tell FACT",
+        ))?
         .arg(options::quiet(alloc))
 }
 
@@ -166,23 +194,73 @@ fn shift<'a>(alloc: Global) -> Result<Command<'a>, AllocError> {
     replacing(alloc, command)?.arg(options::words(alloc, "FILE", "Pictures, or with -r folders"))
 }
 
-fn thumbnail<'a>(alloc: Global) -> Result<Command<'a>, AllocError> {
-    Command::new(alloc, "thumbnail")
-        .about("Write the thumbnail of a picture to a file")
-        .override_usage("mexaldor thumbnail [OPTIONS] FILE OUT")
-        .arg(options::force(alloc))?
-        .arg(
-            Arg::new(alloc, "file")
-                .value_name("FILE")
-                .required(true)
-                .help("The picture; - is standard input"),
-        )?
-        .arg(
-            Arg::new(alloc, "out")
-                .value_name("OUT")
-                .required(true)
-                .help("The new file; - is standard output"),
+fn rename<'a>(alloc: Global) -> Result<Command<'a>, AllocError> {
+    let command = Command::new(alloc, "rename")
+        .about("Rename or move pictures by date and camera")
+        .override_usage("mexaldor rename [OPTIONS] PATTERN PATH...")
+        .after_help(
+            "PATTERN has %Y %m %d %H %M %S (when the picture was taken), %y, %%, {Make}, {Model} and {Name}; a / makes folders. Each file keeps its extension, and its sidecars go along. Where names are equal, _1, _2 and so on are added. No file is ever overwritten.",
         )
+        .arg(options::into(
+            alloc,
+            "Put the new names below FOLDER instead of the folder of each file",
+        ))?
+        .arg(options::flag(alloc, "copy", "Copy the files instead of renaming them"))?
+        .arg(options::flag(
+            alloc,
+            "dry-run",
+            "Print the old and the new names, and change nothing",
+        ))?
+        .arg(
+            Arg::new(alloc, "pattern")
+                .value_name("PATTERN")
+                .required(true)
+                .help("The new name, e.g. %Y/%m/%Y%m%d_%H%M%S"),
+        )?;
+    many(alloc, command)?.arg(options::words(alloc, "PATH", "Pictures, or with -r folders"))
+}
+
+fn geotag<'a>(alloc: Global) -> Result<Command<'a>, AllocError> {
+    let command = Command::new(alloc, "geotag")
+        .about("Set the locations of pictures from the track of a GPS receiver")
+        .override_usage("mexaldor geotag [OPTIONS] TRACK.gpx FILE...")
+        .after_help(
+            "The location at the time when a picture was taken is found between two points of the track that are at most five minutes apart. A picture without a date, or of another time, is left and reported, and the exit status is 3.",
+        )
+        .arg(options::offset(alloc))?
+        .arg(
+            Arg::new(alloc, "track")
+                .value_name("TRACK")
+                .required(true)
+                .help("The track, a GPX file"),
+        )?;
+    replacing(alloc, command)?.arg(options::words(alloc, "FILE", "Pictures, or with -r folders"))
+}
+
+fn touch<'a>(alloc: Global) -> Result<Command<'a>, AllocError> {
+    let command = Command::new(alloc, "touch")
+        .about("Set the times of files to when their pictures were taken")
+        .override_usage("mexaldor touch [OPTIONS] PATH...")
+        .after_help(
+            "The modification time is set. A picture without a date is left and reported, and the exit status is 3.",
+        )
+        .arg(options::offset(alloc))?;
+    many(alloc, command)?.arg(options::words(alloc, "PATH", "Pictures, or with -r folders"))
+}
+
+fn thumbnail<'a>(alloc: Global) -> Result<Command<'a>, AllocError> {
+    let command = Command::new(alloc, "thumbnail")
+        .about("Write the thumbnails of pictures to files")
+        .override_usage(
+            "mexaldor thumbnail [OPTIONS] FILE OUT\n       mexaldor thumbnail [OPTIONS] --into FOLDER PATH...",
+        )
+        .arg(options::into(alloc, "Write each thumbnail to FOLDER, as NAME.jpg"))?
+        .arg(options::force(alloc))?;
+    many(alloc, command)?.arg(options::words(
+        alloc,
+        "PATH",
+        "The picture and the new file, - for standard input and output; or pictures with --into",
+    ))
 }
 
 fn tags<'a>(alloc: Global) -> Command<'a> {

@@ -4,8 +4,11 @@ use crate::arguments::subcommand;
 use clap::error::ErrorKind;
 use clap::{ArgMatches, Error};
 use exif_change::{Assignment, ClockShift, Color, Dates, ENTRY_LIMIT, Removed, Unread};
-use exif_commands::{Change, Form, Keeping, Reading, Request, Target, Task};
+use exif_commands::{Change, Form, Geotagging, Keeping, Reading, Renaming, Request, Target, Task};
 use exif_decisions::{Escaped, is_assignment, nearest};
+use exif_rename::Pattern;
+use exif_select::{Choice, begin_of};
+use exif_track::exif_time_of;
 use std::alloc::{AllocError, Global};
 
 /// What the arguments request.
@@ -49,6 +52,9 @@ fn parsed<'a>(
         "thumbnail" => thumbnail_of(alloc, matches),
         "set" => set_of(alloc, matches),
         "shift" => shift_of(alloc, matches),
+        "rename" => rename_of(alloc, matches),
+        "geotag" => geotag_of(alloc, matches),
+        "touch" => touch_of(alloc, matches),
         "scrub" => scrub_of(alloc, matches),
         "check" => {
             let files = words_of(alloc, matches)?;
@@ -56,7 +62,13 @@ fn parsed<'a>(
         }
         "json" => {
             let files = words_of(alloc, matches)?;
-            request(alloc, Task::Json(reading_of(matches, true)), matches, files)
+            let reading = reading_of(matches, true);
+            let task = if matches.get_flag("summary") {
+                Task::Summary(reading)
+            } else {
+                Task::Json(reading)
+            };
+            request(alloc, task, matches, files)
         }
         _ => {
             let files = words_of(alloc, matches)?;
@@ -161,8 +173,11 @@ fn changing<'a>(
         let task = Task::Change(change, Target::InPlace(keeping_of(matches)));
         return request(alloc, task, matches, files);
     }
-    if matches.get_flag("recursive") || matches.get_flag("null") {
-        return wrong(alloc, "--recursive and --null require --in-place");
+    if takes_many(matches) {
+        return wrong(
+            alloc,
+            "--recursive, --null and conditions require --in-place",
+        );
     }
     match (files.pop(), files.len()) {
         (Some(out), 1) => {
@@ -183,7 +198,15 @@ fn request<'a>(
     if paths.is_empty() && !names_from_input {
         return wrong(alloc, "expected a file");
     }
+    let choice = match choice_of(alloc, matches)? {
+        Ok(choice) => choice,
+        Err(wrong) => return Ok(Err(wrong)),
+    };
+    if choice.is_any() && paths.iter().any(|path| *path == "-") {
+        return wrong(alloc, "no condition can be put on standard input");
+    }
     Ok(Ok(Request {
+        choice,
         task,
         paths,
         names_from_input,
@@ -192,20 +215,152 @@ fn request<'a>(
     }))
 }
 
+// Which pictures are processed.
+fn choice_of<'a>(
+    alloc: Global,
+    matches: &ArgMatches<'a>,
+) -> Result<Result<Choice<'a>, Wrong>, AllocError> {
+    let after = match date_of(alloc, matches, "after")? {
+        Ok(after) => after,
+        Err(wrong) => return Ok(Err(wrong)),
+    };
+    let before = match date_of(alloc, matches, "before")? {
+        Ok(before) => before,
+        Err(wrong) => return Ok(Err(wrong)),
+    };
+    let mut choice = Choice {
+        after,
+        before,
+        date: None,
+        location: None,
+        camera: matches.get_str("camera").map(|text| text.as_bytes()),
+    };
+    for (id, asked) in [("where", true), ("without", false)] {
+        for fact in matches.get_strs(id).unwrap_or(&[]) {
+            match *fact {
+                "date" => choice.date = Some(asked),
+                "location" => choice.location = Some(asked),
+                _ => return wrong(
+                    alloc,
+                    "expected date or location after --where or --without",
+                ),
+            }
+        }
+    }
+    Ok(Ok(choice))
+}
+
+// The time that an option names, if it is given.
+fn date_of(
+    alloc: Global,
+    matches: &ArgMatches<'_>,
+    id: &str,
+) -> Result<Result<Option<u64>, Wrong>, AllocError> {
+    let Some(text) = matches.get_str(id) else {
+        return Ok(Ok(None));
+    };
+    match begin_of(text) {
+        Some(time) => Ok(Ok(Some(time))),
+        None => {
+            let text = Escaped(text);
+            Ok(Err(format!(in alloc;
+                "invalid date '{text}'; expected e.g. 2024-05-01 or 2024-05-01T12:30"
+            )?))
+        }
+    }
+}
+
+// Whether many files may be asked for.
+fn takes_many(matches: &ArgMatches<'_>) -> bool {
+    ["recursive", "null"].iter().any(|id| matches.get_flag(id))
+        || ["after", "before", "camera"]
+            .iter()
+            .any(|id| matches.get_str(id).is_some())
+        || ["where", "without"]
+            .iter()
+            .any(|id| matches.get_strs(id).is_some())
+}
+
 fn thumbnail_of<'a>(
     alloc: Global,
     matches: &ArgMatches<'a>,
 ) -> Result<Result<Request<'a>, Wrong>, AllocError> {
-    let (Some(file), Some(out)) = (matches.get_str("file"), matches.get_str("out")) else {
-        return wrong(alloc, "expected FILE OUT");
+    let force = matches.get_flag("force");
+    let mut files = words_of(alloc, matches)?;
+    if let Some(folder) = matches.get_str("into") {
+        return request(alloc, Task::Thumbnails(folder, force), matches, files);
+    }
+    if takes_many(matches) {
+        return wrong(alloc, "--recursive, --null and conditions require --into");
+    }
+    match (files.pop(), files.len()) {
+        (Some(out), 1) => request(alloc, Task::Thumbnail(out, force), matches, files),
+        _ => wrong(alloc, "expected FILE OUT, or --into FOLDER PATH..."),
+    }
+}
+
+fn rename_of<'a>(
+    alloc: Global,
+    matches: &ArgMatches<'a>,
+) -> Result<Result<Request<'a>, Wrong>, AllocError> {
+    let text = matches.get_str("pattern").unwrap_or("");
+    let pattern = match Pattern::parse(alloc, text)? {
+        Ok(pattern) => pattern,
+        Err(error) => {
+            let text = Escaped(text);
+            return Ok(Err(format!(in alloc; "invalid pattern '{text}': {error}")?));
+        }
     };
-    Ok(Ok(Request {
-        task: Task::Thumbnail(out, matches.get_flag("force")),
-        paths: Vec::from_slice(alloc, &[file])?,
-        names_from_input: false,
-        recursive: false,
-        quiet: true,
-    }))
+    let renaming = Renaming {
+        pattern,
+        into: matches.get_str("into"),
+        copy: matches.get_flag("copy"),
+        dry_run: matches.get_flag("dry-run"),
+    };
+    let files = words_of(alloc, matches)?;
+    request(alloc, Task::Rename(renaming), matches, files)
+}
+
+// The offset from UTC of pictures that name none.
+fn offset_of<'a>(
+    alloc: Global,
+    matches: &ArgMatches<'a>,
+) -> Result<Result<&'a str, Wrong>, AllocError> {
+    let zone = matches.get_str("offset").unwrap_or("");
+    if !zone.is_empty() && exif_time_of(b"2000:01:01 00:00:00", b"", zone.as_bytes()).is_none() {
+        let zone = Escaped(zone);
+        return Ok(Err(format!(in alloc; "invalid offset '{zone}'; expected e.g. +02:00")?));
+    }
+    Ok(Ok(zone))
+}
+
+fn touch_of<'a>(
+    alloc: Global,
+    matches: &ArgMatches<'a>,
+) -> Result<Result<Request<'a>, Wrong>, AllocError> {
+    let zone = match offset_of(alloc, matches)? {
+        Ok(zone) => zone,
+        Err(wrong) => return Ok(Err(wrong)),
+    };
+    let files = words_of(alloc, matches)?;
+    request(alloc, Task::Touch(zone), matches, files)
+}
+
+fn geotag_of<'a>(
+    alloc: Global,
+    matches: &ArgMatches<'a>,
+) -> Result<Result<Request<'a>, Wrong>, AllocError> {
+    let zone = match offset_of(alloc, matches)? {
+        Ok(zone) => zone,
+        Err(wrong) => return Ok(Err(wrong)),
+    };
+    let geotagging = Geotagging {
+        track: matches.get_str("track").unwrap_or(""),
+        zone,
+        keeping: keeping_of(matches),
+    };
+    let files = words_of(alloc, matches)?;
+    request(alloc, Task::Geotag(geotagging), matches, files)
 }
 
 fn reading_of(matches: &ArgMatches<'_>, full: bool) -> Reading {

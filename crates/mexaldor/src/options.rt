@@ -46,6 +46,27 @@ pub fn null<'a>(alloc: Global) -> Arg<'a> {
     .short('0')
 }
 
+/// A date that the date taken is compared with.
+pub fn date<'a>(alloc: Global, id: &'a str, help: &'a str) -> Arg<'a> {
+    Arg::new(alloc, id).long(id).value_name("DATE").help(help)
+}
+
+pub fn camera<'a>(alloc: Global) -> Arg<'a> {
+    Arg::new(alloc, "camera")
+        .long("camera")
+        .value_name("TEXT")
+        .help("Only pictures whose make or model contains TEXT, in any case")
+}
+
+/// A fact that pictures tell or do not tell.
+pub fn fact<'a>(alloc: Global, id: &'a str, help: &'a str) -> Arg<'a> {
+    Arg::new(alloc, id)
+        .long(id)
+        .value_name("FACT")
+        .action(ArgAction::Append)
+        .help(help)
+}
+
 pub fn quiet<'a>(alloc: Global) -> Arg<'a> {
     flag(alloc, "quiet", "Do not show progress, notes or a summary").short('q')
 }
@@ -85,6 +106,25 @@ pub fn full<'a>(alloc: Global) -> Arg<'a> {
         "full",
         "Print values of more than 200 characters in full",
     )
+}
+
+/// The offset of a camera's clock from UTC.
+pub fn offset<'a>(alloc: Global) -> Arg<'a> {
+    Arg::new(alloc, "offset")
+        .long("offset")
+        .value_name("+HH:MM")
+        .allow_hyphen_values(true)
+        .help(
+            "The offset of the camera's clock from UTC, for pictures that name none [default: +00:00]",
+        )
+}
+
+/// A folder that files are written to.
+pub fn into<'a>(alloc: Global, help: &'a str) -> Arg<'a> {
+    Arg::new(alloc, "into")
+        .long("into")
+        .value_name("FOLDER")
+        .help(help)
 }
 
 /// The words after the options.

@@ -1,5 +1,6 @@
-//! Reads, edits and removes the Exif data of TIFF, JPEG, HEIF and WebP files; reads those of PNG,
-//! JPEG XL and raw files.
+//! Reads, edits and removes the Exif data of TIFF, JPEG, HEIF and WebP files.
+//!
+//! PNG and JPEG XL files are read, scrubbed and searched for locations; raw files are only read.
 //!
 //! ```no_run
 //! # fn main() -> Result<(), Box<dyn std::error::Error>> {
@@ -194,8 +195,9 @@ pub fn erase_gps(file: &mut [u8]) -> Result<(), Refused> {
 
 /// Returns a copy of a file without its metadata.
 ///
-/// JPEG and WebP files lose all metadata; the colour profile and what decoders need stay. In HEIF and
-/// TIFF files what is not the picture becomes zeros or empty data where it is; raw files are refused.
+/// JPEG, WebP and PNG files lose all metadata; the colour profile and what decoders need stay. In
+/// HEIF, JPEG XL and TIFF files what is not the picture becomes zeros or empty data where it is; raw
+/// files are refused.
 /// [`check`] lists parts that may hold metadata and stay.
 pub fn scrub(file: &[u8]) -> Result<Vec<u8>, Refused> {
     // A WebP file whose last payload lacks its pad byte gets one.

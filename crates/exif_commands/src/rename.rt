@@ -1,0 +1,359 @@
+//! Files that get other names, by when and with which camera they were taken.
+
+use crate::choosing::{exif_of, is_chosen};
+use crate::files::{Session, Stop};
+use crate::in_place::key_of;
+use crate::pending::{Next, name_of};
+use crate::request::Renaming;
+use exif::{Error, Exif, Sink, Tag};
+use exif_base::send_all;
+use exif_decisions::{Escaped, is_own_name};
+use exif_files::{HostFiles, Status, WriteError, folder_of};
+use exif_rename::{
+    Attributes, Facts, Missing, Move, Pattern, PlanError, Taken, Wish, WishFile, copy_file,
+    move_file, plan_names,
+};
+use exif_summary::{TAKEN, find_date, find_text};
+use std::alloc::{AllocError, Global};
+use std::collections::BTreeSet;
+use std::{fs, io};
+
+// What follows the name of a picture, or its whole name, in that of its sidecar.
+const SIDECARS: [&str; 2] = [".xmp", ".XMP"];
+
+// The files that are to have new names.
+#[derive(Drop)]
+struct Plan {
+    // as they were named or found
+    paths: Vec<String>,
+    wishes: Vec<Wish>,
+    // the files that have a wish, by the paths where their links end
+    seen: BTreeSet<String>,
+}
+
+/// Gives each file that is named or found its new name, and answers the worst status. All names are
+/// planned before the first file is moved: nothing has them, and no two files get one. A file
+/// without what the pattern requires is left and reported. Sidecars go along.
+pub fn rename_files<W: Sink, E: Sink>(
+    session: &mut Session<'_, '_, W, E>,
+    renaming: &Renaming<'_>,
+) -> Result<Status, Stop> {
+    let alloc = session.rt.alloc();
+    let into = match into_folder(session.rt, renaming) {
+        Ok(into) => into,
+        Err(cause) => return session.refuse(renaming.into.unwrap_or(""), &cause),
+    };
+    let mut plan = Plan {
+        paths: Vec::new(alloc),
+        wishes: Vec::new(alloc),
+        seen: BTreeSet::new(alloc),
+    };
+    let mut worst = Status::Success;
+    for _ in 0..u64::MAX {
+        let Some(next) = session.pending.next(session.rt)? else {
+            break;
+        };
+        let status = plan.add(session, renaming, into.as_str(), next)?;
+        worst = worst.or_worse(status);
+    }
+    let planned = plan.carry_out(session, renaming)?;
+    Ok(worst.or_worse(planned))
+}
+
+// The folder that new names are in, without links; nothing for that of each file.
+fn into_folder(rt: &HostRuntime, renaming: &Renaming<'_>) -> io::Result<String> {
+    let Some(into) = renaming.into else {
+        return Ok(String::new(rt.alloc()));
+    };
+    if !renaming.dry_run {
+        fs::create_dir_all(rt, into)?;
+    }
+    match fs::canonicalize(rt, into) {
+        Ok(path) => Ok(String::from_str(rt.alloc(), path.as_path().as_str())?),
+        // a dry run makes no folder
+        Err(_nothing) => Ok(String::from_str(rt.alloc(), into)?),
+    }
+}
+
+impl Plan {
+    // Adds a file, or reports why it stays as it is.
+    fn add<W: Sink, E: Sink>(
+        &mut self,
+        session: &mut Session<'_, '_, W, E>,
+        renaming: &Renaming<'_>,
+        into: &str,
+        next: Next,
+    ) -> Result<Status, Stop> {
+        match next {
+            Next::Input => refuse(session, "-", &"standard input has no name"),
+            Next::Failed(path, cause) => refuse(session, path.as_str(), &cause),
+            Next::Found(path) if !session.is_picture(path.as_str()) => {
+                drop(path);
+                Ok(Status::Success)
+            }
+            Next::Named(path) | Next::Found(path)
+                if !is_chosen(session.rt, session.request, path.as_str())? => {
+                drop(path);
+                Ok(Status::Success)
+            }
+            Next::Named(path) | Next::Found(path) => match key_of(session.rt, path.as_str()) {
+                Ok(key) => self.add_file(session, renaming, into, path, key),
+                Err(cause) => refuse(session, path.as_str(), &cause),
+            },
+        }
+    }
+
+    // Adds a file of which links end at a path.
+    fn add_file<W: Sink, E: Sink>(
+        &mut self,
+        session: &mut Session<'_, '_, W, E>,
+        renaming: &Renaming<'_>,
+        into: &str,
+        path: String,
+        key: String,
+    ) -> Result<Status, Stop> {
+        let alloc = session.rt.alloc();
+        if !self.seen.insert(key.clone()?)? {
+            return Ok(Status::Success);
+        }
+        let name = match new_name(session.rt, &renaming.pattern, key.as_str())? {
+            Ok(Ok(name)) => name,
+            Ok(Err(missing)) => {
+                session.pending.counts.add(Status::Incomplete);
+                session.say(path.as_str(), &missing)?;
+                return Ok(Status::Incomplete);
+            }
+            Err(error) => return refuse(session, path.as_str(), &error),
+        };
+        let folder = if into.is_empty() {
+            folder_of(key.as_str())
+        } else {
+            into
+        };
+        let slash = if folder.ends_with('/') { "" } else { "/" };
+        let base = format!(in alloc; "{folder}{slash}{name}")?;
+        let files = self.files_of(session.rt, key)?;
+        self.wishes.push(Wish { base, files })?;
+        self.paths.push(path)?;
+        Ok(Status::Success)
+    }
+
+    // A picture and its sidecars, each with what follows its new name.
+    fn files_of(&mut self, rt: &HostRuntime, key: String) -> Result<Vec<WishFile>, AllocError> {
+        let alloc = rt.alloc();
+        let (stem, extension) = split_name(key.as_str());
+        let mut files = Vec::new(alloc);
+        files.push(WishFile {
+            old: key.clone()?,
+            ending: String::from_str(alloc, extension)?,
+        })?;
+        for suffix in SIDECARS {
+            self.add_sidecar(rt, stem, "", suffix, &mut files)?;
+            if !extension.is_empty() {
+                self.add_sidecar(rt, stem, extension, suffix, &mut files)?;
+            }
+        }
+        Ok(files)
+    }
+
+    // Adds a sidecar, if there is one that goes with no other picture.
+    fn add_sidecar(
+        &mut self,
+        rt: &HostRuntime,
+        stem: &str,
+        extension: &str,
+        suffix: &str,
+        files: &mut Vec<WishFile>,
+    ) -> Result<(), AllocError> {
+        let alloc = rt.alloc();
+        let old = format!(in alloc; "{stem}{extension}{suffix}")?;
+        let is_file = match fs::symlink_metadata(rt, old.as_str()) {
+            Ok(found) => found.is_file(),
+            Err(_nothing) => false,
+        };
+        if is_file && self.seen.insert(old.clone()?)? {
+            let ending = format!(in alloc; "{extension}{suffix}")?;
+            files.push(WishFile { old, ending })?;
+        }
+        Ok(())
+    }
+
+    // Plans the names, and moves the files or writes what would be moved.
+    fn carry_out<W: Sink, E: Sink>(
+        self,
+        session: &mut Session<'_, '_, W, E>,
+        renaming: &Renaming<'_>,
+    ) -> Result<Status, Stop> {
+        let alloc = session.rt.alloc();
+        let Plan {
+            paths,
+            wishes,
+            seen: _,
+        } = self;
+        let numbers = match plan_names(alloc, &mut HostFiles::new(session.rt), wishes.as_slice()) {
+            Ok(numbers) => numbers,
+            Err(PlanError::OutOfMemory) => return Err(Stop::OutOfMemory),
+            Err(PlanError::Crowded(index)) => {
+                let path = paths.get(index).map_or("", |path| path.as_str());
+                return refuse(
+                    session,
+                    path,
+                    &"too many files have its new name; nothing is renamed",
+                );
+            }
+            Err(error) => return refuse(session, "", &error),
+        };
+        let mut worst = Status::Success;
+        for ((path, wish), number) in paths.iter().zip(wishes.iter()).zip(numbers.iter()) {
+            let moves = wish.moves(alloc, *number)?;
+            let status = move_all(session, renaming, path.as_str(), moves.as_slice())?;
+            session.pending.counts.add(status);
+            worst = worst.or_worse(status);
+        }
+        Ok(worst)
+    }
+}
+
+fn refuse<W: Sink, E: Sink, T: std::fmt::Display>(
+    session: &mut Session<'_, '_, W, E>,
+    path: &str,
+    cause: &T,
+) -> Result<Status, Stop> {
+    session.pending.counts.add(Status::Refused);
+    session.refuse(path, cause)
+}
+
+// Moves a picture and its sidecars: these stay where the picture stays.
+fn move_all<W: Sink, E: Sink>(
+    session: &mut Session<'_, '_, W, E>,
+    renaming: &Renaming<'_>,
+    path: &str,
+    moves: &[Move],
+) -> Result<Status, Stop> {
+    let mut worst = Status::Success;
+    for wanted in moves {
+        let (from, to) = (wanted.from.as_str(), wanted.to.as_str());
+        if renaming.dry_run {
+            let (from, to) = (Escaped(from), Escaped(to));
+            let line = format!(in session.rt.alloc(); "{from} -> {to}\n")?;
+            send_all(session.out, line.as_bytes()).map_err(Stop::Output)?;
+            continue;
+        }
+        match give_name(session.rt, renaming.copy, from, to) {
+            Ok(Attributes::Kept) => {}
+            Ok(Attributes::Lost) => {
+                session.say(
+                    path,
+                    &"the mode, the owner or the times of the file were not kept",
+                )?;
+                worst = worst.or_worse(Status::Incomplete);
+            }
+            Err(WriteError::OutOfMemory) => return Err(Stop::OutOfMemory),
+            Err(WriteError::Taken) => return session.refuse(path, &"its new name is taken"),
+            Err(error) => return session.refuse(path, &error),
+        }
+    }
+    Ok(worst)
+}
+
+// Moves or copies a file, into a folder that is made if it is not there.
+fn give_name(rt: &HostRuntime, copy: bool, from: &str, to: &str) -> Result<Attributes, WriteError> {
+    fs::create_dir_all(rt, folder_of(to))?;
+    let mut files = HostFiles::new(rt);
+    if copy {
+        copy_file(rt.alloc(), &mut files, from, to)
+    } else {
+        move_file(rt.alloc(), &mut files, from, to)
+    }
+}
+
+// A path up to the last `.` of the file's name, and the rest; a name that begins with its only `.`
+// has no extension.
+fn split_name(path: &str) -> (&str, &str) {
+    let name = name_of(path);
+    let behind = match name.rsplit_once('.') {
+        Some((stem, extension)) if !stem.is_empty() => extension.len().saturating_add(1),
+        _ => 0,
+    };
+    match path.split_at_checked(path.len().saturating_sub(behind)) {
+        Some(parts) => parts,
+        None => (path, ""),
+    }
+}
+
+// The new name of a file by a pattern, or what it lacks; or why it can't be read.
+fn new_name(
+    rt: &HostRuntime,
+    pattern: &Pattern,
+    path: &str,
+) -> Result<Result<Result<String, Missing>, Error>, AllocError> {
+    let alloc = rt.alloc();
+    let (stem, _) = split_name(name_of(path));
+    match exif_of(rt, path) {
+        Ok(exif) => Ok(Ok(name_by(alloc, pattern, &exif, stem)?)),
+        Err(Error::NotFound(_)) => Ok(Ok(name_by_stem(alloc, pattern, stem)?)),
+        Err(error) => Ok(Err(error)),
+    }
+}
+
+// The new name by what is known of a picture.
+fn name_by(
+    alloc: Global,
+    pattern: &Pattern,
+    exif: &Exif,
+    stem: &str,
+) -> Result<Result<String, Missing>, AllocError> {
+    let facts = Facts {
+        taken: taken_of(exif),
+        make: text_of(exif, Tag::Make),
+        model: text_of(exif, Tag::Model),
+        name: stem,
+    };
+    name_of_facts(alloc, pattern, &facts)
+}
+
+// The new name of a picture that has no Exif data.
+fn name_by_stem(
+    alloc: Global,
+    pattern: &Pattern,
+    stem: &str,
+) -> Result<Result<String, Missing>, AllocError> {
+    let facts = Facts {
+        taken: None,
+        make: None,
+        model: None,
+        name: stem,
+    };
+    name_of_facts(alloc, pattern, &facts)
+}
+
+// The new name by facts. The program's own names are not given.
+fn name_of_facts(
+    alloc: Global,
+    pattern: &Pattern,
+    facts: &Facts<'_>,
+) -> Result<Result<String, Missing>, AllocError> {
+    match pattern.name(alloc, facts)? {
+        Ok(name) if is_own_name(name_of(name.as_str())) => Ok(Err(Missing::Name)),
+        named => Ok(named),
+    }
+}
+
+fn taken_of(exif: &Exif) -> Option<Taken> {
+    let date = find_date(exif, TAKEN)?;
+    Some(Taken {
+        year: date.year,
+        month: date.month,
+        day: date.day,
+        hour: date.hour,
+        minute: date.minute,
+        second: date.second,
+    })
+}
+
+fn text_of(exif: &Exif, tag: Tag) -> Option<&str> {
+    match std::str::from_utf8(find_text(exif, tag)?) {
+        Ok(text) => Some(text),
+        Err(_) => None,
+    }
+}

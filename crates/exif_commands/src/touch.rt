@@ -1,0 +1,39 @@
+//! File times, by when pictures were taken.
+
+use crate::choosing::exif_of;
+use exif::{Error, Exif};
+use exif_geotag::time_of_picture;
+use std::fs::File;
+use std::io;
+use std::time::{Duration, SystemTime};
+
+// The milliseconds from the year 0, from which pictures count, to 1970, from which file systems do.
+const TO_1970: u64 = 719_528 * 86_400_000;
+
+/// Sets the modification time of a file to when its picture was taken. Answers whether that is
+/// known, and not before 1970; else nothing changes. `zone` is the offset from UTC of pictures that
+/// name none.
+pub fn touch_file(rt: &HostRuntime, zone: &str, path: &str) -> Result<bool, Error> {
+    let exif = match exif_of(rt, path) {
+        Ok(exif) => exif,
+        Err(Error::NotFound(_)) => return Ok(false),
+        Err(error) => return Err(error),
+    };
+    let Some(time) = system_time_of(&exif, zone) else {
+        return Ok(false);
+    };
+    match set_time(rt, path, time) {
+        Ok(()) => Ok(true),
+        Err(cause) => Err(Error::Io(cause)),
+    }
+}
+
+fn set_time(rt: &HostRuntime, path: &str, time: SystemTime) -> io::Result<()> {
+    File::open(rt, path)?.set_modified(time)
+}
+
+fn system_time_of(exif: &Exif, zone: &str) -> Option<SystemTime> {
+    let time = time_of_picture(exif, zone.as_bytes())?;
+    let since_1970 = Duration::from_millis(time.checked_sub(TO_1970)?);
+    SystemTime::UNIX_EPOCH.checked_add(since_1970)
+}

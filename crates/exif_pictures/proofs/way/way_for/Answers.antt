@@ -1,0 +1,12 @@
+use Rattle.std.proofs.Common.{◌≡◌, ℕ, List, take, ap, ◌∙◌}
+use Rattle.std.proofs.lemmas.List.{take_min}
+use Rattle.exif_formats.specs.Formats.{format_in}
+use Rattle.exif_pictures.specs.Ways.{way_of}
+use Rattle.exif_pictures.proofs.way.way_for.Goals as goal
+
+pub returns : goal.returns
+returns c =
+    let file = c.args.file.now in
+    let cut : take c.min.result file ≡ take 4096 file =
+    ap (λ (n : ℕ). take n file) c.min.ensures ∙ take_min 4096 file in
+    c.way_of.ensures ∙ ap way_of (c.format_of.ensures ∙ ap (λ (s : List ℕ). format_in s) cut)

@@ -1,0 +1,4 @@
+pub mod Boxes
+pub mod PngChanges
+pub mod Ways
+pub mod Pictures

@@ -1,0 +1,12 @@
+//! What programs change of a picture in memory, whatever format it has.
+//!
+//! TIFF, JPEG, HEIF and WebP files are changed by `exif_change`, and PNG and JPEG XL files here.
+//! Raw files are not changed.
+#![tactic(auto)]
+
+mod jxl;
+mod pictures;
+mod png;
+mod way;
+
+pub use pictures::{scrub, scrub_notes, scrub_with_color, set, shift};

@@ -1,0 +1,170 @@
+//! What programs change of a picture, by its format.
+
+ghost use Rattle.std.specs.Prelude.{◌≡◌, ◌∷◌, [], if◌then◌else◌, IfOk, Ok, Some};
+ghost use Rattle.exif_change.specs.Changed.{change_of};
+ghost use Rattle.exif_change.specs.Changes.{keeps_orientation, with_color};
+ghost use Rattle.exif_change.specs.Refusals.{Answers, why_of};
+ghost use Rattle.exif_pictures.specs.Pictures.{jxl_refused, jxl_scrubbed, jxl_unlocated, picture_notes, picture_scrubbed, picture_scrubbed_with_color, picture_set, picture_shifted, png_scrubbed, png_with_color, raw_refused};
+
+use crate::png::whole;
+use crate::way::{Way, way_for};
+use crate::{jxl, png};
+use exif::Error;
+use exif_change::{
+    Assignment, Changed, ClockShift, Color, Dates, Left, Note, Refusal, Removed, Unread,
+    parts_unlocated,
+};
+use exif_inventory::inventory;
+use exif_rewrite::without_color_profile;
+use std::alloc::{AllocError, Global};
+
+// Why raw files are refused.
+fn raw_refused() -> Refusal
+    ensures { why_of result ≡ Some raw_refused }
+{
+    let text = "raw files are not changed; use an XMP sidecar";
+    Refusal::Reading(Error::NotSupported(text))
+}
+
+// Why values and dates of JPEG XL files are not set.
+fn jxl_refused() -> Refusal
+    ensures { why_of result ≡ Some jxl_refused }
+{
+    Refusal::Reading(Error::NotSupported("no values are set in JPEG XL files"))
+}
+
+// A PNG file without what is removed.
+fn png_scrubbed(alloc: Global, file: Vec<u8>, removed: Removed) -> Result<Changed, Refusal>
+    ensures { Answers change_of result (png_scrubbed removed file.items) }
+{
+    match removed {
+        Removed::Gps(unread) => parts_unlocated(alloc, unread, file),
+        Removed::Metadata | Removed::AllButOrientation => {
+            png::emptied(alloc, removed, file.as_slice())
+        }
+    }
+}
+
+// A JPEG XL file without the locations of its parts. A codestream without a container has none.
+fn jxl_unlocated(alloc: Global, file: Vec<u8>, unread: Unread) -> Result<Changed, Refusal>
+    ensures { Answers change_of result (jxl_unlocated unread file.items) }
+{
+    match inventory(alloc, file.as_slice())? {
+        Some(_parts) => parts_unlocated(alloc, unread, file),
+        None => Ok(whole(alloc, file)),
+    }
+}
+
+// A JPEG XL file without what is removed.
+fn jxl_scrubbed(alloc: Global, file: Vec<u8>, removed: Removed) -> Result<Changed, Refusal>
+    ensures { Answers change_of result (jxl_scrubbed removed file.items) }
+{
+    match removed {
+        Removed::Gps(unread) => jxl_unlocated(alloc, file, unread),
+        Removed::Metadata | Removed::AllButOrientation => Ok(jxl::emptied(alloc, file)?),
+    }
+}
+
+/// The picture without what is removed: [`exif_change::scrub`] for TIFF, JPEG, HEIF and WebP files.
+///
+/// A PNG file is written again without the chunks that do not show the picture
+/// ([`exif_rewrite_png::rewrite_png`]). In a JPEG XL file they become free space; the picture keeps
+/// its own orientation. Where locations are erased no byte moves, and the CRCs of the chunks that
+/// were changed are mended. Raw files are refused. It takes the memory of the file and of the new
+/// one.
+pub fn scrub(alloc: Global, file: Vec<u8>, removed: Removed) -> Result<Changed, Refusal>
+    ensures { Answers change_of result (picture_scrubbed removed file.items) }
+{
+    match way_for(file.as_slice()) {
+        Way::Known => exif_change::scrub(alloc, file, removed),
+        Way::Png => png_scrubbed(alloc, file, removed),
+        Way::Jxl => jxl_scrubbed(alloc, file, removed),
+        Way::Raw => Err(raw_refused()),
+    }
+}
+
+// A change that left the colour profile too.
+fn with_color(changed: Changed) -> Result<Changed, Refusal>
+    ensures { Answers change_of result (with_color (Ok (change_of changed))) }
+{
+    let Changed { file, mut left } = changed;
+    left.push(Left::Color)?;
+    Ok(Changed { file, left })
+}
+
+// A PNG file without its colour profile, and without what is removed beside it.
+fn png_with_color(alloc: Global, file: Vec<u8>, removed: Removed) -> Result<Changed, Refusal>
+    ensures { Answers change_of result (png_with_color removed file.items) }
+{
+    match without_color_profile(alloc, file.as_slice())? {
+        Some(new) => png_scrubbed(alloc, new, removed),
+        None => with_color(png_scrubbed(alloc, file, removed)?),
+    }
+}
+
+/// The picture without its colour profile, and without what is removed beside it. JPEG XL files
+/// keep it, as HEIF and TIFF files do, and this is answered.
+pub fn scrub_with_color(alloc: Global, file: Vec<u8>, removed: Removed) -> Result<Changed, Refusal>
+    ensures { Answers change_of result (picture_scrubbed_with_color removed file.items) }
+{
+    match way_for(file.as_slice()) {
+        Way::Known => exif_change::scrub_with_color(alloc, file, removed),
+        Way::Png => png_with_color(alloc, file, removed),
+        Way::Jxl => with_color(jxl_scrubbed(alloc, file, removed)?),
+        Way::Raw => Err(raw_refused()),
+    }
+}
+
+/// The picture with values set: [`exif_change::set`] for TIFF, JPEG, HEIF and WebP files. The Exif
+/// data of a PNG file are changed as a TIFF file is, or it gets new ones. Other files are refused.
+pub fn set(alloc: Global, file: Vec<u8>, assignments: &[Assignment<'_>]) -> Result<Changed, Refusal>
+    ensures { Answers change_of result (picture_set assignments.now file.items) }
+{
+    match way_for(file.as_slice()) {
+        Way::Known => exif_change::set(alloc, file, assignments),
+        Way::Png => png::set(alloc, assignments, file),
+        Way::Jxl => Err(jxl_refused()),
+        Way::Raw => Err(raw_refused()),
+    }
+}
+
+/// The picture with its dates moved: [`exif_change::shift`], also in the Exif data of a PNG file.
+pub fn shift(alloc: Global, file: Vec<u8>, by: ClockShift, dates: Dates) -> Result<Changed, Refusal>
+    ensures { Answers change_of result (picture_shifted by dates file.items) }
+{
+    match way_for(file.as_slice()) {
+        Way::Known => exif_change::shift(alloc, file, by, dates),
+        Way::Png => png::shift(alloc, by, dates, file.as_slice()),
+        Way::Jxl => Err(jxl_refused()),
+        Way::Raw => Err(raw_refused()),
+    }
+}
+
+// The note that a picture keeps its own orientation.
+fn own_rotation(alloc: Global, removed: Removed) -> Result<Vec<Note>, AllocError>
+    ensures { IfOk result (λ notes. notes.items
+        ≡ (if keeps_orientation removed then Note.OwnRotation ∷ [] else [])) }
+{
+    let mut notes = Vec::new(alloc);
+    if let Removed::AllButOrientation = removed {
+        notes.push(Note::OwnRotation)?;
+    }
+    Ok(notes)
+}
+
+/// What the user is to know of a picture that is scrubbed ([`exif_change::scrub_notes`]).
+pub fn scrub_notes(
+    alloc: Global,
+    file: &[u8],
+    removed: Removed,
+    color: Color,
+) -> Result<Vec<Note>, AllocError>
+    ensures { IfOk result (λ notes. notes.items ≡ picture_notes removed color file.now) }
+{
+    match way_for(file) {
+        Way::Jxl => own_rotation(alloc, removed),
+        Way::Known | Way::Png | Way::Raw => {
+            exif_change::scrub_notes(alloc, file, removed, color)
+        }
+    }
+}
