@@ -23,7 +23,7 @@ pub fn is_chosen(rt: &HostRuntime, request: &Request<'_>, path: &str) -> Result<
     }
 }
 
-/// The Exif data of a file, with all faults passed over.
+/// The Exif data of a file. Faults are skipped.
 pub fn exif_of(rt: &HostRuntime, path: &str) -> Result<Exif, Error> {
     let options = Options {
         lenient: true,

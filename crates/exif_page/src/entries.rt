@@ -9,7 +9,7 @@ pub struct Entry<'a> {
     pub day: Option<&'a str>,
     /// The time of the day, as `12:30:59`.
     pub time: Option<&'a str>,
-    /// The camera, as `Canon EOS R5`.
+    /// The camera, as `Example Pinhole`.
     pub camera: Option<&'a str>,
     /// The exposure, as `1/200 s, f/2.8, ISO 100, 35 mm`.
     pub exposure: Option<&'a str>,

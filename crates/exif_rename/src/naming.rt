@@ -163,7 +163,7 @@ fn known_text(
     Ok(Ok(safe))
 }
 
-// A text that may stand in a file's name.
+// A text as a file's name can have it.
 fn safe(alloc: Global, text: &str) -> Result<String, AllocError>
     ensures { IfOk result (λ safe_text. string_bytes safe_text ≡ safe text.now) }
 {
@@ -186,7 +186,7 @@ fn undotted(alloc: Global, name: String) -> Result<String, AllocError>
     }
 }
 
-// A character that may stand in a file's name, in place of any.
+// The character of a file's name that replaces one that it can't have.
 fn safe_char(c: char) -> char
     ensures { result ≡ safe_char c }
 {

@@ -14,7 +14,7 @@ pub struct Choice<'a> {
     pub after: Option<u64>,
     /// Taken before this time.
     pub before: Option<u64>,
-    /// Whether the date taken is told.
+    /// Whether the picture has a date taken.
     pub date: Option<bool>,
     /// Whether Exif tells the location.
     pub location: Option<bool>,

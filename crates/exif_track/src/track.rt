@@ -34,7 +34,7 @@ impl Track {
     ghost use Rattle.exif_track.specs.Walks.{track_of};
 
     /// The track of a GPX file, version 1.0 or 1.1: its elements `trkpt`, of all tracks and
-    /// segments, in the order of their times. Other elements are passed over. A point is skipped,
+    /// segments, in the order of their times. Other elements are ignored. A point is skipped,
     /// and counted, if it has no time, latitude or longitude, or one that can't be read or is out
     /// of range. Of an elevation that can't be read nothing is known. An error says why the file is
     /// no track. It takes memory for the points, and for half of them again while they are sorted.
