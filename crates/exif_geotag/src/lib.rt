@@ -31,7 +31,8 @@ pub fn time_of_picture(exif: &Exif, zone: &[u8]) -> Option<u64>
     exif_time_of(date, subsec, offset)
 }
 
-/// Where a picture was taken by a track; `None` where it has no date, or the track was nowhere then.
+/// The location of a track at the time of a picture; `None` where the picture has no date, or the
+/// track has no location at its time.
 pub fn fix_of_picture(exif: &Exif, zone: &[u8], track: &Track) -> Option<Fix>
     ensures { result ≡ fix_in exif.now.fields zone.now track.now.points }
 {

@@ -188,15 +188,15 @@ fn find_all(alloc: Global, unread: Unread, file: &[u8]) -> Result<Option<Vec<Sta
     }
 }
 
-/// Erases the locations in a JPEG, WebP, HEIF, PNG, JPEG XL or TIFF file, in place, and answers the parts that
-/// may still hold one, in their order: `None` for a file of another format, which stays as it is. A
-/// part is answered for each reason why it may. A TIFF file is one part, of Exif data.
+/// Erases the locations in a JPEG, WebP, HEIF, PNG, JPEG XL or TIFF file, in place, and answers the
+/// parts that may still hold one, in their order: `None` for a file of another format, which stays
+/// as it is. A part is answered for each reason why it may. A TIFF file is one part, of Exif data.
 ///
 /// Erased are the locations of each part with Exif data, as
 /// [`exif_data_locations::erase_locations`] does, the properties of XMP packets and the datasets of
 /// IPTC data that name a location. The portions of an extended XMP packet are joined for this, if
-/// they follow one another and are all there. Of all other parts no byte changes. The CRCs of the
-/// chunks of a PNG file that were changed are mended. What can't be
+/// they follow one another and are all there. Of all other parts no byte changes. Chunks of a PNG
+/// file that were changed get their new CRC. What can't be
 /// read stays and is answered, or is overwritten, as `unread` says. Comments, trailers, content
 /// credentials, other parts of long XMP packets, and segments and chunks that are not known stay
 /// and are answered, unless they are zeros; so do texts and keywords.

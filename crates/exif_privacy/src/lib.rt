@@ -1,7 +1,7 @@
 //! What a file says of where its picture was taken, erased in place.
 //!
-//! [`erase_locations`] works on JPEG, WebP, HEIF, AVIF, PNG, JPEG XL and TIFF files. It erases what it can,
-//! changes no other byte, and answers which parts stay that hold a location or may hold one.
+//! [`erase_locations`] works on JPEG, WebP, HEIF, AVIF, PNG, JPEG XL and TIFF files. It erases what
+//! it can, changes no other byte, and answers which parts stay that hold a location or may hold one.
 #![tactic(auto)]
 
 mod chunks;

@@ -1,5 +1,5 @@
-//! What people ask of a picture: how it is turned, when, where and by which camera it was taken, and
-//! its size. Each answer is one number or one text.
+//! What people ask of a picture: its size and orientation, and when, where and with which camera it
+//! was taken. Each answer is one number or one text.
 //!
 //! [`find_cell`] answers a [`Column`] of a picture, as catalogues and tables have them.
 #![tactic(auto)]
