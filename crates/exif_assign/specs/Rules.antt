@@ -202,14 +202,14 @@ spelling_by field_type.Float = spelling.Nothing
 spelling_by field_type.Double = spelling.Nothing
 spelling_by _ = spelling.Number
 
--- so by what values a tag can have
+-- the same by what values a tag can have
 abbrev pub spelling_as : Form → FieldType → Spelling
 spelling_as Nothing type = spelling.Nothing
 spelling_as Comment type = spelling.Text
 spelling_as (Within low high) type = spelling.Number
 spelling_as _ type = spelling_by type
 
--- so by the tag
+-- the same by the tag
 abbrev pub spelling_of : Tag → Spelling
 spelling_of tag =
     elim (rule_of tag) [ Some rule ↦ spelling_as rule.2 rule.1 | None ↦ spelling.Nothing ]

@@ -34,7 +34,7 @@ pub at_hand_taken : (block : List ℕ) (left : Option (List ℕ)) (at end n : �
 at_hand_taken block left at end n =
     rw (sym (drop-drop n at (take end block))) (head_taken (drop at (take end block)) left n)
 
--- bytes at hand were passed over
+-- bytes at hand were skipped
 pub at_hand_passed : (block : List ℕ) (left : Option (List ℕ)) (at end n stop : ℕ) → at + n ≤ end → end ≤ length block
     → ((k : ℕ) → k < n → slice_index block (at + k) ≢ stop)
     → PassesOthers (prepend_known (drop at (take end block)) left) (prepend_known (drop (at + n) (take end block)) left) stop n
@@ -117,7 +117,7 @@ pub fetched_behind : {E : Type 0} (block : List ℕ) (a b : Option (List ℕ)) (
 fetched_behind block a b old new at end (Ok n) l same h = (h.0, consumed_behind _ a b h.0 (none_left block at end l same) h.1, h.2, h.3)
 fetched_behind block a b old new at end (Err e) l same h = tt
 
--- what was passed over behind such a block
+-- what was skipped behind such a block
 pub passed_behind : (block : List ℕ) (a b : Option (List ℕ)) (at end stop n : ℕ) → end ≤ length block → at ≡ end
     → PassesOthers a b stop n → let head = drop at (take end block) in PassesOthers (prepend_known head a) (prepend_known head b) stop n
 passed_behind block a b at end stop n l same h = (h.0, consumed_behind _ a b h.0 (none_left block at end l same) h.1, h.2, h.3)

@@ -38,7 +38,7 @@ others_ahead all start n stop some others = λ k d lt is.
     let inside : start + k < length all = omega arith in
     others k below (sym (get_or_default_zero all (start + k) d inside) ∙ sym (get_or-drop start all k d) ∙ sym (get_or-take n (drop start all) k d below) ∙ is)
 
--- they were passed over
+-- they were skipped
 pub passed_ahead : (known after : Option (List ℕ)) (all : List ℕ) (offset next start n stop : ℕ) → IfSome known (λ xs. all ≡ xs)
     → start ≡ min offset (length all) → n ≤ length all - start → after ≡ known → next ≡ offset + n
     → ((k : ℕ) → k < n → slice_index all (start + k) ≢ stop)

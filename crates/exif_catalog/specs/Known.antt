@@ -15,7 +15,7 @@ abbrev pub is_below : List ℕ → List ℕ → Bool
 is_below path root =
     if starts_with nat_eq path root then ends_folder root (drop (length root) path) else false
 
--- so of one of the roots
+-- the same of one of the roots
 abbrev pub is_below_any : List ℕ → List (Bor (List ℕ)) → Bool
 is_below_any path roots = list_any (λ root. is_below path root.now) roots
 
@@ -27,7 +27,7 @@ mark_for true false below = None
 mark_for false true below = None
 mark_for false false below = if below then Some true else None
 
--- so of a row
+-- the same of a row
 abbrev pub mark_of : List ℕ → Known → List (Bor (List ℕ)) → Option Bool
 mark_of path known roots = mark_for known.is_seen known.is_removed (is_below_any path roots)
 
@@ -36,7 +36,7 @@ abbrev pub is_stamp : Option Stamp → Stamp → Bool
 is_stamp None stamp = false
 is_stamp (Some known) stamp = known.size == stamp.size && known.modified == stamp.modified
 
--- so of a row, if there is one
+-- the same of a row, if there is one
 abbrev pub has_stamp : Option Known → Stamp → Bool
 has_stamp None stamp = false
 has_stamp (Some known) stamp = is_stamp known.stamp stamp

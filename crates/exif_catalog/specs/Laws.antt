@@ -20,6 +20,6 @@ takes type.real (value.text bytes) = false
 takes type.text (value.integer n) = false
 takes type.text (value.real digits) = false
 
--- so do those of a picture
+-- and so do those of a picture
 abbrev pub ColumnTakes : List Field → Column → Type 0
 ColumnTakes fields column = takes (type_of column) (column_value (Some fields) column) ≡ true

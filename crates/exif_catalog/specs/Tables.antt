@@ -21,6 +21,6 @@ abbrev pub tables_for : ℕ → ℕ → declared.Tables
 tables_for others own = if others == 0 then tables.None
     else (if others == 2 && own == 2 then tables.Catalog else tables.Other)
 
--- so by the names of all
+-- the same by the names of all
 abbrev pub tables_of : List (String Global) → declared.Tables
 tables_of names = tables_for (count_by (λ name. not (is_internal name)) names) (count_by is_own names)

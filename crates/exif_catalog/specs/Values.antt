@@ -62,7 +62,7 @@ abbrev pub column_value : Option (List Field) → Column → Stored
 column_value None column = null
 column_value (Some fields) column = maybe_shown (cell_of fields column)
 
--- so in all columns
+-- the same in all columns
 abbrev pub columns_values : Option (List Field) → List Stored
 columns_values exif = map (column_value exif) COLUMNS
 

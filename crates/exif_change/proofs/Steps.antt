@@ -23,7 +23,7 @@ refused_on {X = X} {Y = Y} e x y h f = by_why (why_of e) h
     by_why None h = h
     by_why (Some why) h = f why h
 
--- so where the whole goes on with what the step gives
+-- the same where the whole goes on with what the step gives
 pub refused_then : {X Y : Type 0} (e : Refusal) (x : Result X Why) (f : X → Result Y Why) → Fails e x → Fails e (x >>= f)
 refused_then e x f h = refused_on e x (x >>= f) h (λ why is. ap (λ r. r >>= f) is)
 

@@ -91,7 +91,7 @@ abbrev pub created_in : Format → List Field → List ℕ → Result Change Why
 created_in format fields file =
     as_read (new_data fields) >>= λ data'. put format data' fields file
 
--- so by the format of a file that has no Exif data: the `meta` of a HEIF file would have to grow
+-- the same by the format of a file without Exif data: the `meta` of a HEIF file would grow
 abbrev pub created_for : Format → List ℕ → List Field → List ℕ → Result Change Why
 created_for Heif what fields file = Err (reading (not_found what))
 created_for Jpeg what fields file = created_in Jpeg fields file

@@ -51,11 +51,11 @@ fit_by field (Ok new) (file, left) = Ok (new, left)
 fit_by field (Err cause) (file, left) =
     if needs_space cause then Ok (file, left ++ field ∷ []) else Err cause
 
--- so by the edit of the file
+-- the same by the edit of the file
 abbrev pub fit_one : Field → List ℕ × List Field → Result (List ℕ × List Field) Cause
 fit_one field (file, left) = fit_by field (field_set field file) (file, left)
 
--- so with fields one after the other
+-- the same with fields one after the other
 abbrev pub fitting_set : List Field → List ℕ × List Field
     → Result (List ℕ × List Field) Cause
 fitting_set [] made = Ok made

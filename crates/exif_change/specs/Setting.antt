@@ -57,7 +57,7 @@ field_or tag (Err value_error.NotOfItsType) = Err (not_of_its_type tag)
 field_or tag (Err value_error.OutOfRange) = Err (out_of_range tag)
 field_or tag (Err value_error.OutOfMemory) = Err (not_of_its_type tag)
 
--- so by its type, if it has one
+-- the same by its type, if it has one
 abbrev pub field_typed : Tag × List ℕ → Option FieldType → Result Field Why
 field_typed (tag, text) None = Err no_field
 field_typed (tag, text) (Some type) = field_or tag (value_in tag type text)

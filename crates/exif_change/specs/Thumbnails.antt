@@ -18,7 +18,7 @@ abbrev pub number_named : List Field → Tag → Option ℕ
 number_named fields tag =
     option_and_then (λ field. number_in field.value 0) (last_named fields tag second)
 
--- so many bytes from an offset on, if they are there
+-- this many bytes from an offset on, if they are there
 abbrev pub bytes_at : List ℕ → ℕ → ℕ → Option (List ℕ)
 bytes_at bytes offset len =
     if nat_le (offset + len) (length bytes) then Some (take len (drop offset bytes)) else None

@@ -22,7 +22,7 @@ pub enum Color {
 pub enum Note {
     /// Its colour profile stays.
     ColorProfile,
-    /// So many pictures behind the first one are removed.
+    /// This many pictures behind the first one are removed.
     Pictures(u64),
     /// The orientation goes with the other fields: the rotation that a HEIF file stores with its
     /// picture decides.

@@ -16,7 +16,7 @@ pub fn thumbnail(exif: &Exif) -> Option<&[u8]>
     bytes_at(exif.buf(), offset as usize, len as usize)
 }
 
-// So many bytes from an offset on, if they are there.
+// This many bytes from an offset on, if they are there.
 fn bytes_at(bytes: &[u8], offset: usize, len: usize) -> Option<&[u8]>
     ensures { option_map (λ bytes. bytes.now) result ≡ bytes_at bytes.now offset len }
 {

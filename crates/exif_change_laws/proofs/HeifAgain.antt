@@ -98,7 +98,7 @@ order_same a b e = cc
 bytes_same : (a b : List ℕ) → ◌≡◌ {A = Result (List ℕ) Refusal} (Ok a) (Ok b) → a ≡ b
 bytes_same a b e = cc
 
--- ---- so does a file
+-- ---- and so does a file
 
 -- a file of which all fields were erased: its data hold what erasing them again puts over them
 record Cleared (file : List ℕ) : Type 0 where

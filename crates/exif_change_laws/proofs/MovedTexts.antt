@@ -22,7 +22,7 @@ use Rattle.exif_clock.specs.declared.shift.Unmoved.TheVariants.{Blank, Invalid, 
 
 -- ---- the bytes of a text that states a date
 
--- so many bytes of a list, one after the other
+-- this many bytes of a list, one after the other
 abbrev listed : List ℕ → ℕ → ℕ → List ℕ
 listed xs i zero = []
 listed xs i (suc n) = slice_index xs i ∷ listed xs (suc i) n

@@ -58,7 +58,7 @@ none_limited n bytes within past cut e = by_test (nat_le (visits_of (trace bytes
         let front = front_none c.front (Visit ∷ c.rest) (ap fields_of (sym c.whole) ∙ none) in
         ap fields_in (cut c) ∙ ap (λ (fs : List Field). let r : Result (List Field) Refusal = Ok fs in r) front
 
--- so of what is read before a change
+-- the same of what is read before a change
 pub none_in_data : (bytes : List ℕ) → ((n : ℕ) → AnswersWithin n bytes) → ((n : ℕ) → IsCutPast n (trace bytes)) → ((n : ℕ) → LenientAnswersCut n bytes)
     → raw_answer true None bytes ≡ Whole [] → HasNoField (data_contents bytes)
 unfolding data_contents

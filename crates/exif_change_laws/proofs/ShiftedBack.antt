@@ -305,7 +305,7 @@ abbrev pub ItselfAll : List ℕ → List ℕ → List Field → List Tag → Typ
 ItselfAll bytes old fields [] = ⊤
 ItselfAll bytes old fields (tag ∷ tags) = ItselfAt bytes (last_named fields tag primary) (position_of tag old) × ItselfAll bytes old fields tags
 
--- so of all that fit
+-- the same of all that fit
 all_themselves : (by : ClockShift) (old bytes : List ℕ) (fields : List Field) (tags : List Tag) → length old < 2 ^ 64 → container_answer old ≡ Ok bytes → AreBytes bytes
     → map field_of (located bytes) ≡ fields → FitAll by old fields tags → ItselfAll bytes old fields tags
 all_themselves by old bytes fields [] short held are all fit = tt

@@ -107,7 +107,7 @@ whole_small k n =
     sym (as_large k n) ∙ mul_comm (shortened k n).num (10 ^ k) in
     div-le_of_le-mul (10 ^ k) (subst (λ m. n ≤ m) same more)
 
--- so many billionths
+-- this many billionths
 pub billionths_again : (k n : ℕ) → (shortened k n).num * 10 ^ k / (shortened k n).denom ≡ n
 billionths_again k n =
     ap (λ m. m / (shortened k n).denom) (as_large k n) ∙ mul-div_cancel n (denom_pos k n)

@@ -91,7 +91,7 @@ shortened (suc k) n = if n % 10 == 0 then shortened k (n / 10) else fraction n (
 abbrev pub shown_fraction : ℕ → ℕ → Fraction
 shown_fraction num denom = shortened 9 (num * 10 ^ 9 / denom)
 
--- so of a fraction without sign
+-- the same of a fraction without sign
 abbrev pub as_shown : Fraction → Fraction
 as_shown r = shown_fraction r.num r.denom
 
@@ -99,7 +99,7 @@ as_shown r = shown_fraction r.num r.denom
 abbrev pub with_sign : ℤ → ℤ → ℕ → ℤ
 with_sign a b n = if signs_differ a b then neg_ℤ (pos n) else pos n
 
--- so of a fraction with sign
+-- the same of a fraction with sign
 abbrev pub as_shown_signed : SignedFraction → SignedFraction
 as_shown_signed r =
     let of = shown_fraction (unsigned_abs r.num) (unsigned_abs r.denom) in
@@ -113,7 +113,7 @@ has_decimal limit num denom = not (denom == 0) && nat_lt (shown_fraction num den
 abbrev pub is_decimal : Fraction → Bool
 is_decimal r = has_decimal (2 ^ 32) r.num r.denom
 
--- so of a fraction with sign
+-- the same of a fraction with sign
 abbrev pub is_signed_decimal : SignedFraction → Bool
 is_signed_decimal r = has_decimal (2 ^ 31) (unsigned_abs r.num) (unsigned_abs r.denom)
 
@@ -183,7 +183,7 @@ pub record IsExposure (tag : Tag) (r new : Fraction) : Type 0 where
 abbrev pub IsExact : ℕ → ℕ → Type 0
 IsExact num denom = num * 10 ^ 9 % denom ≡ 0
 
--- so with signs
+-- the same with signs
 abbrev pub IsExactSigned : SignedFraction → Type 0
 IsExactSigned r = IsExact (unsigned_abs r.num) (unsigned_abs r.denom)
 
@@ -191,7 +191,7 @@ IsExactSigned r = IsExact (unsigned_abs r.num) (unsigned_abs r.denom)
 abbrev pub AreEqual : Fraction → Fraction → Type 0
 AreEqual a b = a.num * b.denom ≡ b.num * a.denom
 
--- so with signs
+-- the same with signs
 abbrev pub AreEqualSigned : SignedFraction → SignedFraction → Type 0
 AreEqualSigned a b = a.num *ℤ b.denom ≡ b.num *ℤ a.denom
 

@@ -38,6 +38,6 @@ is_listed_kind kind.Jfif picture = nat_lt 0 picture
 is_listed_kind kind.Adobe picture = nat_lt 0 picture
 is_listed_kind _ picture = true
 
--- so of a part
+-- the same of a part
 abbrev pub is_listed : Part → Bool
 is_listed part = is_listed_kind part.kind part.picture

@@ -62,7 +62,7 @@ abbrev pub year_at : ℕ → Option (ℕ × ℕ)
 year_at day = year_from 10000 0 day
 
 -- of so many months of a year after the first ones, the one that has the day before which there are
--- so many, and the day of the month
+-- this many, and the day of the month
 unfoldable pub month_from : ℕ → ℕ → ℕ → ℕ → Option (ℕ × ℕ)
 month_from zero year past days = None
 month_from (suc months) year past days =

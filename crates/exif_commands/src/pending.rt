@@ -188,7 +188,7 @@ fn names_in(rt: &HostRuntime, path: &str) -> io::Result<Vec<String>> {
 }
 
 // The names of what is in a folder, each ended by a zero byte. The system gives whole names alone,
-// so each read has room for one.
+// hence each read has room for one.
 fn listing_of(rt: &HostRuntime, folder: &str) -> io::Result<Vec<u8>> {
     let mut dir = rt.open_dir(folder)?;
     let mut listing = Vec::new(rt.alloc());

@@ -31,7 +31,7 @@ too_many part h = ap (λ b. cond b (Err data_too_large) (Ok part)) (lt-ltb 65535
 one_long : (len : ℕ) (bytes : List ℕ) → 65535 < len → len ≤ length bytes → one_part len bytes ≡ Err data_too_large
 one_long len bytes h k = enough len bytes (omega arith) k ∙ too_many (take len bytes) (let l = length-take-le len bytes k in omega arith)
 
--- an extent that is too long is passed over
+-- an extent that is too long is skipped
 pub long_part : (a b c : Option (List ℕ)) (offset start len n : ℕ) (old new : List ℕ) → OffsetIsReached offset (Some start) a b old new → 65535 < len
     → len ≤ n + (length new - start) → Skips b c n → IfSome a (λ xs. one_part len (drop offset (old ++ xs)) ≡ Err data_too_large)
 long_part None b c offset start len n old new h big e s = tt

@@ -56,13 +56,13 @@ body_taken (Some xs) (Some ys) old new n len z h most end = by (cases_lt n len)
 
 -- ---- boxes before `meta`
 
--- a body that was read is passed over
+-- a body that was read is skipped
 pub taken_passed : (h : Header) (seen now : Bool) (body : List ℕ) (a b : Option (List ℕ)) → TakesBody h.len body a b → passed seen h.kind h.len body ≡ Ok now → PassesBody h seen now a b
 taken_passed h seen now body None b t p = tt
 taken_passed h seen now body (Some xs) None t p = absurd t
 taken_passed h seen now body (Some xs) (Some ys) t p = (subst (λ bytes. passed seen h.kind h.len bytes ≡ Ok now) t.0 p, t.1)
 
--- what is no `ftyp` is passed over whatever its body is
+-- what is no `ftyp` is skipped whatever its body is
 other_body : (kind : Kind) (seen now : Bool) (len : ℕ) (body : List ℕ) → (kind ≡ FileType → ⊥) → passed seen kind len [] ≡ Ok now → passed seen kind len body ≡ Ok now
 other_body FileType seen now len body n p = absurd (n refl)
 other_body Meta seen now len body n p = p
@@ -72,7 +72,7 @@ other_body ItemInfoEntry seen now len body n p = p
 other_body ItemLocation seen now len body n p = p
 other_body Other seen now len body n p = p
 
--- a body that was skipped is passed over
+-- a body that was skipped is skipped
 pub skipped_passed : (h : Header) (seen now : Bool) (a b : Option (List ℕ)) → (h.kind ≡ FileType → ⊥) → passed seen h.kind h.len [] ≡ Ok now → Skips a b h.len → PassesBody h seen now a b
 skipped_passed h seen now None b n p s = tt
 skipped_passed h seen now (Some xs) None n p s = absurd s
@@ -102,12 +102,12 @@ next_box h head xs ys is long e = record {
   behind = sym (ap (drop (length head)) e ∙ drop_at head ys (length head) refl);
 }
 
--- so many bytes further
+-- this many bytes further
 further : (n k len next : ℕ) (file xs ys zs : List ℕ) → xs ≡ drop n file → ys ≡ drop k xs → zs ≡ drop len ys → next ≡ n + k + len → zs ≡ drop next file
 further n k len next file xs ys zs e f g s =
     g ∙ ap (drop len) (f ∙ ap (drop k) e ∙ drop-drop k n file) ∙ drop-drop len (n + k) file ∙ ap (λ m. drop m file) (sym s)
 
--- the loop goes on behind a box that is passed over
+-- the loop goes on behind a box that is skipped
 pub walks_on : (seen now : Bool) (n next k : ℕ) (h : Header) (buf : List ℕ) (a b c d : Option (List ℕ)) → WalksTo seen n a b → Consumes b c (take k buf) → k ≤ length buf
     → IsHeaderOf h (take k buf) → 8 ≤ length (take k buf) → (h.kind ≡ Meta → ⊥) → PassesBody h seen now c d → next ≡ n + k + h.len → WalksTo now next a d
 walks_on seen now n next k h buf None b c d w t bound is long not_meta p s = tt

@@ -22,7 +22,7 @@ abbrev pub gps_left : Result (List ℕ) Cause → List Field → List Field
 gps_left (Ok new) fields = without_gps fields
 gps_left (Err cause) fields = fields
 
--- so of data, unless they have too many entries
+-- the same of data, unless they have too many entries
 abbrev pub left_within : Result (Unit {0}) Cause → List ℕ → List Field → List Field
 left_within (Ok within) bytes fields = gps_left (limited_edit None EraseGps bytes) fields
 left_within (Err cause) bytes fields = fields
@@ -36,7 +36,7 @@ pub record IsReadAlike (old : List ℕ) (read found : Read) : Type 0 where
   pub fields : AllZip IsKept (fields_left old read.fields) found.fields
   pub faults : length found.faults ≤ length read.faults
 
--- so of what was read, if it was
+-- the same of what was read, if it was
 abbrev pub ReadsAlike : List ℕ → Read → Result Read Fault → Type 0
 ReadsAlike old read (Ok found) = IsReadAlike old read found
 ReadsAlike old read (Err fault) = ⊥

@@ -74,7 +74,7 @@ region_erased unread region (bytes, whys) =
     region_made region (what_answer region.tag unread region.what (content_of region bytes))
     (bytes, whys)
 
--- so with regions one after the other
+-- the same with regions one after the other
 abbrev pub regions_erased : Unread → List Region → List ℕ × List Why → List ℕ × List Why
 regions_erased unread [] made = made
 regions_erased unread (region ∷ regions) made =

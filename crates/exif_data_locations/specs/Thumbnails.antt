@@ -39,7 +39,7 @@ number_named number fields =
     option_and_then (λ (f : Field). number_in f.value 0)
     (last_named fields (chain_tag number) second)
 
--- so many bytes from an offset on, if data of a length have them
+-- this many bytes from an offset on, if data of a length have them
 abbrev pub span_in : ℕ → ℕ → ℕ → Option Span
 span_in total offset len =
     if nat_le (offset + len) total then Some (record { offset = offset; len = len }) else None
@@ -100,7 +100,7 @@ abbrev pub part_answer : Unread → Kind → List ℕ → List ℕ × Bool
 part_answer unread kind.Exif bytes = with_further (own_erased unread bytes)
 part_answer unread k bytes = other_answer unread k bytes
 
--- so many bytes from an offset on
+-- this many bytes from an offset on
 abbrev pub bytes_at : ℕ → ℕ → List ℕ → List ℕ
 bytes_at offset len bytes = take len (drop offset bytes)
 
@@ -118,7 +118,7 @@ part_erased unread part bytes =
     placed part.data_offset part.data_len bytes
     (part_answer unread part.kind (bytes_at part.data_offset part.data_len bytes))
 
--- so with parts one after the other, where one before them may hold a location or not
+-- the same with parts one after the other, where one before them may hold a location or not
 abbrev pub parts_erased : Unread → List Part → Bool → List ℕ → List ℕ × Bool
 parts_erased unread [] left bytes = (bytes, left)
 parts_erased unread (part ∷ parts) left bytes =

@@ -23,7 +23,7 @@ pub enum What {
     Left(Why),
 }
 
-/// So many bytes of Exif data from an offset on, which are of a field with this tag.
+/// This many bytes of Exif data from an offset on, which are of a field with this tag.
 #[derive(Clone, Copy)]
 pub struct Region {
     pub tag: u16,

@@ -45,7 +45,7 @@ fn number_named(number: u16, fields: &[Field]) -> Option<u32>
     last
 }
 
-// So many bytes from an offset on, if data of a length have them.
+// This many bytes from an offset on, if data of a length have them.
 fn span_in(total: usize, offset: u32, len: u32) -> Option<Span>
     ensures value { result ≡ span_in total offset len }
     ensures within { IfSome result (λ span. span.offset + span.len ≤ total) }

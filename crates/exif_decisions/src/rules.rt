@@ -76,11 +76,11 @@ pub enum Destination {
     New,
     /// In place of the file that is there.
     Replace,
-    /// Nowhere: OUT is FILE itself.
+    /// Not written: OUT is FILE itself.
     RefuseSame,
-    /// Nowhere: OUT exists.
+    /// Not written: OUT exists.
     RefuseExisting,
-    /// Nowhere: OUT is no regular file.
+    /// Not written: OUT is no regular file.
     RefuseOther,
 }
 

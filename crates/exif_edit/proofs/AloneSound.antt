@@ -248,7 +248,7 @@ pub header_found : (bytes : List ℕ) (tag : Tag) (k : In) (read : Read) (e : �
 header_found bytes tag k read e h =
     header_named bytes read (was_found bytes tag k (read, e) h).reads
 
--- so many items fit into an entry
+-- this many items fit into an entry
 few_told : (order : Order) (value : Value) (e : ℕ) (bytes : List ℕ) (ps : List Patch)
     → value_answer order value e bytes ≡ Ok ps → nat_lt (2 ^ 32 - 1) (count_of value) ≡ false
 unfolding value_answer

@@ -63,7 +63,7 @@ values_within number bytes [] = tt
 values_within number bytes (e ∷ es) =
     (within_within (length bytes) (value_space number bytes e), values_within number bytes es)
 
--- so do those of entries of GPS directories
+-- and so do those of entries of GPS directories
 gps_values_within : (number : Reading) (bytes es : List ℕ)
     → AllWithin (length bytes) (map (gps_value_span number bytes) es)
 gps_values_within number bytes [] = tt

@@ -30,7 +30,7 @@ pub ordered_fields : (number : Reading) (bytes : List ℕ)
     ≡ fields_of (ordered_trace number bytes)
 ordered_fields number bytes = fields_in (ordered_trace number bytes)
 
--- so of all data, read in the byte order that their header names
+-- the same of all data, read in the byte order that their header names
 pub located_fields : (bytes : List ℕ) → LocatesWhatIsRead bytes
 unfolding located
 located_fields bytes = fields_in (trace bytes)

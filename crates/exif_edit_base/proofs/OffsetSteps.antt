@@ -45,7 +45,7 @@ take_same n xs h = sym (ap (λ ys. take n ys) (append-nil xs) ∙ take_whole n x
 
 -- ---- the offsets of an entry
 
--- so many of them are in the data
+-- this many of them are in the data
 pub offsets_near : (t n l at' : ℕ) → n ≤ fitting t (l - at') → 0 < n → at' + offset_len t * n ≤ l
 offsets_near t n l at' h k = by_test (t == 3) h
   where
@@ -164,7 +164,7 @@ chain_on m i number bytes found new all p q h t e g k =
     ∙ (sym (chain_step (m - (i + 1)) number bytes found p t)
     ∙ (ap (λ n. chain_from n number bytes found p) (sym s) ∙ k)))
 
--- so many directories are enough
+-- this many directories are enough
 pub chain_ends : (m i : ℕ) (number : Reading) (bytes found all : List ℕ) (p : ℕ) → m ≤ i
     → chain_from (m - i) number bytes found p ≡ all → found ≡ all
 unfolding chain_from
@@ -211,7 +211,7 @@ children_on m i number bytes found new all h l e k =
     ∙ (sym (children_step (m - (i + 1)) number bytes i found l)
     ∙ (ap (λ n. children_from n number bytes i found) (sym s) ∙ k))
 
--- so many directories are enough
+-- this many directories are enough
 pub children_end : (m i : ℕ) (number : Reading) (bytes found all : List ℕ) → m ≤ i
     → children_from (m - i) number bytes i found ≡ all → found ≡ all
 unfolding children_from

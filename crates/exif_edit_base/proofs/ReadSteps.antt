@@ -109,7 +109,7 @@ says_reads (Ok parsed) bytes e h =
 says_reads (Err (stop.Fault fault)) bytes e h = fault_by (header bytes) bytes fault e
 says_reads (Err stop.OutOfMemory) bytes e h = tt
 
--- a test that was passed over
+-- a test that was skipped
 passed : (b : Bool) (fault : Fault) (r : Result Order Fault) (order : Order)
     → (if b then Err fault else r) ≡ Ok order → (b ≡ false) × (r ≡ Ok order)
 passed true fault r order e = absurd (err_ok e)

@@ -211,7 +211,7 @@ pub gps_alone : (bytes : List ℕ) → GpsStandsAlone bytes
 gps_alone bytes order head visited apart =
     offsets_apart bytes order head visited (looked_apart bytes order head apart)
 
--- ---- so edits are not refused as shared
+-- ---- hence edits are not refused as shared
 
 -- where no byte is looked at as two things, a value that reads back as it was is set if it fits
 pub set_apart : (tag : Tag) (k : In) (value : Value) (bytes : List ℕ) → IsSetApart tag k value bytes

@@ -111,7 +111,7 @@ module _ (number : Reading) (bytes : List ℕ) where
             by_offset (before near) = has_before i t near
             by_offset (behind far) = has_behind i t far
 
-    -- so the directory, as far as it lies in the data
+    -- hence the directory, as far as it lies in the data
     clipped_misses : (q n : ℕ) (ss : List Stretch) → 0 < n
         → Free (record { offset = q; len = n } ∷ ss)
         → overlaps (clipped (length bytes) (record { offset = q; len = n })) t ≡ false

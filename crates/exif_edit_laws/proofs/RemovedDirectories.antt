@@ -94,7 +94,7 @@ module _ (number : Reading) (bytes : List ℕ) (p : ℕ) where
             offset = ok_same (number_at number 4 bytes (p + 2 + 12 * count)) e;
           }
 
-  -- so it ends where this many entries and a next offset lie in the data
+  -- hence it ends where this many entries and a next offset lie in the data
   ends_there : (m : ℕ) → count ≡ m → p + 2 + 12 * m + 4 ≤ length bytes
       → directory_end number bytes p ≡ Ok (number_at number 4 bytes (p + 2 + 12 * m))
   ends_there m e h =

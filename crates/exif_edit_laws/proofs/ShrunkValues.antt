@@ -31,7 +31,7 @@ use Rattle.exif_edit_base.specs.Rereading.{value_at_entry}
 abbrev pub IsMoved : List ℕ → List ℕ → ℕ → ℕ → Type 0
 IsMoved a b e q = bytes_at 12 a e ≡ bytes_at 12 b q
 
--- so many bytes from p on in a are those from q on in b
+-- this many bytes from p on in a are those from q on in b
 abbrev Shifted : List ℕ → List ℕ → ℕ → ℕ → ℕ → Type 0
 Shifted a b p q n = (i : ℕ) → i < n → slice_index a (p + i) ≡ slice_index b (q + i)
 

@@ -45,7 +45,7 @@ EachStandsAlone bytes =
     → looks_apart bytes ≡ true
     → All (λ (l : Located). is_unshared (number_of order) bytes l.entry ≡ true) (located bytes)
 
--- so the last of a name does
+-- hence the last of a name does
 abbrev pub LastStandsAlone : Tag → In → List ℕ → Type 0
 LastStandsAlone tag k bytes =
     (order : Order) (at : Located) → header bytes ≡ Ok order

@@ -70,7 +70,7 @@ known_long : (s : List ℕ) (f : Option Format) → is_other_tiff (known_or f (o
 known_long s (Some f) e = never (sym (known_no f) ∙ e)
 known_long s None e = other_long s e
 
--- so of the format of a file
+-- the same of the format of a file
 pub other_tiff_long : (s : List ℕ) → is_other_tiff (format_in s) ≡ true → 4 ≤ length s
 unfolding format_in
 other_tiff_long s e = known_long s (container.format_in s) e

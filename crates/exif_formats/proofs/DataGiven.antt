@@ -50,7 +50,7 @@ by_data read answer (Some xs) new given result Q f r h =
     whole_by_need read (λ bytes. data_of (answer bytes)) (Some xs) result Q
     (λ q. h (data_of (answer xs)) (data_given answer (Some xs) new given f r))
 
--- so where what follows a JPEG stream's data is said
+-- the same where what follows a JPEG stream's data is said
 pub by_raf : (read : List ℕ → tiff.Answer) (answer : List ℕ → Answer) (more : List ℕ → List ℕ) (old new : Option (List ℕ)) (given : Result (Vec ℕ Global) Failure) (result : Result ExifContents Failure) (Q : Type 0)
     → IfOk given (λ v. WhereTold old new (λ xs ys. (rest : List ℕ) × (answer xs ≡ found v.items rest) × (ys ≡ rest ++ more xs)))
     → IfErr given (λ e. IfSome old (λ xs. Fails e (answer xs)))

@@ -45,7 +45,7 @@ pub all_read : (c : Context) (fs : List Field) → All IsRead fs → All IsRead 
 all_read c [] h = All-nil IsRead
 all_read c (f ∷ fs) h = All-cons IsRead (field_in c f) (map (field_in c) fs) (in_is_read c f (h 0 f (omega arith))) (all_read c fs (others_of f fs h))
 
--- so with others before them
+-- the same with others before them
 pub both_read : (c : Context) (a b : List Field) → All IsRead a → All IsRead b → All IsRead (a ++ map (field_in c) b)
 both_read c a b h k = All-append IsRead a (map (field_in c) b) h (all_read c b k)
 

@@ -118,6 +118,6 @@ ReadsBy read bytes result =
     let format = format_in (take 4096 bytes) in
     ReadsAsFormat read format (as_read format bytes) result
 
--- so with this treatment of faults, and this limit
+-- the same with this treatment of faults, and this limit
 abbrev pub ReadsPicture : Bool → Option ℕ → List ℕ → Result ExifContents Failure → Type 0
 ReadsPicture lenient limit bytes result = ReadsBy (raw_answer lenient limit) bytes result

@@ -34,7 +34,7 @@ fn put_in(context: Context, field: &mut Field)
     }
 }
 
-// So with all these fields.
+// The same with all these fields.
 fn put_all_in(context: Context, fields: &mut [Field])
     ensures { fields.new ≡ map (field_in context) fields.old }
 {

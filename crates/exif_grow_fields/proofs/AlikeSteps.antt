@@ -135,7 +135,7 @@ all_whole bytes read ps h w =
     subst (λ xs. All (IsWhole (length bytes)) xs) (sym w)
     (located_whole bytes (order_named read.little) (header_named bytes read h))
 
--- so their offsets are small
+-- hence their offsets are small
 pub all_near : (bytes : List ℕ) (read : Read) (ps : List EntryOffset) → reading bytes ≡ Ok read
     → ps ≡ map entry_of (located bytes) → All (λ (p : EntryOffset). p.entry + 8 < 2 ^ 32) ps
 all_near bytes read ps h w =

@@ -9,7 +9,7 @@ gap_step n [] h e = absurd (omega arith)
 gap_step zero (b ∷ bytes) h e = ap (λ t. cond t 0 (suc (gap_len bytes))) e
 gap_step (suc n) (b ∷ bytes) h e = gap_step n bytes (omega arith) e
 
--- so where as many came before
+-- the same where as many came before
 pub gap_on : (n : ℕ) (bytes : List ℕ) → n < length bytes → is_stream (drop n bytes) ≡ false
     → gap_len bytes ≡ n + gap_len (drop n bytes) → gap_len bytes ≡ n + 1 + gap_len (drop (n + 1) bytes)
 gap_on n bytes h e before =

@@ -80,7 +80,7 @@ spaced_resource picture scanned space bytes =
     then fronted_resource picture scanned space bytes (resource_front bytes)
     else rest_resource picture scanned space
 
--- so of the bytes that are there, and of a byte at least
+-- the same of the bytes that are there, and of a byte at least
 unfoldable pub resource_piece : ℕ → Bool → ℕ → List ℕ → Piece
 resource_piece picture scanned space bytes =
     if space == 0 then rest_resource picture scanned (length bytes)

@@ -3,7 +3,7 @@
 ghost use Rattle.std.specs.Prelude.{◌≡◌, ◌≤◌, ◌+◌, length, take, drop};
 ghost use Rattle.std.specs.Str.{bytes_eq};
 
-/// So many bytes from an index on.
+/// This many bytes from an index on.
 pub fn bytes_at(bytes: &[u8], from: usize, len: usize) -> &[u8]
     requires { from + len ≤ length bytes.now }
     ensures { result.now ≡ take len (drop from bytes.now) }

@@ -98,7 +98,7 @@ pieces file extent span =
     some_span (before extent span) ++ item_span extent file ∷ []
     ++ some_span (behind extent span)
 
--- so if it holds it
+-- the same if it holds it
 unfoldable pub cut_one : List ℕ → Extent → Span → List Span
 cut_one file extent span = if holds extent span then pieces file extent span else span ∷ []
 
@@ -114,7 +114,7 @@ carve_one file all extent (spans, judged) =
     if is_alone extent all && is_held extent spans then (cut file extent spans, judged)
     else (spans, false)
 
--- so with each of these extents
+-- the same with each of these extents
 abbrev pub carve_each : List ℕ → List Extent → List Extent → List Span × Bool → List Span × Bool
 carve_each file all [] carving = carving
 carve_each file all (extent ∷ extents) carving =

@@ -89,7 +89,7 @@ abbrev pub item_step : List ℕ × List Item → Option (List ℕ × List Item)
 item_step (rest, found) =
     option_map (λ entry. (drop entry.len rest, found ++ entry.item ∷ [])) (item_entry rest)
 
--- so many items
+-- this many items
 unfoldable pub items_in : ℕ → List ℕ → Option (List Item)
 items_in count bytes = option_map (λ s. s.1) (repeated item_step count (bytes, []))
 
@@ -97,7 +97,7 @@ items_in count bytes = option_map (λ s. s.1) (repeated item_step count (bytes, 
 abbrev pub count_width : ℕ → ℕ
 count_width version = if version == 0 then 2 else 4
 
--- so many items, if no more are read at most
+-- this many items, if no more are read at most
 abbrev pub counted_items : ℕ → List ℕ → Option (List Item)
 counted_items count bytes = if nat_lt 16384 count then None else items_in count bytes
 

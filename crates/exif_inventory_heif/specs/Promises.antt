@@ -11,7 +11,7 @@ use Rattle.exif_inventory_heif.specs.declared.span.Span.{Span}
 abbrev pub IsApart : Extent → Span → Type 0
 IsApart extent span = (extent.end ≤ span.from) ⊎ (span.end ≤ extent.from)
 
--- so if the span is the picture's
+-- the same if the span is the picture's
 abbrev pub Avoids : Extent → Span → Type 0
 Avoids extent span = is_picture (part_kind true span.role) ≡ true → IsApart extent span
 

@@ -227,7 +227,7 @@ fn read_extent<'a>(
     }))
 }
 
-// So many extents more.
+// This many extents more.
 fn read_extents<'a>(
     reading: Reading<'a>,
     w: Widths,

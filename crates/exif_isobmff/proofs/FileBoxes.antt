@@ -94,7 +94,7 @@ pub file_more : (seen : Bool) (p : Part) (text rest : List ℕ) → 0 < length t
     → meta_from seen (file_boxes text) ≡ (passed seen p.kind p.len p.body >>= λ s. meta_from s (file_boxes rest))
 file_more seen p text rest some h not_meta = opened seen p text rest some h ∙ more seen p.kind p.len p.body (file_boxes rest) not_meta
 
--- the loop goes on behind a box that is passed over
+-- the loop goes on behind a box that is skipped
 pub file_went_on : (seen now : Bool) (p : Part) (text rest : List ℕ) (total : Result (List ℕ) Refusal) → 0 < length text → file_box_at text ≡ Ok (p, rest) → (p.kind ≡ Meta → ⊥)
     → passed seen p.kind p.len p.body ≡ Ok now → meta_from seen (file_boxes text) ≡ total → meta_from now (file_boxes rest) ≡ total
 file_went_on seen now p text rest total some h not_meta k so_far =

@@ -148,7 +148,7 @@ some_more text more s =
     let total = length-append text more in
     omega arith
 
--- the loop goes on behind a box that is passed over
+-- the loop goes on behind a box that is skipped
 pub settled_on : (seen now : Bool) (text body after : List ℕ) (kind : Kind) (total : List ℕ → Result (List ℕ) Refusal)
     → sizes_itself text ≡ true → box_at text ≡ Ok (whole_part kind body, after) → (kind ≡ Meta → ⊥) → passed seen kind (length body) body ≡ Ok now
     → ((more : List ℕ) → meta_in seen (text ++ more) ≡ total more) → (more : List ℕ) → meta_in now (after ++ more) ≡ total more

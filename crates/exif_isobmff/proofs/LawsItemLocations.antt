@@ -54,7 +54,7 @@ extent-only s text x h =
     with_offset : ℕ → ℕ → Extent
     with_offset offset len = record { offset = offset; len = len }
 
--- extents that are passed over
+-- extents that are skipped
 extents-len : (s : Sizes) (es : List ExtentTree) → All (IsExtent s) es → length (flat_map print_extent es) ≡ (s.index + s.offset + s.len) * length es
 extents-len s [] h = none (s.index + s.offset + s.len)
   where
@@ -314,7 +314,7 @@ location-read wanted version s p rest is =
     (λ h. located wanted s h (eqb h.0.number wanted)) (head-read wanted version s p (flat_map print_extent p.extents ++ rest) is)
     ∙ located-read wanted version s p rest (eqb (big_number (length p.number) p.number) wanted) is refl
 
--- the extents of an item that was read or passed over
+-- the extents of an item that was read or skipped
 record Located (wanted version : ℕ) (s : Sizes) (text : List ℕ) (x : List ItemExtents × List ℕ) : Type 0 where
   tree : LocationTree
   is : IsLocation wanted version s tree

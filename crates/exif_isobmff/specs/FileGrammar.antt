@@ -104,7 +104,7 @@ IsFtyp h = type_of h ≡ codes "ftyp"
 abbrev pub IsOther : BoxHeader → Type 0
 IsOther h = (type_of h ≢ codes "ftyp") × (type_of h ≢ codes "meta")
 
--- a box that is passed over: an `ftyp` with a brand of HEIF, or one of another type that is not too
+-- a box that is skipped: an `ftyp` with a brand of HEIF, or one of another type that is not too
 -- large
 pub data Passed : Type 0 where
   ftyp : BoxTree → Passed
@@ -115,7 +115,7 @@ abbrev pub passed_box : Passed → BoxTree
 passed_box (ftyp b) = b
 passed_box (other b) = b
 
--- it is one that is passed over
+-- it is one that is skipped
 abbrev pub IsPassed : Passed → Type 0
 IsPassed (ftyp b) = IsFtyp b.header × BrandsSay b.body (Ok tt)
 IsPassed (other b) = IsOther b.header × (length b.body < 2 ^ 63)
@@ -129,7 +129,7 @@ is_ftyp (other b) = false
 abbrev pub print_passed : Passed → List ℕ
 print_passed p = print_box (passed_box p)
 
--- boxes that are passed over, with these bytes behind them
+-- boxes that are skipped, with these bytes behind them
 abbrev pub ArePassed : List Passed → List ℕ → Type 0
 ArePassed [] rest = ⊤
 ArePassed (p ∷ ps) rest =
@@ -196,7 +196,7 @@ end_says seen (cut_other h bytes) =
 end_says seen (no_header end) = Err (headless_refusal end)
 end_says seen no_meta = Err no_exif
 
--- boxes that are passed over, and what ends them
+-- boxes that are skipped, and what ends them
 pub record FrontTree : Type 0 where
   pub passed : List Passed
   pub end : FileEnd

@@ -70,7 +70,7 @@ item_head_at version s text = do
   count ← number_at 2 base.1
   Ok (record { number = number.0; method = method.0; base = base.0; count = count.0 }, count.1)
 
--- a location, where the item at the front is the wanted one; extents of others are passed over
+-- a location, where the item at the front is the wanted one; extents of others are skipped
 unfoldable pub location_at : ℕ → ℕ → Sizes → List ℕ → Front (List ItemExtents)
 location_at wanted version s text = do
   head ← item_head_at version s text

@@ -56,7 +56,7 @@ shown_json (shown.date text) = J.string text
 abbrev pub column_members : List Field → Column → List (List ℕ × Json)
 column_members fields column = maybe (name_of column) shown_json (cell_of fields column)
 
--- so of columns one after the other
+-- the same of columns one after the other
 abbrev pub columns_members : List Field → List Column → List (List ℕ × Json)
 columns_members fields columns = flat_map (column_members fields) columns
 

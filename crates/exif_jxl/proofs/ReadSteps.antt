@@ -62,7 +62,7 @@ brotli_read (Some xs) (Some ys) None held len t l least r s e = absurd s
 brotli_read (Some xs) (Some ys) (Some zs) held len t l least r s e =
     ap (whole_brotli len) r ∙ brotli-whole held ys len t l least s.0 e ∙ ap (λ q. cond t (Err compressed_exif) (Ok (other q))) (sym s.1)
 
--- so of compressed Exif data
+-- the same of compressed Exif data
 pub brotli_refused : (a b c : Option (List ℕ)) (held : List ℕ) (len : ℕ) → length held ≡ 4 → 4 ≤ len → Consumes a b held → Skips b c (len - 4)
     → true ≡ bytes_eq held (codes "Exif") → IfSome a (λ xs. whole_brotli len xs ≡ Err compressed_exif)
 brotli_refused None b c held len l least r s e = tt

@@ -44,7 +44,7 @@ pub record IsOpen (h : Header) : Type 0 where
   pub none : h.large ≡ []
   pub zero : big_number 4 h.size ≡ 0
 
--- so many bytes are a body, and these follow it
+-- this many bytes are a body, and these follow it
 abbrev pub Holds : Header → ℕ → List ℕ → Type 0
 Holds h len rest = Gives h len ⊎ (IsOpen h × (rest ≡ []))
 

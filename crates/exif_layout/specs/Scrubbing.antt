@@ -60,7 +60,7 @@ pub record IsScrubbed (order : Order) (fields : List Field) : Type 0 where
   pub reads_back : ReadsBack order (scrubbed fields)
   pub once : image order (scrubbed (flat (scrubbed fields))) ≡ image order (scrubbed fields)
 
--- so where the scrubbed groups are such as a writer holds, and are not refused
+-- the same where the scrubbed groups are such as a writer holds, and are not refused
 abbrev pub Scrubs : Order → List Field → Type 0
 Scrubs order fields =
     All IsRead fields → AreRanged (scrubbed fields) → write_fault (scrubbed fields) ≡ None

@@ -114,7 +114,7 @@ tag_moves a tok depth r h e q =
     let within : tok.len ≤ length a = t.within in
     (omega arith, omega arith)
 
--- so does one between tags
+-- and so does one between tags
 pub content_moves : (a : List ℕ) (tok : ContentToken) (depth : ℕ) (r : Result Step Fault) → 0 < length a → content_at a ≡ Ok tok → r ≡ content_step depth tok.kind tok.len → IfOk r (λ t. 0 < t.len) × IfOk r (λ t. t.len ≤ length a)
 content_moves a tok depth (Err e) h o q = (tt, tt)
 content_moves a tok depth (Ok r) h o q =

@@ -115,7 +115,7 @@ opening_token : (a : List ℕ) (t : ContentToken) → opening_at a ≡ Ok t → 
 unfolding opening_at
 opening_token a t e = opening_rest (run is_name_byte a) a t refl e
 
--- ---- input that is passed over, and end tags
+-- ---- input that is skipped, and end tags
 
 passed_some : (front : ℕ) (x : Option ℕ) (t : ContentToken) → passed front x ≡ Ok t → (n : ℕ) × (x ≡ Some n) × (t.len ≡ front + n)
 passed_some front None t e = absurd cc

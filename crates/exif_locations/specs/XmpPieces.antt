@@ -93,7 +93,7 @@ abbrev pub space : Bool → Piece
 space true = inside Space (32 ∷ [])
 space false = between Text (32 ∷ [])
 
--- so many spaces
+-- this many spaces
 abbrev pub spaces : Bool → ℕ → List Piece
 spaces in_tag zero = []
 spaces in_tag (suc n) = space in_tag ∷ spaces in_tag n

@@ -25,7 +25,7 @@ gives_by : (answer : List ℕ → Answer) (result : Result (Vec ℕ Global) Fail
 gives_by answer (Ok v) xs ys f r = ap data_of f
 gives_by answer (Err x) xs ys f r = fails_data (refusal_of x) (IsInterrupted x) (answer xs) r
 
--- so of a PNG file
+-- the same of a PNG file
 pub gives_png : (result : Result (Vec ℕ Global) Failure) (xs ys file : List ℕ)
     → IfOk result (λ v. png_answer (2 ^ 64 - 1) xs ≡ found v.items ys)
     → IfErr result (λ e. Fails e (png_answer (2 ^ 64 - 1) xs))

@@ -42,7 +42,7 @@ fn clear(part: Part, file: &mut [u8])
     free(&mut file[part.offset..part.offset + part.len]);
 }
 
-// So unless it is the picture's.
+// The same unless it is the picture's.
 fn free_part(part: Part, file: &mut [u8])
     requires { EndsBy (length file.old) part }
     ensures { file.new ≡ part_freed part file.old }
@@ -52,7 +52,7 @@ fn free_part(part: Part, file: &mut [u8])
     }
 }
 
-// So with parts one after the other.
+// The same with parts one after the other.
 fn free_parts(parts: &[Part], file: &mut [u8])
     requires { All (EndsBy (length file.old)) parts.now }
     ensures { file.new ≡ parts_freed parts.now file.old }
@@ -62,7 +62,7 @@ fn free_parts(parts: &[Part], file: &mut [u8])
     }
 }
 
-// So with all parts of a file.
+// The same with all parts of a file.
 fn free_all(parts: &[Part], file: &mut [u8])
     requires { AreInOrder 0 parts.now (length file.old) }
     ensures { file.new ≡ parts_freed parts.now file.old }

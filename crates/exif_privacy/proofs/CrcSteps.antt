@@ -22,7 +22,7 @@ either_none P Q (p ∷ ps) e =
     let rest = either_none P Q ps both.1 in
     (ap (λ b. b || list_any P ps) here.0 ∙ rest.0, ap (λ b. b || list_any Q ps) here.1 ∙ rest.1)
 
--- so where a file is no PNG file
+-- the same where a file is no PNG file
 pub of_others : (parts : List Part) (old new : List ℕ) → OthersStay parts old new → AllElseStays parts old new
 of_others parts old new s = record {
   long = s.long;

@@ -26,7 +26,7 @@ all_stay (part, whys) = map (stays_for part) whys
 abbrev pub found : Unread → List ℕ → List Part → List Stays
 found unread file parts = flat_map all_stay (judged unread file parts)
 
--- so of all its parts, if its format is known
+-- the same of all its parts, if its format is known
 abbrev pub found_in : Unread → List ℕ → Option (List Stays)
 found_in unread file = option_map (found unread file) (parts_of file)
 
@@ -57,7 +57,7 @@ abbrev pub next_erased : Unread → ℕ → List Part → List ℕ → List ℕ 
 next_erased unread (suc left) parts file = (file, left)
 next_erased unread zero parts file = first_erased unread parts file
 
--- so with parts one after the other
+-- the same with parts one after the other
 abbrev pub parts_erased : Unread → ℕ → List Part → List ℕ → List ℕ
 parts_erased unread left [] file = file
 parts_erased unread left (part ∷ parts) file =

@@ -76,6 +76,6 @@ part_answer unread _ bytes = (bytes, [])
 abbrev pub reasons_from : List ℕ → List ℕ × List Why → List Why
 reasons_from old (new, whys) = if bytes_eq new old then whys else StillThere ∷ []
 
--- so of the data of a part
+-- the same of the data of a part
 abbrev pub part_reasons : Unread → Kind → List ℕ → List Why
 part_reasons unread k bytes = reasons_from bytes (part_answer unread k bytes)

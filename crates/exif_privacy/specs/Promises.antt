@@ -78,13 +78,13 @@ pub record OthersStay (parts : List Part) (old new : List ℕ) : Type 0 where
   pub bytes : (k : ℕ) → list_any (may_change k) parts ≡ false
       → slice_index new k ≡ slice_index old k
 
--- so with the CRCs of a PNG file
+-- the same with the CRCs of a PNG file
 pub record AllElseStays (parts : List Part) (old new : List ℕ) : Type 0 where
   pub long : length new ≡ length old
   pub bytes : (k : ℕ) → list_any (may_be_new old k) parts ≡ false
       → slice_index new k ≡ slice_index old k
 
--- so where it has parts, and else all bytes are
+-- the same where it has parts, and else all bytes are
 abbrev pub OthersStayIn : Option (List Part) → List ℕ → List ℕ → Type 0
 OthersStayIn None old new = new ≡ old
 OthersStayIn (Some parts) old new = AllElseStays parts old new

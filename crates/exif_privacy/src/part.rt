@@ -53,7 +53,7 @@ fn judge_xmp(bytes: &mut [u8], unread: Unread) -> Option<Why>
     }
 }
 
-// So of IPTC data.
+// The same of IPTC data.
 fn judge_iptc(bytes: &mut [u8], unread: Unread) -> Option<Why>
     ensures { (bytes.new, result) ≡ iptc_judged unread bytes.old }
 {

@@ -85,7 +85,7 @@ split-is bytes h = record {
   size_len = length-take-le 4 (drop 88 bytes) (omega (arith, length-drop 88 bytes));
 }
 
--- so many bytes, and then others
+-- this many bytes, and then others
 next : (n m k : ℕ) (bytes : List ℕ) → m + n ≡ k → take n (drop m bytes) ++ drop k bytes ≡ drop m bytes
 next n m k bytes e =
     ap (λ i. take n (drop m bytes) ++ drop i bytes) (sym e) ∙ ap (λ t. take n (drop m bytes) ++ t) (sym (drop-drop n m bytes)) ∙ take-append-drop n (drop m bytes)

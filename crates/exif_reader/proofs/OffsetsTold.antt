@@ -37,7 +37,7 @@ noted (Found l ∷ nodes) left fields faults entries directories =
 noted (Met fault ∷ nodes) left fields faults entries directories =
     noted nodes left fields (faults ++ fault ∷ []) entries directories
 
--- so of the chain, from a parser that has read nothing
+-- the same of the chain, from a parser that has read nothing
 pub told : (number : Reading) (bytes : List ℕ) (lenient wanted : Bool) (most : ℕ) (start : Progress)
     (x : Progress × Option Fault)
     → start ≡ at_work lenient most [] []

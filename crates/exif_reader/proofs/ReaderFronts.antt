@@ -160,7 +160,7 @@ module _ (lenient : Bool) (limit : Option ℕ) (front : List ℕ)
       ⊎_elim (λ lt. lt) (λ ge. absurd (not_refused fields said (too_large false limit front ge)))
       (cases_lt (length front) (2 ^ 32))
 
-  -- so it is what the front itself is read as
+  -- hence it is what the front itself is read as
   pub reads_own : (exif : ExifContents) → exif.buf ≡ front
       → raw_answer false limit front ≡ Whole exif.fields
       → header front ≡ Ok (order_named exif.little_endian)

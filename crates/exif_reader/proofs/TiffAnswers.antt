@@ -19,7 +19,7 @@ pub raw_right : (lenient : Bool) (limit : Option ℕ) (bytes : List ℕ) (order 
 unfolding raw_answer
 raw_right lenient limit bytes order e = rw (e, raw_answer) refl
 
--- so of what is in the data
+-- the same of what is in the data
 pub trace_right : (bytes : List ℕ) (order : Order) → header bytes ≡ Ok order → trace bytes ≡ ordered_trace (number_of order) bytes
 unfolding trace
 trace_right bytes order e = rw (e, trace) refl

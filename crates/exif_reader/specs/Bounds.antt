@@ -18,14 +18,14 @@ pub record IsBounded (limit : Option ℕ) (bytes : List ℕ) (reports : ℕ) : T
   pub by_visits : reports ≤ visits_of (limited limit (trace bytes)) + 1
   pub by_length : reports ≤ most_visits limit bytes + 1
 
--- so of what came back, whole or partial, by its own data
+-- the same of what came back, whole or partial, by its own data
 abbrev pub ReportsAtMost : Option ℕ → Result ExifContents Failure → Type 0
 ReportsAtMost limit (Ok exif) = IsBounded limit exif.buf (length exif.fields)
 ReportsAtMost limit (Err (error.PartialResult partial)) =
     IsBounded limit partial.exif.buf (length partial.exif.fields + length partial.faults)
 ReportsAtMost limit (Err e) = ⊤
 
--- so of the fields of data that were parsed
+-- the same of the fields of data that were parsed
 abbrev pub FieldsAtMost : List ℕ → Result (Vec Field Global × Bool) Failure → Type 0
 FieldsAtMost bytes (Ok parsed) = IsBounded None bytes (length parsed.0.items)
 FieldsAtMost bytes (Err e) = ⊤

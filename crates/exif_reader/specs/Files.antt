@@ -30,7 +30,7 @@ ReadsContainerHeld H answer (Err r) (Ok exif) = ⊥
 ReadsContainerHeld H answer (Err r) (Err e) =
     MatchOption (refusal_of e) (IsInterrupted e) (λ refused. refused ≡ r)
 
--- so with all the data
+-- the same with all the data
 abbrev pub ReadsContainer : (List ℕ → Answer) → Result (List ℕ) Refusal
     → Result ExifContents Failure → Type 0
 ReadsContainer = ReadsContainerHeld HoldsData

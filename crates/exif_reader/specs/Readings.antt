@@ -47,7 +47,7 @@ ReadsHeld H P answer bytes (Err (error.PartialResult partial)) =
     × H partial.exif bytes
 ReadsHeld H P answer bytes (Err e) = FailsAs answer P e
 
--- so where the contents are those of the data
+-- the same where the contents are those of the data
 abbrev pub ReadsOr : (Failure → Type 0) → Answer → List ℕ → Result ExifContents Failure → Type 0
 ReadsOr = ReadsHeld HoldsData
 

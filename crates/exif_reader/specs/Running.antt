@@ -8,7 +8,7 @@ use Rattle.exif_tiff.specs.declared.offset.DirectoryOffset.{DirectoryOffset}
 use Rattle.exif_reader.specs.Noted.{Noted, directory_noted, entry_noted}
 use Rattle.exif_tiff.specs.declared.fault.Fault.TheVariants.{TooManyEntries}
 
--- a parser: whether faults are noted and passed over, how many entries it may still visit, what it
+-- a parser: whether faults are noted and skipped, how many entries it may still visit, what it
 -- has read, and where that is; each visit takes one of the entries that are left, so what is
 -- gone of them counts the parser's turns
 pub record Progress : Type 0 where

@@ -20,7 +20,7 @@ use std::alloc::Global;
 /// values, in front of the strips.
 pub const FRONT: u64 = 262144;
 
-// So many bytes are more than offsets of 32 bits reach.
+// This many bytes are more than offsets of 32 bits reach.
 const TOO_MANY: u64 = 4294967296;
 
 /// What strict reading finds in a front, where it meets no fault there.

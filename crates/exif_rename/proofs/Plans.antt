@@ -158,7 +158,7 @@ unfolding fit_from
 hit_at free given wanted tries number is =
     ap (λ (b : Bool). elim b [ true ↦ Some number | false ↦ fit_from free given wanted tries (number + 1) ]) is
 
--- one that they can't have is passed over
+-- one that they can't have is skipped
 miss_at : (free : List ℕ → Bool) (given : List (List ℕ)) (wanted : Wanted) (tries number : ℕ) → fits free given (candidate wanted.base number) wanted.files ≡ false
     → fit_from free given wanted (suc tries) number ≡ fit_from free given wanted tries (number + 1)
 unfolding fit_from
@@ -169,7 +169,7 @@ none_at : (free : List ℕ → Bool) (given : List (List ℕ)) (wanted : Wanted)
 unfolding fit_from
 none_at free given wanted number = refl
 
--- the candidates before a number were passed over
+-- the candidates before a number were skipped
 abbrev pub FitFrom : List State → List (List ℕ) → Wish → ℕ → Type 0
 FitFrom a names wish number = Now a (λ s. fit (free_in s) names (wanted_of wish) ≡ fit_from (free_in s) names (wanted_of wish) (100000 - number) number)
 

@@ -10,6 +10,10 @@ use Rattle.exif_rename.specs.Wishes.{File, Wanted, candidate, path_of}
 abbrev pub free_in : State → List ℕ → Bool
 free_in s name = is_none (s.at name)
 
+-- whether a path is one that was given to a file, or one of these
+abbrev pub is_claimed : (List ℕ → Bool) → List (List ℕ) → List ℕ → Bool
+is_claimed is_given paths path = is_given path || is_among path paths
+
 -- whether a file can have a path: no file was given it, and it is its own or nothing has it
 abbrev pub can_have : (List ℕ → Bool) → List (List ℕ) → List ℕ → File → Bool
 can_have free given path file = not (is_among path given) && (bytes_eq path file.old || free path)

@@ -7,7 +7,7 @@ ghost use Rattle.exif_files.specs.Each.{is_among};
 ghost use Rattle.exif_files.specs.States.{Now};
 ghost use Rattle.exif_files.specs.Steps.{count_after};
 ghost use Rattle.exif_rename.specs.Failures.{is_failed, IfCrowded};
-ghost use Rattle.exif_rename.specs.Planned.{free_in, fit, fits, planned, with_paths};
+ghost use Rattle.exif_rename.specs.Planned.{free_in, fit, fits, is_claimed, planned, with_paths};
 ghost use Rattle.exif_rename.specs.Wishes.{File, candidate, file_of, wanted_of};
 ghost use Rattle.exif_rename.specs.declared.plan.PlanError.TheVariants.{Io, Crowded, OutOfMemory};
 
@@ -158,7 +158,7 @@ fn can_have<F: FileSystem>(
     old: &str,
 ) -> Result<bool, PlanError>
     ensures answer { IfOk result (λ answer. Now (F.states files.old) (λ s. answer
-        ≡ (not (contains_text given.now path.now || is_among path.now (map string_bytes paths.now))
+        ≡ (not (is_claimed (contains_text given.now) (map string_bytes paths.now) path.now)
         && (bytes_eq path.now old.now || free_in s path.now)))) }
     ensures never { IfErr result (λ e. IfCrowded e (λ index. ⊥)) }
     ensures same { F.states files.new ≡ F.states files.old }

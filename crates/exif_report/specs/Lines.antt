@@ -12,7 +12,7 @@ field_line fields field =
     tag_text field.tag ++ (codes " "
     ++ (ifd_text field.ifd_num.0 ++ (codes " " ++ (unit_text field fields ++ codes "\n"))))
 
--- a fault that was passed over, by its text
+-- a fault that was skipped, by its text
 unfoldable pub fault_line : List ℕ → List ℕ
 fault_line text = codes "fault: " ++ (text ++ codes "\n")
 

@@ -22,7 +22,7 @@ answer_text (Whole fields) = flat_map (field_line fields) fields
 answer_text (Partial fields faults) =
     flat_map (field_line fields) fields ++ flat_map (λ fault. fault_line (text_of fault)) faults
 
--- how many faults were passed over
+-- how many faults were skipped
 abbrev pub fault_count : Answer → ℕ
 fault_count (Partial fields faults) = length faults
 fault_count _ = 0
@@ -48,7 +48,7 @@ Holds (Whole fields) exif errors = (exif.fields ≡ fields) × (errors ≡ [])
 Holds (Partial fields faults) exif errors =
     (exif.fields ≡ fields) × (map bytes_of (map told_text errors) ≡ map text_of faults)
 
--- so of a file
+-- the same of a file
 abbrev pub HoldsAnswer : Result Answer Refusal → ExifContents → List Failure → Type 0
 HoldsAnswer (Ok answer) exif errors = Holds answer exif errors
 HoldsAnswer (Err r) exif errors = ⊥

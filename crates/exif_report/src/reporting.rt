@@ -1,4 +1,4 @@
-//! The report of a file: a line for each field, and one for each fault that was passed over.
+//! The report of a file: a line for each field, and one for each fault that was skipped.
 
 ghost use Rattle.std.specs.Prelude.{◌≡◌, ◌<◌, ◌++◌, All, ℕ, List, OnOk, OnErr, IfOk, IfErr, IfSome, None, Some, Result, Ok, Err};
 ghost use Rattle.std.specs.List.{flat_map};
@@ -137,7 +137,7 @@ fn report_by<R: Source, W: Sink>(
 
 /// Writes what the Exif data of a picture say (TIFF data, or a JPEG, HEIF or WebP file): one line a
 /// field, with its tag, its directory and its value. A lenient report passes over soft faults, and
-/// writes one line for each behind the fields. Answers how many faults were passed over.
+/// writes one line for each behind the fields. Answers how many faults were skipped.
 ///
 /// Where the file is refused or the reader fails nothing is written. Where memory or the writer
 /// fails, a front of the report may have been sent. So it is too where a reader does not know its

@@ -44,7 +44,7 @@ box-cut rest short =
 abbrev brand-of : Parts → Bool
 brand-of parts = elim (find is_ftyp parts.whole) [ Some p ↦ has_heif_brand p.body | None ↦ false ]
 
--- so nothing that begins RIFF is a HEIF file
+-- hence nothing that begins RIFF is a HEIF file
 no-heif : (rest : List ℕ) → length rest ≤ 4096 → begins_heif (82 ∷ 73 ∷ 70 ∷ 70 ∷ rest) ≡ false
 unfolding begins_heif all_boxes
 no-heif rest short = ap (λ p. brand-of (and_then p (filling box_at (length (73 ∷ 70 ∷ 70 ∷ rest))))) (box-cut rest short)

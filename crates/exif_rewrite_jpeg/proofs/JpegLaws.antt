@@ -32,11 +32,11 @@ rewriting_unit remove new d u rest h =
     ∙ ap (λ t. after (outside (passes remove d) u.passed) (rewriting remove new d (255 ∷ t))) (append_assoc (replicate u.fill 255) (u.code ∷ print_brought u.brought) rest)
     ∙ ap (after (outside (passes remove d) u.passed)) (at_unit remove new d u.fill u.code (print_brought u.brought) rest h.code (λ ys. from_code-brought u.code u.brought ys h.brought))
 
--- the unit without what is passed over before it
+-- the unit without what is skipped before it
 abbrev pub bare : UnitTree → UnitTree
 bare u = record { passed = []; fill = u.fill; code = u.code; brought = u.brought }
 
--- a unit without what is passed over before it is a unit too
+-- a unit without what is skipped before it is a unit too
 pub bare_unit : (u : UnitTree) → IsUnit u → IsUnit (bare u)
 bare_unit u h = record { passed = All-nil (λ b. b ≢ 255); code = h.code; brought = h.brought }
 
@@ -44,7 +44,7 @@ bare_unit u h = record { passed = All-nil (λ b. b ≢ 255); code = h.code; brou
 abbrev pub text_of : UnitTree → List ℕ
 text_of u = unit_text (u.fill + 1) u.code (print_brought u.brought)
 
--- the text of a unit is what is printed of it without what is passed over before it
+-- the text of a unit is what is printed of it without what is skipped before it
 pub text_bare : (u : UnitTree) → text_of u ≡ print_unit (bare u)
 text_bare u = ap (λ n. unit_text n u.code (print_brought u.brought)) (add-one u.fill)
 

@@ -49,7 +49,7 @@ strict_end finished = finished
 strict_end (cut_off new) = refused_by broken_jpeg
 strict_end (refused_by r) = refused_by r
 
--- so of what is sent
+-- the same of what is sent
 abbrev pub strictly : Rewriting → Rewriting
 strictly r = record { out = r.out; end = strict_end r.end }
 

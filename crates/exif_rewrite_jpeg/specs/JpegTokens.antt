@@ -44,7 +44,7 @@ abbrev pub trailer_within : ℕ → List ℕ → List ℕ
 trailer_within zero bytes = []
 trailer_within (suc n) bytes = trailer_first (first_unit bytes) (trailer_within n)
 
--- so over all
+-- the same over all
 abbrev pub trailer : List ℕ → List ℕ
 trailer bytes = trailer_within (length bytes) bytes
 
@@ -79,7 +79,7 @@ pub record IsFilter (remove : Remove) (new : List Token) (bytes out : List ℕ) 
   pub bytes_are : out ≡ 255 ∷ 216 ∷ (flat_map token_text (image out)
       ++ behind remove (trailer (drop 2 bytes)))
 
--- so where the image ended
+-- the same where the image ended
 abbrev pub IsFiltered : Remove → Option (List ℕ) → List ℕ → Type 0
 IsFiltered remove put bytes =
     (jpeg_rewriting remove put bytes).end ≡ finished

@@ -137,7 +137,7 @@ stream_rewriting remove new bytes = ends (refused_by broken_jpeg) []
 abbrev pub waiting : Bool → List ℕ → List ℕ
 waiting waits payload = if waits then exif_segment payload else []
 
--- so with a payload, where one waits: it has to fit into a segment
+-- the same with a payload, where one waits: it has to fit into a segment
 abbrev pub given_rewriting : Remove → Bool → List ℕ → List ℕ → Rewriting
 given_rewriting remove waits payload bytes =
     if nat_lt 65527 (length payload) then ends (refused_by too_large) [] else

@@ -37,7 +37,7 @@ pub record IsFilteredFile (remove : Remove) (put : Option (List ℕ)) (bytes out
     rest = behind remove body.rest;
   })
 
--- so of each file that is not refused
+-- the same of each file that is not refused
 abbrev pub FileIsFiltered : Remove → Option (List ℕ) → List ℕ → Type 0
 FileIsFiltered remove put bytes =
     (out : List ℕ) → webp_rewriting remove put bytes ≡ Ok out
@@ -55,7 +55,7 @@ pub record IsBareFile (put : Option (List ℕ)) (out : List ℕ) : Type 0 where
   pub bare : AllByRecursion (IsBareChunk put) chunks
   pub whole : out ≡ file_text (4 + length (chunks_text chunks)) chunks
 
--- so of each file that is not refused
+-- the same of each file that is not refused
 abbrev pub FileIsBare : Option (List ℕ) → List ℕ → Type 0
 FileIsBare put bytes =
     (out : List ℕ) → webp_rewriting Metadata put bytes ≡ Ok out → IsBareFile put out

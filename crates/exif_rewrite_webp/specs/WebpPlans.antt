@@ -30,7 +30,7 @@ kept_view k = record { chunks = map chunk_view k.chunks.items; rest = k.rest.now
 abbrev pub staying_in : Remove → Body → Body
 staying_in remove body = record { chunks = staying remove body.chunks; rest = body.rest }
 
--- so of bytes with so much space
+-- the same of bytes with so much space
 abbrev pub kept_body : Remove → ℕ → List ℕ → Result Body Refusal
 kept_body remove space bytes = body_of space bytes >>= λ body. Ok (staying_in remove body)
 

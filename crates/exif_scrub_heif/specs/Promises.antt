@@ -17,7 +17,7 @@ abbrev pub Becomes : Bool → List ℕ → List ℕ → Span → Type 0
 Becomes judged old new span =
     bytes_of span new ≡ blanked (span_blank judged span) (bytes_of span old)
 
--- so of all spans of a file, which together are the file; one of another format stays as it is
+-- the same of all spans of a file, which together are the file; one of another format stays
 abbrev pub AllBecome : List ℕ → List ℕ → Option (List Span × Bool) → Type 0
 AllBecome old new None = new ≡ old
 AllBecome old new (Some (spans, judged)) =

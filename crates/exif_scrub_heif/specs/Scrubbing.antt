@@ -44,7 +44,7 @@ abbrev pub span_emptied : Bool → Span → List ℕ → List ℕ
 span_emptied judged span file =
     with_bytes span (blanked (span_blank judged span) (bytes_of span file)) file
 
--- so with spans one after the other
+-- the same with spans one after the other
 abbrev pub spans_emptied : Bool → List Span → List ℕ → List ℕ
 spans_emptied judged [] file = file
 spans_emptied judged (span ∷ spans) file =
@@ -55,7 +55,7 @@ abbrev pub emptied_by : List ℕ → Option (List Span × Bool) → Bool × List
 emptied_by file None = (false, file)
 emptied_by file (Some (spans, judged)) = (true, spans_emptied judged spans file)
 
--- so by its own layout
+-- the same by its own layout
 abbrev pub emptied : List ℕ → Bool × List ℕ
 emptied file = emptied_by file (heif_layout file)
 
@@ -73,7 +73,7 @@ settled_by file None = Err Unstable
 settled_by file (Some (spans, judged)) =
     if list_all (is_settled judged file) spans then Ok (left_parts judged spans) else Err Unstable
 
--- so by its own layout
+-- the same by its own layout
 abbrev pub settled : List ℕ → Result (List Part) Fault
 settled file = settled_by file (heif_layout file)
 

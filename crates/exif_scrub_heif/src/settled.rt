@@ -57,7 +57,7 @@ fn is_settled(judged: bool, file: &[u8], span: Span) -> bool
     is_blank(span_blank(judged, span), &file[span.from..span.end])
 }
 
-// So of all spans.
+// The same of all spans.
 fn are_settled(judged: bool, file: &[u8], spans: &[Span]) -> bool
     requires { All (IsInside (length file.now)) spans.now }
     ensures { result ≡ list_all (is_settled judged file.now) spans.now }

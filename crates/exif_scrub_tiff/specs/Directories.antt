@@ -56,7 +56,7 @@ tags_tested number old keeps_orientation (suc left) e =
     number_in number 2 old e >>= λ tag. if describes_picture keeps_orientation tag
     then tags_tested number old keeps_orientation left (e + 12) else Err SharedBytes
 
--- so of a directory
+-- the same of a directory
 abbrev pub directory_tested : Reading → List ℕ → Bool → ℕ → Result Unit Fault
 directory_tested number old keeps_orientation p =
     number_in number 2 old p
@@ -84,7 +84,7 @@ child_walked order old pass p new =
     >>= λ next. if next == 0 then directory_visited order old pass true p new
     else Err NotSupported
 
--- so to so many directories that an entry names, from an index on
+-- the same to so many directories that an entry names, from an index on
 abbrev pub children_from : Order → List ℕ → Pass → ℕ → ℕ → ℕ → List ℕ → Result (List ℕ) Fault
 children_from order old pass e zero index new = Ok new
 children_from order old pass e (suc left) index new =
@@ -92,21 +92,21 @@ children_from order old pass e (suc left) index new =
     >>= λ p. child_walked order old pass p new
     >>= children_from order old pass e left (index + 1)
 
--- so to those of an entry, if there is one
+-- the same to those of an entry, if there is one
 abbrev pub children_named : Order → List ℕ → Pass → Option ℕ → List ℕ → Result (List ℕ) Fault
 children_named order old pass None new = Ok new
 children_named order old pass (Some e) new =
     count_of (number_of order) old e
     >>= λ count. children_from order old pass e count 0 new
 
--- so to the directories below one
+-- the same to the directories below one
 abbrev pub children_walked : Order → List ℕ → Pass → ℕ → List ℕ → Result (List ℕ) Fault
 children_walked order old pass p new =
     number_in (number_of order) 2 old p
     >>= λ count. entry_named (number_of order) old 330 count (p + 2)
     >>= λ found. children_named order old pass found new
 
--- so to at most so many directories of a chain, and to those below them
+-- the same to at most so many directories of a chain, and to those below them
 unfoldable pub chain_walked : Order → List ℕ → Pass → ℕ → ℕ → List ℕ → Result (List ℕ) Fault
 chain_walked order old pass zero p new =
     if p == 0 then Ok new else Err TooManyDirectories

@@ -32,7 +32,7 @@ item_in number old kind at index =
     if (kind == 4) || (kind == 13) then number_in number 4 old (at + 4 * index)
     else Err NotSupported
 
--- so of an entry
+-- the same of an entry
 abbrev pub item_at : Reading → List ℕ → ℕ → ℕ → Result ℕ Fault
 item_at number old e index = do
   kind ← kind_of number old e
@@ -57,7 +57,7 @@ tag_checked number old is_nested e tag =
     if in_range 519 521 tag then Err NotSupported else
     if tag == 50706 then Err Raw else Ok tag
 
--- so of an entry
+-- the same of an entry
 abbrev pub checked_tag : Reading → List ℕ → Bool → ℕ → Result ℕ Fault
 checked_tag number old is_nested e =
     number_in number 2 old e >>= tag_checked number old is_nested e
@@ -68,7 +68,7 @@ value_put number old e len new =
     if nat_le len 4 then Ok new
     else number_in number 4 old (e + 8) >>= λ at. kept_bytes old at len at new
 
--- so of an entry
+-- the same of an entry
 abbrev pub value_kept : Reading → List ℕ → ℕ → List ℕ → Result (List ℕ) Fault
 value_kept number old e new = do
   kind ← kind_of number old e
@@ -80,7 +80,7 @@ abbrev pub entry_put : Reading → List ℕ → ℕ → ℕ → List ℕ → Res
 entry_put number old e to new =
     kept_bytes old e 12 to new >>= λ with. value_kept number old e with >>= λ made. Ok (true, made)
 
--- so where the entry describes the picture
+-- the same where the entry describes the picture
 abbrev pub entry_kept : Reading → List ℕ → Bool → Bool → ℕ → ℕ → List ℕ
     → Result (Bool × List ℕ) Fault
 entry_kept number old keeps_orientation is_nested e to new = do

@@ -13,26 +13,26 @@ strip_kept number old offsets lengths index new = do
   len ← item_at number old lengths index
   kept_bytes old at len at new
 
--- so with so many strips, from an index on
+-- the same with so many strips, from an index on
 abbrev pub strips_from : Reading → List ℕ → ℕ → ℕ → ℕ → ℕ → List ℕ → Result (List ℕ) Fault
 strips_from number old offsets lengths zero index new = Ok new
 strips_from number old offsets lengths (suc left) index new =
     strip_kept number old offsets lengths index new
     >>= strips_from number old offsets lengths left (index + 1)
 
--- so with all strips of two entries, which have as many values
+-- the same with all strips of two entries, which have as many values
 abbrev pub strips_counted : Reading → List ℕ → ℕ → ℕ → List ℕ → Result (List ℕ) Fault
 strips_counted number old offsets lengths new = do
   count ← count_of number old offsets
   other ← count_of number old lengths
   if other == count then strips_from number old offsets lengths count 0 new else Err Broken
 
--- so with an entry of lengths, if there is one
+-- the same with an entry of lengths, if there is one
 abbrev pub strips_of : Reading → List ℕ → ℕ → Option ℕ → List ℕ → Result (List ℕ) Fault
 strips_of number old offsets None new = Err Broken
 strips_of number old offsets (Some lengths) new = strips_counted number old offsets lengths new
 
--- so with an entry of offsets, if there is one, among so many entries
+-- the same with an entry of offsets, if there is one, among so many entries
 abbrev pub strips_named : Reading → List ℕ → ℕ → ℕ → ℕ → Option ℕ → List ℕ
     → Result (List ℕ) Fault
 strips_named number old count first tag None new = Ok new

@@ -86,7 +86,7 @@ fn test_tags(old: Old<'_>, keeps_orientation: bool, count: u16, first: u64) -> R
     Ok(())
 }
 
-// So of a directory.
+// The same of a directory.
 fn test_directory(old: Old<'_>, keeps_orientation: bool, at: u32) -> Result<(), Fault>
     ensures { result ≡ directory_tested (number_of old.entry.order) old.entry.bytes.now
         keeps_orientation at }

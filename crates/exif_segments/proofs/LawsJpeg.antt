@@ -16,7 +16,7 @@ use Rattle.exif_segments.proofs.JpegMoves.{jpeg-fewer}
 
 -- ---- a unit is read back
 
--- fill bytes before a code are passed over
+-- fill bytes before a code are skipped
 pub after_marks-fill : (n code : ℕ) (ys : List ℕ) → code ≢ 255 → after_marks (replicate n 255 ++ (code ∷ ys)) ≡ code ∷ ys
 after_marks-fill zero code ys h = ap (λ t. cond t (after_marks ys) (code ∷ ys)) (ne_eqb code 255 h)
 after_marks-fill (suc n) code ys h = after_marks-fill n code ys h

@@ -78,13 +78,13 @@ moves_fact None b l m P S f h = tt
 moves_fact (Some x) None l m P S f h = absurd h
 moves_fact (Some x) (Some y) l m P S f h = f (take l x) (take m y) h.0
 
--- bytes that are none of them ff are passed over
+-- bytes that are none of them ff are skipped
 pub from_mark-others : (bytes rest : List ℕ) → All (λ b. b ≢ 255) bytes → from_mark (bytes ++ rest) ≡ from_mark rest
 from_mark-others [] rest h = refl
 from_mark-others (b ∷ bytes) rest h =
     ap (λ t. cond t (b ∷ (bytes ++ rest)) (from_mark (bytes ++ rest))) (ne_eqb b 255 (h 0 b (omega arith))) ∙ from_mark-others bytes rest (All-tail (λ b. b ≢ 255) b bytes h)
 
--- bytes at hand that are no ff are passed over
+-- bytes at hand that are no ff are skipped
 pub passes_marks : (a b : Option (List ℕ)) (m n k : ℕ) → PassesOthers a b 255 k → m ≡ n + k → Moves a m b n (λ xs ys. from_mark xs ≡ from_mark ys)
 passes_marks None b m n k h e = tt
 passes_marks (Some xs) None m n k h e = absurd h.1

@@ -63,6 +63,6 @@ begin_in text =
     (two text 17 0)) (two text 14 0)) (two text 11 0)) (two text 8 1)) (two text 5 1))
     (two text 2 0)) (two text 0 0)
 
--- so of a text of a form that dates have
+-- the same of a text of a form that dates have
 abbrev pub begin_of : List ℕ → Option ℕ
 begin_of text = if is_date text then begin_in text else None

@@ -12,7 +12,7 @@ use Rattle.exif_base.proofs.Sent.{front_none}
 abbrev pub Told : Option (List ℕ) → List ℕ → Type 0
 Told told line = IfSome (Some (codes "exif_show: ") ++? (told ++? Some (codes "\n"))) (λ bytes. line ≡ bytes)
 
--- so what holds of the bytes written holds of the line
+-- hence what holds of the bytes written holds of the line
 of_line : (told : Option (List ℕ)) (line : List ℕ) (P : List ℕ → Type 0) → Told told line → P line → IfSome told (λ text. P (said_line text))
 unfolding said_line
 of_line None line P is h = tt

@@ -17,7 +17,7 @@ asked_by (file ∷ []) = if bytes_eq file (codes "-c") then None else Some (fals
 asked_by (flag ∷ (file ∷ [])) = if bytes_eq flag (codes "-c") then Some (true, 1) else None
 asked_by (a ∷ (b ∷ (c ∷ more))) = None
 
--- the status of a report: 0 without faults, 3 with faults that were passed over, 1 with an error
+-- the status of a report: 0 without faults, 3 with faults that were skipped, 1 with an error
 abbrev pub status_of : Result ℕ Failure → ℕ
 status_of (Ok count) = if count == 0 then 0 else 3
 status_of (Err e) = 1

@@ -24,7 +24,7 @@ pub fn mode(arguments: &[String]) -> Option<(bool, usize)>
 }
 
 /// Writes the report of a file, or an error's text. Answers the status that the program ends with:
-/// 0 without faults, 3 with faults that were passed over, 1 with an error.
+/// 0 without faults, 3 with faults that were skipped, 1 with an error.
 pub fn show<R: Source, W: Sink, E: Sink>(
     alloc: Global,
     reader: &mut R,

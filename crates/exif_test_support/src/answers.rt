@@ -96,7 +96,7 @@ pub fn counts(answer: Result<Exif, Error>) -> Option<(usize, usize)> {
     }
 }
 
-/// The fields of an answer, and how many faults were passed over.
+/// The fields of an answer, and how many faults were skipped.
 pub fn distilled(answer: Result<Exif, Error>) -> Result<(Exif, usize), Error> {
     match answer {
         Ok(exif) => Ok((exif, 0)),

@@ -156,7 +156,7 @@ pub decode_alike : (order : Order) (type count : ℕ) (a b : List ℕ) (p : ℕ)
     → decode (number_of order) type count a p ≡ decode (number_of order) type count b p
 decode_alike order type count a b p e = known_alike order (type_of type) type count a b p e
 
--- so in data of one length, where the bytes of the value agree offset by offset
+-- the same in data of one length, where the bytes of the value agree offset by offset
 pub decode_same : (order : Order) (type count : ℕ) (a b : List ℕ) (p : ℕ) → length a ≡ length b
     → Same a b p (known_length (type_of type) * count)
     → decode (number_of order) type count a p ≡ decode (number_of order) type count b p

@@ -41,7 +41,7 @@ raw_read : (lenient : Bool) (limit : Option ℕ) (bytes : List ℕ) → AnswerIs
 unfolding raw_answer
 raw_read lenient limit bytes = by_header (header bytes) lenient limit bytes
 
--- so is each that a reading shows
+-- and so is each that a reading shows
 pub shown_fields : (lenient : Bool) (limit : Option ℕ) (bytes : List ℕ) (fields : List Field) (faults : List Fault) → raw_answer lenient limit bytes ≡ shown fields faults → All IsRead fields
 shown_fields lenient limit bytes fields faults e = shown_read fields faults (subst AnswerIsRead e (raw_read lenient limit bytes))
 

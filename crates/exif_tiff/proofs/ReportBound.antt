@@ -24,7 +24,7 @@ fields-append (Visit ∷ xs) ys = fields-append xs ys
 fields-append (Found l ∷ xs) ys = ap (λ fs. l.field ∷ fs) (fields-append xs ys)
 fields-append (Met fault ∷ xs) ys = fields-append xs ys
 
--- so are the faults
+-- and so are the faults
 pub faults-append : (xs ys : List Node) → faults_of (xs ++ ys) ≡ faults_of xs ++ faults_of ys
 faults-append [] ys = refl
 faults-append (Opens directory ∷ xs) ys = faults-append xs ys
@@ -106,6 +106,6 @@ pub trace_reports : (bytes : List ℕ) → Reports 1 (trace bytes)
 unfolding trace
 trace_reports bytes = by_header (header bytes) bytes
 
--- so what data report is bounded by the entries that are visited, and one
+-- hence what data report is bounded by the entries that are visited, and one
 pub reports_bounded : (bytes : List ℕ) → ReportsAreBounded bytes
 reports_bounded bytes = (trace_reports bytes).bound

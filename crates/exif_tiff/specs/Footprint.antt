@@ -13,7 +13,7 @@ use Rattle.exif_tiff.specs.Answers.{raw_answer}
 use Rattle.exif_tiff.specs.declared.offset.DirectoryOffset.{DirectoryOffset}
 use Rattle.exif_tiff.specs.Trace.{child_of, depth_of, directories_of, directory_end, entry_offsets, entry_value, header, ordered_trace, trace, whole_entries}
 
--- so many bytes from an offset on
+-- this many bytes from an offset on
 pub record Stretch : Type 0 where
   pub offset : ℕ
   pub len : ℕ

@@ -14,7 +14,7 @@ FrontSaysAll lenient limit front rest =
     → length (front ++ rest) < 2 ^ 32
     → raw_answer lenient limit (front ++ rest) ≡ Whole fields
 
--- so does the header that it holds
+-- and so does the header that it holds
 abbrev pub FrontHasHeader : List ℕ → List ℕ → Type 0
 FrontHasHeader front rest =
     (order : Order) → header front ≡ Ok order → length (front ++ rest) < 2 ^ 32

@@ -22,7 +22,7 @@ pub record IsCut (n : ℕ) (nodes : List Node) : Type 0 where
   pub visits : visits_of front ≡ n
   pub ended : cut n nodes ≡ front ++ Met TooManyEntries ∷ []
 
--- so where there are more
+-- the same where there are more
 abbrev pub IsCutPast : ℕ → List Node → Type 0
 IsCutPast n nodes = n < visits_of nodes → IsCut n nodes
 

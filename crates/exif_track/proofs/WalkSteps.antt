@@ -11,7 +11,7 @@ use Rattle.exif_track.specs.declared.step.Step.{Step}
 use Rattle.exif_track.specs.Steps.{◌>>=◌, step_at}
 use Rattle.exif_track.specs.Walks.{TrackView, behind, fault_at_end, kept_of, none_unless, points_from, skipped_of}
 
--- bytes that are left of a token are passed over
+-- bytes that are left of a token are skipped
 left_over : (xs : List ℕ) (s : State) (k : ℕ) → points_from xs s k ≡ points_from (drop k xs) s 0
 unfolding points_from
 left_over [] s zero = refl

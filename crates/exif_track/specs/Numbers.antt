@@ -34,11 +34,11 @@ begins_number text =
 abbrev pub decimal_of : ℕ → List ℕ → Option ℕ
 decimal_of scale text = if begins_number text then whole_of scale text 0 else None
 
--- so many units below zero, above `-base`
+-- this many units below zero, above `-base`
 abbrev pub below : ℕ → ℕ → Option ℕ
 below base size = if nat_le size base then Some (base - size) else None
 
--- so many units from zero on, above `-base`
+-- this many units from zero on, above `-base`
 abbrev pub above : ℕ → ℕ → Option ℕ
 above base size = if nat_le size base then Some (base + size) else None
 

@@ -72,14 +72,14 @@ fn decimal_of(scale: u64, text: &[u8]) -> Option<u64>
     }
 }
 
-/// So many units below zero, above `-base`.
+/// This many units below zero, above `-base`.
 pub(crate) fn below(base: u64, size: u64) -> Option<u64>
     ensures { result ≡ below base size }
 {
     base.checked_sub(size)
 }
 
-// So many units from zero on, above `-base`, if they are no more than `base`.
+// This many units from zero on, above `-base`, if they are no more than `base`.
 fn above(base: u64, size: u64) -> Option<u64>
     requires { base < 2 ^ 31 }
     ensures { result ≡ above base size }

@@ -9,7 +9,7 @@ abbrev pub HasPlainTexts : Value → Type 0
 HasPlainTexts (value.Ascii texts) = All (All (λ b. b ≢ 0)) texts
 HasPlainTexts _ = ⊤
 
--- so in the field, and its directory is one of the first eight
+-- the same in the field, and its directory is one of the first eight
 pub record IsRead (field : Field) : Type 0 where
   pub plain : HasPlainTexts field.value
   pub number : field.ifd_num.0 < 8

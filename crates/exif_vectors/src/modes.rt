@@ -99,7 +99,7 @@ fn readers(alloc: Global, case: &Case, failure: Failure) -> Result<Option<String
     Ok(Some(format!(in alloc; "reader: no end")?))
 }
 
-// So many reads give the answer.
+// This many reads give the answer.
 fn after_reads(
     alloc: Global,
     case: &Case,

@@ -62,7 +62,7 @@ module _ (order : Order) (bytes : List ℕ) (small : length bytes < 256 ^ 4) (dr
   value_outside entry entries h true e f = absurd cc
   value_outside entry entries h false e f = (rw e at h).0
 
-  -- so are the values after the first one, whether or not that fits into its entry
+  -- and so are the values after the first one, whether or not that fits into its entry
   pub values_rest : (entry : Written) (entries : List Written) → AllStand bytes (value_parts order (entry ∷ entries))
       → (fits : Bool) → nat_le (value_len entry.value) 4 ≡ fits → AllStand bytes (value_parts order entries)
   values_rest entry entries h true e = rw e at h

@@ -89,7 +89,7 @@ offsets_low bytes offset [] small h = tt
 offsets_low bytes offset (text ∷ texts) small h =
     let within = h.0.within in (omega arith, offsets_low bytes (offset + length text) texts small h.1)
 
--- so are their lengths
+-- and so are their lengths
 lengths_low : (bytes : List ℕ) (offset : ℕ) (texts : List (List ℕ)) → length bytes < 256 ^ 4 → AllStand bytes (block_parts offset texts)
     → AllByRecursion (λ x. x < 256 ^ 4) (map length texts)
 lengths_low bytes offset [] small h = tt

@@ -148,7 +148,7 @@ pushed_blocks field groups ifd =
       | false ↦ changed_keeps blocks_at field.ifd_num.0 ifd (with_entry field.tag.0 (entry_of field)) groups (with_entry_blocks field.tag.0 (entry_of field))
     ]
 
--- so do pushes one after the other
+-- and so do pushes one after the other
 pub pushed_all_blocks : (fields : List Field) (groups : List Group) (ifd : ℕ) → blocks_at (group_at (pushed_all fields groups) ifd) ≡ blocks_at (group_at groups ifd)
 pushed_all_blocks [] groups ifd = refl
 pushed_all_blocks (field ∷ fields) groups ifd = pushed_all_blocks fields (pushed field groups) ifd ∙ pushed_blocks field groups ifd

@@ -43,7 +43,7 @@ moved_kept fields field m =
     let same : is_kept (record m.from { value = moved_to m.offset m.from.value }) ≡ is_kept m.from = ap (λ b. not (is_gps m.from.tag.0) && not b) (unknown_moved m.offset m.from.value) in
     ap is_kept m.moved ∙ same ∙ passes
 
--- so each field of the image
+-- hence each field of the image
 each_kept : (fields : List Field) → AllByRecursion (λ field. is_kept field ≡ true) (flat (scrubbed fields))
 each_kept fields =
     weaker (IsMoved (kept fields)) (λ field. is_kept field ≡ true) (moved_kept fields) (flat (scrubbed fields))

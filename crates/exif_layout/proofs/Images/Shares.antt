@@ -27,7 +27,7 @@ offsets_ignored Strips = refl
 offsets_ignored Tiles = refl
 offsets_ignored Jpeg = refl
 
--- so is the tag of the lengths of blocks, of each kind
+-- and so is the tag of the lengths of blocks, of each kind
 pub lengths_ignored : (kind : BlockKind) → is_ignored Tiff (lengths_tag kind) ≡ true
 lengths_ignored Strips = refl
 lengths_ignored Tiles = refl

@@ -51,7 +51,7 @@ all_tiff P group pushed blocks exif gps =
     (all_known P group.tiff pushed) (blocks Strips)) (blocks Tiles)) (blocks Jpeg))
     (all_pointer P 0x8769 Exif (exif_slots group) exif)) (all_pointer P 0x8825 Gps (gps_slots group) gps))
 
--- so in an Exif directory, which has no blocks and only the pointer to Interop
+-- the same in an Exif directory, which has no blocks and only the pointer to Interop
 pub all_exif : (P : Slot → Type 0) (group : Group) → AllByRecursion (λ entry. P (known entry)) group.exif
     → (0 < length (interop_slots group) → P (pointer_to 0xa005 Interop)) → AllByRecursion P (exif_slots group)
 unfolding exif_slots
@@ -67,7 +67,7 @@ pub all_interop : (P : Slot → Type 0) (group : Group) → AllByRecursion (λ e
 unfolding interop_slots
 all_interop P group pushed = all_in_tag_order P _ (all_known P group.interop pushed)
 
--- so in each directory of a group, where what holds may depend on the context
+-- the same in each directory of a group, where what holds may depend on the context
 pub all_slots : (P : Context → Slot → Type 0) (group : Group)
     → ((context : Context) → AllByRecursion (λ entry. P context (known entry)) (pushed_in group context))
     → ((kind : BlockKind) → AllByRecursion (P Tiff) (block_slots group kind))

@@ -12,7 +12,7 @@ invariant-loop-offset l =
     (drop l.offset-index l.offsets)
     ≡ flat_map (directory_patches l.order l.bytes l.number) l.offsets
 
--- so of their values
+-- the same of their values
 abbrev pub invariant-loop-offset-2 : goal.invariant-loop-offset-2
 invariant-loop-offset-2 l =
     l.patches.items

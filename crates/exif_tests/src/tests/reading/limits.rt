@@ -28,7 +28,7 @@ fn ends_at_the_limit(alloc: Global, bytes: &[u8], limit: u64) -> Result<(), Fail
     is_text(last.as_str(), LIMIT)
 }
 
-// So many fields and faults are read, in so many visits.
+// This many fields and faults are read, in so many visits.
 fn are_read(
     rt: &(impl Abort + AllocGlobal),
     bytes: &[u8],
