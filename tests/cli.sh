@@ -135,7 +135,7 @@ for file in whole.jpg whole.tif big.tif whole.webp whole.heic; do
     check "$file keeps its length" test "$(wc -c <"work/$file")" = "$(wc -c <"files/$file")"
 done
 gives "a cut file is scrubbed as far as it goes" 3 "$mexaldor" scrub -i work/cut.jpg
-says "that it is cut is reported" "The file ends before its picture does"
+says "that it is cut is reported" "The file is cut off"
 nothing_beside scrub
 
 # set

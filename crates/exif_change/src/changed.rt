@@ -38,7 +38,8 @@ pub enum Left {
     Date(Tag, Unmoved),
     /// A date that is not set, since its edit was refused.
     Edit(Tag, exif_edit::Error),
-    /// The file ends before its picture does. It was changed as far as it goes.
+    /// The file is cut off: it ends before its picture does, or in the middle of a box. It was
+    /// changed as far as it goes.
     CutOff,
     /// A part of the file may still hold a location.
     Stays(Stays),
@@ -59,7 +60,7 @@ impl fmt::Display for Left {
                 write!(f, "{tag} would leave the years 0 to 9999 and was not moved")
             }
             Left::Edit(tag, cause) => write!(f, "{tag} was not moved: {cause}"),
-            Left::CutOff => write!(f, "The file ends before its picture does"),
+            Left::CutOff => write!(f, "The file is cut off"),
             Left::Stays(stays) if stays.why.can_be_blanked() => {
                 write!(f, "{stays}; --force-blank blanks it")
             }
