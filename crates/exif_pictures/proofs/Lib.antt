@@ -1,2 +1,3 @@
+pub mod CodestreamSteps
 pub mod PartSteps
 pub mod PngSteps

@@ -1,4 +1,5 @@
 pub mod Boxes
+pub mod Codestreams
 pub mod PngChanges
 pub mod Ways
 pub mod Pictures

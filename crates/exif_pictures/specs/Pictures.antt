@@ -1,13 +1,13 @@
 -- What becomes of a picture, by its format.
-use Rattle.std.specs.Prelude.{ℕ, List, [], ◌∷◌, codes, Some, None, Result, Ok, Err, if◌then◌else◌}
+use Rattle.std.specs.Prelude.{ℕ, List, [], ◌∷◌, ◌++◌, codes, Some, None, Result, Ok, Err, if◌then◌else◌}
 use Rattle.exif_assign.specs.declared.assignment.Assignment.{Assignment}
 use Rattle.exif_clock.specs.declared.shift.ClockShift.{ClockShift}
 use Rattle.exif_inventory.specs.Walks.{inventory}
 use Rattle.exif_locations.specs.declared.unread.Unread.{Unread}
 use Rattle.exif_privacy.specs.Erasing as privacy
 use Rattle.exif_rewrite.specs.Color.{colorless}
-use Rattle.exif_types.specs.Refusals.{not_supported}
-use Rattle.exif_change.specs.Changed.{Change, whole}
+use Rattle.exif_types.specs.Refusals.{invalid_format, not_supported}
+use Rattle.exif_change.specs.Changed.{Change, cut_off, whole}
 use Rattle.exif_change.specs.Changes.{if_parted, keeps_orientation, scrubbed, scrubbed_with_color, with_color}
 use Rattle.exif_change.specs.Notes as notes
 use Rattle.exif_change.specs.Refusals.{Why, reading}
@@ -20,8 +20,11 @@ use Rattle.exif_change.specs.declared.notes.Note.TheVariants.{OwnRotation}
 use Rattle.exif_change.specs.declared.scrubbing.Removed.{Removed}
 use Rattle.exif_change.specs.declared.scrubbing.Removed.TheVariants as removed
 use Rattle.exif_pictures.specs.Boxes.{jxl_emptied}
+use Rattle.exif_pictures.specs.Codestreams.{codestream_of}
 use Rattle.exif_pictures.specs.PngChanges.{png_emptied, png_set, png_shifted, png_unlocated}
 use Rattle.exif_pictures.specs.Ways.{way_for}
+use Rattle.exif_pictures.specs.declared.codestream.Codestream.{Codestream}
+use Rattle.exif_pictures.specs.declared.codestream.Codestream.TheVariants as codestream
 use Rattle.exif_pictures.specs.declared.way.Way.{Way}
 use Rattle.exif_pictures.specs.declared.way.Way.TheVariants as way
 
@@ -48,10 +51,30 @@ jxl_unlocated unread file = elim (inventory file) [
 ]
 
 -- a JPEG XL file without what is removed; its picture keeps its own orientation
+abbrev pub jxl_without : Removed → List ℕ → Result Change Why
+jxl_without (removed.Gps unread) file = jxl_unlocated unread file
+jxl_without removed.Metadata file = Ok (jxl_emptied file)
+jxl_without removed.AllButOrientation file = Ok (jxl_emptied file)
+
+-- a container without a codestream is refused
+abbrev pub no_codestream : Why
+no_codestream = reading (invalid_format (codes "JPEG XL file without a codestream"))
+
+-- a change of a file that is cut off
+abbrev pub if_cut_off : Result Change Why → Result Change Why
+if_cut_off (Ok change) =
+    Ok (record { file = change.file; undone = change.undone ++ Some cut_off ∷ [] })
+if_cut_off (Err why) = Err why
+
+-- a change of a JPEG XL file, by how much of its codestream it has
+abbrev pub by_codestream : Codestream → Result Change Why → Result Change Why
+by_codestream codestream.Absent change = Err no_codestream
+by_codestream codestream.CutOff change = if_cut_off change
+by_codestream codestream.Whole change = change
+
+-- a JPEG XL file without what is removed, if it has a codestream
 abbrev pub jxl_scrubbed : Removed → List ℕ → Result Change Why
-jxl_scrubbed (removed.Gps unread) file = jxl_unlocated unread file
-jxl_scrubbed removed.Metadata file = Ok (jxl_emptied file)
-jxl_scrubbed removed.AllButOrientation file = Ok (jxl_emptied file)
+jxl_scrubbed removed file = by_codestream (codestream_of file) (jxl_without removed file)
 
 -- a file without what is removed
 abbrev pub scrubbed_by : Way → Removed → List ℕ → Result Change Why

@@ -10,8 +10,8 @@ use exif_change::{Changed, Left, belongs};
 use exif_inventory::{Part, inventory};
 use std::alloc::{AllocError, Global};
 
-// The length of the header of a box.
-fn header_len(bytes: &[u8]) -> usize
+/// The length of the header of a box.
+pub(crate) fn header_len(bytes: &[u8]) -> usize
     ensures value { result ≡ header_len bytes.now }
     ensures least { 8 ≤ result }
 {

@@ -4,6 +4,7 @@
 //! Raw files are not changed.
 #![tactic(auto)]
 
+mod codestream;
 mod jxl;
 mod pictures;
 mod png;

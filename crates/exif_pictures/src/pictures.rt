@@ -4,8 +4,9 @@ ghost use Rattle.std.specs.Prelude.{◌≡◌, ◌∷◌, [], if◌then◌else�
 ghost use Rattle.exif_change.specs.Changed.{change_of};
 ghost use Rattle.exif_change.specs.Changes.{keeps_orientation, with_color};
 ghost use Rattle.exif_change.specs.Refusals.{Answers, why_of};
-ghost use Rattle.exif_pictures.specs.Pictures.{jxl_refused, jxl_scrubbed, jxl_unlocated, picture_notes, picture_scrubbed, picture_scrubbed_with_color, picture_set, picture_shifted, png_scrubbed, png_with_color, raw_refused};
+ghost use Rattle.exif_pictures.specs.Pictures.{if_cut_off, jxl_refused, jxl_scrubbed, jxl_unlocated, jxl_without, no_codestream, picture_notes, picture_scrubbed, picture_scrubbed_with_color, picture_set, picture_shifted, png_scrubbed, png_with_color, raw_refused};
 
+use crate::codestream::{Codestream, codestream_of};
 use crate::png::whole;
 use crate::way::{Way, way_for};
 use crate::{jxl, png};
@@ -56,8 +57,8 @@ fn jxl_unlocated(alloc: Global, file: Vec<u8>, unread: Unread) -> Result<Changed
 }
 
 // A JPEG XL file without what is removed.
-fn jxl_scrubbed(alloc: Global, file: Vec<u8>, removed: Removed) -> Result<Changed, Refusal>
-    ensures { Answers change_of result (jxl_scrubbed removed file.items) }
+fn jxl_without(alloc: Global, file: Vec<u8>, removed: Removed) -> Result<Changed, Refusal>
+    ensures { Answers change_of result (jxl_without removed file.items) }
 {
     match removed {
         Removed::Gps(unread) => jxl_unlocated(alloc, file, unread),
@@ -65,11 +66,40 @@ fn jxl_scrubbed(alloc: Global, file: Vec<u8>, removed: Removed) -> Result<Change
     }
 }
 
+// Why a JPEG XL file without a codestream is refused.
+fn no_codestream() -> Refusal
+    ensures { why_of result ≡ Some no_codestream }
+{
+    let text = "JPEG XL file without a codestream";
+    Refusal::Reading(Error::InvalidFormat(text))
+}
+
+// A change of a file that is cut off.
+fn cut_off(changed: Changed) -> Result<Changed, Refusal>
+    ensures { Answers change_of result (if_cut_off (Ok (change_of changed))) }
+{
+    let Changed { file, mut left } = changed;
+    left.push(Left::CutOff)?;
+    Ok(Changed { file, left })
+}
+
+// A JPEG XL file without what is removed, if it has a codestream.
+fn jxl_scrubbed(alloc: Global, file: Vec<u8>, removed: Removed) -> Result<Changed, Refusal>
+    ensures { Answers change_of result (jxl_scrubbed removed file.items) }
+{
+    match codestream_of(file.as_slice()) {
+        Codestream::Absent => Err(no_codestream()),
+        Codestream::CutOff => cut_off(jxl_without(alloc, file, removed)?),
+        Codestream::Whole => jxl_without(alloc, file, removed),
+    }
+}
+
 /// The picture without what is removed: [`exif_change::scrub`] for TIFF, JPEG, HEIF and WebP files.
 ///
 /// A PNG file is written again without the chunks that do not show the picture
 /// ([`exif_rewrite_png::rewrite_png`]). In a JPEG XL file they become free space; the picture keeps
-/// its own orientation. Where locations are erased no byte moves, and the CRCs of the chunks that
+/// its own orientation. One that is cut off is changed as far as it goes, which is answered; one
+/// whose container has no codestream is refused. Where locations are erased no byte moves, and the CRCs of the chunks that
 /// were changed are mended. Raw files are refused. It takes the memory of the file and of the new
 /// one.
 pub fn scrub(alloc: Global, file: Vec<u8>, removed: Removed) -> Result<Changed, Refusal>
