@@ -9,9 +9,9 @@ use Rattle.exif_files.specs.Written.{FailedToRemove}
 use Rattle.exif_files.specs.declared.failure.WriteError.{WriteError}
 use Rattle.exif_files.proofs.Counts.{same_or_other}
 use Rattle.exif_files.proofs.Runs.{run_one, run_step, run_stay, run_weaker}
-use Rattle.exif_rename.specs.Moves.{IsCaused, IsCopied, IsCopiedAway, IsCopiedForGood, IsCopy, IsMovedForGood, IsNotCopied, IsNotMoved, IsRenamed, IsWholeCopy, IsWholeMove}
+use Rattle.exif_rename.specs.Moves.{IsCaused, IsCopied, IsCopiedAway, IsCopiedForGood, IsCopy, IsMovedBy, IsNotCopied, IsNotMoved, IsRenamed, IsWholeCopy, IsWholeMove}
 use Rattle.exif_rename.specs.declared.moving.Attributes.{Attributes}
-use Rattle.exif_rename.specs.declared.moving.Attributes.TheVariants.{Kept}
+use Rattle.exif_rename.specs.declared.moving.Moved.TheVariants.{Copied}
 use Rattle.exif_rename.proofs.Copying.{for_good_copied, run_knowing}
 
 -- what an error that is passed on says
@@ -75,16 +75,16 @@ run_away from to attributes a b c run m =
     (λ s t u x y. away_whole from to attributes s u (copied_away from to attributes s t u x y)) (copied_away from to attributes)
 
 pub run_away_settled : (from to : List ℕ) (attributes : Attributes) (a b c : List State) → Run (IsWholeMove from to) (IsCopiedAway from to attributes) a b → Moves (Settles from) b c
-    → Run (IsWholeMove from to) (IsMovedForGood from to attributes) a c
+    → Run (IsWholeMove from to) (IsMovedBy from to (Copied attributes)) a c
 run_away_settled from to attributes a b c run m =
     run_step (Settles from) run m (λ s t x. x)
     (λ s t u x y. away_whole from to attributes s u (away_settled from to attributes s t u x y.same))
-    (λ s t u x y. inr (away_settled from to attributes s t u x y.same, y.settled))
+    (λ s t u x y. (away_settled from to attributes s t u x y.same, y.settled))
 
 pub run_away_unsettled : (from to : List ℕ) (attributes : Attributes) (cause twice : Type 0) (a b c : List State) → Run (IsWholeMove from to) (IsCopiedAway from to attributes) a b → c ≡ b
     → Run (IsWholeMove from to) (IsNotMoved from to cause twice) a c
 run_away_unsettled from to attributes cause twice a b c run same =
-    run_weaker (run_stay run same) (λ s t x. x) (λ s t x. inr (inr (attributes, x)))
+    run_weaker (run_stay run same) (λ s t x. x) (λ s t x. inr (attributes, x))
 
 -- the file was not removed
 pub run_both : (from to : List ℕ) (attributes : Attributes) (cause twice : Type 0) (a b c : List State) → Run (IsWholeCopy from to) (IsCopiedForGood from to attributes) a b → c ≡ b
@@ -134,21 +134,6 @@ run_renamed from to a b c same free m =
     let one : Run (Renames from to) (Renames from to) a c = run_one (Renames from to) (subst P same m) (λ s t x. x) (λ s t x. x) in
     run_knowing (IsFreeNow to) a c free one
     (λ s t free x. renamed_whole from to s t (renamed from to s t free x)) (renamed from to)
-
-renamed_settled : (from to : List ℕ) (s t u : State) → IsRenamed from to s t → ((n : List ℕ) → u.at n ≡ t.at n) → IsRenamed from to s u
-renamed_settled from to s t u x same =
-    record { free = x.free; file = same to ∙ x.file; gone = same from ∙ x.gone; others = λ n ne ne'. same n ∙ x.others n ne ne' }
-
-pub run_renamed_settled : (from to : List ℕ) (a b c : List State) → Run (IsWholeMove from to) (IsRenamed from to) a b → Moves (Settles to) b c
-    → Run (IsWholeMove from to) (IsMovedForGood from to Kept) a c
-run_renamed_settled from to a b c run m =
-    run_step (Settles to) run m (λ s t x. x)
-    (λ s t u x y. renamed_whole from to s u (renamed_settled from to s t u x y.same))
-    (λ s t u x y. inl (renamed_settled from to s t u x y.same, y.settled, refl))
-
-pub run_renamed_unsettled : (from to : List ℕ) (cause twice : Type 0) (a b c : List State) → Run (IsWholeMove from to) (IsRenamed from to) a b → c ≡ b
-    → Run (IsWholeMove from to) (IsNotMoved from to cause twice) a c
-run_renamed_unsettled from to cause twice a b c run same = run_weaker (run_stay run same) (λ s t x. x) (λ s t x. inr (inl x))
 
 -- ---- after a rename that failed
 

@@ -8,6 +8,8 @@ use Rattle.exif_files.specs.declared.failure.WriteError.{WriteError}
 use Rattle.exif_files.specs.declared.failure.WriteError.TheVariants.{OutOfMemory, Taken, Crowded}
 use Rattle.exif_rename.specs.declared.moving.Attributes.{Attributes}
 use Rattle.exif_rename.specs.declared.moving.Attributes.TheVariants.{Kept}
+use Rattle.exif_rename.specs.declared.moving.Moved.{Moved}
+use Rattle.exif_rename.specs.declared.moving.Moved.TheVariants.{Renamed, Copied}
 
 -- the mode, the owner and the times of another file
 pub record IsAlike (f g : Entry) : Type 0 where
@@ -73,19 +75,18 @@ pub record IsCopiedAway (from to : List ℕ) (attributes : Attributes) (s t : St
   pub gone : t.at from ≡ None
   pub others : ElsewhereOfTwo from to s t
 
--- The file has the other name, and the disk has that; or a copy has it, and the disk has that the
--- old name is gone.
-abbrev pub IsMovedForGood : List ℕ → List ℕ → Attributes → State → State → Type 0
-IsMovedForGood from to attributes s t =
-    (IsRenamed from to s t × (t.settled to ≡ true) × (attributes ≡ Kept))
-    ⊎ (IsCopiedAway from to attributes s t × (t.settled from ≡ true))
+-- How the file got the other name: by a rename, which the disk may not have yet; or by a copy, and
+-- the disk has that the old name is gone.
+abbrev pub IsMovedBy : List ℕ → List ℕ → Moved → State → State → Type 0
+IsMovedBy from to Renamed s t = IsRenamed from to s t
+IsMovedBy from to (Copied attributes) s t =
+    IsCopiedAway from to attributes s t × (t.settled from ≡ true)
 
--- the same, where the disk may not have it
+-- a copy has the other name, where the disk may not have that the old one is gone
 abbrev pub IsMoved : List ℕ → List ℕ → State → State → Type 0
-IsMoved from to s t =
-    IsRenamed from to s t ⊎ ((attributes : Attributes) × IsCopiedAway from to attributes s t)
+IsMoved from to s t = (attributes : Attributes) × IsCopiedAway from to attributes s t
 
--- What an error leaves: what one of a copy leaves; or the file has the other name, where only the
+-- What an error leaves: what one of a copy leaves; or a copy has the other name, where only the
 -- disk may not have it.
 abbrev pub IsNotMoved : List ℕ → List ℕ → Type 0 → Type 0 → State → State → Type 0
 IsNotMoved from to cause twice s t = IsNotCopied from to cause twice s t ⊎ IsMoved from to s t

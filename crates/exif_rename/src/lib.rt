@@ -8,7 +8,7 @@ mod pattern;
 mod plan;
 mod wish;
 
-pub use moving::{Attributes, copy_file, move_file};
+pub use moving::{Attributes, Moved, copy_file, move_file};
 pub use naming::{Facts, Missing, Taken};
 pub use pattern::{DatePart, Fault, Part, Pattern, PatternError};
 pub use plan::{PlanError, plan_names};

@@ -6,7 +6,7 @@ ghost use Rattle.exif_files.specs.Steps.{count_after};
 ghost use Rattle.exif_files.specs.Written.{FailedToRemove};
 ghost use Rattle.exif_files.specs.declared.failure.WriteError.TheVariants.{Taken};
 ghost use Rattle.exif_rename.specs.MoveParts.{KeepsBytes, MayBeAlike};
-ghost use Rattle.exif_rename.specs.Moves.{IsCaused, IsWholeCopy, IsCopied, IsCopiedForGood, IsNotCopied, IsWholeMove, IsMovedForGood, IsNotMoved};
+ghost use Rattle.exif_rename.specs.Moves.{IsCaused, IsWholeCopy, IsCopied, IsCopiedForGood, IsNotCopied, IsWholeMove, IsMovedBy, IsNotMoved};
 
 use exif_files::{FileSystem, WriteError, create_new};
 use std::alloc::Global;
@@ -21,9 +21,19 @@ pub enum Attributes {
     Lost,
 }
 
+/// How a file got another name.
+#[derive(Clone, Copy, Debug, PartialEq, Eq)]
+pub enum Moved {
+    /// By a rename. The disk may not have it yet: it does once the new name is settled
+    /// ([`FileSystem::settle`]). Until then a loss of power may bring the old name back.
+    Renamed,
+    /// By a copy and the removal of the file, which the disk has.
+    Copied(Attributes),
+}
+
 /// Gives a file another name, which must be free. Where the new name is on another device, the file
 /// is copied as [`copy_file`] does it, and then removed: this takes the memory of the file. Answers
-/// whether it has its mode, owner and times.
+/// how it was done.
 ///
 /// In every state of the run the whole file has one of the two names, the new name nothing else,
 /// and every other name what it had.
@@ -32,9 +42,9 @@ pub fn move_file<F: FileSystem>(
     files: &mut F,
     from: &str,
     to: &str,
-) -> Result<Attributes, WriteError>
-    ensures done { IfOk result (λ attributes. Run (IsWholeMove from.now to.now)
-        (IsMovedForGood from.now to.now attributes) (F.states files.old) (F.states files.new)) }
+) -> Result<Moved, WriteError>
+    ensures done { IfOk result (λ moved. Run (IsWholeMove from.now to.now)
+        (IsMovedBy from.now to.now moved) (F.states files.old) (F.states files.new)) }
     // An error leaves all as it was, but for the exceptions that `IsNotMoved` names.
     ensures failed { IfErr result (λ e. Run (IsWholeMove from.now to.now)
         (IsNotMoved from.now to.now
@@ -49,10 +59,7 @@ pub fn move_file<F: FileSystem>(
         return Err(WriteError::Taken);
     }
     match files.rename(from, to) {
-        Ok(()) => {
-            files.settle(to)?;
-            Ok(Attributes::Kept)
-        }
+        Ok(()) => Ok(Moved::Renamed),
         Err(error) if error.kind() == ErrorKind::CrossesDevices => {
             copy_and_remove(alloc, files, from, to)
         }
@@ -66,9 +73,9 @@ fn copy_and_remove<F: FileSystem>(
     files: &mut F,
     from: &str,
     to: &str,
-) -> Result<Attributes, WriteError>
-    ensures done { IfOk result (λ attributes. Run (IsWholeMove from.now to.now)
-        (IsMovedForGood from.now to.now attributes) (F.states files.old) (F.states files.new)) }
+) -> Result<Moved, WriteError>
+    ensures done { IfOk result (λ moved. Run (IsWholeMove from.now to.now)
+        (IsMovedBy from.now to.now moved) (F.states files.old) (F.states files.new)) }
     ensures failed { IfErr result (λ e. Run (IsWholeMove from.now to.now)
         (IsNotMoved from.now to.now
         (IsCaused e (F.failures files.old) (F.failures files.new))
@@ -80,7 +87,7 @@ fn copy_and_remove<F: FileSystem>(
     let attributes = copy_file(alloc, files, from, to)?;
     files.remove(from)?;
     files.settle(from)?;
-    Ok(attributes)
+    Ok(Moved::Copied(attributes))
 }
 
 /// Copies a file to a name that must be free: first in the same folder under a hidden name, and
