@@ -3,14 +3,13 @@
 ghost use Rattle.std.specs.Prelude.{◌≡◌};
 ghost use Rattle.exif_commands.specs.Checks.{status_by};
 
-use crate::inputs::read_file;
-use crate::request::Form;
-use exif::Error;
+use exif::{Error, Sink};
 use exif_check::{Checked, Line, Location, check, check_json, is_listed, location_of};
 use exif_decisions::Escaped;
 use exif_files::Status;
 use exif_formats::{PictureFormat, format_of};
 use exif_json::json_of_answer;
+use exif_session::{Form, Session, Stop, read_file};
 use std::alloc::{AllocError, Global};
 
 // The status of a file that was checked: 3 where it holds a location, or may hold one.
@@ -63,8 +62,28 @@ fn parts_of(alloc: Global, file: &[u8]) -> Result<Result<Vec<Checked>, Error>, A
     Ok(answer)
 }
 
-/// What is written of a file, and its status; or why it was refused.
-pub fn check_file(
+/// Writes what the parts of a file hold, and answers its status.
+pub fn check_file<W: Sink, E: Sink>(
+    session: &mut Session<'_, '_, W, E>,
+    form: Form,
+    path: &str,
+) -> Result<Status, Stop> {
+    let (text, status) = match (answer_of(session.rt, form, path)?, form) {
+        (Ok(answer), _) => answer,
+        (Err(error), Form::Lines) => return session.refuse(path, &error),
+        (Err(error), Form::Json) => {
+            (
+                refused_line(session.rt.alloc(), path, error)?,
+                Status::Refused,
+            )
+        }
+    };
+    session.answer(text.as_slice())?;
+    Ok(status)
+}
+
+// What is written of a file, and its status; or why it was refused.
+fn answer_of(
     rt: &HostRuntime,
     form: Form,
     path: &str,
@@ -85,8 +104,8 @@ pub fn check_file(
     Ok(Ok((text, status_of_location(location_of(parts.as_slice())))))
 }
 
-/// The object of a file that was refused, in a line.
-pub fn refused_line(alloc: Global, path: &str, error: Error) -> Result<Vec<u8>, AllocError> {
+// The object of a file that was refused, in a line.
+fn refused_line(alloc: Global, path: &str, error: Error) -> Result<Vec<u8>, AllocError> {
     let mut text = json_of_answer(alloc, path.as_bytes(), None, Err(error))?;
     text.push(b'\n')?;
     Ok(text)

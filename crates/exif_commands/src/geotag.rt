@@ -1,21 +1,16 @@
 //! Pictures that get their location from the track of a GPS receiver.
 
-use crate::change::ChangeEdit;
-use crate::choosing::exif_of;
-use crate::files::{Session, Stop};
-use crate::in_place::{Plan, report_change};
-use crate::inputs::read_file;
-use crate::request::{Change, Geotagging};
 use exif::{Error, Exif, Sink};
 use exif_change::Assignment;
-use exif_files::{Failure, HostFiles, Status, change};
+use exif_files::Status;
 use exif_geotag::{fix_of_picture, time_of_picture};
+use exif_session::{Change, Geotagging, Plan, Session, Stop, change_in_turn, exif_of, read_file};
 use exif_track::{Fix, Track};
 
-// Where a picture was taken, or why that is not known.
-enum Place {
+// The location of a picture, or why it is not known.
+enum Located {
     At(Fix),
-    Nowhere(&'static str),
+    Unknown(&'static str),
 }
 
 /// Sets the location of each file that is named or found, in place, by a track, and answers the
@@ -69,55 +64,46 @@ fn geotag_file<W: Sink, E: Sink>(
     path: &str,
     key: &str,
 ) -> Result<Status, Stop> {
-    let rt = session.rt;
-    let fix = match place_of(rt, geotagging.zone, track, key) {
-        Ok(Place::At(fix)) => fix,
-        Ok(Place::Nowhere(why)) => {
-            session.pending.counts.add(Status::Incomplete);
-            session.say(path, &why)?;
-            return Ok(Status::Incomplete);
+    let fix = match location_of_file(session.rt, geotagging.zone, track, key) {
+        Ok(Located::At(fix)) => fix,
+        Ok(Located::Unknown(why)) => {
+            let status = session.leave(path, &why)?;
+            return Ok(session.count(status));
         }
         Err(error) => {
-            session.pending.counts.add(Status::Refused);
-            return session.refuse(path, &error);
+            let status = session.refuse(path, &error)?;
+            return Ok(session.count(status));
         }
     };
-    let text = format!(in rt.alloc(); "Location={fix}")?;
-    let Some(values) = Assignment::parse_all(rt.alloc(), text.as_str())? else {
+    let text = format!(in session.rt.alloc(); "Location={fix}")?;
+    let Some(values) = Assignment::parse_all(session.rt.alloc(), text.as_str())? else {
         return session.refuse(path, &"its location can't be written");
     };
-    let set = Change::Set(values);
-    let mut files = HostFiles::new(rt);
-    let changed = change(
-        rt.alloc(),
-        &mut files,
-        &ChangeEdit(&set),
-        key,
-        geotagging.keeping,
-    );
-    if let Err(Failure::OutOfMemory) = changed {
-        return Err(Stop::OutOfMemory);
-    }
-    Ok(report_change(session, path, key, changed))
+    change_in_turn(session, &Change::Set(values), geotagging.keeping, path, key)
 }
 
-// Where a file's picture was taken; or why it can't be read.
-fn place_of(rt: &HostRuntime, zone: &str, track: &Track, path: &str) -> Result<Place, Error> {
+// The location of a file's picture; or why it can't be read.
+fn location_of_file(
+    rt: &HostRuntime,
+    zone: &str,
+    track: &Track,
+    path: &str,
+) -> Result<Located, Error> {
     match exif_of(rt, path) {
-        Ok(exif) => Ok(place_by(&exif, zone, track)),
-        Err(Error::NotFound(_)) => Ok(Place::Nowhere(NO_DATE)),
+        Ok(exif) => Ok(location_by(&exif, zone, track)),
+        Err(Error::NotFound(_)) => Ok(Located::Unknown(NO_DATE)),
         Err(error) => Err(error),
     }
 }
 
 const NO_DATE: &str = "no location is set: it has no date";
 
-fn place_by(exif: &Exif, zone: &str, track: &Track) -> Place {
+fn location_by(exif: &Exif, zone: &str, track: &Track) -> Located {
     if time_of_picture(exif, zone.as_bytes()).is_none() {
-        return Place::Nowhere(NO_DATE);
+        return Located::Unknown(NO_DATE);
     }
     match fix_of_picture(exif, zone.as_bytes(), track) {
-        Some(fix) => Place::At(fix),
-        None => Place::Nowhere("no location is set: the track has none for its time"),
+        Some(fix) => Located::At(fix),
+        None => Located::Unknown("no location is set: the track has none for its time"),
     }
 }

@@ -1,19 +1,47 @@
 //! The JSON objects of a file.
 
-use crate::inputs::{Input, open, read};
-use crate::request::Reading;
-use exif::{Error, Exif};
+use exif::{Error, Exif, Sink};
 use exif_files::Status;
 use exif_formats::{Picture, PictureFormat};
 use exif_json::{FileFacts, flat_json, json_of_answer};
 use exif_report::found_of;
+use exif_session::{Input, Reading, Session, Stop, open, read};
 use std::alloc::{AllocError, Global};
 use std::fs::{self, Metadata};
 use std::io;
 use std::time::SystemTime;
 
-/// The object of a file, and the file's status.
-pub fn object_of(
+/// Writes the object of a file in a line, and answers its status.
+pub fn write_object<W: Sink, E: Sink>(
+    session: &mut Session<'_, '_, W, E>,
+    reading: Reading,
+    path: &str,
+) -> Result<Status, Stop> {
+    let rt = session.rt;
+    let (mut text, status) = object_of(rt.alloc(), reading, path, open(rt, path))?;
+    text.push(b'\n')?;
+    session.answer(text.as_slice())?;
+    Ok(status)
+}
+
+/// Writes the flat object of a file in a line, and answers its status.
+pub fn write_summary<W: Sink, E: Sink>(
+    session: &mut Session<'_, '_, W, E>,
+    reading: Reading,
+    path: &str,
+) -> Result<Status, Stop> {
+    match summary_of(session.rt, reading, path)? {
+        Ok((mut text, status)) => {
+            text.push(b'\n')?;
+            session.answer(text.as_slice())?;
+            Ok(status)
+        }
+        Err(error) => session.refuse(path, &error),
+    }
+}
+
+// The object of a file, and the file's status.
+fn object_of(
     alloc: Global,
     reading: Reading,
     path: &str,
@@ -51,8 +79,8 @@ fn seconds_of(found: &Metadata) -> Option<u64> {
     Some(since.as_secs())
 }
 
-/// The flat object of a file, and the file's status; or why it was refused.
-pub fn summary_of(
+// The flat object of a file, and the file's status; or why it was refused.
+fn summary_of(
     rt: &HostRuntime,
     reading: Reading,
     path: &str,

@@ -1,18 +1,11 @@
 //! Files that get other names, by when and with which camera they were taken.
 
-use crate::choosing::{exif_of, is_chosen};
-use crate::files::{Session, Stop};
-use crate::in_place::key_of;
-use crate::pending::{Next, name_of};
-use crate::request::Renaming;
+use crate::moves::{Folders, move_all};
 use exif::{Error, Exif, Sink, Tag};
-use exif_base::send_all;
-use exif_decisions::{Escaped, is_own_name};
-use exif_files::{HostFiles, Status, WriteError, folder_of};
-use exif_rename::{
-    Attributes, Facts, Missing, Move, Pattern, PlanError, Taken, Wish, WishFile, copy_file,
-    move_file, plan_names,
-};
+use exif_decisions::is_own_name;
+use exif_files::{HostFiles, Status, folder_of};
+use exif_rename::{Facts, Missing, Pattern, PlanError, Taken, Wish, WishFile, plan_names};
+use exif_session::{Next, Renaming, Session, Stop, exif_of, key_of, name_of};
 use exif_summary::{TAKEN, find_date, find_text};
 use std::alloc::{AllocError, Global};
 use std::collections::BTreeSet;
@@ -50,7 +43,7 @@ pub fn rename_files<W: Sink, E: Sink>(
     };
     let mut worst = Status::Success;
     for _ in 0..u64::MAX {
-        let Some(next) = session.pending.next(session.rt)? else {
+        let Some(next) = session.next_chosen()? else {
             break;
         };
         let status = plan.add(session, renaming, into.as_str(), next)?;
@@ -87,15 +80,6 @@ impl Plan {
         match next {
             Next::Input => refuse(session, "-", &"standard input has no name"),
             Next::Failed(path, cause) => refuse(session, path.as_str(), &cause),
-            Next::Found(path) if !session.is_picture(path.as_str()) => {
-                drop(path);
-                Ok(Status::Success)
-            }
-            Next::Named(path) | Next::Found(path)
-                if !is_chosen(session.rt, session.request, path.as_str())? => {
-                drop(path);
-                Ok(Status::Success)
-            }
             Next::Named(path) | Next::Found(path) => match key_of(session.rt, path.as_str()) {
                 Ok(key) => self.add_file(session, renaming, into, path, key),
                 Err(cause) => refuse(session, path.as_str(), &cause),
@@ -119,9 +103,8 @@ impl Plan {
         let name = match new_name(session.rt, &renaming.pattern, key.as_str())? {
             Ok(Ok(name)) => name,
             Ok(Err(missing)) => {
-                session.pending.counts.add(Status::Incomplete);
-                session.say(path.as_str(), &missing)?;
-                return Ok(Status::Incomplete);
+                let status = session.leave(path.as_str(), &missing)?;
+                return Ok(session.count(status));
             }
             Err(error) => return refuse(session, path.as_str(), &error),
         };
@@ -204,13 +187,20 @@ impl Plan {
             Err(error) => return refuse(session, "", &error),
         };
         let mut worst = Status::Success;
+        let mut moved = Folders::new(alloc);
         for ((path, wish), number) in paths.iter().zip(wishes.iter()).zip(numbers.iter()) {
             let moves = wish.moves(alloc, *number)?;
-            let status = move_all(session, renaming, path.as_str(), moves.as_slice())?;
-            session.pending.counts.add(status);
-            worst = worst.or_worse(status);
+            let status = move_all(
+                session,
+                renaming,
+                &mut moved,
+                path.as_str(),
+                moves.as_slice(),
+            )?;
+            worst = worst.or_worse(session.count(status));
         }
-        Ok(worst)
+        let settled = moved.settle(session)?;
+        Ok(worst.or_worse(settled))
     }
 }
 
@@ -219,52 +209,8 @@ fn refuse<W: Sink, E: Sink, T: std::fmt::Display>(
     path: &str,
     cause: &T,
 ) -> Result<Status, Stop> {
-    session.pending.counts.add(Status::Refused);
-    session.refuse(path, cause)
-}
-
-// Moves a picture and its sidecars: these stay where the picture stays.
-fn move_all<W: Sink, E: Sink>(
-    session: &mut Session<'_, '_, W, E>,
-    renaming: &Renaming<'_>,
-    path: &str,
-    moves: &[Move],
-) -> Result<Status, Stop> {
-    let mut worst = Status::Success;
-    for wanted in moves {
-        let (from, to) = (wanted.from.as_str(), wanted.to.as_str());
-        if renaming.dry_run {
-            let (from, to) = (Escaped(from), Escaped(to));
-            let line = format!(in session.rt.alloc(); "{from} -> {to}\n")?;
-            send_all(session.out, line.as_bytes()).map_err(Stop::Output)?;
-            continue;
-        }
-        match give_name(session.rt, renaming.copy, from, to) {
-            Ok(Attributes::Kept) => {}
-            Ok(Attributes::Lost) => {
-                session.say(
-                    path,
-                    &"the mode, the owner or the times of the file were not kept",
-                )?;
-                worst = worst.or_worse(Status::Incomplete);
-            }
-            Err(WriteError::OutOfMemory) => return Err(Stop::OutOfMemory),
-            Err(WriteError::Taken) => return session.refuse(path, &"its new name is taken"),
-            Err(error) => return session.refuse(path, &error),
-        }
-    }
-    Ok(worst)
-}
-
-// Moves or copies a file, into a folder that is made if it is not there.
-fn give_name(rt: &HostRuntime, copy: bool, from: &str, to: &str) -> Result<Attributes, WriteError> {
-    fs::create_dir_all(rt, folder_of(to))?;
-    let mut files = HostFiles::new(rt);
-    if copy {
-        copy_file(rt.alloc(), &mut files, from, to)
-    } else {
-        move_file(rt.alloc(), &mut files, from, to)
-    }
+    let status = session.refuse(path, cause)?;
+    Ok(session.count(status))
 }
 
 // A path up to the last `.` of the file's name, and the rest; a name that begins with its only `.`

@@ -1,18 +1,30 @@
 //! The report of a file, under a line with its name.
 
-use crate::files::Stop;
-use crate::inputs::{Input, open, read};
-use crate::request::Reading;
 use exif::{Counted, Error, Sink};
 use exif_base::send_all;
 use exif_console::Lines;
 use exif_decisions::Escaped;
+use exif_files::Status;
 use exif_report::{found_of, write_all};
+use exif_session::{Input, Reading, Session, Stop, open, read};
 use std::alloc::Global;
 
-/// Writes the report of a file under a line with its name: how many faults were skipped, or why the
-/// file was refused.
-pub fn show<W: Sink>(
+/// Writes the report of a file, and answers its status.
+pub fn show_file<W: Sink, E: Sink>(
+    session: &mut Session<'_, '_, W, E>,
+    reading: Reading,
+    path: &str,
+) -> Result<Status, Stop> {
+    match show(session.rt, reading, path, session.out)? {
+        Ok(0) => Ok(Status::Success),
+        Ok(_faults) => Ok(Status::Incomplete),
+        Err(error) => session.refuse(path, &error),
+    }
+}
+
+// Writes the report of a file under a line with its name: how many faults were skipped, or why the
+// file was refused.
+fn show<W: Sink>(
     rt: &HostRuntime,
     reading: Reading,
     path: &str,

@@ -1,8 +1,9 @@
 //! File times, by when pictures were taken.
 
-use crate::choosing::exif_of;
-use exif::{Error, Exif};
+use exif::{Error, Exif, Sink};
+use exif_files::Status;
 use exif_geotag::time_of_picture;
+use exif_session::{Session, Stop, exif_of};
 use std::fs::File;
 use std::io;
 use std::time::{Duration, SystemTime};
@@ -10,10 +11,26 @@ use std::time::{Duration, SystemTime};
 // The milliseconds from the year 0, from which pictures count, to 1970, from which file systems do.
 const TO_1970: u64 = 719_528 * 86_400_000;
 
-/// Sets the modification time of a file to when its picture was taken. Answers whether that is
-/// known, and not before 1970; else nothing changes. `zone` is the offset from UTC of pictures that
-/// name none.
-pub fn touch_file(rt: &HostRuntime, zone: &str, path: &str) -> Result<bool, Error> {
+/// Sets the modification time of a file to when its picture was taken, and answers its status.
+/// `zone` is the offset from UTC of pictures that name none. A file is left, and reported, where
+/// that time is not known or before 1970.
+pub fn touch_file<W: Sink, E: Sink>(
+    session: &mut Session<'_, '_, W, E>,
+    zone: &str,
+    path: &str,
+) -> Result<Status, Stop> {
+    match touch(session.rt, zone, path) {
+        Ok(true) => Ok(Status::Success),
+        Ok(false) => {
+            let why = "its time is not set: it has no date, or one before 1970";
+            session.leave(path, &why)
+        }
+        Err(error) => session.refuse(path, &error),
+    }
+}
+
+// Sets the time of a file; whether it is known.
+fn touch(rt: &HostRuntime, zone: &str, path: &str) -> Result<bool, Error> {
     let exif = match exif_of(rt, path) {
         Ok(exif) => exif,
         Err(Error::NotFound(_)) => return Ok(false),

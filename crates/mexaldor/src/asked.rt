@@ -4,10 +4,10 @@ use crate::arguments::subcommand;
 use clap::error::ErrorKind;
 use clap::{ArgMatches, Error};
 use exif_change::{Assignment, ClockShift, Color, Dates, ENTRY_LIMIT, Removed, Unread};
-use exif_commands::{Change, Form, Geotagging, Keeping, Reading, Renaming, Request, Target, Task};
 use exif_decisions::{Escaped, is_assignment, nearest};
 use exif_rename::Pattern;
 use exif_select::{Choice, begin_of};
+use exif_session::{Change, Form, Geotagging, Keeping, Reading, Renaming, Request, Target, Task};
 use exif_track::exif_time_of;
 use std::alloc::{AllocError, Global};
 

@@ -5,8 +5,8 @@ use Rattle.exif_change.specs.Refusals.{Why}
 use Rattle.exif_change.specs.declared.notes.Color.TheVariants.{Keep, Strip}
 use Rattle.exif_change.specs.declared.notes.Note.{Note}
 use Rattle.exif_pictures.specs.Pictures.{picture_notes, picture_scrubbed, picture_scrubbed_with_color, picture_set, picture_shifted}
-use Rattle.exif_commands.specs.declared.request.Change.{Change}
-use Rattle.exif_commands.specs.declared.request.Change.TheVariants.{Scrub, Set, Shift}
+use Rattle.exif_session.specs.declared.request.Change.{Change}
+use Rattle.exif_session.specs.declared.request.Change.TheVariants.{Scrub, Set, Shift}
 
 -- the metadata are removed, the values are set, or the dates are moved; or why not
 abbrev pub answer_of : Change → List ℕ → Result changed.Change Why

@@ -1,6 +1,6 @@
 //! Where OUT is written.
 
-use crate::files::Stop;
+use crate::session::Stop;
 use exif::Sink;
 use exif_base::send_all;
 use exif_decisions::{Destination, Escaped, Existing, destination_of};

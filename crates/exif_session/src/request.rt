@@ -1,5 +1,6 @@
 //! What the arguments request.
 
+use crate::inputs::Use;
 use exif_change::{Assignment, ClockShift, Color, Dates, Removed};
 use exif_files::Keeping;
 use exif_formats::Options;
@@ -47,6 +48,28 @@ pub enum Task<'a> {
     Touch(&'a str),
     /// Its location is set in place by a track.
     Geotag(Geotagging<'a>),
+}
+
+impl Task<'_> {
+    /// What it does with files, in a summary.
+    pub fn verb(&self) -> &'static str {
+        match self {
+            Task::Change(..) | Task::Geotag(_) => "changed",
+            Task::Rename(renaming) => renaming.verb(),
+            Task::Touch(_) => "touched",
+            Task::Show(_) | Task::Json(_) | Task::Summary(_) | Task::Check(_) => "read",
+            Task::Thumbnail(..) | Task::Thumbnails(..) => "read",
+        }
+    }
+
+    /// What it requires of a picture.
+    pub fn use_of_files(&self) -> Use {
+        match self {
+            Task::Show(_) | Task::Json(_) | Task::Summary(_) | Task::Rename(_) => Use::Fields,
+            Task::Thumbnail(..) | Task::Thumbnails(..) | Task::Touch(_) => Use::Fields,
+            Task::Check(_) | Task::Change(..) | Task::Geotag(_) => Use::Parts,
+        }
+    }
 }
 
 /// How locations are set by a track.

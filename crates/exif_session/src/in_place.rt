@@ -1,15 +1,17 @@
 //! Files that are changed in place, each once.
 
 use crate::change::ChangeEdit;
-use crate::choosing::is_chosen;
-use crate::files::{Session, Stop};
+use crate::change_out::change_input;
 use crate::pending::Next;
 use crate::request::Change;
+use crate::session::{Session, Stop};
 use exif::Sink;
 use exif_change::{Left, Note, Refusal};
 use exif_console::{Console, NoteLine};
 use exif_decisions::{Counts, Escaped};
-use exif_files::{Failure, HostFiles, Keeping, Report, Reporter, Status, WriteError, change_all};
+use exif_files::{
+    Failure, HostFiles, Keeping, Report, Reporter, Status, WriteError, change, change_all,
+};
 use std::alloc::AllocError;
 use std::io::{self, ErrorKind};
 use std::{fmt, fs};
@@ -83,7 +85,7 @@ impl Plan {
         };
         let mut worst = Status::Success;
         for _ in 0..u64::MAX {
-            let Some(next) = session.pending.next(session.rt)? else {
+            let Some(next) = session.next_chosen()? else {
                 break;
             };
             worst = worst.or_worse(plan.add(session, next)?);
@@ -99,17 +101,8 @@ impl Plan {
         next: Next,
     ) -> Result<Status, Stop> {
         match next {
-            Next::Input => session.change_input(),
+            Next::Input => change_input(session),
             Next::Failed(path, cause) => refuse(session, path.as_str(), &cause),
-            Next::Found(path) if !session.is_picture(path.as_str()) => {
-                drop(path);
-                Ok(Status::Success)
-            }
-            Next::Named(path) | Next::Found(path)
-                if !is_chosen(session.rt, session.request, path.as_str())? => {
-                drop(path);
-                Ok(Status::Success)
-            }
             Next::Named(path) | Next::Found(path) => match key_of(session.rt, path.as_str()) {
                 Ok(key) => {
                     self.paths.push(path)?;
@@ -122,8 +115,26 @@ impl Plan {
     }
 }
 
-/// Reports what became of a file that was changed, and answers its status.
-pub fn report_change<W: Sink, E: Sink>(
+/// Changes one file in place, reports what became of it, and answers its status. `key` is where the
+/// links of its path end.
+pub fn change_in_turn<W: Sink, E: Sink>(
+    session: &mut Session<'_, '_, W, E>,
+    what: &Change<'_>,
+    keeping: Keeping,
+    path: &str,
+    key: &str,
+) -> Result<Status, Stop> {
+    let rt = session.rt;
+    let mut files = HostFiles::new(rt);
+    let changed = change(rt.alloc(), &mut files, &ChangeEdit(what), key, keeping);
+    if let Err(Failure::OutOfMemory) = changed {
+        return Err(Stop::OutOfMemory);
+    }
+    Ok(report_change(session, path, key, changed))
+}
+
+// Reports what became of a file that was changed, and answers its status.
+fn report_change<W: Sink, E: Sink>(
     session: &mut Session<'_, '_, W, E>,
     path: &str,
     key: &str,

@@ -3,7 +3,7 @@
 ghost use Rattle.std.specs.Prelude.{◌≡◌, IfOk, IfErr};
 ghost use Rattle.exif_change.specs.Changed.{change_of};
 ghost use Rattle.exif_change.specs.Refusals.{Answers, Fails};
-ghost use Rattle.exif_commands.specs.Answers.{IsAnswerOf, answer_of, notes_of};
+ghost use Rattle.exif_session.specs.Answers.{IsAnswerOf, answer_of, notes_of};
 
 use crate::request::Change;
 use exif_change::{Changed, Color, Left, Note, Refusal};

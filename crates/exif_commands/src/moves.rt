@@ -1,0 +1,100 @@
+//! Files that are moved or copied to their new names.
+
+use exif::Sink;
+use exif_decisions::Escaped;
+use exif_files::{FileSystem, HostFiles, Status, WriteError, folder_of};
+use exif_rename::{Attributes, Move, Moved, copy_file, move_file};
+use exif_session::{Renaming, Session, Stop};
+use std::alloc::{AllocError, Global};
+use std::collections::BTreeSet;
+use std::fs;
+
+/// The folders that have new names which the disk may not have yet.
+#[derive(Drop)]
+pub struct Folders {
+    folders: BTreeSet<String>,
+    // a new name in each
+    names: Vec<String>,
+}
+
+impl Folders {
+    /// No folder.
+    pub fn new(alloc: Global) -> Folders {
+        Folders {
+            folders: BTreeSet::new(alloc),
+            names: Vec::new(alloc),
+        }
+    }
+
+    fn add(&mut self, alloc: Global, name: &str) -> Result<(), AllocError> {
+        let folder = folder_of(name);
+        if !self.folders.contains(folder) {
+            self.folders.insert(String::from_str(alloc, folder)?)?;
+            self.names.push(String::from_str(alloc, name)?)?;
+        }
+        Ok(())
+    }
+
+    /// Waits until the disk has all new names, once for each folder, and reports where it may not.
+    pub fn settle<W: Sink, E: Sink>(
+        self,
+        session: &mut Session<'_, '_, W, E>,
+    ) -> Result<Status, Stop> {
+        let mut files = HostFiles::new(session.rt);
+        let mut worst = Status::Success;
+        for name in self.names.iter() {
+            if let Err(cause) = files.settle(name.as_str()) {
+                let why = format!(in session.rt.alloc();
+                    "after a loss of power its old names may be back: {cause}"
+                )?;
+                let status = session.leave(folder_of(name.as_str()), &why)?;
+                worst = worst.or_worse(status);
+            }
+        }
+        Ok(worst)
+    }
+}
+
+/// Moves or copies a picture and its sidecars: these stay where the picture stays. Answers the
+/// picture's status.
+pub fn move_all<W: Sink, E: Sink>(
+    session: &mut Session<'_, '_, W, E>,
+    renaming: &Renaming<'_>,
+    folders: &mut Folders,
+    path: &str,
+    moves: &[Move],
+) -> Result<Status, Stop> {
+    let mut worst = Status::Success;
+    for wanted in moves {
+        let (from, to) = (wanted.from.as_str(), wanted.to.as_str());
+        if renaming.dry_run {
+            let (from, to) = (Escaped(from), Escaped(to));
+            let line = format!(in session.rt.alloc(); "{from} -> {to}\n")?;
+            session.answer(line.as_bytes())?;
+            continue;
+        }
+        match give_name(session.rt, renaming.copy, from, to) {
+            Ok(Moved::Renamed) => folders.add(session.rt.alloc(), to)?,
+            Ok(Moved::Copied(Attributes::Kept)) => {}
+            Ok(Moved::Copied(Attributes::Lost)) => {
+                let what = "the mode, the owner or the times of the file were not kept";
+                worst = session.leave(path, &what)?;
+            }
+            Err(WriteError::OutOfMemory) => return Err(Stop::OutOfMemory),
+            Err(WriteError::Taken) => return session.refuse(path, &"its new name is taken"),
+            Err(error) => return session.refuse(path, &error),
+        }
+    }
+    Ok(worst)
+}
+
+// Moves or copies a file, into a folder that is made if it is not there.
+fn give_name(rt: &HostRuntime, copy: bool, from: &str, to: &str) -> Result<Moved, WriteError> {
+    fs::create_dir_all(rt, folder_of(to))?;
+    let mut files = HostFiles::new(rt);
+    if copy {
+        let attributes = copy_file(rt.alloc(), &mut files, from, to)?;
+        return Ok(Moved::Copied(attributes));
+    }
+    move_file(rt.alloc(), &mut files, from, to)
+}

@@ -1,0 +1,71 @@
+//! A changed file that is written to another one.
+
+use crate::change::{change_bytes, notes_of};
+use crate::inputs::read_file;
+use crate::output::{out_of, write_out};
+use crate::request::{Change, Task};
+use crate::session::{Session, Stop};
+use exif::Sink;
+use exif_change::Refusal;
+use exif_console::NoteLine;
+use exif_files::Status;
+
+/// Writes a changed file to OUT, and answers its status.
+pub fn change_into<W: Sink, E: Sink>(
+    session: &mut Session<'_, '_, W, E>,
+    what: &Change<'_>,
+    path: &str,
+    to: &str,
+    force: bool,
+) -> Result<Status, Stop> {
+    let rt = session.rt;
+    let destination = match out_of(rt, path, to, force)? {
+        Ok(destination) => destination,
+        Err(error) => return session.refuse(path, &error),
+    };
+    let old = match read_file(rt, path) {
+        Ok(old) => old,
+        Err(error) => return session.refuse(path, &error),
+    };
+    let new = match change_bytes(rt.alloc(), what, old.as_slice()) {
+        Ok(new) => new,
+        Err(Refusal::OutOfMemory) => return Err(Stop::OutOfMemory),
+        Err(refusal) => return session.refuse(path, &refusal),
+    };
+    match write_out(rt, to, destination, new.file.as_slice(), session.out)? {
+        Ok(()) => {}
+        Err(error) => return session.refuse(path, &error),
+    }
+    let mut status = Status::Success;
+    for left in new.left.iter() {
+        status = session.leave(path, left)?;
+    }
+    say_notes(session, what, path, old.as_slice())?;
+    Ok(status)
+}
+
+// Writes the notes on a change of these bytes.
+fn say_notes<W: Sink, E: Sink>(
+    session: &mut Session<'_, '_, W, E>,
+    what: &Change<'_>,
+    path: &str,
+    old: &[u8],
+) -> Result<(), Stop> {
+    if session.request.quiet {
+        return Ok(());
+    }
+    for note in notes_of(session.rt.alloc(), what, old)? {
+        session.say(path, &NoteLine(note))?;
+    }
+    Ok(())
+}
+
+/// Changes standard input into standard output.
+pub fn change_input<W: Sink, E: Sink>(session: &mut Session<'_, '_, W, E>) -> Result<Status, Stop> {
+    let request = session.request;
+    let status = match &request.task {
+        Task::Change(what, _) => change_into(session, what, "-", "-", false)?,
+        _ => session.refuse("-", &"standard input has no name")?,
+    };
+    Ok(session.count(status))
+}
