@@ -1,10 +1,13 @@
 //! Many files, one after the other: what is wrong with one is reported, and the others go on.
 
+use crate::catalog::update_catalog;
 use crate::check::check_file;
+use crate::copying::copy_into_files;
 use crate::geotag::geotag_files;
 use crate::json::{write_object, write_summary};
 use crate::rename::rename_files;
 use crate::show::show_file;
+use crate::table::{write_header, write_row};
 use crate::thumbnail::{write_thumbnail, write_thumbnail_into};
 use crate::touch::touch_file;
 use exif::Sink;
@@ -27,6 +30,12 @@ pub fn run<'r, W: Sink, E: Sink>(
         }
         Task::Rename(renaming) => rename_files(&mut session, renaming)?,
         Task::Geotag(geotagging) => geotag_files(&mut session, geotagging)?,
+        Task::Copy(copying) => copy_into_files(&mut session, copying)?,
+        Task::Catalog(cataloguing) => update_catalog(&mut session, cataloguing)?,
+        Task::Table(table) => {
+            write_header(&mut session, table)?;
+            process_all(&mut session)?
+        }
         _ => process_all(&mut session)?,
     };
     session.finish(worst)
@@ -64,8 +73,9 @@ fn process<W: Sink, E: Sink>(
     let request = session.request;
     match &request.task {
         Task::Show(reading) => show_file(session, *reading, path),
-        Task::Json(reading) => write_object(session, *reading, path),
+        Task::Json(reading, tags) => write_object(session, *reading, tags.as_ref(), path),
         Task::Summary(reading) => write_summary(session, *reading, path),
+        Task::Table(table) => write_row(session, table, path),
         Task::Check(form) => check_file(session, *form, path),
         Task::Change(what, Target::Out(to, force)) => change_into(session, what, path, to, *force),
         Task::Thumbnail(to, force) => write_thumbnail(session, path, to, *force),
@@ -74,5 +84,6 @@ fn process<W: Sink, E: Sink>(
         // these are done when all files are known
         Task::Change(_, Target::InPlace(_)) => Ok(Status::Success),
         Task::Rename(_) | Task::Geotag(_) => Ok(Status::Success),
+        Task::Copy(_) | Task::Catalog(_) => Ok(Status::Success),
     }
 }

@@ -1,24 +1,25 @@
 //! The JSON objects of a file.
 
-use exif::{Error, Exif, Sink};
+use crate::stamps::stamp_of;
+use exif::{Error, Exif, Sink, Tag};
 use exif_files::Status;
 use exif_formats::{Picture, PictureFormat};
-use exif_json::{FileFacts, flat_json, json_of_answer};
+use exif_json::{FileFacts, flat_json, json_of_answer, json_of_tags};
 use exif_report::found_of;
 use exif_session::{Input, Reading, Session, Stop, open, read};
 use std::alloc::{AllocError, Global};
-use std::fs::{self, Metadata};
 use std::io;
-use std::time::SystemTime;
 
-/// Writes the object of a file in a line, and answers its status.
+/// Writes the object of a file in a line, with all its fields or with those of some tags, and
+/// answers the file's status.
 pub fn write_object<W: Sink, E: Sink>(
     session: &mut Session<'_, '_, W, E>,
     reading: Reading,
+    tags: Option<&Vec<Tag>>,
     path: &str,
 ) -> Result<Status, Stop> {
     let rt = session.rt;
-    let (mut text, status) = object_of(rt.alloc(), reading, path, open(rt, path))?;
+    let (mut text, status) = object_of(rt.alloc(), reading, tags, path, open(rt, path))?;
     text.push(b'\n')?;
     session.answer(text.as_slice())?;
     Ok(status)
@@ -44,6 +45,7 @@ pub fn write_summary<W: Sink, E: Sink>(
 fn object_of(
     alloc: Global,
     reading: Reading,
+    tags: Option<&Vec<Tag>>,
     path: &str,
     input: io::Result<Input>,
 ) -> Result<(Vec<u8>, Status), AllocError> {
@@ -52,13 +54,14 @@ fn object_of(
         Err(cause) => Err(Error::Io(cause)),
     };
     match read {
-        Ok(Picture { format, answer }) => answered(alloc, path.as_bytes(), format, answer),
-        Err(error) => answered(alloc, path.as_bytes(), None, Err(error)),
+        Ok(Picture { format, answer }) => answered(alloc, tags, path.as_bytes(), format, answer),
+        Err(error) => answered(alloc, tags, path.as_bytes(), None, Err(error)),
     }
 }
 
 fn answered(
     alloc: Global,
+    tags: Option<&Vec<Tag>>,
     path: &[u8],
     format: Option<PictureFormat>,
     answer: Result<Exif, Error>,
@@ -68,15 +71,11 @@ fn answered(
         Err(Error::PartialResult(_)) => Status::Incomplete,
         Err(_) => Status::Refused,
     };
-    let json = json_of_answer(alloc, path, format, answer)?;
+    let json = match tags {
+        Some(tags) => json_of_tags(alloc, path, format, answer, tags.as_slice())?,
+        None => json_of_answer(alloc, path, format, answer)?,
+    };
     Ok((json, status))
-}
-
-// When a file was modified, in seconds from 1970 on, if it was after that.
-fn seconds_of(found: &Metadata) -> Option<u64> {
-    let modified = found.modified().ok()?;
-    let since = modified.duration_since(SystemTime::UNIX_EPOCH).ok()?;
-    Some(since.as_secs())
 }
 
 // The flat object of a file, and the file's status; or why it was refused.
@@ -86,10 +85,7 @@ fn summary_of(
     path: &str,
 ) -> Result<Result<(Vec<u8>, Status), Error>, AllocError> {
     let alloc = rt.alloc();
-    let (size, modified) = match fs::metadata(rt, path) {
-        Ok(found) if found.is_file() => (Some(found.len()), seconds_of(&found)),
-        _ => (None, None),
-    };
+    let stamp = stamp_of(rt, path);
     let picture = match open(rt, path) {
         Ok(input) => read(alloc, reading.options(), input),
         Err(cause) => Err(Error::Io(cause)),
@@ -101,8 +97,8 @@ fn summary_of(
     let facts = FileFacts {
         path: path.as_bytes(),
         format,
-        size,
-        modified,
+        size: stamp.size,
+        modified: stamp.modified,
     };
     match found_of(alloc, answer) {
         Ok((exif, faults)) => {

@@ -4,16 +4,19 @@ use Rattle.exif_change.specs.Changed as changed
 use Rattle.exif_change.specs.Refusals.{Why}
 use Rattle.exif_change.specs.declared.notes.Color.TheVariants.{Keep, Strip}
 use Rattle.exif_change.specs.declared.notes.Note.{Note}
+use Rattle.exif_copy.specs.Copied.{copied}
 use Rattle.exif_pictures.specs.Pictures.{picture_notes, picture_scrubbed, picture_scrubbed_with_color, picture_set, picture_shifted}
 use Rattle.exif_session.specs.declared.request.Change.{Change}
-use Rattle.exif_session.specs.declared.request.Change.TheVariants.{Scrub, Set, Shift}
+use Rattle.exif_session.specs.declared.request.Change.TheVariants.{Copy, Scrub, Set, Shift}
 
--- the metadata are removed, the values are set, or the dates are moved; or why not
+-- the metadata are removed, the values are set, the dates are moved, or the Exif data of another
+-- picture are put into it; or why not
 abbrev pub answer_of : Change → List ℕ → Result changed.Change Why
 answer_of (Scrub removed Keep) old = picture_scrubbed removed old
 answer_of (Scrub removed Strip) old = picture_scrubbed_with_color removed old
 answer_of (Set values) old = picture_set values.items old
 answer_of (Shift by dates) old = picture_shifted by dates old
+answer_of (Copy from shape) old = copied shape from.items old
 
 -- the new bytes alone
 abbrev pub file_of : Result changed.Change Why → Result (List ℕ) Why
@@ -29,3 +32,4 @@ abbrev pub notes_of : Change → List ℕ → List Note
 notes_of (Scrub removed color) old = picture_notes removed color old
 notes_of (Set values) old = []
 notes_of (Shift by dates) old = []
+notes_of (Copy from shape) old = []

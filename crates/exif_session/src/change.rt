@@ -7,6 +7,7 @@ ghost use Rattle.exif_session.specs.Answers.{IsAnswerOf, answer_of, notes_of};
 
 use crate::request::Change;
 use exif_change::{Changed, Color, Left, Note, Refusal};
+use exif_copy::copy_exif;
 use exif_files::{Edit, EditError, Edited, Report};
 use exif_pictures::{scrub, scrub_notes, scrub_with_color, set, shift};
 use std::alloc::{AllocError, Global};
@@ -15,12 +16,16 @@ use std::alloc::{AllocError, Global};
 pub fn change_bytes(alloc: Global, change: &Change<'_>, old: &[u8]) -> Result<Changed, Refusal>
     ensures { Answers change_of result (answer_of change.now old.now) }
 {
-    let old = Vec::from_slice(alloc, old)?;
+    let file = Vec::from_slice(alloc, old)?;
     match change {
-        Change::Scrub(removed, Color::Keep) => scrub(alloc, old, *removed),
-        Change::Scrub(removed, Color::Strip) => scrub_with_color(alloc, old, *removed),
-        Change::Shift(by, dates) => shift(alloc, old, *by, *dates),
-        Change::Set(values) => set(alloc, old, values.as_slice()),
+        Change::Scrub(removed, Color::Keep) => scrub(alloc, file, *removed),
+        Change::Scrub(removed, Color::Strip) => scrub_with_color(alloc, file, *removed),
+        Change::Shift(by, dates) => shift(alloc, file, *by, *dates),
+        Change::Set(values) => set(alloc, file, values.as_slice()),
+        Change::Copy(from, shape) => {
+            drop(file);
+            copy_exif(alloc, from.as_slice(), old, *shape)
+        }
     }
 }
 
@@ -30,7 +35,7 @@ pub fn notes_of(alloc: Global, change: &Change<'_>, old: &[u8]) -> Result<Vec<No
 {
     match change {
         Change::Scrub(removed, color) => scrub_notes(alloc, old, *removed, *color),
-        Change::Set(_) | Change::Shift(_, _) => Ok(Vec::new(alloc)),
+        Change::Set(_) | Change::Shift(_, _) | Change::Copy(_, _) => Ok(Vec::new(alloc)),
     }
 }
 

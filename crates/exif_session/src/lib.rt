@@ -19,5 +19,8 @@ pub use in_place::{Plan, change_in_place, change_in_turn, key_of};
 pub use inputs::{Input, Use, open, read, read_file};
 pub use output::{OutError, out_of, write_out};
 pub use pending::{Next, Pending, name_of};
-pub use request::{Change, Form, Geotagging, Reading, Renaming, Request, Target, Task};
+pub use request::{
+    Cataloguing, Change, Copying, Form, Geotagging, Paging, Reading, Renaming, Request, Table,
+    Target, Task,
+};
 pub use session::{Session, Stop};

@@ -1,7 +1,10 @@
 //! What the arguments request.
 
 use crate::inputs::Use;
+use exif::Tag;
 use exif_change::{Assignment, ClockShift, Color, Dates, Removed};
+use exif_columns::{self as columns, Separator};
+use exif_copy::Shape;
 use exif_files::Keeping;
 use exif_formats::Options;
 use exif_rename::Pattern;
@@ -29,8 +32,10 @@ pub struct Request<'a> {
 pub enum Task<'a> {
     /// Its report is written under a line with its name.
     Show(Reading),
-    /// A JSON object is written in a line.
-    Json(Reading),
+    /// A JSON object is written in a line, with all fields or with those of some tags.
+    Json(Reading, Option<Vec<Tag>>),
+    /// A row of a table is written.
+    Table(Table),
     /// What its parts hold is written.
     Check(Form),
     /// It is changed.
@@ -48,6 +53,10 @@ pub enum Task<'a> {
     Touch(&'a str),
     /// Its location is set in place by a track.
     Geotag(Geotagging<'a>),
+    /// It gets the Exif data of another picture, in place.
+    Copy(Copying<'a>),
+    /// It gets a row in a catalogue.
+    Catalog(Cataloguing<'a>),
 }
 
 impl Task<'_> {
@@ -57,19 +66,70 @@ impl Task<'_> {
             Task::Change(..) | Task::Geotag(_) => "changed",
             Task::Rename(renaming) => renaming.verb(),
             Task::Touch(_) => "touched",
-            Task::Show(_) | Task::Json(_) | Task::Summary(_) | Task::Check(_) => "read",
-            Task::Thumbnail(..) | Task::Thumbnails(..) => "read",
+            Task::Copy(_) => "changed",
+            Task::Show(_) | Task::Json(..) | Task::Summary(_) | Task::Check(_) => "read",
+            Task::Thumbnail(..) | Task::Thumbnails(..) | Task::Table(_) => "read",
+            Task::Catalog(_) => "read",
         }
     }
 
     /// What it requires of a picture.
     pub fn use_of_files(&self) -> Use {
         match self {
-            Task::Show(_) | Task::Json(_) | Task::Summary(_) | Task::Rename(_) => Use::Fields,
+            Task::Show(_) | Task::Json(..) | Task::Summary(_) | Task::Rename(_) => Use::Fields,
             Task::Thumbnail(..) | Task::Thumbnails(..) | Task::Touch(_) => Use::Fields,
-            Task::Check(_) | Task::Change(..) | Task::Geotag(_) => Use::Parts,
+            Task::Table(_) | Task::Catalog(_) => Use::Fields,
+            Task::Check(_) | Task::Change(..) | Task::Geotag(_) | Task::Copy(_) => Use::Parts,
         }
     }
+}
+
+/// The rows of a table.
+#[derive(Drop)]
+pub struct Table {
+    /// How files are read.
+    pub reading: Reading,
+    /// What the columns behind the path are.
+    pub tags: Vec<Tag>,
+    /// How values are written.
+    pub form: columns::Form,
+    /// What is between two cells.
+    pub separator: Separator,
+    /// Whether the first line names the columns.
+    pub header: bool,
+}
+
+/// Which Exif data files get.
+#[derive(Drop)]
+pub struct Copying<'a> {
+    /// The picture that has them.
+    pub from: &'a str,
+    /// Whose orientation and sizes they tell.
+    pub shape: Shape,
+    /// What is kept of the old files.
+    pub keeping: Keeping,
+}
+
+/// How a catalogue is brought up to date.
+#[derive(Drop)]
+pub struct Cataloguing<'a> {
+    /// The file of the catalogue.
+    pub database: &'a str,
+    /// How files are read.
+    pub reading: Reading,
+    /// Whether rows get the hash of the file's bytes.
+    pub hash: bool,
+}
+
+/// The page of a catalogue.
+#[derive(Clone, Copy)]
+pub struct Paging<'a> {
+    /// The file of the catalogue.
+    pub database: &'a str,
+    /// Where the page is written, `-` for standard output.
+    pub to: &'a str,
+    /// Whether that may exist.
+    pub force: bool,
 }
 
 /// How locations are set by a track.
@@ -148,6 +208,9 @@ pub enum Change<'a> {
     Set(Vec<Assignment<'a>>),
     /// Dates are moved.
     Shift(ClockShift, Dates),
+    /// The Exif data of this picture are put in place of its own; whose orientation and sizes they
+    /// tell.
+    Copy(Vec<u8>, Shape),
 }
 
 /// Where a changed file is written.

@@ -18,14 +18,19 @@ pub fn command<'a>(alloc: Global) -> Result<Command<'a>, AllocError> {
         .arg_required_else_help(true)
         .subcommand(show(alloc)?)?
         .subcommand(json(alloc)?)?
+        .subcommand(table(alloc)?)?
         .subcommand(check(alloc)?)?
         .subcommand(scrub(alloc)?)?
         .subcommand(set(alloc)?)?
         .subcommand(shift(alloc)?)?
+        .subcommand(copy(alloc)?)?
         .subcommand(rename(alloc)?)?
         .subcommand(geotag(alloc)?)?
         .subcommand(touch(alloc)?)?
         .subcommand(thumbnail(alloc)?)?
+        .subcommand(catalog(alloc)?)?
+        .subcommand(query(alloc)?)?
+        .subcommand(page(alloc)?)?
         .subcommand(tags(alloc))
 }
 
@@ -34,14 +39,17 @@ pub fn subcommand<'a>(alloc: Global, name: &str) -> Result<Command<'a>, AllocErr
     match name {
         "show" => show(alloc)?.bin_name("mexaldor show"),
         "json" => json(alloc)?.bin_name("mexaldor json"),
+        "table" => table(alloc)?.bin_name("mexaldor table"),
         "check" => check(alloc)?.bin_name("mexaldor check"),
         "scrub" => scrub(alloc)?.bin_name("mexaldor scrub"),
         "set" => set(alloc)?.bin_name("mexaldor set"),
         "shift" => shift(alloc)?.bin_name("mexaldor shift"),
+        "copy" => copy(alloc)?.bin_name("mexaldor copy"),
         "rename" => rename(alloc)?.bin_name("mexaldor rename"),
         "geotag" => geotag(alloc)?.bin_name("mexaldor geotag"),
         "touch" => touch(alloc)?.bin_name("mexaldor touch"),
         "thumbnail" => thumbnail(alloc)?.bin_name("mexaldor thumbnail"),
+        "catalog" => catalog(alloc)?.bin_name("mexaldor catalog"),
         _ => command(alloc),
     }
 }
@@ -62,6 +70,39 @@ fn json<'a>(alloc: Global) -> Result<Command<'a>, AllocError> {
             alloc,
             "summary",
             "Print a flat object: size, camera, exposure, dates, location and texts",
+        ))?
+        .arg(
+            options::tags(alloc)
+                .help("Print only these fields, e.g. Model,FNumber")
+                .conflicts_with("summary")?,
+        )?;
+    reading(alloc, command)
+}
+
+fn table<'a>(alloc: Global) -> Result<Command<'a>, AllocError> {
+    let command = Command::new(alloc, "table")
+        .about("Print one row of a table per file: its path and the fields that are asked for")
+        .override_usage("mexaldor table [OPTIONS] --tags TAG,TAG... PATH...")
+        .after_help("Rows are CSV (RFC 4180). Run 'mexaldor tags' for the names of tags.")
+        .arg(
+            options::tags(alloc)
+                .help("The columns behind the path, e.g. DateTimeOriginal,Model,FNumber")
+                .required(true),
+        )?
+        .arg(options::flag(
+            alloc,
+            "header",
+            "Print a first row with the names of the columns",
+        ))?
+        .arg(options::flag(
+            alloc,
+            "raw",
+            "Print numbers and texts without names and units",
+        ))?
+        .arg(options::flag(
+            alloc,
+            "tsv",
+            "Separate cells by tabs; in a cell \\t, \\n, \\r and \\\\ are written for these characters",
         ))?;
     reading(alloc, command)
 }
@@ -87,11 +128,17 @@ fn reading<'a>(alloc: Global, command: Command<'a>) -> Result<Command<'a>, Alloc
     many(alloc, command)?.arg(options::paths(alloc))
 }
 
-// The options of a subcommand that takes many files.
-fn many<'a>(alloc: Global, command: Command<'a>) -> Result<Command<'a>, AllocError> {
+// The options of a subcommand that goes through files.
+fn walking<'a>(alloc: Global, command: Command<'a>) -> Result<Command<'a>, AllocError> {
     command
         .arg(options::recursive(alloc))?
         .arg(options::null(alloc))?
+        .arg(options::quiet(alloc))
+}
+
+// The options of a subcommand that takes many files.
+fn many<'a>(alloc: Global, command: Command<'a>) -> Result<Command<'a>, AllocError> {
+    walking(alloc, command)?
         .arg(options::date(
             alloc,
             "after",
@@ -108,8 +155,7 @@ fn many<'a>(alloc: Global, command: Command<'a>) -> Result<Command<'a>, AllocErr
             alloc,
             "without",
             "Only pictures whose Exif data do not tell FACT",
-        ))?
-        .arg(options::quiet(alloc))
+        ))
 }
 
 // The options of a subcommand that writes a new file, or replaces files.
@@ -194,6 +240,27 @@ fn shift<'a>(alloc: Global) -> Result<Command<'a>, AllocError> {
     replacing(alloc, command)?.arg(options::words(alloc, "FILE", "Pictures, or with -r folders"))
 }
 
+fn copy<'a>(alloc: Global) -> Result<Command<'a>, AllocError> {
+    let command = Command::new(alloc, "copy")
+        .about("Put the Exif data of one picture into others, in place of their own")
+        .override_usage("mexaldor copy [OPTIONS] FROM FILE...")
+        .after_help(
+            "FROM is a picture of any format but TIFF and raw. FILE is a JPEG, WebP or PNG picture.",
+        )
+        .arg(options::flag(
+            alloc,
+            "keep-target-shape",
+            "Keep the orientation and the pixel sizes that the Exif data of FILE tell",
+        ))?
+        .arg(
+            Arg::new(alloc, "from")
+                .value_name("FROM")
+                .required(true)
+                .help("The picture that has the Exif data"),
+        )?;
+    replacing(alloc, command)?.arg(options::words(alloc, "FILE", "Pictures, or with -r folders"))
+}
+
 fn rename<'a>(alloc: Global) -> Result<Command<'a>, AllocError> {
     let command = Command::new(alloc, "rename")
         .about("Rename or move pictures by date and camera")
@@ -261,6 +328,48 @@ fn thumbnail<'a>(alloc: Global) -> Result<Command<'a>, AllocError> {
         "PATH",
         "The picture and the new file, - for standard input and output; or pictures with --into",
     ))
+}
+
+fn catalog<'a>(alloc: Global) -> Result<Command<'a>, AllocError> {
+    let command = Command::new(alloc, "catalog")
+        .about("Keep a row for each picture in a SQLite file")
+        .override_usage("mexaldor catalog [OPTIONS] DB PATH...")
+        .after_help(
+            "Only new and changed files are read. Rows of files that are gone are marked. Any SQLite client reads DB.",
+        )
+        .arg(options::flag(alloc, "hash", "Also keep the SHA-256 of each file"))?
+        .arg(options::database(alloc))?
+        .arg(options::strict(alloc))?
+        .arg(options::limit(alloc))?;
+    walking(alloc, command)?.arg(options::words(alloc, "PATH", "Pictures, or with -r folders"))
+}
+
+fn query<'a>(alloc: Global) -> Result<Command<'a>, AllocError> {
+    Command::new(alloc, "query")
+        .about("Print the answer of a catalogue to a query, as tab-separated values")
+        .override_usage("mexaldor query DB SQL")
+        .arg(options::database(alloc))?
+        .arg(
+            Arg::new(alloc, "sql")
+                .value_name("SQL")
+                .required(true)
+                .help("The query, e.g. 'SELECT path, model FROM picture'"),
+        )
+}
+
+fn page<'a>(alloc: Global) -> Result<Command<'a>, AllocError> {
+    Command::new(alloc, "page")
+        .about("Write one HTML page with the pictures of a catalogue, by day")
+        .override_usage("mexaldor page [OPTIONS] DB OUT")
+        .after_help("The page has thumbnails and filters in it, and loads nothing from elsewhere.")
+        .arg(options::force(alloc))?
+        .arg(options::database(alloc))?
+        .arg(
+            Arg::new(alloc, "out")
+                .value_name("OUT")
+                .required(true)
+                .help("The new file, - for standard output"),
+        )
 }
 
 fn tags<'a>(alloc: Global) -> Command<'a> {

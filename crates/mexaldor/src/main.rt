@@ -3,16 +3,20 @@
 
 mod arguments;
 mod asked;
+mod changes;
+mod jobs;
 mod line;
 mod options;
+mod selection;
+mod tags;
 
 use arguments::command;
 use asked::{Asked, asked_of};
 use clap::Error;
 use exif::Counted;
-use exif_commands::run;
+use exif_commands::{answer_query, run, write_page};
 use exif_decisions::write_tags;
-use exif_session::{Request, Stop};
+use exif_session::{Paging, Request, Stop};
 use line::words;
 use std::io::{self, BufWriter, ErrorKind, IsTerminal};
 use std::process::ExitCode;
@@ -39,13 +43,41 @@ fn answer(rt: &HostRuntime, words: &[String]) -> Result<u8, Error> {
     let mut command = command(rt.alloc())?;
     let found = command.try_get_matches_from_mut(words)?;
     match asked_of(rt.alloc(), &found)? {
-        Asked::Tags => Ok(tags(rt)),
+        Asked::Tags => Ok(listed(rt)),
         Asked::Run(request) => Ok(done(rt, &request)),
+        Asked::Query(database, sql) => Ok(queried(rt, database, sql)),
+        Asked::Page(paging) => Ok(paged(rt, &paging)),
+    }
+}
+
+// Writes the answer of a catalogue.
+fn queried(rt: &HostRuntime, database: &str, sql: &str) -> u8 {
+    let out = match BufWriter::new(rt.alloc(), rt.stdout()) {
+        Ok(out) => out,
+        Err(_) => return stopped(rt, Stop::OutOfMemory),
+    };
+    let mut err = Counted::new(rt.stderr());
+    match answer_query(rt, database, sql, &mut Counted::new(out), &mut err) {
+        Ok(status) => status,
+        Err(stop) => stopped(rt, stop),
+    }
+}
+
+// Writes the page of a catalogue.
+fn paged(rt: &HostRuntime, paging: &Paging<'_>) -> u8 {
+    let out = match BufWriter::new(rt.alloc(), rt.stdout()) {
+        Ok(out) => out,
+        Err(_) => return stopped(rt, Stop::OutOfMemory),
+    };
+    let mut err = Counted::new(rt.stderr());
+    match write_page(rt, paging, &mut Counted::new(out), &mut err) {
+        Ok(status) => status,
+        Err(stop) => stopped(rt, stop),
     }
 }
 
 // Lists the tags.
-fn tags(rt: &HostRuntime) -> u8 {
+fn listed(rt: &HostRuntime) -> u8 {
     let written = match BufWriter::new(rt.alloc(), rt.stdout()) {
         Ok(out) => write_tags(rt.alloc(), &mut Counted::new(out)),
         Err(error) => Err(error),

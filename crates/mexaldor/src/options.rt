@@ -127,6 +127,21 @@ pub fn into<'a>(alloc: Global, help: &'a str) -> Arg<'a> {
         .help(help)
 }
 
+/// The tags that are asked for.
+pub fn tags<'a>(alloc: Global) -> Arg<'a> {
+    Arg::new(alloc, "tags")
+        .long("tags")
+        .value_name("TAG,TAG...")
+}
+
+/// The file of a catalogue.
+pub fn database<'a>(alloc: Global) -> Arg<'a> {
+    Arg::new(alloc, "database")
+        .value_name("DB")
+        .required(true)
+        .help("The catalogue, a SQLite file")
+}
+
 /// The words after the options.
 pub fn words<'a>(alloc: Global, name: &'a str, help: &'a str) -> Arg<'a> {
     Arg::new(alloc, "word")

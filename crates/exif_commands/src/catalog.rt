@@ -1,0 +1,227 @@
+//! A catalogue that is brought up to date.
+
+use crate::stamps::{FileStamp, stamp_of};
+use exif::{Error, Exif, Sink};
+use exif_catalog::{
+    CatalogError, Found, PictureFile, Pictures, RunError, SqlValue, Stamp, Totals, row_values,
+    text_of, update,
+};
+use exif_files::Status;
+use exif_formats::{Picture, PictureFormat};
+use exif_json::mime_type;
+use exif_report::found_of;
+use exif_session::{Cataloguing, Next, Session, Stop, open, read, read_file};
+use sha2::{Digest, Sha256};
+use std::alloc::{AllocError, Global};
+
+// The pictures of a run, one after the other.
+#[derive(Drop)]
+struct Gathered<'s, 'r, 'a, W, E> {
+    session: &'s mut Session<'r, 'a, W, E>,
+    cataloguing: &'s Cataloguing<'a>,
+    // the picture that was given last
+    path: String,
+    stamp: FileStamp,
+    // its status, where there is one
+    status: Option<Status>,
+    worst: Status,
+}
+
+impl<W: Sink, E: Sink> Gathered<'_, '_, '_, W, E> {
+    // Counts the picture that was given last.
+    fn end_picture(&mut self) {
+        if let Some(status) = self.status {
+            self.worst = self.worst.or_worse(self.session.count(status));
+            self.session.console.step(self.session.pending.len());
+        }
+        self.status = None;
+    }
+
+    // Reports a name that leads to no picture.
+    fn refuse<T: std::fmt::Display>(&mut self, path: &str, cause: &T) -> Result<(), Stop> {
+        let status = self.session.refuse(path, cause)?;
+        self.worst = self.worst.or_worse(self.session.count(status));
+        Ok(())
+    }
+
+    // Begins with a picture.
+    fn begin_picture(&mut self, path: String) -> Result<Found, Stop> {
+        let alloc = self.session.rt.alloc();
+        self.stamp = stamp_of(self.session.rt, path.as_str());
+        self.status = Some(Status::Success);
+        let found = Found {
+            path: text_of(alloc, path.as_bytes())?,
+            stamp: known_stamp(self.stamp),
+        };
+        self.path = path;
+        Ok(found)
+    }
+
+    // The row of the picture by its Exif data, if it has some.
+    fn row_of(
+        &self,
+        format: Option<PictureFormat>,
+        exif: Option<&Exif>,
+        hash: Option<&str>,
+    ) -> Result<Vec<SqlValue>, AllocError> {
+        let file = PictureFile {
+            path: self.path.as_bytes(),
+            size: self.stamp.size,
+            modified: self.stamp.modified,
+            hash,
+            format: format.map(PictureFormat::name),
+            mime: format.map(mime_type),
+        };
+        row_values(self.session.rt.alloc(), &file, exif)
+    }
+
+    // Reads the picture, and answers its row.
+    fn read_row(&mut self, hash: Option<&str>) -> Result<Vec<SqlValue>, Error> {
+        let rt = self.session.rt;
+        let input = match open(rt, self.path.as_str()) {
+            Ok(input) => input,
+            Err(cause) => return Err(Error::Io(cause)),
+        };
+        let Picture { format, answer } = read(
+            rt.alloc(),
+            self.cataloguing.reading.options(),
+            input,
+        )?;
+        match found_of(rt.alloc(), answer) {
+            Ok((exif, faults)) => {
+                if !faults.is_empty() {
+                    self.status = Some(Status::Incomplete);
+                }
+                Ok(self.row_of(format, Some(&exif), hash)?)
+            }
+            Err(Error::NotFound(_)) => Ok(self.row_of(format, None, hash)?),
+            Err(error) => Err(error),
+        }
+    }
+
+    // The hash of the picture's bytes, where it is asked for.
+    fn hash(&self) -> Result<Option<String>, Error> {
+        if !self.cataloguing.hash {
+            return Ok(None);
+        }
+        match read_file(self.session.rt, self.path.as_str()) {
+            Ok(bytes) => Ok(Some(hash_of(self.session.rt.alloc(), bytes.as_slice())?)),
+            Err(cause) => Err(Error::Io(cause)),
+        }
+    }
+
+    // The row of the picture, with its hash where it is asked for.
+    fn hashed_row(&mut self) -> Result<Vec<SqlValue>, Error> {
+        let hash = self.hash()?;
+        self.read_row(hash.as_deref())
+    }
+}
+
+impl<W: Sink, E: Sink> Pictures for Gathered<'_, '_, '_, W, E> {
+    type Error = Stop;
+
+    fn next(&mut self) -> Result<Option<Found>, Stop> {
+        self.end_picture();
+        for _ in 0..u64::MAX {
+            let Some(next) = self.session.next_chosen()? else {
+                break;
+            };
+            match next {
+                Next::Named(path) | Next::Found(path) => return Ok(Some(self.begin_picture(path)?)),
+                Next::Input => self.refuse("-", &"standard input has no name")?,
+                Next::Failed(path, cause) => self.refuse(path.as_str(), &cause)?,
+            }
+        }
+        Ok(None)
+    }
+
+    fn values(&mut self) -> Result<Option<Vec<SqlValue>>, Stop> {
+        match self.hashed_row() {
+            Ok(values) => Ok(Some(values)),
+            Err(Error::OutOfMemory) => Err(Stop::OutOfMemory),
+            Err(error) => {
+                self.status = Some(self.session.refuse(self.path.as_str(), &error)?);
+                Ok(None)
+            }
+        }
+    }
+}
+
+// The size and the time of a file, where both are known.
+fn known_stamp(stamp: FileStamp) -> Option<Stamp> {
+    Some(Stamp {
+        size: stamp.size?,
+        modified: stamp.modified?,
+    })
+}
+
+// The SHA-256 of bytes (FIPS 180-4), as hexadecimal digits.
+fn hash_of(alloc: Global, bytes: &[u8]) -> Result<String, AllocError> {
+    let digest = Sha256::digest(bytes);
+    let mut text = String::new(alloc);
+    for byte in digest {
+        let pair = format!(in alloc; "{byte:02x}")?;
+        text.push_str(pair.as_str())?;
+    }
+    Ok(text)
+}
+
+/// Brings a catalogue up to date with the files that are named or found, and answers the worst
+/// status.
+pub fn update_catalog<W: Sink, E: Sink>(
+    session: &mut Session<'_, '_, W, E>,
+    cataloguing: &Cataloguing<'_>,
+) -> Result<Status, Stop> {
+    let rt = session.rt;
+    let request = session.request;
+    let mut gathered = Gathered {
+        path: String::new(rt.alloc()),
+        session,
+        cataloguing,
+        stamp: FileStamp {
+            size: None,
+            modified: None,
+        },
+        status: None,
+        worst: Status::Success,
+    };
+    let updated = update(
+        rt,
+        cataloguing.database,
+        request.paths.as_slice(),
+        &mut gathered,
+    );
+    let Gathered { session, worst, .. } = gathered;
+    match updated {
+        Ok(totals) => {
+            report_totals(session, cataloguing.database, totals)?;
+            Ok(worst)
+        }
+        Err(RunError::Caller(stop)) => Err(stop),
+        Err(RunError::Catalog(CatalogError::OutOfMemory)) => Err(Stop::OutOfMemory),
+        Err(RunError::Catalog(error)) => session.refuse(cataloguing.database, &error),
+    }
+}
+
+// Reports what a run did with the rows.
+fn report_totals<W: Sink, E: Sink>(
+    session: &mut Session<'_, '_, W, E>,
+    database: &str,
+    totals: Totals,
+) -> Result<(), Stop> {
+    if session.request.quiet {
+        return Ok(());
+    }
+    let Totals {
+        added,
+        changed,
+        unchanged,
+        refused: _,
+        removed,
+        restored,
+    } = totals;
+    let text = format!(in session.rt.alloc();
+        "{added} added, {changed} changed, {unchanged} unchanged, {removed} removed, {restored} restored"
+    )?;
+    session.say(database, &text)
+}

@@ -1,0 +1,167 @@
+//! A page that shows the pictures of a catalogue.
+
+use exif::{Error, Sink};
+use exif_catalog::{CatalogError, PictureRow, RunError, Visitor, visit};
+use exif_change::thumbnail;
+use exif_console::Console;
+use exif_files::Status;
+use exif_page::{
+    Exposure, Facts, Section, entry_html, entry_of, foot_html, head_html, section_of, texts_of,
+};
+use exif_session::{Paging, Stop, exif_of, out_of, write_out};
+use std::alloc::{AllocError, Global};
+
+// The page as far as it goes.
+#[derive(Drop)]
+struct Page<'p, 'r, E> {
+    rt: &'p HostRuntime,
+    console: &'p mut Console<'r, E>,
+    html: Vec<u8>,
+    section: LastSection,
+    worst: Status,
+}
+
+// The section that is open.
+#[derive(Drop)]
+enum LastSection {
+    Closed,
+    Day(String),
+    Undated,
+}
+
+impl LastSection {
+    fn section(&self) -> Section<'_> {
+        match self {
+            LastSection::Closed => Section::Closed,
+            LastSection::Day(day) => Section::Day(day.as_str()),
+            LastSection::Undated => Section::Undated,
+        }
+    }
+
+    fn of(alloc: Global, section: Section<'_>) -> Result<LastSection, AllocError> {
+        match section {
+            Section::Closed => Ok(LastSection::Closed),
+            Section::Day(day) => Ok(LastSection::Day(String::from_str(alloc, day)?)),
+            Section::Undated => Ok(LastSection::Undated),
+        }
+    }
+}
+
+// What a row says of its picture.
+fn facts_of<'a>(picture: &PictureRow<'a>) -> Facts<'a> {
+    Facts {
+        path: picture.path,
+        date_taken: picture.date_taken,
+        make: picture.make,
+        model: picture.model,
+        exposure: Exposure {
+            time: picture.exposure_time,
+            f_number: picture.f_number,
+            iso: picture.iso,
+            focal_length: picture.focal_length,
+        },
+        latitude: picture.latitude,
+        longitude: picture.longitude,
+    }
+}
+
+impl<E: Sink> Page<'_, '_, E> {
+    // The thumbnail in a file, if it has one. A file that can't be read is reported.
+    fn thumbnail_in(&mut self, path: &str) -> Result<Option<Vec<u8>>, AllocError> {
+        match exif_of(self.rt, path) {
+            Ok(exif) => match thumbnail(&exif) {
+                Some(jpeg) => Ok(Some(Vec::from_slice(self.rt.alloc(), jpeg)?)),
+                None => Ok(None),
+            },
+            Err(Error::NotFound(_)) => Ok(None),
+            Err(Error::OutOfMemory) => Err(AllocError),
+            Err(error) => {
+                self.console.say(path, &error);
+                self.worst = Status::Incomplete;
+                Ok(None)
+            }
+        }
+    }
+}
+
+impl<E: Sink> Visitor for Page<'_, '_, E> {
+    type Error = AllocError;
+
+    fn visit(&mut self, picture: &PictureRow<'_>) -> Result<(), AllocError> {
+        let alloc = self.rt.alloc();
+        let jpeg = self.thumbnail_in(picture.path)?;
+        let facts = facts_of(picture);
+        let texts = texts_of(alloc, &facts)?;
+        let entry = entry_of(&facts, &texts, jpeg.as_deref());
+        let html = entry_html(alloc, self.section.section(), &entry)?;
+        self.html.extend_from_slice(html.as_slice())?;
+        self.section = LastSection::of(alloc, section_of(&entry))?;
+        Ok(())
+    }
+}
+
+/// Writes a page with the pictures of a catalogue to OUT, and answers the status: 0, 3 where a
+/// picture could not be read for its thumbnail, or 1 where there is no page. It takes the memory of
+/// the page.
+pub fn write_page<W: Sink, E: Sink>(
+    rt: &HostRuntime,
+    paging: &Paging<'_>,
+    out: &mut W,
+    err: &mut E,
+) -> Result<u8, Stop> {
+    let mut console = Console::new(rt, err, false);
+    let destination = match out_of(rt, paging.database, paging.to, paging.force)? {
+        Ok(destination) => destination,
+        Err(error) => return Ok(refused(&mut console, paging, &error)),
+    };
+    let (html, worst) = match page_of(rt, paging, &mut console) {
+        Ok(page) => page,
+        Err(CatalogError::OutOfMemory) => return Err(Stop::OutOfMemory),
+        Err(error) => return Ok(refused(&mut console, paging, &error)),
+    };
+    let written = write_out(rt, paging.to, destination, html.as_slice(), out)?;
+    out.flush().map_err(Stop::Output)?;
+    match written {
+        Ok(()) => Ok(worst.code()),
+        Err(error) => Ok(refused(&mut console, paging, &error)),
+    }
+}
+
+// Reports why there is no page, and answers the status.
+fn refused<E: Sink, T: std::fmt::Display>(
+    console: &mut Console<'_, E>,
+    paging: &Paging<'_>,
+    cause: &T,
+) -> u8 {
+    console.say(paging.database, cause);
+    Status::Refused.code()
+}
+
+// The page, and the worst status of a picture.
+fn page_of<E: Sink>(
+    rt: &HostRuntime,
+    paging: &Paging<'_>,
+    console: &mut Console<'_, E>,
+) -> Result<(Vec<u8>, Status), CatalogError> {
+    let mut page = Page {
+        rt,
+        console,
+        html: head_html(rt.alloc(), "Pictures")?,
+        section: LastSection::Closed,
+        worst: Status::Success,
+    };
+    match visit(rt, paging.database, &mut page) {
+        Ok(_pictures) => {}
+        Err(RunError::Catalog(error)) => return Err(error),
+        Err(RunError::Caller(_memory)) => return Err(CatalogError::OutOfMemory),
+    }
+    let Page {
+        mut html,
+        section,
+        worst,
+        ..
+    } = page;
+    let foot = foot_html(rt.alloc(), section.section())?;
+    html.extend_from_slice(foot.as_slice())?;
+    Ok((html, worst))
+}

@@ -1,0 +1,158 @@
+//! The subcommands that change files: scrub, set, shift and copy.
+
+use crate::selection::{Wrong, keeping_of, request, takes_many, words_of, wrong};
+use crate::tags::unknown_tag;
+use clap::ArgMatches;
+use exif_change::{Assignment, ClockShift, Color, Dates, Removed, Unread};
+use exif_copy::Shape;
+use exif_decisions::{Escaped, is_assignment};
+use exif_session::{Change, Copying, Request, Target, Task};
+use std::alloc::{AllocError, Global};
+
+pub fn scrub_of<'a>(
+    alloc: Global,
+    matches: &ArgMatches<'a>,
+) -> Result<Result<Request<'a>, Wrong>, AllocError> {
+    if matches.get_flag("force-blank") && !erases_locations(matches) {
+        return wrong(alloc, "--force-blank requires --locations-only");
+    }
+    let files = words_of(alloc, matches)?;
+    let change = Change::Scrub(removed_of(matches), color_of(matches));
+    changing(alloc, change, matches, files)
+}
+
+pub fn set_of<'a>(
+    alloc: Global,
+    matches: &ArgMatches<'a>,
+) -> Result<Result<Request<'a>, Wrong>, AllocError> {
+    let mut files = Vec::new(alloc);
+    let mut values = Vec::new(alloc);
+    for word in words_of(alloc, matches)? {
+        if !is_assignment(word) {
+            files.push(word)?;
+            continue;
+        }
+        let Some(assigned) = Assignment::parse_all(alloc, word)? else {
+            return Ok(Err(unknown_assignment(alloc, word)?));
+        };
+        for value in assigned {
+            values.push(value)?;
+        }
+    }
+    if values.is_empty() {
+        return wrong(alloc, "expected TAG=VALUE, such as Orientation=6");
+    }
+    changing(alloc, Change::Set(values), matches, files)
+}
+
+// The message about a word whose tag is not known.
+fn unknown_assignment(alloc: Global, word: &str) -> Result<String, AllocError> {
+    let name = match word.split_once('=') {
+        Some((name, _)) => name,
+        None => word,
+    };
+    let message = unknown_tag(alloc, name)?;
+    let shown = Escaped(name);
+    format!(in alloc; "{message} (for a file, write ./{shown}=...)")
+}
+
+pub fn shift_of<'a>(
+    alloc: Global,
+    matches: &ArgMatches<'a>,
+) -> Result<Result<Request<'a>, Wrong>, AllocError> {
+    let text = matches.get_str("by").unwrap_or("");
+    match ClockShift::parse(text) {
+        Some(by) => {
+            let change = Change::Shift(by, dates_of(matches));
+            let task = Task::Change(change, Target::InPlace(keeping_of(matches)));
+            let files = words_of(alloc, matches)?;
+            request(alloc, task, matches, files)
+        }
+        None => {
+            let text = Escaped(text);
+            Ok(Err(format!(in alloc; "invalid shift '{text}'; expected e.g. +1:00 or -2d03:30")?))
+        }
+    }
+}
+
+pub fn copy_of<'a>(
+    alloc: Global,
+    matches: &ArgMatches<'a>,
+) -> Result<Result<Request<'a>, Wrong>, AllocError> {
+    let shape = if matches.get_flag("keep-target-shape") {
+        Shape::Target
+    } else {
+        Shape::Source
+    };
+    let copying = Copying {
+        from: matches.get_str("from").unwrap_or(""),
+        shape,
+        keeping: keeping_of(matches),
+    };
+    let files = words_of(alloc, matches)?;
+    request(alloc, Task::Copy(copying), matches, files)
+}
+
+// The request for a change of a file into another one, or of files in place.
+fn changing<'a>(
+    alloc: Global,
+    change: Change<'a>,
+    matches: &ArgMatches<'a>,
+    mut files: Vec<&'a str>,
+) -> Result<Result<Request<'a>, Wrong>, AllocError> {
+    if matches.get_flag("in-place") {
+        let task = Task::Change(change, Target::InPlace(keeping_of(matches)));
+        return request(alloc, task, matches, files);
+    }
+    if takes_many(matches) {
+        return wrong(
+            alloc,
+            "--recursive, --null and conditions require --in-place",
+        );
+    }
+    match (files.pop(), files.len()) {
+        (Some(out), 1) => {
+            let target = Target::Out(out, matches.get_flag("force"));
+            request(alloc, Task::Change(change, target), matches, files)
+        }
+        _ => wrong(alloc, "expected FILE OUT, or --in-place FILE..."),
+    }
+}
+
+fn unread_of(matches: &ArgMatches<'_>) -> Unread {
+    if matches.get_flag("force-blank") {
+        Unread::Blank
+    } else {
+        Unread::Keep
+    }
+}
+
+fn erases_locations(matches: &ArgMatches<'_>) -> bool {
+    matches.get_flag("locations-only") || matches.get_flag("places-only")
+}
+
+fn removed_of(matches: &ArgMatches<'_>) -> Removed {
+    if erases_locations(matches) {
+        Removed::Gps(unread_of(matches))
+    } else if matches.get_flag("keep-orientation") {
+        Removed::AllButOrientation
+    } else {
+        Removed::Metadata
+    }
+}
+
+fn color_of(matches: &ArgMatches<'_>) -> Color {
+    if matches.get_flag("strip-color") {
+        Color::Strip
+    } else {
+        Color::Keep
+    }
+}
+
+fn dates_of(matches: &ArgMatches<'_>) -> Dates {
+    if matches.get_flag("exif") {
+        Dates::Exif
+    } else {
+        Dates::All
+    }
+}

@@ -1,0 +1,141 @@
+//! The subcommands for many pictures: table, rename, geotag, touch, thumbnail and catalog.
+
+use crate::selection::{Wrong, keeping_of, reading_of, request, takes_many, words_of, wrong};
+use crate::tags::tags_in;
+use clap::ArgMatches;
+use exif_columns::{self as columns, Separator};
+use exif_decisions::Escaped;
+use exif_rename::Pattern;
+use exif_session::{Cataloguing, Geotagging, Renaming, Request, Table, Task};
+use exif_track::exif_time_of;
+use std::alloc::{AllocError, Global};
+
+pub fn table_of<'a>(
+    alloc: Global,
+    matches: &ArgMatches<'a>,
+) -> Result<Result<Request<'a>, Wrong>, AllocError> {
+    let tags = match tags_in(alloc, matches.get_str("tags").unwrap_or(""))? {
+        Ok(tags) => tags,
+        Err(wrong) => return Ok(Err(wrong)),
+    };
+    let table = Table {
+        reading: reading_of(matches, false),
+        tags,
+        form: cells_of(matches),
+        separator: separator_of(matches),
+        header: matches.get_flag("header"),
+    };
+    let files = words_of(alloc, matches)?;
+    request(alloc, Task::Table(table), matches, files)
+}
+
+fn cells_of(matches: &ArgMatches<'_>) -> columns::Form {
+    if matches.get_flag("raw") {
+        columns::Form::Raw
+    } else {
+        columns::Form::Display
+    }
+}
+
+fn separator_of(matches: &ArgMatches<'_>) -> Separator {
+    if matches.get_flag("tsv") {
+        Separator::Tab
+    } else {
+        Separator::Comma
+    }
+}
+
+pub fn thumbnail_of<'a>(
+    alloc: Global,
+    matches: &ArgMatches<'a>,
+) -> Result<Result<Request<'a>, Wrong>, AllocError> {
+    let force = matches.get_flag("force");
+    let mut files = words_of(alloc, matches)?;
+    if let Some(folder) = matches.get_str("into") {
+        return request(alloc, Task::Thumbnails(folder, force), matches, files);
+    }
+    if takes_many(matches) {
+        return wrong(alloc, "--recursive, --null and conditions require --into");
+    }
+    match (files.pop(), files.len()) {
+        (Some(out), 1) => request(alloc, Task::Thumbnail(out, force), matches, files),
+        _ => wrong(alloc, "expected FILE OUT, or --into FOLDER PATH..."),
+    }
+}
+
+pub fn rename_of<'a>(
+    alloc: Global,
+    matches: &ArgMatches<'a>,
+) -> Result<Result<Request<'a>, Wrong>, AllocError> {
+    let text = matches.get_str("pattern").unwrap_or("");
+    let pattern = match Pattern::parse(alloc, text)? {
+        Ok(pattern) => pattern,
+        Err(error) => {
+            let text = Escaped(text);
+            return Ok(Err(format!(in alloc; "invalid pattern '{text}': {error}")?));
+        }
+    };
+    let renaming = Renaming {
+        pattern,
+        into: matches.get_str("into"),
+        copy: matches.get_flag("copy"),
+        dry_run: matches.get_flag("dry-run"),
+    };
+    let files = words_of(alloc, matches)?;
+    request(alloc, Task::Rename(renaming), matches, files)
+}
+
+// The offset from UTC of pictures that name none.
+fn offset_of<'a>(
+    alloc: Global,
+    matches: &ArgMatches<'a>,
+) -> Result<Result<&'a str, Wrong>, AllocError> {
+    let zone = matches.get_str("offset").unwrap_or("");
+    if !zone.is_empty() && exif_time_of(b"2000:01:01 00:00:00", b"", zone.as_bytes()).is_none() {
+        let zone = Escaped(zone);
+        return Ok(Err(format!(in alloc; "invalid offset '{zone}'; expected e.g. +02:00")?));
+    }
+    Ok(Ok(zone))
+}
+
+pub fn touch_of<'a>(
+    alloc: Global,
+    matches: &ArgMatches<'a>,
+) -> Result<Result<Request<'a>, Wrong>, AllocError> {
+    let zone = match offset_of(alloc, matches)? {
+        Ok(zone) => zone,
+        Err(wrong) => return Ok(Err(wrong)),
+    };
+    let files = words_of(alloc, matches)?;
+    request(alloc, Task::Touch(zone), matches, files)
+}
+
+pub fn geotag_of<'a>(
+    alloc: Global,
+    matches: &ArgMatches<'a>,
+) -> Result<Result<Request<'a>, Wrong>, AllocError> {
+    let zone = match offset_of(alloc, matches)? {
+        Ok(zone) => zone,
+        Err(wrong) => return Ok(Err(wrong)),
+    };
+    let geotagging = Geotagging {
+        track: matches.get_str("track").unwrap_or(""),
+        zone,
+        keeping: keeping_of(matches),
+    };
+    let files = words_of(alloc, matches)?;
+    request(alloc, Task::Geotag(geotagging), matches, files)
+}
+
+pub fn catalog_of<'a>(
+    alloc: Global,
+    matches: &ArgMatches<'a>,
+) -> Result<Result<Request<'a>, Wrong>, AllocError> {
+    let cataloguing = Cataloguing {
+        database: matches.get_str("database").unwrap_or(""),
+        reading: reading_of(matches, false),
+        hash: matches.get_flag("hash"),
+    };
+    let files = words_of(alloc, matches)?;
+    request(alloc, Task::Catalog(cataloguing), matches, files)
+}

@@ -1,0 +1,132 @@
+//! Which files are asked for, and which of their pictures.
+
+use clap::ArgMatches;
+use exif_change::ENTRY_LIMIT;
+use exif_decisions::Escaped;
+use exif_select::{Choice, begin_of};
+use exif_session::{Keeping, Reading, Request, Task};
+use std::alloc::{AllocError, Global};
+
+/// What is wrong, in words.
+pub type Wrong = String;
+
+/// The words after the options.
+pub fn words_of<'a>(alloc: Global, matches: &ArgMatches<'a>) -> Result<Vec<&'a str>, AllocError> {
+    Vec::from_slice(alloc, matches.get_strs("word").unwrap_or(&[]))
+}
+
+/// What is wrong, by its text.
+pub fn wrong<T: Drop>(alloc: Global, text: &str) -> Result<Result<T, Wrong>, AllocError> {
+    Ok(Err(String::from_str(alloc, text)?))
+}
+
+/// The request for something that is done with these files.
+pub fn request<'a>(
+    alloc: Global,
+    task: Task<'a>,
+    matches: &ArgMatches<'a>,
+    paths: Vec<&'a str>,
+) -> Result<Result<Request<'a>, Wrong>, AllocError> {
+    let names_from_input = matches.get_flag("null");
+    if paths.is_empty() && !names_from_input {
+        return wrong(alloc, "expected a file");
+    }
+    let choice = match choice_of(alloc, matches)? {
+        Ok(choice) => choice,
+        Err(wrong) => return Ok(Err(wrong)),
+    };
+    if choice.is_any() && paths.iter().any(|path| *path == "-") {
+        return wrong(alloc, "no condition can be put on standard input");
+    }
+    Ok(Ok(Request {
+        choice,
+        task,
+        paths,
+        names_from_input,
+        recursive: matches.get_flag("recursive"),
+        quiet: matches.get_flag("quiet"),
+    }))
+}
+
+// Which pictures are processed.
+fn choice_of<'a>(
+    alloc: Global,
+    matches: &ArgMatches<'a>,
+) -> Result<Result<Choice<'a>, Wrong>, AllocError> {
+    let after = match date_of(alloc, matches, "after")? {
+        Ok(after) => after,
+        Err(wrong) => return Ok(Err(wrong)),
+    };
+    let before = match date_of(alloc, matches, "before")? {
+        Ok(before) => before,
+        Err(wrong) => return Ok(Err(wrong)),
+    };
+    let mut choice = Choice {
+        after,
+        before,
+        date: None,
+        location: None,
+        camera: matches.get_str("camera").map(|text| text.as_bytes()),
+    };
+    for (id, asked) in [("where", true), ("without", false)] {
+        for fact in matches.get_strs(id).unwrap_or(&[]) {
+            match *fact {
+                "date" => choice.date = Some(asked),
+                "location" => choice.location = Some(asked),
+                _ => return wrong(
+                    alloc,
+                    "expected date or location after --where or --without",
+                ),
+            }
+        }
+    }
+    Ok(Ok(choice))
+}
+
+// The time that an option names, if it is given.
+fn date_of(
+    alloc: Global,
+    matches: &ArgMatches<'_>,
+    id: &str,
+) -> Result<Result<Option<u64>, Wrong>, AllocError> {
+    let Some(text) = matches.get_str(id) else {
+        return Ok(Ok(None));
+    };
+    match begin_of(text) {
+        Some(time) => Ok(Ok(Some(time))),
+        None => {
+            let text = Escaped(text);
+            Ok(Err(format!(in alloc;
+                "invalid date '{text}'; expected e.g. 2024-05-01 or 2024-05-01T12:30"
+            )?))
+        }
+    }
+}
+
+/// Whether many files may be asked for.
+pub fn takes_many(matches: &ArgMatches<'_>) -> bool {
+    ["recursive", "null"].iter().any(|id| matches.get_flag(id))
+        || ["after", "before", "camera"]
+            .iter()
+            .any(|id| matches.get_str(id).is_some())
+        || ["where", "without"]
+            .iter()
+            .any(|id| matches.get_strs(id).is_some())
+}
+
+/// How files are read.
+pub fn reading_of(matches: &ArgMatches<'_>, full: bool) -> Reading {
+    Reading {
+        strict: matches.get_flag("strict"),
+        limit: matches.get_one::<u64>("limit").unwrap_or(ENTRY_LIMIT),
+        full,
+    }
+}
+
+/// What is kept of files that are replaced.
+pub fn keeping_of(matches: &ArgMatches<'_>) -> Keeping {
+    Keeping {
+        backup: matches.get_flag("backup"),
+        times: matches.get_flag("keep-time"),
+    }
+}

@@ -1,0 +1,24 @@
+//! Tags by their names.
+
+use crate::selection::Wrong;
+use exif::Tag;
+use exif_columns::tags_of;
+use exif_decisions::{Escaped, nearest};
+use std::alloc::{AllocError, Global};
+
+/// The message about a tag that is not known.
+pub fn unknown_tag(alloc: Global, name: &str) -> Result<String, AllocError> {
+    let shown = Escaped(name);
+    match nearest(alloc, name)? {
+        Some(tag) => format!(in alloc; "unknown tag '{shown}'; did you mean '{tag}'?"),
+        None => format!(in alloc; "unknown tag '{shown}'; run 'mexaldor tags' for a list"),
+    }
+}
+
+/// The tags of a list of names with commas between them.
+pub fn tags_in(alloc: Global, list: &str) -> Result<Result<Vec<Tag>, Wrong>, AllocError> {
+    match tags_of(alloc, list)? {
+        Ok(tags) => Ok(Ok(tags)),
+        Err(name) => Ok(Err(unknown_tag(alloc, name)?)),
+    }
+}

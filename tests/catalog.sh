@@ -1,0 +1,93 @@
+#!/bin/sh
+# A catalogue of pictures, queries, and its page.
+. "$(dirname "$0")/checks.sh"
+
+mkdir -p many/inner
+cp "$root/docs/sample.jpg" many/sample.jpg
+cp files/plain.jpg many/plain.jpg
+cp files/whole.webp many/inner/whole.webp
+
+# answer SQL: the answer of the catalogue, without the line with the names.
+answer() {
+    "$mexaldor" query db "$1" | tail -n +2
+}
+
+# is NAME SQL TEXT: the answer is this.
+is() {
+    found=$(answer "$2")
+    [ "$found" = "$3" ]
+    passes "$1: $found" $?
+}
+
+gives "a catalogue is made" 0 "$mexaldor" catalog -r db many
+says "with a row for each picture" "3 added, 0 changed, 0 unchanged, 0 removed, 0 restored"
+is "the paths are those of the run" 'SELECT path FROM picture ORDER BY path' "many/inner/whole.webp
+many/plain.jpg
+many/sample.jpg"
+is "the sample has its date and camera" "SELECT model, date_taken, orientation FROM picture WHERE path = 'many/sample.jpg'" "Pinhole 2	2024-05-01T12:30:00.25+10:00	6"
+gives "again nothing has changed" 0 "$mexaldor" catalog -r db many
+says "and nothing is read" "0 added, 0 changed, 3 unchanged, 0 removed, 0 restored"
+"$mexaldor" set -q -i many/sample.jpg Artist=Somebody 2>/dev/null
+touch -d '2030-01-01' many/sample.jpg
+rm many/plain.jpg
+gives "a file changed and one is gone" 0 "$mexaldor" catalog -r db many
+says "which is counted" "0 added, 1 changed, 1 unchanged, 1 removed, 0 restored"
+is "the row has the new value" "SELECT artist FROM picture WHERE path = 'many/sample.jpg'" "Somebody"
+is "the row of the other is marked" "SELECT path FROM picture WHERE removed = 1" "many/plain.jpg"
+cp files/plain.jpg many/plain.jpg
+touch -d '2030-01-02' many/plain.jpg
+gives "it is there again" 0 "$mexaldor" catalog -r db many
+is "and no longer marked" "SELECT count(*) FROM picture WHERE removed = 1" "0"
+gives "a part of the folder is looked through" 0 "$mexaldor" catalog -q -r db many/inner
+is "the rows of others stay" "SELECT count(*) FROM picture WHERE removed = 0" "3"
+gives "hashes are asked for" 0 "$mexaldor" catalog -q -r --hash hashed many
+"$mexaldor" query hashed 'SELECT hash, path FROM picture ORDER BY path' | tail -n +2 | sed 's/	/  /' >sums
+check "they are those of sha256sum" sha256sum --quiet -c sums
+printf 'no picture' >broken.jpg
+gives "a file that can't be read is reported" 1 "$mexaldor" catalog db broken.jpg
+says "by name" "broken.jpg: "
+is "and has no row" "SELECT count(*) FROM picture WHERE path = 'broken.jpg'" "0"
+
+gives "a query prints the names of its columns" 0 "$mexaldor" query db 'SELECT count(*) AS pictures FROM picture'
+check "and its rows" sh -c 'printf "pictures\n3\n" | cmp - out'
+for sql in 'DELETE FROM picture' 'DROP TABLE picture' "UPDATE picture SET path = 'x'" 'nothing' ''; do
+    gives "'$sql' is refused" 1 "$mexaldor" query db "$sql"
+done
+is "and nothing is lost" "SELECT count(*) FROM picture" "3"
+gives "a query of no catalogue is refused" 1 "$mexaldor" query nothing 'SELECT 1'
+check "and makes none" test ! -e nothing
+cp files/plain.jpg picture
+gives "a file that is no catalogue is refused" 1 "$mexaldor" catalog picture many/sample.jpg
+check "and stays" cmp files/plain.jpg picture
+if has sqlite3; then
+    check "sqlite3 finds the database sound" test "$(sqlite3 db 'PRAGMA integrity_check')" = ok
+    check "and reads it" test "$(sqlite3 db 'SELECT count(*) FROM picture')" = 3
+    sqlite3 other 'CREATE TABLE picture (path TEXT)'
+    cp other kept
+    gives "a table that others made is refused" 1 "$mexaldor" catalog other many/sample.jpg
+    check "and stays" cmp kept other
+fi
+
+# the page
+gives "a page is written" 0 "$mexaldor" page db page.html
+check "with the picture of the sample" grep -q 'src="data:image/jpeg;base64,' page.html
+check "its day" grep -q '2024-05-01' page.html
+check "and its name" grep -q 'sample.jpg' page.html
+check "it loads nothing from elsewhere" sh -c '! grep -qE "(src|href)=\"?(http|//)" page.html'
+gives "an existing page stays" 1 "$mexaldor" page db page.html
+says "unless it may be replaced" "page.html exists; use --force to replace it"
+gives "which --force allows" 0 "$mexaldor" page --force db page.html
+gives "a page is written to standard output" 0 "$mexaldor" page db -
+check "the same" cmp page.html out
+rm many/plain.jpg
+gives "a picture that is gone is reported" 3 "$mexaldor" page --force db other.html
+says "by name" "many/plain.jpg: "
+gives "a page of no catalogue is refused" 1 "$mexaldor" page nothing new.html
+check "and not written" test ! -e new.html
+if has chromium; then
+    chromium --headless --no-sandbox --disable-gpu --window-size=800,600 --screenshot="$PWD/page.png" "file://$PWD/page.html" >/dev/null 2>&1
+    check "chromium shows the page" test -s page.png
+    chromium --headless --no-sandbox --disable-gpu --dump-dom "file://$PWD/page.html" >dom 2>/dev/null
+    check "with its pictures" grep -q 'sample.jpg' dom
+fi
+ends

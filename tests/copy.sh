@@ -1,0 +1,62 @@
+#!/bin/sh
+# Exif data of one picture that are put into others.
+. "$(dirname "$0")/checks.sh"
+
+# fields FILE: the fields of a file, without its name.
+fields() {
+    "$mexaldor" show --full "$1" 2>/dev/null | tail -n +2
+}
+
+sample="$root/docs/sample.jpg"
+fields "$sample" >expected
+
+python3 "$root/tests/format_files.py" files
+fresh
+for file in plain.jpg plain.webp plain.png; do
+    "$mexaldor" scrub --force "work/$file" before 2>/dev/null
+    gives "Exif data are put into $file" 0 "$mexaldor" copy "$sample" "work/$file"
+    fields "work/$file" >found
+    check "its fields are those of the sample" cmp expected found
+    "$mexaldor" scrub --force "work/$file" after 2>/dev/null
+    check "nothing else of $file changed" cmp before after
+done
+gives "data of other formats are found" 0 "$mexaldor" copy work/whole.webp work/plain.jpg
+fields work/whole.webp >expected
+fields work/plain.jpg >found
+check "and put into a JPEG file" cmp expected found
+
+# an editor turned and cut a picture: its own orientation and sizes stay
+cp "$sample" turned.jpg
+"$mexaldor" set -q -i turned.jpg Orientation=1 PixelXDimension=10 PixelYDimension=20 2>/dev/null
+cp turned.jpg shaped.jpg
+gives "the shape of the file is kept" 0 "$mexaldor" copy --keep-target-shape "$sample" shaped.jpg
+"$mexaldor" table --raw --tags Orientation,Model shaped.jpg >out
+holds "its orientation" "shaped.jpg,1,Pinhole 2"
+gives "else it is that of the data" 0 "$mexaldor" copy "$sample" turned.jpg
+"$mexaldor" table --raw --tags Orientation,Model turned.jpg >out
+holds "which is another" "turned.jpg,6,Pinhole 2"
+
+cp files/plain.jpg same.jpg
+gives "a picture without Exif data is refused" 1 "$mexaldor" copy files/plain.jpg same.jpg
+says "by its name" "files/plain.jpg: "
+check "and nothing changes" cmp files/plain.jpg same.jpg
+cp files/whole.tif same.tif
+gives "TIFF files get none" 1 "$mexaldor" copy "$sample" same.tif
+says "which is said" "same.tif: "
+check "and stay" cmp files/whole.tif same.tif
+gives "a file that is missing is refused" 1 "$mexaldor" copy nothing.jpg same.jpg
+says "by name" "nothing.jpg: "
+mkdir folder
+cp files/plain.jpg folder/a.jpg
+cp files/plain.jpg folder/b.jpg
+gives "the pictures of a folder get them" 0 "$mexaldor" copy -q -r --backup "$sample" folder
+check "each" cmp folder/a.jpg folder/b.jpg
+check "and the old files are kept" cmp folder/a.jpg.orig files/plain.jpg
+if has exiftool; then
+    cp files/plain.jpg copied.jpg
+    "$mexaldor" copy "$sample" copied.jpg
+    exiftool -G1 -a -s -Exif:all "$sample" >expected
+    exiftool -G1 -a -s -Exif:all copied.jpg >found
+    check "exiftool reads the same" cmp expected found
+fi
+ends
