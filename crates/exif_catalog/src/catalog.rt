@@ -4,7 +4,7 @@ ghost use Rattle.std.specs.Prelude.{◌≡◌, ℕ, List, IfOk, OnOk, Some, is_s
 ghost use Rattle.exif_catalog.specs.Totals.{outcome_of};
 ghost use Rattle.exif_catalog.specs.Parameters.{bound, parameter_of};
 ghost use Rattle.exif_catalog.specs.Values.{stored};
-ghost use Rattle.exif_catalog.specs.Runs.{has_path, has_stamp_of, known_after, known_at};
+ghost use Rattle.exif_catalog.specs.Runs.{has_path, has_stamp_of, known_after, known_at, marks_in};
 
 use crate::database::{execute, number_at, prepare, prepare_tables, text_at};
 use crate::errors::CatalogError;
@@ -172,7 +172,9 @@ impl Catalog {
         database: &mut Connection<S>,
         roots: &[&str],
         mut totals: Totals,
-    ) -> Result<Totals, CatalogError> {
+    ) -> Result<Totals, CatalogError>
+        ensures { IfOk result (λ all. all ≡ marks_in roots.now totals self.now.rows.entries) }
+    {
         for (path, known) in self.rows.iter() {
             if let Some(is_removed) = mark_of(path.as_str(), *known, roots) {
                 self.set_mark(database, path.as_str(), is_removed)?;
