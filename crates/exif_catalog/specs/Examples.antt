@@ -1,10 +1,15 @@
 -- Worked examples of the definitions.
-use Rattle.std.specs.Prelude.{◌≡◌, [], ◌∷◌, pos, codes, Some, None, true, false, refl}
+use Rattle.std.specs.Prelude.{◌≡◌, [], ◌∷◌, ◌++◌, pos, codes, Some, None, true, false, refl}
 use Rattle.std.specs.Char.{encode_utf8}
 use Rattle.exif_catalog.specs.Cells.{begins_word, tsv_field}
+use Rattle.exif_catalog.specs.Heads.{kind_of}
 use Rattle.exif_catalog.specs.Known.{is_below, mark_for}
+use Rattle.exif_catalog.specs.Runs.{has_path, has_stamp_of}
 use Rattle.exif_catalog.specs.Tables.{tables_for}
 use Rattle.exif_catalog.specs.Values.{amount_value, integer, latin1, null}
+use Rattle.exif_catalog.specs.Totals.{more, outcome_of}
+use Rattle.exif_catalog.specs.declared.heads.FileKind.TheVariants as kind
+use Rattle.exif_catalog.specs.declared.totals.Outcome.TheVariants as outcome
 use Rattle.exif_catalog.specs.declared.tables.Tables.TheVariants as tables
 
 -- `é` in Latin-1 is one byte, 233, and in UTF-8 the bytes 195 and 169
@@ -65,3 +70,40 @@ selected = refl
 
 pub delete : begins_word (codes "delete") (codes "select") ≡ false
 delete = refl
+
+-- files: an empty one, a text, and what begins as a database does
+empty_file : kind_of [] ≡ kind.Empty
+empty_file = refl
+
+a_text : kind_of (codes "SQLite format 3.") ≡ kind.Other
+a_text = refl
+
+a_database : kind_of (codes "SQLite format 3" ++ 0 ∷ 16 ∷ []) ≡ kind.Database
+a_database = refl
+
+-- a picture without a row is read, and so is one whose file's size or time is not known
+no_row : has_stamp_of None (Some (record { size = 5; modified = 7 })) ≡ false
+no_row = refl
+
+no_time : has_stamp_of (Some (record { stamp = None; is_removed = false; is_seen = false })) None
+    ≡ false
+no_time = refl
+
+same_file : has_stamp_of
+    (Some (record { stamp = Some (record { size = 5; modified = 7 }); is_removed = false; is_seen = false }))
+    (Some (record { size = 5; modified = 7 })) ≡ true
+same_file = refl
+
+-- values without a path are no row
+no_path : has_path (codes "a.jpg") [] ≡ false
+no_path = refl
+
+-- a row that is written is new, or was there
+new_row : outcome_of false ≡ outcome.Added
+new_row = refl
+
+old_row : outcome_of true ≡ outcome.Changed
+old_row = refl
+
+greatest_count : more 18446744073709551615 ≡ 18446744073709551615
+greatest_count = refl

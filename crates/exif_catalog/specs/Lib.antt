@@ -1,9 +1,12 @@
 pub mod Values
 pub mod Parameters
 pub mod Schema
+pub mod Heads
 pub mod Known
 pub mod Tables
 pub mod Cells
 pub mod Runs
+pub mod Totals
+pub mod Shown
 pub mod Laws
 pub mod Examples

@@ -1,11 +1,16 @@
 -- A run over a catalogue.
-use Rattle.std.specs.Prelude.{◌≡◌, ℕ, List, [], ◌∷◌, Option, Some, None, if◌then◌else◌, option_map}
+use Rattle.std.specs.Prelude.{ℕ, List, [], ◌∷◌, Bool, false, String, Option, Some, None, if◌then◌else◌, option_map}
 use Rattle.std.specs.BTreeMap.{get_by_text}
+use Rattle.std.specs.Borrow.{Bor}
+use Rattle.std.specs.Global.{Global}
 use Rattle.std.specs.Str.{bytes_eq}
 use Rattle.std.specs.String.{string_bytes}
-use Rattle.exif_catalog.specs.Known.{seen}
+use Rattle.exif_catalog.specs.Known.{has_stamp, mark_of, seen}
+use Rattle.exif_catalog.specs.Totals.{marked}
 use Rattle.exif_catalog.specs.declared.catalog.Catalog.{Catalog}
 use Rattle.exif_catalog.specs.declared.known.Known.{Known}
+use Rattle.exif_catalog.specs.declared.known.Stamp.{Stamp}
+use Rattle.exif_catalog.specs.declared.totals.Totals.{Totals}
 use Rattle.exif_catalog.specs.declared.values.SqlValue.{SqlValue}
 use Rattle.exif_catalog.specs.declared.values.SqlValue.TheVariants as sql
 
@@ -30,7 +35,22 @@ abbrev pub path_of : List SqlValue → Option (List ℕ)
 path_of [] = None
 path_of (value ∷ values) = text_in value
 
--- a run knows of each path what it knew, but that the file of a row was seen
-abbrev pub HasSeen : Catalog → Catalog → Option (List ℕ) → Type 0
-HasSeen old new None = (q : List ℕ) → known_at new q ≡ known_at old q
-HasSeen old new (Some path) = (q : List ℕ) → known_at new q ≡ known_after old path q
+-- a row begins with the path
+abbrev pub has_path : List ℕ → List SqlValue → Bool
+has_path path values = elim (path_of values) [ Some text ↦ bytes_eq text path | None ↦ false ]
+
+-- the picture has a row, and its file had that size and time when it was read
+abbrev pub has_stamp_of : Option Known → Option Stamp → Bool
+has_stamp_of known None = false
+has_stamp_of known (Some stamp) = has_stamp known stamp
+
+-- what is counted of a row, by how its mark changes
+abbrev pub marked_if : Totals → Option Bool → Totals
+marked_if totals None = totals
+marked_if totals (Some is_removed) = marked totals is_removed
+
+-- what is counted of rows, one after the other
+abbrev pub marks_in : List (Bor (List ℕ)) → Totals → List (String Global × Known) → Totals
+marks_in roots totals [] = totals
+marks_in roots totals (row ∷ rows) =
+    marks_in roots (marked_if totals (mark_of (string_bytes row.0) row.1 roots)) rows

@@ -71,3 +71,14 @@ abbrev pub insert_text : List Column → List ℕ
 insert_text columns =
     codes "INSERT OR REPLACE INTO picture VALUES (?1, ?2, ?3, ?4, ?5, ?6"
     ++ parameters 7 columns ++ codes ", 0)"
+
+-- a column of an answer, after others
+abbrev pub answer_column : Column → List ℕ
+answer_column column = codes ", " ++ name_of column
+
+-- what reads the path and columns of the pictures that are there, in order
+abbrev pub pictures_text : List Column → List ℕ
+pictures_text columns =
+    codes "SELECT path" ++ flat_map answer_column columns
+    ++ codes " FROM picture WHERE removed = 0 "
+    ++ codes "ORDER BY date_taken IS NULL, date_taken, path"

@@ -1,19 +1,36 @@
 //! Answers of a database as text.
 
-use crate::catalog::{Database, open_database};
-use crate::cells::{is_query, push_text, push_value};
-use crate::errors::CatalogError;
-use sqlite::{Row, Statement};
-use std::alloc::{AllocError, Global};
-use std::fs;
-use std::io::Write;
+ghost use Rattle.std.specs.Prelude.{◌≡◌, ◌++◌, [], OnOk, codes};
 
-// Writes a line, and empties it.
-fn write_line<W: Write>(out: &mut W, line: &mut Vec<u8>) -> Result<(), CatalogError> {
-    line.push(b'\n')?;
-    if out.write_all(line.as_slice()).is_err() {
-        return Err(CatalogError::Print);
-    }
+use crate::cells::{is_query, push_text, push_value};
+use crate::database::{Job, prepare, run_job};
+use crate::errors::{CatalogError, RunError};
+use crate::heads::check_existing;
+use sqlite::{Alter, Connection, Row, Statement};
+use std::alloc::{AllocError, Global};
+
+/// What takes the lines of an answer.
+pub trait Lines {
+    /// Why it takes no more.
+    type Error: Drop;
+
+    /// Takes a line, which ends with a line feed.
+    fn take(&mut self, line: &[u8]) -> Result<(), Self::Error>;
+}
+
+// Ends a line.
+fn end_line(line: &mut Vec<u8>) -> Result<(), AllocError>
+    ensures { OnOk result (line.new.items ≡ line.old.items ++ codes "\n") }
+{
+    Ok(line.push(b'\n')?)
+}
+
+// Hands a line on, and empties it.
+fn hand_on<L: Lines>(lines: &mut L, line: &mut Vec<u8>) -> Result<(), RunError<L::Error>>
+    ensures { OnOk result (line.new.items ≡ []) }
+{
+    end_line(line)?;
+    lines.take(line.as_slice()).map_err(RunError::Caller)?;
     line.clear();
     Ok(())
 }
@@ -40,13 +57,13 @@ fn push_row(alloc: Global, line: &mut Vec<u8>, row: &Row) -> Result<(), CatalogE
     Ok(())
 }
 
-// Writes the rows of an answer.
-fn write_rows<W: Write>(
+// Hands on the rows of an answer.
+fn answer_rows<S: Alter, L: Lines>(
     alloc: Global,
-    database: &mut Database,
+    database: &mut Connection<S>,
     statement: &Statement,
-    out: &mut W,
-) -> Result<u64, CatalogError> {
+    lines: &mut L,
+) -> Result<u64, RunError<L::Error>> {
     let mut line = Vec::new(alloc);
     let mut count = 0u64;
     let mut rows = statement.query(database, &[])?;
@@ -55,47 +72,62 @@ fn write_rows<W: Write>(
             break;
         };
         push_row(alloc, &mut line, row)?;
-        write_line(out, &mut line)?;
+        hand_on(lines, &mut line)?;
         count = count.saturating_add(1);
     }
     Ok(count)
 }
 
-// Writes the line of names, and the rows.
-fn write_answer<W: Write>(
+// Hands on the line of names, and the rows.
+fn answer<S: Alter, L: Lines>(
     alloc: Global,
-    database: &mut Database,
+    database: &mut Connection<S>,
     sql: &str,
-    out: &mut W,
-) -> Result<u64, CatalogError> {
-    let statement = database.prepare(sql)?;
+    lines: &mut L,
+) -> Result<u64, RunError<L::Error>> {
+    let statement = prepare(database, sql)?;
     let mut line = Vec::new(alloc);
     push_names(&mut line, &statement)?;
-    write_line(out, &mut line)?;
-    write_rows(alloc, database, &statement, out)
+    hand_on(lines, &mut line)?;
+    answer_rows(alloc, database, &statement, lines)
 }
 
-// Opens a file that is there.
-fn open_existing(rt: &HostRuntime, path: &str) -> Result<Database, CatalogError> {
-    if fs::metadata(rt, path).is_err() {
-        return Err(CatalogError::Absent);
+// A query, and what takes the lines of its answer.
+#[derive(Drop)]
+struct QueryJob<'q, L> {
+    sql: &'q str,
+    lines: &'q mut L,
+}
+
+impl<L: Lines> Job for QueryJob<'_, L> {
+    type Answer = u64;
+
+    type Error = L::Error;
+
+    fn run<S: Alter>(
+        &mut self,
+        alloc: Global,
+        database: &mut Connection<S>,
+    ) -> Result<u64, RunError<L::Error>> {
+        answer(alloc, database, self.sql, self.lines)
     }
-    open_database(rt, path)
 }
 
-/// Writes the answer of a query as tab-separated values: a line of the columns' names, and a line
-/// for each row ([`push_text`](crate::push_text) says how texts are written). Answers how many rows
-/// there were. Only a text that begins with SELECT or WITH is taken, and the database stays as it
-/// is. After an error, some of the lines may have been written.
-pub fn query<W: Write>(
+/// The answer of a query as tab-separated values: a line of the columns' names, and a line for each
+/// row ([`push_text`](crate::push_text) says how texts are written). Each is handed on as it is
+/// read, so after an error some may have been. Answers how many rows there were.
+///
+/// Only a text that begins with SELECT or WITH is taken. It runs in a transaction that is never
+/// kept, so the database stays as it is. A file that is not there is not made.
+pub fn query<L: Lines>(
     rt: &HostRuntime,
     path: &str,
     sql: &str,
-    out: &mut W,
-) -> Result<u64, CatalogError> {
+    lines: &mut L,
+) -> Result<u64, RunError<L::Error>> {
     if !is_query(sql) {
-        return Err(CatalogError::NotAQuery);
+        return Err(RunError::Catalog(CatalogError::NotAQuery));
     }
-    let mut database = open_existing(rt, path)?;
-    write_answer(rt.alloc(), &mut database, sql, out)
+    check_existing(rt, path)?;
+    run_job(rt, path, &mut QueryJob { sql, lines })
 }

@@ -1,115 +1,27 @@
-//! A catalogue: a SQLite file whose rows follow the pictures of a run.
+//! A run over a catalogue: rows that follow the pictures of a run.
 
-ghost use Rattle.std.specs.Prelude.{◌≡◌, ℕ, List, OnOk, Some};
-ghost use Rattle.exif_catalog.specs.Known.{has_stamp};
+ghost use Rattle.std.specs.Prelude.{◌≡◌, ℕ, List, IfOk, OnOk, Some, is_some, true};
+ghost use Rattle.exif_catalog.specs.Totals.{outcome_of};
 ghost use Rattle.exif_catalog.specs.Parameters.{bound, parameter_of};
 ghost use Rattle.exif_catalog.specs.Values.{stored};
-ghost use Rattle.exif_catalog.specs.Runs.{HasSeen, known_after, known_at, path_of};
+ghost use Rattle.exif_catalog.specs.Runs.{has_path, has_stamp_of, known_after, known_at, marks_in};
 
+use crate::database::{execute, number_at, prepare, prepare_tables, text_at};
 use crate::errors::CatalogError;
 use crate::known::{Known, Rows, Stamp, is_unchanged, mark_of, see};
-use crate::schema::{
-    CREATE_VERSION, MARK_ROW, READ_CREATE, READ_ROWS, READ_TABLES, READ_VERSION, VERSION,
-    WRITE_VERSION, create_text, insert_text,
-};
-use crate::tables::{Tables, tables_of};
+use crate::schema::{MARK_ROW, READ_ROWS, insert_text};
+use crate::totals::{Outcome, Totals, outcome_of};
 use crate::values::SqlValue;
 use sqlite::types::ValueRef;
-use sqlite::{Connection, File, FileStore, Row, Statement, params};
-use std::alloc::{AllocError, Global};
+use sqlite::{Alter, Connection, Row, Statement, params};
+use std::alloc::Global;
 
-/// A database file.
-pub(crate) type Database = Connection<FileStore<File>>;
-
-/// A run over a catalogue. What it writes is one transaction: it is kept by [`Catalog::finish`]
-/// alone, and a run that ends before leaves the rows as they were.
+/// What a run knows of the rows, and the statements that change them.
 #[derive(Drop)]
-pub struct Catalog {
-    database: Database,
+pub(crate) struct Catalog {
     rows: Rows,
     insert: Statement,
     mark: Statement,
-}
-
-/// How many rows a run marked.
-#[derive(Clone, Copy)]
-pub struct Marks {
-    /// Rows whose files are no longer there.
-    pub removed: u64,
-    /// Rows whose files are there again.
-    pub restored: u64,
-}
-
-// Runs a statement that has no parameters.
-fn execute(database: &mut Database, sql: &str) -> Result<(), CatalogError> {
-    database.execute(sql, &[])?;
-    Ok(())
-}
-
-// Compiles a statement.
-fn prepare(database: &mut Database, sql: &str) -> Result<Statement, CatalogError> {
-    Ok(database.prepare(sql)?)
-}
-
-// The text in a column of a row.
-fn text_at(row: &Row, column: usize) -> Result<String, CatalogError> {
-    Ok(row.get(column)?)
-}
-
-// The whole number in a column of a row, if it has one.
-fn number_at(row: &Row, column: usize) -> Result<Option<i64>, CatalogError> {
-    Ok(row.get(column)?)
-}
-
-// The names of the tables that are there.
-fn read_tables(alloc: Global, database: &mut Database) -> Result<Vec<String>, CatalogError> {
-    let mut names = Vec::new(alloc);
-    let mut answer = database.query(READ_TABLES, &[])?;
-    for _ in 0..u64::MAX {
-        let Some(row) = answer.next()? else {
-            break;
-        };
-        names.push(text_at(row, 0)?)?;
-    }
-    Ok(names)
-}
-
-// The version of the tables.
-fn read_version(database: &mut Database) -> Result<Option<i64>, CatalogError> {
-    let row = database.query_row(READ_VERSION, &[])?;
-    number_at(&row, 0)
-}
-
-// The text that made the table of pictures.
-fn read_create_text(database: &mut Database) -> Result<String, CatalogError> {
-    let row = database.query_row(READ_CREATE, &[])?;
-    text_at(&row, 0)
-}
-
-// Refuses a table of pictures that was made, or changed, by others.
-fn check_table(database: &mut Database) -> Result<(), CatalogError> {
-    let text = read_create_text(database)?;
-    if text.as_str() == create_text() {
-        Ok(())
-    } else {
-        Err(CatalogError::OtherTables)
-    }
-}
-
-// Refuses a version that this program does not read.
-fn check_version(database: &mut Database) -> Result<(), CatalogError> {
-    match read_version(database)? {
-        Some(VERSION) => check_table(database),
-        Some(version) => Err(CatalogError::OtherVersion(version)),
-        None => Err(CatalogError::OtherTables),
-    }
-}
-
-// Makes the tables.
-fn create_tables(database: &mut Database) -> Result<(), CatalogError> {
-    execute(database, CREATE_VERSION)?;
-    execute(database, WRITE_VERSION)?;
-    execute(database, create_text())
 }
 
 // The size and time that a row has, if it has both.
@@ -132,7 +44,7 @@ fn known_of(row: &Row) -> Result<Known, CatalogError> {
 }
 
 // What is known of all pictures.
-fn read_rows(alloc: Global, database: &mut Database) -> Result<Rows, CatalogError> {
+fn read_rows<S: Alter>(alloc: Global, database: &mut Connection<S>) -> Result<Rows, CatalogError> {
     let mut rows = Rows::new(alloc);
     let mut answer = database.query(READ_ROWS, &[])?;
     for _ in 0..u64::MAX {
@@ -146,16 +58,6 @@ fn read_rows(alloc: Global, database: &mut Database) -> Result<Rows, CatalogErro
     Ok(rows)
 }
 
-// Makes the tables of a new file, or refuses what is no catalogue of this version.
-fn prepare_tables(alloc: Global, database: &mut Database) -> Result<(), CatalogError> {
-    let names = read_tables(alloc, database)?;
-    match tables_of(names.as_slice()) {
-        Tables::None => create_tables(database),
-        Tables::Catalog => check_version(database),
-        Tables::Other => Err(CatalogError::OtherTables),
-    }
-}
-
 // A value as a parameter of the text that writes a row.
 fn parameter(value: &SqlValue) -> ValueRef<'_>
     ensures { bound result ≡ Some (parameter_of (stored value.now)) }
@@ -167,93 +69,63 @@ fn parameter(value: &SqlValue) -> ValueRef<'_>
     }
 }
 
-// Opens a database file, or makes it.
-pub(crate) fn open_database(rt: &HostRuntime, path: &str) -> Result<Database, CatalogError> {
-    Ok(Connection::open(rt, path)?)
-}
-
-// Ends the transaction, and copies the log into the file.
-fn commit(mut database: Database) -> Result<(), CatalogError> {
-    execute(&mut database, "COMMIT")?;
-    // The rows are kept now: where the log is not copied, the next open reads it.
-    let _ = database.close();
-    Ok(())
-}
-
-// Writes a row.
-fn write_row(
-    database: &mut Database,
-    insert: &Statement,
+// Runs a statement that writes.
+fn write<S: Alter>(
+    database: &mut Connection<S>,
+    statement: &Statement,
     parameters: &[ValueRef<'_>],
 ) -> Result<(), CatalogError> {
-    insert.execute(database, parameters)?;
+    statement.execute(database, parameters)?;
     Ok(())
 }
 
-// Sets the mark of a row.
-fn set_mark(
-    database: &mut Database,
-    mark: &Statement,
-    path: &str,
-    is_removed: bool,
-) -> Result<(), CatalogError> {
-    mark.execute(database, params![path, is_removed])?;
-    Ok(())
-}
-
-// Sets the marks that change.
-fn set_marks(
-    database: &mut Database,
-    mark: &Statement,
-    rows: &Rows,
-    roots: &[&str],
-) -> Result<Marks, CatalogError> {
-    let mut marks = Marks {
-        removed: 0,
-        restored: 0,
-    };
-    for (path, known) in rows.iter() {
-        if let Some(is_removed) = mark_of(path.as_str(), *known, roots) {
-            set_mark(database, mark, path.as_str(), is_removed)?;
-            if is_removed {
-                marks.removed = marks.removed.saturating_add(1);
-            } else {
-                marks.restored = marks.restored.saturating_add(1);
-            }
-        }
+// Whether a row begins with a path.
+fn begins_with_path(values: &[SqlValue], path: &str) -> bool
+    ensures { result ≡ has_path path.now values.now }
+{
+    match values.first() {
+        Some(SqlValue::Text(text)) => text.as_str() == path,
+        _ => false,
     }
-    Ok(marks)
+}
+
+// Writes the values of a row.
+fn write_row<S: Alter>(
+    alloc: Global,
+    database: &mut Connection<S>,
+    insert: &Statement,
+    values: &[SqlValue],
+) -> Result<(), CatalogError> {
+    let parameters: Vec<ValueRef<'_>> = values.iter().map(parameter).collect(alloc)?;
+    write(database, insert, parameters.as_slice())
 }
 
 impl Catalog {
-    /// Opens a catalogue and begins a run; a new file gets the tables. A file that is no database,
-    /// or has another version or other tables, is refused and left as it is. No other program can
-    /// read or write the file until the run ends.
-    pub fn open(rt: &HostRuntime, path: &str) -> Result<Catalog, CatalogError> {
-        let alloc = rt.alloc();
-        let mut database = open_database(rt, path)?;
-        execute(&mut database, "BEGIN")?;
-        prepare_tables(alloc, &mut database)?;
-        let rows = read_rows(alloc, &mut database)?;
-        let insert = prepare(&mut database, insert_text())?;
-        let mark = prepare(&mut database, MARK_ROW)?;
-        Ok(Catalog {
-            database,
-            rows,
-            insert,
-            mark,
-        })
+    /// What a database holds as a run begins; a new file gets the tables. Another version or other
+    /// tables are refused.
+    pub(crate) fn open<S: Alter>(
+        alloc: Global,
+        database: &mut Connection<S>,
+    ) -> Result<Catalog, CatalogError> {
+        prepare_tables(alloc, database)?;
+        let rows = read_rows(alloc, database)?;
+        let insert = prepare(database, insert_text())?;
+        let mark = prepare(database, MARK_ROW)?;
+        Ok(Catalog { rows, insert, mark })
     }
 
     /// Whether the picture has a row, and its file had this size and time when it was read.
-    pub fn is_unchanged(&self, path: &str, stamp: Stamp) -> bool
-        ensures { result ≡ has_stamp (known_at self.now path.now) stamp }
+    pub(crate) fn is_unchanged(&self, path: &str, stamp: Option<Stamp>) -> bool
+        ensures { result ≡ has_stamp_of (known_at self.now path.now) stamp }
     {
-        is_unchanged(&self.rows, path, stamp)
+        match stamp {
+            Some(stamp) => is_unchanged(&self.rows, path, stamp),
+            None => false,
+        }
     }
 
     /// Notes that the file is there: its row stays, and is not marked as removed.
-    pub fn keep(&mut self, path: &str)
+    pub(crate) fn keep(&mut self, path: &str)
         ensures { (q : List ℕ) → known_at self.new q ≡ known_after self.old path.now q }
     {
         see(&mut self.rows, path);
@@ -261,25 +133,54 @@ impl Catalog {
 
     /// Writes the values of [`row_values`](crate::row_values) in place of the row of their path, or
     /// as a new one.
-    pub fn put(&mut self, alloc: Global, values: &[SqlValue]) -> Result<(), CatalogError>
-        ensures { OnOk result (HasSeen self.old self.new (path_of values.now)) }
+    pub(crate) fn put<S: Alter>(
+        &mut self,
+        alloc: Global,
+        database: &mut Connection<S>,
+        path: &str,
+        values: &[SqlValue],
+    ) -> Result<Outcome, CatalogError>
+        ensures seen { OnOk result ((q : List ℕ) → known_at self.new q
+            ≡ known_after self.old path.now q) }
+        ensures path { OnOk result (has_path path.now values.now ≡ true) }
+        ensures outcome { IfOk result (λ outcome.
+            outcome ≡ outcome_of (is_some (known_at self.old path.now))) }
     {
-        let Some(SqlValue::Text(path)) = values.first() else {
+        if !begins_with_path(values, path) {
             return Err(CatalogError::NoPath);
-        };
-        let parameters: Vec<ValueRef<'_>> = values.iter().map(parameter).collect(alloc)?;
-        write_row(&mut self.database, &self.insert, parameters.as_slice())?;
-        self.keep(path.as_str());
-        Ok(())
+        }
+        write_row(alloc, database, &self.insert, values)?;
+        let outcome = outcome_of(self.rows.get(path).is_some());
+        self.keep(path);
+        Ok(outcome)
+    }
+
+    // Sets the mark of a row.
+    fn set_mark<S: Alter>(
+        &self,
+        database: &mut Connection<S>,
+        path: &str,
+        is_removed: bool,
+    ) -> Result<(), CatalogError> {
+        write(database, &self.mark, params![path, is_removed])
     }
 
     /// Marks each row as removed whose file is a root or below one and was not seen in this run,
-    /// and takes the mark off those that were seen ([`mark_of`](crate::mark_of)); then keeps what
-    /// the run wrote. After an error the rows are as they were before the run.
-    pub fn finish(mut self, roots: &[&str]) -> Result<Marks, CatalogError> {
-        let marks = set_marks(&mut self.database, &self.mark, &self.rows, roots)?;
-        let Catalog { database, .. } = self;
-        commit(database)?;
-        Ok(marks)
+    /// and takes the mark off those that were seen ([`mark_of`](crate::mark_of)).
+    pub(crate) fn set_marks<S: Alter>(
+        &self,
+        database: &mut Connection<S>,
+        roots: &[&str],
+        mut totals: Totals,
+    ) -> Result<Totals, CatalogError>
+        ensures { IfOk result (λ all. all ≡ marks_in roots.now totals self.now.rows.entries) }
+    {
+        for (path, known) in self.rows.iter() {
+            if let Some(is_removed) = mark_of(path.as_str(), *known, roots) {
+                self.set_mark(database, path.as_str(), is_removed)?;
+                totals = totals.marked(is_removed);
+            }
+        }
+        Ok(totals)
     }
 }

@@ -2,7 +2,9 @@
 
 ghost use Rattle.std.specs.Prelude.{◌≡◌};
 ghost use Rattle.exif_summary.specs.declared.columns.TheConstants.{COLUMNS};
-ghost use Rattle.exif_catalog.specs.Schema.{create_text, insert_text};
+ghost use Rattle.exif_catalog.specs.Schema.{create_text, insert_text, pictures_text};
+
+use exif_summary::Column;
 
 /// The version of the tables.
 pub const VERSION: i64 = 1;
@@ -25,6 +27,19 @@ pub(crate) const READ_CREATE: &str =
 
 /// Reads what a run has to know of each row.
 pub(crate) const READ_ROWS: &str = "SELECT path, file_size, file_modified, removed FROM picture";
+
+/// The columns that are shown of a picture, behind its path.
+pub(crate) const SHOWN: [Column; 9] = [
+    Column::Taken,
+    Column::Make,
+    Column::Model,
+    Column::Exposure,
+    Column::FNumber,
+    Column::Sensitivity,
+    Column::FocalLength,
+    Column::Latitude,
+    Column::Longitude,
+];
 
 /// Marks a row as removed, or not.
 pub(crate) const MARK_ROW: &str = "UPDATE picture SET removed = ?2 WHERE path = ?1";
@@ -52,4 +67,13 @@ pub fn insert_text() -> &'static str
     "INSERT OR REPLACE INTO picture VALUES (?1, ?2, ?3, ?4, ?5, ?6, ?7, ?8, ?9, ?10, ?11, ?12, \
      ?13, ?14, ?15, ?16, ?17, CAST(?18 AS REAL), CAST(?19 AS REAL), ?20, CAST(?21 AS REAL), ?22, \
      CAST(?23 AS REAL), CAST(?24 AS REAL), CAST(?25 AS REAL), ?26, ?27, ?28, ?29, 0)"
+}
+
+/// The SQL text that reads the pictures that are there, by the date when they were taken and then by
+/// their paths; those without a date come last.
+pub(crate) fn pictures_text() -> &'static str
+    ensures { result.now ≡ pictures_text SHOWN }
+{
+    "SELECT path, date_taken, make, model, exposure_time, f_number, iso, focal_length, latitude, \
+     longitude FROM picture WHERE removed = 0 ORDER BY date_taken IS NULL, date_taken, path"
 }

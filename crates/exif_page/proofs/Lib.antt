@@ -1,3 +1,4 @@
+pub mod Boundaries
 pub mod Characters
 pub mod EntrySteps
 pub mod Pieces

@@ -2,8 +2,13 @@
 use Rattle.std.specs.Prelude.{◌≡◌, refl, ℕ, List, [], ◌++◌, None, Some, codes}
 use denote.Ref.{Bor}
 use Rattle.base64.specs.Rfc4648.{encode_symbols}
+use Rattle.std.specs.Fmt.{digits}
+use Rattle.exif_page.specs.Cameras.{camera_of}
 use Rattle.exif_page.specs.Cards.{attribute, attributes, base64, card, facts, image, link, location, picture}
+use Rattle.exif_page.specs.Dates.{day_of, time_of}
 use Rattle.exif_page.specs.Escaping.{between, between_if, escaped}
+use Rattle.exif_page.specs.Exposures.{exposure_of, time_part}
+use Rattle.exif_page.specs.Numbers.{billionths_of, short_text}
 use Rattle.exif_page.specs.Paths.{file_name}
 use Rattle.exif_page.specs.Sections.{closing, opening, section_of, start}
 use Rattle.exif_page.specs.declared.entries.Entry.{Entry}
@@ -91,3 +96,79 @@ no_day : opening (section_of beach) Undated
     ≡ codes "</ul>\n</section>\n<section>\n<h2>Without a date <span></span></h2>\n<ul>\n"
 unfolding opening closing start
 no_day = refl
+
+-- the day and the time in a date
+a_day : day_of (codes "2016-05-04T03:02:01.74+09:00") ≡ Some (codes "2016-05-04")
+a_day = refl
+
+a_time : time_of (codes "2016-05-04T03:02:01.74+09:00") ≡ Some (codes "03:02:01")
+a_time = refl
+
+no_seconds : day_of (codes "2016-05-04T03:02") ≡ None
+no_seconds = refl
+
+-- a make that the model repeats, one that it only begins with, and one that it does not
+repeated_make : camera_of (Some (codes "NIKON CORPORATION")) (Some (codes "Nikon D90"))
+    ≡ Some (codes "Nikon D90")
+repeated_make = refl
+
+longer_word : camera_of (Some (codes "Canon")) (Some (codes "Canonet"))
+    ≡ Some (codes "Canon Canonet")
+longer_word = refl
+
+other_make : camera_of (Some (codes "Example")) (Some (codes "Pinhole"))
+    ≡ Some (codes "Example Pinhole")
+other_make = refl
+
+no_model : camera_of (Some (codes "Example")) None ≡ Some (codes "Example")
+no_model = refl
+
+-- decimal numbers
+half : billionths_of (codes "0.5") ≡ Some 500000000
+half = refl
+
+no_number : billionths_of (codes "1/2") ≡ None
+no_number = refl
+
+two_places : short_text 1779685264 ≡ codes "1.78"
+unfolding digits
+two_places = refl
+
+one_place : short_text 2800000000 ≡ codes "2.8"
+unfolding digits
+one_place = refl
+
+whole_number : short_text 34996000000 ≡ codes "35"
+unfolding digits
+whole_number = refl
+
+-- times: a part of a second, also where it was cut, and those that no part says well
+sixtieth : time_part (Some (codes "0.016666666")) ≡ Some (codes "1/60 s")
+unfolding digits
+sixtieth = refl
+
+third : time_part (Some (codes "0.333333333")) ≡ Some (codes "1/3 s")
+unfolding digits
+third = refl
+
+three_tenths : time_part (Some (codes "0.3")) ≡ Some (codes "0.3 s")
+unfolding digits
+three_tenths = refl
+
+half_a_minute : time_part (Some (codes "30")) ≡ Some (codes "30 s")
+unfolding digits
+half_a_minute = refl
+
+-- whole exposures
+all_known : exposure_of (Some (codes "0.005")) (Some (codes "2.8")) (Some (codes "100"))
+    (Some (codes "35")) ≡ Some (codes "1/200 s, f/2.8, ISO 100, 35 mm")
+unfolding digits
+all_known = refl
+
+lens_unknown : exposure_of (Some (codes "1.3")) (Some (codes "0")) None None
+    ≡ Some (codes "1.3 s")
+unfolding digits
+lens_unknown = refl
+
+nothing_known : exposure_of None None None None ≡ None
+nothing_known = refl

@@ -1,7 +1,12 @@
+pub mod Cameras
 pub mod Cards
+pub mod Dates
 pub mod Escaping
 pub mod Examples
+pub mod Exposures
+pub mod Facts
 pub mod Markup
+pub mod Numbers
 pub mod Pages
 pub mod Paths
 pub mod Sections

@@ -2,15 +2,24 @@
 //! elsewhere.
 #![tactic(auto)]
 
+mod cameras;
 mod cards;
+mod dates;
 mod entries;
 mod escaping;
+mod exposures;
+mod facts;
 pub mod laws;
 mod markup;
+mod numbers;
 mod pages;
 mod paths;
 mod sections;
 
+pub use cameras::camera_of;
+pub use dates::{day_of, time_of};
 pub use entries::Entry;
+pub use exposures::{Exposure, exposure_of};
+pub use facts::{Facts, Texts, entry_of, texts_of};
 pub use pages::{entry_html, foot_html, head_html, page_html};
 pub use sections::{Section, section_of};

@@ -1,5 +1,5 @@
-use Rattle.std.proofs.Common.{rules, true, ◌≡◌, ◌∙◌, ap, sym, Some, option_map, if◌then◌else◌}
-use Rattle.std.proofs.lemmas.Map.Text.{btree_map_updates_text, text_keys}
+use Rattle.std.proofs.Common.{rules, true, ◌≡◌, ◌∙◌, ap, Some, option_map, if◌then◌else◌}
+use Rattle.std.proofs.lemmas.Map.Text.{btree_map_updates_text}
 use Rattle.std.specs.BTreeMap.{get_by_text}
 use Rattle.std.specs.Str.{bytes_eq}
 use Rattle.exif_catalog.specs.Known.{seen}

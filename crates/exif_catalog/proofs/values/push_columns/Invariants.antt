@@ -1,6 +1,5 @@
 use Rattle.std.proofs.Common.{◌≡◌, ◌++◌, take}
 use Rattle.std.specs.Prelude.{map, option_map}
-use Rattle.exif_summary.specs.declared.columns.TheConstants.{COLUMNS}
 use Rattle.exif_catalog.specs.Values.{column_value, stored}
 use Rattle.exif_catalog.proofs.values.push_columns.Given as goal
 

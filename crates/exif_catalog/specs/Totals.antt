@@ -1,0 +1,33 @@
+-- What a run did with the rows.
+use Rattle.std.specs.Prelude.{ℕ, ◌+◌, ◌-◌, ◌^◌, min, Bool, true, false}
+use Rattle.exif_catalog.specs.declared.totals.Outcome.{Outcome}
+use Rattle.exif_catalog.specs.declared.totals.Outcome.TheVariants as outcome
+use Rattle.exif_catalog.specs.declared.totals.Totals.{Totals}
+
+-- what becomes of a row that is written, by whether there was one
+abbrev pub outcome_of : Bool → Outcome
+outcome_of true = outcome.Changed
+outcome_of false = outcome.Added
+
+-- whether a row stayed since its file had its size and time
+abbrev pub is_unchanged : Outcome → Bool
+is_unchanged outcome.Unchanged = true
+is_unchanged outcome.Added = false
+is_unchanged outcome.Changed = false
+is_unchanged outcome.Refused = false
+
+-- one more, up to the greatest number of 64 bits
+abbrev pub more : ℕ → ℕ
+more n = min (n + 1) (2 ^ 64 - 1)
+
+-- a picture more
+abbrev pub counted : Totals → Outcome → Totals
+counted totals outcome.Added = record totals { added = more totals.added }
+counted totals outcome.Changed = record totals { changed = more totals.changed }
+counted totals outcome.Unchanged = record totals { unchanged = more totals.unchanged }
+counted totals outcome.Refused = record totals { refused = more totals.refused }
+
+-- a row more that is marked as removed, or whose mark is taken off
+abbrev pub marked : Totals → Bool → Totals
+marked totals true = record totals { removed = more totals.removed }
+marked totals false = record totals { restored = more totals.restored }

@@ -1,0 +1,124 @@
+//! A run over a catalogue, from its first picture to its end.
+
+ghost use Rattle.std.specs.Prelude.{◌≡◌, ℕ, List, IfOk, OnOk, string_bytes};
+ghost use Rattle.exif_catalog.specs.Runs.{has_stamp_of, known_after, known_at};
+ghost use Rattle.exif_catalog.specs.Totals.{is_unchanged};
+
+use crate::catalog::Catalog;
+use crate::database::{Job, execute, run_job};
+use crate::errors::RunError;
+use crate::heads::check_new;
+use crate::known::Stamp;
+use crate::totals::{Outcome, Totals};
+use crate::values::SqlValue;
+use sqlite::{Alter, Connection};
+use std::alloc::Global;
+
+/// A picture that a run found.
+#[derive(Drop)]
+pub struct Found {
+    /// The text of its path, as [`text_of`](crate::text_of) has it.
+    pub path: String,
+    /// The size and the time of its file, if both are known.
+    pub stamp: Option<Stamp>,
+}
+
+/// The pictures of a run.
+pub trait Pictures {
+    /// Why the run is to end before the last picture.
+    type Error: Drop;
+
+    /// The next picture, or `None` behind the last.
+    fn next(&mut self) -> Result<Option<Found>, Self::Error>;
+
+    /// The values of [`row_values`](crate::row_values) of the picture that `next` gave last. It is
+    /// asked only where the picture has no row, or its file has not the size and time of the row.
+    /// `None` where the picture cannot be read: a row that it has stays as it is.
+    fn values(&mut self) -> Result<Option<Vec<SqlValue>>, Self::Error>;
+}
+
+// Brings the row of a picture up to date.
+fn take<S: Alter, P: Pictures>(
+    alloc: Global,
+    database: &mut Connection<S>,
+    catalog: &mut Catalog,
+    pictures: &mut P,
+    found: &Found,
+) -> Result<Outcome, RunError<P::Error>>
+    ensures seen { OnOk result ((q : List ℕ) → known_at catalog.new q
+        ≡ known_after catalog.old (string_bytes found.now.path) q) }
+    ensures kept { IfOk result (λ outcome. is_unchanged outcome
+        ≡ has_stamp_of (known_at catalog.old (string_bytes found.now.path)) found.now.stamp) }
+{
+    let path = found.path.as_str();
+    if catalog.is_unchanged(path, found.stamp) {
+        catalog.keep(path);
+        return Ok(Outcome::Unchanged);
+    }
+    match pictures.values().map_err(RunError::Caller)? {
+        Some(values) => Ok(catalog.put(alloc, database, path, values.as_slice())?),
+        None => {
+            catalog.keep(path);
+            Ok(Outcome::Refused)
+        }
+    }
+}
+
+// Brings all rows up to date.
+fn take_all<S: Alter, P: Pictures>(
+    alloc: Global,
+    database: &mut Connection<S>,
+    roots: &[&str],
+    pictures: &mut P,
+) -> Result<Totals, RunError<P::Error>> {
+    let mut catalog = Catalog::open(alloc, database)?;
+    let mut totals = Totals::NONE;
+    for _ in 0..u64::MAX {
+        let Some(found) = pictures.next().map_err(RunError::Caller)? else {
+            break;
+        };
+        let outcome = take(alloc, database, &mut catalog, pictures, &found)?;
+        totals = totals.counted(outcome);
+    }
+    Ok(catalog.set_marks(database, roots, totals)?)
+}
+
+// The pictures of a run, and what was looked through for them.
+#[derive(Drop)]
+struct UpdateJob<'u, P> {
+    roots: &'u [&'u str],
+    pictures: &'u mut P,
+}
+
+impl<P: Pictures> Job for UpdateJob<'_, P> {
+    type Answer = Totals;
+
+    type Error = P::Error;
+
+    fn run<S: Alter>(
+        &mut self,
+        alloc: Global,
+        database: &mut Connection<S>,
+    ) -> Result<Totals, RunError<P::Error>> {
+        let totals = take_all(alloc, database, self.roots, self.pictures)?;
+        execute(database, "COMMIT")?;
+        Ok(totals)
+    }
+}
+
+/// Brings a catalogue up to date: each picture whose file is new or has another size or time gets
+/// the values that the caller has for it, and each row below the roots whose picture was not among
+/// them is marked as removed. A file that is not there is made. One that is no database, or has
+/// another version or other tables, is refused and left as it is. No other program can read or
+/// write the file until the run ends.
+///
+/// The run is one transaction: after an error the rows are as they were before.
+pub fn update<P: Pictures>(
+    rt: &HostRuntime,
+    path: &str,
+    roots: &[&str],
+    pictures: &mut P,
+) -> Result<Totals, RunError<P::Error>> {
+    check_new(rt, path)?;
+    run_job(rt, path, &mut UpdateJob { roots, pictures })
+}
