@@ -1,5 +1,5 @@
 -- Worked examples: tags by their names, cells, and lines of a table.
-use Rattle.std.specs.Prelude.{◌≡◌, refl, List, [], ◌∷◌, codes, map, Some, None, Ok, Err, pos, negsuc}
+use Rattle.std.specs.Prelude.{◌≡◌, refl, ℕ, List, [], ◌∷◌, codes, map, Some, None, Ok, Err, pos, negsuc}
 use Rattle.std.specs.Char.{encode_utf8}
 use Rattle.std.specs.Fmt.{digits}
 use Rattle.std.specs.Str.{chars, is_utf8}
@@ -11,6 +11,7 @@ use Rattle.exif_types.specs.Units.{unit_text}
 use Rattle.exif_types.specs.ValueTexts.{text_of as shown_as}
 use Rattle.exif_types.specs.declared.field.Field.{Field}
 use Rattle.exif_types.specs.declared.tag.Tag.{Tag}
+use Rattle.exif_types.specs.declared.value.Value.{Value}
 use Rattle.exif_types.specs.declared.value.Value.TheVariants as value
 use Rattle.exif_columns.specs.Cells.{cell_in, cell_of, header_cells, picture_cells}
 use Rattle.exif_columns.specs.Lines.{csv_line, line_of, tsv_line}
@@ -50,7 +51,8 @@ no_name = refl
 -- ---- values as numbers and texts
 
 -- 28 / 10 = 2.8 and 1 / 125 = 0.008
-decimals : raw_value (value.Rational (record { num = 28; denom = 10 } ∷ record { num = 1; denom = 125 } ∷ []))
+decimals : raw_value
+    (value.Rational (record { num = 28; denom = 10 } ∷ record { num = 1; denom = 125 } ∷ []))
     ≡ codes "2.8 0.008"
 unfolding decimal_text fraction_text without_last_zeros in_digits digits
 decimals = refl
@@ -73,20 +75,24 @@ version : raw_value (value.Undefined (codes "0232") 0) ≡ codes "30323332"
 version = refl
 
 -- the byte E9 is the letter é of Latin-1, which UTF-8 writes as C3 A9
-latin1_text : raw_value (value.Ascii ((67 ∷ 97 ∷ 102 ∷ 233 ∷ []) ∷ [])) ≡ 67 ∷ 97 ∷ 102 ∷ 195 ∷ 169 ∷ []
+latin1_text : raw_value (value.Ascii ((67 ∷ 97 ∷ 102 ∷ 233 ∷ []) ∷ []))
+    ≡ 67 ∷ 97 ∷ 102 ∷ 195 ∷ 169 ∷ []
 unfolding is_utf8 chars encode_utf8
 latin1_text = refl
 
 -- ---- cells
 
--- two models, of which the last counts, and an f-number; the second directory has another
+-- a field
+abbrev field : Tag → ℕ → Value → Field
+field tag directory value = record { tag = tag; ifd_num = record { 0 = directory }; value = value }
+
+-- two models, of which the last counts, and an f-number; the second directory has another model
 abbrev fields : List Field
 fields =
-    record { tag = model; ifd_num = record { 0 = 0 }; value = value.Ascii (codes "A" ∷ []) }
-    ∷ record { tag = model; ifd_num = record { 0 = 0 }; value = value.Ascii (codes "B, \"C\"" ∷ []) }
-    ∷ record { tag = f_number; ifd_num = record { 0 = 0 }; value = value.Rational (record { num = 28; denom = 10 } ∷ []) }
-    ∷ record { tag = model; ifd_num = record { 0 = 1 }; value = value.Ascii (codes "D" ∷ []) }
-    ∷ []
+    field model 0 (value.Ascii (codes "A" ∷ []))
+    ∷ field model 0 (value.Ascii (codes "B, \"C\"" ∷ []))
+    ∷ field f_number 0 (value.Rational (record { num = 28; denom = 10 } ∷ []))
+    ∷ field model 1 (value.Ascii (codes "D" ∷ [])) ∷ []
 
 raw_cells : map (cell_in (Some fields) Raw) (model ∷ f_number ∷ date ∷ [])
     ≡ codes "B, \"C\"" ∷ codes "2.8" ∷ [] ∷ []
@@ -116,14 +122,17 @@ rule_7 : csv_line (codes "aaa" ∷ codes "b\"bb" ∷ codes "ccc" ∷ []) ≡ cod
 unfolding fields_text is_blank escaped
 rule_7 = refl
 
-picture : line_of Comma (picture_cells (codes "a.jpg") (Some fields) Raw (model ∷ f_number ∷ date ∷ []))
+picture : line_of Comma
+    (picture_cells (codes "a.jpg") (Some fields) Raw (model ∷ f_number ∷ date ∷ []))
     ≡ codes "a.jpg,\"B, \"\"C\"\"\",2.8,\n"
 unfolding fields_text is_blank escaped decimal_text fraction_text without_last_zeros in_digits digits is_utf8 chars encode_utf8
 picture = refl
 
-in_tabs : tsv_line (codes "a\tb" ∷ codes "c\\d" ∷ codes "e\r\nf" ∷ []) ≡ codes "a\\tb\tc\\\\d\te\\r\\nf\n"
+in_tabs : tsv_line (codes "a\tb" ∷ codes "c\\d" ∷ codes "e\r\nf" ∷ [])
+    ≡ codes "a\\tb\tc\\\\d\te\\r\\nf\n"
 in_tabs = refl
 
-head : line_of Tab (header_cells (date ∷ model ∷ f_number ∷ [])) ≡ codes "path\tDateTimeOriginal\tModel\tFNumber\n"
+head : line_of Tab (header_cells (date ∷ model ∷ f_number ∷ []))
+    ≡ codes "path\tDateTimeOriginal\tModel\tFNumber\n"
 unfolding row_of_tag
 head = refl

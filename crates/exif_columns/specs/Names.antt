@@ -44,7 +44,8 @@ before tag (Ok tags) = Ok (tag ∷ tags)
 before tag (Err name) = Err name
 
 -- the tag of a name before others, if it is known
-abbrev pub before_others : List ℕ → Option Tag → Result (List Tag) (List ℕ) → Result (List Tag) (List ℕ)
+abbrev pub before_others : List ℕ → Option Tag → Result (List Tag) (List ℕ)
+    → Result (List Tag) (List ℕ)
 before_others name (Some tag) others = before tag others
 before_others name None others = Err name
 

@@ -19,8 +19,8 @@ use std::alloc::{AllocError, Global};
 /// What is between the cells of a line.
 #[derive(Clone, Copy, Debug, PartialEq, Eq)]
 pub enum Separator {
-    /// Commas (RFC 4180): a cell with a comma, a quote or an end of line is in quotes, and quotes in
-    /// it are doubled.
+    /// Commas (RFC 4180): a cell with a comma, a quote or an end of line is in quotes, and quotes
+    /// in it are doubled.
     Comma,
     /// Tabs: a tab, a line feed, a carriage return and a backslash in a cell are written `\t`,
     /// `\n`, `\r` and `\\`.

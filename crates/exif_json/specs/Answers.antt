@@ -14,8 +14,8 @@ use Rattle.exif_json.specs.Files.{answer_json, refusal_json, tags_json}
 abbrev pub IsPrinted : Json → List ℕ → Type 0
 IsPrinted json text = (text ≡ print (json_tokens json)) × (document text ≡ Some json)
 
--- a text is the JSON of an answer: of what was read, with the faults that were skipped, of a picture
--- without Exif data, or of the error, but for that of a device, whose text is the system's
+-- a text is the JSON of an answer: of what was read, with the faults that were skipped, of a
+-- picture without Exif data, or of the error, but for that of a device, whose text is the system's
 abbrev pub IsAnswered : (ExifContents → List Failure → Json) → List ℕ → Option PictureFormat
     → Result ExifContents Failure → List ℕ → Type 0
 IsAnswered json path format (Ok exif) text = IsPrinted (json exif []) text
