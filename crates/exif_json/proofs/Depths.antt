@@ -24,8 +24,9 @@ use Rattle.exif_summary.specs.declared.columns.Column.{Column}
 use Rattle.exif_summary.specs.declared.columns.TheConstants.{COLUMNS}
 use Rattle.exif_json.specs.Prints.{Prints}
 use Rattle.exif_formats.specs.declared.format.PictureFormat.{PictureFormat}
-use Rattle.exif_json.specs.Fields.{count_json, field_json}
-use Rattle.exif_json.specs.Files.{answer_json, error_json, exif_members, fault_json, file_members, format_json, no_exif_json, no_exif_members, refusal_json}
+use Rattle.exif_json.specs.Fields.{chosen, count_json, field_json}
+use Rattle.exif_types.specs.declared.tag.Tag.{Tag}
+use Rattle.exif_json.specs.Files.{chosen_answer, chosen_members, error_json, fault_json, file_members, format_json, no_exif_json, no_exif_members, refusal_json}
 use Rattle.exif_summary.specs.Coordinates.{Degrees}
 use Rattle.exif_summary.specs.Dates.{fraction_of}
 use Rattle.exif_summary.specs.declared.dates.TheConstants.{TAKEN}
@@ -123,10 +124,10 @@ file_shallow path format =
     record { within = omega (arith, text_shallow path, (maybe_shallow 1 (codes "format") format_json format (λ x. omega arith)).within) }
 
 -- the JSON of an answer nests no deeper than JSON that is read may
-pub answer_shallow : (path : List ℕ) (format : Option PictureFormat) (exif : ExifContents) (faults : List Failure) → depth (answer_json path format exif faults) ≤ max_depth
-answer_shallow path format exif faults =
-    let rest : AreShallow 4 (exif_members exif faults) = record {
-      within = omega (arith, summary_shallow exif.fields, items_shallow (field_json exif.fields) 3 (field_shallow exif.fields) exif.fields, items_shallow fault_json 0 (λ x. omega arith) faults);
+pub answer_shallow : (tags : Option (List Tag)) (path : List ℕ) (format : Option PictureFormat) (exif : ExifContents) (faults : List Failure) → depth (chosen_answer tags path format exif faults) ≤ max_depth
+answer_shallow tags path format exif faults =
+    let rest : AreShallow 4 (chosen_members tags exif faults) = record {
+      within = omega (arith, summary_shallow exif.fields, items_shallow (field_json exif.fields) 3 (field_shallow exif.fields) (chosen tags exif.fields), items_shallow fault_json 0 (λ x. omega arith) faults);
     } in
     let file : AreShallow 4 (file_members path format) = record { within = omega (arith, (file_shallow path format).within) } in
     omega (arith, (both_shallow 4 _ _ file rest).within)

@@ -1,5 +1,5 @@
 -- The members of columns, one column after the other.
-use Rattle.std.proofs.Common.{◌≡◌, ℕ, List, [], ◌∷◌, ◌++◌, refl, sym, ap, ◌∙◌, length, take, ◌≤◌, ◌<◌, ◌+◌, Result, Ok, get_or}
+use Rattle.std.proofs.Common.{◌≡◌, ℕ, List, [], ◌∷◌, ◌++◌, refl, sym, ap, ◌∙◌, length, take, ◌≤◌, ◌<◌, ◌+◌, get_or}
 use Rattle.std.proofs.lemmas.List.{take_more, flat_map_more, take_all, append-nil}
 use Rattle.std.proofs.lemmas.List.Concat.{flat_map-append}
 use Rattle.std.specs.List.{flat_map}

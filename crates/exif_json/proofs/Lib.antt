@@ -1,3 +1,4 @@
+pub mod Chosen
 pub mod Depths
 pub mod Encodings
 pub mod Faults

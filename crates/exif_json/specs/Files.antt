@@ -1,15 +1,16 @@
 -- The JSON of a file.
-use Rattle.std.specs.Prelude.{ℕ, Bool, List, [], ◌∷◌, ◌++◌, codes, map, if◌then◌else◌, Option, Some, option_map}
+use Rattle.std.specs.Prelude.{ℕ, Bool, List, [], ◌∷◌, ◌++◌, codes, map, if◌then◌else◌, Option, None, Some, option_map}
 use Rattle.json.specs.Json as J
 use Rattle.json.specs.Json.{Json}
 use Rattle.exif_types.specs.Contents.{ExifContents}
 use Rattle.exif_types.specs.Failures.{Failure, told_text, bytes_of, error_text}
 use Rattle.exif_types.specs.declared.error.Error.TheVariants as error
+use Rattle.exif_types.specs.declared.tag.Tag.{Tag}
 use Rattle.exif_formats.specs.Formats.{format_name}
 use Rattle.exif_formats.specs.declared.format.PictureFormat.{PictureFormat}
 use Rattle.exif_json.specs.Trees.{array, object}
 use Rattle.exif_json.specs.Texts.{text_json}
-use Rattle.exif_json.specs.Fields.{fields_json}
+use Rattle.exif_json.specs.Fields.{chosen_json}
 use Rattle.exif_json.specs.Summaries.{maybe, summary_json}
 
 -- a format as its name
@@ -33,18 +34,27 @@ fault_json fault = J.string (bytes_of (told_text fault))
 abbrev pub faults_json : List Failure → Json
 faults_json faults = array (map fault_json faults)
 
--- what was read of a file
-abbrev pub exif_members : ExifContents → List Failure → List (List ℕ × Json)
-exif_members exif faults =
+-- what was read of a file, with the fields that are chosen
+abbrev pub chosen_members : Option (List Tag) → ExifContents → List Failure → List (List ℕ × Json)
+chosen_members tags exif faults =
     (codes "byte_order", J.string (order_name exif.little_endian))
     ∷ (codes "summary", summary_json exif.fields)
-    ∷ (codes "fields", fields_json exif.fields)
+    ∷ (codes "fields", chosen_json tags exif.fields)
     ∷ (codes "faults", faults_json faults) ∷ []
 
--- a file that was read
+-- a file that was read, with the fields that are chosen
+abbrev pub chosen_answer : Option (List Tag) → List ℕ → Option PictureFormat → ExifContents
+    → List Failure → Json
+chosen_answer tags path format exif faults =
+    object (file_members path format ++ chosen_members tags exif faults)
+
+-- with all fields
 abbrev pub answer_json : List ℕ → Option PictureFormat → ExifContents → List Failure → Json
-answer_json path format exif faults =
-    object (file_members path format ++ exif_members exif faults)
+answer_json path format exif faults = chosen_answer None path format exif faults
+
+-- and with those that have one of some tags
+abbrev pub tags_json : List Tag → List ℕ → Option PictureFormat → ExifContents → List Failure → Json
+tags_json tags path format exif faults = chosen_answer (Some tags) path format exif faults
 
 -- no summary, no fields and no faults
 abbrev pub no_exif_members : List (List ℕ × Json)

@@ -1,14 +1,14 @@
 //! Fields of the data.
 
-ghost use Rattle.std.specs.Prelude.{◌≡◌, ◌++◌, map};
+ghost use Rattle.std.specs.Prelude.{◌≡◌, ◌++◌, map, option_map};
 ghost use Rattle.json.specs.Tree.{json_tokens};
-ghost use Rattle.exif_json.specs.Fields.{contents_members, count_json, field_json, fields_json, name_members};
+ghost use Rattle.exif_json.specs.Fields.{chosen_json, chosen_tokens, contents_members, count_json, field_json, fields_json, has_one_of, name_members};
 ghost use Rattle.exif_json.specs.Prints.{Prints};
 ghost use Rattle.exif_json.specs.Trees.{parts_tokens};
 
 use crate::printer::Printer;
 use crate::values::write_value;
-use exif::{Exif, Field, Value};
+use exif::{Exif, Field, Tag, Value};
 use exif_types::fields_left;
 use std::alloc::AllocError;
 
@@ -60,7 +60,7 @@ fn write_field(printer: &mut Printer, exif: &Exif, field: &Field) -> Result<(), 
 }
 
 /// Writes an array of the fields.
-pub(crate) fn write_fields(printer: &mut Printer, exif: &Exif) -> Result<(), AllocError>
+fn write_all_fields(printer: &mut Printer, exif: &Exif) -> Result<(), AllocError>
     ensures { Prints result printer.old.out printer.new.out
         (json_tokens (fields_json exif.now.fields)) }
 {
@@ -69,4 +69,55 @@ pub(crate) fn write_fields(printer: &mut Printer, exif: &Exif) -> Result<(), All
         write_field(printer, exif, field)?;
     }
     printer.out.end_array()
+}
+
+/// Whether a field has one of some tags.
+fn has_one_of(tags: &[Tag], field: &Field) -> bool
+    ensures { result ≡ has_one_of tags.now field.now }
+{
+    tags.iter().any(|tag| *tag == field.tag)
+}
+
+/// Writes an object for a field, if it has one of some tags.
+fn write_if_chosen(
+    printer: &mut Printer,
+    exif: &Exif,
+    tags: &[Tag],
+    field: &Field,
+) -> Result<(), AllocError>
+    ensures { Prints result printer.old.out printer.new.out
+        (chosen_tokens tags.now exif.now.fields field.now) }
+{
+    if has_one_of(tags, field) {
+        write_field(printer, exif, field)
+    } else {
+        Ok(())
+    }
+}
+
+/// Writes an array of the fields that have one of some tags.
+fn write_chosen_fields(printer: &mut Printer, exif: &Exif, tags: &[Tag]) -> Result<(), AllocError>
+    ensures { Prints result printer.old.out printer.new.out
+        (json_tokens (chosen_json (Some tags.now) exif.now.fields)) }
+{
+    printer.out.begin_array()?;
+    for field in fields_left(&exif.fields()) {
+        write_if_chosen(printer, exif, tags, field)?;
+    }
+    printer.out.end_array()
+}
+
+/// Writes an array of the fields: of all, or of those that have one of some tags.
+pub(crate) fn write_fields(
+    printer: &mut Printer,
+    exif: &Exif,
+    tags: Option<&[Tag]>,
+) -> Result<(), AllocError>
+    ensures { Prints result printer.old.out printer.new.out
+        (json_tokens (chosen_json (option_map (λ t. t.now) tags.entry) exif.now.fields)) }
+{
+    match tags {
+        Some(tags) => write_chosen_fields(printer, exif, tags),
+        None => write_all_fields(printer, exif),
+    }
 }

@@ -1,13 +1,13 @@
 //! The object of a file.
 
-ghost use Rattle.std.specs.Prelude.{◌≡◌, ◌++◌, codes, All, IfOk, IfSome, OnOk, Some, List, ℕ};
+ghost use Rattle.std.specs.Prelude.{◌≡◌, ◌++◌, codes, All, IfOk, IfSome, OnOk, option_map, Some, List, ℕ};
 ghost use Rattle.std.specs.Str.{IsUtf8};
 ghost use Rattle.json.specs.Json.{document};
 ghost use Rattle.json.specs.Print.{print};
 ghost use Rattle.json.specs.Tree.{json_tokens};
 ghost use Rattle.exif_types.specs.Failures.{IsInvalidFormat, error_text};
-ghost use Rattle.exif_json.specs.Files.{answer_json, error_json, exif_members, fault_json, faults_json, file_members, format_json, no_exif_json, no_exif_members, order_name, refusal_json};
-ghost use Rattle.exif_json.specs.Answers.{IsJsonOf};
+ghost use Rattle.exif_json.specs.Files.{answer_json, chosen_answer, chosen_members, error_json, fault_json, faults_json, file_members, format_json, no_exif_json, no_exif_members, order_name, refusal_json};
+ghost use Rattle.exif_json.specs.Answers.{IsAnswered, IsJsonOf, IsJsonOfTags};
 ghost use Rattle.exif_json.specs.Prints.{Prints};
 ghost use Rattle.exif_json.specs.Summaries.{maybe};
 ghost use Rattle.exif_json.specs.Trees.{parts_tokens};
@@ -16,7 +16,7 @@ use crate::fields::write_fields;
 use crate::printer::Printer;
 use crate::summary::write_summary;
 use crate::texts::write_text;
-use exif::{Error, Exif};
+use exif::{Error, Exif, Tag};
 use exif_formats::PictureFormat;
 use std::alloc::{AllocError, Global};
 
@@ -76,36 +76,43 @@ fn write_faults(printer: &mut Printer, faults: &[Error]) -> Result<(), AllocErro
     printer.out.end_array()
 }
 
-/// Writes the members of what was read.
-fn write_exif(printer: &mut Printer, exif: &Exif, faults: &[Error]) -> Result<(), AllocError>
+/// Writes the members of what was read, with the fields that have one of some tags, or all.
+fn write_exif(
+    printer: &mut Printer,
+    exif: &Exif,
+    faults: &[Error],
+    tags: Option<&[Tag]>,
+) -> Result<(), AllocError>
     requires { All IsInvalidFormat faults.now }
     ensures { Prints result printer.old.out printer.new.out
-        (parts_tokens (exif_members exif.now faults.now)) }
+        (parts_tokens (chosen_members (option_map (λ t. t.now) tags.entry) exif.now faults.now)) }
 {
     printer.text_member("byte_order", order_of(exif))?;
     printer.out.key("summary")?;
     write_summary(printer, exif)?;
     printer.out.key("fields")?;
-    write_fields(printer, exif)?;
+    write_fields(printer, exif, tags)?;
     printer.out.key("faults")?;
     write_faults(printer, faults)
 }
 
-/// Writes the object of a file that was read.
+/// Writes the object of a file that was read, with the fields that have one of some tags, or all.
 fn write_read(
     printer: &mut Printer,
     path: &[u8],
     format: Option<PictureFormat>,
     exif: &Exif,
     faults: &[Error],
+    tags: Option<&[Tag]>,
 ) -> Result<(), AllocError>
     requires { All IsInvalidFormat faults.now }
     ensures { Prints result printer.old.out printer.new.out
-        (json_tokens (answer_json path.now format exif.now faults.now)) }
+        (json_tokens (chosen_answer (option_map (λ t. t.now) tags.entry) path.now format exif.now
+        faults.now)) }
 {
     printer.out.begin_object()?;
     write_file(printer, path, format)?;
-    write_exif(printer, exif, faults)?;
+    write_exif(printer, exif, faults, tags)?;
     printer.out.end_object()
 }
 
@@ -174,6 +181,29 @@ fn write_refusal(
     }
 }
 
+// The object of a file that was read, with the fields that have one of some tags, or all.
+fn chosen_json(
+    alloc: Global,
+    path: &[u8],
+    format: Option<PictureFormat>,
+    exif: &Exif,
+    faults: &[Error],
+    tags: Option<&[Tag]>,
+) -> Result<Vec<u8>, AllocError>
+    requires { All IsInvalidFormat faults.now }
+    ensures text { IfOk result (λ text. text.items
+        ≡ print (json_tokens (chosen_answer (option_map (λ t. t.now) tags.entry) path.now format
+        exif.now faults.now))) }
+    ensures reads_back { IfOk result (λ text. document text.items
+        ≡ Some (chosen_answer (option_map (λ t. t.now) tags.entry) path.now format exif.now
+        faults.now)) }
+    ensures utf8 { IfOk result (λ text. IsUtf8 text.items) }
+{
+    let mut printer = Printer::new(alloc);
+    write_read(&mut printer, path, format, exif, faults, tags)?;
+    Ok(printer.finish())
+}
+
 /// The JSON object (RFC 8259) of a file that was read: its path, its format if it is known, the
 /// order of bytes, a summary, the fields and the faults that were skipped. The only error is out of
 /// memory.
@@ -191,9 +221,7 @@ pub fn to_json(
         ≡ Some (answer_json path.now format exif.now faults.now)) }
     ensures utf8 { IfOk result (λ text. IsUtf8 text.items) }
 {
-    let mut printer = Printer::new(alloc);
-    write_read(&mut printer, path, format, exif, faults)?;
-    Ok(printer.finish())
+    chosen_json(alloc, path, format, exif, faults, None)
 }
 
 /// The JSON object (RFC 8259) of a file of which nothing was read. A picture without Exif data
@@ -217,6 +245,28 @@ pub fn refusal_json(
     Ok(printer.finish())
 }
 
+// The object of an answer, with the fields that have one of some tags, or all.
+fn answered_json(
+    alloc: Global,
+    path: &[u8],
+    format: Option<PictureFormat>,
+    answer: Result<Exif, Error>,
+    tags: Option<&[Tag]>,
+) -> Result<Vec<u8>, AllocError>
+    ensures json { IfOk result (λ text. IsAnswered (chosen_answer (option_map (λ t. t.now)
+        tags.entry) path.now format) path.now format answer.entry text.items) }
+    ensures utf8 { IfOk result (λ text. IsUtf8 text.items) }
+{
+    match answer {
+        Ok(exif) => chosen_json(alloc, path, format, &exif, &[], tags),
+        Err(Error::PartialResult(partial)) => {
+            let (exif, faults) = partial.into_inner();
+            chosen_json(alloc, path, format, &exif, &faults, tags)
+        }
+        Err(error) => refusal_json(alloc, path, format, &error),
+    }
+}
+
 /// The JSON object of what a reader answered of a file: of what was read, with the faults that were
 /// skipped, of a picture without Exif data, or of the error. The only error is out of memory.
 pub fn json_of_answer(
@@ -228,12 +278,22 @@ pub fn json_of_answer(
     ensures json { IfOk result (λ text. IsJsonOf path.now format answer.entry text.items) }
     ensures utf8 { IfOk result (λ text. IsUtf8 text.items) }
 {
-    match answer {
-        Ok(exif) => to_json(alloc, path, format, &exif, &[]),
-        Err(Error::PartialResult(partial)) => {
-            let (exif, faults) = partial.into_inner();
-            to_json(alloc, path, format, &exif, &faults)
-        }
-        Err(error) => refusal_json(alloc, path, format, &error),
-    }
+    answered_json(alloc, path, format, answer, None)
+}
+
+/// The JSON object of what a reader answered of a file, as [`json_of_answer`] gives it, but with
+/// those of its fields alone that have one of some tags, of all images and in their order. The
+/// summary is that of all fields. The only error is out of memory.
+pub fn json_of_tags(
+    alloc: Global,
+    path: &[u8],
+    format: Option<PictureFormat>,
+    answer: Result<Exif, Error>,
+    tags: &[Tag],
+) -> Result<Vec<u8>, AllocError>
+    ensures json { IfOk result
+        (λ text. IsJsonOfTags tags.now path.now format answer.entry text.items) }
+    ensures utf8 { IfOk result (λ text. IsUtf8 text.items) }
+{
+    answered_json(alloc, path, format, answer, Some(tags))
 }

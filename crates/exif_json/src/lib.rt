@@ -11,5 +11,5 @@ mod summary;
 mod texts;
 mod values;
 
-pub use files::{json_of_answer, refusal_json, to_json, write_file};
+pub use files::{json_of_answer, json_of_tags, refusal_json, to_json, write_file};
 pub use flat::{FileFacts, flat_json, mime_type};

@@ -3,7 +3,7 @@ use Rattle.json.specs.Tree.{json_tokens}
 use Rattle.exif_json.specs.Fields.{field_json}
 use Rattle.exif_json.specs.Trees.{array}
 use Rattle.exif_json.proofs.Prints.{listed_all, prints_same}
-use Rattle.exif_json.proofs.fields.write_fields.Goals as goal
+use Rattle.exif_json.proofs.fields.write_all_fields.Goals as goal
 
 pub returns : goal.returns
 returns c =

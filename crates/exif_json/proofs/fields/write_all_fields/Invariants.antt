@@ -1,6 +1,6 @@
 use Rattle.exif_json.specs.Fields.{field_json}
 use Rattle.exif_json.proofs.Prints.{HasListed}
-use Rattle.exif_json.proofs.fields.write_fields.Given as goal
+use Rattle.exif_json.proofs.fields.write_all_fields.Given as goal
 
 -- the fields so far
 abbrev pub invariant-loop-field : goal.invariant-loop-field
