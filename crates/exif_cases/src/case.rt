@@ -35,6 +35,7 @@ pub enum Call {
     Assign,
     Shift,
     Thumbnail,
+    CopyExif,
 }
 
 /// How the input is read.
@@ -82,6 +83,7 @@ pub struct Case {
     pub removes_all: bool,
     pub keeps_orientation: bool,
     pub exif_dates: bool,
+    pub target_shape: bool,
     pub limit: Option<u64>,
     pub input: Vec<u8>,
     pub put: Option<Vec<u8>>,
@@ -110,6 +112,7 @@ impl Case {
             removes_all: false,
             keeps_orientation: false,
             exif_dates: false,
+            target_shape: false,
             limit: None,
             input: Vec::new(alloc),
             put: None,

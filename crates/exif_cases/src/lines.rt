@@ -121,6 +121,7 @@ impl Case {
             "all-metadata" => self.removes_all = true,
             "keep-orientation" => self.keeps_orientation = true,
             "exif-dates" => self.exif_dates = true,
+            "target-shape" => self.target_shape = true,
             _ => return Err(CaseError::Line("unknown call or option")),
         }
         Ok(())
@@ -161,6 +162,7 @@ fn changing_call(word: &str) -> Option<Call> {
         "assign" => Some(Call::Assign),
         "shift" => Some(Call::Shift),
         "thumbnail" => Some(Call::Thumbnail),
+        "copy-exif" => Some(Call::CopyExif),
         _ => text_call(word),
     }
 }

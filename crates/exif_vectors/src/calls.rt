@@ -40,7 +40,7 @@ pub fn run<R: Source, W: Sink>(
         Call::Set | Call::EraseField | Call::EraseGps | Call::EraseAll => {
             edit(alloc, case, source, out)
         }
-        Call::ScrubFile | Call::Assign | Call::Shift | Call::Thumbnail => {
+        Call::ScrubFile | Call::Assign | Call::Shift | Call::Thumbnail | Call::CopyExif => {
             change(alloc, case, source, out)
         }
         _ => run_on_values(alloc, case, out),

@@ -6,6 +6,7 @@ use exif_cases::{Call, Case, CaseError};
 use exif_change::{
     Assignment, Changed, ClockShift, Dates, Refusal, Removed, Unread, read, thumbnail,
 };
+use exif_copy::{Shape, copy_exif};
 use exif_segments::util::read_all;
 use std::alloc::{AllocError, Global};
 
@@ -33,6 +34,7 @@ fn changed<W: Sink>(
         Call::ScrubFile => exif_pictures::scrub(alloc, old, removed(case)),
         Call::Assign => assigned(alloc, case, old)?,
         Call::Shift => shifted(alloc, case, old)?,
+        Call::CopyExif => copied(alloc, case, old.as_slice()),
         _ => thumbnail_of(alloc, old)?,
     };
     sent(alloc, file, answer, out)
@@ -99,6 +101,17 @@ fn shifted(alloc: Global, case: &Case, old: Vec<u8>) -> Result<Answer, CaseError
         Dates::All
     };
     Ok(exif_pictures::shift(alloc, old, by, dates))
+}
+
+// The file with the Exif data of the one that is put.
+fn copied(alloc: Global, case: &Case, old: &[u8]) -> Answer {
+    let from = case.put.as_deref().unwrap_or(&[]);
+    let shape = if case.target_shape {
+        Shape::Target
+    } else {
+        Shape::Source
+    };
+    copy_exif(alloc, from, old, shape)
 }
 
 // The thumbnail of a file; nothing where there is none.

@@ -1,0 +1,2 @@
+pub mod FoundSteps
+pub mod PlacedSteps

@@ -1,0 +1,4 @@
+pub mod Found
+pub mod Shaped
+pub mod Placed
+pub mod Copied

@@ -1,0 +1,117 @@
+//! Exif data put into a picture in place of its own.
+
+ghost use Rattle.std.specs.Prelude.{◌≡◌, Result, Some};
+ghost use Rattle.exif_types.specs.Refusals.{Gives, Refusal as Refused};
+ghost use Rattle.exif_segments.specs.declared.remove.Remove.TheVariants as remove;
+ghost use Rattle.exif_change.specs.Changed.{Change, change_of, whole};
+ghost use Rattle.exif_change.specs.Refusals.{Answers, as_read, why_of};
+ghost use Rattle.exif_change.specs.Rewriting.{if_whole, rewritten_jpeg, rewritten_webp};
+ghost use Rattle.exif_copy.specs.Placed.{placed, png_made, target_refused};
+
+use exif::{Counted, Error};
+use exif_change::{Changed, Left, Refusal};
+use exif_formats::PictureFormat;
+use exif_rewrite::{Ended, Remove, rewrite_jpeg_as_it_stands, rewrite_webp};
+use exif_rewrite_png::rewrite_png;
+use std::alloc::Global;
+
+// A file of which nothing was left undone.
+fn whole(alloc: Global, file: Vec<u8>) -> Changed
+    ensures { change_of result ≡ whole file.items }
+{
+    Changed {
+        file,
+        left: Vec::new(alloc),
+    }
+}
+
+// A JPEG stream, as far as it goes, with these Exif data in place of its own.
+fn placed_in_jpeg(alloc: Global, exif: &[u8], file: &[u8]) -> Result<Changed, Error>
+    ensures { Gives change_of result (rewritten_jpeg remove.Exif (Some exif.now) file.now) }
+{
+    let mut out = Counted::new(Vec::new(alloc));
+    let ended = rewrite_jpeg_as_it_stands(
+        &mut Counted::new(file),
+        &mut out,
+        Some(exif),
+        Remove::Exif,
+    )?;
+    let mut changed = whole(alloc, out.into_inner());
+    if let Ended::Cut = ended {
+        changed.left.push(Left::CutOff)?;
+    }
+    Ok(changed)
+}
+
+// A WebP file likewise.
+fn placed_in_webp(alloc: Global, exif: &[u8], file: &[u8]) -> Result<Changed, Error>
+    ensures { Gives change_of result (rewritten_webp remove.Exif (Some exif.now) file.now) }
+{
+    let mut out = Counted::new(Vec::new(alloc));
+    rewrite_webp(
+        alloc,
+        &mut Counted::new(file),
+        &mut out,
+        Some(exif),
+        Remove::Exif,
+    )?;
+    Ok(whole(alloc, out.into_inner()))
+}
+
+// The bytes of a PNG file likewise.
+fn png_made(alloc: Global, exif: &[u8], file: &[u8]) -> Result<Vec<u8>, Error>
+    ensures { Gives (λ v. v.items) result (png_made exif.now file.now) }
+{
+    let mut out = Counted::new(Vec::new(alloc));
+    rewrite_png(&mut Counted::new(file), &mut out, Some(exif), Remove::Exif)?;
+    Ok(out.into_inner())
+}
+
+// A PNG file likewise.
+fn placed_in_png(alloc: Global, exif: &[u8], file: &[u8]) -> Result<Changed, Error>
+    ensures { Gives change_of result (if_whole (png_made exif.now file.now)) }
+{
+    let new = png_made(alloc, exif, file)?;
+    Ok(whole(alloc, new))
+}
+
+// Why other files are refused.
+fn target_refused() -> Refusal
+    ensures { why_of result ≡ Some target_refused }
+{
+    let text = "Exif data are copied into JPEG, WebP and PNG files only";
+    Refusal::Reading(Error::NotSupported(text))
+}
+
+// What was put into its place, or why nothing was.
+fn as_read(answer: Result<Changed, Error>) -> Result<Changed, Refusal>
+    ensures { (made : Result Change Refused) → Gives change_of answer.entry made
+        → Answers change_of result (as_read made) }
+{
+    match answer {
+        Ok(changed) => Ok(changed),
+        Err(error) => Err(Refusal::Reading(error)),
+    }
+}
+
+/// The file of a format with these Exif data in place of its own.
+pub(crate) fn placed(
+    alloc: Global,
+    format: Option<PictureFormat>,
+    exif: &[u8],
+    file: &[u8],
+) -> Result<Changed, Refusal>
+    ensures { Answers change_of result (placed format exif.now file.now) }
+{
+    match format {
+        None => Err(Refusal::UnknownFormat),
+        Some(PictureFormat::Jpeg) => as_read(placed_in_jpeg(alloc, exif, file)),
+        Some(PictureFormat::WebP) => as_read(placed_in_webp(alloc, exif, file)),
+        Some(PictureFormat::Png) => as_read(placed_in_png(alloc, exif, file)),
+        Some(PictureFormat::Tiff | PictureFormat::Heif | PictureFormat::JpegXl) => {
+            Err(target_refused())
+        }
+        Some(PictureFormat::Raf | PictureFormat::Orf) => Err(target_refused()),
+        Some(PictureFormat::Rw2 | PictureFormat::Cr3) => Err(target_refused()),
+    }
+}
