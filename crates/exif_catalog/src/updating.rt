@@ -12,7 +12,7 @@ use crate::known::Stamp;
 use crate::totals::{Outcome, Totals};
 use crate::values::SqlValue;
 use sqlite::{Alter, Connection};
-use std::alloc::Global;
+use std::alloc::{AllocError, Global};
 
 /// A picture that a run found.
 #[derive(Drop)]
@@ -35,6 +35,10 @@ pub trait Pictures {
     /// asked only where the picture has no row, or its file has not the size and time of the row.
     /// `None` where the picture cannot be read: a row that it has stays as it is.
     fn values(&mut self) -> Result<Option<Vec<SqlValue>>, Self::Error>;
+
+    /// Whether all that is below a root was looked through, asked behind the last picture. Where it
+    /// was not, as where a folder could not be read, no row below the root is marked as removed.
+    fn is_whole(&self, root: &str) -> bool;
 }
 
 // Brings the row of a picture up to date.
@@ -64,6 +68,21 @@ fn take<S: Alter, P: Pictures>(
     }
 }
 
+// The roots that were looked through.
+fn whole_roots<'a, P: Pictures>(
+    alloc: Global,
+    roots: &[&'a str],
+    pictures: &P,
+) -> Result<Vec<&'a str>, AllocError> {
+    let mut whole = Vec::new(alloc);
+    for root in roots {
+        if pictures.is_whole(root) {
+            whole.push(*root)?;
+        }
+    }
+    Ok(whole)
+}
+
 // Brings all rows up to date.
 fn take_all<S: Alter, P: Pictures>(
     alloc: Global,
@@ -80,7 +99,8 @@ fn take_all<S: Alter, P: Pictures>(
         let outcome = take(alloc, database, &mut catalog, pictures, &found)?;
         totals = totals.counted(outcome);
     }
-    Ok(catalog.set_marks(database, roots, totals)?)
+    let roots = whole_roots(alloc, roots, pictures)?;
+    Ok(catalog.set_marks(database, roots.as_slice(), totals)?)
 }
 
 // The pictures of a run, and what was looked through for them.
@@ -108,7 +128,7 @@ impl<P: Pictures> Job for UpdateJob<'_, P> {
 
 /// Brings a catalogue up to date: each picture whose file is new or has another size or time gets
 /// the values that the caller has for it, and each row below the roots whose picture was not among
-/// them is marked as removed. A file that is not there is made. One that is no database, or has
+/// them is marked as removed, if the root was looked through ([`Pictures::is_whole`]). A file that is not there is made. One that is no database, or has
 /// another version or other tables, is refused and left as it is. No other program can read or
 /// write the file until the run ends.
 ///

@@ -3,8 +3,8 @@
 use crate::stamps::{FileStamp, stamp_of};
 use exif::{Error, Exif, Sink};
 use exif_catalog::{
-    CatalogError, Found, PictureFile, Pictures, RunError, SqlValue, Stamp, Totals, row_values,
-    text_of, update,
+    CatalogError, Found, PictureFile, Pictures, RunError, SqlValue, Stamp, Totals, is_below,
+    row_values, text_of, update,
 };
 use exif_files::Status;
 use exif_formats::{Picture, PictureFormat};
@@ -13,6 +13,7 @@ use exif_report::found_of;
 use exif_session::{Cataloguing, Next, Session, Stop, open, read, read_file};
 use sha2::{Digest, Sha256};
 use std::alloc::{AllocError, Global};
+use std::io::{self, ErrorKind};
 
 // The pictures of a run, one after the other.
 #[derive(Drop)]
@@ -25,6 +26,8 @@ struct Gathered<'s, 'r, 'a, W, E> {
     // its status, where there is one
     status: Option<Status>,
     worst: Status,
+    // the names that could not be followed
+    failed: Vec<String>,
 }
 
 impl<W: Sink, E: Sink> Gathered<'_, '_, '_, W, E> {
@@ -41,6 +44,15 @@ impl<W: Sink, E: Sink> Gathered<'_, '_, '_, W, E> {
     fn refuse<T: std::fmt::Display>(&mut self, path: &str, cause: &T) -> Result<(), Stop> {
         let status = self.session.refuse(path, cause)?;
         self.worst = self.worst.or_worse(self.session.count(status));
+        Ok(())
+    }
+
+    // Reports a name that can't be followed. Unless nothing has it, what is below it is not known.
+    fn fail(&mut self, path: String, cause: io::Error) -> Result<(), Stop> {
+        self.refuse(path.as_str(), &cause)?;
+        if cause.kind() != ErrorKind::NotFound {
+            self.failed.push(path)?;
+        }
         Ok(())
     }
 
@@ -129,7 +141,7 @@ impl<W: Sink, E: Sink> Pictures for Gathered<'_, '_, '_, W, E> {
             match next {
                 Next::Named(path) | Next::Found(path) => return Ok(Some(self.begin_picture(path)?)),
                 Next::Input => self.refuse("-", &"standard input has no name")?,
-                Next::Failed(path, cause) => self.refuse(path.as_str(), &cause)?,
+                Next::Failed(path, cause) => self.fail(path, cause)?,
             }
         }
         Ok(None)
@@ -144,6 +156,10 @@ impl<W: Sink, E: Sink> Pictures for Gathered<'_, '_, '_, W, E> {
                 Ok(None)
             }
         }
+    }
+
+    fn is_whole(&self, root: &str) -> bool {
+        !self.failed.iter().any(|path| is_below(path.as_str(), root))
     }
 }
 
@@ -184,6 +200,7 @@ pub fn update_catalog<W: Sink, E: Sink>(
         },
         status: None,
         worst: Status::Success,
+        failed: Vec::new(rt.alloc()),
     };
     let updated = update(
         rt,
