@@ -17,9 +17,9 @@ use std::io::{self, ErrorKind};
 
 // The pictures of a run, one after the other.
 #[derive(Drop)]
-struct Gathered<'s, 'r, 'a, W, E> {
+struct Gathered<'s, 'r, 'a, 'd, 'c, W, E> {
     session: &'s mut Session<'r, 'a, W, E>,
-    cataloguing: &'s Cataloguing<'a>,
+    cataloguing: &'d Cataloguing<'c>,
     // the picture that was given last
     path: String,
     stamp: FileStamp,
@@ -30,12 +30,13 @@ struct Gathered<'s, 'r, 'a, W, E> {
     failed: Vec<String>,
 }
 
-impl<W: Sink, E: Sink> Gathered<'_, '_, '_, W, E> {
+impl<W: Sink, E: Sink> Gathered<'_, '_, '_, '_, '_, W, E> {
     // Counts the picture that was given last.
     fn end_picture(&mut self) {
         if let Some(status) = self.status {
             self.worst = self.worst.or_worse(self.session.count(status));
-            self.session.console.step(self.session.pending.len());
+            let left = self.session.pending.len();
+            self.session.console.step(left);
         }
         self.status = None;
     }
@@ -129,7 +130,7 @@ impl<W: Sink, E: Sink> Gathered<'_, '_, '_, W, E> {
     }
 }
 
-impl<W: Sink, E: Sink> Pictures for Gathered<'_, '_, '_, W, E> {
+impl<W: Sink, E: Sink> Pictures for Gathered<'_, '_, '_, '_, '_, W, E> {
     type Error = Stop;
 
     fn next(&mut self) -> Result<Option<Found>, Stop> {
@@ -182,16 +183,25 @@ fn hash_of(alloc: Global, bytes: &[u8]) -> Result<String, AllocError> {
     Ok(text)
 }
 
+// Brings the rows up to date.
+fn update_rows<W: Sink, E: Sink>(
+    gathered: &mut Gathered<'_, '_, '_, '_, '_, W, E>,
+) -> Result<Totals, RunError<Stop>> {
+    let rt = gathered.session.rt;
+    let request = gathered.session.request;
+    let database = gathered.cataloguing.database;
+    update(rt, database, request.paths.as_slice(), gathered)
+}
+
 /// Brings a catalogue up to date with the files that are named or found, and answers the worst
 /// status.
 pub fn update_catalog<W: Sink, E: Sink>(
     session: &mut Session<'_, '_, W, E>,
     cataloguing: &Cataloguing<'_>,
 ) -> Result<Status, Stop> {
-    let rt = session.rt;
-    let request = session.request;
+    let alloc = session.rt.alloc();
     let mut gathered = Gathered {
-        path: String::new(rt.alloc()),
+        path: String::new(alloc),
         session,
         cataloguing,
         stamp: FileStamp {
@@ -200,14 +210,9 @@ pub fn update_catalog<W: Sink, E: Sink>(
         },
         status: None,
         worst: Status::Success,
-        failed: Vec::new(rt.alloc()),
+        failed: Vec::new(alloc),
     };
-    let updated = update(
-        rt,
-        cataloguing.database,
-        request.paths.as_slice(),
-        &mut gathered,
-    );
+    let updated = update_rows(&mut gathered);
     let Gathered { session, worst, .. } = gathered;
     match updated {
         Ok(totals) => {

@@ -13,8 +13,8 @@ use std::alloc::{AllocError, Global};
 
 // The page as far as it goes.
 #[derive(Drop)]
-struct Page<'p, 'r, E> {
-    rt: &'p HostRuntime,
+struct Page<'t, 'p, 'r, E> {
+    rt: &'t HostRuntime,
     console: &'p mut Console<'r, E>,
     html: Vec<u8>,
     section: LastSection,
@@ -65,7 +65,7 @@ fn facts_of<'a>(picture: &PictureRow<'a>) -> Facts<'a> {
     }
 }
 
-impl<E: Sink> Page<'_, '_, E> {
+impl<E: Sink> Page<'_, '_, '_, E> {
     // The thumbnail in a file, if it has one. A file that can't be read is reported.
     fn thumbnail_in(&mut self, path: &str) -> Result<Option<Vec<u8>>, AllocError> {
         match exif_of(self.rt, path) {
@@ -84,7 +84,7 @@ impl<E: Sink> Page<'_, '_, E> {
     }
 }
 
-impl<E: Sink> Visitor for Page<'_, '_, E> {
+impl<E: Sink> Visitor for Page<'_, '_, '_, E> {
     type Error = AllocError;
 
     fn visit(&mut self, picture: &PictureRow<'_>) -> Result<(), AllocError> {
