@@ -6,7 +6,7 @@ use Rattle.exif_rewrite_png.specs.RewrittenPng.{png_rewriting}
 use Rattle.exif_rewrite_png.specs.Rewriting.{Rewriting}
 use Rattle.exif_formats.specs.declared.format.PictureFormat.{PictureFormat}
 use Rattle.exif_formats.specs.declared.format.PictureFormat.TheVariants.{Jpeg, WebP, Png}
-use Rattle.exif_change.specs.Changed.{Change, whole}
+use Rattle.exif_change.specs.Changed.{Change}
 use Rattle.exif_change.specs.Refusals.{Why, as_read, reading, unknown_format}
 use Rattle.exif_change.specs.Rewriting.{if_whole, rewritten_jpeg, rewritten_webp}
 
