@@ -69,8 +69,8 @@ pub fn insert_text() -> &'static str
      CAST(?23 AS REAL), CAST(?24 AS REAL), CAST(?25 AS REAL), ?26, ?27, ?28, ?29, 0)"
 }
 
-/// The SQL text that reads the pictures that are there, by the date when they were taken and then by
-/// their paths; those without a date come last.
+/// The SQL text that reads the pictures that are there, by the date when they were taken and then
+/// by their paths; those without a date come last.
 pub(crate) fn pictures_text() -> &'static str
     ensures { result.now ≡ pictures_text SHOWN }
 {

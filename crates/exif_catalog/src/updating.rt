@@ -128,8 +128,9 @@ impl<P: Pictures> Job for UpdateJob<'_, P> {
 
 /// Brings a catalogue up to date: each picture whose file is new or has another size or time gets
 /// the values that the caller has for it, and each row below the roots whose picture was not among
-/// them is marked as removed, if the root was looked through ([`Pictures::is_whole`]). A file that is not there is made. One that is no database, or has
-/// another version or other tables, is refused and left as it is. No other program can read or
+/// them is marked as removed, if the root was looked through ([`Pictures::is_whole`]). A file that
+/// is not there is made, also where the run then ends with an error. One that is no database, or
+/// has another version or other tables, is refused and left as it is. No other program can read or
 /// write the file until the run ends.
 ///
 /// The run is one transaction: after an error the rows are as they were before.

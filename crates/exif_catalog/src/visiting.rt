@@ -145,8 +145,8 @@ impl<V: Visitor> Job for VisitJob<'_, V> {
 
 /// Shows the pictures of a catalogue whose files were there in the last run that looked for them,
 /// by the date when they were taken and then by their paths; those without a date come last. It
-/// answers how many there were. A file that is not there is not made, and one that is no catalogue of this
-/// version is refused. The database stays as it is.
+/// answers how many there were. A file that is not there is not made, and one that is no catalogue
+/// of this version is refused. The database stays as it is.
 pub fn visit<V: Visitor>(
     rt: &HostRuntime,
     path: &str,

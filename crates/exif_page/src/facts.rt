@@ -61,6 +61,16 @@ fn text_of(text: &Option<String>) -> Option<&str>
     }
 }
 
+// The same text, for a part of the time.
+fn shorter<'a, 'f: 'a>(text: Option<&'f str>) -> Option<&'a str>
+    ensures { option_map (λ t. t.now) result ≡ option_map (λ t. t.now) text.entry }
+{
+    match text {
+        Some(text) => Some(text),
+        None => None,
+    }
+}
+
 // The day of a date, if there is one.
 fn day_in(date: Option<&str>) -> Option<&str>
     ensures { option_map (λ t. t.now) result
@@ -79,7 +89,11 @@ fn time_in(date: Option<&str>) -> Option<&str>
 
 /// The entry of a picture, by its facts, the texts that are made of them ([`texts_of`]) and its
 /// thumbnail.
-pub fn entry_of<'a>(facts: &Facts<'a>, texts: &'a Texts, thumbnail: Option<&'a [u8]>) -> Entry<'a>
+pub fn entry_of<'a>(
+    facts: &'a Facts<'_>,
+    texts: &'a Texts,
+    thumbnail: Option<&'a [u8]>,
+) -> Entry<'a>
     ensures path { result.path.now ≡ facts.now.path.now }
     ensures day { option_map (λ t. t.now) result.day ≡ day_of_facts facts.now }
     ensures time { option_map (λ t. t.now) result.time ≡ time_of_facts facts.now }
@@ -87,18 +101,20 @@ pub fn entry_of<'a>(facts: &Facts<'a>, texts: &'a Texts, thumbnail: Option<&'a [
         ≡ option_map string_bytes texts.now.camera }
     ensures exposure { option_map (λ t. t.now) result.exposure
         ≡ option_map string_bytes texts.now.exposure }
-    ensures latitude { result.latitude ≡ facts.now.latitude }
-    ensures longitude { result.longitude ≡ facts.now.longitude }
+    ensures latitude { option_map (λ t. t.now) result.latitude
+        ≡ option_map (λ t. t.now) facts.now.latitude }
+    ensures longitude { option_map (λ t. t.now) result.longitude
+        ≡ option_map (λ t. t.now) facts.now.longitude }
     ensures thumbnail { result.thumbnail ≡ thumbnail.entry }
 {
     Entry {
         path: facts.path,
-        day: day_in(facts.date_taken),
-        time: time_in(facts.date_taken),
+        day: day_in(shorter(facts.date_taken)),
+        time: time_in(shorter(facts.date_taken)),
         camera: text_of(&texts.camera),
         exposure: text_of(&texts.exposure),
-        latitude: facts.latitude,
-        longitude: facts.longitude,
+        latitude: shorter(facts.latitude),
+        longitude: shorter(facts.longitude),
         thumbnail,
     }
 }
