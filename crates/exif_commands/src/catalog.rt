@@ -77,13 +77,17 @@ impl<W: Sink, E: Sink> Gathered<'_, '_, '_, '_, '_, W, E> {
         exif: Option<&Exif>,
         hash: Option<&str>,
     ) -> Result<Vec<SqlValue>, AllocError> {
+        let (format, mime) = match format {
+            Some(format) => (Some(format.name()), Some(mime_type(format))),
+            None => (None, None),
+        };
         let file = PictureFile {
             path: self.path.as_bytes(),
             size: self.stamp.size,
             modified: self.stamp.modified,
             hash,
-            format: format.map(PictureFormat::name),
-            mime: format.map(mime_type),
+            format,
+            mime,
         };
         row_values(self.session.rt.alloc(), &file, exif)
     }
