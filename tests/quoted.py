@@ -2,7 +2,7 @@
 
 Each block of Rust in a guide, or in a comment of a public item, is a run of lines of one file of crates/exif_examples,
 except for its indentation. README's program (the block with `fn main`) is run by `rt try` in a copy of the crates.
-What follows `$ ./exif_show` in README is what the program prints. docs/sample.jpg is what make_sample.py makes, and
+What follows `$ ./exif_show` and `$ mexaldor` in README is what the programs print. docs/sample.jpg is what make_sample.py makes, and
 the picture of the examples' tests. Each part has the version of CHANGELOG.md.
 """
 
@@ -10,6 +10,7 @@ import ast
 import glob
 import os
 import re
+import shlex
 import shutil
 import subprocess
 import sys
@@ -34,6 +35,7 @@ VERSIONS = {
     "bindings/rust/mexaldor-sys/Cargo.toml": r'^version = "([\d.]+)"',
 }
 PROGRAM = os.environ.get("EXIF_SHOW", "crates/exif_show/out/exif_show")
+MEXALDOR = os.environ.get("MEXALDOR", "crates/mexaldor/out/mexaldor")
 
 counts = {True: 0, False: 0}
 
@@ -117,12 +119,33 @@ def check_rust():
 
 def check_reports():
     for line, block in blocks(read("README.md"), ""):
-        report = re.match(r"\$ \./exif_show (docs/\S+)\n(.*)", block, re.S)
+        report = re.match(r"\$ \./exif_show (docs/\S+) \| head -n (\d+)\n(.*)", block, re.S)
         if report and not os.access(PROGRAM, os.X_OK):
             print(f"skipped, {PROGRAM} is not built: README's report of line {line}")
         elif report:
             printed = subprocess.run([PROGRAM, report.group(1)], capture_output=True, text=True).stdout
-            check(f"README's report of line {line} is the program's", printed == report.group(2))
+            first = "".join(printed.splitlines(keepends=True)[: int(report.group(2))])
+            check(f"README's report of line {line} is the program's", first == report.group(3))
+
+
+def check_commands():
+    """README's commands, run one after the other in a folder with the sample, as if it were /home/me."""
+    found = [it for it in blocks(read("README.md"), "") if re.search(r"^\$ mexaldor ", it[1], re.M)]
+    check("README shows commands with what they print", found != [])
+    if not os.access(MEXALDOR, os.X_OK):
+        print(f"skipped, {MEXALDOR} is not built: README's commands")
+        return
+    program = os.path.abspath(MEXALDOR)
+    with tempfile.TemporaryDirectory() as folder:
+        folder = os.path.realpath(folder)
+        os.mkdir(f"{folder}/photos")
+        shutil.copy("docs/sample.jpg", f"{folder}/photos/one.jpg")
+        for line, block in found:
+            for command, wanted in re.findall(r"^\$ mexaldor (.*)\n((?:[^$].*\n)*)", block, re.M):
+                how = {"cwd": folder, "stdout": subprocess.PIPE, "stderr": subprocess.STDOUT, "text": True}
+                printed = subprocess.run([program, *shlex.split(command)], **how).stdout
+                name = f"README's command `{command}` of line {line} prints this"
+                check(name, printed.replace(folder, "/home/me") == wanted, printed)
 
 
 def check_sample():
@@ -146,6 +169,7 @@ if __name__ == "__main__":
     check_rust()
     check_program()
     check_reports()
+    check_commands()
     check_sample()
     check_versions()
     print(f"{counts[True]} passed, {counts[False]} failed")
