@@ -46,7 +46,7 @@ else
     cd "$scratch" || exit 1
     dask scheduler --host 127.0.0.1 --port 0 --no-dashboard --scheduler-file "$scratch/scheduler"
     for name in one two; do
-        dask worker --scheduler-file "$scratch/scheduler" --nthreads 1 --no-dashboard --name "$name"
+        dask worker --scheduler-file "$scratch/scheduler" --nthreads 1 --no-dashboard --no-nanny --name "$name"
     done
     began=$(date +%s.%N)
     check "Dask reads all pictures" timeout 300 \
