@@ -45,6 +45,9 @@ else
     done
     cd "$scratch" || exit 1
     dask scheduler --host 127.0.0.1 --port 0 --no-dashboard --scheduler-file "$scratch/scheduler"
+    for wait in $(seq 100); do
+        [ -s scheduler ] || sleep 0.2
+    done
     for name in one two; do
         dask worker --scheduler-file "$scratch/scheduler" --nthreads 1 --no-dashboard --no-nanny --name "$name"
     done
