@@ -12,9 +12,9 @@ use std::alloc::{AllocError, Global};
 /// How a cell shows a field.
 #[derive(Clone, Copy, Debug, PartialEq, Eq)]
 pub enum Form {
-    /// As `mexaldor show` does, with the unit: `f/2.8`, `1/125 s`, `"Canon EOS 5D"`.
+    /// As `mexaldor show` does, with the unit: `f/2.8`, `1/125 s`, `"Pinhole 2"`.
     Display,
-    /// As numbers and texts, without a unit: `2.8`, `0.008`, `Canon EOS 5D`. Several have a space
+    /// As numbers and texts, without a unit: `2.8`, `0.008`, `Pinhole 2`. Several have a space
     /// between each two. Fractions are decimals, cut after nine places; a fraction over 0 is
     /// empty. Bytes of type UNDEFINED are lower hexadecimal digits without spaces, floating point
     /// numbers their bits as hexadecimal digits behind `0x`, and a value of an unknown type is

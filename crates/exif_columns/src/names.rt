@@ -80,12 +80,8 @@ fn tags_from<'a>(alloc: Global, names: &[&'a str]) -> Result<Result<Vec<Tag>, &'
 /// The tags of a list of names with commas between them, each as [`tag_of_name`] finds it, or the
 /// first name in it that is not known. The outer error is out of memory.
 ///
-/// ```
-/// let tags = match tags_of(alloc, "DateTimeOriginal,Model,FNumber")? {
-///     Ok(tags) => tags,
-///     Err(name) => return unknown_tag(name),
-/// };
-/// ```
+/// `Model,FNumber` gives two tags in this order, and `Model,Modell` gives `Err("Modell")`. Spaces
+/// are part of a name, and an empty list gives `Err("")`.
 pub fn tags_of<'a>(alloc: Global, list: &'a str) -> Result<Result<Vec<Tag>, &'a str>, AllocError>
     ensures { IfOk result (λ found. tags_seen found ≡ tags_in list.entry.now) }
 {
