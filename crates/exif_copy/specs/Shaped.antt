@@ -35,7 +35,7 @@ orientation = (context.Tiff, 0x112)
 abbrev pub orientation_for : List Field → Value
 orientation_for own = Short (upright_unless (number_told own orientation) ∷ [])
 
--- the value of a size that is told
+-- the value of a size in pixels
 abbrev pub size_for : Option ℕ → Option Value
 size_for (Some number) = Some (Long (number ∷ []))
 size_for None = None

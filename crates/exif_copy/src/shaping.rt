@@ -46,7 +46,7 @@ fn orientation_for(alloc: Global, own: Option<&Exif>) -> Result<Value, AllocErro
     Ok(Value::Short(Items::from_slice(alloc, &[number])?))
 }
 
-// The value of a size that is told.
+// The value of a size in pixels.
 fn size_for(alloc: Global, told: Option<u32>) -> Result<Option<Value>, AllocError>
     ensures { IfOk result (λ value. value ≡ size_for told) }
 {

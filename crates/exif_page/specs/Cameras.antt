@@ -8,7 +8,7 @@ ends_word [] = true
 ends_word (byte ∷ make) = byte == 32
 
 -- A model begins with the first word of a make, whatever the case of its letters, and a word ends
--- there: `NIKON D90` of `NIKON CORPORATION`.
+-- there: `Example Two` of `EXAMPLE WORKS`.
 abbrev pub repeats : List ℕ → List ℕ → Bool
 repeats [] make = ends_word make
 repeats (byte ∷ model) [] = not (is_ascii_alphanumeric byte)

@@ -108,8 +108,8 @@ no_seconds : day_of (codes "2016-05-04T03:02") ≡ None
 no_seconds = refl
 
 -- a make that the model repeats, one that it only begins with, and one that it does not
-repeated_make : camera_of (Some (codes "NIKON CORPORATION")) (Some (codes "Nikon D90"))
-    ≡ Some (codes "Nikon D90")
+repeated_make : camera_of (Some (codes "EXAMPLE WORKS")) (Some (codes "Example Two"))
+    ≡ Some (codes "Example Two")
 repeated_make = refl
 
 longer_word : camera_of (Some (codes "Canon")) (Some (codes "Canonet"))

@@ -51,7 +51,7 @@ fn both(alloc: Global, make: &str, model: &str) -> Result<String, AllocError>
 }
 
 /// The name of a camera, by its make and model, as `Example Pinhole`. A make whose first word
-/// begins the model is left out: `NIKON CORPORATION` and `NIKON D90` are `NIKON D90`. The only
+/// begins the model is left out: `EXAMPLE WORKS` and `Example Two` are `Example Two`. The only
 /// error is out of memory.
 pub fn camera_of(
     alloc: Global,
