@@ -1,12 +1,15 @@
-//! The Exif data of one picture put into another one, as after an editor lost them.
+//! The metadata of one picture put into another one, as after an editor lost them.
 //!
 //! [`copy_exif`] answers the whole new file, or a refusal by its cause. The new data are those of
 //! the first picture byte for byte, or with the orientation and the size of the second one.
+//! [`copy_selected`] copies the XMP packet and the colour profile, too.
 #![tactic(auto)]
 
 mod copying;
 mod found;
 mod placing;
+mod selected;
 mod shaping;
 
 pub use copying::{Shape, copy_exif};
+pub use selected::{Selection, copy_selected};

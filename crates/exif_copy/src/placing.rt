@@ -83,8 +83,8 @@ fn target_refused() -> Refusal
     Refusal::Reading(Error::NotSupported(text))
 }
 
-// What was put into its place, or why nothing was.
-fn as_read(answer: Result<Changed, Error>) -> Result<Changed, Refusal>
+/// What was put into its place, or why nothing was.
+pub(crate) fn as_read(answer: Result<Changed, Error>) -> Result<Changed, Refusal>
     ensures { (made : Result Change Refused) → Gives change_of answer.entry made
         → Answers change_of result (as_read made) }
 {

@@ -1,0 +1,53 @@
+-- The XMP packet and the colour profile of a picture put into a changed file.
+use Rattle.std.specs.Prelude.{ℕ, List, codes, Option, None, Some, Result, Ok, Err}
+use Rattle.exif_types.specs.Refusals.{Refusal, not_supported, ◌>>=◌}
+use Rattle.exif_formats.specs.declared.format.PictureFormat.{PictureFormat}
+use Rattle.exif_formats.specs.declared.format.PictureFormat.TheVariants as format
+use Rattle.exif_change.specs.Changed.{Change}
+use Rattle.exif_xmp_icc.specs.Packets.{xmp_of}
+use Rattle.exif_xmp_icc.specs.Profiles.{profile_of}
+use Rattle.exif_xmp_icc.specs.Put.{with_profile, with_xmp}
+use Rattle.exif_xmp_icc.specs.declared.putting.Container.{Container}
+use Rattle.exif_xmp_icc.specs.declared.putting.Container.TheVariants as container
+use Rattle.exif_copy.specs.Found.{format_for}
+
+-- the container of files of a format, if a packet and a profile can be put into them
+abbrev pub container_of : Option PictureFormat → Option Container
+container_of (Some format.Jpeg) = Some container.Jpeg
+container_of (Some format.Png) = Some container.Png
+container_of (Some format.WebP) = Some container.WebP
+container_of _ = None
+
+-- that of a file
+abbrev pub container_for : List ℕ → Option Container
+container_for file = container_of (format_for file)
+
+-- nothing is put into other files
+abbrev pub no_container : Refusal
+no_container = not_supported (codes "metadata are copied into JPEG, WebP and PNG files only")
+
+-- a change with another file
+abbrev pub refiled : Change → List ℕ → Change
+refiled change file = record { file = file; undone = change.undone }
+
+-- what is made of a file, by its container
+abbrev pub by_container : List ℕ → (Container → Result (List ℕ) Refusal) → Result (List ℕ) Refusal
+by_container file make = elim (container_for file) [
+  | Some container ↦ make container
+  | None ↦ Err no_container
+]
+
+-- a changed file with the packet of a picture
+abbrev pub packet_put : List ℕ → Change → Result Change Refusal
+packet_put from change =
+    by_container change.file
+    (λ container. xmp_of from >>= λ xmp. with_xmp container xmp change.file)
+    >>= λ file. Ok (refiled change file)
+
+-- a changed file with the profile of a picture
+abbrev pub profile_put : List ℕ → Change → Result Change Refusal
+profile_put from change =
+    by_container change.file
+    (λ container. profile_of (container_for from) from >>= λ profile.
+    with_profile container profile change.file)
+    >>= λ file. Ok (refiled change file)

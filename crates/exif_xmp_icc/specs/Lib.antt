@@ -1,0 +1,9 @@
+pub mod Parts
+pub mod Packets
+pub mod Profiles
+pub mod JpegSegments
+pub mod Zlib
+pub mod PngChunks
+pub mod WebpChunks
+pub mod Put
+pub mod Examples
