@@ -5,3 +5,6 @@ pub mod Named
 pub mod Copying
 pub mod Away
 pub mod Slashes
+pub mod Searches
+pub mod Begun
+pub mod Numbered

@@ -1,23 +1,27 @@
 -- How a plan goes on from file to file and from wish to wish.
-use Rattle.std.proofs.Common.{◌≡◌, ℕ, ◌+◌, ◌-◌, ◌<◌, ◌≤◌, suc, List, [], ◌∷◌, ◌++◌, Bool, true, false, not, ◌&&◌, ◌||◌, cond, Option, Some, None, Result, Ok, Err, append_assoc, ap, sym, refl, subst, ◌∙◌, length, get_or, take, drop, map, arith}
+use Rattle.std.proofs.Common.{◌≡◌, ℕ, ◌+◌, ◌<◌, ◌≤◌, List, [], ◌∷◌, ◌++◌, Bool, true, false, not, ◌&&◌, ◌||◌, cond, Option, Some, None, Result, Ok, Err, append_assoc, ap, sym, refl, subst, ◌∙◌, length, get_or, take, drop, map, arith}
 use Rattle.std.proofs.lemmas.List.{take_more, drop_more, drop_all, get_or-map, length-map, length-append}
 use Rattle.std.specs.Str.{bytes_eq}
 use Rattle.std.specs.String.{string_bytes}
 use Rattle.exif_files.specs.Each.{is_among}
 use Rattle.exif_files.specs.States.{State, Now}
-use Rattle.exif_rename.specs.Planned.{can_have, fit, fit_from, fits, free_in, planned, planned_after, with_number, with_paths}
+use Rattle.exif_rename.specs.Planned.{can_have, fit, fits, free_in, planned, planned_after, with_number, with_paths}
 use Rattle.exif_rename.specs.Wishes.{File, Wanted, candidate, file_of, path_of, wanted_of}
 use Rattle.exif_rename.specs.declared.wish.Wish.{Wish}
 use Rattle.exif_rename.specs.declared.wish.WishFile.{WishFile}
 
 -- what is known of the last state, from two facts of it
-now_both : (P Q R : State → Type 0) (a b : List State) → b ≡ a → Now a P → Now b Q → ((s : State) → P s → Q s → R s) → Now a R
+pub now_both : (P Q R : State → Type 0) (a b : List State) → b ≡ a → Now a P → Now b Q → ((s : State) → P s → Q s → R s) → Now a R
 now_both P Q R [] b e p q f = tt
 now_both P Q R (s ∷ past) b e p q f = let Q' : List State → Type 0 = λ xs. Now xs Q in f s p (subst Q' e q)
 
-now_map : (P R : State → Type 0) (a : List State) → Now a P → ((s : State) → P s → R s) → Now a R
+pub now_map : (P R : State → Type 0) (a : List State) → Now a P → ((s : State) → P s → R s) → Now a R
 now_map P R [] p f = tt
 now_map P R (s ∷ past) p f = f s p
+
+pub now_all : (P : State → Type 0) (a : List State) → ((s : State) → P s) → Now a P
+now_all P [] f = tt
+now_all P (s ∷ past) f = f s
 
 -- the member of an index in a list of what is made of others
 next_of : {X Y : Type 0} (f : X → Y) (xs : List X) (i : ℕ) (x : X) → i < length xs → x ≡ get_or xs i x
@@ -150,64 +154,6 @@ pub fits_all : (a : List State) (names : List (List ℕ)) (name : List ℕ) (fil
 fits_all a names name files i h rest =
     now_map _ _ a rest (λ s all. all ∙ ap (λ fs. fits (free_in s) (with_paths name (take i (map file_of files)) names) name fs)
     (drop_all i (map file_of files) (omega (arith, length-map files file_of))))
-
--- a candidate that all the files can have is the first
-hit_at : (free : List ℕ → Bool) (given : List (List ℕ)) (wanted : Wanted) (tries number : ℕ) → fits free given (candidate wanted.base number) wanted.files ≡ true
-    → fit_from free given wanted (suc tries) number ≡ Some number
-unfolding fit_from
-hit_at free given wanted tries number is =
-    ap (λ (b : Bool). elim b [ true ↦ Some number | false ↦ fit_from free given wanted tries (number + 1) ]) is
-
--- one that they can't have is skipped
-miss_at : (free : List ℕ → Bool) (given : List (List ℕ)) (wanted : Wanted) (tries number : ℕ) → fits free given (candidate wanted.base number) wanted.files ≡ false
-    → fit_from free given wanted (suc tries) number ≡ fit_from free given wanted tries (number + 1)
-unfolding fit_from
-miss_at free given wanted tries number is =
-    ap (λ (b : Bool). elim b [ true ↦ Some number | false ↦ fit_from free given wanted tries (number + 1) ]) is
-
-none_at : (free : List ℕ → Bool) (given : List (List ℕ)) (wanted : Wanted) (number : ℕ) → fit_from free given wanted 0 number ≡ None
-unfolding fit_from
-none_at free given wanted number = refl
-
--- the candidates before a number were skipped
-abbrev pub FitFrom : List State → List (List ℕ) → Wish → ℕ → Type 0
-FitFrom a names wish number = Now a (λ s. fit (free_in s) names (wanted_of wish) ≡ fit_from (free_in s) names (wanted_of wish) (100000 - number) number)
-
--- what is answered of a candidate
-abbrev pub FitsBy : List State → List (List ℕ) → Wish → List ℕ → List WishFile → Bool → Type 0
-FitsBy b names wish name files answer = Now b (λ s. fits (free_in s) names name (map file_of files) ≡ answer)
-
-fits_by : (names : List (List ℕ)) (wish : Wish) (name : List ℕ) (files : List WishFile) (number : ℕ) (answer : Bool) (s : State) → name ≡ candidate (string_bytes wish.base) number → files ≡ wish.files.items
-    → fits (free_in s) names name (map file_of files) ≡ answer → fits (free_in s) names (candidate (wanted_of wish).base number) (wanted_of wish).files ≡ answer
-fits_by names wish name files number answer s e e' is =
-    let P : List ℕ → List WishFile → Type 0 = λ n fs. fits (free_in s) names n (map file_of fs) ≡ answer in
-    subst (λ (n : List ℕ). P n wish.files.items) e (subst (P name) e' is)
-
-pub fit_hit : (a b : List State) (names : List (List ℕ)) (wish : Wish) (name : List ℕ) (files : List WishFile) (number : ℕ) (answer : Bool) → number < 100000
-    → name ≡ candidate (string_bytes wish.base) number → files ≡ wish.files.items → b ≡ a → FitFrom a names wish number → FitsBy b names wish name files answer → answer ≡ true
-    → Now a (λ s. fit (free_in s) names (wanted_of wish) ≡ Some number)
-fit_hit a b names wish name files number answer h e e' same from by on_ =
-    let left : 100000 - number ≡ suc (99999 - number) = omega arith in
-    now_both _ _ _ a b same from by (λ s x y.
-    x ∙ ap (λ t. fit_from (free_in s) names (wanted_of wish) t number) left
-    ∙ hit_at (free_in s) names (wanted_of wish) (99999 - number) number (fits_by names wish name files number answer s e e' y ∙ on_))
-
-pub fit_miss : (a b : List State) (names : List (List ℕ)) (wish : Wish) (name : List ℕ) (files : List WishFile) (number : ℕ) (answer : Bool) → number < 100000
-    → name ≡ candidate (string_bytes wish.base) number → files ≡ wish.files.items → b ≡ a → FitFrom a names wish number → FitsBy b names wish name files answer → answer ≡ false
-    → FitFrom a names wish (number + 1)
-fit_miss a b names wish name files number answer h e e' same from by off =
-    let left : 100000 - number ≡ suc (99999 - number) = omega arith in
-    let left' : 99999 - number ≡ 100000 - (number + 1) = omega arith in
-    now_both _ _ _ a b same from by (λ s x y.
-    x ∙ ap (λ t. fit_from (free_in s) names (wanted_of wish) t number) left
-    ∙ miss_at (free_in s) names (wanted_of wish) (99999 - number) number (fits_by names wish name files number answer s e e' y ∙ off)
-    ∙ ap (λ t. fit_from (free_in s) names (wanted_of wish) t (number + 1)) left')
-
-pub fit_none : (a : List State) (names : List (List ℕ)) (wish : Wish) (number : ℕ) → 100000 ≤ number → FitFrom a names wish number
-    → Now a (λ s. fit (free_in s) names (wanted_of wish) ≡ None)
-fit_none a names wish number h from =
-    let left : 100000 - number ≡ 0 = omega arith in
-    now_map _ _ a from (λ s x. x ∙ ap (λ t. fit_from (free_in s) names (wanted_of wish) t number) left ∙ none_at (free_in s) names (wanted_of wish) number)
 
 -- numbers in front of others; of a wish without one, how many are before it
 abbrev pub with_numbers : List ℕ → Result (List ℕ) ℕ → Result (List ℕ) ℕ

@@ -6,5 +6,6 @@ pub mod Moves
 pub mod Naming
 pub mod Patterns
 pub mod Planned
+pub mod Starts
 pub mod Views
 pub mod Wishes

@@ -6,6 +6,7 @@ mod moving;
 mod naming;
 mod pattern;
 mod plan;
+mod starts;
 mod wish;
 
 pub use moving::{Attributes, Moved, copy_file, move_file};

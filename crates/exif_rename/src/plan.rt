@@ -1,24 +1,27 @@
 //! Which new paths files get.
 
-ghost use Rattle.std.specs.Prelude.{◌≡◌, ◌&&◌, ◌||◌, not, ℕ, List, Ok, Err, IfOk, IfErr, OnOk, map, string_bytes, true, false, if◌then◌else◌};
+ghost use Rattle.std.specs.Prelude.{◌≡◌, ◌≤◌, ◌-◌, ◌&&◌, ◌||◌, not, ℕ, List, Ok, Err, IfOk, IfErr, OnOk, map, string_bytes, true, false, if◌then◌else◌};
 ghost use Rattle.std.specs.BTreeSet.{contains_text};
+ghost use Rattle.std.specs.Option.{option_or};
 ghost use Rattle.std.specs.Str.{bytes_eq};
 ghost use Rattle.exif_files.specs.Each.{is_among};
 ghost use Rattle.exif_files.specs.States.{Now};
 ghost use Rattle.exif_files.specs.Steps.{count_after};
 ghost use Rattle.exif_rename.specs.Failures.{is_failed, IfCrowded};
-ghost use Rattle.exif_rename.specs.Planned.{free_in, fit, fits, is_claimed, planned, with_paths};
+ghost use Rattle.exif_rename.specs.Planned.{free_in, fit, fit_from, fits, is_claimed, planned, with_paths};
+ghost use Rattle.exif_rename.specs.Starts.{IsStart};
 ghost use Rattle.exif_rename.specs.Wishes.{File, candidate, file_of, wanted_of};
 ghost use Rattle.exif_rename.specs.declared.plan.PlanError.TheVariants.{Io, Crowded, OutOfMemory};
 
+use crate::starts::{Series, find_start};
 use crate::wish::{Wish, WishFile, candidate, joined};
 use exif_files::FileSystem;
 use std::alloc::{AllocError, AllocFailed, Global};
-use std::collections::BTreeSet;
+use std::collections::{BTreeMap, BTreeSet};
 use std::{fmt, io};
 
-// How many candidates of a name are tried.
-const TRIES: u32 = 100_000;
+// How many candidates a name has.
+pub(crate) const TRIES: u32 = 100_000;
 
 /// Why there is no plan.
 #[derive(Debug, Drop)]
@@ -68,7 +71,9 @@ impl fmt::Display for PlanError {
 /// Which new names files get: the number of the candidate of each wish, from which
 /// [`Wish::moves`](crate::Wish::moves) makes the new paths. It is the first by which each file of
 /// the wish has a path that nothing has, or that is its own, and that no file was given before. It
-/// only asks which paths are free, and takes the memory of all new paths.
+/// only asks which paths are free, and takes the memory of all new paths. It remembers how far the
+/// numbers of each name and ending are taken, so many files of one name take no longer than as many
+/// of different names.
 pub fn plan_names<F: FileSystem>(
     alloc: Global,
     files: &mut F,
@@ -82,9 +87,11 @@ pub fn plan_names<F: FileSystem>(
     ensures count { F.failures files.new ≡ count_after (is_failed result) (F.failures files.old) }
 {
     let mut given: BTreeSet<String> = BTreeSet::new(alloc);
+    let mut starts: BTreeMap<Series, u32> = BTreeMap::new(alloc);
     let mut numbers = Vec::new(alloc);
     for (index, wish) in wishes.iter().enumerate() {
-        let Some(number) = first_fit(alloc, files, &given, wish)? else {
+        let start = find_start(alloc, files, &given, &mut starts, wish)?;
+        let Some(number) = first_fit(alloc, files, &given, wish, start)? else {
             return Err(PlanError::Crowded(index));
         };
         numbers.push(number)?;
@@ -93,27 +100,87 @@ pub fn plan_names<F: FileSystem>(
     Ok(numbers)
 }
 
-// The first number whose candidate all files of a wish can have.
+// The first number whose candidate all files of a wish can have. Below `start` that is only the
+// number by which the first file has its path already, so the search tries it and those from
+// `start` on.
 fn first_fit<F: FileSystem>(
     alloc: Global,
     files: &mut F,
     given: &BTreeSet<String>,
     wish: &Wish,
+    start: u32,
 ) -> Result<Option<u32>, PlanError>
+    requires { start ≤ 100000 }
     ensures answer { IfOk result (λ number. (names : List (List ℕ))
         → ((q : List ℕ) → contains_text given.now q ≡ is_among q names)
-        → Now (F.states files.old) (λ s. fit (free_in s) names (wanted_of wish.now) ≡ number)) }
+        → Now (F.states files.old)
+        (λ s. IsStart (free_in s) (contains_text given.now) (wanted_of wish.now) start
+        → fit (free_in s) names (wanted_of wish.now) ≡ number)) }
     ensures never { IfErr result (λ e. IfCrowded e (λ index. ⊥)) }
     ensures same { F.states files.new ≡ F.states files.old }
     ensures count { F.failures files.new ≡ count_after (is_failed result) (F.failures files.old) }
 {
-    for number in 0..TRIES {
-        let name = candidate(alloc, wish.base.as_str(), number)?;
-        if all_fit(alloc, files, given, name.as_str(), wish.files.as_slice())? {
+    if let Some(own) = own_fit(alloc, files, given, wish, start)? {
+        return Ok(Some(own));
+    }
+    for number in start..TRIES {
+        if all_fit_by(alloc, files, given, wish, number)? {
             return Ok(Some(number));
         }
     }
     Ok(None)
+}
+
+// The number below `start` by which the first file has its path already, if all files can have
+// their paths by it.
+fn own_fit<F: FileSystem>(
+    alloc: Global,
+    files: &mut F,
+    given: &BTreeSet<String>,
+    wish: &Wish,
+    start: u32,
+) -> Result<Option<u32>, PlanError>
+    requires { start ≤ 100000 }
+    ensures answer { IfOk result (λ own. (names : List (List ℕ))
+        → ((q : List ℕ) → contains_text given.now q ≡ is_among q names)
+        → Now (F.states files.old)
+        (λ s. IsStart (free_in s) (contains_text given.now) (wanted_of wish.now) start
+        → fit (free_in s) names (wanted_of wish.now)
+        ≡ option_or own (fit_from (free_in s) names (wanted_of wish.now) (100000 - start) start))) }
+    ensures never { IfErr result (λ e. IfCrowded e (λ index. ⊥)) }
+    ensures same { F.states files.new ≡ F.states files.old }
+    ensures count { F.failures files.new ≡ count_after (is_failed result) (F.failures files.old) }
+{
+    let Some(own) = wish.own_number() else {
+        return Ok(None);
+    };
+    if own >= start {
+        return Ok(None);
+    }
+    if all_fit_by(alloc, files, given, wish, own)? {
+        return Ok(Some(own));
+    }
+    Ok(None)
+}
+
+// Whether all files of a wish can have their paths by the candidate of a number.
+fn all_fit_by<F: FileSystem>(
+    alloc: Global,
+    files: &mut F,
+    given: &BTreeSet<String>,
+    wish: &Wish,
+    number: u32,
+) -> Result<bool, PlanError>
+    ensures answer { IfOk result (λ answer. (names : List (List ℕ))
+        → ((q : List ℕ) → contains_text given.now q ≡ is_among q names)
+        → Now (F.states files.old) (λ s. fits (free_in s) names
+        (candidate (wanted_of wish.now).base number) (wanted_of wish.now).files ≡ answer)) }
+    ensures never { IfErr result (λ e. IfCrowded e (λ index. ⊥)) }
+    ensures same { F.states files.new ≡ F.states files.old }
+    ensures count { F.failures files.new ≡ count_after (is_failed result) (F.failures files.old) }
+{
+    let name = candidate(alloc, wish.base.as_str(), number)?;
+    all_fit(alloc, files, given, name.as_str(), wish.files.as_slice())
 }
 
 // Whether all files of a wish can have their paths by a name.

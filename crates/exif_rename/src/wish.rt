@@ -1,6 +1,7 @@
 //! The new names that are asked for, and the moves that give them.
 
-ghost use Rattle.std.specs.Prelude.{◌≡◌, ◌++◌, IfOk, map, string_bytes};
+ghost use Rattle.std.specs.Prelude.{◌≡◌, ◌<◌, ◌^◌, ◌++◌, ℕ, IfOk, Some, map, string_bytes};
+ghost use Rattle.exif_rename.specs.Starts.{IsOwn};
 ghost use Rattle.exif_rename.specs.Wishes.{file_of, wanted_of, move_of, candidate, moves_in, moves_by};
 
 use std::alloc::{AllocError, Global};
@@ -49,6 +50,18 @@ pub(crate) fn candidate(alloc: Global, base: &str, number: u32) -> Result<String
     format!(in alloc; "{base}_{number}")
 }
 
+// The number by which a path is the candidate of a base with an ending, if it is one.
+fn number_of(path: &str, base: &str, ending: &str) -> Option<u32>
+    ensures { (number : ℕ) → number < 2 ^ 32
+        → path.now ≡ candidate base.now number ++ ending.now → result ≡ Some number }
+{
+    let middle = path.strip_prefix(base)?.strip_suffix(ending)?;
+    if middle.is_empty() {
+        return Some(0);
+    }
+    middle.strip_prefix('_')?.parse().ok()
+}
+
 // The move of a file to a path.
 fn make_move(alloc: Global, from: &str, to: String) -> Result<Move, AllocError>
     ensures { IfOk result (λ made. move_of made ≡ (from.now, string_bytes to)) }
@@ -73,6 +86,14 @@ fn moves_in(alloc: Global, name: &str, files: &[WishFile]) -> Result<Vec<Move>, 
 }
 
 impl Wish {
+    // The number by which the first file has its new path already, if one does.
+    pub(crate) fn own_number(&self) -> Option<u32>
+        ensures { IsOwn (wanted_of self.now) result }
+    {
+        let file = self.files.first()?;
+        number_of(file.old.as_str(), self.base.as_str(), file.ending.as_str())
+    }
+
     /// The moves that give the files the name of this number, in the order of the files.
     /// [`plan_names`](crate::plan_names) chose the number. A file that has its new path already has
     /// none.

@@ -1,35 +1,47 @@
+use Rattle.exif_rename.proofs.Begun.{closed_after, wish_fits}
 use Rattle.exif_rename.proofs.Plans.{FitIs, planned_more, planned_crowded}
 use Rattle.exif_rename.specs.Planned.{with_paths}
 use Rattle.exif_rename.specs.Wishes.{candidate, wanted_of}
-use Rattle.std.proofs.Common.{◌≡◌, ◌<◌, ◌+◌, ◌++◌, ◌∷◌, [], ◌∙◌, ℕ, Option, Some, None, length, arith, rules, subst}
+use Rattle.std.proofs.Common.{◌≡◌, ◌<◌, ◌+◌, ◌++◌, ◌∷◌, [], ◌∙◌, Some, None, length, arith, rules, refl, subst}
+use Rattle.std.specs.BTreeSet.{contains_text}
 use Rattle.exif_rename.proofs.plan.plan_names.Goals as goal
 
 pub returns-in_default-clause-crowded : goal.returns-in_default-clause-crowded
 returns-in_default-clause-crowded g c =
+    let before = g.F.FileSystem.states c.args.files.now in
     let far = c.loop-index.invariant.so_far in
+    let wish = c.index-wishes-index.result in
     let within : c.loop-index.index < length c.args.wishes.now = omega arith in
     let none : c.in_ok-number.field-0 ≡ None = search rules in
-    let P : Option ℕ → Type 0 = λ found. FitIs (g.F.FileSystem.states c.loop-index.files) far.0 c.index-wishes-index.result found in
-    planned_crowded (g.F.FileSystem.states c.args.files.now) (g.F.FileSystem.states c.loop-index.files) c.args.wishes.now far.0 c.loop-index.numbers.items c.loop-index.index c.index-wishes-index.result
-    within c.index-wishes-index.is c.loop-index.invariant.each c.loop-index.invariant.same far.2 (subst P none (c.in_ok-number.ensures.answer far.0 far.1))
+    let fits : FitIs before far.0 wish c.in_ok-number.field-0 =
+    wish_fits before (g.F.FileSystem.states c.loop-index.files) (g.F.FileSystem.states c.find_start.new.files) (contains_text c.loop-index.given) c.loop-index.starts far.0 wish c.in_ok-start.start c.in_ok-number.field-0
+    c.loop-index.invariant.same (c.in_ok-start.ensures.same ∙ c.loop-index.invariant.same) c.loop-index.invariant.closed c.in_ok-start.ensures.start (c.in_ok-number.ensures.answer far.0 far.1) in
+    planned_crowded before before c.args.wishes.now far.0 c.loop-index.numbers.items c.loop-index.index wish
+    within c.index-wishes-index.is c.loop-index.invariant.each refl far.2 (subst (FitIs before far.0 wish) none fits)
 
 pub loop-index-preserved : goal.loop-index-preserved
 loop-index-preserved g c =
+    let before = g.F.FileSystem.states c.args.files.now in
     let far = c.loop-index.invariant.so_far in
     let wish = c.index-wishes-index.result in
     let within : c.loop-index.index < length c.args.wishes.now = omega arith in
     let some : c.in_ok-number.field-0 ≡ Some c.in-Some.number = search rules in
     let more : c.push.new.self.items ≡ c.loop-index.numbers.items ++ c.in-Some.number ∷ [] = search rules in
     let each : length c.push.new.self.items ≡ c.loop-index.index + 1 = search rules in
-    let P : Option ℕ → Type 0 = λ found. FitIs (g.F.FileSystem.states c.loop-index.files) far.0 wish found in
+    let fits : FitIs before far.0 wish c.in_ok-number.field-0 =
+    wish_fits before (g.F.FileSystem.states c.loop-index.files) (g.F.FileSystem.states c.find_start.new.files) (contains_text c.loop-index.given) c.loop-index.starts far.0 wish c.in_ok-start.start c.in_ok-number.field-0
+    c.loop-index.invariant.same (c.in_ok-start.ensures.same ∙ c.loop-index.invariant.same) c.loop-index.invariant.closed c.in_ok-start.ensures.start (c.in_ok-number.ensures.answer far.0 far.1) in
     record {
-      same = c.in_ok-number.ensures.same ∙ c.loop-index.invariant.same;
-      count = c.in_ok-number.ensures.count ∙ c.loop-index.invariant.count;
+      same = c.in_ok-number.ensures.same ∙ c.in_ok-start.ensures.same ∙ c.loop-index.invariant.same;
+      count = c.in_ok-number.ensures.count ∙ c.in_ok-start.ensures.count ∙ c.loop-index.invariant.count;
+      closed = closed_after before (g.F.FileSystem.states c.loop-index.files) (contains_text c.loop-index.given) (contains_text c.give_paths.new.given) c.loop-index.starts c.find_start.new.starts
+          (candidate (wanted_of wish).base c.in-Some.number) (wanted_of wish).files far.0 c.loop-index.invariant.same far.1 (c.in_ok-give_paths.ensures far.0 far.1)
+          c.loop-index.invariant.closed c.in_ok-start.ensures.kept;
       each = each;
       so_far = (
         with_paths (candidate (wanted_of wish).base c.in-Some.number) (wanted_of wish).files far.0,
         c.in_ok-give_paths.ensures far.0 far.1,
-        planned_more (g.F.FileSystem.states c.args.files.now) (g.F.FileSystem.states c.loop-index.files) c.args.wishes.now far.0 c.loop-index.numbers.items c.push.new.self.items c.loop-index.index wish c.in-Some.number
-            within c.index-wishes-index.is more c.loop-index.invariant.same far.2 (subst P some (c.in_ok-number.ensures.answer far.0 far.1)),
+        planned_more before before c.args.wishes.now far.0 c.loop-index.numbers.items c.push.new.self.items c.loop-index.index wish c.in-Some.number
+            within c.index-wishes-index.is more refl far.2 (subst (FitIs before far.0 wish) some fits),
       );
     }
