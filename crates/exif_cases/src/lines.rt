@@ -122,6 +122,8 @@ impl Case {
             "keep-orientation" => self.keeps_orientation = true,
             "exif-dates" => self.exif_dates = true,
             "target-shape" => self.target_shape = true,
+            "xmp" => self.xmp = true,
+            "icc" => self.icc = true,
             _ => return Err(CaseError::Line("unknown call or option")),
         }
         Ok(())

@@ -1,11 +1,11 @@
-//! Exif data of one picture that are put into others.
+//! Metadata of one picture that are put into others.
 
 use exif::Sink;
 use exif_files::Status;
 use exif_session::{Change, Copying, Session, Stop, change_in_place, exif_of, read_file};
 
-/// Puts the Exif data of a picture into each file that is named or found, in place, and answers the
-/// worst status.
+/// Puts the metadata of a picture that are selected into each file that is named or found, in place,
+/// and answers the worst status.
 pub fn copy_into_files<W: Sink, E: Sink>(
     session: &mut Session<'_, '_, W, E>,
     copying: &Copying<'_>,
@@ -17,6 +17,6 @@ pub fn copy_into_files<W: Sink, E: Sink>(
         Ok(from) => from,
         Err(cause) => return session.refuse(copying.from, &cause),
     };
-    let change = Change::Copy(from, copying.shape);
+    let change = Change::Copy(from, copying.selection);
     change_in_place(session, &change, copying.keeping)
 }

@@ -1,6 +1,5 @@
 //! Many files, one after the other: what is wrong with one is reported, and the others go on.
 
-use crate::catalog::update_catalog;
 use crate::check::check_file;
 use crate::copying::copy_into_files;
 use crate::geotag::geotag_files;
@@ -11,6 +10,7 @@ use crate::table::{write_header, write_row};
 use crate::thumbnail::{write_thumbnail, write_thumbnail_into};
 use crate::touch::touch_file;
 use exif::Sink;
+use exif_catalog_commands::update_catalog;
 use exif_files::Status;
 use exif_session::{Next, Request, Session, Stop, Target, Task, change_in_place, change_into};
 

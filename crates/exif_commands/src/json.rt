@@ -1,12 +1,11 @@
 //! The JSON objects of a file.
 
-use crate::stamps::stamp_of;
 use exif::{Error, Exif, Sink, Tag};
 use exif_files::Status;
 use exif_formats::{Picture, PictureFormat};
 use exif_json::{FileFacts, flat_json, json_of_answer, json_of_tags};
 use exif_report::found_of;
-use exif_session::{Input, Reading, Session, Stop, open, read};
+use exif_session::{Input, Reading, Session, Stop, open, read, stamp_of};
 use std::alloc::{AllocError, Global};
 use std::io;
 

@@ -19,7 +19,8 @@ NoneOpenBelow free is_given base ending start =
 -- no path of the first file is open by a number below a start, which is 0 where there is no file
 abbrev pub NoneOpenFirst : (List ℕ → Bool) → (List ℕ → Bool) → List ℕ → List File → ℕ → Type 0
 NoneOpenFirst free is_given base [] start = start ≡ 0
-NoneOpenFirst free is_given base (file ∷ files) start = NoneOpenBelow free is_given base file.ending start
+NoneOpenFirst free is_given base (file ∷ files) start =
+    NoneOpenBelow free is_given base file.ending start
 
 -- where the search for a wish may begin
 abbrev pub IsStart : (List ℕ → Bool) → (List ℕ → Bool) → Wanted → ℕ → Type 0
@@ -29,7 +30,8 @@ IsStart free is_given wanted start = NoneOpenFirst free is_given wanted.base wan
 abbrev pub HasOwn : List ℕ → List File → Option ℕ → Type 0
 HasOwn base [] own = ⊤
 HasOwn base (file ∷ files) own =
-    (number : ℕ) → number < 2 ^ 32 → file.old ≡ path_of (candidate base number) file → own ≡ Some number
+    (number : ℕ) → number < 2 ^ 32 → file.old ≡ path_of (candidate base number) file
+    → own ≡ Some number
 
 abbrev pub IsOwn : Wanted → Option ℕ → Type 0
 IsOwn wanted own = HasOwn wanted.base wanted.files own
@@ -40,5 +42,6 @@ series_cmp a b = ordering_then (string_cmp a.base b.base) (string_cmp a.ending b
 
 -- what a map has of each series is a start: no path is open by a number below it
 abbrev pub AreStarts : (List ℕ → Bool) → (List ℕ → Bool) → BTreeMap Series ℕ → Type 0
-AreStarts free is_given starts = (series : Series) (start : ℕ) → get series_cmp starts series ≡ Some start
+AreStarts free is_given starts =
+    (series : Series) (start : ℕ) → get series_cmp starts series ≡ Some start
     → NoneOpenBelow free is_given (string_bytes series.base) (string_bytes series.ending) start

@@ -4,7 +4,7 @@ use Rattle.exif_change.specs.Changed as changed
 use Rattle.exif_change.specs.Refusals.{Why}
 use Rattle.exif_change.specs.declared.notes.Color.TheVariants.{Keep, Strip}
 use Rattle.exif_change.specs.declared.notes.Note.{Note}
-use Rattle.exif_copy.specs.Copied.{copied}
+use Rattle.exif_copy.specs.Selected.{selected}
 use Rattle.exif_pictures.specs.Pictures.{picture_notes, picture_scrubbed, picture_scrubbed_with_color, picture_set, picture_shifted}
 use Rattle.exif_session.specs.declared.request.Change.{Change}
 use Rattle.exif_session.specs.declared.request.Change.TheVariants.{Copy, Scrub, Set, Shift}
@@ -16,7 +16,7 @@ answer_of (Scrub removed Keep) old = picture_scrubbed removed old
 answer_of (Scrub removed Strip) old = picture_scrubbed_with_color removed old
 answer_of (Set values) old = picture_set values.items old
 answer_of (Shift by dates) old = picture_shifted by dates old
-answer_of (Copy from shape) old = copied shape from.items old
+answer_of (Copy from selection) old = selected selection from.items old
 
 -- the new bytes alone
 abbrev pub file_of : Result changed.Change Why → Result (List ℕ) Why
@@ -32,4 +32,4 @@ abbrev pub notes_of : Change → List ℕ → List Note
 notes_of (Scrub removed color) old = picture_notes removed color old
 notes_of (Set values) old = []
 notes_of (Shift by dates) old = []
-notes_of (Copy from shape) old = []
+notes_of (Copy from selection) old = []

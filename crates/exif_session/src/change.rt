@@ -7,7 +7,7 @@ ghost use Rattle.exif_session.specs.Answers.{IsAnswerOf, answer_of, notes_of};
 
 use crate::request::Change;
 use exif_change::{Changed, Color, Left, Note, Refusal};
-use exif_copy::copy_exif;
+use exif_copy::copy_selected;
 use exif_files::{Edit, EditError, Edited, Report};
 use exif_pictures::{scrub, scrub_notes, scrub_with_color, set, shift};
 use std::alloc::{AllocError, Global};
@@ -22,9 +22,9 @@ pub fn change_bytes(alloc: Global, change: &Change<'_>, old: &[u8]) -> Result<Ch
         Change::Scrub(removed, Color::Strip) => scrub_with_color(alloc, file, *removed),
         Change::Shift(by, dates) => shift(alloc, file, *by, *dates),
         Change::Set(values) => set(alloc, file, values.as_slice()),
-        Change::Copy(from, shape) => {
+        Change::Copy(from, selection) => {
             drop(file);
-            copy_exif(alloc, from.as_slice(), old, *shape)
+            copy_selected(alloc, from.as_slice(), old, *selection)
         }
     }
 }

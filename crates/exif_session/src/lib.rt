@@ -11,6 +11,7 @@ mod output;
 mod pending;
 mod request;
 mod session;
+mod stamps;
 
 pub use change_out::change_into;
 pub use choosing::exif_of;
@@ -24,3 +25,4 @@ pub use request::{
     Target, Task,
 };
 pub use session::{Session, Stop};
+pub use stamps::{FileStamp, stamp_of};

@@ -4,7 +4,7 @@ use crate::inputs::Use;
 use exif::Tag;
 use exif_change::{Assignment, ClockShift, Color, Dates, Removed};
 use exif_columns::{self as columns, Separator};
-use exif_copy::Shape;
+use exif_copy::Selection;
 use exif_files::Keeping;
 use exif_formats::Options;
 use exif_rename::Pattern;
@@ -53,7 +53,7 @@ pub enum Task<'a> {
     Touch(&'a str),
     /// Its location is set in place by a track.
     Geotag(Geotagging<'a>),
-    /// It gets the Exif data of another picture, in place.
+    /// It gets metadata of another picture, in place.
     Copy(Copying<'a>),
     /// It gets a row in a catalogue.
     Catalog(Cataloguing<'a>),
@@ -99,13 +99,13 @@ pub struct Table {
     pub header: bool,
 }
 
-/// Which Exif data files get.
+/// Which metadata files get.
 #[derive(Drop)]
 pub struct Copying<'a> {
     /// The picture that has them.
     pub from: &'a str,
-    /// Whose orientation and sizes they tell.
-    pub shape: Shape,
+    /// What of it is copied.
+    pub selection: Selection,
     /// What is kept of the old files.
     pub keeping: Keeping,
 }
@@ -208,9 +208,8 @@ pub enum Change<'a> {
     Set(Vec<Assignment<'a>>),
     /// Dates are moved.
     Shift(ClockShift, Dates),
-    /// The Exif data of this picture are put in place of its own; whose orientation and sizes they
-    /// tell.
-    Copy(Vec<u8>, Shape),
+    /// The metadata of this picture that are selected are put in place of its own.
+    Copy(Vec<u8>, Selection),
 }
 
 /// Where a changed file is written.

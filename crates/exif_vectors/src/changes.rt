@@ -6,7 +6,7 @@ use exif_cases::{Call, Case, CaseError};
 use exif_change::{
     Assignment, Changed, ClockShift, Dates, Refusal, Removed, Unread, read, thumbnail,
 };
-use exif_copy::{Shape, copy_exif};
+use exif_copy::{Selection, Shape, copy_selected};
 use exif_segments::util::read_all;
 use std::alloc::{AllocError, Global};
 
@@ -103,7 +103,7 @@ fn shifted(alloc: Global, case: &Case, old: Vec<u8>) -> Result<Answer, CaseError
     Ok(exif_pictures::shift(alloc, old, by, dates))
 }
 
-// The file with the Exif data of the one that is put.
+// The file with the metadata of the one that is put.
 fn copied(alloc: Global, case: &Case, old: &[u8]) -> Answer {
     let from = case.put.as_deref().unwrap_or(&[]);
     let shape = if case.target_shape {
@@ -111,7 +111,12 @@ fn copied(alloc: Global, case: &Case, old: &[u8]) -> Answer {
     } else {
         Shape::Source
     };
-    copy_exif(alloc, from, old, shape)
+    let selection = Selection {
+        shape,
+        xmp: case.xmp,
+        color_profile: case.icc,
+    };
+    copy_selected(alloc, from, old, selection)
 }
 
 // The thumbnail of a file; nothing where there is none.

@@ -242,16 +242,18 @@ fn shift<'a>(alloc: Global) -> Result<Command<'a>, AllocError> {
 
 fn copy<'a>(alloc: Global) -> Result<Command<'a>, AllocError> {
     let command = Command::new(alloc, "copy")
-        .about("Put the Exif data of one picture into others, in place of their own")
+        .about("Put the metadata of one picture into others, in place of their own")
         .override_usage("mexaldor copy [OPTIONS] FROM FILE...")
         .after_help(
-            "FROM is a picture of any format but TIFF and raw. FILE is a JPEG, WebP or PNG picture.",
+            "FROM is a picture of any format but TIFF and raw; XMP packets come from JPEG, PNG, WebP and JPEG XL, colour profiles from JPEG, PNG and WebP. FILE is a JPEG, WebP or PNG picture.",
         )
         .arg(options::flag(
             alloc,
             "keep-target-shape",
             "Keep the orientation and the pixel sizes that the Exif data of FILE tell",
         ))?
+        .arg(options::flag(alloc, "xmp", "Copy the XMP packet, too"))?
+        .arg(options::flag(alloc, "icc", "Copy the colour profile, too"))?
         .arg(
             Arg::new(alloc, "from")
                 .value_name("FROM")

@@ -4,7 +4,7 @@ use crate::selection::{Wrong, keeping_of, request, takes_many, words_of, wrong};
 use crate::tags::unknown_tag;
 use clap::ArgMatches;
 use exif_change::{Assignment, ClockShift, Color, Dates, Removed, Unread};
-use exif_copy::Shape;
+use exif_copy::{Selection, Shape};
 use exif_decisions::{Escaped, is_assignment};
 use exif_session::{Change, Copying, Request, Target, Task};
 use std::alloc::{AllocError, Global};
@@ -86,7 +86,11 @@ pub fn copy_of<'a>(
     };
     let copying = Copying {
         from: matches.get_str("from").unwrap_or(""),
-        shape,
+        selection: Selection {
+            shape,
+            xmp: matches.get_flag("xmp"),
+            color_profile: matches.get_flag("icc"),
+        },
         keeping: keeping_of(matches),
     };
     let files = words_of(alloc, matches)?;

@@ -1,6 +1,5 @@
 //! A catalogue that is brought up to date.
 
-use crate::stamps::{FileStamp, stamp_of};
 use exif::{Error, Exif, Sink};
 use exif_catalog::{
     CatalogError, Found, PictureFile, Pictures, RunError, SqlValue, Stamp, Totals, is_below,
@@ -10,7 +9,7 @@ use exif_files::Status;
 use exif_formats::{Picture, PictureFormat};
 use exif_json::mime_type;
 use exif_report::found_of;
-use exif_session::{Cataloguing, Next, Session, Stop, open, read, read_file};
+use exif_session::{Cataloguing, FileStamp, Next, Session, Stop, open, read, read_file, stamp_of};
 use sha2::{Digest, Sha256};
 use std::alloc::{AllocError, Global};
 use std::io::{self, ErrorKind};

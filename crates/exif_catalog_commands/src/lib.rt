@@ -1,0 +1,11 @@
+//! What the program `mexaldor` does with a catalogue: it brings it up to date, answers queries, and
+//! makes a page of it.
+#![tactic(auto)]
+
+mod catalog;
+mod page;
+mod query;
+
+pub use catalog::update_catalog;
+pub use page::write_page;
+pub use query::answer_query;
