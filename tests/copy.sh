@@ -1,5 +1,5 @@
 #!/bin/sh
-# Exif data of one picture that are put into others.
+# Metadata of one picture that are put into others.
 . "$(dirname "$0")/checks.sh"
 
 # fields FILE: the fields of a file, without its name.
@@ -53,7 +53,51 @@ cp files/plain.jpg folder/b.jpg
 gives "the pictures of a folder get them" 0 "$mexaldor" copy -q -r --backup "$sample" folder
 check "each" cmp folder/a.jpg folder/b.jpg
 check "and the old files are kept" cmp folder/a.jpg.orig files/plain.jpg
+# packets and profiles: python3 makes the pictures, and reads them
+python3 "$root/tests/blocks.py" make
+for to in jpg png webp; do
+    for from in jpg png webp; do
+        cp "bare.$to" "new.$to"
+        gives "a packet from $from into $to" 0 "$mexaldor" copy --xmp "full.$from" "new.$to"
+        check "it is that packet, and the rest stayed" python3 "$root/tests/blocks.py" xmp "full.$from" "bare.$to" "new.$to"
+        cp "bare.$to" "new.$to"
+        if [ "$from" = png ] && [ "$to" != png ]; then
+            gives "a compressed profile is refused for $to" 1 "$mexaldor" copy --icc "full.$from" "new.$to"
+            says "by its reason" "new.$to: the compressed colour profile of a PNG file is copied into PNG files only"
+            check "and nothing changed" cmp "bare.$to" "new.$to"
+        else
+            gives "a profile from $from into $to" 0 "$mexaldor" copy --icc "full.$from" "new.$to"
+            check "it is that profile, and the rest stayed" python3 "$root/tests/blocks.py" icc "full.$from" "bare.$to" "new.$to"
+        fi
+    done
+done
+cp bare.jpg new.jpg
+gives "a picture without a packet is refused" 1 "$mexaldor" copy --xmp "$sample" new.jpg
+says "by its reason" "File without an XMP packet"
+check "and the other one stays" cmp bare.jpg new.jpg
+if has djpeg && has dwebp && has pngcheck; then
+    for from in jpg webp; do
+        cp bare.jpg new.jpg
+        cp bare.png new.png
+        cp bare.webp new.webp
+        "$mexaldor" copy -q --xmp --icc "full.$from" new.jpg new.png new.webp
+        check "libjpeg decodes it" djpeg -outfile new.ppm new.jpg
+        djpeg -outfile bare.ppm bare.jpg
+        check "as before" cmp bare.ppm new.ppm
+        check "pngcheck takes it" pngcheck -q new.png
+        check "libwebp decodes it" dwebp -quiet -ppm new.webp -o new.ppm
+        dwebp -quiet -ppm bare.webp -o bare.ppm
+        check "as before" cmp bare.ppm new.ppm
+    done
+fi
 if has exiftool; then
+    for file in new.jpg new.png new.webp; do
+        exiftool -b -ICC_Profile full.webp >expected
+        exiftool -b -ICC_Profile "$file" >found
+        check "exiftool finds the profile of $file" cmp expected found
+        check "and the packet" sh -c 'exiftool -s3 -XMP-dc:Title "$0" | grep -qx "A title"' "$file"
+        check "and no fault" sh -c '! exiftool -validate -warning "$0" | grep -i "icc\|xmp\|riff\|chunk"' "$file"
+    done
     cp files/plain.jpg copied.jpg
     "$mexaldor" copy "$sample" copied.jpg
     exiftool -G1 -a -s -Exif:all --ThumbnailOffset "$sample" >expected

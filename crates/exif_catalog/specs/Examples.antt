@@ -90,7 +90,11 @@ no_time : has_stamp_of (Some (record { stamp = None; is_removed = false; is_seen
 no_time = refl
 
 same_file : has_stamp_of
-    (Some (record { stamp = Some (record { size = 5; modified = 7 }); is_removed = false; is_seen = false }))
+    (Some (record {
+      stamp = Some (record { size = 5; modified = 7 });
+      is_removed = false;
+      is_seen = false;
+    }))
     (Some (record { size = 5; modified = 7 })) ≡ true
 same_file = refl
 

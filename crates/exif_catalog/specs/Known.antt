@@ -20,7 +20,8 @@ abbrev pub is_below_any : List ℕ → List (Bor (List ℕ)) → Bool
 is_below_any path roots = list_any (λ root. is_below path root.now) roots
 
 -- How a row's mark changes, if it does, by whether the file was seen, the mark, and whether it is
--- below the roots: a file that was seen is not removed, and one that was looked for and not seen is.
+-- below the roots: a file that was seen is not removed, and one that was looked for and not seen
+-- is.
 abbrev pub mark_for : Bool → Bool → Bool → Option Bool
 mark_for true true below = Some false
 mark_for true false below = None

@@ -23,4 +23,5 @@ tables_for others own = if others == 0 then tables.None
 
 -- the same by the names of all
 abbrev pub tables_of : List (String Global) → declared.Tables
-tables_of names = tables_for (count_by (λ name. not (is_internal name)) names) (count_by is_own names)
+tables_of names =
+    tables_for (count_by (λ name. not (is_internal name)) names) (count_by is_own names)

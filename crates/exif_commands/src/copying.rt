@@ -4,8 +4,8 @@ use exif::Sink;
 use exif_files::Status;
 use exif_session::{Change, Copying, Session, Stop, change_in_place, exif_of, read_file};
 
-/// Puts the metadata of a picture that are selected into each file that is named or found, in place,
-/// and answers the worst status.
+/// Puts the metadata of a picture that are selected into each file that is named or found, in
+/// place, and answers the worst status.
 pub fn copy_into_files<W: Sink, E: Sink>(
     session: &mut Session<'_, '_, W, E>,
     copying: &Copying<'_>,

@@ -74,9 +74,9 @@ fn copied_shaped(alloc: Global, exif: &Exif, to: &[u8], shape: Shape) -> Result<
 /// them is.
 ///
 /// `to` is a JPEG, WebP or PNG file; others are refused with `NotSupported`. All its Exif segments,
-/// its chunks `EXIF` or its chunks `eXIf` go, and the new one is where [`exif_rewrite::rewrite`] and
-/// [`rewrite_png`](exif_rewrite_png::rewrite_png) put it. Data that are too long for the file are
-/// refused with [`TooBig`](exif::Error::TooBig): a JPEG file takes 65,527 bytes. Of a JPEG file
+/// its chunks `EXIF` or its chunks `eXIf` go, and the new one is where [`exif_rewrite::rewrite`]
+/// and [`rewrite_png`](exif_rewrite_png::rewrite_png) put it. Data that are too long for the file
+/// are refused with [`TooBig`](exif::Error::TooBig): a JPEG file takes 65,527 bytes. Of a JPEG file
 /// that is cut off what is there is kept, and [`Left::CutOff`](exif_change::Left::CutOff) is
 /// answered.
 ///

@@ -112,7 +112,8 @@ fn with_color(
 /// [`InvalidFormat`](exif::Error::InvalidFormat). Packets come from JPEG, PNG, WebP and JPEG XL
 /// files, and profiles from JPEG, PNG and WebP files; other files are refused with
 /// [`NotSupported`](exif::Error::NotSupported), and so are a packet in several segments for another
-/// file than a JPEG file, and the compressed profile of a PNG file for another file than a PNG file.
+/// file than a JPEG file, and the compressed profile of a PNG file for another file than a PNG
+/// file.
 ///
 /// It takes the memory of [`copy_exif`], of what is copied, and of the new file once more.
 pub fn copy_selected(

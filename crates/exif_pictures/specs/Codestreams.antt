@@ -1,6 +1,6 @@
--- How much of its codestream a JPEG XL file has. A file in a container has it in a box `jxlc`, or in
--- boxes `jxlp`, of which the last one is marked (ISO/IEC 18181-2, clause 9); its boxes are those of
--- ISO/IEC 14496-12:2015, 4.2.
+-- How much of its codestream a JPEG XL file has. A file in a container has it in a box `jxlc`, or
+-- in boxes `jxlp`, of which the last one is marked (ISO/IEC 18181-2, clause 9); its boxes are those
+-- of ISO/IEC 14496-12:2015, 4.2.
 use Rattle.std.specs.Prelude.{ℕ, zero, suc, ◌-◌, ◌==◌, ◌||◌, nat_le, nat_lt, Bool, false, List, [], ◌∷◌, take, drop, length, codes, Option, None, Some, if◌then◌else◌}
 use Rattle.std.specs.Int.{from_be_bytes, w32, w64}
 use Rattle.std.specs.Str.{bytes_eq}

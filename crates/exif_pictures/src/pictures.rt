@@ -99,9 +99,9 @@ fn jxl_scrubbed(alloc: Global, file: Vec<u8>, removed: Removed) -> Result<Change
 /// A PNG file is written again without the chunks that do not show the picture
 /// ([`exif_rewrite_png::rewrite_png`]). In a JPEG XL file they become free space; the picture keeps
 /// its own orientation. One that is cut off is changed as far as it goes, which is answered; one
-/// whose container has no codestream is refused. Where locations are erased no byte moves, and the CRCs of the chunks that
-/// were changed are mended. Raw files are refused. It takes the memory of the file and of the new
-/// one.
+/// whose container has no codestream is refused. Where locations are erased no byte moves, and the
+/// CRCs of the chunks that were changed are mended. Raw files are refused. It takes the memory of
+/// the file and of the new one.
 pub fn scrub(alloc: Global, file: Vec<u8>, removed: Removed) -> Result<Changed, Refusal>
     ensures { Answers change_of result (picture_scrubbed removed file.items) }
 {

@@ -68,8 +68,8 @@ fn packet_in(alloc: Global, parts: &[Part], file: &[u8]) -> Result<Xmp, Error>
 }
 
 /// The XMP packet of the first picture of a JPEG, PNG, WebP or JPEG XL file, with the segments of a
-/// JPEG file that go on with it. A file without one is refused with `InvalidFormat`, and one
-/// of another format with `NotSupported`. It takes the memory of the packet and of the list of parts.
+/// JPEG file that go on with it. A file without one is refused with `InvalidFormat`, and one of
+/// another format with `NotSupported`. It takes the memory of the packet and of the list of parts.
 pub fn xmp_of(alloc: Global, file: &[u8]) -> Result<Xmp, Error>
     ensures { Gives packet_view result (xmp_of file.now) }
 {

@@ -1,8 +1,8 @@
 //! XMP packets and colour profiles: taken out of one picture, and put into another one in place of
 //! its own.
 //!
-//! [`xmp_of`] and [`profile_of`] take them out of a file, [`with_xmp`] and [`with_profile`] put them
-//! into a JPEG, PNG or WebP file that has Exif data.
+//! [`xmp_of`] and [`profile_of`] take them out of a file. [`with_xmp`] and [`with_profile`] put
+//! them into a JPEG, PNG or WebP file that has Exif data.
 #![tactic(auto)]
 
 mod found;

@@ -71,14 +71,14 @@ fn jpeg_with_profile(
 }
 
 /// The file with this XMP packet in place of its own: in a JPEG file behind the Exif data of the
-/// first picture, with the segments that go on with it; in a WebP file behind them, with its flag in
-/// the header; in a PNG file behind the image header. All other bytes stay, in their order.
+/// first picture, with the segments that go on with it; in a WebP file behind them, with its flag
+/// in the header; in a PNG file behind the image header. All other bytes stay, in their order.
 ///
 /// A JPEG or WebP file without Exif data is refused with `InvalidFormat`, as is a PNG file without
 /// its first chunk. A packet that does not fit is refused with `TooBig`: a JPEG file takes 65,502
 /// bytes. A packet in several segments is put into JPEG files only, and a WebP file without the
-/// extended header is refused: both with `NotSupported`. It takes the memory of the new file, of the
-/// packet and of the list of parts.
+/// extended header is refused: both with `NotSupported`. It takes the memory of the new file, of
+/// the packet and of the list of parts.
 pub fn with_xmp(
     alloc: Global,
     container: Container,
@@ -100,11 +100,11 @@ pub fn with_xmp(
     }
 }
 
-/// The file with this colour profile in place of its own: in a JPEG file behind the Exif data of the
-/// first picture, in up to 255 segments of 65,519 bytes; in a WebP file behind the extended header,
-/// with its flag; in a PNG file behind the image header, stored as a zlib stream. A PNG file loses
-/// its chunks `sRGB` and `cICP`, which say its colours in another way. All other bytes stay, in
-/// their order.
+/// The file with this colour profile in place of its own: in a JPEG file behind the Exif data of
+/// the first picture, in up to 255 segments of 65,519 bytes; in a WebP file behind the extended
+/// header, with its flag; in a PNG file behind the image header, stored as a zlib stream. A PNG
+/// file loses its chunks `sRGB` and `cICP`, which say its colours in another way. All other bytes
+/// stay, in their order.
 ///
 /// It is refused as [`with_xmp`] is. The compressed profile of a PNG file is put into PNG files
 /// only, as it stands, and others are refused with `NotSupported`. It takes the memory of the new
