@@ -1,3 +1,4 @@
+mod CopiedData
 mod DatesThemselves
 mod FoundFiles
 mod JoinedFiles

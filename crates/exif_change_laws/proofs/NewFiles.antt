@@ -206,7 +206,7 @@ jpeg_is : (put : Option (List ℕ)) (file : List ℕ) → format_in (take 4096 f
 unfolding file_rewriting rewriting_as
 jpeg_is put file is = ap (λ f. rewriting_as f Exif put file) is
 
-jpeg_answers : (data' file new : List ℕ)
+pub jpeg_answers : (data' file new : List ℕ)
     → ((remove : Remove) (put : Option (List ℕ)) (bytes : List ℕ) → IsFound remove put bytes)
     → format_in (take 4096 file) ≡ Some Jpeg
     → as_read (rewritten_jpeg Exif (Some data') file) ≡ Ok (whole new) → length new < 2 ^ 64
@@ -253,7 +253,7 @@ webp_is : (put : Option (List ℕ)) (file : List ℕ) → format_in (take 4096 f
 unfolding file_rewriting rewriting_as
 webp_is put file is = ap (λ f. rewriting_as f Exif put file) is
 
-webp_answers : (data' file new : List ℕ)
+pub webp_answers : (data' file new : List ℕ)
     → ((remove : Remove) (put : Option (List ℕ)) (bytes : List ℕ) → IsFound remove put bytes)
     → format_in (take 4096 file) ≡ Some WebP
     → as_read (rewritten_webp Exif (Some data') file) ≡ Ok (whole new) → length new < 2 ^ 64

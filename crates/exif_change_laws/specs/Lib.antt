@@ -1,4 +1,5 @@
 pub mod Assigned
+pub mod Copies
 pub mod Examples
 pub mod Leaving
 pub mod Positions

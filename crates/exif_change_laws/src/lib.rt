@@ -1,6 +1,6 @@
-//! Laws of changed files: what is read of a file without its metadata, and of one whose dates were
-//! moved and moved back. They hold for all files, and speak of the definitions alone. A shift
-//! that is given as text has fewer than 2^42 seconds.
+//! Laws of changed files: what is read of a file without its metadata, of one that got those of
+//! another picture, and of one whose dates were moved and moved back. They hold for all files, and
+//! speak of the definitions alone. A shift that is given as text has fewer than 2^42 seconds.
 #![tactic(auto)]
 
 ghost use Rattle.std.specs.Prelude.{ℕ, Bool, true, ◌≡◌, ◌<◌, ◌^◌, List, [], ◌∷◌, length, Option, None, Some, Ok};
@@ -23,6 +23,7 @@ ghost use Rattle.exif_change_laws.specs.Positions.{KeepsPositions};
 ghost use Rattle.exif_change_laws.specs.Scrubbed.{HasNoField, is_rewritten, orientation, orientation_alone};
 ghost use Rattle.exif_change_laws.specs.Shifted.{all_read};
 
+pub mod copied;
 pub mod found;
 pub mod scrubs;
 pub mod sets;

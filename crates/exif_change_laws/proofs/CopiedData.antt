@@ -1,0 +1,173 @@
+-- Exif data that were put into a file are read of the new one.
+use Rattle.std.proofs.Common.{◌≡◌, ◌∙◌, ◌<◌, ◌-◌, ◌^◌, ℕ, Bool, true, false, List, length, take, Option, Some, None, Result, Ok, Err, if◌then◌else◌, refl, sym, ap, subst, arith}
+use Rattle.exif_base.specs.declared.endian.Order.{Order}
+use Rattle.exif_types.specs.Refusals as types
+use Rattle.exif_types.specs.Refusals.{Refusal}
+use Rattle.exif_types.specs.declared.field.Field.{Field}
+use Rattle.exif_tiff.specs.Answers.{raw_answer}
+use Rattle.exif_tiff.specs.Trace.{header}
+use Rattle.exif_segments.specs.declared.remove.Remove.{Remove}
+use Rattle.exif_segments.specs.declared.remove.Remove.TheVariants.{Exif}
+use Rattle.exif_containers.specs.Container as container
+use Rattle.exif_containers.specs.Container.{container_answer}
+use Rattle.exif_containers.specs.declared.container.Format.{Format}
+use Rattle.exif_containers.specs.declared.container.Format.TheVariants as known
+use Rattle.exif_formats.specs.Formats.{format_in, known_or, other_format_in}
+use Rattle.exif_formats.specs.Pictures.{png_data}
+use Rattle.exif_formats.specs.declared.format.PictureFormat.{PictureFormat}
+use Rattle.exif_formats.specs.declared.format.PictureFormat.TheVariants.{Tiff, Jpeg, Heif, WebP, Png, JpegXl, Raf, Orf, Rw2, Cr3}
+use Rattle.exif_png.specs.Png.{png_answer}
+use Rattle.exif_rewrite.specs.FileLaws.{IsFound}
+use Rattle.exif_rewrite_png.specs.PngLaws.{Holds, IsAnswered}
+use Rattle.exif_rewrite_png.specs.RewrittenPng.{png_rewriting}
+use Rattle.exif_change.specs.Changed.{Change, whole}
+use Rattle.exif_change.specs.Reading.{Contents, data_contents, entry_limit, fields_in, without_fault}
+use Rattle.exif_change.specs.Refusals.{Why, as_read, unknown_format, ◌>>=◌}
+use Rattle.exif_change.specs.Rewriting.{if_whole}
+use Rattle.exif_copy.specs.Copied.{copied, placed_shaped}
+use Rattle.exif_copy.specs.Found.{data_found, exif_found, format_for}
+use Rattle.exif_copy.specs.Placed.{placed, png_made, target_refused}
+use Rattle.exif_copy.specs.declared.copying.Shape.TheVariants.{Source}
+use Rattle.exif_change_laws.proofs.NewFiles.{jpeg_answers, webp_answers}
+
+no_ok : {X : Type 0} (why : Why) (x : X) → ◌≡◌ {A = Result X Why} (Err why) (Ok x) → ⊥
+no_ok why x e = cc
+
+-- ---- formats
+
+-- whether a format is one of a container
+abbrev is_container : Option PictureFormat → Bool
+is_container (Some Jpeg) = true
+is_container (Some WebP) = true
+is_container _ = false
+
+other_is_none : (a b c d e f : Bool)
+    → is_container (if a then Some Png else (if b then Some JpegXl else (if c then Some Raf else (if d then Some Orf else (if e then Some Rw2 else (if f then Some Cr3 else None)))))) ≡ false
+other_is_none true b c d e f = refl
+other_is_none false true c d e f = refl
+other_is_none false false true d e f = refl
+other_is_none false false false true e f = refl
+other_is_none false false false false true f = refl
+other_is_none false false false false false true = refl
+other_is_none false false false false false false = refl
+
+other_is_no_container : (head : List ℕ) → is_container (other_format_in head) ≡ false
+unfolding other_format_in
+other_is_no_container head = other_is_none _ _ _ _ _ _
+
+-- a JPEG or WebP file is one for the containers, too
+known_jpeg : (o : Option Format) (other : Option PictureFormat) → is_container other ≡ false
+    → known_or o other ≡ Some Jpeg → o ≡ Some known.Jpeg
+known_jpeg (Some known.Jpeg) other n e = refl
+known_jpeg (Some known.Tiff) other n e = absurd (let h : ◌≡◌ {A = Option PictureFormat} (Some Tiff) (Some Jpeg) = e in cc)
+known_jpeg (Some known.Heif) other n e = absurd (let h : ◌≡◌ {A = Option PictureFormat} (Some Heif) (Some Jpeg) = e in cc)
+known_jpeg (Some known.WebP) other n e = absurd (let h : ◌≡◌ {A = Option PictureFormat} (Some WebP) (Some Jpeg) = e in cc)
+known_jpeg None other n e = absurd (let h : true ≡ false = sym (ap is_container e) ∙ n in cc)
+
+known_webp : (o : Option Format) (other : Option PictureFormat) → is_container other ≡ false
+    → known_or o other ≡ Some WebP → o ≡ Some known.WebP
+known_webp (Some known.WebP) other n e = refl
+known_webp (Some known.Tiff) other n e = absurd (let h : ◌≡◌ {A = Option PictureFormat} (Some Tiff) (Some WebP) = e in cc)
+known_webp (Some known.Heif) other n e = absurd (let h : ◌≡◌ {A = Option PictureFormat} (Some Heif) (Some WebP) = e in cc)
+known_webp (Some known.Jpeg) other n e = absurd (let h : ◌≡◌ {A = Option PictureFormat} (Some Jpeg) (Some WebP) = e in cc)
+known_webp None other n e = absurd (let h : true ≡ false = sym (ap is_container e) ∙ n in cc)
+
+jpeg_known : (file : List ℕ) → format_for file ≡ Some Jpeg
+    → container.format_in (take 4096 file) ≡ Some known.Jpeg
+unfolding format_in
+jpeg_known file e =
+    known_jpeg (container.format_in (take 4096 file)) (other_format_in (take 4096 file)) (other_is_no_container (take 4096 file)) e
+
+webp_known : (file : List ℕ) → format_for file ≡ Some WebP
+    → container.format_in (take 4096 file) ≡ Some known.WebP
+unfolding format_in
+webp_known file e =
+    known_webp (container.format_in (take 4096 file)) (other_format_in (take 4096 file)) (other_is_no_container (take 4096 file)) e
+
+-- ---- PNG files
+
+abbrev change_or : Change → Result Change Why → Change
+change_or other (Ok change) = change
+change_or other (Err why) = other
+
+whole_made : (made : Result (List ℕ) Refusal) (new : List ℕ) → as_read (if_whole made) ≡ Ok (whole new)
+    → made ≡ Ok new
+whole_made (Ok file) new e = ap (λ (f : List ℕ). let y : Result (List ℕ) Refusal = Ok f in y) (ap (λ r. (change_or (whole new) r).file) e)
+whole_made (Err r) new e = absurd (no_ok _ (whole new) e)
+
+not_refused : (o : Option Refusal) (out new : List ℕ) → (let r : Result (List ℕ) Refusal = elim o [ None ↦ Ok out | Some s ↦ Err s ] in r) ≡ Ok new
+    → (o ≡ None) × (out ≡ new)
+not_refused None out new e = (refl, (let h : ◌≡◌ {A = Result (List ℕ) Refusal} (Ok out) (Ok new) = e in cc))
+not_refused (Some s) out new e = absurd (let h : ◌≡◌ {A = Result (List ℕ) Refusal} (Err s) (Ok new) = e in cc)
+
+png_answers : (data' file new : List ℕ)
+    → ((remove : Remove) (put : Option (List ℕ)) (bytes : List ℕ) (n : ℕ) → IsAnswered remove put bytes n)
+    → as_read (if_whole (png_made data' file)) ≡ Ok (whole new) → length new < 2 ^ 64 - 1
+    → png_data new ≡ Ok data'
+unfolding png_made png_data
+png_answers data' file new law e short =
+    let rewriting = png_rewriting Exif (Some data') (take (2 ^ 64 - 1) file) in
+    let o = not_refused rewriting.refusal rewriting.out new (whole_made (png_made data' file) new e) in
+    let holds : Holds rewriting.out (2 ^ 64 - 1) data' =
+    law Exif (Some data') (take (2 ^ 64 - 1) file) (2 ^ 64 - 1) o.0 (subst (λ (xs : List ℕ). length xs < 2 ^ 64 - 1) (sym o.1) short) in
+    ap (λ (xs : List ℕ). container.data_of (png_answer (2 ^ 64 - 1) xs)) (sym o.1) ∙ ap container.data_of holds.1
+
+-- ---- files
+
+-- the laws of files that are written again
+pub record Laws : Type 0 where
+  pub file : (remove : Remove) (put : Option (List ℕ)) (bytes : List ℕ) → IsFound remove put bytes
+  pub png : (remove : Remove) (put : Option (List ℕ)) (bytes : List ℕ) (n : ℕ) → IsAnswered remove put bytes n
+
+by_format : Laws → (o : Option PictureFormat) (data' to new : List ℕ) → format_for to ≡ o
+    → placed o data' to ≡ Ok (whole new) → length new < 2 ^ 64 - 1 → data_found o new ≡ Ok data'
+by_format laws None data' to new is e short = absurd (no_ok unknown_format (whole new) e)
+by_format laws (Some Jpeg) data' to new is e short =
+    jpeg_answers data' to new laws.file (jpeg_known to is) e (omega arith)
+by_format laws (Some WebP) data' to new is e short =
+    webp_answers data' to new laws.file (webp_known to is) e (omega arith)
+by_format laws (Some Png) data' to new is e short = png_answers data' to new laws.png e short
+by_format laws (Some Tiff) data' to new is e short = absurd (no_ok target_refused (whole new) e)
+by_format laws (Some Heif) data' to new is e short = absurd (no_ok target_refused (whole new) e)
+by_format laws (Some JpegXl) data' to new is e short = absurd (no_ok target_refused (whole new) e)
+by_format laws (Some Raf) data' to new is e short = absurd (no_ok target_refused (whole new) e)
+by_format laws (Some Orf) data' to new is e short = absurd (no_ok target_refused (whole new) e)
+by_format laws (Some Rw2) data' to new is e short = absurd (no_ok target_refused (whole new) e)
+by_format laws (Some Cr3) data' to new is e short = absurd (no_ok target_refused (whole new) e)
+
+-- the data of a picture, put into a file, are read of the new one
+pub found_again : Laws → (from to new : List ℕ) (contents : Contents) → exif_found from ≡ Ok contents
+    → copied Source from to ≡ Ok (whole new) → length new < 2 ^ 64 - 1
+    → data_found (format_for to) new ≡ Ok contents.bytes
+found_again laws from to new contents read made short =
+    by_format laws (format_for to) contents.bytes to new refl
+    (sym (ap (λ r. as_read r >>= placed_shaped Source to) read) ∙ made) short
+
+-- ---- what is read of them
+
+-- data that were read are the bytes of what was read
+abbrev bytes_or : List ℕ → Result Contents Refusal → List ℕ
+bytes_or other (Ok contents) = contents.bytes
+bytes_or other (Err r) = other
+
+kept_by : (data' : List ℕ) (contents : Contents) (x : Result (List Field) Refusal) (y : Result Order Refusal)
+    → types.◌>>=◌ x (λ fields. types.◌>>=◌ y (λ order. Ok (record { bytes = data'; order = order; fields = fields })))
+    ≡ Ok contents → contents.bytes ≡ data'
+kept_by data' contents (Ok fields) (Ok order) e = sym (ap (bytes_or data') e)
+kept_by data' contents (Ok fields) (Err r) e = absurd (let h : ◌≡◌ {A = Result Contents Refusal} (Err r) (Ok contents) = e in cc)
+kept_by data' contents (Err r) y e = absurd (let h : ◌≡◌ {A = Result Contents Refusal} (Err r) (Ok contents) = e in cc)
+
+bytes_kept : (data' : List ℕ) (contents : Contents) → data_contents data' ≡ Ok contents → contents.bytes ≡ data'
+unfolding data_contents
+bytes_kept data' contents e =
+    kept_by data' contents (fields_in (raw_answer true entry_limit data')) (without_fault (header data')) e
+
+read_so : (found : Result (List ℕ) Refusal) (contents : Contents) → types.◌>>=◌ found data_contents ≡ Ok contents
+    → data_contents contents.bytes ≡ Ok contents
+read_so (Ok data') contents e = subst (λ (xs : List ℕ). data_contents xs ≡ Ok contents) (sym (bytes_kept data' contents e)) e
+read_so (Err r) contents e = absurd (let h : ◌≡◌ {A = Result Contents Refusal} (Err r) (Ok contents) = e in cc)
+
+pub read_as_before : (from : List ℕ) (contents : Contents) (found : Result (List ℕ) Refusal) → exif_found from ≡ Ok contents
+    → found ≡ Ok contents.bytes → types.◌>>=◌ found data_contents ≡ exif_found from
+read_as_before from contents found read e =
+    ap (λ r. types.◌>>=◌ r data_contents) e ∙ (read_so (data_found (format_for from) from) contents read ∙ sym read)
