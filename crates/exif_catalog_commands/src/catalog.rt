@@ -22,6 +22,8 @@ struct Gathered<'s, 'r, 'a, 'd, 'c, W, E> {
     // the picture that was given last
     path: String,
     stamp: FileStamp,
+    // how many faults were skipped in it
+    faults: usize,
     // its status, where there is one
     status: Option<Status>,
     worst: Status,
@@ -60,6 +62,7 @@ impl<W: Sink, E: Sink> Gathered<'_, '_, '_, '_, '_, W, E> {
     fn begin_picture(&mut self, path: String) -> Result<Found, Stop> {
         let alloc = self.session.rt.alloc();
         self.stamp = stamp_of(self.session.rt, path.as_str());
+        self.faults = 0;
         self.status = Some(Status::Success);
         let found = Found {
             path: text_of(alloc, path.as_bytes())?,
@@ -105,9 +108,7 @@ impl<W: Sink, E: Sink> Gathered<'_, '_, '_, '_, '_, W, E> {
         )?;
         match found_of(rt.alloc(), answer) {
             Ok((exif, faults)) => {
-                if !faults.is_empty() {
-                    self.status = Some(Status::Incomplete);
-                }
+                self.faults = faults.len();
                 Ok(self.row_of(format, Some(&exif), hash)?)
             }
             Err(Error::NotFound(_)) => Ok(self.row_of(format, None, hash)?),
@@ -153,7 +154,11 @@ impl<W: Sink, E: Sink> Pictures for Gathered<'_, '_, '_, '_, '_, W, E> {
 
     fn values(&mut self) -> Result<Option<Vec<SqlValue>>, Stop> {
         match self.hashed_row() {
-            Ok(values) => Ok(Some(values)),
+            Ok(values) => {
+                let status = self.session.skip_faults(self.path.as_str(), self.faults)?;
+                self.status = Some(status);
+                Ok(Some(values))
+            }
             Err(Error::OutOfMemory) => Err(Stop::OutOfMemory),
             Err(error) => {
                 self.status = Some(self.session.refuse(self.path.as_str(), &error)?);
@@ -211,6 +216,7 @@ pub fn update_catalog<W: Sink, E: Sink>(
             size: None,
             modified: None,
         },
+        faults: 0,
         status: None,
         worst: Status::Success,
         failed: Vec::new(alloc),

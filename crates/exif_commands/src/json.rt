@@ -31,10 +31,10 @@ pub fn write_summary<W: Sink, E: Sink>(
     path: &str,
 ) -> Result<Status, Stop> {
     match summary_of(session.rt, reading, path)? {
-        Ok((mut text, status)) => {
+        Ok((mut text, faults)) => {
             text.push(b'\n')?;
             session.answer(text.as_slice())?;
-            Ok(status)
+            session.skip_faults(path, faults)
         }
         Err(error) => session.refuse(path, &error),
     }
@@ -77,12 +77,12 @@ fn answered(
     Ok((json, status))
 }
 
-// The flat object of a file, and the file's status; or why it was refused.
+// The flat object of a file, and how many faults it has; or why it was refused.
 fn summary_of(
     rt: &HostRuntime,
     reading: Reading,
     path: &str,
-) -> Result<Result<(Vec<u8>, Status), Error>, AllocError> {
+) -> Result<Result<(Vec<u8>, usize), Error>, AllocError> {
     let alloc = rt.alloc();
     let stamp = stamp_of(rt, path);
     let picture = match open(rt, path) {
@@ -100,15 +100,8 @@ fn summary_of(
         modified: stamp.modified,
     };
     match found_of(alloc, answer) {
-        Ok((exif, faults)) => {
-            let status = if faults.is_empty() {
-                Status::Success
-            } else {
-                Status::Incomplete
-            };
-            Ok(Ok((flat_json(alloc, &facts, Some(&exif))?, status)))
-        }
-        Err(Error::NotFound(_)) => Ok(Ok((flat_json(alloc, &facts, None)?, Status::Success))),
+        Ok((exif, faults)) => Ok(Ok((flat_json(alloc, &facts, Some(&exif))?, faults.len()))),
+        Err(Error::NotFound(_)) => Ok(Ok((flat_json(alloc, &facts, None)?, 0))),
         Err(error) => Ok(Err(error)),
     }
 }

@@ -26,9 +26,9 @@ pub fn write_row<W: Sink, E: Sink>(
     path: &str,
 ) -> Result<Status, Stop> {
     match found_in(session.rt, table, path) {
-        Ok((exif, status)) => {
+        Ok((exif, faults)) => {
             write_cells(session, table, path, Some(&exif))?;
-            Ok(status)
+            session.skip_faults(path, faults)
         }
         Err(Error::NotFound(_)) => {
             write_cells(session, table, path, None)?;
@@ -39,20 +39,15 @@ pub fn write_row<W: Sink, E: Sink>(
     }
 }
 
-// The Exif data of a file, and its status.
-fn found_in(rt: &HostRuntime, table: &Table, path: &str) -> Result<(Exif, Status), Error> {
+// The Exif data of a file, and how many faults they have.
+fn found_in(rt: &HostRuntime, table: &Table, path: &str) -> Result<(Exif, usize), Error> {
     let input = match open(rt, path) {
         Ok(input) => input,
         Err(cause) => return Err(Error::Io(cause)),
     };
     let Picture { format: _, answer } = read(rt.alloc(), table.reading.options(), input)?;
     let (exif, faults) = found_of(rt.alloc(), answer)?;
-    let status = if faults.is_empty() {
-        Status::Success
-    } else {
-        Status::Incomplete
-    };
-    Ok((exif, status))
+    Ok((exif, faults.len()))
 }
 
 fn write_cells<W: Sink, E: Sink>(

@@ -19,6 +19,9 @@ pub fn touch_file<W: Sink, E: Sink>(
     zone: &str,
     path: &str,
 ) -> Result<Status, Stop> {
+    if path == "-" {
+        return session.refuse(path, &"standard input has no name");
+    }
     match touch(session.rt, zone, path) {
         Ok(true) => Ok(Status::Success),
         Ok(false) => {

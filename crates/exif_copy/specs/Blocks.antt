@@ -1,5 +1,5 @@
 -- The XMP packet and the colour profile of a picture put into a changed file.
-use Rattle.std.specs.Prelude.{ℕ, List, codes, Option, None, Some, Result, Ok, Err}
+use Rattle.std.specs.Prelude.{ℕ, List, codes, Bool, Option, None, Some, Result, Ok, Err, if◌then◌else◌}
 use Rattle.exif_types.specs.Refusals.{Refusal, not_supported, ◌>>=◌}
 use Rattle.exif_formats.specs.declared.format.PictureFormat.{PictureFormat}
 use Rattle.exif_formats.specs.declared.format.PictureFormat.TheVariants as format
@@ -9,7 +9,8 @@ use Rattle.exif_xmp_icc.specs.Profiles.{profile_of}
 use Rattle.exif_xmp_icc.specs.Put.{with_profile, with_xmp}
 use Rattle.exif_xmp_icc.specs.declared.putting.Container.{Container}
 use Rattle.exif_xmp_icc.specs.declared.putting.Container.TheVariants as container
-use Rattle.exif_copy.specs.Found.{format_for}
+use Rattle.exif_copy.specs.Found.{exif_found, format_for}
+use Rattle.exif_copy.specs.declared.selected.Selection.{Selection}
 
 -- the container of files of a format, if a packet and a profile can be put into them
 abbrev pub container_of : Option PictureFormat → Option Container
@@ -25,6 +26,27 @@ container_for file = container_of (format_for file)
 -- nothing is put into other files
 abbrev pub no_container : Refusal
 no_container = not_supported (codes "metadata are copied into JPEG, WebP and PNG files only")
+
+-- ---- what a picture must have
+
+-- its packet, if it is requested
+abbrev pub packet_checked : Bool → List ℕ → Result (Unit {0}) Refusal
+packet_checked requested from =
+    if requested then (xmp_of from >>= λ xmp. Ok tt) else Ok tt
+
+-- its profile, if it is requested
+abbrev pub profile_checked : Bool → List ℕ → Result (Unit {0}) Refusal
+profile_checked requested from =
+    if requested then (profile_of (container_for from) from >>= λ profile. Ok tt) else Ok tt
+
+-- its Exif data, and what else is selected
+abbrev pub source_checked : Selection → List ℕ → Result (Unit {0}) Refusal
+source_checked selection from =
+    exif_found from
+    >>= (λ contents. packet_checked selection.xmp from)
+    >>= (λ u. profile_checked selection.color_profile from)
+
+-- ---- changed files
 
 -- a change with another file
 abbrev pub refiled : Change → List ℕ → Change

@@ -2,7 +2,8 @@
 //!
 //! [`copy_exif`] answers the whole new file, or a refusal by its cause. The new data are those of
 //! the first picture byte for byte, or with the orientation and the size of the second one.
-//! [`copy_selected`] copies the XMP packet and the colour profile, too.
+//! [`copy_selected`] copies the XMP packet and the colour profile, too, and [`check_source`] says
+//! what a picture lacks of them.
 #![tactic(auto)]
 
 mod copying;
@@ -12,4 +13,4 @@ mod selected;
 mod shaping;
 
 pub use copying::{Shape, copy_exif};
-pub use selected::{Selection, copy_selected};
+pub use selected::{Selection, check_source, copy_selected};

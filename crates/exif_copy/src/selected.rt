@@ -5,11 +5,11 @@ ghost use Rattle.std.specs.Prelude.{◌≡◌, Some};
 ghost use Rattle.exif_types.specs.Refusals.{Gives, refusal_of};
 ghost use Rattle.exif_change.specs.Changed.{change_of};
 ghost use Rattle.exif_change.specs.Refusals.{Answers};
-ghost use Rattle.exif_copy.specs.Blocks.{container_for, no_container, packet_put, profile_put};
+ghost use Rattle.exif_copy.specs.Blocks.{container_for, no_container, packet_checked, packet_put, profile_checked, profile_put, source_checked};
 ghost use Rattle.exif_copy.specs.Selected.{selected, with_color, with_packet};
 
 use crate::copying::{Shape, copy_exif};
-use crate::found::format_for;
+use crate::found::{exif_found, format_for};
 use crate::placing::as_read;
 use exif::Error;
 use exif_change::{Changed, Refusal};
@@ -101,6 +101,37 @@ fn with_color(
         return as_read(profile_put(alloc, from, changed));
     }
     Ok(changed)
+}
+
+// Whether the packet of a picture is there, if it is requested.
+fn check_packet(alloc: Global, requested: bool, from: &[u8]) -> Result<(), Error>
+    ensures { Gives (λ (u : Unit {0}). u) result (packet_checked requested from.now) }
+{
+    if requested {
+        let _packet = xmp_of(alloc, from)?;
+    }
+    Ok(())
+}
+
+// Whether its profile is there, if it is requested.
+fn check_profile(alloc: Global, requested: bool, from: &[u8]) -> Result<(), Error>
+    ensures { Gives (λ (u : Unit {0}). u) result (profile_checked requested from.now) }
+{
+    if requested {
+        let _profile = profile_of(alloc, container_for(from), from)?;
+    }
+    Ok(())
+}
+
+/// Whether a picture has all that is selected of it: its Exif data, its XMP packet, its colour
+/// profile. What it lacks is the error, as [`copy_selected`] refuses it for each file. It takes the
+/// memory of what is selected, one after the other.
+pub fn check_source(alloc: Global, from: &[u8], selection: Selection) -> Result<(), Error>
+    ensures { Gives (λ (u : Unit {0}). u) result (source_checked selection from.now) }
+{
+    let _exif = exif_found(alloc, from)?;
+    check_packet(alloc, selection.xmp, from)?;
+    check_profile(alloc, selection.color_profile, from)
 }
 
 /// The file `to` with the Exif data of the file `from` in place of its own, as [`copy_exif`] puts

@@ -154,6 +154,18 @@ impl<'r, 'a, W: Sink, E: Sink> Session<'r, 'a, W, E> {
         Ok(Status::Incomplete)
     }
 
+    /// Reports how many faults were skipped in a file, if there were some, and answers its status.
+    pub fn skip_faults(&mut self, path: &str, count: usize) -> Result<Status, Stop> {
+        if count == 0 {
+            return Ok(Status::Success);
+        }
+        if count == 1 {
+            return self.leave(path, &"1 fault was skipped");
+        }
+        let text = format!(in self.rt.alloc(); "{count} faults were skipped")?;
+        self.leave(path, &text)
+    }
+
     /// Writes a message about a file, after all answers that were written before.
     pub fn say<T: Display>(&mut self, path: &str, what: &T) -> Result<(), Stop> {
         self.out.flush().map_err(Stop::Output)?;

@@ -73,7 +73,7 @@ fn json<'a>(alloc: Global) -> Result<Command<'a>, AllocError> {
         ))?
         .arg(
             options::tags(alloc)
-                .help("Print only these fields, e.g. Model,FNumber")
+                .help("Print only these fields, and the summary, e.g. Model,FNumber")
                 .conflicts_with("summary")?,
         )?;
     reading(alloc, command)
@@ -109,7 +109,7 @@ fn table<'a>(alloc: Global) -> Result<Command<'a>, AllocError> {
 
 fn check<'a>(alloc: Global) -> Result<Command<'a>, AllocError> {
     let command = Command::new(alloc, "check")
-        .about("List what files hold beside the picture, and where they tell a location")
+        .about("List what files hold beside the picture, and where they hold a location")
         .override_usage("mexaldor check [OPTIONS] PATH...")
         .after_help("The exit status is 3 if a file holds a location, or may hold one.")
         .arg(options::flag(
@@ -149,12 +149,12 @@ fn many<'a>(alloc: Global, command: Command<'a>) -> Result<Command<'a>, AllocErr
         .arg(options::fact(
             alloc,
             "where",
-            "Only pictures whose Exif data tell FACT: date or location",
+            "Only pictures whose Exif data contain FACT: date or location",
         ))?
         .arg(options::fact(
             alloc,
             "without",
-            "Only pictures whose Exif data do not tell FACT",
+            "Only pictures whose Exif data do not contain FACT",
         ))
 }
 
