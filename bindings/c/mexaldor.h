@@ -1,5 +1,5 @@
 /* mexaldor.h - read, edit and remove the Exif data of TIFF, JPEG, HEIF and WebP files. PNG and JPEG XL
- * files are read, scrubbed and searched for locations; raw files are only read.
+ * files are read, scrubbed and searched for locations; RAF, ORF, RW2 and CR3 are only read.
  *
  * A call reads the caller's bytes and writes its result into the caller's buffer. It keeps no
  * pointer and no state, so calls may run in any number of threads, over the same bytes too if none

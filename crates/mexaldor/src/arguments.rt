@@ -9,7 +9,7 @@ pub fn command<'a>(alloc: Global) -> Result<Command<'a>, AllocError> {
     Command::new(alloc, "mexaldor")
         .version("0.1.0")
         .about(
-            "Show, remove and edit the Exif metadata of pictures (TIFF, JPEG, HEIF, WebP, PNG, JPEG XL; raw files are only read)",
+            "Show, remove and edit the Exif metadata of pictures (TIFF, JPEG, HEIF, WebP, PNG, JPEG XL; RAF, ORF, RW2 and CR3 are only read)",
         )
         .after_help(
             "Exit status: 0 on success, 1 if a file could not be processed, 2 for invalid arguments, 3 if something was skipped or left undone.",
@@ -224,7 +224,7 @@ fn set<'a>(alloc: Global) -> Result<Command<'a>, AllocError> {
 fn shift<'a>(alloc: Global) -> Result<Command<'a>, AllocError> {
     let command = Command::new(alloc, "shift")
         .about("Move the dates of pictures, to correct the clock of a camera")
-        .override_usage("mexaldor shift [OPTIONS] +|-[DAYSd]HH:MM[:SS] FILE...")
+        .override_usage("mexaldor shift [OPTIONS] [+|-][DAYSd]HH:MM[:SS] FILE...")
         .arg(options::flag(
             alloc,
             "exif",

@@ -1,6 +1,6 @@
 //! Reads, edits and removes the Exif data of TIFF, JPEG, HEIF and WebP files.
 //!
-//! PNG and JPEG XL files are read, scrubbed and searched for locations; raw files are only read.
+//! PNG and JPEG XL files are read, scrubbed and searched for locations; RAF, ORF, RW2 and CR3 are only read.
 //!
 //! ```no_run
 //! # fn main() -> Result<(), Box<dyn std::error::Error>> {
