@@ -84,6 +84,8 @@ gives "a picture that is gone is reported" 3 "$mexaldor" page --force db other.h
 says "by name" "many/plain.jpg: "
 gives "a page of no catalogue is refused" 1 "$mexaldor" page nothing new.html
 check "and not written" test ! -e new.html
+gives "a file with a fault has a row" 3 "$mexaldor" catalog -q faults.db files/faulty.jpg
+says "and the fault is reported" "files/faulty.jpg: 1 fault was skipped"
 if has chromium; then
     chromium --headless --no-sandbox --disable-gpu --window-size=800,600 --screenshot="$PWD/page.png" "file://$PWD/page.html" >/dev/null 2>&1
     check "chromium shows the page" test -s page.png

@@ -45,6 +45,12 @@ cp files/whole.tif same.tif
 gives "TIFF files get none" 1 "$mexaldor" copy "$sample" same.tif
 says "which is said" "same.tif: "
 check "and stay" cmp files/whole.tif same.tif
+gives "nor are TIFF files a source" 1 "$mexaldor" copy files/whole.tif same.jpg
+says "by their own name" "files/whole.tif: no Exif data are copied from TIFF files"
+cp files/plain.jpg same.jpg
+gives "a picture comes from standard input" 0 sh -c '"$0" copy - same.jpg <"$1"' "$mexaldor" "$sample"
+"$mexaldor" table --raw --tags Model same.jpg >out
+holds "and its data are put" "same.jpg,Pinhole 2"
 gives "a file that is missing is refused" 1 "$mexaldor" copy nothing.jpg same.jpg
 says "by name" "nothing.jpg: "
 mkdir folder
@@ -73,7 +79,7 @@ for to in jpg png webp; do
 done
 cp bare.jpg new.jpg
 gives "a picture without a packet is refused" 1 "$mexaldor" copy --xmp "$sample" new.jpg
-says "by its reason" "File without an XMP packet"
+says "by its own name" "$sample: File without an XMP packet"
 check "and the other one stays" cmp bare.jpg new.jpg
 if has djpeg && has dwebp && has pngcheck; then
     for from in jpg webp; do

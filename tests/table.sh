@@ -36,6 +36,10 @@ gives "a file that can't be read is reported" 1 "$mexaldor" table --tags Model m
 says "by name" "many/broken.jpg: "
 row "and the others have their rows" '[["many/sample.jpg", "\"Pinhole 2\""]]'
 rm many/broken.jpg
+gives "a file with a fault has a row" 3 "$mexaldor" table --tags Orientation files/faulty.jpg
+says "and the fault is reported" "files/faulty.jpg: 1 fault was skipped"
+gives "and a flat object" 3 "$mexaldor" json --summary files/faulty.jpg
+says "with the same message" "files/faulty.jpg: 1 fault was skipped"
 gives "pictures are chosen" 0 "$mexaldor" table -r -q --without date --tags Model many
 row "by conditions" '[["many/plain.jpg", ""]]'
 
