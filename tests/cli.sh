@@ -253,6 +253,7 @@ says "the message says what to do then" "input and output are the same file; use
 ln -s whole.jpg work/link.jpg
 gives "nor a link to it" 1 "$mexaldor" set --force work/whole.jpg work/link.jpg Orientation=1
 gives "nor can a thumbnail be" 1 "$mexaldor" thumbnail --force work/whole.jpg work/whole.jpg
+check "which has no --in-place to name" sh -c '! grep -q in-place err'
 check "FILE stays" cmp files/whole.jpg work/whole.jpg
 gives "a link that leads nowhere is not replaced" 1 sh -c 'ln -s nowhere work/lost.jpg; "$1" scrub --force work/whole.jpg work/lost.jpg' sh "$mexaldor"
 gives "--force replaces another file" 0 "$mexaldor" scrub --force --keep-orientation work/whole.jpg work/plain.jpg

@@ -2,7 +2,7 @@
 
 use crate::change::{change_bytes, notes_of};
 use crate::inputs::read_file;
-use crate::output::{out_of, write_out};
+use crate::output::{OutError, out_of, write_out};
 use crate::request::{Change, Task};
 use crate::session::{Session, Stop};
 use exif::Sink;
@@ -21,6 +21,9 @@ pub fn change_into<W: Sink, E: Sink>(
     let rt = session.rt;
     let destination = match out_of(rt, path, to, force)? {
         Ok(destination) => destination,
+        Err(OutError::Same) => {
+            return session.refuse(path, &"input and output are the same file; use --in-place");
+        }
         Err(error) => return session.refuse(path, &error),
     };
     let old = match read_file(rt, path) {

@@ -24,7 +24,7 @@ pub enum OutError {
 impl fmt::Display for OutError {
     fn fmt<W: fmt::Write>(&self, f: &mut fmt::Formatter<W>) -> fmt::Result {
         match self {
-            OutError::Same => f.write_str("input and output are the same file; use --in-place"),
+            OutError::Same => f.write_str("input and output are the same file"),
             OutError::Exists(out) => {
                 let out = Escaped(out.as_str());
                 write!(f, "{out} exists; use --force to replace it")
