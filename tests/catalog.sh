@@ -43,6 +43,10 @@ is "the rows of others stay" "SELECT count(*) FROM picture WHERE removed = 0" "3
 gives "hashes are asked for" 0 "$mexaldor" catalog -q -r --hash hashed many
 "$mexaldor" query hashed 'SELECT hash, path FROM picture ORDER BY path' | tail -n +2 | sed 's/	/  /' >sums
 check "they are those of sha256sum" sha256sum --quiet -c sums
+gives "pictures without a date get rows" 0 "$mexaldor" catalog -q -r --without date some many
+check "only they" test "$("$mexaldor" query some 'SELECT path FROM picture' | tail -n +2)" = many/plain.jpg
+gives "then those with one" 0 "$mexaldor" catalog -q -r --where date some many
+check "and none is marked" test "$("$mexaldor" query some 'SELECT count(*), sum(removed) FROM picture' | tail -n +2)" = "3	0"
 printf 'no picture' >broken.jpg
 gives "a file that can't be read is reported" 1 "$mexaldor" catalog db broken.jpg
 says "by name" "broken.jpg: "

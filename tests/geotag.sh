@@ -56,6 +56,17 @@ gives "so is a picture" 1 "$mexaldor" geotag a.jpg b.jpg
 gives "and a track that is not there" 1 "$mexaldor" geotag none.gpx b.jpg
 check "the picture stays as it is" cmp "$sample" b.jpg
 
+# points that tell nothing
+{
+    point 2024-05-01T02:30:00Z 10.0 -20.0 100
+    printf '<trkpt lat="10.2" lon="-20.4"></trkpt>\n'
+    point 2024-05-01T02:30:01Z 10.4 -20.8 104
+} | track gap.gpx
+cp "$sample" gap.jpg
+gives "a point without a time is skipped" 3 "$mexaldor" geotag gap.gpx gap.jpg
+says "which is reported" "gap.gpx: 1 point without a time or a location was skipped"
+check "the others locate the picture" cmp a.jpg gap.jpg
+
 # the clock of a camera that writes no offset
 gives "the offset is removed" 0 "$mexaldor" scrub "$sample" bare.jpg
 gives "a date without an offset" 0 "$mexaldor" set --in-place bare.jpg 'DateTimeOriginal=2024-05-01T12:30:00'

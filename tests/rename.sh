@@ -87,5 +87,18 @@ check "each by its name" test -e small/whole.jpg.jpg -a -e small/big.tif.jpg
 gives "they are not overwritten" 1 "$mexaldor" thumbnail --into small work/whole.jpg
 says "by name" "small/whole.jpg.jpg exists"
 gives "unless that is forced" 0 "$mexaldor" thumbnail --force --into small work/whole.jpg
+mkdir -p twins/a twins/b twins/c
+cp files/whole.jpg twins/a/one.jpg
+cp "$root/docs/sample.jpg" twins/b/one.jpg
+cp files/plain.jpg twins/c/one.jpg
+gives "pictures of one name are three" 1 "$mexaldor" thumbnail -r --into small twins
+says "one without a thumbnail is reported" "twins/c/one.jpg: "
+"$mexaldor" thumbnail twins/b/one.jpg second.jpg
+check "the first has its name" cmp small/one.jpg.jpg small/whole.jpg.jpg
+check "the second has a number" cmp small/one.jpg_1.jpg second.jpg
+gives "by force they are written again" 1 "$mexaldor" thumbnail -r --force --into small twins
+check "the first is that of the first picture" cmp small/one.jpg.jpg small/whole.jpg.jpg
+check "the second that of the second" cmp small/one.jpg_1.jpg second.jpg
+check "and there is no third" test ! -e small/one.jpg_2.jpg
 
 ends

@@ -167,7 +167,11 @@ impl<W: Sink, E: Sink> Pictures for Gathered<'_, '_, '_, '_, '_, W, E> {
         }
     }
 
+    // A picture that does not meet the conditions of a run is there all the same.
     fn is_whole(&self, root: &str) -> bool {
+        if self.session.request.choice.is_any() {
+            return false;
+        }
         !self.failed.iter().any(|path| is_below(path.as_str(), root))
     }
 }

@@ -7,7 +7,7 @@ use crate::json::{write_object, write_summary};
 use crate::rename::rename_files;
 use crate::show::show_file;
 use crate::table::{write_header, write_row};
-use crate::thumbnail::{write_thumbnail, write_thumbnail_into};
+use crate::thumbnail::{write_thumbnail, write_thumbnails};
 use crate::touch::touch_file;
 use exif::Sink;
 use exif_catalog_commands::update_catalog;
@@ -32,6 +32,7 @@ pub fn run<'r, W: Sink, E: Sink>(
         Task::Geotag(geotagging) => geotag_files(&mut session, geotagging)?,
         Task::Copy(copying) => copy_into_files(&mut session, copying)?,
         Task::Catalog(cataloguing) => update_catalog(&mut session, cataloguing)?,
+        Task::Thumbnails(folder, force) => write_thumbnails(&mut session, folder, *force)?,
         Task::Table(table) => {
             write_header(&mut session, table)?;
             process_all(&mut session)?
@@ -79,10 +80,9 @@ fn process<W: Sink, E: Sink>(
         Task::Check(form) => check_file(session, *form, path),
         Task::Change(what, Target::Out(to, force)) => change_into(session, what, path, to, *force),
         Task::Thumbnail(to, force) => write_thumbnail(session, path, to, *force),
-        Task::Thumbnails(folder, force) => write_thumbnail_into(session, path, folder, *force),
         Task::Touch(zone) => touch_file(session, zone, path),
-        // these are done when all files are known
-        Task::Change(_, Target::InPlace(_)) => Ok(Status::Success),
+        // these have all files in view, and are done above
+        Task::Change(_, Target::InPlace(_)) | Task::Thumbnails(..) => Ok(Status::Success),
         Task::Rename(_) | Task::Geotag(_) => Ok(Status::Success),
         Task::Copy(_) | Task::Catalog(_) => Ok(Status::Success),
     }

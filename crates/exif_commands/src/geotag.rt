@@ -15,16 +15,17 @@ enum Located {
 
 /// Sets the location of each file that is named or found, in place, by a track, and answers the
 /// worst status. A file without a date, or of a time at which the track was nowhere, is left and
-/// reported.
+/// reported; so are points of the track that tell no time or no location.
 pub fn geotag_files<W: Sink, E: Sink>(
     session: &mut Session<'_, '_, W, E>,
     geotagging: &Geotagging<'_>,
 ) -> Result<Status, Stop> {
-    let track = match track_of(session, geotagging.track)? {
-        Ok(track) => track,
-        Err(status) => return Ok(status),
+    let (track, skipped) = match track_of(session, geotagging.track)? {
+        Ok(found) => found,
+        Err(refused) => return Ok(refused),
     };
-    let (plan, mut worst) = Plan::gather(session)?;
+    let (plan, gathered) = Plan::gather(session)?;
+    let mut worst = skipped.or_worse(gathered);
     for (path, key) in plan.paths.iter().zip(plan.keys.iter()) {
         let status = geotag_file(session, geotagging, &track, path.as_str(), key.as_str())?;
         worst = worst.or_worse(status);
@@ -32,28 +33,39 @@ pub fn geotag_files<W: Sink, E: Sink>(
     Ok(worst)
 }
 
-// The track in a file, or the status where there is none, which is reported.
+// The track in a file and the file's status, or the status where there is none, which is reported.
 fn track_of<W: Sink, E: Sink>(
     session: &mut Session<'_, '_, W, E>,
     path: &str,
-) -> Result<Result<Track, Status>, Stop> {
+) -> Result<Result<(Track, Status), Status>, Stop> {
     let bytes = match read_file(session.rt, path) {
         Ok(bytes) => bytes,
         Err(cause) => return Ok(Err(session.refuse(path, &cause)?)),
     };
     match Track::read(session.rt.alloc(), bytes.as_slice())? {
         Ok(track) => {
-            if track.skipped() > 0 {
-                let text = format!(in session.rt.alloc();
-                    "{} points without a time or a location are skipped",
-                    track.skipped()
-                )?;
-                session.say(path, &text)?;
-            }
-            Ok(Ok(track))
+            let status = skip_points(session, path, track.skipped())?;
+            Ok(Ok((track, status)))
         }
         Err(error) => Ok(Err(session.refuse(path, &error)?)),
     }
+}
+
+// Reports how many points of a track were skipped, if there were some, and answers its status.
+fn skip_points<W: Sink, E: Sink>(
+    session: &mut Session<'_, '_, W, E>,
+    path: &str,
+    count: usize,
+) -> Result<Status, Stop> {
+    if count == 0 {
+        return Ok(Status::Success);
+    }
+    if count == 1 {
+        return session.leave(path, &"1 point without a time or a location was skipped");
+    }
+    let alloc = session.rt.alloc();
+    let text = format!(in alloc; "{count} points without a time or a location were skipped")?;
+    session.leave(path, &text)
 }
 
 // Sets the location of a file, if it is known.

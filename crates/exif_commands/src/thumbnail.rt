@@ -1,12 +1,12 @@
 //! Thumbnails that are written to files.
 
-use exif::Sink;
-use exif_change::{ENTRY_LIMIT, Refusal, thumbnail};
+use exif::{Error, Sink};
+use exif_change::{Refusal, thumbnail};
 use exif_files::Status;
-use exif_formats::{Options, read_bytes};
-use exif_report::found_of;
-use exif_session::{Session, Stop, name_of, out_of, read_file, write_out};
+use exif_rename::give_unused;
+use exif_session::{Next, Session, Stop, exif_of, name_of, out_of, write_out};
 use std::alloc::{AllocError, Global};
+use std::collections::BTreeSet;
 use std::fs;
 
 /// Writes the thumbnail of a picture to OUT, and answers the picture's status.
@@ -16,58 +16,97 @@ pub fn write_thumbnail<W: Sink, E: Sink>(
     to: &str,
     force: bool,
 ) -> Result<Status, Stop> {
-    let rt = session.rt;
-    let destination = match out_of(rt, path, to, force)? {
-        Ok(destination) => destination,
-        Err(error) => return session.refuse(path, &error),
-    };
-    let file = match read_file(rt, path) {
-        Ok(file) => file,
-        Err(error) => return session.refuse(path, &error),
-    };
-    let jpeg = match thumbnail_of(rt.alloc(), file.as_slice()) {
+    match thumbnail_in(session.rt, path) {
+        Ok(jpeg) => write_jpeg(session, path, jpeg.as_slice(), to, force),
+        Err(Refusal::OutOfMemory) => Err(Stop::OutOfMemory),
+        Err(refusal) => session.refuse(path, &refusal),
+    }
+}
+
+/// Writes the thumbnail of each picture that is named or found into a folder, which is made if it
+/// is not there, and answers the worst status. No two of them get one name.
+pub fn write_thumbnails<W: Sink, E: Sink>(
+    session: &mut Session<'_, '_, W, E>,
+    folder: &str,
+    force: bool,
+) -> Result<Status, Stop> {
+    // where it can't be made, no thumbnail can be written, and that is reported
+    let _ = fs::create_dir_all(session.rt, folder);
+    let mut given = BTreeSet::new(session.rt.alloc());
+    let mut worst = Status::Success;
+    for _ in 0..u64::MAX {
+        let Some(next) = session.next_chosen()? else {
+            break;
+        };
+        let status = match next {
+            Next::Failed(path, cause) => session.refuse(path.as_str(), &cause)?,
+            Next::Input => write_into(session, &mut given, "-", folder, force)?,
+            Next::Named(path) | Next::Found(path) => {
+                write_into(session, &mut given, path.as_str(), folder, force)?
+            }
+        };
+        worst = worst.or_worse(session.count(status));
+        session.console.step(session.pending.len());
+    }
+    Ok(worst)
+}
+
+// Writes the thumbnail of a picture into a folder, to a file that no other picture of the run got.
+fn write_into<W: Sink, E: Sink>(
+    session: &mut Session<'_, '_, W, E>,
+    given: &mut BTreeSet<String>,
+    path: &str,
+    folder: &str,
+    force: bool,
+) -> Result<Status, Stop> {
+    let jpeg = match thumbnail_in(session.rt, path) {
         Ok(jpeg) => jpeg,
         Err(Refusal::OutOfMemory) => return Err(Stop::OutOfMemory),
         Err(refusal) => return session.refuse(path, &refusal),
     };
-    match write_out(rt, to, destination, jpeg.as_slice(), session.out)? {
+    let alloc = session.rt.alloc();
+    let base = base_in(alloc, folder, path)?;
+    match give_unused(alloc, given, base.as_str(), ".jpg")? {
+        Some(to) => write_jpeg(session, path, jpeg.as_slice(), to.as_str(), force),
+        None => session.refuse(path, &"too many pictures have its name"),
+    }
+}
+
+// Writes a thumbnail to OUT, and answers the picture's status.
+fn write_jpeg<W: Sink, E: Sink>(
+    session: &mut Session<'_, '_, W, E>,
+    path: &str,
+    jpeg: &[u8],
+    to: &str,
+    force: bool,
+) -> Result<Status, Stop> {
+    let destination = match out_of(session.rt, path, to, force)? {
+        Ok(destination) => destination,
+        Err(error) => return session.refuse(path, &error),
+    };
+    match write_out(session.rt, to, destination, jpeg, session.out)? {
         Ok(()) => Ok(Status::Success),
         Err(error) => session.refuse(path, &error),
     }
 }
 
-/// Writes the thumbnail of a picture into a folder, which is made if it is not there, and answers
-/// the picture's status.
-pub fn write_thumbnail_into<W: Sink, E: Sink>(
-    session: &mut Session<'_, '_, W, E>,
-    path: &str,
-    folder: &str,
-    force: bool,
-) -> Result<Status, Stop> {
-    // where it can't be made, the thumbnail can't be written, and that is reported
-    let _ = fs::create_dir_all(session.rt, folder);
-    let to = thumbnail_name(session.rt.alloc(), folder, path)?;
-    write_thumbnail(session, path, to.as_str(), force)
-}
-
 // The thumbnail of a picture.
-fn thumbnail_of(alloc: Global, file: &[u8]) -> Result<Vec<u8>, Refusal> {
-    let options = Options {
-        lenient: true,
-        limit: Some(ENTRY_LIMIT),
+fn thumbnail_in(rt: &HostRuntime, path: &str) -> Result<Vec<u8>, Refusal> {
+    let exif = match exif_of(rt, path) {
+        Ok(exif) => exif,
+        Err(Error::OutOfMemory) => return Err(Refusal::OutOfMemory),
+        Err(error) => return Err(Refusal::Reading(error)),
     };
-    let picture = read_bytes(options, alloc, file);
-    let (exif, _faults) = found_of(alloc, picture.answer).map_err(Refusal::Reading)?;
     match thumbnail(&exif) {
-        Some(jpeg) => Ok(Vec::from_slice(alloc, jpeg)?),
+        Some(jpeg) => Ok(Vec::from_slice(rt.alloc(), jpeg)?),
         None => Err(Refusal::NoThumbnail),
     }
 }
 
-// The file in a folder to which the thumbnail of a picture is written: `NAME.jpg`, where NAME is
-// the picture's whole name, so that those of `a.png` and `a.heic` are two.
-fn thumbnail_name(alloc: Global, folder: &str, path: &str) -> Result<String, AllocError> {
+// The path in a folder of a picture's thumbnail, without its ending: with the picture's whole name,
+// so that the thumbnails of `a.png` and `a.heic` are two.
+fn base_in(alloc: Global, folder: &str, path: &str) -> Result<String, AllocError> {
     let name = name_of(path);
     let slash = if folder.ends_with('/') { "" } else { "/" };
-    format!(in alloc; "{folder}{slash}{name}.jpg")
+    format!(in alloc; "{folder}{slash}{name}")
 }

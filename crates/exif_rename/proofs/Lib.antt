@@ -8,3 +8,4 @@ pub mod Slashes
 pub mod Searches
 pub mod Begun
 pub mod Numbered
+pub mod Chosen

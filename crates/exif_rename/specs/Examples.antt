@@ -7,6 +7,7 @@ use Rattle.exif_files.specs.Each.{is_among}
 use Rattle.exif_rename.specs.Naming.{Known, named, safe}
 use Rattle.exif_rename.specs.Patterns.{parsed}
 use Rattle.exif_rename.specs.Planned.{fit_from, planned}
+use Rattle.exif_rename.specs.Unused.{unused, unused_from}
 use Rattle.exif_rename.specs.Wishes.{Wanted, moves_by}
 use Rattle.exif_rename.specs.declared.naming.Missing.TheVariants as missing
 use Rattle.exif_rename.specs.declared.naming.Taken.{Taken}
@@ -124,3 +125,14 @@ moves_of_both = refl
 no_move : moves_by numbered 1 ≡ []
 unfolding digits
 no_move = refl
+
+-- ---- the paths of new files
+
+first_of_its_name : unused (λ q. is_among q (codes "b.png.jpg" ∷ [])) (codes "a.png") (codes ".jpg") ≡ Some (codes "a.png.jpg")
+unfolding unused_from
+first_of_its_name = refl
+
+third_of_its_name : unused (λ q. is_among q (codes "a.png_1.jpg" ∷ codes "a.png.jpg" ∷ [])) (codes "a.png") (codes ".jpg")
+    ≡ Some (codes "a.png_2.jpg")
+unfolding unused_from digits
+third_of_its_name = refl

@@ -7,5 +7,6 @@ pub mod Naming
 pub mod Patterns
 pub mod Planned
 pub mod Starts
+pub mod Unused
 pub mod Views
 pub mod Wishes

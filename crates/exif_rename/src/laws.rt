@@ -1,10 +1,11 @@
 //! Laws of plans and names. They hold for all wishes, states and texts, and speak of the
 //! definitions alone.
 
-ghost use Rattle.std.specs.Prelude.{◌≡◌, ◌≢◌, ◌<◌, ℕ, List, [], Bool, Ok, length, slice_index};
+ghost use Rattle.std.specs.Prelude.{◌≡◌, ◌≢◌, ◌<◌, ℕ, List, [], Bool, false, Ok, Some, length, slice_index};
 ghost use Rattle.exif_rename.specs.Apart.{AreToFree, DifferAfter, all_moves, paths_by};
 ghost use Rattle.exif_rename.specs.Naming.{safe};
 ghost use Rattle.exif_rename.specs.Planned.{planned};
+ghost use Rattle.exif_rename.specs.Unused.{unused};
 ghost use Rattle.exif_rename.specs.Wishes.{Wanted};
 
 /// No two files get one path.
@@ -23,6 +24,12 @@ pub fn moves_are_to_free_paths()
 pub fn each_wish_has_a_number()
     ensures { (free : List ℕ → Bool) (wishes : List Wanted) (numbers : List ℕ)
         → planned free wishes ≡ Ok numbers → length numbers ≡ length wishes }
+{}
+
+/// The path of a new file was given to no other.
+pub fn an_unused_path_was_not_given()
+    ensures { (is_given : List ℕ → Bool) (base ending path : List ℕ)
+        → unused is_given base ending ≡ Some path → is_given path ≡ false }
 {}
 
 /// No text that a pattern brings in has a `/`: so only the pattern makes folders.

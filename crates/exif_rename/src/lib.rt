@@ -7,10 +7,12 @@ mod naming;
 mod pattern;
 mod plan;
 mod starts;
+mod unused;
 mod wish;
 
 pub use moving::{Attributes, Moved, copy_file, move_file};
 pub use naming::{Facts, Missing, Taken};
 pub use pattern::{DatePart, Fault, Part, Pattern, PatternError};
 pub use plan::{PlanError, plan_names};
+pub use unused::give_unused;
 pub use wish::{Move, Wish, WishFile};

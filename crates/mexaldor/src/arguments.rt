@@ -128,17 +128,12 @@ fn reading<'a>(alloc: Global, command: Command<'a>) -> Result<Command<'a>, Alloc
     many(alloc, command)?.arg(options::paths(alloc))
 }
 
-// The options of a subcommand that goes through files.
-fn walking<'a>(alloc: Global, command: Command<'a>) -> Result<Command<'a>, AllocError> {
+// The options of a subcommand that takes many files.
+fn many<'a>(alloc: Global, command: Command<'a>) -> Result<Command<'a>, AllocError> {
     command
         .arg(options::recursive(alloc))?
         .arg(options::null(alloc))?
-        .arg(options::quiet(alloc))
-}
-
-// The options of a subcommand that takes many files.
-fn many<'a>(alloc: Global, command: Command<'a>) -> Result<Command<'a>, AllocError> {
-    walking(alloc, command)?
+        .arg(options::quiet(alloc))?
         .arg(options::date(
             alloc,
             "after",
@@ -343,7 +338,7 @@ fn catalog<'a>(alloc: Global) -> Result<Command<'a>, AllocError> {
         .arg(options::database(alloc))?
         .arg(options::strict(alloc))?
         .arg(options::limit(alloc))?;
-    walking(alloc, command)?.arg(options::words(alloc, "PATH", "Pictures, or with -r folders"))
+    many(alloc, command)?.arg(options::words(alloc, "PATH", "Pictures, or with -r folders"))
 }
 
 fn query<'a>(alloc: Global) -> Result<Command<'a>, AllocError> {
