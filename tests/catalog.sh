@@ -40,7 +40,11 @@ gives "it is there again" 0 "$mexaldor" catalog -r db many
 is "and no longer marked" "SELECT count(*) FROM picture WHERE removed = 1" "0"
 gives "a part of the folder is looked through" 0 "$mexaldor" catalog -q -r db many/inner
 is "the rows of others stay" "SELECT count(*) FROM picture WHERE removed = 0" "3"
-gives "hashes are asked for" 0 "$mexaldor" catalog -q -r --hash hashed many
+"$mexaldor" catalog -q -r hashed many
+gives "hashes are asked for, of rows that have none" 0 "$mexaldor" catalog -r --hash hashed many
+says "so they are read again" "0 added, 3 changed, 0 unchanged, 0 removed, 0 restored"
+gives "and once more" 0 "$mexaldor" catalog -r --hash hashed many
+says "then they are not" "0 added, 0 changed, 3 unchanged, 0 removed, 0 restored"
 "$mexaldor" query hashed 'SELECT hash, path FROM picture ORDER BY path' | tail -n +2 | sed 's/	/  /' >sums
 check "they are those of sha256sum" sha256sum --quiet -c sums
 gives "pictures without a date get rows" 0 "$mexaldor" catalog -q -r --without date some many

@@ -1,5 +1,5 @@
 -- What a catalogue knows of the pictures that it has, and what becomes of their rows.
-use Rattle.std.specs.Prelude.{ℕ, List, [], ◌∷◌, Bool, true, false, ◌==◌, ◌&&◌, ◌||◌, nat_eq, length, drop, Option, Some, None, if◌then◌else◌, codes}
+use Rattle.std.specs.Prelude.{ℕ, List, [], ◌∷◌, Bool, true, false, ◌==◌, ◌&&◌, ◌||◌, not, nat_eq, length, drop, Option, Some, None, if◌then◌else◌, codes}
 use Rattle.std.specs.Borrow.{Bor}
 use Rattle.std.specs.List.{ends_with, list_any, starts_with}
 use Rattle.exif_catalog.specs.declared.known.Known.{Known}
@@ -31,6 +31,10 @@ mark_for false false below = if below then Some true else None
 -- the same of a row
 abbrev pub mark_of : List ℕ → Known → List (Bor (List ℕ)) → Option Bool
 mark_of path known roots = mark_for known.is_seen known.is_removed (is_below_any path roots)
+
+-- the size and the time by which a row is up to date: none where it lacks a hash that is needed
+abbrev pub stamp_for : Option Stamp → Bool → Bool → Option Stamp
+stamp_for stamp needs_hash has_hash = if needs_hash && not has_hash then None else stamp
 
 -- a size and a time that are known are those
 abbrev pub is_stamp : Option Stamp → Stamp → Bool

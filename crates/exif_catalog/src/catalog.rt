@@ -8,7 +8,7 @@ ghost use Rattle.exif_catalog.specs.Runs.{has_path, has_stamp_of, known_after, k
 
 use crate::database::{execute, number_at, prepare, prepare_tables, text_at};
 use crate::errors::CatalogError;
-use crate::known::{Known, Rows, Stamp, is_unchanged, mark_of, see};
+use crate::known::{Known, Rows, Stamp, is_unchanged, mark_of, see, stamp_for};
 use crate::schema::{MARK_ROW, READ_ROWS, insert_text};
 use crate::totals::{Outcome, Totals, outcome_of};
 use crate::values::SqlValue;
@@ -32,19 +32,24 @@ fn stamp_of(size: Option<i64>, modified: Option<i64>) -> Option<Stamp> {
 }
 
 // What is known of a picture, by its row.
-fn known_of(row: &Row) -> Result<Known, CatalogError> {
+fn known_of(row: &Row, needs_hash: bool) -> Result<Known, CatalogError> {
     let size = number_at(row, 1)?;
     let modified = number_at(row, 2)?;
     let removed = number_at(row, 3)?;
+    let has_hash = number_at(row, 4)? == Some(0);
     Ok(Known {
-        stamp: stamp_of(size, modified),
+        stamp: stamp_for(stamp_of(size, modified), needs_hash, has_hash),
         is_removed: removed != Some(0),
         is_seen: false,
     })
 }
 
 // What is known of all pictures.
-fn read_rows<S: Alter>(alloc: Global, database: &mut Connection<S>) -> Result<Rows, CatalogError> {
+fn read_rows<S: Alter>(
+    alloc: Global,
+    database: &mut Connection<S>,
+    needs_hash: bool,
+) -> Result<Rows, CatalogError> {
     let mut rows = Rows::new(alloc);
     let mut answer = database.query(READ_ROWS, &[])?;
     for _ in 0..u64::MAX {
@@ -52,7 +57,7 @@ fn read_rows<S: Alter>(alloc: Global, database: &mut Connection<S>) -> Result<Ro
             break;
         };
         let path = text_at(row, 0)?;
-        let known = known_of(row)?;
+        let known = known_of(row, needs_hash)?;
         rows.insert(path, known)?;
     }
     Ok(rows)
@@ -101,20 +106,22 @@ fn write_row<S: Alter>(
 }
 
 impl Catalog {
-    /// What a database holds as a run begins; a new file gets the tables. Another version or other
-    /// tables are refused.
+    /// What a database holds as a run begins that may need the hash of each picture; a new file
+    /// gets the tables. Another version or other tables are refused.
     pub(crate) fn open<S: Alter>(
         alloc: Global,
         database: &mut Connection<S>,
+        needs_hash: bool,
     ) -> Result<Catalog, CatalogError> {
         prepare_tables(alloc, database)?;
-        let rows = read_rows(alloc, database)?;
+        let rows = read_rows(alloc, database, needs_hash)?;
         let insert = prepare(database, insert_text())?;
         let mark = prepare(database, MARK_ROW)?;
         Ok(Catalog { rows, insert, mark })
     }
 
-    /// Whether the picture has a row, and its file had this size and time when it was read.
+    /// Whether the picture has a row with all that the run needs, and its file had this size and
+    /// time when it was read.
     pub(crate) fn is_unchanged(&self, path: &str, stamp: Option<Stamp>) -> bool
         ensures { result ≡ has_stamp_of (known_at self.now path.now) stamp }
     {

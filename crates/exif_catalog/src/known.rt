@@ -3,7 +3,7 @@
 ghost use Rattle.std.specs.Prelude.{◌≡◌, ℕ, List, if◌then◌else◌, option_map};
 ghost use Rattle.std.specs.BTreeMap.{get_by_text};
 ghost use Rattle.std.specs.Str.{bytes_eq};
-ghost use Rattle.exif_catalog.specs.Known.{has_stamp, is_below, is_below_any, is_stamp, mark_of, seen};
+ghost use Rattle.exif_catalog.specs.Known.{has_stamp, is_below, is_below_any, is_stamp, mark_of, seen, stamp_for};
 
 use std::collections::BTreeMap;
 
@@ -19,7 +19,7 @@ pub struct Stamp {
 /// What is known of a picture that has a row.
 #[derive(Clone, Copy)]
 pub struct Known {
-    /// The size and the time that its file had.
+    /// The size and the time that its file had, if its row has all that the run needs.
     pub stamp: Option<Stamp>,
     /// Whether the row is marked as removed.
     pub is_removed: bool,
@@ -59,6 +59,17 @@ pub fn mark_of(path: &str, known: Known, roots: &[&str]) -> Option<bool>
         (false, false) if is_below_any(path, roots) => Some(true),
         _ => None,
     }
+}
+
+/// The size and the time by which a row is up to date: none where it lacks the hash that a run
+/// needs.
+pub fn stamp_for(stamp: Option<Stamp>, needs_hash: bool, has_hash: bool) -> Option<Stamp>
+    ensures { result ≡ stamp_for stamp needs_hash has_hash }
+{
+    if needs_hash && !has_hash {
+        return None;
+    }
+    stamp
 }
 
 // Whether a size and a time that are known are those.

@@ -26,7 +26,8 @@ pub(crate) const READ_CREATE: &str =
     "SELECT sql FROM sqlite_schema WHERE type = 'table' AND name = 'picture'";
 
 /// Reads what a run has to know of each row.
-pub(crate) const READ_ROWS: &str = "SELECT path, file_size, file_modified, removed FROM picture";
+pub(crate) const READ_ROWS: &str =
+    "SELECT path, file_size, file_modified, removed, hash IS NULL FROM picture";
 
 /// The columns that are shown of a picture, behind its path.
 pub(crate) const SHOWN: [Column; 9] = [

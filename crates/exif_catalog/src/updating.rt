@@ -31,8 +31,12 @@ pub trait Pictures {
     /// The next picture, or `None` behind the last.
     fn next(&mut self) -> Result<Option<Found>, Self::Error>;
 
+    /// Whether rows are to have the hash of their file's bytes.
+    fn needs_hash(&self) -> bool;
+
     /// The values of [`row_values`](crate::row_values) of the picture that `next` gave last. It is
-    /// asked only where the picture has no row, or its file has not the size and time of the row.
+    /// asked only where the picture has no row, its file has not the size and time of the row, or
+    /// the row lacks a hash that is needed.
     /// `None` where the picture cannot be read: a row that it has stays as it is.
     fn values(&mut self) -> Result<Option<Vec<SqlValue>>, Self::Error>;
 
@@ -90,7 +94,7 @@ fn take_all<S: Alter, P: Pictures>(
     roots: &[&str],
     pictures: &mut P,
 ) -> Result<Totals, RunError<P::Error>> {
-    let mut catalog = Catalog::open(alloc, database)?;
+    let mut catalog = Catalog::open(alloc, database, pictures.needs_hash())?;
     let mut totals = Totals::NONE;
     for _ in 0..u64::MAX {
         let Some(found) = pictures.next().map_err(RunError::Caller)? else {
@@ -126,12 +130,13 @@ impl<P: Pictures> Job for UpdateJob<'_, P> {
     }
 }
 
-/// Brings a catalogue up to date: each picture whose file is new or has another size or time gets
-/// the values that the caller has for it, and each row below the roots whose picture was not among
-/// them is marked as removed, if the root was looked through ([`Pictures::is_whole`]). A file that
-/// is not there is made, also where the run then ends with an error. One that is no database, or
-/// has another version or other tables, is refused and left as it is. No other program can read or
-/// write the file until the run ends.
+/// Brings a catalogue up to date: each picture whose file is new or has another size or time, or
+/// whose row lacks a hash that is needed ([`Pictures::needs_hash`]), gets the values that the caller
+/// has for it, and each row below the roots whose picture was not among them is marked as removed,
+/// if the root was looked through ([`Pictures::is_whole`]). A file that is not there is made, also
+/// where the run then ends with an error. One that is no database, or has another version or other
+/// tables, is refused and left as it is. No other program can read or write the file until the run
+/// ends.
 ///
 /// The run is one transaction: after an error the rows are as they were before.
 pub fn update<P: Pictures>(

@@ -152,6 +152,10 @@ impl<W: Sink, E: Sink> Pictures for Gathered<'_, '_, '_, '_, '_, W, E> {
         Ok(None)
     }
 
+    fn needs_hash(&self) -> bool {
+        self.cataloguing.hash
+    }
+
     fn values(&mut self) -> Result<Option<Vec<SqlValue>>, Stop> {
         match self.hashed_row() {
             Ok(values) => {
