@@ -19,6 +19,7 @@ use std::io::{self, ErrorKind};
 struct Gathered<'s, 'r, 'a, 'd, 'c, W, E> {
     session: &'s mut Session<'r, 'a, W, E>,
     cataloguing: &'d Cataloguing<'c>,
+    has_conditions: bool,
     // the picture that was given last
     path: String,
     stamp: FileStamp,
@@ -173,10 +174,7 @@ impl<W: Sink, E: Sink> Pictures for Gathered<'_, '_, '_, '_, '_, W, E> {
 
     // A picture that does not meet the conditions of a run is there all the same.
     fn is_whole(&self, root: &str) -> bool {
-        if self.session.request.choice.is_any() {
-            return false;
-        }
-        !self.failed.iter().any(|path| is_below(path.as_str(), root))
+        !self.has_conditions && !self.failed.iter().any(|path| is_below(path.as_str(), root))
     }
 }
 
@@ -216,10 +214,12 @@ pub fn update_catalog<W: Sink, E: Sink>(
     cataloguing: &Cataloguing<'_>,
 ) -> Result<Status, Stop> {
     let alloc = session.rt.alloc();
+    let has_conditions = session.request.choice.is_any();
     let mut gathered = Gathered {
         path: String::new(alloc),
         session,
         cataloguing,
+        has_conditions,
         stamp: FileStamp {
             size: None,
             modified: None,
