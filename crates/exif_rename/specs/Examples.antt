@@ -128,11 +128,12 @@ no_move = refl
 
 -- ---- the paths of new files
 
-first_of_its_name : unused (λ q. is_among q (codes "b.png.jpg" ∷ [])) (codes "a.png") (codes ".jpg") ≡ Some (codes "a.png.jpg")
+first_of_its_name : unused (λ q. is_among q (codes "b.png.jpg" ∷ [])) (codes "a.png") (codes ".jpg")
+    ≡ Some (codes "a.png.jpg")
 unfolding unused_from
 first_of_its_name = refl
 
-third_of_its_name : unused (λ q. is_among q (codes "a.png_1.jpg" ∷ codes "a.png.jpg" ∷ [])) (codes "a.png") (codes ".jpg")
-    ≡ Some (codes "a.png_2.jpg")
+third_of_its_name : unused (λ q. is_among q (codes "a.png_1.jpg" ∷ codes "a.png.jpg" ∷ []))
+    (codes "a.png") (codes ".jpg") ≡ Some (codes "a.png_2.jpg")
 unfolding unused_from digits
 third_of_its_name = refl

@@ -20,3 +20,7 @@ unused is_given base ending = unused_from is_given base ending 100000 0
 abbrev pub given_after : (List ℕ → Bool) → Option (List ℕ) → List ℕ → Bool
 given_after is_given None q = is_given q
 given_after is_given (Some path) q = if bytes_eq path q then true else is_given q
+
+-- the same when the first of all is given
+abbrev pub given_with : (List ℕ → Bool) → List ℕ → List ℕ → List ℕ → Bool
+given_with is_given base ending q = given_after is_given (unused is_given base ending) q

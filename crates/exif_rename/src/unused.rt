@@ -3,7 +3,7 @@
 ghost use Rattle.std.specs.Prelude.{◌≡◌, ℕ, List, IfOk, OnErr, string_bytes};
 ghost use Rattle.std.specs.BTreeSet.{contains_text};
 ghost use Rattle.std.specs.Option.{option_map};
-ghost use Rattle.exif_rename.specs.Unused.{given_after, unused};
+ghost use Rattle.exif_rename.specs.Unused.{given_with, unused};
 
 use crate::plan::TRIES;
 use crate::wish::{candidate, joined};
@@ -11,8 +11,8 @@ use std::alloc::{AllocError, Global};
 use std::collections::BTreeSet;
 
 /// The path of a new file: `base` with `ending`, or where that was given to another file, `base_1`,
-/// `base_2` and so on with it, the first that was not given. It is given then. `None` where all with
-/// a number up to 99,999 were given.
+/// `base_2` and so on with it, the first that was not given. It is given then. `None` where all
+/// with a number up to 99,999 were given.
 ///
 /// Which paths the file system has is not asked. It takes the memory of the path, twice; after an
 /// error the same paths are given as before.
@@ -25,8 +25,7 @@ pub fn give_unused(
     ensures path { IfOk result (λ path. option_map string_bytes path
         ≡ unused (contains_text given.old) base.now ending.now) }
     ensures given { IfOk result (λ path. (q : List ℕ) → contains_text given.new q
-        ≡ given_after (contains_text given.old) (unused (contains_text given.old) base.now ending.now)
-        q) }
+        ≡ given_with (contains_text given.old) base.now ending.now q) }
     ensures kept { OnErr result ((q : List ℕ) → contains_text given.new q
         ≡ contains_text given.old q) }
 {
