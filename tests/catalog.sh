@@ -21,10 +21,11 @@ is() {
 
 gives "a catalogue is made" 0 "$mexaldor" catalog -r db many
 says "with a row for each picture" "3 added, 0 changed, 0 unchanged, 0 removed, 0 restored"
-is "the paths are those of the run" 'SELECT path FROM picture ORDER BY path' "many/inner/whole.webp
-many/plain.jpg
-many/sample.jpg"
-is "the sample has its date and camera" "SELECT model, date_taken, orientation FROM picture WHERE path = 'many/sample.jpg'" "Pinhole 2	2024-05-01T12:30:00.25+10:00	6"
+here=$(pwd -P)
+is "the paths begin at the root" 'SELECT path FROM picture ORDER BY path' "$here/many/inner/whole.webp
+$here/many/plain.jpg
+$here/many/sample.jpg"
+is "the sample has its date and camera" "SELECT model, date_taken, orientation FROM picture WHERE path = '$here/many/sample.jpg'" "Pinhole 2	2024-05-01T12:30:00.25+10:00	6"
 gives "again nothing has changed" 0 "$mexaldor" catalog -r db many
 says "and nothing is read" "0 added, 0 changed, 3 unchanged, 0 removed, 0 restored"
 "$mexaldor" set -q -i many/sample.jpg Artist=Somebody 2>/dev/null
@@ -32,12 +33,46 @@ touch -d '2030-01-01' many/sample.jpg
 rm many/plain.jpg
 gives "a file changed and one is gone" 0 "$mexaldor" catalog -r db many
 says "which is counted" "0 added, 1 changed, 1 unchanged, 1 removed, 0 restored"
-is "the row has the new value" "SELECT artist FROM picture WHERE path = 'many/sample.jpg'" "Somebody"
-is "the row of the other is marked" "SELECT path FROM picture WHERE removed = 1" "many/plain.jpg"
+is "the row has the new value" "SELECT artist FROM picture WHERE path = '$here/many/sample.jpg'" "Somebody"
+is "the row of the other is marked" "SELECT path FROM picture WHERE removed = 1" "$here/many/plain.jpg"
 cp files/plain.jpg many/plain.jpg
 touch -d '2030-01-02' many/plain.jpg
 gives "it is there again" 0 "$mexaldor" catalog -r db many
 is "and no longer marked" "SELECT count(*) FROM picture WHERE removed = 1" "0"
+# a file that was changed and has its old length and time, another one in its place, other paths to it
+cp -p many/sample.jpg kept.jpg
+python3 - many/sample.jpg <<'P'
+import os, sys
+found = os.stat(sys.argv[1])
+data = open(sys.argv[1], "rb").read()
+with open(sys.argv[1], "r+b") as file:
+    file.write(data.replace(b"Pinhole 2", b"Pinhole 3"))
+os.utime(sys.argv[1], ns=(found.st_atime_ns, found.st_mtime_ns))
+P
+gives "a change that sets the time back is noticed" 0 "$mexaldor" catalog -r db many
+says "as one change" "0 added, 1 changed, 2 unchanged, 0 removed, 0 restored"
+is "the row has the new value" "SELECT model FROM picture WHERE path = '$here/many/sample.jpg'" "Pinhole 3"
+cp -p kept.jpg many/other && mv many/other many/sample.jpg
+gives "another file in its place is noticed" 0 "$mexaldor" catalog -r db many
+says "as one change, too" "0 added, 1 changed, 2 unchanged, 0 removed, 0 restored"
+ln -s many link
+for path in ./many many/ "$here/many" many/inner/.. link; do
+    gives "$path leads to the same pictures" 0 "$mexaldor" catalog -r db "$path"
+    says "which have their rows" "0 added, 0 changed, 3 unchanged, 0 removed, 0 restored"
+done
+(cd many && "$mexaldor" catalog -r ../db . 2>../err)
+says "and so does another folder" "0 added, 0 changed, 3 unchanged, 0 removed, 0 restored"
+gives "a picture that is named twice is read once" 0 "$mexaldor" catalog -r db many many/sample.jpg ./many/sample.jpg
+says "and counted once" "0 added, 0 changed, 3 unchanged, 0 removed, 0 restored"
+mkdir closed && cp files/plain.jpg closed/a.jpg && cp files/plain.jpg many/inner/b.jpg
+"$mexaldor" catalog -q -r rows many closed
+if [ "$(id -u)" != 0 ]; then
+    chmod 0 many/inner
+    gives "a folder that can't be read is reported" 1 "$mexaldor" catalog -r rows many
+    chmod 755 many/inner
+    check "and none of its rows is marked" test "$("$mexaldor" query rows 'SELECT count(*) FROM picture WHERE removed = 1' | tail -n +2)" = 0
+fi
+rm many/inner/b.jpg
 gives "a part of the folder is looked through" 0 "$mexaldor" catalog -q -r db many/inner
 is "the rows of others stay" "SELECT count(*) FROM picture WHERE removed = 0" "3"
 "$mexaldor" catalog -q -r hashed many
@@ -48,13 +83,13 @@ says "then they are not" "0 added, 0 changed, 3 unchanged, 0 removed, 0 restored
 "$mexaldor" query hashed 'SELECT hash, path FROM picture ORDER BY path' | tail -n +2 | sed 's/	/  /' >sums
 check "they are those of sha256sum" sha256sum --quiet -c sums
 gives "pictures without a date get rows" 0 "$mexaldor" catalog -q -r --without date some many
-check "only they" test "$("$mexaldor" query some 'SELECT path FROM picture' | tail -n +2)" = many/plain.jpg
+check "only they" test "$("$mexaldor" query some 'SELECT path FROM picture' | tail -n +2)" = "$here/many/plain.jpg"
 gives "then those with one" 0 "$mexaldor" catalog -q -r --where date some many
 check "and none is marked" test "$("$mexaldor" query some 'SELECT count(*), sum(removed) FROM picture' | tail -n +2)" = "3	0"
 printf 'no picture' >broken.jpg
 gives "a file that can't be read is reported" 1 "$mexaldor" catalog db broken.jpg
 says "by name" "broken.jpg: "
-is "and has no row" "SELECT count(*) FROM picture WHERE path = 'broken.jpg'" "0"
+is "and has no row" "SELECT count(*) FROM picture WHERE path LIKE '%broken.jpg'" "0"
 
 gives "a query prints the names of its columns" 0 "$mexaldor" query db 'SELECT count(*) AS pictures FROM picture'
 check "and its rows" sh -c 'printf "pictures\n3\n" | cmp - out'
@@ -81,6 +116,11 @@ gives "a page is written" 0 "$mexaldor" page db page.html
 check "with the picture of the sample" grep -q 'src="data:image/jpeg;base64,' page.html
 check "its day" grep -q '2024-05-01' page.html
 check "and its name" grep -q 'sample.jpg' page.html
+check "a click opens the file" grep -qF '<a class="open" href="many/sample.jpg">' page.html
+check "its thumbnail is turned" grep -q 'data-path="[^"]*many/sample.jpg"[^>]* data-orientation="6"' page.html
+mkdir -p pages
+gives "a page in another folder is written" 0 "$mexaldor" page db pages/page.html
+check "with links from there" grep -qF '<a class="open" href="../many/sample.jpg">' pages/page.html
 check "it loads nothing from elsewhere" sh -c '! grep -qE "(src|href)=\"?(http|//)" page.html'
 gives "an existing page stays" 1 "$mexaldor" page db page.html
 says "unless it may be replaced" "page.html exists; use --force to replace it"

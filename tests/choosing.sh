@@ -62,7 +62,7 @@ holds "stays too" "Orientation primary row 0 at right and column 0 at top"
 # times
 touch -d '2001-01-01 00:00:00' many/sample.jpg
 gives "the time of a file is set" 3 "$mexaldor" touch -q -r many
-says "unless it has no date" "many/plain.jpg: its time is not set: it has no date, or one before 1970"
+says "unless it has no date" "many/plain.jpg: modification time unchanged: it has no date, or one before 1970"
 check "to when it was taken, in UTC" test "$(date -u -r many/sample.jpg +%Y-%m-%dT%H:%M:%S)" = 2024-05-01T02:30:00
 check "with its fraction" test "$(stat -c %y many/sample.jpg | cut -c20-23)" = .250
 gives "dates without an offset" 0 "$mexaldor" scrub "$root/docs/sample.jpg" bare.jpg

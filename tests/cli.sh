@@ -293,12 +293,13 @@ ln -s ../../outside/far.jpg work/links/c.jpg
 cp files/whole.jpg work/links/a.jpg.orig
 cp files/whole.jpg work/links/.mexaldor-0
 gives "links and own files are skipped" 3 "$mexaldor" shift -r +1:00 work/links
-says "they are counted" "mexaldor: 1 changed, 0 refused, 4 skipped (2 symbolic links; 2 backup or temporary files)"
+says "they are counted" "mexaldor: 1 changed (1 not completely), 0 refused, 4 skipped (2 symbolic links; 2 backup or temporary files)"
 "$mexaldor" show work/links/a.jpg >out
 check "the file was shifted once" test "$(grep -c '2020-02-29 00:30:00' out)" = 2
 check "a file outside of the folder stays" cmp files/whole.jpg outside/far.jpg
 check "a backup stays" cmp files/whole.jpg work/links/a.jpg.orig
 check "a hidden file stays" cmp files/whole.jpg work/links/.mexaldor-0
+says "and is named" "work/links/.mexaldor-0: a temporary file of another run; if that was interrupted, it may be deleted"
 cp files/whole.jpg work/links/a.jpg
 gives "a file named in four ways is shifted once" 3 "$mexaldor" shift +1:00 work/links/a.jpg work/links/a.jpg ./work/../work/links/b.jpg -r work/links
 "$mexaldor" show work/links/a.jpg >out
@@ -342,8 +343,57 @@ cp work/a.bmp work/b.bmp
 printf 'GIF89a' >work/a.gif
 rm work/faulty.jpg work/cut.jpg work/plain.jpg work/plain.webp
 gives "pictures that are not supported are counted" 3 "$mexaldor" json -r work
-says "by their formats" "mexaldor: 7 read, 0 refused, 3 skipped (1 GIF, 2 BMP: format not supported)"
-gives "a quiet run says nothing" 3 "$mexaldor" json -q -r work
-check "indeed" test ! -s err
+says "by their formats" "mexaldor: 7 read, 0 refused, 5 skipped (1 GIF, 2 BMP: format not supported; 1 damaged or empty file; 1 other file)"
+says "and named" "mexaldor: work/a.bmp: not read: BMP"
+gives "a quiet run names only what is not read" 3 "$mexaldor" json -q -r work
+check "one line for each" test "$(wc -l <err)" = 4
+
+# what is not read in a folder
+mkdir card
+cp files/whole.jpg card/a.jpg
+printf '\0\0\0\024ftypqt  \0\0\0\0qt  \0\0\0\010wide' >card/b.MOV
+printf '\0\0\0\010wide\0\0\0\010mdat' >card/old.mov
+printf 'II\053\0\010\0\0\0' >card/big.tif
+printf '\0\0\0\014jP  \r\n\207\n' >card/c.jp2
+printf '%%PDF-1.7' >card/d.pdf
+printf '<svg xmlns="http://www.w3.org/2000/svg"/>' >card/e.svg
+printf '' >card/empty.jpg
+printf '' >card/empty.CR3
+head -c 4096 /dev/zero >card/IMG_9999.JPG
+printf '<x/>' >card/a.xmp
+printf '<x/>' >card/f.AAE
+printf 'text' >card/g.txt
+for command in 'check' 'json' 'json --summary' 'table --tags Model' 'show' 'scrub --in-place' 'scrub --locations-only --in-place' 'shift +1:00'; do
+    rm -rf given && cp -r card given
+    gives "$command names what it does not read" 3 "$mexaldor" $command -r given
+    for line in 'b.MOV: not read: video' 'old.mov: not read: video' 'big.tif: not read: BigTIFF' 'c.jp2: not read: JPEG 2000' 'd.pdf: not read: PDF' 'e.svg: not read: SVG' 'empty.jpg: not read: the file is empty' 'empty.CR3: not read: the file is empty' 'IMG_9999.JPG: damaged: no known signature of a JPEG file'; do
+        says "as $line" "mexaldor: given/$line"
+    done
+    says "and counts it" "12 skipped (2 video, 1 JPEG 2000, 1 BigTIFF, 1 SVG, 1 PDF: format not supported; 3 damaged or empty files; 1 XMP sidecar; 1 AAE sidecar; 1 other file)"
+done
+# conditions hold for files that are named, too; files that can't be read are refused and counted
+fresh
+gives "conditions hold for named files" 3 "$mexaldor" scrub --locations-only -i --where location work/whole.jpg work/plain.jpg
+check "the other file stays" cmp files/plain.jpg work/plain.jpg
+gives "and turned round" 0 "$mexaldor" shift +1:00 --without date work/whole.tif
+check "it stays" cmp files/whole.tif work/whole.tif
+printf '\377\330\377\340\0\020JFIF' >work/short.jpg
+mkdir broken && printf 'MM\0*\0\0\0\300' >broken/a.tif && cp files/whole.jpg broken/b.jpg
+gives "a refused file is counted in place" 1 "$mexaldor" set -r -i broken Orientation=1
+says "as such" "mexaldor: 1 changed, 1 refused, 0 skipped"
+for command in 'check --json' 'check' 'json' 'json --summary' 'table --tags Model' 'thumbnail --into thumbs' 'touch' 'catalog rows.db' 'rename x_{Name}'; do
+    gives "$command refuses a file that is not there" 1 "$mexaldor" $command work/none.jpg
+    printf 'no picture' >work/none.png
+    gives "$command refuses what is no picture" 1 "$mexaldor" $command work/none.png
+    check "and leaves it" test "$(cat work/none.png)" = 'no picture'
+done
+gives "a dry run makes no folder" 0 "$mexaldor" rename --dry-run --into nowhere '%Y' work/whole.jpg
+check "indeed" test ! -e nowhere
+
+mkdir texts && printf 'text' >texts/a.txt
+gives "a folder with other files alone is well" 0 "$mexaldor" check -r texts
+says "they are counted" "mexaldor: 0 read, 0 refused, 1 skipped (1 other file)"
+gives "a location is a finding" 3 "$mexaldor" check -r card
+says "which is counted" "1 read (1 with findings), 0 refused"
 
 ends

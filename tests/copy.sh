@@ -97,6 +97,10 @@ if has djpeg && has dwebp && has pngcheck; then
     done
 fi
 if has exiftool; then
+    cp bare.jpg new.jpg
+    cp bare.png new.png
+    cp bare.webp new.webp
+    "$mexaldor" copy -q --xmp --icc full.webp new.jpg new.png new.webp
     for file in new.jpg new.png new.webp; do
         exiftool -b -ICC_Profile full.webp >expected
         exiftool -b -ICC_Profile "$file" >found

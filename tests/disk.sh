@@ -109,6 +109,19 @@ if has strace; then
     check "the program was killed at its steps" test "$calls" -ge 11
 fi
 
+# two runs on one file: what the second one read is compared just before it replaces it
+if has strace; then
+    fresh
+    strace -f -o trace -e inject=fsync:delay_enter=300000 "$mexaldor" set -i work/whole.jpg Orientation=1 >out 2>err &
+    sleep 0.1
+    "$mexaldor" set -i work/whole.jpg Orientation=3 >out.other 2>err.other
+    other=$?
+    wait $!
+    one=$?
+    check "one of two runs refuses" test "$one$other" = 10 -o "$one$other" = 01
+    check "it says why" grep -q 'another program has changed it' err err.other
+fi
+
 # a process that is killed: at each time the old or the new file
 fresh
 halves=0

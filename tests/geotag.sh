@@ -28,32 +28,36 @@ sample="$root/docs/sample.jpg"
 } | track far.gpx
 
 cp "$sample" a.jpg
-gives "a location is set from a track" 0 "$mexaldor" geotag near.gpx a.jpg
+gives "a location is set from a track" 0 "$mexaldor" geotag --overwrite near.gpx a.jpg
 gives "it is read" 0 "$mexaldor" show a.jpg
 holds "a quarter of the way: 10.1 degrees" "GPSLatitude primary 10 deg 6 min 0 sec N"
 holds "and 20.2 degrees west" "GPSLongitude primary 20 deg 12 min 0 sec W"
 holds "at 101 m" "GPSAltitude primary 101 meters above sea level"
 holds "all else stays" 'Model primary "Pinhole 2"'
 cp a.jpg again.jpg
-gives "so again" 0 "$mexaldor" geotag near.gpx again.jpg
+cp "$sample" kept.jpg
+gives "a location that is there is not replaced unasked" 3 "$mexaldor" geotag near.gpx kept.jpg
+says "which is reported" "kept.jpg: no location is set: it has one; --overwrite replaces it"
+check "the picture is as it was" cmp "$sample" kept.jpg
+gives "so again" 0 "$mexaldor" geotag --overwrite near.gpx again.jpg
 check "with the same location" cmp a.jpg again.jpg
 gives "the summary has it" 0 "$mexaldor" json --summary a.jpg
 holds "in degrees" '"latitude":10.1'
 holds "signed" '"longitude":-20.2'
 
 cp "$sample" b.jpg
-gives "points too far apart tell nothing" 3 "$mexaldor" geotag far.gpx b.jpg
+gives "points too far apart tell nothing" 3 "$mexaldor" geotag --overwrite far.gpx b.jpg
 says "which is reported" "b.jpg: no location is set: the track has none for its time"
 check "the picture stays" cmp "$sample" b.jpg
 cp files/plain.jpg plain.jpg
-gives "nor does a picture without a date" 3 "$mexaldor" geotag near.gpx plain.jpg
+gives "nor does a picture without a date" 3 "$mexaldor" geotag --overwrite near.gpx plain.jpg
 says "which is reported too" "plain.jpg: no location is set: it has no date"
 check "it stays too" cmp files/plain.jpg plain.jpg
 printf '<gpx><trk><trkseg><trkpt lat="1" lon="2"><time>2024-05-01T02:30:00Z' >cut.gpx
-gives "a track that is cut off is refused" 1 "$mexaldor" geotag cut.gpx b.jpg
+gives "a track that is cut off is refused" 1 "$mexaldor" geotag --overwrite cut.gpx b.jpg
 says "by its name" "cut.gpx: "
-gives "so is a picture" 1 "$mexaldor" geotag a.jpg b.jpg
-gives "and a track that is not there" 1 "$mexaldor" geotag none.gpx b.jpg
+gives "so is a picture" 1 "$mexaldor" geotag --overwrite a.jpg b.jpg
+gives "and a track that is not there" 1 "$mexaldor" geotag --overwrite none.gpx b.jpg
 check "the picture stays as it is" cmp "$sample" b.jpg
 
 # points that tell nothing
@@ -63,7 +67,7 @@ check "the picture stays as it is" cmp "$sample" b.jpg
     point 2024-05-01T02:30:01Z 10.4 -20.8 104
 } | track gap.gpx
 cp "$sample" gap.jpg
-gives "a point without a time is skipped" 3 "$mexaldor" geotag gap.gpx gap.jpg
+gives "a point without a time is skipped" 3 "$mexaldor" geotag --overwrite gap.gpx gap.jpg
 says "which is reported" "gap.gpx: 1 point without a time or a location was skipped"
 check "the others locate the picture" cmp a.jpg gap.jpg
 
@@ -71,8 +75,8 @@ check "the others locate the picture" cmp a.jpg gap.jpg
 gives "the offset is removed" 0 "$mexaldor" scrub "$sample" bare.jpg
 gives "a date without an offset" 0 "$mexaldor" set --in-place bare.jpg 'DateTimeOriginal=2024-05-01T12:30:00'
 cp bare.jpg utc.jpg
-gives "it is of another time in UTC" 3 "$mexaldor" geotag near.gpx utc.jpg
-gives "with its offset it is found" 0 "$mexaldor" geotag --offset +10:00 near.gpx bare.jpg
+gives "it is of another time in UTC" 3 "$mexaldor" geotag --overwrite near.gpx utc.jpg
+gives "with its offset it is found" 0 "$mexaldor" geotag --overwrite --offset +10:00 near.gpx bare.jpg
 gives "at the first point" 0 "$mexaldor" json --summary bare.jpg
 holds "of the track" '"latitude":10'
 

@@ -168,6 +168,44 @@ jpeg("words.jpg", segment(0xE1, b"http://ns.adobe.com/xap/1.0/\0" + words))
 jpeg("keywords.jpg", segment(0xED, b"Photoshop 3.0\0" + resource.replace(b"\x1c\x02\x50\0\x04kept", b"\x1c\x02\x19\0\x04word")))
 tiff_file("words.tif", tiff((700, 1, words), (33723, 7, iptc)))
 jpeg("unknown.jpg", EXIF + segment(0xE9, SECRET))
+
+
+def resource_of(number, data, name=b""):
+    """A resource of Photoshop with this number, data and name."""
+    letters = bytes([len(name)]) + name + b"\0" * ((len(name) + 1) % 2)
+    return b"8BIM" + struct.pack(">H", number) + letters + struct.pack(">I", len(data)) + data + b"\0" * (len(data) % 2)
+
+
+def photoshop(*resources):
+    return segment(0xED, b"Photoshop 3.0\0" + b"".join(resources))
+
+
+# Exif data and XMP in resources of Photoshop are searched; a resolution and a flag are numbers
+jpeg("resources.jpg", photoshop(resource_of(0x422, exif), resource_of(0x424, xmp), resource_of(1005, b"\0\x48" * 8), resource_of(1034, b"\1")))
+# a caption, thumbnails, other Exif data, XML, a flag with more than its byte, and a name: may hold a location
+for number in (1008, 1033, 1036, 1059, 1002, 1034, 8000):
+    jpeg(f"resource_{number}.jpg", EXIF + photoshop(resource_of(number, SECRET)))
+jpeg("resource_name.jpg", EXIF + photoshop(resource_of(1034, b"\1", SECRET)))
+tiff_file("resource.tif", tiff((33723, 7, iptc), (34377, 1, resource_of(1008, SECRET))))
+jpeg("resource_thumbnail.jpg", segment(0xE1, b"Exif\0\0" + with_thumbnail(plain[:2] + photoshop(resource_of(1008, SECRET)) + plain[2:])))
+# a thumbnail of JFIF, and bytes behind the fields of JFIF and Adobe
+jpeg("jfxx.jpg", EXIF + segment(0xE0, b"JFXX\0\x10" + SECRET))
+jpeg("jfif_tail.jpg", segment(0xE0, b"JFIF\0\1\2\0\0\1\0\1\0\0" + SECRET) + EXIF)
+jpeg("adobe_tail.jpg", segment(0xEE, b"Adobe\0\x64\0\0\0\0\1" + SECRET) + EXIF)
+# a byte that is no marker behind the first one
+open(os.path.join(folder, "no_second_marker.jpg"), "wb").write(plain[:2] + b"\5" + EXIF + plain[2:])
+# texts in XMP: keywords of a catalogue, the name of a region, a comment, an identifier
+for name, old, new in (
+    ("keywords", b"dc:source='kept'", b"lr:weightedFlatSubject='" + SECRET + b"'"),
+    ("region", b"dc:source='kept'", b"mwg-rs:Name='" + SECRET + b"'"),
+    ("remark", b"<rdf:RDF", b"<!--" + SECRET + b"--><rdf:RDF"),
+    ("about", b"rdf:about=''", b"rdf:about='" + SECRET + b"'"),
+):
+    jpeg(f"xmp_{name}.jpg", segment(0xE1, b"http://ns.adobe.com/xap/1.0/\0" + xmp.replace(old, new)))
+# GPS data that are a version alone, and with a maker note, as some cameras write them
+version = b"MM\0*\0\0\0\x08" + struct.pack(">HHHIII", 1, 0x8825, 4, 1, 26, 0) + struct.pack(">HHHI4sI", 1, 0, 1, 4, b"\2\3\0\0", 0)
+jpeg("gps_version.jpg", segment(0xE1, b"Exif\0\0" + version))
+jpeg("gps_version_note.jpg", segment(0xE1, b"Exif\0\0" + b"MM\0*\0\0\0\x08" + struct.pack(">HHHII", 2, 0x8825, 4, 1, 38) + struct.pack(">HHI4sI", 37500, 7, 4, b"note", 0) + version[26:]))
 jpeg("long_xmp.jpg", XMP + LONG)
 jpeg("other_order.jpg", XMP + b"".join(PORTIONS[::-1]))
 jpeg("other_packet.jpg", XMP + PORTIONS[0] + PORTIONS[1].replace(b"0" * 32, b"1" * 32) + PORTIONS[2])
@@ -177,3 +215,8 @@ jpeg("broken_long.jpg", segment(0xE1, b"http://ns.adobe.com/xap/1.0/\0" + xmp + 
 jpeg("broken_iptc.jpg", segment(0xED, b"Photoshop 3.0\0" + resource.replace(b"\x1c\x02\x5a", b"\x1d\x02\x5a")))
 jpeg("broken_exif.jpg", segment(0xE1, b"Exif\0\0XX" + SECRET) + XMP)
 webp("unknown.webp", chunk(b"EXIF", exif) + chunk(b"ABCD", SECRET))
+# chunks within the frame of an animation
+frame = open(os.path.join(folder, "plain.webp"), "rb").read()[30:]
+for name, inner in (("exif", chunk(b"EXIF", exif)), ("xmp", chunk(b"XMP ", xmp)), ("unknown", chunk(b"ABCD", SECRET))):
+    body = b"WEBP" + chunk(b"VP8X", b"\2" + b"\0" * 9) + chunk(b"ANIM", b"\0" * 6) + chunk(b"ANMF", b"\0" * 16 + frame + inner)
+    open(os.path.join(folder, f"frame_{name}.webp"), "wb").write(b"RIFF" + struct.pack("<I", len(body)) + body)

@@ -35,7 +35,7 @@ stays() {
     gives "$1 is changed, and what stays is reported" 3 "$mexaldor" scrub --force --locations-only "files/$1" "new.$1"
     says "$1: what stays is named" "$3"
     check "$1: $2 are left ($(secrets "new.$1"))" test "$(secrets "new.$1")" = "$2"
-    gives "check reports what stays of $1" 3 "$mexaldor" check "new.$1"
+    gives "check reports what stays of $1" 3 "$mexaldor" check --strict "new.$1"
     holds "as a part that may hold a location" ": may hold a location"
 }
 
@@ -43,6 +43,7 @@ for file in exif.jpg exif_twice.jpg zeros.jpg xmp.jpg xmp_twice.jpg extended_xmp
     gps.tif fields.tif fields.jpg fields.webp thumbnail.jpg exif.heic xmp.heic both.heic twice.heic undescribed.jpg; do
     erased "$file"
 done
+erased resources.jpg
 check "what names no location stays in XMP" grep -qaF "dc:source='kept'" new.xmp.jpg
 check "and in IPTC data" grep -qaF kept new.iptc.jpg
 check "what names no location stays in the XMP of a thumbnail" grep -qaF "dc:source='kept'" new.thumbnail.jpg
@@ -58,6 +59,30 @@ stays comment.jpg 1 "comment at offset"
 stays commented_thumbnail.jpg 1 "Exif data at offset 2: the thumbnail may hold a location"
 stays trailer.jpg 1 "data after the picture at offset"
 stays unknown.jpg 1 "unknown data at offset"
+for number in 1008 1033 1036 1059 1002 1034 8000; do
+    stays "resource_$number.jpg" 1 "other Photoshop resource at offset"
+done
+stays resource_name.jpg 1 "other Photoshop resource at offset"
+stays resource.tif 1 "Exif data at offset 0: a resource of Photoshop is not searched"
+stays resource_thumbnail.jpg 1 "Exif data at offset 2: the thumbnail may hold a location"
+stays jfxx.jpg 1 "JFIF thumbnail at offset"
+stays jfif_tail.jpg 1 "JFIF header at offset"
+stays adobe_tail.jpg 1 "Adobe segment at offset"
+stays no_second_marker.jpg 0 "unknown data at offset 2"
+for file in xmp_keywords.jpg xmp_region.jpg xmp_remark.jpg xmp_about.jpg; do
+    stays "$file" 1 "XMP packet at offset 2 has texts, which are not judged"
+done
+gives "a version of GPS data is no location" 0 "$mexaldor" check files/gps_version.jpg
+holds "and none is found" "Exif data at offset 2 (54 bytes): no location"
+gives "a maker note may hold one" 3 "$mexaldor" check --strict files/gps_version_note.jpg
+gives "which is no finding unless that is asked for" 0 "$mexaldor" check files/gps_version_note.jpg
+holds "and is named apart" ": may hold a location in its maker note"
+for file in frame_exif.webp frame_unknown.webp; do
+    stays "$file" 1 "unknown data at offset"
+done
+stays frame_xmp.webp 2 "unknown data at offset"
+gives "a chunk within a frame is left by scrub" 3 "$mexaldor" scrub --force files/frame_unknown.webp clean.webp
+says "and reported" "still there: unknown data at offset"
 stays long_xmp.jpg 1 "part of a long XMP packet at offset"
 stays other_order.jpg 0 "part of a long XMP packet at offset"
 check "no byte of portions in another order is new" test "$(grep -aoE 'Zzy|zx47' new.other_order.jpg | wc -l)" = 4
@@ -109,6 +134,7 @@ cleaned() {
 
 for file in all.jpg second_picture.jpg fields.jpg thumbnail.jpg commented_thumbnail.jpg comment.jpg trailer.jpg unknown.jpg long_xmp.jpg \
     extended_xmp.jpg other_order.jpg broken_extended.jpg broken_xmp.jpg broken_long.jpg broken_iptc.jpg \
+    resources.jpg resource_1008.jpg resource_name.jpg jfxx.jpg jfif_tail.jpg adobe_tail.jpg no_second_marker.jpg \
     broken_exif.jpg both.webp fields.webp unknown.webp gps.tif fields.tif maker_note.tif broken_xmp.tif cut.tif \
     exif.heic xmp.heic both.heic twice.heic unknown_item.heic unknown_box.heic \
     broken_xmp.heic; do

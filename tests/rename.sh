@@ -21,7 +21,7 @@ check "nothing was renamed" test -e work/whole.jpg
 gives "files are renamed" 0 "$mexaldor" rename '%Y%m%d_%H%M%S' work/whole.jpg work/twin.jpg
 check "the first" cmp files/whole.jpg "work/$stamp.jpg"
 check "the second gets a number" cmp files/whole.jpg "work/${stamp}_1.jpg"
-check "the sidecars are there" test -e "work/$stamp.xmp" -a -e "work/$stamp.jpg.xmp"
+check "the sidecars are there, with the number of their picture" test -e "work/${stamp}_1.xmp" -a -e "work/${stamp}_1.jpg.xmp"
 check "the old ones are gone" test ! -e work/whole.jpg -a ! -e work/twin.jpg -a ! -e work/whole.xmp
 gives "a second run changes nothing" 0 "$mexaldor" rename '%Y%m%d_%H%M%S' "work/$stamp.jpg" "work/${stamp}_1.jpg"
 check "indeed" test -e "work/$stamp.jpg" -a -e "work/${stamp}_1.jpg"
@@ -42,6 +42,71 @@ printf 'precious' >"work/$stamp.jpg"
 gives "no file is overwritten" 0 "$mexaldor" rename '%Y%m%d_%H%M%S' work/whole.jpg
 check "the one that was there stays" test "$(cat "work/$stamp.jpg")" = precious
 check "the other gets a number" cmp files/whole.jpg "work/${stamp}_1.jpg"
+
+# files of one stem: two shots of one second, each as raw file, JPEG and sidecars, and a video
+fresh
+mkdir burst
+"$mexaldor" set -q work/whole.jpg burst/IMG_1.JPG DateTimeOriginal='2021-03-04 05:06:07' SubSecTimeOriginal=80 2>/dev/null
+"$mexaldor" set -q work/whole.tif burst/IMG_1.NEF DateTimeOriginal='2021-03-04 05:06:07' 2>/dev/null
+"$mexaldor" set -q work/whole.jpg burst/IMG_2.JPG DateTimeOriginal='2021-03-04 05:06:07' SubSecTimeOriginal=20 2>/dev/null
+"$mexaldor" set -q work/whole.tif burst/IMG_2.NEF DateTimeOriginal='2021-03-04 05:06:07' 2>/dev/null
+for stem in IMG_1 IMG_2; do
+    printf "%s" "$stem xmp" >"burst/$stem.xmp"
+    printf "%s" "$stem jpg.xmp" >"burst/$stem.JPG.xmp"
+    printf "%s" "$stem aae" >"burst/$stem.AAE"
+    printf '\0\0\0\024ftypqt  \0\0\0\0qt  %s' "$stem" >"burst/$stem.MOV"
+done
+printf '\0\0\0\024ftypqt  \0\0\0\0qt  alone' >burst/IMG_3.MOV
+gives "a burst is renamed" 3 "$mexaldor" rename -r '%Y%m%d_%H%M%S' burst
+says "a video without a picture is named" "burst/IMG_3.MOV: not read: video"
+check "the earlier shot comes first" test "$(cat burst/20210304_050607.xmp)" = 'IMG_2 xmp'
+check "with all its files" test "$(cat burst/20210304_050607.JPG.xmp)" = 'IMG_2 jpg.xmp' -a "$(cat burst/20210304_050607.AAE)" = 'IMG_2 aae'
+check "and its video" grep -q IMG_2 burst/20210304_050607.MOV
+check "the other one gets a number" test "$(cat burst/20210304_050607_1.xmp)" = 'IMG_1 xmp'
+check "with all its files, too" test -e burst/20210304_050607_1.JPG -a -e burst/20210304_050607_1.NEF -a -e burst/20210304_050607_1.MOV
+ls burst >before
+gives "a second run" 3 "$mexaldor" rename -r '%Y%m%d_%H%M%S' burst
+ls burst >after
+check "changes nothing" cmp before after
+says "and says so" "0 renamed, 2 already so, 0 refused, 1 skipped"
+
+# folders are not nested
+fresh
+mkdir tree && cp files/whole.jpg tree/a.jpg
+gives "folders by date are made" 0 "$mexaldor" rename -q -r '%Y/%m/%d' tree
+find tree -type f >before
+gives "once" 0 "$mexaldor" rename -q -r '%Y/%m/%d' tree
+find tree -type f >after
+check "not within each other" cmp before after
+
+# a picture that has only a date of another kind
+fresh
+"$mexaldor" set -q work/plain.jpg dated.jpg DateTimeDigitized='2019-01-02 03:04:05' 2>/dev/null
+gives "the date of digitizing serves" 0 "$mexaldor" rename '%Y-%m-%d' dated.jpg
+check "as a name" test -e 2019-01-02.jpg
+holds "the run writes what it did" "/dated.jpg -> "
+
+# two runs side by side
+fresh
+rm -rf many && mkdir many
+for number in $(seq 1 20); do
+    cp files/whole.jpg "many/a$number.jpg"
+    cp files/whole.jpg "many/b$number.jpg"
+done
+"$mexaldor" rename '%Y%m%d_%H%M%S' many/a*.jpg >out.a 2>err.a &
+"$mexaldor" rename '%Y%m%d_%H%M%S' many/b*.jpg >out.b 2>err.b
+wait
+check "two runs side by side lose no file" test "$(ls many | wc -l)" = 40
+
+# a file system in which no file can have two names
+if has strace; then
+    fresh
+    printf 'precious' >"work/$stamp.jpg"
+    strace -f -o trace -e inject=link,linkat:error=EPERM "$mexaldor" rename '%Y%m%d_%H%M%S' work/whole.jpg >out 2>err
+    check "without hard links a file is renamed too" cmp files/whole.jpg "work/${stamp}_1.jpg"
+    check "its old name is gone" test ! -e work/whole.jpg
+    check "nothing is overwritten" test "$(cat "work/$stamp.jpg")" = precious
+fi
 
 fresh
 gives "a file without a date is left" 3 "$mexaldor" rename '%Y' work/plain.jpg
@@ -70,7 +135,7 @@ fi
 
 # a run of many, stopped at any moment
 fresh
-mkdir many
+rm -rf many && mkdir many
 for n in $(seq 300); do cp files/whole.jpg "many/$n.jpg"; done
 "$mexaldor" rename -q -r '%Y%m%d_%H%M%S' many &
 sleep 0.05

@@ -184,9 +184,8 @@ impl<'a, R: Source> Source for Blocks<'a, R> {
         self.source.offset()
     }
 
-    fn go_to(&mut self, offset: u64) -> io::Result<()> {
-        self.at = self.end;
-        self.source.go_to(offset)
+    fn fetch_at(&mut self, offset: u64, buf: &mut [u8]) -> io::Result<Option<usize>> {
+        self.source.fetch_at(offset, buf)
     }
 }
 

@@ -1,8 +1,8 @@
 //! Where bytes come from and go to: readers and writers that count their failures.
 
-ghost use Rattle.std.specs.Prelude.{◌≡◌, ◌<◌, ◌≤◌, ℕ, List, [], Option, None, Some, length, is_err, IfOk, IfSome, OnOk, true};
+ghost use Rattle.std.specs.Prelude.{◌≡◌, ◌<◌, ◌≤◌, ◌+◌, ℕ, List, [], Option, None, Some, length, take, is_err, IfOk, IfSome, OnOk, true};
 ghost use Rattle.std.specs.Io.{ReadsAtMost, StartsWith, WritesAtMost};
-ghost use Rattle.std.specs.Io.KnownBytes.{IsAtEnd, Keeps, ReadConsumes, WriteAppends};
+ghost use Rattle.std.specs.Io.KnownBytes.{Consumes, IsAtEnd, Keeps, ReadConsumes, WriteAppends};
 ghost use Rattle.exif_base.specs.Device.{count_after, put_failed};
 ghost use Rattle.exif_base.specs.Told.{IsFetchedOnto, PassesOthers, Skips, left_behind};
 ghost use Rattle.exif_base.specs.Counted.{counted_inner, counted_failures};
@@ -22,7 +22,7 @@ pub trait Source {
     /// All bytes of the stream, of which offsets count, where they are known.
     ghost stream: { Self → Option (List ℕ) } = { λ _. None };
 
-    /// How many fetches, skips and moves failed, up to 2^64 - 1.
+    /// How many fetches and skips failed, up to 2^64 - 1.
     ghost failures: { Self → ℕ };
 
     /// The names of the references that it reads through, the outermost first.
@@ -102,8 +102,7 @@ pub trait Source {
         0
     }
 
-    /// The offset of the next byte in the stream, for `go_to`, or none where the source cannot go
-    /// back.
+    /// The offset of the next byte in the stream, or none where the source does not know it.
     ///
     /// It takes no byte. `None` is always a right answer.
     fn offset(&mut self) -> Option<u64>
@@ -117,16 +116,26 @@ pub trait Source {
         None
     }
 
-    /// Moves to an offset of the stream, of which the bytes that follow are the next ones.
+    /// Puts bytes of the stream, from this offset on, at the front of the buffer, and answers how
+    /// many. It takes no byte.
     ///
-    /// A source that cannot go back fails with `Unsupported`. After an error, where it is is left
+    /// `Some(0)` into a buffer with space is the end of the stream. `None`: the source does not
+    /// read at an offset. That is always a right answer. After an error, which bytes are left is
     /// open.
-    fn go_to(&mut self, offset: u64) -> io::Result<()>
-        ensures moved { OnOk result
-            (left self.new ≡ left_behind (Some offset) (stream self.new)) }
+    fn fetch_at(&mut self, offset: u64, buf: &mut [u8]) -> io::Result<Option<usize>>
+        ensures bound { IfOk result (λ found. IfSome found (λ n. n ≤ length buf.new)) }
+        ensures bytes { IfOk result (λ found. IfSome found (λ n. Consumes
+            (left_behind (Some offset) (stream self.old))
+            (left_behind (Some (offset + n)) (stream self.old)) (take n buf.new))) }
+        ensures end { IfOk result (λ found. IfSome found (λ n. n ≡ 0 → 0 < length buf.new
+            → IsAtEnd (left_behind (Some offset) (stream self.old)))) }
+        ensures kept { OnOk result (Keeps (left self.old) (left self.new)) }
         ensures stream { stream self.new ≡ stream self.old }
         ensures count { failures self.new ≡ count_after (is_err result) (failures self.old) }
-        ensures same { through self.new ≡ through self.old };
+        ensures same { through self.new ≡ through self.old }
+    {
+        Ok(None)
+    }
 }
 
 /// What takes bytes. `Ok(0)` of some bytes is a failure.
@@ -202,11 +211,6 @@ impl<R: Read> Source for Counted<R> {
             self.count_failure();
         }
         result
-    }
-
-    fn go_to(&mut self, _offset: u64) -> io::Result<()> {
-        self.count_failure();
-        Err(io::Error::from(io::ErrorKind::Unsupported))
     }
 }
 

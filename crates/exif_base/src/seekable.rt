@@ -1,8 +1,8 @@
 //! Sources that seek over what they skip.
 
-ghost use Rattle.std.specs.Prelude.{◌≡◌, ◌<◌, ◌≤◌, ◌++◌, [], Some, IfOk, IfSome, OnOk, true};
+ghost use Rattle.std.specs.Prelude.{◌≡◌, ◌<◌, ◌≤◌, ◌+◌, ◌++◌, [], Some, length, take, IfOk, IfSome, OnOk, true};
 ghost use Rattle.std.specs.Io.{ReadsAtMost, StartsWith};
-ghost use Rattle.std.specs.Io.KnownBytes.{IsAtEnd, Keeps, ReadConsumes};
+ghost use Rattle.std.specs.Io.KnownBytes.{Consumes, IsAtEnd, Keeps, ReadConsumes};
 ghost use Rattle.std.specs.Io.Seek.{SeekMoves};
 ghost use Rattle.exif_base.specs.Device.{count_after};
 ghost use Rattle.exif_base.specs.Seekable.{known_stream, seekable_failures, seekable_inner};
@@ -217,8 +217,8 @@ impl<R: ReadSeek> Source for Seekable<R> {
         offset_in(&mut self.inner)
     }
 
-    fn go_to(&mut self, offset: u64) -> io::Result<()> {
-        let result = go_in(&mut self.inner, offset);
+    fn fetch_at(&mut self, offset: u64, buf: &mut [u8]) -> io::Result<Option<usize>> {
+        let result = fetch_at_in(&mut self.inner, offset, buf);
         if result.is_err() {
             self.count_failure();
         }
@@ -325,4 +325,31 @@ fn go_in<R: ReadSeek>(stream: &mut R, offset: u64) -> io::Result<()>
     stream.seek_stream(SeekFrom::Start(offset))?;
     stream.reads_in_place();
     Ok(())
+}
+
+// Reads at an offset of the stream, and goes back to where it was. None where the stream does not
+// report where that is.
+fn fetch_at_in<R: ReadSeek>(
+    stream: &mut R,
+    offset: u64,
+    buf: &mut [u8],
+) -> io::Result<Option<usize>>
+    ensures bound { IfOk result (λ found. IfSome found (λ n. n ≤ length buf.new)) }
+    ensures bytes { IfOk result (λ found. IfSome found (λ n. let all = known_stream
+        (R.stream_position stream.old) (R.stream_bytes stream.old) in Consumes
+        (left_behind (Some offset) all) (left_behind (Some (offset + n)) all) (take n buf.new))) }
+    ensures end { IfOk result (λ found. IfSome found (λ n. n ≡ 0 → 0 < length buf.new
+        → IsAtEnd (left_behind (Some offset)
+        (known_stream (R.stream_position stream.old) (R.stream_bytes stream.old))))) }
+    ensures kept { OnOk result (Keeps (R.remaining stream.old) (R.remaining stream.new)) }
+    ensures stream { known_stream (R.stream_position stream.new) (R.stream_bytes stream.new)
+        ≡ known_stream (R.stream_position stream.old) (R.stream_bytes stream.old) }
+{
+    let Some(back) = offset_in(stream) else {
+        return Ok(None);
+    };
+    go_in(stream, offset)?;
+    let n = stream.read_stream(buf)?;
+    go_in(stream, back)?;
+    Ok(Some(n))
 }

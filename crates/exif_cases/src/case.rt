@@ -98,7 +98,9 @@ pub struct Case {
     pub output: Vec<u8>,
     pub end: String,
     pub reads: Option<usize>,
-    pub prefixes: Option<String>,
+    /// How many bytes a prefix has at least that is refused, and with which text, if one is given.
+    pub prefixes: Option<usize>,
+    pub refusal: String,
     pub short_of_memory: bool,
 }
 
@@ -130,6 +132,7 @@ impl Case {
             end: String::new(alloc),
             reads: None,
             prefixes: None,
+            refusal: String::new(alloc),
             short_of_memory: false,
         }
     }

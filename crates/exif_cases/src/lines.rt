@@ -24,7 +24,8 @@ impl Case {
                 Ok(())
             }
             "prefixes" => {
-                self.prefixes = Some(String::from_str(alloc, rest)?);
+                self.prefixes = Some(0);
+                self.refusal = String::from_str(alloc, rest)?;
                 Ok(())
             }
             "word" => {
@@ -32,7 +33,7 @@ impl Case {
                 Ok(())
             }
             "in" | "out" | "put" | "path" => self.bytes(head, bytes_of(alloc, names, words)?),
-            "reads" | "limit" => self.number(head, number(first(words))?),
+            "reads" | "limit" | "from" => self.number(head, number(first(words))?),
             _ => self.part(alloc, names, head, words),
         }
     }
@@ -57,6 +58,7 @@ impl Case {
     fn number(&mut self, head: &str, number: usize) -> Result<(), CaseError> {
         match head {
             "reads" => self.reads = Some(number),
+            "from" => self.prefixes = Some(number),
             _ => self.limit = Some(number as u64),
         }
         Ok(())

@@ -8,6 +8,7 @@ use Rattle.exif_catalog.specs.Runs.{has_path, has_stamp_of}
 use Rattle.exif_catalog.specs.Tables.{tables_for}
 use Rattle.exif_catalog.specs.Values.{amount_value, integer, latin1, null}
 use Rattle.exif_catalog.specs.Totals.{more, outcome_of}
+use Rattle.exif_catalog.specs.declared.known.Stamp.{Stamp}
 use Rattle.exif_catalog.specs.declared.heads.FileKind.TheVariants as kind
 use Rattle.exif_catalog.specs.declared.totals.Outcome.TheVariants as outcome
 use Rattle.exif_catalog.specs.declared.tables.Tables.TheVariants as tables
@@ -81,8 +82,20 @@ a_text = refl
 a_database : kind_of (codes "SQLite format 3" ++ 0 ∷ 16 ∷ []) ≡ kind.Database
 a_database = refl
 
--- a picture without a row is read, and so is one whose file's size or time is not known
-no_row : has_stamp_of None (Some (record { size = 5; modified = 7 })) ≡ false
+-- a file of 5 bytes that was written at second 7
+abbrev at_seven : Stamp
+at_seven = record {
+  size = 5;
+  modified = 7;
+  modified_ns = 1;
+  changed = 7;
+  changed_ns = 2;
+  device = 3;
+  inode = 4;
+}
+
+-- a picture without a row is read, and so is one whose file's stamp is not known
+no_row : has_stamp_of None (Some at_seven) ≡ false
 no_row = refl
 
 no_time : has_stamp_of (Some (record { stamp = None; is_removed = false; is_seen = false })) None
@@ -91,12 +104,32 @@ no_time = refl
 
 same_file : has_stamp_of
     (Some (record {
-      stamp = Some (record { size = 5; modified = 7 });
+      stamp = Some at_seven;
       is_removed = false;
       is_seen = false;
     }))
-    (Some (record { size = 5; modified = 7 })) ≡ true
+    (Some at_seven) ≡ true
 same_file = refl
+
+-- another program wrote as many bytes, and set the time back
+written_again : has_stamp_of
+    (Some (record {
+      stamp = Some at_seven;
+      is_removed = false;
+      is_seen = false;
+    }))
+    (Some (record at_seven { changed = 9 })) ≡ false
+written_again = refl
+
+-- or another file was moved there
+moved_there : has_stamp_of
+    (Some (record {
+      stamp = Some at_seven;
+      is_removed = false;
+      is_seen = false;
+    }))
+    (Some (record at_seven { inode = 5 })) ≡ false
+moved_there = refl
 
 -- values without a path are no row
 no_path : has_path (codes "a.jpg") [] ≡ false

@@ -32,14 +32,21 @@ mark_for false false below = if below then Some true else None
 abbrev pub mark_of : List ℕ → Known → List (Bor (List ℕ)) → Option Bool
 mark_of path known roots = mark_for known.is_seen known.is_removed (is_below_any path roots)
 
--- the size and the time by which a row is up to date: none where it lacks a hash that is needed
+-- the stamp by which a row is up to date: none where it lacks a hash that is needed
 abbrev pub stamp_for : Option Stamp → Bool → Bool → Option Stamp
 stamp_for stamp needs_hash has_hash = if needs_hash && not has_hash then None else stamp
 
--- a size and a time that are known are those
+-- one file, with one length, whose bytes and attributes were not changed since
+abbrev pub is_same : Stamp → Stamp → Bool
+is_same known stamp = known.size == stamp.size
+    && known.modified == stamp.modified && known.modified_ns == stamp.modified_ns
+    && known.changed == stamp.changed && known.changed_ns == stamp.changed_ns
+    && known.device == stamp.device && known.inode == stamp.inode
+
+-- a stamp that is known is this one
 abbrev pub is_stamp : Option Stamp → Stamp → Bool
 is_stamp None stamp = false
-is_stamp (Some known) stamp = known.size == stamp.size && known.modified == stamp.modified
+is_stamp (Some known) stamp = is_same known stamp
 
 -- the same of a row, if there is one
 abbrev pub has_stamp : Option Known → Stamp → Bool

@@ -39,7 +39,7 @@ path_of (value ∷ values) = text_in value
 abbrev pub has_path : List ℕ → List SqlValue → Bool
 has_path path values = elim (path_of values) [ Some text ↦ bytes_eq text path | None ↦ false ]
 
--- the picture has a row, and its file had that size and time when it was read
+-- the picture has a row, and its file had that stamp when it was read
 abbrev pub has_stamp_of : Option Known → Option Stamp → Bool
 has_stamp_of known None = false
 has_stamp_of known (Some stamp) = has_stamp known stamp

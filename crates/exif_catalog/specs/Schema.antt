@@ -52,7 +52,9 @@ column_text column = codes ", " ++ name_of column ++ codes " " ++ type_name (typ
 abbrev pub create_text : List Column → List ℕ
 create_text columns =
     codes "CREATE TABLE picture (path TEXT NOT NULL PRIMARY KEY, file_size INTEGER, "
-    ++ codes "file_modified INTEGER, hash TEXT, format TEXT, mime TEXT"
+    ++ codes "file_modified INTEGER, file_modified_ns INTEGER, file_changed INTEGER, "
+    ++ codes "file_changed_ns INTEGER, file_device INTEGER, file_inode INTEGER, "
+    ++ codes "hash TEXT, format TEXT, mime TEXT"
     ++ flat_map column_text columns ++ codes ", removed INTEGER NOT NULL DEFAULT 0) STRICT"
 
 -- the parameter of a column: the number that a text is, where the column has numbers
@@ -66,11 +68,11 @@ abbrev pub parameters : ℕ → List Column → List ℕ
 parameters n [] = []
 parameters n (column ∷ columns) = parameter (type_of column) n ++ parameters (n + 1) columns
 
--- what writes a row: the six values of a file, those of the columns, and that it is there
+-- what writes a row: the eleven values of a file, those of the columns, and that it is there
 abbrev pub insert_text : List Column → List ℕ
 insert_text columns =
-    codes "INSERT OR REPLACE INTO picture VALUES (?1, ?2, ?3, ?4, ?5, ?6"
-    ++ parameters 7 columns ++ codes ", 0)"
+    codes "INSERT OR REPLACE INTO picture VALUES (?1, ?2, ?3, ?4, ?5, ?6, ?7, ?8, ?9, ?10, ?11"
+    ++ parameters 12 columns ++ codes ", 0)"
 
 -- a column of an answer, after others
 abbrev pub answer_column : Column → List ℕ

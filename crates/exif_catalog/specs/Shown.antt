@@ -26,7 +26,7 @@ text_at row column =
 abbrev pub texts_of_row : Texts → List (Option (List ℕ))
 texts_of_row row =
     Some (unwrap_or (text_at row 0) [])
-    ∷ map (text_at row) (1 ∷ 2 ∷ 3 ∷ 4 ∷ 5 ∷ 6 ∷ 7 ∷ 8 ∷ 9 ∷ [])
+    ∷ map (text_at row) (1 ∷ 2 ∷ 3 ∷ 4 ∷ 5 ∷ 6 ∷ 7 ∷ 8 ∷ 9 ∷ 10 ∷ [])
 
 -- the fields of a picture's row, in the order of the answer's columns
 abbrev pub row_texts : PictureRow → List (Option (List ℕ))
@@ -34,4 +34,4 @@ row_texts row =
     Some row.path.now
     ∷ map (λ text. option_map (λ t. t.now) text) (row.date_taken ∷ row.make ∷ row.model
     ∷ row.exposure_time ∷ row.f_number ∷ row.iso ∷ row.focal_length ∷ row.latitude
-    ∷ row.longitude ∷ [])
+    ∷ row.longitude ∷ row.orientation ∷ [])

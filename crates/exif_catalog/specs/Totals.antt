@@ -9,7 +9,7 @@ abbrev pub outcome_of : Bool → Outcome
 outcome_of true = outcome.Changed
 outcome_of false = outcome.Added
 
--- whether a row stayed since its file had its size and time
+-- whether a row stayed since its file had its stamp
 abbrev pub is_unchanged : Outcome → Bool
 is_unchanged outcome.Unchanged = true
 is_unchanged outcome.Added = false

@@ -4,10 +4,9 @@ use Rattle.std.specs.Char.{encode_utf8}
 use Rattle.std.specs.List.{flat_map}
 use Rattle.std.specs.Str.{is_utf8}
 use Rattle.std.specs.String.{string_bytes}
-use Rattle.exif_summary.specs.Columns.{Shown, cell_of}
+use Rattle.exif_summary.specs.Columns.{Shown, cell_of, columns}
 use Rattle.exif_summary.specs.Columns as shown
 use Rattle.exif_summary.specs.declared.columns.Column.{Column}
-use Rattle.exif_summary.specs.declared.columns.TheConstants.{COLUMNS}
 use Rattle.exif_types.specs.declared.field.Field.{Field}
 use Rattle.exif_catalog.specs.declared.values.PictureFile.{PictureFile}
 use Rattle.exif_catalog.specs.declared.values.SqlValue.{SqlValue}
@@ -64,12 +63,14 @@ column_value (Some fields) column = maybe_shown (cell_of fields column)
 
 -- the same in all columns
 abbrev pub columns_values : Option (List Field) → List Stored
-columns_values exif = map (column_value exif) COLUMNS
+columns_values exif = map (column_value exif) columns
 
 -- what is stored of a file
 abbrev pub file_values : PictureFile → List Stored
 file_values file =
     text (text_of file.path.now) ∷ amount_value file.size ∷ amount_value file.modified
+    ∷ amount_value file.modified_ns ∷ amount_value file.changed ∷ amount_value file.changed_ns
+    ∷ amount_value file.device ∷ amount_value file.inode
     ∷ maybe_text (option_map (λ t. t.now) file.hash)
     ∷ maybe_text (option_map (λ t. t.now) file.format)
     ∷ maybe_text (option_map (λ t. t.now) file.mime) ∷ []

@@ -24,21 +24,51 @@ pub(crate) struct Catalog {
     mark: Statement,
 }
 
-// The size and time that a row has, if it has both.
-fn stamp_of(size: Option<i64>, modified: Option<i64>) -> Option<Stamp> {
-    let size = u64::try_from(size?).ok()?;
-    let modified = u64::try_from(modified?).ok()?;
-    Some(Stamp { size, modified })
+// A number of a row that is not negative.
+fn amount_at(row: &Row, column: usize) -> Result<Option<u64>, CatalogError> {
+    match number_at(row, column)? {
+        Some(number) => Ok(u64::try_from(number).ok()),
+        None => Ok(None),
+    }
+}
+
+// The stamp that a row has, if it has all of it.
+fn stamp_of(row: &Row) -> Result<Option<Stamp>, CatalogError> {
+    let (size, modified) = (amount_at(row, 1)?, amount_at(row, 2)?);
+    let (modified_ns, changed) = (amount_at(row, 3)?, amount_at(row, 4)?);
+    let (changed_ns, device) = (amount_at(row, 5)?, amount_at(row, 6)?);
+    let inode = amount_at(row, 7)?;
+    Ok(stamp_from([
+        size,
+        modified,
+        modified_ns,
+        changed,
+        changed_ns,
+        device,
+        inode,
+    ]))
+}
+
+// A stamp of its parts, if all are there.
+fn stamp_from(parts: [Option<u64>; 7]) -> Option<Stamp> {
+    Some(Stamp {
+        size: parts[0]?,
+        modified: parts[1]?,
+        modified_ns: parts[2]?,
+        changed: parts[3]?,
+        changed_ns: parts[4]?,
+        device: parts[5]?,
+        inode: parts[6]?,
+    })
 }
 
 // What is known of a picture, by its row.
 fn known_of(row: &Row, needs_hash: bool) -> Result<Known, CatalogError> {
-    let size = number_at(row, 1)?;
-    let modified = number_at(row, 2)?;
-    let removed = number_at(row, 3)?;
-    let has_hash = number_at(row, 4)? == Some(0);
+    let stamp = stamp_of(row)?;
+    let removed = number_at(row, 8)?;
+    let has_hash = number_at(row, 9)? == Some(0);
     Ok(Known {
-        stamp: stamp_for(stamp_of(size, modified), needs_hash, has_hash),
+        stamp: stamp_for(stamp, needs_hash, has_hash),
         is_removed: removed != Some(0),
         is_seen: false,
     })
@@ -120,8 +150,8 @@ impl Catalog {
         Ok(Catalog { rows, insert, mark })
     }
 
-    /// Whether the picture has a row with all that the run needs, and its file had this size and
-    /// time when it was read.
+    /// Whether the picture has a row with all that the run needs, and its file had this stamp when
+    /// it was read.
     pub(crate) fn is_unchanged(&self, path: &str, stamp: Option<Stamp>) -> bool
         ensures { result ≡ has_stamp_of (known_at self.now path.now) stamp }
     {

@@ -42,7 +42,7 @@ impl fmt::Display for CatalogError {
             CatalogError::OtherTables => f.write_str("a database that is no catalogue of pictures"),
             CatalogError::OtherVersion(version) => write!(
                 f,
-                "a catalogue of version {version}; this program reads version 1"
+                "a catalogue of version {version}; this program reads version 2: move it away, and make a new one"
             ),
             CatalogError::NoPath => f.write_str("a row without a path"),
             CatalogError::NotAQuery => f.write_str("expected a query that begins with SELECT"),

@@ -3,23 +3,34 @@
 ghost use Rattle.std.specs.Prelude.{◌≡◌, ℕ, List, if◌then◌else◌, option_map};
 ghost use Rattle.std.specs.BTreeMap.{get_by_text};
 ghost use Rattle.std.specs.Str.{bytes_eq};
-ghost use Rattle.exif_catalog.specs.Known.{has_stamp, is_below, is_below_any, is_stamp, mark_of, seen, stamp_for};
+ghost use Rattle.exif_catalog.specs.Known.{has_stamp, is_below, is_below_any, is_same, is_stamp, mark_of, seen, stamp_for};
 
 use std::collections::BTreeMap;
 
-/// The size and the time of a file, by which a change is noticed.
+/// What a file is at a moment, by which a change is noticed: times are in seconds from 1970 on, and
+/// the nanoseconds behind them.
 #[derive(Clone, Copy)]
 pub struct Stamp {
     /// How many bytes it has.
     pub size: u64,
-    /// When it was modified, in seconds from 1970 on.
+    /// When its bytes were changed, as the file says, which programs can set.
     pub modified: u64,
+    /// The nanoseconds of that.
+    pub modified_ns: u64,
+    /// When its bytes or attributes were changed, as the system counts it.
+    pub changed: u64,
+    /// The nanoseconds of that.
+    pub changed_ns: u64,
+    /// The number of its file system.
+    pub device: u64,
+    /// Its number in that.
+    pub inode: u64,
 }
 
 /// What is known of a picture that has a row.
 #[derive(Clone, Copy)]
 pub struct Known {
-    /// The size and the time that its file had, if its row has all that the run needs.
+    /// What its file was, if its row has all that the run needs.
     pub stamp: Option<Stamp>,
     /// Whether the row is marked as removed.
     pub is_removed: bool,
@@ -61,8 +72,7 @@ pub fn mark_of(path: &str, known: Known, roots: &[&str]) -> Option<bool>
     }
 }
 
-/// The size and the time by which a row is up to date: none where it lacks the hash that a run
-/// needs.
+/// The stamp by which a row is up to date: none where it lacks the hash that a run needs.
 pub fn stamp_for(stamp: Option<Stamp>, needs_hash: bool, has_hash: bool) -> Option<Stamp>
     ensures { result ≡ stamp_for stamp needs_hash has_hash }
 {
@@ -72,17 +82,30 @@ pub fn stamp_for(stamp: Option<Stamp>, needs_hash: bool, has_hash: bool) -> Opti
     stamp
 }
 
-// Whether a size and a time that are known are those.
+// Whether two files are one, with one length, and neither was changed since.
+fn is_same(known: Stamp, stamp: Stamp) -> bool
+    ensures { result ≡ is_same known stamp }
+{
+    known.size == stamp.size
+        && known.modified == stamp.modified
+        && known.modified_ns == stamp.modified_ns
+        && known.changed == stamp.changed
+        && known.changed_ns == stamp.changed_ns
+        && known.device == stamp.device
+        && known.inode == stamp.inode
+}
+
+// Whether a stamp that is known is this one.
 fn is_stamp(known: Option<Stamp>, stamp: Stamp) -> bool
     ensures { result ≡ is_stamp known stamp }
 {
     match known {
-        Some(known) => known.size == stamp.size && known.modified == stamp.modified,
+        Some(known) => is_same(known, stamp),
         None => false,
     }
 }
 
-/// Whether a picture has a row, and its file had this size and time.
+/// Whether a picture has a row, and its file had this stamp.
 pub fn is_unchanged(rows: &Rows, path: &str, stamp: Stamp) -> bool
     ensures { result ≡ has_stamp (get_by_text rows.now path.now) stamp }
 {

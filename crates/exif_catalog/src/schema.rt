@@ -1,19 +1,19 @@
 //! The tables of a catalogue, as SQL. docs/CATALOG.md describes them.
 
 ghost use Rattle.std.specs.Prelude.{◌≡◌};
-ghost use Rattle.exif_summary.specs.declared.columns.TheConstants.{COLUMNS};
+ghost use Rattle.exif_summary.specs.Columns.{columns};
 ghost use Rattle.exif_catalog.specs.Schema.{create_text, insert_text, pictures_text};
 
 use exif_summary::Column;
 
 /// The version of the tables.
-pub const VERSION: i64 = 1;
+pub const VERSION: i64 = 2;
 
 /// Makes the table of the version.
 pub(crate) const CREATE_VERSION: &str = "CREATE TABLE catalog (version INTEGER NOT NULL) STRICT";
 
 /// Writes the version, its one row.
-pub(crate) const WRITE_VERSION: &str = "INSERT INTO catalog VALUES (1)";
+pub(crate) const WRITE_VERSION: &str = "INSERT INTO catalog VALUES (2)";
 
 /// Reads the version.
 pub(crate) const READ_VERSION: &str = "SELECT version FROM catalog";
@@ -27,10 +27,11 @@ pub(crate) const READ_CREATE: &str =
 
 /// Reads what a run has to know of each row.
 pub(crate) const READ_ROWS: &str =
-    "SELECT path, file_size, file_modified, removed, hash IS NULL FROM picture";
+    "SELECT path, file_size, file_modified, file_modified_ns, file_changed, file_changed_ns, \
+     file_device, file_inode, removed, hash IS NULL FROM picture";
 
 /// The columns that are shown of a picture, behind its path.
-pub(crate) const SHOWN: [Column; 9] = [
+pub(crate) const SHOWN: [Column; 10] = [
     Column::Taken,
     Column::Make,
     Column::Model,
@@ -40,6 +41,7 @@ pub(crate) const SHOWN: [Column; 9] = [
     Column::FocalLength,
     Column::Latitude,
     Column::Longitude,
+    Column::Orientation,
 ];
 
 /// Marks a row as removed, or not.
@@ -48,10 +50,11 @@ pub(crate) const MARK_ROW: &str = "UPDATE picture SET removed = ?2 WHERE path = 
 /// The SQL text that makes the table of pictures: the columns of a file, those of
 /// [`exif_summary::COLUMNS`] in their order, and `removed`.
 pub fn create_text() -> &'static str
-    ensures { result.now ≡ create_text COLUMNS }
+    ensures { result.now ≡ create_text columns }
 {
     "CREATE TABLE picture (path TEXT NOT NULL PRIMARY KEY, file_size INTEGER, \
-     file_modified INTEGER, hash TEXT, format TEXT, mime TEXT, width INTEGER, height INTEGER, \
+     file_modified INTEGER, file_modified_ns INTEGER, file_changed INTEGER, \
+     file_changed_ns INTEGER, file_device INTEGER, file_inode INTEGER, hash TEXT, format TEXT, mime TEXT, width INTEGER, height INTEGER, \
      orientation INTEGER, make TEXT, model TEXT, lens TEXT, body_serial TEXT, lens_serial TEXT, \
      date_taken TEXT, date_digitized TEXT, date_modified TEXT, exposure_time REAL, \
      f_number REAL, iso INTEGER, focal_length REAL, focal_length_35mm INTEGER, latitude REAL, \
@@ -63,11 +66,12 @@ pub fn create_text() -> &'static str
 /// [`row_values`](crate::row_values): a row of the same path is replaced. The text of a decimal
 /// number becomes the number.
 pub fn insert_text() -> &'static str
-    ensures { result.now ≡ insert_text COLUMNS }
+    ensures { result.now ≡ insert_text columns }
 {
     "INSERT OR REPLACE INTO picture VALUES (?1, ?2, ?3, ?4, ?5, ?6, ?7, ?8, ?9, ?10, ?11, ?12, \
-     ?13, ?14, ?15, ?16, ?17, CAST(?18 AS REAL), CAST(?19 AS REAL), ?20, CAST(?21 AS REAL), ?22, \
-     CAST(?23 AS REAL), CAST(?24 AS REAL), CAST(?25 AS REAL), ?26, ?27, ?28, ?29, 0)"
+     ?13, ?14, ?15, ?16, ?17, ?18, ?19, ?20, ?21, ?22, CAST(?23 AS REAL), CAST(?24 AS REAL), ?25, \
+     CAST(?26 AS REAL), ?27, CAST(?28 AS REAL), CAST(?29 AS REAL), CAST(?30 AS REAL), ?31, ?32, \
+     ?33, ?34, 0)"
 }
 
 /// The SQL text that reads the pictures that are there, by the date when they were taken and then
@@ -76,5 +80,5 @@ pub(crate) fn pictures_text() -> &'static str
     ensures { result.now ≡ pictures_text SHOWN }
 {
     "SELECT path, date_taken, make, model, exposure_time, f_number, iso, focal_length, latitude, \
-     longitude FROM picture WHERE removed = 0 ORDER BY date_taken IS NULL, date_taken, path"
+     longitude, orientation FROM picture WHERE removed = 0 ORDER BY date_taken IS NULL, date_taken, path"
 }

@@ -10,7 +10,7 @@ pub enum Outcome {
     Added,
     /// It was written anew.
     Changed,
-    /// The file had the size and the time of its row, which stays.
+    /// The file had the stamp of its row, which stays.
     Unchanged,
     /// The caller has no values for it: a row that it had stays.
     Refused,
@@ -21,9 +21,9 @@ pub enum Outcome {
 pub struct Totals {
     /// Pictures that had no row.
     pub added: u64,
-    /// Pictures whose rows were written anew, since the size or the time of the file is another.
+    /// Pictures whose rows were written anew, since the file has another stamp.
     pub changed: u64,
-    /// Pictures whose files had the size and the time of their rows.
+    /// Pictures whose files had the stamps of their rows.
     pub unchanged: u64,
     /// Pictures that the caller had no values for.
     pub refused: u64,

@@ -19,7 +19,7 @@ use std::alloc::{AllocError, Global};
 pub struct Found {
     /// The text of its path, as [`text_of`](crate::text_of) has it.
     pub path: String,
-    /// The size and the time of its file, if both are known.
+    /// What its file was before it was read, if all of that is known.
     pub stamp: Option<Stamp>,
 }
 
@@ -35,8 +35,8 @@ pub trait Pictures {
     fn needs_hash(&self) -> bool;
 
     /// The values of [`row_values`](crate::row_values) of the picture that `next` gave last. It is
-    /// asked only where the picture has no row, its file has not the size and time of the row, or
-    /// the row lacks a hash that is needed.
+    /// asked only where the picture has no row, its file has not the stamp of the row, or the row
+    /// lacks a hash that is needed.
     /// `None` where the picture cannot be read: a row that it has stays as it is.
     fn values(&mut self) -> Result<Option<Vec<SqlValue>>, Self::Error>;
 
@@ -130,7 +130,7 @@ impl<P: Pictures> Job for UpdateJob<'_, P> {
     }
 }
 
-/// Brings a catalogue up to date: each picture whose file is new or has another size or time, or
+/// Brings a catalogue up to date: each picture whose file is new or has another [`Stamp`], or
 /// whose row lacks a hash that is needed ([`Pictures::needs_hash`]), gets the values that the caller
 /// has for it, and each row below the roots whose picture was not among them is marked as removed,
 /// if the root was looked through ([`Pictures::is_whole`]). A file that is not there is made, also

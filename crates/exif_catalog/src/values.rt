@@ -17,8 +17,18 @@ pub struct PictureFile<'a> {
     pub path: &'a [u8],
     /// How many bytes it has.
     pub size: Option<u64>,
-    /// When it was modified, in seconds from 1970 on.
+    /// When its bytes were changed, in seconds from 1970 on.
     pub modified: Option<u64>,
+    /// The nanoseconds of that.
+    pub modified_ns: Option<u64>,
+    /// When its bytes or attributes were changed, in seconds from 1970 on.
+    pub changed: Option<u64>,
+    /// The nanoseconds of that.
+    pub changed_ns: Option<u64>,
+    /// The number of its file system.
+    pub device: Option<u64>,
+    /// Its number in that.
+    pub inode: Option<u64>,
     /// The text of a hash of its bytes.
     pub hash: Option<&'a str>,
     /// The name of its format.
@@ -149,6 +159,11 @@ fn file_row(alloc: Global, file: &PictureFile<'_>) -> Result<Vec<SqlValue>, Allo
         SqlValue::Text(path),
         amount_value(file.size),
         amount_value(file.modified),
+        amount_value(file.modified_ns),
+        amount_value(file.changed),
+        amount_value(file.changed_ns),
+        amount_value(file.device),
+        amount_value(file.inode),
         hash,
         format,
         mime,
@@ -156,7 +171,7 @@ fn file_row(alloc: Global, file: &PictureFile<'_>) -> Result<Vec<SqlValue>, Allo
     Ok(row)
 }
 
-/// The values of a picture's row, in the order of the table's columns: path, size, time, hash,
+/// The values of a picture's row, in the order of the table's columns: path, stamp, hash,
 /// format and media type of the file, and what the picture says of each of
 /// [`exif_summary::COLUMNS`]; NULL where it says nothing. A path or a text that is no UTF-8 is read
 /// as Latin-1. The only error is out of memory.

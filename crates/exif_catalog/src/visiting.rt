@@ -35,6 +35,8 @@ pub struct PictureRow<'a> {
     pub latitude: Option<&'a str>,
     /// The longitude in degrees, as a decimal number.
     pub longitude: Option<&'a str>,
+    /// The orientation of Exif, as a number.
+    pub orientation: Option<&'a str>,
 }
 
 /// What is shown the pictures of a catalogue.
@@ -99,6 +101,7 @@ impl Texts {
             focal_length: self.at(7),
             latitude: self.at(8),
             longitude: self.at(9),
+            orientation: self.at(10),
         }
     }
 }

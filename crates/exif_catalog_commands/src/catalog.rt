@@ -5,13 +5,18 @@ use exif_catalog::{
     CatalogError, Found, PictureFile, Pictures, RunError, SqlValue, Stamp, Totals, is_below,
     row_values, text_of, update,
 };
+use exif_decisions::{self as decisions, Outcome};
 use exif_files::Status;
 use exif_formats::{Picture, PictureFormat};
 use exif_json::mime_type;
 use exif_report::found_of;
-use exif_session::{Cataloguing, FileStamp, Next, Session, Stop, open, read, read_file, stamp_of};
+use exif_session::{
+    Cataloguing, FileStamp, Input, Next, Session, Stop, absolute_of, open, read, read_file,
+    stamp_of,
+};
 use sha2::{Digest, Sha256};
 use std::alloc::{AllocError, Global};
+use std::collections::BTreeSet;
 use std::io::{self, ErrorKind};
 
 // The pictures of a run, one after the other.
@@ -20,13 +25,16 @@ struct Gathered<'s, 'r, 'a, 'd, 'c, W, E> {
     session: &'s mut Session<'r, 'a, W, E>,
     cataloguing: &'d Cataloguing<'c>,
     has_conditions: bool,
-    // the picture that was given last
+    // the picture that was given last: its path as it was named or found, and the path of its row
+    shown: String,
     path: String,
+    // the paths of all that were given
+    seen: BTreeSet<String>,
     stamp: FileStamp,
     // how many faults were skipped in it
     faults: usize,
-    // its status, where there is one
-    status: Option<Status>,
+    // what became of it, where there is one
+    outcome: Option<Outcome>,
     worst: Status,
     // the names that could not be followed
     failed: Vec<String>,
@@ -35,18 +43,18 @@ struct Gathered<'s, 'r, 'a, 'd, 'c, W, E> {
 impl<W: Sink, E: Sink> Gathered<'_, '_, '_, '_, '_, W, E> {
     // Counts the picture that was given last.
     fn end_picture(&mut self) {
-        if let Some(status) = self.status {
-            self.worst = self.worst.or_worse(self.session.count(status));
+        if let Some(outcome) = self.outcome {
+            self.worst = self.worst.or_worse(self.session.count(outcome));
             let left = self.session.pending.len();
             self.session.console.step(left);
         }
-        self.status = None;
+        self.outcome = None;
     }
 
     // Reports a name that leads to no picture.
     fn refuse<T: std::fmt::Display>(&mut self, path: &str, cause: &T) -> Result<(), Stop> {
-        let status = self.session.refuse(path, cause)?;
-        self.worst = self.worst.or_worse(self.session.count(status));
+        let outcome = self.session.refuse(path, cause)?;
+        self.worst = self.worst.or_worse(self.session.count(outcome));
         Ok(())
     }
 
@@ -54,23 +62,29 @@ impl<W: Sink, E: Sink> Gathered<'_, '_, '_, '_, '_, W, E> {
     fn fail(&mut self, path: String, cause: io::Error) -> Result<(), Stop> {
         self.refuse(path.as_str(), &cause)?;
         if cause.kind() != ErrorKind::NotFound {
-            self.failed.push(path)?;
+            self.failed
+                .push(absolute_of(self.session.rt, path.as_str())?)?;
         }
         Ok(())
     }
 
-    // Begins with a picture.
-    fn begin_picture(&mut self, path: String) -> Result<Found, Stop> {
-        let alloc = self.session.rt.alloc();
-        self.stamp = stamp_of(self.session.rt, path.as_str());
+    // Begins with a picture. One that was there before, by whatever path, is not given again.
+    fn begin_picture(&mut self, shown: String) -> Result<Option<Found>, Stop> {
+        let rt = self.session.rt;
+        let path = absolute_of(rt, shown.as_str())?;
+        if !self.seen.insert(path.clone()?)? {
+            return Ok(None);
+        }
+        self.stamp = stamp_of(rt, path.as_str());
         self.faults = 0;
-        self.status = Some(Status::Success);
+        self.outcome = Some(Outcome::Done);
         let found = Found {
-            path: text_of(alloc, path.as_bytes())?,
+            path: text_of(rt.alloc(), path.as_bytes())?,
             stamp: known_stamp(self.stamp),
         };
         self.path = path;
-        Ok(found)
+        self.shown = shown;
+        Ok(Some(found))
     }
 
     // The row of the picture by its Exif data, if it has some.
@@ -88,6 +102,11 @@ impl<W: Sink, E: Sink> Gathered<'_, '_, '_, '_, '_, W, E> {
             path: self.path.as_bytes(),
             size: self.stamp.size,
             modified: self.stamp.modified,
+            modified_ns: self.stamp.modified_ns,
+            changed: self.stamp.changed,
+            changed_ns: self.stamp.changed_ns,
+            device: self.stamp.device,
+            inode: self.stamp.inode,
             hash,
             format,
             mime,
@@ -96,12 +115,8 @@ impl<W: Sink, E: Sink> Gathered<'_, '_, '_, '_, '_, W, E> {
     }
 
     // Reads the picture, and answers its row.
-    fn read_row(&mut self, hash: Option<&str>) -> Result<Vec<SqlValue>, Error> {
+    fn read_row(&mut self, input: Input, hash: Option<&str>) -> Result<Vec<SqlValue>, Error> {
         let rt = self.session.rt;
-        let input = match open(rt, self.path.as_str()) {
-            Ok(input) => input,
-            Err(cause) => return Err(Error::Io(cause)),
-        };
         let Picture { format, answer } = read(
             rt.alloc(),
             self.cataloguing.reading.options(),
@@ -117,21 +132,21 @@ impl<W: Sink, E: Sink> Gathered<'_, '_, '_, '_, '_, W, E> {
         }
     }
 
-    // The hash of the picture's bytes, where it is asked for.
-    fn hash(&self) -> Result<Option<String>, Error> {
-        if !self.cataloguing.hash {
-            return Ok(None);
-        }
-        match read_file(self.session.rt, self.path.as_str()) {
-            Ok(bytes) => Ok(Some(hash_of(self.session.rt.alloc(), bytes.as_slice())?)),
-            Err(cause) => Err(Error::Io(cause)),
-        }
-    }
-
-    // The row of the picture, with its hash where it is asked for.
+    // The row of the picture, with the hash of the bytes that are read where it is asked for.
     fn hashed_row(&mut self) -> Result<Vec<SqlValue>, Error> {
-        let hash = self.hash()?;
-        self.read_row(hash.as_deref())
+        let rt = self.session.rt;
+        if !self.cataloguing.hash {
+            return match open(rt, self.path.as_str()) {
+                Ok(input) => self.read_row(input, None),
+                Err(cause) => Err(Error::Io(cause)),
+            };
+        }
+        let bytes = match read_file(rt, self.path.as_str()) {
+            Ok(bytes) => bytes,
+            Err(cause) => return Err(Error::Io(cause)),
+        };
+        let hash = hash_of(rt.alloc(), bytes.as_slice())?;
+        self.read_row(Input::Bytes(bytes), Some(hash.as_str()))
     }
 }
 
@@ -145,7 +160,15 @@ impl<W: Sink, E: Sink> Pictures for Gathered<'_, '_, '_, '_, '_, W, E> {
                 break;
             };
             match next {
-                Next::Named(path) | Next::Found(path) => return Ok(Some(self.begin_picture(path)?)),
+                Next::Named(path) | Next::Found(path) => {
+                    if let Some(found) = self.begin_picture(path)? {
+                        return Ok(Some(found));
+                    }
+                }
+                Next::Beside(path, why) => {
+                    self.session
+                        .skip(path.as_str(), decisions::Found::NotRead(why))?;
+                }
                 Next::Input => self.refuse("-", &"standard input has no name")?,
                 Next::Failed(path, cause) => self.fail(path, cause)?,
             }
@@ -160,13 +183,13 @@ impl<W: Sink, E: Sink> Pictures for Gathered<'_, '_, '_, '_, '_, W, E> {
     fn values(&mut self) -> Result<Option<Vec<SqlValue>>, Stop> {
         match self.hashed_row() {
             Ok(values) => {
-                let status = self.session.skip_faults(self.path.as_str(), self.faults)?;
-                self.status = Some(status);
+                let outcome = self.session.skip_faults(self.shown.as_str(), self.faults)?;
+                self.outcome = Some(outcome);
                 Ok(Some(values))
             }
             Err(Error::OutOfMemory) => Err(Stop::OutOfMemory),
             Err(error) => {
-                self.status = Some(self.session.refuse(self.path.as_str(), &error)?);
+                self.outcome = Some(self.session.refuse(self.shown.as_str(), &error)?);
                 Ok(None)
             }
         }
@@ -178,11 +201,16 @@ impl<W: Sink, E: Sink> Pictures for Gathered<'_, '_, '_, '_, '_, W, E> {
     }
 }
 
-// The size and the time of a file, where both are known.
+// What a file is, where all of that is known.
 fn known_stamp(stamp: FileStamp) -> Option<Stamp> {
     Some(Stamp {
         size: stamp.size?,
         modified: stamp.modified?,
+        modified_ns: stamp.modified_ns?,
+        changed: stamp.changed?,
+        changed_ns: stamp.changed_ns?,
+        device: stamp.device?,
+        inode: stamp.inode?,
     })
 }
 
@@ -197,14 +225,33 @@ fn hash_of(alloc: Global, bytes: &[u8]) -> Result<String, AllocError> {
     Ok(text)
 }
 
+// The paths from the root of the file system on of the names that were given.
+fn roots_of(rt: &HostRuntime, paths: &[&str]) -> Result<Vec<String>, AllocError> {
+    let mut roots = Vec::new(rt.alloc());
+    for path in paths {
+        roots.push(absolute_of(rt, path)?)?;
+    }
+    Ok(roots)
+}
+
+// The texts of strings.
+fn texts_of(alloc: Global, strings: &[String]) -> Result<Vec<&str>, AllocError> {
+    let mut texts = Vec::new(alloc);
+    for string in strings {
+        texts.push(string.as_str())?;
+    }
+    Ok(texts)
+}
+
 // Brings the rows up to date.
 fn update_rows<W: Sink, E: Sink>(
     gathered: &mut Gathered<'_, '_, '_, '_, '_, W, E>,
 ) -> Result<Totals, RunError<Stop>> {
     let rt = gathered.session.rt;
-    let request = gathered.session.request;
+    let roots = roots_of(rt, gathered.session.request.paths.as_slice())?;
+    let names = texts_of(rt.alloc(), roots.as_slice())?;
     let database = gathered.cataloguing.database;
-    update(rt, database, request.paths.as_slice(), gathered)
+    update(rt, database, names.as_slice(), gathered)
 }
 
 /// Brings a catalogue up to date with the files that are named or found, and answers the worst
@@ -216,16 +263,15 @@ pub fn update_catalog<W: Sink, E: Sink>(
     let alloc = session.rt.alloc();
     let has_conditions = session.request.choice.is_any();
     let mut gathered = Gathered {
+        shown: String::new(alloc),
         path: String::new(alloc),
+        seen: BTreeSet::new(alloc),
         session,
         cataloguing,
         has_conditions,
-        stamp: FileStamp {
-            size: None,
-            modified: None,
-        },
+        stamp: FileStamp::UNKNOWN,
         faults: 0,
-        status: None,
+        outcome: None,
         worst: Status::Success,
         failed: Vec::new(alloc),
     };
@@ -238,7 +284,9 @@ pub fn update_catalog<W: Sink, E: Sink>(
         }
         Err(RunError::Caller(stop)) => Err(stop),
         Err(RunError::Catalog(CatalogError::OutOfMemory)) => Err(Stop::OutOfMemory),
-        Err(RunError::Catalog(error)) => session.refuse(cataloguing.database, &error),
+        Err(RunError::Catalog(error)) => {
+            Ok(session.refuse(cataloguing.database, &error)?.status())
+        }
     }
 }
 

@@ -4,11 +4,12 @@ use exif::{Error, Sink};
 use exif_catalog::{CatalogError, PictureRow, RunError, Visitor, visit};
 use exif_change::thumbnail;
 use exif_console::Console;
-use exif_files::Status;
+use exif_files::{Status, folder_of};
 use exif_page::{
-    Exposure, Facts, Section, entry_html, entry_of, foot_html, head_html, section_of, texts_of,
+    Exposure, Facts, Section, entry_html, entry_of, foot_html, head_html, link_to, section_of,
+    texts_of,
 };
-use exif_session::{Paging, Stop, exif_of, out_of, write_out};
+use exif_session::{Paging, Stop, absolute_of, exif_of, out_of, write_out};
 use std::alloc::{AllocError, Global};
 
 // The page as far as it goes.
@@ -18,6 +19,8 @@ struct Page<'t, 'p, 'r, E> {
     console: &'p mut Console<'r, E>,
     html: Vec<u8>,
     section: LastSection,
+    // the folder of the page, which ends with a slash
+    folder: String,
     worst: Status,
 }
 
@@ -48,9 +51,11 @@ impl LastSection {
 }
 
 // What a row says of its picture.
-fn facts_of<'a>(picture: &PictureRow<'a>) -> Facts<'a> {
+fn facts_of<'a>(picture: &PictureRow<'a>, link: &'a str) -> Facts<'a> {
     Facts {
         path: picture.path,
+        link: Some(link),
+        orientation: picture.orientation,
         date_taken: picture.date_taken,
         make: picture.make,
         model: picture.model,
@@ -90,7 +95,8 @@ impl<E: Sink> Visitor for Page<'_, '_, '_, E> {
     fn visit(&mut self, picture: &PictureRow<'_>) -> Result<(), AllocError> {
         let alloc = self.rt.alloc();
         let jpeg = self.thumbnail_in(picture.path)?;
-        let facts = facts_of(picture);
+        let link = link_to(alloc, self.folder.as_str(), picture.path)?;
+        let facts = facts_of(picture, link.as_str());
         let texts = texts_of(alloc, &facts)?;
         let entry = entry_of(&facts, &texts, jpeg.as_deref());
         let html = entry_html(alloc, self.section.section(), &entry)?;
@@ -127,6 +133,16 @@ pub fn write_page<W: Sink, E: Sink>(
     }
 }
 
+// The folder that a page is written to, which ends with a slash; the one that the program runs in
+// for standard output.
+fn folder_in(rt: &HostRuntime, to: &str) -> Result<String, AllocError> {
+    let mut folder = absolute_of(rt, folder_of(to))?;
+    if !folder.as_str().ends_with('/') {
+        folder.push('/')?;
+    }
+    Ok(folder)
+}
+
 // Reports why there is no page, and answers the status.
 fn refused<E: Sink, T: std::fmt::Display>(
     console: &mut Console<'_, E>,
@@ -148,6 +164,7 @@ fn page_of<E: Sink>(
         console,
         html: head_html(rt.alloc(), "Pictures")?,
         section: LastSection::Closed,
+        folder: folder_in(rt, paging.to)?,
         worst: Status::Success,
     };
     match visit(rt, paging.database, &mut page) {

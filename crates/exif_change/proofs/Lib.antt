@@ -1,3 +1,4 @@
+mod ColorBoxes
 pub mod FoundAll
 pub mod FoundParts
 pub mod ReadLemmas

@@ -7,10 +7,11 @@ use Rattle.exif_containers.specs.declared.container.Format.TheVariants.{Heif}
 use Rattle.exif_inventory.specs.Walks.{inventory}
 use Rattle.exif_inventory.specs.declared.part.Part.{Part}
 use Rattle.exif_rewrite.specs.Color as color
+use Rattle.exif_change.specs.Profiles.{format_profile}
 use Rattle.exif_change.specs.declared.notes.Color.{Color}
 use Rattle.exif_change.specs.declared.notes.Color.TheVariants.{Keep, Strip}
 use Rattle.exif_change.specs.declared.notes.Note.{Note}
-use Rattle.exif_change.specs.declared.notes.Note.TheVariants.{ColorProfile, OwnRotation, Pictures}
+use Rattle.exif_change.specs.declared.notes.Note.TheVariants.{ColorProfile, FormatProfile, OwnRotation, Pictures}
 use Rattle.exif_change.specs.declared.scrubbing.Removed.{Removed}
 use Rattle.exif_change.specs.declared.scrubbing.Removed.TheVariants.{AllButOrientation, Gps, Metadata}
 
@@ -50,14 +51,23 @@ abbrev pub is_heif : Option Format → Bool
 is_heif (Some Heif) = true
 is_heif format = false
 
+-- the note of a profile that the file's format keeps
+abbrev pub if_format_profile : Color → List ℕ → List Note
+if_format_profile color file =
+    if keeps color && format_profile file then FormatProfile ∷ [] else []
+
+-- the note of a HEIF file's own rotation, where the orientation is kept
+abbrev pub if_own_rotation : Bool → List ℕ → List Note
+if_own_rotation kept file = if kept && is_heif (format_in file) then OwnRotation ∷ [] else []
+
 -- the notes on a file of another format, of which the orientation is kept or not
-abbrev pub other_notes : Bool → List ℕ → List Note
-other_notes kept file = if kept && is_heif (format_in file) then OwnRotation ∷ [] else []
+abbrev pub other_notes : Bool → Color → List ℕ → List Note
+other_notes kept color file = if_format_profile color file ++ if_own_rotation kept file
 
 -- the notes on a file of which all metadata are removed, but maybe for its orientation
 abbrev pub emptied_notes : Bool → Color → List ℕ → List Note
 emptied_notes kept color file =
-    elim (inventory file) [ Some parts ↦ notes_on color parts | None ↦ other_notes kept file ]
+    elim (inventory file) [ Some parts ↦ notes_on color parts | None ↦ other_notes kept color file ]
 
 -- the notes on a file that is scrubbed
 abbrev pub scrub_notes : Removed → Color → List ℕ → List Note

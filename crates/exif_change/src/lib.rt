@@ -10,6 +10,7 @@ mod growing;
 mod in_place;
 pub mod laws;
 mod notes;
+mod profile;
 mod reading;
 mod refusal;
 mod rewriting;

@@ -1,8 +1,9 @@
 //! What the user is to know of a file that is scrubbed.
 
 ghost use Rattle.std.specs.Prelude.{◌≡◌, ◌++◌, IfOk, OnOk};
-ghost use Rattle.exif_change.specs.Notes.{has_profile, highest, if_pictures, if_profile, is_profile, keeps, notes_on, other_notes, scrub_notes};
+ghost use Rattle.exif_change.specs.Notes.{has_profile, highest, if_format_profile, if_own_rotation, if_pictures, if_profile, is_profile, keeps, notes_on, other_notes, scrub_notes};
 
+use crate::profile::has_format_profile;
 use crate::scrubbing::Removed;
 use exif_containers::container::{Format, format_of};
 use exif_inventory::{Kind, Part, inventory};
@@ -20,8 +21,10 @@ pub enum Color {
 /// What the user is to know of a file that is scrubbed, beside what is left undone.
 #[derive(Clone, Copy, Debug)]
 pub enum Note {
-    /// Its colour profile stays.
+    /// Its colour profile stays, and can be removed.
     ColorProfile,
+    /// Its colour profile stays: files of its format, HEIF, AVIF and TIFF, keep it.
+    FormatProfile,
     /// This many pictures behind the first one are removed.
     Pictures(u64),
     /// The orientation goes with the other fields: the rotation that a HEIF file stores with its
@@ -94,20 +97,49 @@ fn notes_on(alloc: Global, color: Color, parts: &[Part]) -> Result<Vec<Note>, Al
     Ok(notes)
 }
 
-// The notes on a file of another format, of which the orientation is kept or not.
-fn other_notes(alloc: Global, kept: bool, file: &[u8]) -> Result<Vec<Note>, AllocError>
-    ensures { IfOk result (λ notes. notes.items ≡ other_notes kept file.now) }
+// Adds the note of a profile that the file's format keeps.
+fn note_format_profile(
+    alloc: Global,
+    color: Color,
+    file: &[u8],
+    notes: &mut Vec<Note>,
+) -> Result<(), AllocError>
+    ensures { OnOk result (notes.new.items ≡ notes.old.items ++ if_format_profile color file.now) }
 {
-    let mut notes = Vec::new(alloc);
+    if keeps(color) && has_format_profile(alloc, file)? {
+        notes.push(Note::FormatProfile)?;
+    }
+    Ok(())
+}
+
+// Adds the note of a HEIF file's own rotation, where the orientation is kept.
+fn note_rotation(kept: bool, file: &[u8], notes: &mut Vec<Note>) -> Result<(), AllocError>
+    ensures { OnOk result (notes.new.items ≡ notes.old.items ++ if_own_rotation kept file.now) }
+{
     if kept && matches!(format_of(file), Some(Format::Heif)) {
         notes.push(Note::OwnRotation)?;
     }
+    Ok(())
+}
+
+// The notes on a file of another format, of which the orientation is kept or not.
+fn other_notes(
+    alloc: Global,
+    kept: bool,
+    color: Color,
+    file: &[u8],
+) -> Result<Vec<Note>, AllocError>
+    ensures { IfOk result (λ notes. notes.items ≡ other_notes kept color file.now) }
+{
+    let mut notes = Vec::new(alloc);
+    note_format_profile(alloc, color, file, &mut notes)?;
+    note_rotation(kept, file, &mut notes)?;
     Ok(notes)
 }
 
 /// What the user is to know where all metadata of a file are removed, but maybe for its
-/// orientation: of a JPEG or WebP file that its colour profile stays, and how many pictures behind
-/// the first one go; of a HEIF file that the rotation that it stores with the picture decides.
+/// orientation: that its colour profile stays; of a JPEG or WebP file how many pictures behind the
+/// first one go; of a HEIF file that the rotation that it stores with the picture decides.
 /// Nothing where only locations are erased.
 pub fn scrub_notes(
     alloc: Global,
@@ -124,6 +156,6 @@ pub fn scrub_notes(
     };
     match inventory(alloc, file)? {
         Some(parts) => notes_on(alloc, color, &parts),
-        None => other_notes(alloc, kept, file),
+        None => other_notes(alloc, kept, color, file),
     }
 }

@@ -6,7 +6,7 @@ use Rattle.exif_formats.specs.declared.format.PictureFormat.{PictureFormat}
 use Rattle.exif_json.specs.Files.{file_members}
 use Rattle.exif_json.specs.Trees.{array, object, unsigned}
 use Rattle.exif_check.specs.Checking.{location_of}
-use Rattle.exif_check.specs.Names.{kind_name, location_name}
+use Rattle.exif_check.specs.Names.{kind_name, location_name, part_location_name}
 use Rattle.exif_check.specs.declared.checked.Checked.{Checked}
 
 -- the members of a part
@@ -16,7 +16,7 @@ part_members checked =
     ∷ (codes "picture", unsigned checked.part.picture)
     ∷ (codes "offset", unsigned checked.part.offset)
     ∷ (codes "length", unsigned checked.part.len)
-    ∷ (codes "location", J.string (location_name checked.location)) ∷ []
+    ∷ (codes "location", J.string (part_location_name checked)) ∷ []
 
 -- a part
 abbrev pub part_json : Checked → Json

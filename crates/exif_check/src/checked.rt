@@ -3,7 +3,8 @@
 ghost use Rattle.std.specs.Prelude.{◌≡◌, length, All, IfOk};
 ghost use Rattle.std.specs.Option.{option_map};
 ghost use Rattle.exif_inventory.specs.Promises.{EndsIn};
-ghost use Rattle.exif_check.specs.Checking.{checked, location_among, location_by, location_of, parts_checked};
+ghost use Rattle.std.specs.List.{list_all, list_any};
+ghost use Rattle.exif_check.specs.Checking.{checked, is_maker_note, is_no_other, location_among, location_by, location_of, only_maker_note, parts_checked, weight, maker_note_at_most, only_maker_notes};
 
 use exif_inventory::Part;
 use exif_privacy::{Reasons, Unread, Why, parts_of};
@@ -27,17 +28,68 @@ pub struct Checked {
     pub part: Part,
     /// Whether it holds a location.
     pub location: Location,
+    /// Whether it may hold one in a maker note only, which is not read.
+    pub maker_note: bool,
+}
+
+// What a reason says of a part.
+fn weight(why: Why) -> Location
+    ensures { result ≡ weight why }
+{
+    match why {
+        Why::StillThere => Location::Present,
+        Why::GpsVersion => Location::Absent,
+        _ => Location::Unknown,
+    }
 }
 
 // Whether a part with these reasons holds a location.
 fn location_by(whys: &[Why]) -> Location
     ensures { result ≡ location_by whys.now }
 {
-    match whys.first() {
-        None => Location::Absent,
-        Some(Why::StillThere) => Location::Present,
-        Some(_) => Location::Unknown,
+    let mut all = Location::Absent;
+    for why in whys {
+        all = heavier(all, weight(*why));
     }
+    all
+}
+
+// Whether a reason is that of a maker note.
+fn is_maker_note(why: Why) -> bool
+    ensures { result ≡ is_maker_note why }
+{
+    matches!(why, Why::InExif(exif_data_locations::Why::MakerNote))
+}
+
+// Whether a reason is no other one for which a part may hold a location.
+fn is_no_other(why: Why) -> bool
+    ensures { result ≡ is_no_other why }
+{
+    match why {
+        Why::GpsVersion => true,
+        _ => is_maker_note(why),
+    }
+}
+
+// Whether one of these reasons is that of a maker note.
+fn any_maker_note(whys: &[Why]) -> bool
+    ensures { result ≡ list_any is_maker_note whys.now }
+{
+    whys.iter().any(|why| is_maker_note(*why))
+}
+
+// Whether no other one is among them.
+fn no_other(whys: &[Why]) -> bool
+    ensures { result ≡ list_all is_no_other whys.now }
+{
+    whys.iter().all(|why| is_no_other(*why))
+}
+
+// Whether a part with these reasons may hold a location in a maker note only.
+fn only_maker_note(whys: &[Why]) -> bool
+    ensures { result ≡ only_maker_note whys.now }
+{
+    any_maker_note(whys) && no_other(whys)
 }
 
 // These parts of a file with their judgements.
@@ -52,19 +104,21 @@ fn check_parts(alloc: Global, file: &[u8], parts: &[Part]) -> Result<Vec<Checked
         all.push(Checked {
             part: *part,
             location: location_by(reasons.whys.as_slice()),
+            maker_note: only_maker_note(reasons.whys.as_slice()),
         })?;
     }
     Ok(all)
 }
 
-/// The parts of a JPEG, WebP, HEIF or TIFF file, in the order of their bytes, each with whether it
-/// holds a location: `None` for a file of another format. Together they are the whole file.
+/// The parts of a JPEG, WebP, HEIF, PNG, JPEG XL or TIFF file, in the order of their bytes, each
+/// with whether it holds a location: `None` for a file of another format. Together they are the whole file.
 ///
 /// A part holds a location if erasing locations changes it, and so does each portion of an extended
-/// XMP packet that has one. A part may hold one if it can't be read, or is of a kind that is not
-/// looked at, and has other bytes than zeros: comments, trailers, content credentials, other parts
-/// of long XMP packets, and what is not known; so are Exif data with a maker note. Texts are not
-/// looked at, and are not reported.
+/// XMP packet that has one. GPS data that are a version alone are no location. A part may hold one if
+/// it can't be read, has texts or keywords, or is of a kind that is not searched, and has other bytes
+/// than zeros: comments, trailers, content credentials, other parts of long XMP packets, thumbnails
+/// of JFIF, resources of Photoshop but those of numbers alone, and what is not known. So may Exif
+/// data with a maker note: where this is the only reason, `maker_note` is set.
 ///
 /// It takes memory for the list, and for copies of the longest part with Exif, XMP or IPTC data.
 pub fn check(alloc: Global, file: &[u8]) -> Result<Option<Vec<Checked>>, AllocError>
@@ -87,8 +141,22 @@ fn heavier(first: Location, second: Location) -> Location
     }
 }
 
-/// Whether a file with these parts holds a location: where one part does, it does, and where one
-/// may, it may.
+// Whether a part holds no location, but for what a maker note may hold.
+fn is_maker_note_at_most(checked: Checked) -> bool
+    ensures { result ≡ maker_note_at_most checked }
+{
+    checked.maker_note || matches!(checked.location, Location::Absent)
+}
+
+/// Whether nothing but maker notes may hold a location in a file with these parts.
+pub fn is_only_maker_notes(parts: &[Checked]) -> bool
+    ensures { result ≡ only_maker_notes parts.now }
+{
+    parts.iter().all(|checked| is_maker_note_at_most(*checked))
+}
+
+/// Whether a file with these parts holds a location: `Present` where one part does, `Unknown` where
+/// none does and one may, in a maker note or elsewhere, and `Absent` where no part may.
 pub fn location_of(parts: &[Checked]) -> Location
     ensures { result ≡ location_of parts.now }
 {

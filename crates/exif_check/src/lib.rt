@@ -9,6 +9,6 @@ mod line;
 mod names;
 mod object;
 
-pub use checked::{Checked, Location, check, location_of};
+pub use checked::{Checked, Location, check, is_only_maker_notes, location_of};
 pub use line::{Line, is_listed};
 pub use object::check_json;

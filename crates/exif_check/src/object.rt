@@ -8,7 +8,7 @@ ghost use Rattle.exif_json.specs.Trees.{parts_tokens};
 ghost use Rattle.exif_check.specs.Json.{checked_json, judged_members, part_json, part_members, parts_json};
 
 use crate::checked::{Checked, location_of};
-use crate::names::{kind_name, location_name};
+use crate::names::{kind_name, location_name, part_location_name};
 use exif_formats::PictureFormat;
 use exif_json::printer::Printer;
 use exif_json::write_file;
@@ -24,7 +24,7 @@ fn write_members(printer: &mut Printer, checked: Checked) -> Result<(), AllocErr
     printer.number_member("picture", part.picture)?;
     printer.number_member("offset", part.offset as u64)?;
     printer.number_member("length", part.len as u64)?;
-    printer.text_member("location", location_name(checked.location))
+    printer.text_member("location", part_location_name(checked))
 }
 
 // Writes the object of a part.
@@ -75,7 +75,8 @@ fn write_checked(
 
 /// The JSON object (RFC 8259) of a file that was checked: its path, its format, whether it holds a
 /// location (`yes`, `no` or `unknown`), and all its parts, each with its kind, the number of its
-/// picture, its offset, its length, and the same of it. The only error is out of memory.
+/// picture, its offset, its length, and the same of it, or `maker_note` where it may hold one in a
+/// maker note only. The only error is out of memory.
 pub fn check_json(
     alloc: Global,
     path: &[u8],

@@ -1,24 +1,28 @@
 //! What the parts of a file hold, as lines or as JSON.
 
 ghost use Rattle.std.specs.Prelude.{◌≡◌};
-ghost use Rattle.exif_commands.specs.Checks.{status_by};
+ghost use Rattle.exif_commands.specs.Checks.{outcome_by};
 
 use exif::{Error, Sink};
-use exif_check::{Checked, Line, Location, check, check_json, is_listed, location_of};
-use exif_decisions::Escaped;
-use exif_files::Status;
+use exif_check::{
+    Checked, Line, Location, check, check_json, is_listed, is_only_maker_notes, location_of,
+};
+use exif_decisions::{Escaped, Outcome};
 use exif_formats::{PictureFormat, format_of};
 use exif_json::json_of_answer;
 use exif_session::{Form, Session, Stop, read_file};
 use std::alloc::{AllocError, Global};
 
-// The status of a file that was checked: 3 where it holds a location, or may hold one.
-fn status_of_location(location: Location) -> Status
-    ensures { result ≡ status_by location }
+// What is counted of a file that was checked, and the status follows: one that holds a location, or
+// may hold one, is no success. Where only maker notes may hold one, it is, unless the check is
+// strict: they are in most files of cameras.
+fn outcome_of_location(location: Location, only_maker_notes: bool, strict: bool) -> Outcome
+    ensures { result ≡ outcome_by location only_maker_notes strict }
 {
     match location {
-        Location::Absent => Status::Success,
-        Location::Present | Location::Unknown => Status::Incomplete,
+        Location::Absent => Outcome::Done,
+        Location::Unknown if only_maker_notes && !strict => Outcome::Done,
+        Location::Present | Location::Unknown => Outcome::Partial,
     }
 }
 
@@ -27,7 +31,7 @@ fn lines_of(alloc: Global, path: &str, parts: &[Checked]) -> Result<String, Allo
     let name = Escaped(path);
     let mut text = String::new(alloc);
     for checked in parts {
-        if is_listed(checked.part) {
+        if is_listed(*checked) {
             let line = format!(in alloc; "{name}: {}\n", Line(*checked))?;
             text.push_str(line.as_str())?;
         }
@@ -66,28 +70,30 @@ fn parts_of(alloc: Global, file: &[u8]) -> Result<Result<Vec<Checked>, Error>, A
 pub fn check_file<W: Sink, E: Sink>(
     session: &mut Session<'_, '_, W, E>,
     form: Form,
+    strict: bool,
     path: &str,
-) -> Result<Status, Stop> {
-    let (text, status) = match (answer_of(session.rt, form, path)?, form) {
+) -> Result<Outcome, Stop> {
+    let (text, outcome) = match (answer_of(session.rt, form, strict, path)?, form) {
         (Ok(answer), _) => answer,
         (Err(error), Form::Lines) => return session.refuse(path, &error),
         (Err(error), Form::Json) => {
             (
                 refused_line(session.rt.alloc(), path, error)?,
-                Status::Refused,
+                Outcome::Refused,
             )
         }
     };
     session.answer(text.as_slice())?;
-    Ok(status)
+    Ok(outcome)
 }
 
-// What is written of a file, and its status; or why it was refused.
+// What is written of a file, and what is counted of it; or why it was refused.
 fn answer_of(
     rt: &HostRuntime,
     form: Form,
+    strict: bool,
     path: &str,
-) -> Result<Result<(Vec<u8>, Status), Error>, AllocError> {
+) -> Result<Result<(Vec<u8>, Outcome), Error>, AllocError> {
     let alloc = rt.alloc();
     let file = match read_file(rt, path) {
         Ok(file) => file,
@@ -101,7 +107,10 @@ fn answer_of(
         Form::Lines => lines_of(alloc, path, parts.as_slice())?.into_bytes(),
         Form::Json => json_line(alloc, path, file.as_slice(), parts.as_slice())?,
     };
-    Ok(Ok((text, status_of_location(location_of(parts.as_slice())))))
+    let location = location_of(parts.as_slice());
+    let only_maker_notes = is_only_maker_notes(parts.as_slice());
+    let outcome = outcome_of_location(location, only_maker_notes, strict);
+    Ok(Ok((text, outcome)))
 }
 
 // The object of a file that was refused, in a line.

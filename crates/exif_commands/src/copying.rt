@@ -13,10 +13,10 @@ pub fn copy_into_files<W: Sink, E: Sink>(
 ) -> Result<Status, Stop> {
     let from = match read_file(session.rt, copying.from) {
         Ok(from) => from,
-        Err(cause) => return session.refuse(copying.from, &cause),
+        Err(cause) => return Ok(session.refuse(copying.from, &cause)?.status()),
     };
     if let Err(error) = check_source(session.rt.alloc(), from.as_slice(), copying.selection) {
-        return session.refuse(copying.from, &error);
+        return Ok(session.refuse(copying.from, &error)?.status());
     }
     let change = Change::Copy(from, copying.selection);
     change_in_place(session, &change, copying.keeping)

@@ -11,6 +11,7 @@ use crate::thumbnail::{write_thumbnail, write_thumbnails};
 use crate::touch::touch_file;
 use exif::Sink;
 use exif_catalog_commands::update_catalog;
+use exif_decisions::{Found, Outcome};
 use exif_files::Status;
 use exif_session::{Next, Request, Session, Stop, Target, Task, change_in_place, change_into};
 
@@ -59,31 +60,35 @@ fn process_next<W: Sink, E: Sink>(
     session: &mut Session<'_, '_, W, E>,
     next: Next,
 ) -> Result<Status, Stop> {
-    let status = match next {
+    let outcome = match next {
+        Next::Beside(path, why) => {
+            session.skip(path.as_str(), Found::NotRead(why))?;
+            return Ok(Status::Success);
+        }
         Next::Failed(path, cause) => session.refuse(path.as_str(), &cause)?,
         Next::Input => process(session, "-")?,
         Next::Named(path) | Next::Found(path) => process(session, path.as_str())?,
     };
-    Ok(session.count(status))
+    Ok(session.count(outcome))
 }
 
 fn process<W: Sink, E: Sink>(
     session: &mut Session<'_, '_, W, E>,
     path: &str,
-) -> Result<Status, Stop> {
+) -> Result<Outcome, Stop> {
     let request = session.request;
     match &request.task {
         Task::Show(reading) => show_file(session, *reading, path),
         Task::Json(reading, tags) => write_object(session, *reading, tags.as_ref(), path),
         Task::Summary(reading) => write_summary(session, *reading, path),
         Task::Table(table) => write_row(session, table, path),
-        Task::Check(form) => check_file(session, *form, path),
+        Task::Check(form, strict) => check_file(session, *form, *strict, path),
         Task::Change(what, Target::Out(to, force)) => change_into(session, what, path, to, *force),
         Task::Thumbnail(to, force) => write_thumbnail(session, path, to, *force),
         Task::Touch(zone) => touch_file(session, zone, path),
         // these have all files in view, and are done above
-        Task::Change(_, Target::InPlace(_)) | Task::Thumbnails(..) => Ok(Status::Success),
-        Task::Rename(_) | Task::Geotag(_) => Ok(Status::Success),
-        Task::Copy(_) | Task::Catalog(_) => Ok(Status::Success),
+        Task::Change(_, Target::InPlace(_)) | Task::Thumbnails(..) => Ok(Outcome::Unchanged),
+        Task::Rename(_) | Task::Geotag(_) => Ok(Outcome::Unchanged),
+        Task::Copy(_) | Task::Catalog(_) => Ok(Outcome::Unchanged),
     }
 }

@@ -1,7 +1,7 @@
 //! The JSON objects of a file.
 
 use exif::{Error, Exif, Sink, Tag};
-use exif_files::Status;
+use exif_decisions::Outcome;
 use exif_formats::{Picture, PictureFormat};
 use exif_json::{FileFacts, flat_json, json_of_answer, json_of_tags};
 use exif_report::found_of;
@@ -16,12 +16,12 @@ pub fn write_object<W: Sink, E: Sink>(
     reading: Reading,
     tags: Option<&Vec<Tag>>,
     path: &str,
-) -> Result<Status, Stop> {
+) -> Result<Outcome, Stop> {
     let rt = session.rt;
-    let (mut text, status) = object_of(rt.alloc(), reading, tags, path, open(rt, path))?;
+    let (mut text, outcome) = object_of(rt.alloc(), reading, tags, path, open(rt, path))?;
     text.push(b'\n')?;
     session.answer(text.as_slice())?;
-    Ok(status)
+    Ok(outcome)
 }
 
 /// Writes the flat object of a file in a line, and answers its status.
@@ -29,7 +29,7 @@ pub fn write_summary<W: Sink, E: Sink>(
     session: &mut Session<'_, '_, W, E>,
     reading: Reading,
     path: &str,
-) -> Result<Status, Stop> {
+) -> Result<Outcome, Stop> {
     match summary_of(session.rt, reading, path)? {
         Ok((mut text, faults)) => {
             text.push(b'\n')?;
@@ -40,14 +40,14 @@ pub fn write_summary<W: Sink, E: Sink>(
     }
 }
 
-// The object of a file, and the file's status.
+// The object of a file, and what is counted of the file.
 fn object_of(
     alloc: Global,
     reading: Reading,
     tags: Option<&Vec<Tag>>,
     path: &str,
     input: io::Result<Input>,
-) -> Result<(Vec<u8>, Status), AllocError> {
+) -> Result<(Vec<u8>, Outcome), AllocError> {
     let read = match input {
         Ok(input) => read(alloc, reading.options(), input),
         Err(cause) => Err(Error::Io(cause)),
@@ -64,17 +64,17 @@ fn answered(
     path: &[u8],
     format: Option<PictureFormat>,
     answer: Result<Exif, Error>,
-) -> Result<(Vec<u8>, Status), AllocError> {
-    let status = match &answer {
-        Ok(_) | Err(Error::NotFound(_)) => Status::Success,
-        Err(Error::PartialResult(_)) => Status::Incomplete,
-        Err(_) => Status::Refused,
+) -> Result<(Vec<u8>, Outcome), AllocError> {
+    let outcome = match &answer {
+        Ok(_) | Err(Error::NotFound(_)) => Outcome::Done,
+        Err(Error::PartialResult(_)) => Outcome::Partial,
+        Err(_) => Outcome::Refused,
     };
     let json = match tags {
         Some(tags) => json_of_tags(alloc, path, format, answer, tags.as_slice())?,
         None => json_of_answer(alloc, path, format, answer)?,
     };
-    Ok((json, status))
+    Ok((json, outcome))
 }
 
 // The flat object of a file, and how many faults it has; or why it was refused.

@@ -7,6 +7,7 @@ mod dispatch;
 mod geotag;
 mod json;
 mod moves;
+mod names;
 mod rename;
 mod show;
 mod table;

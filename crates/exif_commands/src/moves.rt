@@ -1,7 +1,7 @@
 //! Files that are moved or copied to their new names.
 
 use exif::Sink;
-use exif_decisions::Escaped;
+use exif_decisions::{Escaped, Outcome};
 use exif_files::{FileSystem, HostFiles, Status, WriteError, folder_of};
 use exif_rename::{Attributes, Move, Moved, copy_file, move_file};
 use exif_session::{Renaming, Session, Stop};
@@ -45,32 +45,30 @@ impl Folders {
         for name in self.names.iter() {
             if let Err(cause) = files.settle(name.as_str()) {
                 let why = format!(in session.rt.alloc();
-                    "after a loss of power its old names may be back: {cause}"
+                    "folder not synced; a power loss may undo the renames: {cause}"
                 )?;
-                let status = session.leave(folder_of(name.as_str()), &why)?;
-                worst = worst.or_worse(status);
+                session.say(folder_of(name.as_str()), &why)?;
+                worst = worst.or_worse(Status::Incomplete);
             }
         }
         Ok(worst)
     }
 }
 
-/// Moves or copies a picture and its sidecars: these stay where the picture stays. Answers the
-/// picture's status.
+/// Moves or copies the files of one stem, in their order, and writes a line for each. Where one
+/// can't be moved, those behind it stay. Answers what became of them.
 pub fn move_all<W: Sink, E: Sink>(
     session: &mut Session<'_, '_, W, E>,
     renaming: &Renaming<'_>,
     folders: &mut Folders,
     path: &str,
     moves: &[Move],
-) -> Result<Status, Stop> {
-    let mut worst = Status::Success;
+) -> Result<Outcome, Stop> {
+    let mut is_complete = true;
     for wanted in moves {
         let (from, to) = (wanted.from.as_str(), wanted.to.as_str());
         if renaming.dry_run {
-            let (from, to) = (Escaped(from), Escaped(to));
-            let line = format!(in session.rt.alloc(); "{from} -> {to}\n")?;
-            session.answer(line.as_bytes())?;
+            write_move(session, from, to)?;
             continue;
         }
         match give_name(session.rt, renaming.copy, from, to) {
@@ -78,14 +76,29 @@ pub fn move_all<W: Sink, E: Sink>(
             Ok(Moved::Copied(Attributes::Kept)) => {}
             Ok(Moved::Copied(Attributes::Lost)) => {
                 let what = "the mode, the owner or the times of the file were not kept";
-                worst = session.leave(path, &what)?;
+                session.say(path, &what)?;
+                is_complete = false;
             }
             Err(WriteError::OutOfMemory) => return Err(Stop::OutOfMemory),
             Err(WriteError::Taken) => return session.refuse(path, &"its new name is taken"),
             Err(error) => return session.refuse(path, &error),
         }
+        if !session.request.quiet {
+            write_move(session, from, to)?;
+        }
     }
-    Ok(worst)
+    Ok(Outcome::of_done(is_complete))
+}
+
+// Writes a line with both paths of a file.
+fn write_move<W: Sink, E: Sink>(
+    session: &mut Session<'_, '_, W, E>,
+    from: &str,
+    to: &str,
+) -> Result<(), Stop> {
+    let (from, to) = (Escaped(from), Escaped(to));
+    let line = format!(in session.rt.alloc(); "{from} -> {to}\n")?;
+    session.answer(line.as_bytes())
 }
 
 // Moves or copies a file, into a folder that is made if it is not there.

@@ -1,32 +1,55 @@
 //! Files that get other names, by when and with which camera they were taken.
 
 use crate::moves::{Folders, move_all};
-use exif::{Error, Exif, Sink, Tag};
-use exif_decisions::is_own_name;
+use crate::names::{Named, new_name, split_name};
+use exif::Sink;
+use exif_decisions::{Found, NotRead, Outcome, ending_of};
 use exif_files::{HostFiles, Status, folder_of};
-use exif_rename::{Facts, Missing, Pattern, PlanError, Taken, Wish, WishFile, plan_names};
-use exif_session::{Next, Renaming, Session, Stop, exif_of, key_of, name_of};
-use exif_summary::{TAKEN, find_date, find_text};
+use exif_rename::{
+    Entry, Moment, PlanError, Shot, Wish, WishFile, compare_shots, group, plan_names, root_of,
+};
+use exif_session::{Next, Renaming, Session, Stop, key_of, name_of};
 use std::alloc::{AllocError, Global};
 use std::collections::BTreeSet;
 use std::{fs, io};
 
-// What follows the name of a picture, or its whole name, in that of its sidecar.
-const SIDECARS: [&str; 2] = [".xmp", ".XMP"];
+// What follows the name of a picture, or its whole name, in those of its sidecars.
+const SIDECARS: [&str; 6] = [".xmp", ".XMP", ".aae", ".AAE", ".thm", ".THM"];
 
-// The files that are to have new names.
+// A file of the run.
 #[derive(Drop)]
-struct Plan {
-    // as they were named or found
-    paths: Vec<String>,
-    wishes: Vec<Wish>,
-    // the files that have a wish, by the paths where their links end
-    seen: BTreeSet<String>,
+struct Member {
+    // as it was named or found
+    path: String,
+    // where its links end
+    key: String,
+    kind: Kind,
+}
+
+// What a file is to the plan.
+#[derive(Clone, Copy)]
+enum Kind {
+    // a picture, whose fields give the new name
+    Picture,
+    // a file that was found in a folder, and goes with the pictures of its stem
+    Beside(NotRead),
+    // a sidecar that is there, of a picture that was named
+    Sidecar,
+}
+
+// The files of one stem, which get one new name.
+#[derive(Drop)]
+struct Stem {
+    wish: Wish,
+    // the path of its first picture, as it was named or found
+    path: String,
+    moment: Option<Moment>,
 }
 
 /// Gives each file that is named or found its new name, and answers the worst status. All names are
-/// planned before the first file is moved: nothing has them, and no two files get one. A file
-/// without what the pattern requires is left and reported. Sidecars go along.
+/// planned before the first file is moved: nothing has them, and no two files get one. The files of
+/// one stem in one folder (pictures, videos, sidecars) get one name, by the first picture that has
+/// what the pattern requires; where none has, they are left and reported.
 pub fn rename_files<W: Sink, E: Sink>(
     session: &mut Session<'_, '_, W, E>,
     renaming: &Renaming<'_>,
@@ -34,23 +57,46 @@ pub fn rename_files<W: Sink, E: Sink>(
     let alloc = session.rt.alloc();
     let into = match into_folder(session.rt, renaming) {
         Ok(into) => into,
-        Err(cause) => return session.refuse(renaming.into.unwrap_or(""), &cause),
+        Err(cause) => {
+            return Ok(
+                session
+                    .refuse(renaming.into.unwrap_or(""), &cause)?
+                    .status(),
+            );
+        }
     };
-    let mut plan = Plan {
-        paths: Vec::new(alloc),
-        wishes: Vec::new(alloc),
-        seen: BTreeSet::new(alloc),
-    };
-    let mut worst = Status::Success;
-    for _ in 0..u64::MAX {
-        let Some(next) = session.next_chosen()? else {
-            break;
-        };
-        let status = plan.add(session, renaming, into.as_str(), next)?;
-        worst = worst.or_worse(status);
+    let (members, mut worst) = gather(session)?;
+    let members = members.as_slice();
+    let leaders = group(alloc, entries_of(alloc, members)?.as_slice())?;
+    let mut stems = Vec::new(alloc);
+    let mut together = Vec::new(alloc);
+    let mut last = None;
+    for (leader, _, index) in order_of(alloc, members, leaders.as_slice())? {
+        if last != Some(leader) {
+            worst = worst.or_worse(add_stem(session, renaming, &into, &together, &mut stems)?);
+            together.clear();
+            last = Some(leader);
+        }
+        if let Some(member) = members.get(index) {
+            together.push(member)?;
+        }
     }
-    let planned = plan.carry_out(session, renaming)?;
+    worst = worst.or_worse(add_stem(session, renaming, &into, &together, &mut stems)?);
+    sort_stems(&mut stems)?;
+    let planned = carry_out(session, renaming, stems)?;
     Ok(worst.or_worse(planned))
+}
+
+// Sorts stems by when their pictures were taken.
+fn sort_stems(stems: &mut Vec<Stem>) -> Result<(), AllocError> {
+    stems.sort_by(|a, b| compare_shots(&shot_of(a), &shot_of(b)))
+}
+
+fn shot_of(stem: &Stem) -> Shot<'_> {
+    Shot {
+        moment: stem.moment,
+        path: stem.path.as_str(),
+    }
 }
 
 // The folder that new names are in, without links; nothing for that of each file.
@@ -68,140 +114,256 @@ fn into_folder(rt: &HostRuntime, renaming: &Renaming<'_>) -> io::Result<String> 
     }
 }
 
-impl Plan {
-    // Adds a file, or reports why it stays as it is.
-    fn add<W: Sink, E: Sink>(
-        &mut self,
-        session: &mut Session<'_, '_, W, E>,
-        renaming: &Renaming<'_>,
-        into: &str,
-        next: Next,
-    ) -> Result<Status, Stop> {
-        match next {
-            Next::Input => refuse(session, "-", &"standard input has no name"),
-            Next::Failed(path, cause) => refuse(session, path.as_str(), &cause),
-            Next::Named(path) | Next::Found(path) => match key_of(session.rt, path.as_str()) {
-                Ok(key) => self.add_file(session, renaming, into, path, key),
-                Err(cause) => refuse(session, path.as_str(), &cause),
-            },
-        }
-    }
-
-    // Adds a file of which links end at a path.
-    fn add_file<W: Sink, E: Sink>(
-        &mut self,
-        session: &mut Session<'_, '_, W, E>,
-        renaming: &Renaming<'_>,
-        into: &str,
-        path: String,
-        key: String,
-    ) -> Result<Status, Stop> {
-        let alloc = session.rt.alloc();
-        if !self.seen.insert(key.clone()?)? {
-            return Ok(Status::Success);
-        }
-        let name = match new_name(session.rt, &renaming.pattern, key.as_str())? {
-            Ok(Ok(name)) => name,
-            Ok(Err(missing)) => {
-                let status = session.leave(path.as_str(), &missing)?;
-                return Ok(session.count(status));
+// All files of the run, and the worst status of names that lead to none.
+fn gather<W: Sink, E: Sink>(
+    session: &mut Session<'_, '_, W, E>,
+) -> Result<(Vec<Member>, Status), Stop> {
+    let alloc = session.rt.alloc();
+    let mut members = Vec::new(alloc);
+    let mut seen = BTreeSet::new(alloc);
+    let mut worst = Status::Success;
+    for _ in 0..u64::MAX {
+        let Some(next) = session.next_chosen()? else {
+            break;
+        };
+        let status = match next {
+            Next::Input => refuse(session, "-", &"standard input has no name")?,
+            Next::Failed(path, cause) => refuse(session, path.as_str(), &cause)?,
+            Next::Named(path) | Next::Found(path) => {
+                add_file(session, &mut members, &mut seen, path, Kind::Picture)?
             }
-            Err(error) => return refuse(session, path.as_str(), &error),
+            Next::Beside(path, why) => {
+                add_file(session, &mut members, &mut seen, path, Kind::Beside(why))?
+            }
         };
-        let folder = if into.is_empty() {
-            folder_of(key.as_str())
-        } else {
-            into
-        };
-        let slash = if folder.ends_with('/') { "" } else { "/" };
-        let base = format!(in alloc; "{folder}{slash}{name}")?;
-        let files = self.files_of(session.rt, key)?;
-        self.wishes.push(Wish { base, files })?;
-        self.paths.push(path)?;
-        Ok(Status::Success)
+        worst = worst.or_worse(status);
     }
+    add_sidecars(session.rt, &mut members, &mut seen)?;
+    Ok((members, worst))
+}
 
-    // A picture and its sidecars, each with what follows its new name.
-    fn files_of(&mut self, rt: &HostRuntime, key: String) -> Result<Vec<WishFile>, AllocError> {
-        let alloc = rt.alloc();
-        let (stem, extension) = split_name(key.as_str());
-        let mut files = Vec::new(alloc);
-        files.push(WishFile {
-            old: key.clone()?,
-            ending: String::from_str(alloc, extension)?,
-        })?;
+// Adds a file, once however often it is named.
+fn add_file<W: Sink, E: Sink>(
+    session: &mut Session<'_, '_, W, E>,
+    members: &mut Vec<Member>,
+    seen: &mut BTreeSet<String>,
+    path: String,
+    kind: Kind,
+) -> Result<Status, Stop> {
+    match key_of(session.rt, path.as_str()) {
+        Ok(key) => {
+            if seen.insert(key.clone()?)? {
+                members.push(Member { path, key, kind })?;
+            }
+            Ok(Status::Success)
+        }
+        Err(cause) => refuse(session, path.as_str(), &cause),
+    }
+}
+
+// Adds the sidecars of all pictures that are not among the files yet.
+fn add_sidecars(
+    rt: &HostRuntime,
+    members: &mut Vec<Member>,
+    seen: &mut BTreeSet<String>,
+) -> Result<(), AllocError> {
+    let alloc = rt.alloc();
+    let mut found = Vec::new(alloc);
+    for member in members.iter() {
+        let (stem, extension) = split_name(member.key.as_str());
         for suffix in SIDECARS {
-            self.add_sidecar(rt, stem, "", suffix, &mut files)?;
+            add_sidecar(rt, stem, "", suffix, seen, &mut found)?;
             if !extension.is_empty() {
-                self.add_sidecar(rt, stem, extension, suffix, &mut files)?;
+                add_sidecar(rt, stem, extension, suffix, seen, &mut found)?;
             }
         }
-        Ok(files)
     }
+    for sidecar in found {
+        members.push(sidecar)?;
+    }
+    Ok(())
+}
 
-    // Adds a sidecar, if there is one that goes with no other picture.
-    fn add_sidecar(
-        &mut self,
-        rt: &HostRuntime,
-        stem: &str,
-        extension: &str,
-        suffix: &str,
-        files: &mut Vec<WishFile>,
-    ) -> Result<(), AllocError> {
-        let alloc = rt.alloc();
-        let old = format!(in alloc; "{stem}{extension}{suffix}")?;
-        let is_file = match fs::symlink_metadata(rt, old.as_str()) {
-            Ok(found) => found.is_file(),
-            Err(_nothing) => false,
-        };
-        if is_file && self.seen.insert(old.clone()?)? {
-            let ending = format!(in alloc; "{extension}{suffix}")?;
-            files.push(WishFile { old, ending })?;
+// Adds a sidecar, if it is there.
+fn add_sidecar(
+    rt: &HostRuntime,
+    stem: &str,
+    extension: &str,
+    suffix: &str,
+    seen: &mut BTreeSet<String>,
+    found: &mut Vec<Member>,
+) -> Result<(), AllocError> {
+    let key = format!(in rt.alloc(); "{stem}{extension}{suffix}")?;
+    let is_file = match fs::symlink_metadata(rt, key.as_str()) {
+        Ok(there) => there.is_file(),
+        Err(_nothing) => false,
+    };
+    if is_file && seen.insert(key.clone()?)? {
+        found.push(Member {
+            path: key.clone()?,
+            key,
+            kind: Kind::Sidecar,
+        })?;
+    }
+    Ok(())
+}
+
+// Whether a file is a sidecar.
+fn is_sidecar(kind: Kind) -> bool {
+    matches!(kind, Kind::Sidecar | Kind::Beside(NotRead::Sidecar(_)))
+}
+
+// The files as the grouping sees them.
+fn entries_of(alloc: Global, members: &[Member]) -> Result<Vec<Entry>, AllocError> {
+    let mut entries = Vec::new(alloc);
+    for member in members {
+        entries.push(Entry {
+            path: member.key.clone()?,
+            is_sidecar: is_sidecar(member.kind),
+        })?;
+    }
+    Ok(entries)
+}
+
+// The files in the order in which they are planned: those of one leader together, sidecars first.
+fn order_of(
+    alloc: Global,
+    members: &[Member],
+    leaders: &[usize],
+) -> Result<Vec<(usize, bool, usize)>, AllocError> {
+    let mut order = Vec::new(alloc);
+    for (index, (member, leader)) in members.iter().zip(leaders.iter()).enumerate() {
+        order.push((*leader, !is_sidecar(member.kind), index))?;
+    }
+    order.sort()?;
+    Ok(order)
+}
+
+// Plans a new name for the files of one stem, or reports why they stay as they are.
+fn add_stem<W: Sink, E: Sink>(
+    session: &mut Session<'_, '_, W, E>,
+    renaming: &Renaming<'_>,
+    into: &str,
+    together: &[&Member],
+    stems: &mut Vec<Stem>,
+) -> Result<Status, Stop> {
+    let mut worst = Status::Success;
+    for member in together {
+        if !matches!(member.kind, Kind::Picture) {
+            continue;
         }
-        Ok(())
-    }
-
-    // Plans the names, and moves the files or writes what would be moved.
-    fn carry_out<W: Sink, E: Sink>(
-        self,
-        session: &mut Session<'_, '_, W, E>,
-        renaming: &Renaming<'_>,
-    ) -> Result<Status, Stop> {
-        let alloc = session.rt.alloc();
-        let Plan {
-            paths,
-            wishes,
-            seen: _,
-        } = self;
-        let numbers = match plan_names(alloc, &mut HostFiles::new(session.rt), wishes.as_slice()) {
-            Ok(numbers) => numbers,
-            Err(PlanError::OutOfMemory) => return Err(Stop::OutOfMemory),
-            Err(PlanError::Crowded(index)) => {
-                let path = paths.get(index).map_or("", |path| path.as_str());
-                return refuse(
-                    session,
-                    path,
-                    &"too many files have its new name; nothing is renamed",
-                );
+        match new_name(session.rt, &renaming.pattern, member.key.as_str())? {
+            Ok(Named::New(name, moment)) => {
+                let stem = stem_of(session.rt.alloc(), into, together, member, name.as_str())?;
+                stems.push(Stem {
+                    wish: stem,
+                    path: member.path.clone()?,
+                    moment,
+                })?;
+                return Ok(worst);
             }
-            Err(error) => return refuse(session, "", &error),
-        };
-        let mut worst = Status::Success;
-        let mut moved = Folders::new(alloc);
-        for ((path, wish), number) in paths.iter().zip(wishes.iter()).zip(numbers.iter()) {
-            let moves = wish.moves(alloc, *number)?;
-            let status = move_all(
-                session,
-                renaming,
-                &mut moved,
-                path.as_str(),
-                moves.as_slice(),
-            )?;
-            worst = worst.or_worse(session.count(status));
+            Ok(Named::Missing(_)) => {}
+            Err(error) => {
+                worst = worst.or_worse(refuse(session, member.path.as_str(), &error)?);
+            }
         }
-        let settled = moved.settle(session)?;
-        Ok(worst.or_worse(settled))
     }
+    Ok(worst.or_worse(leave_all(session, renaming, together)?))
+}
+
+// Reports why the files of a stem stay as they are: no picture of theirs has what the pattern
+// requires.
+fn leave_all<W: Sink, E: Sink>(
+    session: &mut Session<'_, '_, W, E>,
+    renaming: &Renaming<'_>,
+    together: &[&Member],
+) -> Result<Status, Stop> {
+    let mut worst = Status::Success;
+    for member in together {
+        let path = member.path.as_str();
+        match member.kind {
+            Kind::Picture => {
+                let named = new_name(session.rt, &renaming.pattern, member.key.as_str())?;
+                if let Ok(Named::Missing(missing)) = named {
+                    let outcome = session.leave(path, &missing)?;
+                    worst = worst.or_worse(session.count(outcome));
+                }
+            }
+            Kind::Beside(why) => session.skip(path, Found::NotRead(why))?,
+            Kind::Sidecar => {
+                if let Some(ending) = ending_of(name_of(path)) {
+                    session.skip(path, Found::NotRead(NotRead::Sidecar(ending)))?;
+                }
+            }
+        }
+    }
+    Ok(worst)
+}
+
+// The new name that the files of a stem are to have, by that of one of them.
+fn stem_of(
+    alloc: Global,
+    into: &str,
+    together: &[&Member],
+    named: &Member,
+    name: &str,
+) -> Result<Wish, AllocError> {
+    let (stem, _) = split_name(named.key.as_str());
+    let folder = if into.is_empty() {
+        root_of(folder_of(named.key.as_str()), name)
+    } else {
+        into
+    };
+    let slash = if folder.ends_with('/') { "" } else { "/" };
+    let base = format!(in alloc; "{folder}{slash}{name}")?;
+    let mut files = Vec::new(alloc);
+    for member in together {
+        let ending = member.key.as_str().strip_prefix(stem).unwrap_or("");
+        files.push(WishFile {
+            old: member.key.clone()?,
+            ending: String::from_str(alloc, ending)?,
+        })?;
+    }
+    Ok(Wish { base, files })
+}
+
+// Plans the numbers of the names, and moves the files or writes what would be moved.
+fn carry_out<W: Sink, E: Sink>(
+    session: &mut Session<'_, '_, W, E>,
+    renaming: &Renaming<'_>,
+    stems: Vec<Stem>,
+) -> Result<Status, Stop> {
+    let alloc = session.rt.alloc();
+    let mut wishes = Vec::new(alloc);
+    let mut paths = Vec::new(alloc);
+    for Stem { wish, path, .. } in stems {
+        wishes.push(wish)?;
+        paths.push(path)?;
+    }
+    let numbers = match plan_names(alloc, &mut HostFiles::new(session.rt), wishes.as_slice()) {
+        Ok(numbers) => numbers,
+        Err(PlanError::OutOfMemory) => return Err(Stop::OutOfMemory),
+        Err(PlanError::Crowded(index)) => {
+            let path = paths.get(index).map_or("", |path| path.as_str());
+            let why = "too many files have its new name; nothing is renamed";
+            return refuse(session, path, &why);
+        }
+        Err(error) => return refuse(session, "", &error),
+    };
+    let mut worst = Status::Success;
+    let mut moved = Folders::new(alloc);
+    for ((path, wish), number) in paths.iter().zip(wishes.iter()).zip(numbers.iter()) {
+        let moves = wish.moves(alloc, *number)?;
+        let path = path.as_str();
+        let outcome = if moves.is_empty() {
+            Outcome::Current
+        } else {
+            move_all(session, renaming, &mut moved, path, moves.as_slice())?
+        };
+        worst = worst.or_worse(session.count(outcome));
+    }
+    let settled = moved.settle(session)?;
+    Ok(worst.or_worse(settled))
 }
 
 fn refuse<W: Sink, E: Sink, T: std::fmt::Display>(
@@ -209,97 +371,6 @@ fn refuse<W: Sink, E: Sink, T: std::fmt::Display>(
     path: &str,
     cause: &T,
 ) -> Result<Status, Stop> {
-    let status = session.refuse(path, cause)?;
-    Ok(session.count(status))
-}
-
-// A path up to the last `.` of the file's name, and the rest; a name that begins with its only `.`
-// has no extension.
-fn split_name(path: &str) -> (&str, &str) {
-    let name = name_of(path);
-    let behind = match name.rsplit_once('.') {
-        Some((stem, extension)) if !stem.is_empty() => extension.len().saturating_add(1),
-        _ => 0,
-    };
-    match path.split_at_checked(path.len().saturating_sub(behind)) {
-        Some(parts) => parts,
-        None => (path, ""),
-    }
-}
-
-// The new name of a file by a pattern, or what it lacks; or why it can't be read.
-fn new_name(
-    rt: &HostRuntime,
-    pattern: &Pattern,
-    path: &str,
-) -> Result<Result<Result<String, Missing>, Error>, AllocError> {
-    let alloc = rt.alloc();
-    let (stem, _) = split_name(name_of(path));
-    match exif_of(rt, path) {
-        Ok(exif) => Ok(Ok(name_by(alloc, pattern, &exif, stem)?)),
-        Err(Error::NotFound(_)) => Ok(Ok(name_by_stem(alloc, pattern, stem)?)),
-        Err(error) => Ok(Err(error)),
-    }
-}
-
-// The new name by what is known of a picture.
-fn name_by(
-    alloc: Global,
-    pattern: &Pattern,
-    exif: &Exif,
-    stem: &str,
-) -> Result<Result<String, Missing>, AllocError> {
-    let facts = Facts {
-        taken: taken_of(exif),
-        make: text_of(exif, Tag::Make),
-        model: text_of(exif, Tag::Model),
-        name: stem,
-    };
-    name_of_facts(alloc, pattern, &facts)
-}
-
-// The new name of a picture that has no Exif data.
-fn name_by_stem(
-    alloc: Global,
-    pattern: &Pattern,
-    stem: &str,
-) -> Result<Result<String, Missing>, AllocError> {
-    let facts = Facts {
-        taken: None,
-        make: None,
-        model: None,
-        name: stem,
-    };
-    name_of_facts(alloc, pattern, &facts)
-}
-
-// The new name by facts. The program's own names are not given.
-fn name_of_facts(
-    alloc: Global,
-    pattern: &Pattern,
-    facts: &Facts<'_>,
-) -> Result<Result<String, Missing>, AllocError> {
-    match pattern.name(alloc, facts)? {
-        Ok(name) if is_own_name(name_of(name.as_str())) => Ok(Err(Missing::Name)),
-        named => Ok(named),
-    }
-}
-
-fn taken_of(exif: &Exif) -> Option<Taken> {
-    let date = find_date(exif, TAKEN)?;
-    Some(Taken {
-        year: date.year,
-        month: date.month,
-        day: date.day,
-        hour: date.hour,
-        minute: date.minute,
-        second: date.second,
-    })
-}
-
-fn text_of(exif: &Exif, tag: Tag) -> Option<&str> {
-    match std::str::from_utf8(find_text(exif, tag)?) {
-        Ok(text) => Some(text),
-        Err(_) => None,
-    }
+    let outcome = session.refuse(path, cause)?;
+    Ok(session.count(outcome))
 }

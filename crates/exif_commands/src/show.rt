@@ -3,8 +3,7 @@
 use exif::{Counted, Error, Sink};
 use exif_base::send_all;
 use exif_console::Lines;
-use exif_decisions::Escaped;
-use exif_files::Status;
+use exif_decisions::{Escaped, Outcome};
 use exif_report::{found_of, write_all};
 use exif_session::{Input, Reading, Session, Stop, open, read};
 use std::alloc::Global;
@@ -14,10 +13,9 @@ pub fn show_file<W: Sink, E: Sink>(
     session: &mut Session<'_, '_, W, E>,
     reading: Reading,
     path: &str,
-) -> Result<Status, Stop> {
+) -> Result<Outcome, Stop> {
     match show(session.rt, reading, path, session.out)? {
-        Ok(0) => Ok(Status::Success),
-        Ok(_faults) => Ok(Status::Incomplete),
+        Ok(faults) => Ok(Outcome::of_done(faults == 0)),
         Err(error) => session.refuse(path, &error),
     }
 }

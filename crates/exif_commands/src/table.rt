@@ -2,7 +2,7 @@
 
 use exif::{Error, Exif, Sink};
 use exif_columns::{header, row};
-use exif_files::Status;
+use exif_decisions::Outcome;
 use exif_formats::Picture;
 use exif_report::found_of;
 use exif_session::{Session, Stop, Table, open, read};
@@ -24,7 +24,7 @@ pub fn write_row<W: Sink, E: Sink>(
     session: &mut Session<'_, '_, W, E>,
     table: &Table,
     path: &str,
-) -> Result<Status, Stop> {
+) -> Result<Outcome, Stop> {
     match found_in(session.rt, table, path) {
         Ok((exif, faults)) => {
             write_cells(session, table, path, Some(&exif))?;
@@ -32,7 +32,7 @@ pub fn write_row<W: Sink, E: Sink>(
         }
         Err(Error::NotFound(_)) => {
             write_cells(session, table, path, None)?;
-            Ok(Status::Success)
+            Ok(Outcome::Done)
         }
         Err(Error::OutOfMemory) => Err(Stop::OutOfMemory),
         Err(error) => session.refuse(path, &error),

@@ -2,6 +2,7 @@
 
 use exif::{Error, Sink};
 use exif_change::{Refusal, thumbnail};
+use exif_decisions::{Found, Outcome};
 use exif_files::Status;
 use exif_rename::give_unused;
 use exif_session::{Next, Session, Stop, exif_of, name_of, out_of, write_out};
@@ -15,7 +16,7 @@ pub fn write_thumbnail<W: Sink, E: Sink>(
     path: &str,
     to: &str,
     force: bool,
-) -> Result<Status, Stop> {
+) -> Result<Outcome, Stop> {
     match thumbnail_in(session.rt, path) {
         Ok(jpeg) => write_jpeg(session, path, jpeg.as_slice(), to, force),
         Err(Refusal::OutOfMemory) => Err(Stop::OutOfMemory),
@@ -38,14 +39,18 @@ pub fn write_thumbnails<W: Sink, E: Sink>(
         let Some(next) = session.next_chosen()? else {
             break;
         };
-        let status = match next {
+        let outcome = match next {
+            Next::Beside(path, why) => {
+                session.skip(path.as_str(), Found::NotRead(why))?;
+                continue;
+            }
             Next::Failed(path, cause) => session.refuse(path.as_str(), &cause)?,
             Next::Input => write_into(session, &mut given, "-", folder, force)?,
             Next::Named(path) | Next::Found(path) => {
                 write_into(session, &mut given, path.as_str(), folder, force)?
             }
         };
-        worst = worst.or_worse(session.count(status));
+        worst = worst.or_worse(session.count(outcome));
         session.console.step(session.pending.len());
     }
     Ok(worst)
@@ -58,7 +63,7 @@ fn write_into<W: Sink, E: Sink>(
     path: &str,
     folder: &str,
     force: bool,
-) -> Result<Status, Stop> {
+) -> Result<Outcome, Stop> {
     let jpeg = match thumbnail_in(session.rt, path) {
         Ok(jpeg) => jpeg,
         Err(Refusal::OutOfMemory) => return Err(Stop::OutOfMemory),
@@ -79,13 +84,13 @@ fn write_jpeg<W: Sink, E: Sink>(
     jpeg: &[u8],
     to: &str,
     force: bool,
-) -> Result<Status, Stop> {
+) -> Result<Outcome, Stop> {
     let destination = match out_of(session.rt, path, to, force)? {
         Ok(destination) => destination,
         Err(error) => return session.refuse(path, &error),
     };
     match write_out(session.rt, to, destination, jpeg, session.out)? {
-        Ok(()) => Ok(Status::Success),
+        Ok(()) => Ok(Outcome::Done),
         Err(error) => session.refuse(path, &error),
     }
 }

@@ -1,7 +1,7 @@
 //! File times, by when pictures were taken.
 
 use exif::{Error, Exif, Sink};
-use exif_files::Status;
+use exif_decisions::Outcome;
 use exif_geotag::time_of_picture;
 use exif_session::{Session, Stop, exif_of};
 use std::fs::File;
@@ -18,14 +18,14 @@ pub fn touch_file<W: Sink, E: Sink>(
     session: &mut Session<'_, '_, W, E>,
     zone: &str,
     path: &str,
-) -> Result<Status, Stop> {
+) -> Result<Outcome, Stop> {
     if path == "-" {
         return session.refuse(path, &"standard input has no name");
     }
     match touch(session.rt, zone, path) {
-        Ok(true) => Ok(Status::Success),
+        Ok(true) => Ok(Outcome::Done),
         Ok(false) => {
-            let why = "its time is not set: it has no date, or one before 1970";
+            let why = "modification time unchanged: it has no date, or one before 1970";
             session.leave(path, &why)
         }
         Err(error) => session.refuse(path, &error),

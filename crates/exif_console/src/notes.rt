@@ -13,6 +13,9 @@ impl fmt::Display for NoteLine {
             Note::ColorProfile => {
                 f.write_str("the colour profile stays; --strip-color removes it")
             }
+            Note::FormatProfile => {
+                f.write_str("the colour profile stays: files of this format keep it")
+            }
             Note::Pictures(1) => f.write_str("the picture behind the first one was removed"),
             Note::Pictures(count) => {
                 write!(f, "{count} pictures behind the first one were removed")

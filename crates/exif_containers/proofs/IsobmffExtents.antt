@@ -1,16 +1,17 @@
 -- An item of one extent, as it is read from a file.
-use Rattle.std.proofs.Common.{◌≡◌, ℕ, ◌+◌, ◌-◌, ◌^◌, ◌<◌, ◌≤◌, cond, eqb, ltb, leb, Bool, true, false, List, [], ◌∷◌, ◌++◌, length, take, drop, Option, None, Some, Result, Ok, Err, IfSome, refl, sym, ap, ◌∙◌, subst, arith, length-append, length-drop, append-nil, get_or}
-use Rattle.std.proofs.lemmas.Bool.{lt-ltb, le-ltb, le-leb, eqb-false, lt-leb}
+use Rattle.std.proofs.Common.{◌≡◌, ◌⊎◌, inl, inr, ℕ, ◌+◌, ◌-◌, ◌^◌, ◌<◌, ◌≤◌, cond, eqb, ltb, leb, Bool, true, false, List, [], ◌∷◌, ◌++◌, length, take, drop, Option, None, Some, Result, Ok, Err, IfSome, refl, sym, ap, ◌∙◌, subst, arith, length-append, length-drop, append-nil, get_or}
+use Rattle.std.proofs.lemmas.Bool.{cases_lt, lt-ltb, le-ltb, le-leb, eqb-false, lt-leb}
 use Rattle.std.proofs.lemmas.Bool.Decides.{nat_tests}
-use Rattle.std.proofs.lemmas.List.{take-append-le, drop-append-le, length-take-le, take_all}
-use Rattle.std.specs.Io.KnownBytes.{IsAtEnd}
-use Rattle.exif_base.specs.Told.{Skips}
+use Rattle.std.proofs.lemmas.List.{take-append-le, take-append-drop, drop-append-le, length-take-le, take_all}
+use Rattle.std.specs.Io.KnownBytes.{Consumes, IsAtEnd}
+use Rattle.exif_base.specs.Told.{Skips, left_behind}
 use Rattle.exif_types.specs.Refusals.{Refusal, ◌>>=◌}
 use Rattle.exif_isobmff.specs.HeifRefusals.{broken_file, data_too_large, invalid_offset}
 use Rattle.exif_isobmff.specs.declared.locations.Extent.{Extent}
 use Rattle.exif_isobmff.specs.declared.extents.Within.TheVariants.{File}
 use Rattle.exif_isobmff.specs.ItemLocations.{ItemExtents, extent_front, file_extent, extent_bytes, gathered, item_bytes}
 use Rattle.exif_containers.proofs.IsobmffFile.{each, along}
+use Rattle.exif_containers.specs.GoingBack.{TakesBody}
 use Rattle.exif_containers.specs.HeifSteps.{GoesOn, OffsetIsReached, one_part}
 
 abbrev limited : List ℕ → Result (List ℕ) Refusal
@@ -136,3 +137,41 @@ one_gives P a front p e offset m es h same t =
     along a _ _ (λ rest k. subst P
     (ap (λ n. one_part e.len (drop n (front ++ rest))) same
     ∙ sym (one_of (front ++ rest) None p e m es ∙ ap (λ b. cond b (Err invalid_offset) (one_part e.len (drop (p.base + e.offset) (front ++ rest)))) (lt-leb (2 ^ 64) (p.base + e.offset) h))) k) t
+
+-- as many bytes as count were read from an offset on
+pub part_at : (P : Result (List ℕ) Refusal → Type 0) (a b : Option (List ℕ)) (len wanted : ℕ) (bytes now : List ℕ) → TakesBody wanted bytes a b → wanted ≡ cond (eqb len 0) 65536 len → now ≡ bytes
+    → P (one_part len now) → IfSome a (λ xs. P (one_part len xs))
+part_at P None b len wanted bytes now t w e p = tt
+part_at P (Some xs) None len wanted bytes now t w e p = absurd t
+part_at P (Some xs) (Some ys) len wanted bytes now t w e p = subst P (ap (one_part len) (e ∙ t.0) ∙ by (cases_lt (length xs) wanted)) p
+  where
+    by : (length xs < wanted) ⊎ (wanted ≤ length xs) → one_part len (take wanted xs) ≡ one_part len xs
+    by (inl lt) = ap (one_part len) (take_all wanted xs (omega arith))
+    by (inr le) =
+        same_part len wanted (take wanted xs) (drop wanted xs) w (omega (arith, length-take-le wanted xs le)) ∙ ap (one_part len) (take-append-drop wanted xs)
+
+-- ---- an extent that is too long
+
+cut_short : (len : ℕ) (bytes : List ℕ) → length bytes < len → one_part len bytes ≡ Err broken_file
+cut_short len bytes h =
+    ap (λ b. cond b (Ok bytes) (cond (ltb (length bytes) len) (Err broken_file) (Ok (take len bytes))) >>= limited) (nonzero len (omega arith))
+    ∙ ap (λ b. cond b (Err broken_file) (Ok (take len bytes)) >>= limited) (lt-ltb (length bytes) len h)
+  where
+    nonzero : (n : ℕ) → 0 < n → eqb n 0 ≡ false
+    nonzero n h = grind (arith, nat_tests)
+
+-- its last byte is not there
+pub last_missing : (stream : Option (List ℕ)) (at last n len : ℕ) → last + 1 ≡ at + len → n ≡ 0 → IsAtEnd (left_behind (Some (last + n)) stream) → 0 < len → IfSome (left_behind (Some at) stream) (λ xs. one_part len xs ≡ Err broken_file)
+last_missing None at last n len e z h some = tt
+last_missing (Some s) at last n len e z h some =
+    let none : length (drop (last + n) s) ≡ 0 = ap (λ (t : List ℕ). length t) h in
+    cut_short len (drop at s) (omega (arith, none, length-drop (last + n) s, length-drop at s))
+
+-- its last byte is there
+pub last_there : (stream b : Option (List ℕ)) (at last n len : ℕ) (buf : List ℕ) → last + 1 ≡ at + len → 65535 < len → (n ≡ 0 → ⊥) → n ≤ length buf → Consumes (left_behind (Some last) stream) b (take n buf)
+    → IfSome (left_behind (Some at) stream) (λ xs. one_part len xs ≡ Err data_too_large)
+last_there None b at last n len buf e big some most h = tt
+last_there (Some s) None at last n len buf e big some most h = absurd h
+last_there (Some s) (Some ys) at last n len buf e big some most h =
+    let all : length (drop last s) ≡ length (take n buf ++ ys) = ap (λ (t : List ℕ). length t) h in
+    one_long len (drop at s) big (omega (arith, all, length-append (take n buf) ys, length-take-le n buf most, length-drop last s, length-drop at s))

@@ -4,7 +4,7 @@ use Rattle.std.proofs.lemmas.Bool.{cases_lt, le-ltb, le-leb, lt-leb}
 use Rattle.std.proofs.lemmas.List.{take_at, drop_at, take_all, drop_all, take-append-le, length-take-le, drop-drop}
 use borrow.Rule.Slice.PartMut.{put_mid}
 use Rattle.std.specs.Io.KnownBytes.{Consumes, IsAtEnd}
-use Rattle.exif_base.specs.Told.{WhereTold, IsFetchedOnto, Skips}
+use Rattle.exif_base.specs.Told.{WhereTold, IsFetchedOnto, left_behind}
 use Rattle.exif_base.proofs.ReadSteps.{consumes_append, take_filled}
 use Rattle.exif_types.specs.Refusals.{Refusal}
 use Rattle.exif_isobmff.specs.HeifRefusals.{broken_file, invalid_offset, meta_before_ftyp}
@@ -15,7 +15,6 @@ use Rattle.exif_isobmff.specs.declared.locations.Extent.{Extent}
 use Rattle.exif_isobmff.specs.HeifFile.{file_box_at, IsHeaderOf, meta_body, meta_in, passed, whole}
 use Rattle.exif_isobmff.specs.ItemLocations.{ItemExtents, item_bytes}
 use Rattle.exif_isobmff.proofs.FileBoxes.{box_of, file_went_on, file_found}
-use Rattle.exif_containers.specs.declared.isobmff.meta.Found.{Found}
 use Rattle.exif_containers.specs.HeifSteps.{one_part}
 use Rattle.exif_containers.specs.GoingBack.{TakesBody, PassesBody, FindsMeta}
 use Rattle.exif_containers.proofs.IsobmffExtents.{one_of}
@@ -72,12 +71,6 @@ other_body ItemInfoEntry seen now len body n p = p
 other_body ItemLocation seen now len body n p = p
 other_body Other seen now len body n p = p
 
--- a body that was skipped is skipped
-pub skipped_passed : (h : Header) (seen now : Bool) (a b : Option (List ℕ)) → (h.kind ≡ FileType → ⊥) → passed seen h.kind h.len [] ≡ Ok now → Skips a b h.len → PassesBody h seen now a b
-skipped_passed h seen now None b n p s = tt
-skipped_passed h seen now (Some xs) None n p s = absurd s
-skipped_passed h seen now (Some xs) (Some ys) n p s = (other_body h.kind seen now h.len (take h.len xs) n p, s.1)
-
 -- ---- from box to box
 
 -- a file was read as far as its first n bytes, and what its `meta` is follows from the rest
@@ -125,27 +118,53 @@ whole_body : (len : ℕ) (body : List ℕ) → len ≤ length body → whole len
 whole_body len body h = ap (λ b. cond b (Err broken_file) (Ok body)) (le-ltb (length body) len h)
 
 -- a `meta` that is whole is the answer
-pub finds_meta : (seen : Bool) (n next k : ℕ) (h : Header) (buf body : List ℕ) (a b c d : Option (List ℕ)) → WalksTo seen n a b → Consumes b c (take k buf) → k ≤ length buf
-    → IsHeaderOf h (take k buf) → 8 ≤ length (take k buf) → h.kind ≡ Meta → seen ≡ true → TakesBody h.len body c d → h.len ≤ length body → next ≡ n + k + h.len → FindsMeta body next a d
-finds_meta seen n next k h buf body None b c d w t bound is long is_meta was p all s = tt
-finds_meta seen n next k h buf body (Some file) None c d w t bound is long is_meta was p all s = absurd w
-finds_meta seen n next k h buf body (Some file) (Some xs) None d w t bound is long is_meta was p all s = absurd t
-finds_meta seen n next k h buf body (Some file) (Some xs) (Some ys) None w t bound is long is_meta was p all s = absurd p
-finds_meta seen n next k h buf body (Some file) (Some xs) (Some ys) (Some zs) w t bound is long is_meta was p all s =
+finds_meta : (seen : Bool) (n k : ℕ) (h : Header) (buf body : List ℕ) (a b c d : Option (List ℕ)) → WalksTo seen n a b → Consumes b c (take k buf) → k ≤ length buf
+    → IsHeaderOf h (take k buf) → 8 ≤ length (take k buf) → h.kind ≡ Meta → seen ≡ true → TakesBody h.len body c d → h.len ≤ length body → FindsMeta body a
+finds_meta seen n k h buf body None b c d w t bound is long is_meta was p all = tt
+finds_meta seen n k h buf body (Some file) None c d w t bound is long is_meta was p all = absurd w
+finds_meta seen n k h buf body (Some file) (Some xs) None d w t bound is long is_meta was p all = absurd t
+finds_meta seen n k h buf body (Some file) (Some xs) (Some ys) None w t bound is long is_meta was p all = absurd p
+finds_meta seen n k h buf body (Some file) (Some xs) (Some ys) (Some zs) w t bound is long is_meta was p all =
     let one = next_box h (take k buf) xs ys is long t in
-    let len : length (take k buf) ≡ k = length-take-le k buf bound in (
-      sym w.0 ∙ file_found seen (box_of h.kind h.len (take h.len ys)) xs (drop h.len ys) one.some one.box is_meta
-          ∙ ap (λ b. cond b (whole h.len (take h.len ys)) (Err meta_before_ftyp)) was ∙ ap (whole h.len) (sym p.0) ∙ whole_body h.len body all,
-      further n k h.len next file xs ys zs w.1 (one.behind ∙ ap (λ m. drop m xs) len) p.1 s,
-    )
+    sym w.0 ∙ file_found seen (box_of h.kind h.len (take h.len ys)) xs (drop h.len ys) one.some one.box is_meta
+    ∙ ap (λ b. cond b (whole h.len (take h.len ys)) (Err meta_before_ftyp)) was ∙ ap (whole h.len) (sym p.0) ∙ whole_body h.len body all
+
+-- ---- at offsets of a stream
+
+-- a body that was read from an offset on
+pub body_at : (stream : Option (List ℕ)) (offset n len : ℕ) (old new : List ℕ) → old ≡ [] → IsFetchedOnto (left_behind (Some offset) stream) (left_behind (Some (offset + n)) stream) old new n → n ≤ len
+    → (n < len → IsAtEnd (left_behind (Some (offset + n)) stream)) → TakesBody len new (left_behind (Some offset) stream) (left_behind (Some (offset + len)) stream)
+body_at None offset n len old new z h most end = tt
+body_at (Some s) offset n len old new z h most end =
+    let taken = body_taken (Some (drop offset s)) (Some (drop (offset + n) s)) old new n len z h most end in
+    (taken.0, sym (drop-drop len offset s))
+
+-- what is no `ftyp` is skipped unread
+pub passed_at : (h : Header) (seen now : Bool) (stream : Option (List ℕ)) (offset : ℕ) → (h.kind ≡ FileType → ⊥) → passed seen h.kind h.len [] ≡ Ok now
+    → PassesBody h seen now (left_behind (Some offset) stream) (left_behind (Some (offset + h.len)) stream)
+passed_at h seen now None offset n p = tt
+passed_at h seen now (Some s) offset n p = (other_body h.kind seen now h.len (take h.len (drop offset s)) n p, sym (drop-drop h.len offset s))
+
+-- the loop goes on behind a box that is skipped
+pub walks_at : (seen now : Bool) (stream : Option (List ℕ)) (origin at k body end : ℕ) (h : Header) (buf : List ℕ) → origin ≤ at
+    → WalksTo seen (at - origin) (left_behind (Some origin) stream) (left_behind (Some at) stream) → Consumes (left_behind (Some at) stream) (left_behind (Some (at + k)) stream) (take k buf) → k ≤ length buf
+    → IsHeaderOf h (take k buf) → 8 ≤ length (take k buf) → (h.kind ≡ Meta → ⊥) → PassesBody h seen now (left_behind (Some body) stream) (left_behind (Some (body + h.len)) stream)
+    → body ≡ at + k → end ≡ body + h.len → WalksTo now (end - origin) (left_behind (Some origin) stream) (left_behind (Some end) stream)
+walks_at seen now stream origin at k body end h buf in_range w t bound is long not_meta p e f =
+    walks_on seen now (at - origin) (end - origin) k h buf _ (left_behind (Some at) stream) (left_behind (Some (at + k)) stream) _ w t bound is long not_meta
+    (subst (λ n. PassesBody h seen now (left_behind (Some (at + k)) stream) (left_behind (Some n) stream)) (sym f)
+    (subst (λ n. PassesBody h seen now (left_behind (Some n) stream) (left_behind (Some (body + h.len)) stream)) e p)) (omega arith)
 
 -- a `meta` that was read is the answer where it is whole
-pub finds_whole : (found : Option Found) (seen : Bool) (n next end origin k : ℕ) (h : Header) (buf : List ℕ) (a b c d : Option (List ℕ)) → WalksTo seen n a b → Consumes b c (take k buf) → k ≤ length buf
-    → IsHeaderOf h (take k buf) → 8 ≤ length (take k buf) → h.kind ≡ Meta → seen ≡ true → IfSome found (λ m. TakesBody h.len m.body.items c d) → IfSome found (λ m. h.len ≤ length m.body.items)
-    → IfSome found (λ m. m.end ≡ end) → next ≡ n + k + h.len → end - origin ≡ next → IfSome found (λ m. FindsMeta m.body.items (m.end - origin) a d)
-finds_whole None seen n next end origin k h buf a b c d w t bound is long is_meta was p all e s l = tt
-finds_whole (Some m) seen n next end origin k h buf a b c d w t bound is long is_meta was p all e s l =
-    subst (λ i. FindsMeta m.body.items i a d) (sym (ap (λ i. i - origin) e ∙ l)) (finds_meta seen n next k h buf m.body.items a b c d w t bound is long is_meta was p all s)
+pub finds_at : {V : Type 0} (items : V → List ℕ) (found : Option V) (seen : Bool) (stream : Option (List ℕ)) (origin at k body : ℕ) (h : Header) (buf : List ℕ)
+    → WalksTo seen (at - origin) (left_behind (Some origin) stream) (left_behind (Some at) stream) → Consumes (left_behind (Some at) stream) (left_behind (Some (at + k)) stream) (take k buf) → k ≤ length buf
+    → IsHeaderOf h (take k buf) → 8 ≤ length (take k buf) → h.kind ≡ Meta → seen ≡ true
+    → IfSome found (λ m. TakesBody h.len (items m) (left_behind (Some body) stream) (left_behind (Some (body + h.len)) stream)) → IfSome found (λ m. h.len ≤ length (items m)) → body ≡ at + k
+    → IfSome found (λ m. FindsMeta (items m) (left_behind (Some origin) stream))
+finds_at items None seen stream origin at k body h buf w t bound is long is_meta was p all e = tt
+finds_at items (Some m) seen stream origin at k body h buf w t bound is long is_meta was p all e =
+    finds_meta seen (at - origin) k h buf (items m) _ (left_behind (Some at) stream) (left_behind (Some (at + k)) stream) _ w t bound is long is_meta was
+    (subst (λ n. TakesBody h.len (items m) (left_behind (Some n) stream) (left_behind (Some (body + h.len)) stream)) e p) all
 
 -- ---- the item
 
@@ -156,19 +175,28 @@ one_from file p e offset m es h same =
     ∙ ap (λ n. one_part e.len (drop n file)) (sym same)
 
 -- an offset that is too large
-pub too_large : (file : List ℕ) (p : ItemExtents) (e : Extent) → p.method ≡ 0 → p.extents ≡ e ∷ [] → 2 ^ 64 ≤ p.base + e.offset → item_bytes file None p ≡ Err invalid_offset
-too_large file p e m es h =
+pub too_large : (known : Option (List ℕ)) (p : ItemExtents) (e : Extent) → p.method ≡ 0 → p.extents ≡ e ∷ [] → 2 ^ 64 ≤ p.base + e.offset → IfSome known (λ file. item_bytes file None p ≡ Err invalid_offset)
+too_large None p e m es h = tt
+too_large (Some file) p e m es h =
     one_of file None p e m es ∙ ap (λ b. cond b (Err invalid_offset) (one_part e.len (drop (p.base + e.offset) file))) (le-leb (2 ^ 64) (p.base + e.offset) h)
 
--- nothing of the file is behind its offset
-pub none_there : (P : Result (List ℕ) Refusal → Type 0) (file none : List ℕ) (p : ItemExtents) (e : Extent) (offset : ℕ) → p.method ≡ 0 → p.extents ≡ e ∷ [] → p.base + e.offset < 2 ^ 64
-    → offset ≡ p.base + e.offset → none ≡ [] → drop offset file ≡ [] → P (one_part e.len none) → P (item_bytes file None p)
-none_there P file none p e offset m es h same z end t =
-    subst P (ap (one_part e.len) (z ∙ sym end) ∙ sym (one_from file p e offset m es h same)) t
-
 -- what is read from its offset on
-pub read_there : (P : Result (List ℕ) Refusal → Type 0) (left : Option (List ℕ)) (file front : List ℕ) (p : ItemExtents) (e : Extent) (offset : ℕ) → p.method ≡ 0 → p.extents ≡ e ∷ [] → p.base + e.offset < 2 ^ 64
-    → offset ≡ p.base + e.offset → front ≡ [] → left ≡ Some (drop offset file) → IfSome left (λ rest. P (one_part e.len (drop 0 (front ++ rest)))) → P (item_bytes file None p)
-read_there P left file front p e offset m es h same z at t =
-    let there : IfSome (Some (drop offset file)) (λ rest. P (one_part e.len (drop 0 (front ++ rest)))) = subst (λ o. IfSome o (λ rest. P (one_part e.len (drop 0 (front ++ rest))))) at t in
-    subst P (ap (λ t. one_part e.len (t ++ drop offset file)) z ∙ sym (one_from file p e offset m es h same)) there
+pub read_there : (P : Result (List ℕ) Refusal → Type 0) (stream : Option (List ℕ)) (origin at : ℕ) (p : ItemExtents) (e : Extent) (offset : ℕ) → p.method ≡ 0 → p.extents ≡ e ∷ [] → p.base + e.offset < 2 ^ 64
+    → offset ≡ p.base + e.offset → at ≡ origin + offset → IfSome (left_behind (Some at) stream) (λ xs. P (one_part e.len xs)) → IfSome (left_behind (Some origin) stream) (λ file. P (item_bytes file None p))
+read_there P None origin at p e offset m es h same there t = tt
+read_there P (Some s) origin at p e offset m es h same there t =
+    subst P (ap (one_part e.len) (ap (λ n. drop n s) there ∙ sym (drop-drop offset origin s)) ∙ sym (one_from (drop origin s) p e offset m es h same)) t
+
+-- ---- in a stream that is named otherwise
+
+pub taken_of : (stream s : Option (List ℕ)) (at n : ℕ) (buf : List ℕ) → s ≡ stream → Consumes (left_behind (Some at) s) (left_behind (Some (at + n)) s) (take n buf)
+    → Consumes (left_behind (Some at) stream) (left_behind (Some (at + n)) stream) (take n buf)
+taken_of stream s at n buf same h = subst (λ t. Consumes (left_behind (Some at) t) (left_behind (Some (at + n)) t) (take n buf)) same h
+
+pub passed_of : (stream s : Option (List ℕ)) (h : Header) (seen now : Bool) (body : ℕ) → s ≡ stream → PassesBody h seen now (left_behind (Some body) s) (left_behind (Some (body + h.len)) s)
+    → PassesBody h seen now (left_behind (Some body) stream) (left_behind (Some (body + h.len)) stream)
+passed_of stream s h seen now body same p = subst (λ t. PassesBody h seen now (left_behind (Some body) t) (left_behind (Some (body + h.len)) t)) same p
+
+pub body_of : {V : Type 0} (items : V → List ℕ) (stream s : Option (List ℕ)) (found : Option V) (len body : ℕ) → s ≡ stream → IfSome found (λ m. TakesBody len (items m) (left_behind (Some body) s) (left_behind (Some (body + len)) s))
+    → IfSome found (λ m. TakesBody len (items m) (left_behind (Some body) stream) (left_behind (Some (body + len)) stream))
+body_of items stream s found len body same p = subst (λ t. IfSome found (λ m. TakesBody len (items m) (left_behind (Some body) t) (left_behind (Some (body + len)) t))) same p

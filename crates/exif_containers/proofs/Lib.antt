@@ -1,5 +1,6 @@
 pub mod ContainerNames
 pub mod ContainerSteps
+pub mod IsobmffAt
 pub mod IsobmffBack
 pub mod IsobmffExtents
 pub mod IsobmffFile

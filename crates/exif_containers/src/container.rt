@@ -67,8 +67,7 @@ pub fn format_of(signature: &[u8]) -> Option<Format>
 }
 
 /// The Exif data of a stream whose signature is that of this container, or the refusal of bytes
-/// that begin none. The first byte is at this offset of a source that goes back; with none, the
-/// source does not go back.
+/// that begin none. The first byte is at this offset; with none, the stream is read in order.
 #[tactic(auto, unfolding(crate::specs::Container::answer_as))]
 pub fn exif_attr_as<R: Source>(
     alloc: Global,
@@ -129,8 +128,8 @@ fn attr_through<R: Source>(
     Ok(payload)
 }
 
-/// The Exif data of a stream, as [`exif_attr_of_stream`] has it, whose first byte is at this offset
-/// of a source that goes back. With none, the source does not go back.
+/// The Exif data of a stream, as [`exif_attr_of_stream`] has it, whose first byte is at this
+/// offset. With none, the stream is read in order.
 pub fn exif_attr_from<R: Source>(
     alloc: Global,
     source: &mut R,

@@ -1,8 +1,7 @@
 //! The Exif data of a HEIF file (ISO/IEC 14496-12:2015, 4.2; ISO/IEC 23008-12:2017, A.2.1).
 
-ghost use Rattle.std.specs.Prelude.{◌≡◌, ◌≤◌, ◌-◌, ◌++◌, ℕ, List, [], length, None, Some, IfErr, IfSome, false};
+ghost use Rattle.std.specs.Prelude.{◌≡◌, ◌++◌, ℕ, List, [], None, IfErr, IfSome, false};
 ghost use Rattle.exif_base.specs.Reads.{Counts};
-ghost use Rattle.exif_base.specs.Told.{left_behind};
 ghost use Rattle.exif_types.specs.Refusals.{Gives, is_io};
 ghost use Rattle.std.specs.Option.{option_map};
 ghost use Rattle.exif_isobmff.specs.Extents.{located_exif};
@@ -11,15 +10,16 @@ ghost use Rattle.exif_isobmff.specs.LocatedView.{located_view};
 ghost use Rattle.exif_isobmff.specs.ItemLocations.{location_view};
 ghost use Rattle.exif_isobmff.specs.HeifRefusals.{heif_refusals};
 ghost use Rattle.exif_segments.specs.Answer.{IsNamed};
-ghost use Rattle.exif_containers.specs.GoingBack.{BeginsAt, HasRead};
+ghost use Rattle.exif_containers.specs.GoingBack.{BeginsAt, HasRead, IsAhead};
 ghost use Rattle.exif_containers.specs.HeifSteps.{payload_at};
 
+mod at;
 mod extents;
 mod front;
 mod meta;
 
-use self::extents::{bytes_from, bytes_in_file};
-use self::front::read_boxes;
+use self::extents::{bytes_at, bytes_in_file};
+use self::front::{read_boxes, read_whole};
 use self::meta::find_meta;
 use exif_base::Source;
 pub use exif_isobmff::is_heif;
@@ -30,6 +30,9 @@ use exif_isobmff::{
 use exif_segments::util::read_rest;
 use exif_types::Error;
 use std::alloc::Global;
+
+// How many bytes of boxes before `meta` are kept where the source reads at an offset.
+const MAX_KEPT: u64 = 4096;
 
 // The Exif data of a file whose front does not settle them.
 fn exif_of_whole<R: Source>(alloc: Global, source: &mut R, front: Vec<u8>) -> Result<Vec<u8>, Error>
@@ -91,78 +94,71 @@ fn exif_behind<R: Source>(alloc: Global, source: &mut R, front: Vec<u8>) -> Resu
     exif_in_file(alloc, source, front, &location)
 }
 
-// The Exif data of a file that is kept up to the end of its `meta`.
-fn exif_kept<R: Source>(alloc: Global, source: &mut R) -> Result<Vec<u8>, Error>
+// The Exif data of a file of which the boxes before `meta` are kept. The next `len` bytes are the
+// rest of a box.
+fn exif_resumed<R: Source>(
+    alloc: Global,
+    source: &mut R,
+    front: Vec<u8>,
+    len: u64,
+) -> Result<Vec<u8>, Error>
     ensures gives { IfSome (R.left source.old)
-        (λ file. Gives (λ v. v.items) result (exif_of file)) }
+        (λ rest. Gives (λ v. v.items) result (exif_of (front.items ++ rest))) }
     ensures named { IfErr result (IsNamed heif_refusals) }
     ensures counts { Counts R.Source source.old source.new (is_io result) }
 {
-    let mut front = Vec::new(alloc);
-    read_boxes(source, &mut front)?;
-    let payload = exif_behind(alloc, source, front)?;
-    Ok(payload)
+    let mut boxes = front;
+    let _whole = read_whole(source, &mut boxes, len)?;
+    let _next = read_boxes(source, &mut boxes, u64::MAX)?;
+    exif_behind(alloc, source, boxes)
 }
 
-// The Exif data of a file whose source goes back to its start first.
-fn exif_again<R: Source>(alloc: Global, source: &mut R, origin: u64) -> Result<Vec<u8>, Error>
-    ensures gives { (file : List ℕ)
-        → Some file ≡ left_behind (Some origin) (R.stream source.old)
-        → Gives (λ v. v.items) result (exif_of file) }
-    ensures named { IfErr result (IsNamed heif_refusals) }
-    ensures counts { Counts R.Source source.old source.new (is_io result) }
-{
-    source.go_to(origin)?;
-    let payload = exif_kept(alloc, source)?;
-    Ok(payload)
-}
-
-// The Exif data at a location of one extent in a file whose source goes back to its start at
-// `origin`, and was read up to `at`.
-fn exif_from_extent<R: Source>(
+// The Exif data of a file that begins at `origin` of the stream and was read up to the body of a
+// box before `meta`, of this length. `meta` and the item are read at their offsets.
+fn exif_skipping<R: Source>(
     alloc: Global,
     source: &mut R,
     origin: u64,
-    at: u64,
-    location: &Location,
+    front: Vec<u8>,
+    len: u64,
 ) -> Result<Vec<u8>, Error>
-    requires method { location.now.method ≡ 0 }
-    requires one { length location.now.extents.items ≡ 1 }
-    requires order { origin ≤ at }
     ensures gives { (file : List ℕ)
-        → HasRead origin (at - origin) file (R.stream source.old) (R.left source.old)
-        → Gives (λ v. v.items) result (payload_at file None (location_view location.now)) }
-    ensures named { IfErr result (IsNamed heif_refusals) }
-    ensures counts { Counts R.Source source.old source.new (is_io result) }
-{
-    let block = bytes_from(alloc, source, origin, at, location)?;
-    let payload = after_header(alloc, &block)?;
-    Ok(payload)
-}
-
-// The Exif data of a file whose source goes back to its start at `origin`.
-fn exif_going_back<R: Source>(alloc: Global, source: &mut R, origin: u64) -> Result<Vec<u8>, Error>
-    ensures gives { (file : List ℕ)
-        → HasRead origin 0 file (R.stream source.old) (R.left source.old)
+        → HasRead origin front.items file (R.stream source.old) (R.left source.old)
         → Gives (λ v. v.items) result (exif_of file) }
     ensures named { IfErr result (IsNamed heif_refusals) }
     ensures counts { Counts R.Source source.old source.new (is_io result) }
 {
     let Some(meta) = find_meta(alloc, source, origin)? else {
-        return exif_again(alloc, source, origin);
+        return exif_resumed(alloc, source, front, len);
     };
-    let ExifItem { location, idat } = find_exif(alloc, &meta.body)?;
+    let ExifItem { location, idat } = find_exif(alloc, &meta)?;
     if location.method != 0 {
         return exif_beside(alloc, idat, &location);
     }
-    if location.extents.len() != 1 {
-        return exif_again(alloc, source, origin);
-    }
-    exif_from_extent(alloc, source, origin, meta.end, &location)
+    let Some(block) = bytes_at(alloc, source, origin, &location)? else {
+        return exif_resumed(alloc, source, front, len);
+    };
+    let payload = after_header(alloc, &block)?;
+    Ok(payload)
 }
 
-/// The Exif data of a file, as [`get_exif_attr`] has it, whose first byte is at this offset of a
-/// source that goes back. With none, the source does not go back.
+// The Exif data of a file that begins at `origin` of the stream.
+fn exif_ahead<R: Source>(alloc: Global, source: &mut R, origin: u64) -> Result<Vec<u8>, Error>
+    ensures gives { (file : List ℕ)
+        → IsAhead origin file (R.stream source.old) (R.left source.old)
+        → Gives (λ v. v.items) result (exif_of file) }
+    ensures named { IfErr result (IsNamed heif_refusals) }
+    ensures counts { Counts R.Source source.old source.new (is_io result) }
+{
+    let mut front = Vec::new(alloc);
+    let Some(len) = read_boxes(source, &mut front, MAX_KEPT)? else {
+        return exif_behind(alloc, source, front);
+    };
+    exif_skipping(alloc, source, origin, front, len)
+}
+
+/// The Exif data of a file, as [`get_exif_attr`] has it, whose first byte is at this offset of the
+/// stream. With none, the file is read in order.
 pub fn exif_from<R: Source>(
     alloc: Global,
     source: &mut R,
@@ -175,19 +171,19 @@ pub fn exif_from<R: Source>(
     ensures counts { Counts R.Source source.old source.new (is_io result) }
 {
     match origin {
-        Some(origin) => exif_going_back(alloc, source, origin),
-        None => exif_kept(alloc, source),
+        Some(origin) => exif_ahead(alloc, source, origin),
+        None => exif_resumed(alloc, source, Vec::new(alloc), 0),
     }
 }
 
 /// The Exif data of a file, which is read up to the end of its `meta` and then as far as its Exif
 /// item needs. An error of the source that comes after that is not encountered.
 ///
-/// The memory: where the source goes back (`Source::offset`), `meta` and the item, and before them
-/// `ftyp` for a moment; other boxes are skipped. Where it does not, all bytes up to the end of
-/// `meta`, and then the item. In both cases what is between `meta` and the item is skipped, and the
-/// whole file is taken into memory where its front refuses, or where a box of it runs to the end of
-/// the file, and for an item in more than one extent; a source that goes back is read again for it.
+/// The memory: where the source reads at an offset (`Source::offset`, `Source::fetch_at`), `meta`
+/// and the item, and before them at most 4096 bytes of boxes, or `ftyp` for a moment. Where it does
+/// not, all bytes up to the end of `meta`, and then the item. In both cases what is between `meta`
+/// and the item is skipped, and the whole file is taken into memory where its front refuses, or
+/// where a box of it runs to the end of the file, and for an item in more than one extent.
 ///
 /// Offsets in the file count from where the source was. Refusals are those of `exif_of_file`.
 /// After an error, how far the source was read is left open.

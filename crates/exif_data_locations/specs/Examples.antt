@@ -16,8 +16,9 @@ use Rattle.exif_edit_base.specs.Readings.{reading}
 use Rattle.exif_edit.specs.Erasing.{erase_patches, gps_spans}
 use Rattle.exif_locations.specs.declared.unread.Unread.TheVariants.{Keep, Blank}
 use Rattle.exif_data_locations.specs.Locations.{data_erased}
-use Rattle.exif_data_locations.specs.Resources.{resource_at, resources_by}
-use Rattle.exif_data_locations.specs.declared.why.Why.TheVariants.{NotChanged, GpsShared, NotReadWhole, SubIfdsNotRead, MakerNote, IptcNotRead, ResourcesNotRead, ExifResource, Text, TypeNotKnown, Shared}
+use Rattle.exif_inventory.specs.Resources.{resource_at}
+use Rattle.exif_data_locations.specs.Resources.{resources_by}
+use Rattle.exif_data_locations.specs.declared.why.Why.TheVariants.{NotChanged, GpsShared, NotReadWhole, SubIfdsNotRead, MakerNote, IptcNotRead, ResourcesNotRead, ExifResource, OtherResource, Text, TypeNotKnown, Shared}
 
 -- big-endian data, of which the directory at 8 has one entry, and its value is at 26
 abbrev one : List ℕ → List ℕ → List ℕ
@@ -76,6 +77,17 @@ resources_erased : data_erased Keep (resources_data (codes "Basel"))
     ≡ (resources_data erased, ExifResource ∷ [])
 unfolding reading erase_patches visited_gps gps_spans gps_offsets gps_pointers all_directories children_from chain_from pointers leftovers directory_offsets located trace ordered_trace resource_at resources_by iptc.erased_by dataset_at
 resources_erased = refl
+
+-- a caption, which is reported, and a copyright flag, which is not
+abbrev captioned : List ℕ
+captioned =
+    one (134 ∷ 73 ∷ 0 ∷ 1 ∷ 0 ∷ 0 ∷ 0 ∷ 28 ∷ [])
+    (codes "8BIM" ++ 3 ∷ 240 ∷ 0 ∷ 0 ∷ 0 ∷ 0 ∷ 0 ∷ 2 ∷ 1 ∷ 98
+    ∷ codes "8BIM" ++ 4 ∷ 10 ∷ 0 ∷ 0 ∷ 0 ∷ 0 ∷ 0 ∷ 1 ∷ 1 ∷ 0 ∷ [])
+
+caption_stays : data_erased Keep captioned ≡ (captioned, OtherResource ∷ [])
+unfolding reading erase_patches visited_gps gps_spans gps_offsets gps_pointers all_directories children_from chain_from pointers leftovers directory_offsets located trace ordered_trace resource_at resources_by
+caption_stays = refl
 
 -- a resource that is longer than its field
 abbrev cut_resource : List ℕ

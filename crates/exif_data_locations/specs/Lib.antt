@@ -1,9 +1,11 @@
 pub mod Erasing
+pub mod Versions
 pub mod Examples
 pub mod FieldRegions
 pub mod Locations
 pub mod Promises
 pub mod Regions
+pub mod WhyTexts
 pub mod Resources
 pub mod Texts
 pub mod ThumbnailExamples

@@ -1,5 +1,6 @@
 -- Regions of Exif data, and the locations in them.
-use Rattle.std.specs.Prelude.{ℕ, ◌+◌, ◌≤◌, List, [], ◌∷◌, ◌++◌, length, take, drop, replicate, Bool, true, false, if◌then◌else◌, Option, None, Some}
+use Rattle.std.specs.Prelude.{ℕ, ◌+◌, ◌==◌, ◌≤◌, List, [], ◌∷◌, ◌++◌, length, take, drop, replicate, Bool, true, false, if◌then◌else◌, Option, None, Some}
+use Rattle.std.specs.List.{list_all}
 use Rattle.exif_locations.specs.Texts.{iptc_has_texts, xmp_has_texts}
 use Rattle.exif_locations.specs.Unread as packets
 use Rattle.exif_locations.specs.Unread.{because}
@@ -9,6 +10,10 @@ use Rattle.exif_data_locations.specs.declared.region.What.{What}
 use Rattle.exif_data_locations.specs.declared.region.What.TheVariants as what
 use Rattle.exif_data_locations.specs.declared.why.Why.{Why}
 use Rattle.exif_data_locations.specs.declared.why.Why.TheVariants.{XmpNotRead, IptcNotRead, Texts}
+
+-- whether all bytes are zero
+abbrev pub all_zero : List ℕ → Bool
+all_zero bytes = list_all (λ b. b == 0) bytes
 
 -- an XMP packet without its locations
 abbrev pub xmp_answer : ℕ → Unread → List ℕ → List ℕ × Option Why

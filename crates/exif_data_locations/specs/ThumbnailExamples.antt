@@ -1,7 +1,7 @@
 -- Worked examples of thumbnails, by bytes written by hand.
 use Rattle.std.specs.Prelude.{ℕ, ◌≡◌, refl, List, [], ◌∷◌, ◌++◌, codes}
 use Rattle.exif_inventory.specs.JpegPieces.{between_piece, stream_piece}
-use Rattle.exif_inventory.specs.Resources.{resource_piece}
+use Rattle.exif_inventory.specs.Resources.{resource_at, resource_piece}
 use Rattle.exif_inventory.specs.Walks.{walked}
 use Rattle.exif_locations.specs.IptcDatasets as iptc
 use Rattle.exif_locations.specs.IptcDatasets.{dataset_at}
@@ -72,7 +72,7 @@ resourced name =
 -- the city becomes spaces
 city_erased : data_erased Keep (thumbnail_data orientation 44 (resourced (codes "Basel")))
     ≡ (thumbnail_data orientation 44 (resourced (codes "     ")), [])
-unfolding reading erase_patches visited_gps gps_spans gps_offsets gps_pointers all_directories children_from chain_from pointers leftovers directory_offsets located trace ordered_trace walked stream_piece between_piece resource_piece iptc.erased_by dataset_at
+unfolding reading erase_patches visited_gps gps_spans gps_offsets gps_pointers all_directories children_from chain_from pointers leftovers directory_offsets located trace ordered_trace walked stream_piece between_piece resource_piece resource_at iptc.erased_by dataset_at
 city_erased = refl
 
 -- where the artist is in the same bytes, they stay
@@ -82,7 +82,7 @@ artist = 1 ∷ 59 ∷ 0 ∷ 2 ∷ 0 ∷ 0 ∷ 0 ∷ 5 ∷ 0 ∷ 0 ∷ 0 ∷ 93 �
 -- since the artist would change
 shared_city_stays : data_erased Keep (thumbnail_data artist 44 (resourced (codes "Basel")))
     ≡ (thumbnail_data artist 44 (resourced (codes "Basel")), Shared ∷ [])
-unfolding reading erase_patches visited_gps gps_spans gps_offsets gps_pointers all_directories children_from chain_from pointers leftovers directory_offsets located trace ordered_trace walked stream_piece between_piece resource_piece iptc.erased_by dataset_at
+unfolding reading erase_patches visited_gps gps_spans gps_offsets gps_pointers all_directories children_from chain_from pointers leftovers directory_offsets located trace ordered_trace walked stream_piece between_piece resource_piece resource_at iptc.erased_by dataset_at
 shared_city_stays = refl
 
 -- a stream with Exif data, which have no orientation and IPTC data with a city

@@ -1,6 +1,5 @@
 -- The thumbnail of Exif data (Exif 2.32, 4.5.8): a JPEG stream, which may have metadata of its own.
 use Rattle.std.specs.Prelude.{ℕ, ◌+◌, ◌==◌, ◌||◌, not, nat_le, Bool, true, false, List, [], ◌∷◌, ◌++◌, length, take, drop, is_some, Option, None, Some, Ok, Err, if◌then◌else◌}
-use Rattle.std.specs.List.{list_all}
 use Rattle.std.specs.Option.{option_and_then}
 use Rattle.std.specs.Str.{bytes_eq}
 use Rattle.exif_inventory.specs.Walks.{inventory}
@@ -17,7 +16,7 @@ use Rattle.exif_types.specs.declared.tag.Tag.{Tag}
 use Rattle.exif_edit_base.specs.Readings.{Read, reading, reads_as}
 use Rattle.exif_edit_base.specs.declared.patch.Span.{Span}
 use Rattle.exif_data_locations.specs.Erasing.{noted_if, own_erased}
-use Rattle.exif_data_locations.specs.Regions.{what_answer}
+use Rattle.exif_data_locations.specs.Regions.{all_zero, what_answer}
 use Rattle.exif_data_locations.specs.declared.region.What.{What}
 use Rattle.exif_data_locations.specs.declared.region.What.TheVariants as what
 use Rattle.exif_data_locations.specs.declared.why.Why.{Why}
@@ -59,18 +58,20 @@ abbrev pub with_reason : List ℕ × Option Why → List ℕ × Bool
 with_reason (new, None) = (new, false)
 with_reason (new, Some why) = (new, true)
 
--- whether all bytes are zero
-abbrev pub all_zero : List ℕ → Bool
-all_zero bytes = list_all (λ b. b == 0) bytes
-
 -- what data that are not looked at hold: nothing, if they are zeros
 abbrev pub unjudged : List ℕ → What
 unjudged bytes = if all_zero bytes then what.Other else what.Left Thumbnail
 
--- what the data of a part hold that are no Exif data
+-- what the data of a part hold that are no Exif data: a JFIF header has 14 bytes (JFIF 1.02), and
+-- maybe a small picture, Adobe's segment has 12
 abbrev pub what_of : Kind → List ℕ → What
 what_of kind.Xmp bytes = what.Xmp
+what_of kind.PhotoshopXmp bytes = what.Xmp
 what_of kind.Iptc bytes = what.Iptc
+what_of kind.Jfif bytes = unjudged (drop 14 bytes)
+what_of kind.Adobe bytes = unjudged (drop 12 bytes)
+what_of kind.JfifThumbnail bytes = unjudged bytes
+what_of kind.PhotoshopOther bytes = unjudged bytes
 what_of kind.ExtendedXmp bytes = unjudged bytes
 what_of kind.Comment bytes = unjudged bytes
 what_of kind.ContentCredentials bytes = unjudged bytes
@@ -98,6 +99,7 @@ with_further (new, whys) = (new, not (length whys == 0) || has_thumbnail new)
 -- thumbnail in Exif data is not searched
 abbrev pub part_answer : Unread → Kind → List ℕ → List ℕ × Bool
 part_answer unread kind.Exif bytes = with_further (own_erased unread bytes)
+part_answer unread kind.PhotoshopExif bytes = with_further (own_erased unread bytes)
 part_answer unread k bytes = other_answer unread k bytes
 
 -- this many bytes from an offset on

@@ -14,8 +14,10 @@ mod region;
 mod resource;
 mod text;
 mod thumbnail;
+mod version;
 mod wanted;
 mod why;
 
 pub use locations::erase_locations;
+pub use version::without_version;
 pub use why::Why;

@@ -1,7 +1,7 @@
 //! Regions of Exif data, and the locations in them.
 
 ghost use Rattle.std.specs.Prelude.{◌≡◌, ◌+◌, ◌≤◌, length, replicate, All, OnOk};
-ghost use Rattle.exif_data_locations.specs.Regions.{LiesIn, iptc_answer, iptc_judged, region_erased, regions_erased, what_answer, xmp_answer, xmp_judged};
+ghost use Rattle.exif_data_locations.specs.Regions.{LiesIn, all_zero, iptc_answer, iptc_judged, region_erased, regions_erased, what_answer, xmp_answer, xmp_judged};
 
 use crate::why::Why;
 use exif_locations::texts::{iptc_has_texts, xmp_has_texts};
@@ -30,6 +30,13 @@ pub struct Region {
     pub offset: usize,
     pub len: usize,
     pub what: What,
+}
+
+/// Whether all bytes are zero.
+pub fn all_zero(bytes: &[u8]) -> bool
+    ensures { result ≡ all_zero bytes.now }
+{
+    bytes.iter().all(|b| *b == 0)
 }
 
 // Erases the locations of an XMP packet.

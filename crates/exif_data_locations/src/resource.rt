@@ -2,105 +2,50 @@
 
 ghost use Rattle.std.specs.Prelude.{◌≡◌, ◌++◌, ◌+◌, ◌≤◌, ◌<◌, ◌^◌, All, length, take, drop, OnOk};
 ghost use Rattle.exif_data_locations.specs.Regions.{LiesIn};
-ghost use Rattle.exif_data_locations.specs.Resources.{data_len, front_len, is_whole, resource_at, resource_region, resource_regions, rest_resource, what_of, whole_resource};
+ghost use Rattle.exif_data_locations.specs.Resources.{resource_region, resource_regions, unjudged, what_of};
 
-use crate::region::{Region, What};
+use crate::region::{Region, What, all_zero};
 use crate::why::Why;
-use exif_base::{BigEndian, Endian};
+use exif_inventory::{Kind, Resource, resource_at};
 use std::alloc::AllocError;
 
-// The shortest front of a resource: signature, number, an empty name and its size.
-const LEAST: usize = 12;
-
-// A resource: what it holds, how many bytes come before that, how many that has, and how many all
-// of it has.
-#[derive(Clone, Copy)]
-struct Resource {
-    what: What,
-    front: usize,
-    size: usize,
-    len: usize,
-}
-
-// What a resource with this number holds.
-fn what_of(number: u16) -> What
-    ensures { result ≡ what_of number }
+// What data that are not looked at hold.
+fn unjudged(bytes: &[u8]) -> What
+    ensures { result ≡ unjudged bytes.now }
 {
-    match number {
-        0x404 => What::Iptc,
-        0x424 => What::Xmp,
-        0x422 | 0x423 => What::Left(Why::ExifResource),
-        _ => What::Other,
+    if all_zero(bytes) {
+        What::Other
+    } else {
+        What::Left(Why::OtherResource)
     }
 }
 
-// The length of what comes before the data of a resource.
-fn front_len(bytes: &[u8]) -> usize
-    requires { 12 ≤ length bytes.now }
-    ensures value { result ≡ front_len bytes.now }
-    ensures least { 12 ≤ result }
+// What a resource of this kind with these data holds.
+fn what_of(kind: Kind, bytes: &[u8]) -> What
+    ensures { result ≡ what_of kind bytes.now }
 {
-    let name = usize::from(bytes[6]) + 1;
-    10 + (name + name % 2)
-}
-
-// The size of the data.
-fn data_len(bytes: &[u8]) -> usize
-    requires long { 12 ≤ length bytes.now }
-    requires front { front_len bytes.now ≤ length bytes.now }
-    ensures value { result ≡ data_len bytes.now }
-{
-    BigEndian::loadu32(bytes, front_len(bytes) - 4) as usize
-}
-
-// Whether bytes begin with a whole resource.
-fn is_whole(bytes: &[u8]) -> bool
-    ensures { result ≡ is_whole bytes.now }
-{
-    if bytes.len() < LEAST || bytes[..4] != b"8BIM"[..] {
-        return false;
-    }
-    let front = front_len(bytes);
-    front <= bytes.len() && data_len(bytes) <= bytes.len() - front
-}
-
-// The whole resource at the front.
-fn whole_resource(bytes: &[u8]) -> Resource
-    requires long { 12 ≤ length bytes.now }
-    requires front { front_len bytes.now ≤ length bytes.now }
-    requires size { front_len bytes.now + data_len bytes.now ≤ length bytes.now }
-    ensures value { result ≡ whole_resource bytes.now }
-    ensures some { 0 < result.len }
-    ensures within { result.len ≤ length bytes.now }
-    ensures framed { result.front + result.size ≤ result.len }
-{
-    let front = front_len(bytes);
-    let size = data_len(bytes);
-    Resource {
-        what: what_of(BigEndian::loadu16(bytes, 4)),
-        front,
-        size,
-        len: (front + (size + size % 2)).min(bytes.len()),
+    match kind {
+        Kind::Iptc => What::Iptc,
+        Kind::PhotoshopXmp => What::Xmp,
+        Kind::PhotoshopExif => What::Left(Why::ExifResource),
+        Kind::Photoshop => What::Other,
+        Kind::Broken => What::Left(Why::ResourcesNotRead),
+        _ => unjudged(bytes),
     }
 }
 
-// The resource at the front, or all bytes where they begin with no whole one.
-#[tactic(auto, unfolding(crate::specs::Resources::resource_at))]
-fn resource_at(bytes: &[u8]) -> Resource
-    requires { 0 < length bytes.now }
-    ensures value { result ≡ resource_at bytes.now }
-    ensures some { 0 < result.len }
-    ensures within { result.len ≤ length bytes.now }
-    ensures framed { result.front + result.size ≤ result.len }
+// The region of the data of a resource that is at the front of bytes and at an offset.
+fn region_of(tag: u16, at: usize, resource: Resource, bytes: &[u8]) -> Region
+    requires within { resource.front + resource.size ≤ length bytes.now }
+    requires fits { at + resource.front < 2 ^ 64 }
+    ensures { result ≡ resource_region tag at resource bytes.now }
 {
-    if is_whole(bytes) {
-        return whole_resource(bytes);
-    }
-    Resource {
-        what: What::Left(Why::ResourcesNotRead),
-        front: 0,
-        size: bytes.len(),
-        len: bytes.len(),
+    let content = &bytes[resource.front..][..resource.size];
+    Region {
+        tag,
+        offset: at + resource.front,
+        len: resource.size,
+        what: what_of(resource.kind, content),
     }
 }
 
@@ -122,12 +67,7 @@ pub fn add_resources(
     let mut rest = &bytes[offset..offset + len];
     while !rest.is_empty() {
         let resource = resource_at(rest);
-        regions.push(Region {
-            tag,
-            offset: at + resource.front,
-            len: resource.size,
-            what: resource.what,
-        })?;
+        regions.push(region_of(tag, at, resource, rest))?;
         at += resource.len;
         rest = &rest[resource.len..];
     }

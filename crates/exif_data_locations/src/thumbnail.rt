@@ -1,15 +1,15 @@
 //! The thumbnail of Exif data (Exif 2.32, 4.5.8): a JPEG stream with metadata of its own.
 
-ghost use Rattle.std.specs.Prelude.{◌≡◌, ◌+◌, ◌≤◌, false, length, All, IfOk, IfSome, OnOk};
+ghost use Rattle.std.specs.Prelude.{◌≡◌, ◌+◌, ◌≤◌, false, drop, length, All, IfOk, IfSome, OnOk};
 ghost use Rattle.std.specs.Str.{bytes_eq};
 ghost use Rattle.exif_data_locations.specs.Erasing.{own_erased};
-ghost use Rattle.exif_data_locations.specs.Thumbnails.{all_zero, chain_tag, has_thumbnail, if_same, number_named, other_answer, part_answer, part_erased, parts_erased, read_thumbnail_erased, second, span_erased, span_in, stream_erased, stretch_erased, thumbnail_erased, thumbnail_span, unjudged, what_of, with_further};
+ghost use Rattle.exif_data_locations.specs.Thumbnails.{chain_tag, has_thumbnail, if_same, number_named, other_answer, part_answer, part_erased, parts_erased, read_thumbnail_erased, second, span_erased, span_in, stream_erased, stretch_erased, thumbnail_erased, thumbnail_span, unjudged, what_of, with_further};
 ghost use Rattle.exif_edit_base.specs.Readings.{read_of};
 ghost use Rattle.exif_inventory.specs.Promises.{EndsIn};
 ghost use Rattle.exif_types.specs.Lookup.{is_named};
 
 use crate::erase::erase_own;
-use crate::region::{What, erase_what};
+use crate::region::{What, all_zero, erase_what};
 use crate::why::{Why, note_if};
 use exif_edit_base::patch::Span;
 use exif_edit_base::read::{read, reads_as};
@@ -68,13 +68,6 @@ fn thumbnail_span(total: usize, fields: &[Field]) -> Option<Span>
     span_in(total, offset, len)
 }
 
-// Whether all bytes are zero.
-fn all_zero(bytes: &[u8]) -> bool
-    ensures { result ≡ all_zero bytes.now }
-{
-    bytes.iter().all(|b| *b == 0)
-}
-
 // What data that are not looked at hold.
 fn unjudged(bytes: &[u8]) -> What
     ensures { result ≡ unjudged bytes.now }
@@ -86,14 +79,28 @@ fn unjudged(bytes: &[u8]) -> What
     }
 }
 
+// The same of those behind so many.
+fn unjudged_behind(n: usize, bytes: &[u8]) -> What
+    ensures { result ≡ unjudged (drop n bytes.now) }
+{
+    match bytes.get(n..) {
+        Some(rest) => unjudged(rest),
+        None => What::Other,
+    }
+}
+
 // What the data of a part hold that are no Exif data.
 fn what_of(kind: Kind, bytes: &[u8]) -> What
     ensures { result ≡ what_of kind bytes.now }
 {
     match kind {
-        Kind::Xmp => What::Xmp,
+        Kind::Xmp | Kind::PhotoshopXmp => What::Xmp,
         Kind::Iptc => What::Iptc,
-        Kind::ExtendedXmp
+        Kind::Jfif => unjudged_behind(14, bytes),
+        Kind::Adobe => unjudged_behind(12, bytes),
+        Kind::JfifThumbnail
+        | Kind::PhotoshopOther
+        | Kind::ExtendedXmp
         | Kind::Comment
         | Kind::ContentCredentials
         | Kind::Trailer
@@ -143,7 +150,7 @@ fn erase_part(
     ensures { IfOk result (λ left. (bytes.new, left) ≡ part_answer unread kind bytes.old) }
 {
     match kind {
-        Kind::Exif => erase_further(alloc, unread, bytes),
+        Kind::Exif | Kind::PhotoshopExif => erase_further(alloc, unread, bytes),
         _ => Ok(erase_other(unread, kind, bytes)),
     }
 }

@@ -1,6 +1,6 @@
 //! Why Exif data may still hold a location.
 
-ghost use Rattle.std.specs.Prelude.{◌≡◌, OnOk};
+ghost use Rattle.std.specs.Prelude.{◌≡◌, OnOk, Some};
 ghost use Rattle.exif_data_locations.specs.Erasing.{noted_if};
 ghost use Rattle.exif_data_locations.specs.Regions.{can_be_blanked};
 
@@ -32,6 +32,8 @@ pub enum Why {
     ResourcesNotRead,
     /// A resource of Photoshop holds Exif data of its own.
     ExifResource,
+    /// Another resource of Photoshop may hold a text or a picture.
+    OtherResource,
     /// The XMP packet or the IPTC data of this tag, or a resource in it, have texts or keywords.
     Texts(u16),
     /// This field is a text.
@@ -56,8 +58,12 @@ impl Why {
 }
 
 impl fmt::Display for Why {
+    ghost use Rattle.exif_data_locations.specs.WhyTexts.{why_text};
+
+    ghost output = { λ why. Some (why_text why) };
+
     fn fmt<W: fmt::Write>(&self, f: &mut fmt::Formatter<W>) -> fmt::Result {
-        match self {
+        match *self {
             Why::NotChanged => write!(f, "the data can't be read"),
             Why::GpsShared => write!(f, "GPS data share their bytes with other data"),
             Why::GpsNotFollowed => write!(f, "GPS pointers are not followed"),
@@ -72,6 +78,7 @@ impl fmt::Display for Why {
             }
             Why::ResourcesNotRead => write!(f, "resources of Photoshop can't be read"),
             Why::ExifResource => write!(f, "a resource of Photoshop holds Exif data"),
+            Why::OtherResource => write!(f, "a resource of Photoshop is not searched"),
             Why::Texts(tag) => write!(f, "texts of tag {tag} are not judged"),
             Why::Text(tag) => write!(f, "the text of {tag} is not judged"),
             Why::TypeNotKnown(tag) => write!(f, "the type of tag {tag} is not known"),

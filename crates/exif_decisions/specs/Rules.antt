@@ -23,6 +23,10 @@ action_for Link false is_own recursive = SkipLink
 action_for Other false is_own recursive = Ignore
 action_for File false is_own recursive = if is_own then SkipOwn else ProcessPicture
 
+-- the names of files that are being written
+abbrev pub is_temporary : List ℕ → Bool
+is_temporary name = starts_with nat_eq name (codes ".mexaldor-")
+
 -- the names of backups, and of files that are being written
 abbrev pub is_own : List ℕ → Bool
 is_own name = starts_with nat_eq name (codes ".mexaldor-") || ends_with nat_eq name (codes ".orig")

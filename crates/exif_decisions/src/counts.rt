@@ -1,26 +1,46 @@
 //! How many files were processed, refused and skipped.
 
-ghost use Rattle.std.specs.Prelude.{◌≡◌, ◌+◌};
+ghost use Rattle.std.specs.Prelude.{◌≡◌};
 ghost use Rattle.exif_files.specs.declared.outcome.Status.{Status};
-ghost use Rattle.exif_decisions.specs.Tallies.{counted_done, counted_refused, status_after};
+ghost use Rattle.exif_decisions.specs.Tallies.{counted_done, counted_partial, counted_current, counted_unchanged, counted_refused, counted_not_read, counted_others, one_more, status_after};
 
+use crate::endings::Ending;
 use crate::formats::{ALL, Unsupported};
+use crate::found::{Found, NotRead};
+use crate::outcome::Outcome;
 use exif_files::Status;
 use std::fmt;
+
+// The sidecars, in the order in which a summary names them.
+const SIDECARS: [Ending; 3] = [Ending::Xmp, Ending::Aae, Ending::Thm];
 
 /// How many files were processed, refused and skipped.
 #[derive(Clone, Copy)]
 pub struct Counts {
-    /// Those that were processed.
+    /// Those with which something was done.
     pub done: u64,
+    /// Those of these with which not all was done.
+    pub partial: u64,
+    /// Those that were as requested already.
+    pub current: u64,
+    /// Those with which nothing was done.
+    pub unchanged: u64,
     /// Those that were refused.
     pub refused: u64,
+    /// Pictures, videos, documents and sidecars that were found in folders and not read.
+    pub not_read: u64,
+    /// Other files that were found in folders.
+    pub others: u64,
     /// Links that were found in folders.
     pub links: u64,
     /// Files of the program's own that were found in folders.
     pub own: u64,
-    // pictures in formats that are not supported, in the order of `ALL`
-    formats: [u64; 4],
+    // those that were not read: by formats, in the order of `ALL`
+    formats: [u64; 9],
+    // damaged or empty
+    damaged: u64,
+    // in the order of `SIDECARS`
+    sidecars: [u64; 3],
 }
 
 impl Counts {
@@ -28,133 +48,243 @@ impl Counts {
     pub fn new() -> Counts {
         Counts {
             done: 0,
+            partial: 0,
+            current: 0,
+            unchanged: 0,
             refused: 0,
+            not_read: 0,
+            others: 0,
             links: 0,
             own: 0,
-            formats: [0; 4],
+            formats: [0; 9],
+            damaged: 0,
+            sidecars: [0; 3],
         }
     }
 
-    /// One more file.
-    pub fn add(&mut self, status: Status)
-        ensures done { self.new.done ≡ counted_done status self.old.done }
-        ensures refused { self.new.refused ≡ counted_refused status self.old.refused }
+    /// One more file that was processed, or refused.
+    pub fn add(&mut self, outcome: Outcome)
+        ensures done { self.new.done ≡ counted_done outcome self.old.done }
+        ensures partial { self.new.partial ≡ counted_partial outcome self.old.partial }
+        ensures current { self.new.current ≡ counted_current outcome self.old.current }
+        ensures unchanged { self.new.unchanged ≡ counted_unchanged outcome self.old.unchanged }
+        ensures refused { self.new.refused ≡ counted_refused outcome self.old.refused }
+        ensures not_read { self.new.not_read ≡ self.old.not_read }
     {
-        if status == Status::Refused {
-            self.refused = self.refused.saturating_add(1);
-        } else {
-            self.done = self.done.saturating_add(1);
+        match outcome {
+            Outcome::Done => self.done = self.done.saturating_add(1),
+            Outcome::Partial => {
+                self.done = self.done.saturating_add(1);
+                self.partial = self.partial.saturating_add(1);
+            }
+            Outcome::Current => self.current = self.current.saturating_add(1),
+            Outcome::Unchanged => self.unchanged = self.unchanged.saturating_add(1),
+            Outcome::Refused => self.refused = self.refused.saturating_add(1),
         }
     }
 
-    /// One more picture in a format that is not supported.
-    pub fn skip(&mut self, format: Unsupported) {
-        for (count, known) in self.formats.iter_mut().zip(ALL) {
-            if known == format {
-                *count = count.saturating_add(1);
+    /// One more file that was found in a folder, and is skipped unless it is a picture.
+    pub fn skip(&mut self, found: Found)
+        ensures not_read { self.new.not_read ≡ counted_not_read found self.old.not_read }
+        ensures others { self.new.others ≡ counted_others found self.old.others }
+        ensures done { self.new.done ≡ self.old.done }
+        ensures refused { self.new.refused ≡ self.old.refused }
+    {
+        match found {
+            Found::Picture => {}
+            Found::Other => self.others = self.others.saturating_add(1),
+            Found::NotRead(why) => {
+                self.not_read = self.not_read.saturating_add(1);
+                self.count_by_kind(why);
             }
         }
     }
 
-    /// How many pictures are in formats that are not supported.
-    pub fn unsupported(&self) -> u64 {
-        let mut all = 0u64;
-        for count in self.formats {
-            all = all.saturating_add(count);
+    /// One more link that was found in a folder.
+    pub fn skip_link(&mut self)
+        ensures { self.new.links ≡ one_more self.old.links }
+    {
+        self.links = self.links.saturating_add(1);
+    }
+
+    /// One more file of the program's own that was found in a folder.
+    pub fn skip_own(&mut self)
+        ensures { self.new.own ≡ one_more self.old.own }
+    {
+        self.own = self.own.saturating_add(1);
+    }
+
+    // One more file that was not read, by its kind.
+    fn count_by_kind(&mut self, why: NotRead)
+        ensures not_read { self.new.not_read ≡ self.old.not_read }
+        ensures others { self.new.others ≡ self.old.others }
+        ensures done { self.new.done ≡ self.old.done }
+        ensures refused { self.new.refused ≡ self.old.refused }
+    {
+        match why {
+            NotRead::Damaged(_) | NotRead::Empty(_) => self.damaged = self
+                .damaged
+                .saturating_add(1),
+            NotRead::Format(format) => count_format(&mut self.formats, format),
+            NotRead::Sidecar(ending) => count_sidecar(&mut self.sidecars, ending),
         }
-        all
     }
 }
 
-/// The status of a run: the worst of a file, and not a success where a picture was skipped.
-pub fn status_of(worst: Status, unsupported: u64) -> Status
-    ensures { result ≡ status_after worst unsupported }
+fn count_format(counts: &mut [u64; 9], format: Unsupported) {
+    for (count, known) in counts.iter_mut().zip(ALL) {
+        if known == format {
+            *count = count.saturating_add(1);
+        }
+    }
+}
+
+fn count_sidecar(counts: &mut [u64; 3], ending: Ending) {
+    for (count, known) in counts.iter_mut().zip(SIDECARS) {
+        if known == ending {
+            *count = count.saturating_add(1);
+        }
+    }
+}
+
+/// The status of a run: the worst of a file, and not a success where a file was not read.
+pub fn status_of(worst: Status, not_read: u64) -> Status
+    ensures { result ≡ status_after worst not_read }
 {
-    if unsupported > 0 {
+    if not_read > 0 {
         worst.or_worse(Status::Incomplete)
     } else {
         worst
     }
 }
 
-/// The summary of a run, as `812 changed, 3 refused, 14 skipped (12 GIF, 2 raw: format not
-/// supported)`.
+/// The summary of a run, as `812 changed (3 not completely), 2 left unchanged, 3 refused, 14
+/// skipped (12 GIF, 2 raw: format not supported)`.
 #[derive(Clone, Copy)]
 pub struct Summary<'a> {
     /// What was done with the files.
     pub verb: &'a str,
+    /// What is said of those with which not all was done.
+    pub partial: &'a str,
     /// How many.
     pub counts: &'a Counts,
 }
 
 impl fmt::Display for Summary<'_> {
     fn fmt<W: fmt::Write>(&self, f: &mut fmt::Formatter<W>) -> fmt::Result {
-        let Counts {
-            done,
-            refused,
-            links,
-            own,
-            formats: _,
-        } = *self.counts;
         let verb = self.verb;
-        let unsupported = self.counts.unsupported();
-        let skipped = unsupported.saturating_add(links).saturating_add(own);
-        write!(f, "{done} {verb}, {refused} refused, {skipped} skipped")?;
-        if skipped == 0 {
+        let counts = self.counts;
+        let done = counts.done;
+        write!(f, "{done} {verb}")?;
+        if counts.partial > 0 {
+            let (count, partial) = (counts.partial, self.partial);
+            write!(f, " ({count} {partial})")?;
+        }
+        if counts.current > 0 {
+            let current = counts.current;
+            write!(f, ", {current} already so")?;
+        }
+        if counts.unchanged > 0 {
+            let unchanged = counts.unchanged;
+            write!(f, ", {unchanged} left unchanged")?;
+        }
+        let refused = counts.refused;
+        write!(f, ", {refused} refused, ")?;
+        write_skipped(f, counts)
+    }
+}
+
+// How many files were skipped, and of which kinds.
+fn write_skipped<W: fmt::Write>(f: &mut fmt::Formatter<W>, counts: &Counts) -> fmt::Result {
+    let skipped = counts
+        .not_read
+        .saturating_add(counts.others)
+        .saturating_add(counts.links)
+        .saturating_add(counts.own);
+    write!(f, "{skipped} skipped")?;
+    if skipped == 0 {
+        return Ok(());
+    }
+    let mut kinds = Kinds { written: 0 };
+    kinds.write_formats(f, counts)?;
+    kinds.write(f, counts.damaged, "damaged or empty file")?;
+    for (count, ending) in counts.sidecars.iter().zip(SIDECARS) {
+        kinds.write_sidecars(f, *count, ending)?;
+    }
+    kinds.write(f, counts.links, "symbolic link")?;
+    kinds.write(f, counts.own, "backup or temporary file")?;
+    kinds.write(f, counts.others, "other file")?;
+    f.write_str(")")
+}
+
+// What is written between the parentheses of a summary.
+#[derive(Drop)]
+struct Kinds {
+    // how many kinds were written
+    written: u64,
+}
+
+impl Kinds {
+    // What is before a kind.
+    fn separate<W: fmt::Write>(&mut self, f: &mut fmt::Formatter<W>) -> fmt::Result {
+        let before = if self.written == 0 { " (" } else { "; " };
+        self.written = self.written.saturating_add(1);
+        f.write_str(before)
+    }
+
+    // How many there are of something, if there are some.
+    fn write<W: fmt::Write>(
+        &mut self,
+        f: &mut fmt::Formatter<W>,
+        count: u64,
+        what: &str,
+    ) -> fmt::Result {
+        if count == 0 {
             return Ok(());
         }
-        f.write_str(" (")?;
-        if unsupported > 0 {
-            write_formats(f, self.counts)?;
-        }
-        if links > 0 {
-            separate(f, unsupported > 0)?;
-            write_count(f, links, "symbolic link")?;
-        }
-        if own > 0 {
-            separate(f, unsupported > 0 || links > 0)?;
-            write_count(f, own, "backup or temporary file")?;
-        }
-        f.write_str(")")
+        self.separate(f)?;
+        let plural = if count == 1 { "" } else { "s" };
+        write!(f, "{count} {what}{plural}")
     }
-}
 
-fn separate<W: fmt::Write>(f: &mut fmt::Formatter<W>, is_needed: bool) -> fmt::Result {
-    if is_needed {
-        return f.write_str("; ");
-    }
-    Ok(())
-}
-
-// How many there are of something.
-fn write_count<W: fmt::Write>(f: &mut fmt::Formatter<W>, count: u64, what: &str) -> fmt::Result {
-    if count == 1 {
-        return write!(f, "1 {what}");
-    }
-    write!(f, "{count} {what}s")
-}
-
-// The formats that are not supported, and how many pictures there are of each.
-fn write_formats<W: fmt::Write>(f: &mut fmt::Formatter<W>, counts: &Counts) -> fmt::Result {
-    let mut is_first = true;
-    for (count, format) in counts.formats.iter().zip(ALL) {
-        if *count > 0 {
-            write_format(f, *count, format, is_first)?;
-            is_first = false;
+    // How many sidecars there are of a kind.
+    fn write_sidecars<W: fmt::Write>(
+        &mut self,
+        f: &mut fmt::Formatter<W>,
+        count: u64,
+        ending: Ending,
+    ) -> fmt::Result {
+        if count == 0 {
+            return Ok(());
         }
+        self.separate(f)?;
+        let name = ending.name();
+        let plural = if count == 1 { "" } else { "s" };
+        write!(f, "{count} {name} sidecar{plural}")
     }
-    f.write_str(": format not supported")
-}
 
-fn write_format<W: fmt::Write>(
-    f: &mut fmt::Formatter<W>,
-    count: u64,
-    format: Unsupported,
-    is_first: bool,
-) -> fmt::Result {
-    let name = format.name();
-    if is_first {
-        return write!(f, "{count} {name}");
+    // The formats that are not read, and how many files there are of each.
+    fn write_formats<W: fmt::Write>(
+        &mut self,
+        f: &mut fmt::Formatter<W>,
+        counts: &Counts,
+    ) -> fmt::Result {
+        let mut is_first = true;
+        for (count, format) in counts.formats.iter().zip(ALL) {
+            if *count > 0 {
+                if is_first {
+                    self.separate(f)?;
+                } else {
+                    f.write_str(", ")?;
+                }
+                is_first = false;
+                let name = format.name();
+                write!(f, "{count} {name}")?;
+            }
+        }
+        if is_first {
+            return Ok(());
+        }
+        f.write_str(": format not supported")
     }
-    write!(f, ", {count} {name}")
 }

@@ -1,7 +1,7 @@
 //! What the program does with a name, an OUT and a word.
 
 ghost use Rattle.std.specs.Prelude.{◌≡◌, true};
-ghost use Rattle.exif_decisions.specs.Rules.{action_for, destination_for, is_own, assigns};
+ghost use Rattle.exif_decisions.specs.Rules.{action_for, destination_for, is_own, is_temporary, assigns};
 
 /// What a path is.
 #[derive(Clone, Copy, PartialEq, Eq)]
@@ -54,6 +54,14 @@ pub fn is_own_name(name: &str) -> bool
 {
     let name = name.as_bytes();
     name.starts_with(b".mexaldor-") || name.ends_with(b".orig")
+}
+
+/// Whether a file's name is that of a file that is being written, or that a run left which was
+/// interrupted.
+pub fn is_temporary_name(name: &str) -> bool
+    ensures { result ≡ is_temporary name.now }
+{
+    name.as_bytes().starts_with(b".mexaldor-")
 }
 
 /// What an OUT is.

@@ -77,3 +77,8 @@ not_removed error f g h k e (inr more) cause count = record { once = omega (arit
 pub removal_failed : {T E : Type 0} (r : Result T E) (error : WriteError) (f g h k : ℕ) → g ≡ f → FailsOrNot g h → (error ≢ Taken → count_after true g ≤ h) → k ≡ count_after (is_err r) h → OnErr r (FailedToRemove error f k)
 removal_failed (Ok x) error f g h k e rises cause count = tt
 removal_failed (Err x) error f g h k e rises cause count = not_removed error f g h k e rises cause count
+
+-- a call that failed before others, and before a removal
+pub more_after : {T E : Type 0} (r : Result T E) (f g h k : ℕ) → g ≡ f → k ≡ count_after (is_err r) h → count_after true g ≤ h → count_after true f ≤ k
+more_after (Ok x) f g h k e count more = omega (arith, e, count, more)
+more_after (Err x) f g h k e count more = omega (arith, e, count, more)

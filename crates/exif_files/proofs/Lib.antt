@@ -2,6 +2,7 @@ pub mod Counts
 pub mod Edits
 pub mod Filling
 pub mod Moving
+pub mod NameSteps
 pub mod NewFiles
 pub mod Runs
 pub mod Whole

@@ -1,10 +1,12 @@
 -- What the calls make of the states by which a filled file gets its name.
 use Rattle.std.proofs.Common.{◌≡◌, ◌≢◌, ◌⊎◌, ℕ, List, [], ◌∷◌, ◌++◌, Bool, subst, Option, None, Some, true, false, sym, ap, refl, ◌∙◌, inl, inr, Result, Ok, Err, OnOk, OnErr, arith}
 use Rattle.exif_files.specs.States.{Entry, State, Holds, Elsewhere, Now, Run}
+use Rattle.std.specs.Prelude.{⊤}
+use Rattle.exif_files.specs.NewNames.{IsThere}
 use Rattle.exif_files.specs.Steps.{Syncs, Links, Renames, Removes, Moves, MovesIfFree, Does, count_after}
 use Rattle.exif_files.specs.Written.{IsLike, IsNew, FailedTwice, none_failed}
 use Rattle.exif_files.specs.Parts.{FailsOrNot, FailsOnceOrNot, IsAppended, HasAccess, IsFreeFor, IsMoving, IsMoved, IsNotMoved, IsPutting, IsPut, IsNotPut}
-use Rattle.exif_files.proofs.Runs.{run_begin, run_none, run_one, run_then, run_step, run_stay, run_weaker}
+use Rattle.exif_files.proofs.Runs.{now_any, run_now, run_begin, run_none, run_one, run_then, run_step, run_stay, run_weaker}
 use Rattle.exif_files.proofs.Filling.{elsewhere_then}
 use Rattle.exif_files.proofs.Counts.{same_or_other, calm_same, calmer_before, twice_since}
 
@@ -170,6 +172,11 @@ pub run_synced : (name beside bytes : List ℕ) (times calm : Bool) (a b c : Lis
     → Moves (Syncs beside) b c → Run (Elsewhere beside) (IsReadyIf true name beside bytes times calm) a c
 run_synced name beside bytes times calm a b c run m =
     run_step (Syncs beside) run m (λ s t h. h) (λ s t u x y. elsewhere_then beside s t u x.others y.others) (synced name beside bytes times calm)
+
+-- the old one is there
+pub ready_there : (name beside bytes : List ℕ) (times calm : Bool) (a b : List State) → name ≢ beside → Run (Elsewhere beside) (IsReadyIf true name beside bytes times calm) a b → Now b (IsThere name)
+ready_there name beside bytes times calm a b apart run =
+    run_now (λ s. ⊤) (IsThere name) a b (now_any a) run (λ s t any x none. let is = x.file.1 in let same = x.others name apart in cc)
 
 -- while only the file beside is another, the old one is there
 pub putting_before : (name beside : List ℕ) (backup : Option (List ℕ)) (bytes : List ℕ) (times calm : Bool) → name ≢ beside → (s t : State) → Elsewhere beside s t → IsPutting name beside backup bytes times calm s t

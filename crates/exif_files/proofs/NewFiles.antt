@@ -1,11 +1,12 @@
 -- What the calls make of the states by which a new file is made.
-use Rattle.std.proofs.Common.{◌≡◌, ◌≢◌, ◌⊎◌, ℕ, List, [], ◌∷◌, ◌++◌, Bool, subst, None, Some, true, false, sym, ap, ◌∙◌, inl, inr, Result, Ok, Err, OnErr}
+use Rattle.std.proofs.Common.{◌≡◌, ◌≢◌, ◌⊎◌, ℕ, List, [], ◌∷◌, ◌++◌, Bool, subst, None, Some, true, false, sym, ap, ◌∙◌, inl, inr, Result, Ok, Err, OnOk, OnErr}
 use Rattle.std.specs.Prelude.{IsTrue, ◌↔◌}
 use Rattle.exif_files.specs.States.{Entry, State, Holds, Elsewhere, Now, Run}
-use Rattle.exif_files.specs.Steps.{Creates, Syncs, Renames, Removes, Settles, Moves, Does}
+use Rattle.exif_files.specs.Steps.{Creates, Syncs, Removes, Settles, Moves, Does}
 use Rattle.exif_files.specs.Names.{IsHidden}
-use Rattle.exif_files.specs.Written.{IsMade, IsWholeNew, IsCreated, IsCreatedForGood, IsNotCreated}
-use Rattle.exif_files.specs.Parts.{IsAppended, IsPuttingNew, IsPutNew}
+use Rattle.exif_files.specs.NewNames.{IsNamedTwice, IsRenamed, IsRenaming, IsNotRenamed}
+use Rattle.exif_files.specs.Written.{IsMade, IsMadeOrHeld, IsWholeNew, IsCreated, IsCreatedForGood, IsNotCreated}
+use Rattle.exif_files.specs.Parts.{IsAppended, IsPuttingNew, IsPutNew, IsNotPutNew}
 use Rattle.exif_files.proofs.Runs.{run_begin, run_one, run_then, run_step, run_stay, run_weaker}
 use Rattle.exif_files.proofs.Counts.{same_or_other}
 use Rattle.exif_files.proofs.Filling.{elsewhere_then}
@@ -60,96 +61,129 @@ module _ (name beside bytes : List ℕ) (mode : ℕ) (apart : name ≢ beside) w
   run_ready_new a b c made run m =
       run_step (Syncs beside) (run_filled_new a b made run) m (λ s t h. h) (λ s t u x y. elsewhere_then beside s t u x.others y.others) ready_new
 
-  -- what only changed the file beside
-  pub run_beside : (a b c : List State) → Run (Elsewhere beside) IsReadyNew a b → c ≡ b → Run (Elsewhere beside) (Elsewhere beside) a c
-  run_beside a b c run same = run_weaker (run_stay run same) (λ s t h. h) (λ s t h. h.others)
+  put_made : (s t u : State) → IsReadyNew s t → t.at name ≡ None → u.at name ≡ t.at beside → IsMade name bytes mode s u
+  put_made s t u x free e = (sym (x.others name apart) ∙ free, (x.file.0, e ∙ x.file.1, x.file.2))
 
-  made : (s t u : State) → t.at name ≡ None → IsReadyNew s t → Renames beside name t u → IsMade name bytes mode s u
-  made s t u free x y = (sym (x.others name apart) ∙ free, (x.file.0, y.file ∙ x.file.1, x.file.2))
+  module _ (failed : Type 0) where
+    putting_before : (s t : State) → Elsewhere beside s t → IsPuttingNew name beside bytes mode failed s t
+    putting_before s t others = record { file = inl (others name apart); others = λ n ne ne'. others n ne' }
 
-  with_now : {P Q : State → State → Type 0} (X : State → Type 0) (a b : List State) → Run P Q a b → Now b X → Run P (λ s t. Q s t × X t) a b
-  with_now X a b run now = record {
-    told = λ s past e. let x = run.told s past e in
-        record { now = x.now; earlier = x.earlier; since = x.since; is = x.is; begun = x.begun; each = x.each; last = (x.last, known X b now x.now x.earlier x.is) };
-  }
-    where
-      known : (X : State → Type 0) (b : List State) → Now b X → (s : State) (past : List State) → b ≡ s ∷ past → X s
-      known X [] now s past e = cc
-      known X (t ∷ rest) now s past e = let same : t ≡ s = cc in subst X same now
+    named_file : (s t u : State) → IsReadyNew s t → t.at name ≡ None → (u.at name ≡ t.at beside) ⊎ (Holds u name (λ f. f.bytes ≡ []) × failed) → (u.at name ≡ s.at name) ⊎ IsMadeOrHeld name bytes mode failed s u
+    named_file s t u x free (inl e) = inr (inl (put_made s t u x free e))
+    named_file s t u x free (inr (empty, yes_)) = inr (inr ((sym (x.others name apart) ∙ free, empty), yes_))
 
-  -- the name was free, and has the new file now
-  pub run_put_new : (a b c : List State) → Run (Elsewhere beside) IsReadyNew a b → Now b (λ s. s.at name ≡ None) → Moves (Renames beside name) b c
-      → Run (IsPuttingNew name beside bytes mode) (IsPutNew name beside bytes mode) a c
-  run_put_new a b c ready free m =
-      run_step (Renames beside name) (with_now (λ s. s.at name ≡ None) a b ready free) m
-      (λ s t others. record { file = inl (others name apart); others = λ n ne ne'. others n ne' })
-      (λ s t u (x, free) y. record { file = inr (made s t u free x y); others = λ n ne ne'. y.others n ne' ne ∙ x.others n ne' })
-      (λ s t u (x, free) y. record { file = made s t u free x y; gone = y.gone; others = λ n ne ne'. y.others n ne' ne ∙ x.others n ne' })
+    putting_named : (s t u : State) → IsReadyNew s t → IsNamedTwice beside name failed t u → IsPuttingNew name beside bytes mode failed s u
+    putting_named s t u x y = record { file = named_file s t u x y.free y.file; others = λ n ne ne'. y.others n ne ∙ x.others n ne' }
 
-  module _ (hidden : IsHidden beside) where
-    new_before : (s t : State) → s.at beside ≡ None → Elsewhere beside s t → IsWholeNew name bytes mode s t
-    new_before s t free others = record { file = inl (others name apart); others = λ n ne fresh. others n (not_beside None beside hidden s free n fresh) }
+    putting_after : (s t u : State) → IsReadyNew s t → IsRenaming beside name failed t u → IsPuttingNew name beside bytes mode failed s u
+    putting_after s t u x (inl same) = record { file = inl (same name ∙ x.others name apart); others = λ n ne ne'. same n ∙ x.others n ne' }
+    putting_after s t u x (inr (inl named)) = putting_named s t u x named
+    putting_after s t u x (inr (inr y)) = record { file = inr (inl (put_made s t u x y.free y.file)); others = λ n ne ne'. y.others n ne' ne ∙ x.others n ne' }
 
-    created_run : (a b : List State) → Moves (Creates beside mode) a b → Run (IsWholeNew name bytes mode) (Creates beside mode) a b
-    created_run a b m = run_one (Creates beside mode) m (λ s t h. new_before s t h.free h.others) (λ s t h. h)
+    not_put_after : (twice : Type 0) (s t u : State) → IsReadyNew s t → IsNotRenamed beside name failed twice t u → IsNotPutNew name beside bytes mode failed twice s u
+    not_put_after twice s t u x (inl same) = inl (λ n ne. same n ∙ x.others n ne)
+    not_put_after twice s t u x (inr (named, both)) = inr (putting_named s t u x named, both)
 
-    file_since : (s t u : State) → t.at name ≡ s.at name → (u.at name ≡ t.at name) ⊎ IsMade name bytes mode t u → (u.at name ≡ s.at name) ⊎ IsMade name bytes mode s u
-    file_since s t u same (inl old) = inl (old ∙ same)
-    file_since s t u same (inr new) = inr (sym same ∙ new.0, new.1)
+    -- only the file beside was changed
+    pub run_only_beside : (twice : Type 0) (a b : List State) → Run (Elsewhere beside) (Elsewhere beside) a b → Run (IsPuttingNew name beside bytes mode failed) (IsNotPutNew name beside bytes mode failed twice) a b
+    run_only_beside twice a b run = run_weaker run putting_before (λ s t x. inl x)
 
-    -- the new file has the name
-    run_created : (a b c : List State) → Moves (Creates beside mode) a b → Run (IsPuttingNew name beside bytes mode) (IsPutNew name beside bytes mode) b c
-        → Run (IsWholeNew name bytes mode) (IsCreated name bytes mode) a c
-    run_created a b c m run =
-        run_then (created_run a b m) run (λ s t h. h)
-        (λ s t u x y. record {
-          file = file_since s t u (x.others name apart) y.file;
-          others = λ n ne fresh. let ne' = not_beside None beside hidden s x.free n fresh in y.others n ne ne' ∙ x.others n ne';
-        })
-        (λ s t u x y. record {
-          file = (sym (x.others name apart) ∙ y.file.0, y.file.1);
-          others = λ n ne. elim (same_or_other n beside) [
-            | inl e ↦ ap u.at e ∙ y.gone ∙ sym x.free ∙ ap s.at (sym e)
-            | inr ne' ↦ y.others n ne ne' ∙ x.others n ne'
-          ];
-        })
+    -- the name was free, and has the new file now
+    pub run_put_new : {T E : Type 0} (r : Result T E) (a b c : List State) → Run (Elsewhere beside) IsReadyNew a b → OnOk r (Run (IsRenaming beside name failed) (IsRenamed beside name) b c)
+        → OnOk r (Run (IsPuttingNew name beside bytes mode failed) (IsPutNew name beside bytes mode) a c)
+    run_put_new (Ok x) a b c ready run =
+        run_then ready run putting_before putting_after
+        (λ s t u x y. record { file = put_made s t u x y.free y.file; gone = y.gone; others = λ n ne ne'. y.others n ne' ne ∙ x.others n ne' })
+    run_put_new (Err e) a b c ready run = tt
 
-    pub run_new_for_good : (a b c d : List State) → Moves (Creates beside mode) a b → Run (IsPuttingNew name beside bytes mode) (IsPutNew name beside bytes mode) b c → Moves (Settles name) c d
-        → Run (IsWholeNew name bytes mode) (IsCreatedForGood name bytes mode) a d
-    run_new_for_good a b c d m run m' =
-        run_step (Settles name) (run_created a b c m run) m' (λ s t h. h)
-        (λ s t u x y. record { file = inr (x.file.0, (x.file.1.0, y.same name ∙ x.file.1.1, x.file.1.2)); others = λ n ne fresh. y.same n ∙ x.others n ne })
-        (λ s t u x y. record { created = record { file = (x.file.0, (x.file.1.0, y.same name ∙ x.file.1.1, x.file.1.2)); others = λ n ne. y.same n ∙ x.others n ne }; settled = y.settled })
+    pub run_not_put_new : {T E : Type 0} (r : Result T E) (twice : Type 0) (a b c : List State) → Run (Elsewhere beside) IsReadyNew a b → OnErr r (Run (IsRenaming beside name failed) (IsNotRenamed beside name failed twice) b c)
+        → OnErr r (Run (IsPuttingNew name beside bytes mode failed) (IsNotPutNew name beside bytes mode failed twice) a c)
+    run_not_put_new (Err e) twice a b c ready run = run_then ready run putting_before putting_after (not_put_after twice)
+    run_not_put_new (Ok x) twice a b c ready run = tt
 
-    pub run_new_unsettled : (end : Type 0) (a b c d : List State) → Moves (Creates beside mode) a b → Run (IsPuttingNew name beside bytes mode) (IsPutNew name beside bytes mode) b c → d ≡ c
-        → Run (IsWholeNew name bytes mode) (IsNotCreated name bytes mode end) a d
-    run_new_unsettled end a b c d m run same = run_weaker (run_stay (run_created a b c m run) same) (λ s t h. h) (λ s t h. inr (inl h))
+    module _ (failed' : Type 0) (more : failed → failed') (hidden : IsHidden beside) where
+      new_before : (s t : State) → s.at beside ≡ None → Elsewhere beside s t → IsWholeNew name bytes mode failed' s t
+      new_before s t free others = record { file = inl (others name apart); others = λ n ne fresh. others n (not_beside None beside hidden s free n fresh) }
 
-    begun_new : (a b c : List State) → Moves (Creates beside mode) a b → Run (Elsewhere beside) (Elsewhere beside) b c → Run (IsWholeNew name bytes mode) (λ s u. (s.at beside ≡ None) × Elsewhere beside s u) a c
-    begun_new a b c m run =
-        run_then (created_run a b m) run (λ s t h. h)
-        (λ s t u x y. new_before s u x.free (elsewhere_then beside s t u x.others y))
-        (λ s t u x y. (x.free, elsewhere_then beside s t u x.others y))
+      created_run : (a b : List State) → Moves (Creates beside mode) a b → Run (IsWholeNew name bytes mode failed') (Creates beside mode) a b
+      created_run a b m = run_one (Creates beside mode) m (λ s t h. new_before s t h.free h.others) (λ s t h. h)
 
-    -- only the file beside was changed, and it was removed; or its removal failed too
-    pub run_not_created : {T E : Type 0} (r : Result T E) (end : Type 0) (a b c d : List State) (f f' : ℕ) → Moves (Creates beside mode) a b → Run (Elsewhere beside) (Elsewhere beside) b c
-        → Does (Removes beside) c d f f' r → OnErr r end → Run (IsWholeNew name bytes mode) (IsNotCreated name bytes mode end) a d
-    run_not_created (Ok x) end a b c d f f' m run does failed =
-        run_step (Removes beside) (begun_new a b c m run) does.done (λ s t h. h)
-        (λ s u v x y. record { file = inl (y.others name apart ∙ x.1 name apart); others = λ n ne fresh. let ne' = not_beside None beside hidden s x.0 n fresh in y.others n ne' ∙ x.1 n ne' })
-        (λ s u v x y. inl (λ n. elim (same_or_other n beside) [
-          | inl e ↦ ap v.at e ∙ y.gone ∙ sym x.0 ∙ ap s.at (sym e)
-          | inr ne ↦ y.others n ne ∙ x.1 n ne
-        ]))
-    run_not_created (Err e) end a b c d f f' m run does failed =
-        run_weaker (run_stay (begun_new a b c m run) does.failed) (λ s t h. h)
-        (λ s u x. inr (inr (record { same = x.1 name apart; others = λ n fresh. x.1 n (not_beside None beside hidden s x.0 n fresh) }, failed)))
+      file_since : (s t u : State) → t.at name ≡ s.at name → (u.at name ≡ t.at name) ⊎ IsMadeOrHeld name bytes mode failed t u → (u.at name ≡ s.at name) ⊎ IsMadeOrHeld name bytes mode failed' s u
+      file_since s t u same (inl old) = inl (old ∙ same)
+      file_since s t u same (inr (inl new)) = inr (inl (sym same ∙ new.0, new.1))
+      file_since s t u same (inr (inr (held, yes_))) = inr (inr ((sym same ∙ held.0, held.1), more yes_))
 
--- the test of a name was true, or false
-pub free_now : (name : List ℕ) (free : Bool) (a : List State) → free ≡ true → Now a (λ s. IsTrue free ↔ (s.at name ≡ None)) → Now a (λ s. s.at name ≡ None)
-free_now name free [] is now = tt
-free_now name free (s ∷ past) is now = now.0 is
+      file_kept : (s u v : State) → v.at name ≡ u.at name → (u.at name ≡ s.at name) ⊎ IsMadeOrHeld name bytes mode failed' s u → (v.at name ≡ s.at name) ⊎ IsMadeOrHeld name bytes mode failed' s v
+      file_kept s u v same (inl old) = inl (same ∙ old)
+      file_kept s u v same (inr (inl new)) = let f = new.1 in inr (inl (new.0, (f.0, same ∙ f.1, f.2)))
+      file_kept s u v same (inr (inr (held, yes_))) = let f = held.1 in inr (inr ((held.0, (f.0, same ∙ f.1, f.2)), yes_))
 
-pub taken_now : (name : List ℕ) (free : Bool) (a : List State) → free ≡ false → Now a (λ s. IsTrue free ↔ (s.at name ≡ None)) → Now a (λ s. s.at name ≢ None)
-taken_now name free [] is now = tt
-taken_now name free (s ∷ past) is now = λ none. let yes_ : free ≡ true = now.1 none in cc
+      whole_after : (s t u : State) → Creates beside mode s t → IsPuttingNew name beside bytes mode failed t u → IsWholeNew name bytes mode failed' s u
+      whole_after s t u x y = record {
+        file = file_since s t u (x.others name apart) y.file;
+        others = λ n ne fresh. let ne' = not_beside None beside hidden s x.free n fresh in y.others n ne ne' ∙ x.others n ne';
+      }
+
+      whole_removed : (s u v : State) → s.at beside ≡ None → IsWholeNew name bytes mode failed' s u → Removes beside u v → IsWholeNew name bytes mode failed' s v
+      whole_removed s u v free x y = record {
+        file = file_kept s u v (y.others name apart) x.file;
+        others = λ n ne fresh. y.others n (not_beside None beside hidden s free n fresh) ∙ x.others n ne fresh;
+      }
+
+      -- the new file has the name
+      run_created : (a b c : List State) → Moves (Creates beside mode) a b → Run (IsPuttingNew name beside bytes mode failed) (IsPutNew name beside bytes mode) b c
+          → Run (IsWholeNew name bytes mode failed') (IsCreated name bytes mode) a c
+      run_created a b c m run =
+          run_then (created_run a b m) run (λ s t h. h) whole_after
+          (λ s t u x y. record {
+            file = (sym (x.others name apart) ∙ y.file.0, y.file.1);
+            others = λ n ne. elim (same_or_other n beside) [
+              | inl e ↦ ap u.at e ∙ y.gone ∙ sym x.free ∙ ap s.at (sym e)
+              | inr ne' ↦ y.others n ne ne' ∙ x.others n ne'
+            ];
+          })
+
+      pub run_new_for_good : (a b c d : List State) → Moves (Creates beside mode) a b → Run (IsPuttingNew name beside bytes mode failed) (IsPutNew name beside bytes mode) b c → Moves (Settles name) c d
+          → Run (IsWholeNew name bytes mode failed') (IsCreatedForGood name bytes mode) a d
+      run_new_for_good a b c d m run m' =
+          run_step (Settles name) (run_created a b c m run) m' (λ s t h. h)
+          (λ s t u x y. record { file = inr (inl (x.file.0, (x.file.1.0, y.same name ∙ x.file.1.1, x.file.1.2))); others = λ n ne fresh. y.same n ∙ x.others n ne })
+          (λ s t u x y. record { created = record { file = (x.file.0, (x.file.1.0, y.same name ∙ x.file.1.1, x.file.1.2)); others = λ n ne. y.same n ∙ x.others n ne }; settled = y.settled })
+
+      pub run_new_unsettled : (end : Type 0) (a b c d : List State) → Moves (Creates beside mode) a b → Run (IsPuttingNew name beside bytes mode failed) (IsPutNew name beside bytes mode) b c → d ≡ c
+          → Run (IsWholeNew name bytes mode failed') (IsNotCreated name bytes mode failed' end) a d
+      run_new_unsettled end a b c d m run same = run_weaker (run_stay (run_created a b c m run) same) (λ s t h. h) (λ s t h. inr (inl h))
+
+      -- what was there before the file beside is removed
+      abbrev IsBegun : Type 0 → State → State → Type 0
+      IsBegun end s u = (s.at beside ≡ None) × (Elsewhere beside s u ⊎ (IsWholeNew name bytes mode failed' s u × end))
+
+      begun_after : (twice end : Type 0) → (twice → end) → (s t u : State) → Creates beside mode s t → IsNotPutNew name beside bytes mode failed twice t u → IsBegun end s u
+      begun_after twice end then s t u x (inl y) = (x.free, inl (elsewhere_then beside s t u x.others y))
+      begun_after twice end then s t u x (inr (y, both)) = (x.free, inr (whole_after s t u x y, then both))
+
+      begun_new : (twice end : Type 0) → (twice → end) → (a b c : List State) → Moves (Creates beside mode) a b
+          → Run (IsPuttingNew name beside bytes mode failed) (IsNotPutNew name beside bytes mode failed twice) b c → Run (IsWholeNew name bytes mode failed') (IsBegun end) a c
+      begun_new twice end then a b c m run = run_then (created_run a b m) run (λ s t h. h) whole_after (begun_after twice end then)
+
+      begun_whole : (end : Type 0) (s u : State) → IsBegun end s u → IsWholeNew name bytes mode failed' s u
+      begun_whole end s u (free, inl others) = new_before s u free others
+      begun_whole end s u (free, inr (whole, both)) = whole
+
+      removed_then : (end : Type 0) (s u v : State) → IsBegun end s u → Removes beside u v → IsNotCreated name bytes mode failed' end s v
+      removed_then end s u v (free, inl others) y = inl (λ n. elim (same_or_other n beside) [
+        | inl e ↦ ap v.at e ∙ y.gone ∙ sym free ∙ ap s.at (sym e)
+        | inr ne ↦ y.others n ne ∙ others n ne
+      ])
+      removed_then end s u v (free, inr (whole, both)) y = inr (inr (whole_removed s u v free whole y, both))
+
+      -- the file beside was removed; or its removal failed too
+      pub run_not_created : {T E : Type 0} (r : Result T E) (twice end : Type 0) → (twice → end) → (a b c d : List State) (f f' : ℕ) → Moves (Creates beside mode) a b
+          → Run (IsPuttingNew name beside bytes mode failed) (IsNotPutNew name beside bytes mode failed twice) b c
+          → Does (Removes beside) c d f f' r → OnErr r end → Run (IsWholeNew name bytes mode failed') (IsNotCreated name bytes mode failed' end) a d
+      run_not_created (Ok x) twice end then a b c d f f' m run does on_failed =
+          run_step (Removes beside) (begun_new twice end then a b c m run) does.done (λ s t h. h)
+          (λ s u v x y. whole_removed s u v x.0 (begun_whole end s u x) y) (removed_then end)
+      run_not_created (Err e) twice end then a b c d f f' m run does on_failed =
+          run_weaker (run_stay (begun_new twice end then a b c m run) does.failed) (λ s t h. h)
+          (λ s u x. inr (inr (begun_whole end s u x, on_failed)))

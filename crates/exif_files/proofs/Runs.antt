@@ -1,6 +1,6 @@
 -- How runs begin and go on.
 use Rattle.std.proofs.Common.{◌≡◌, List, [], ◌∷◌, ◌++◌, ap, sym, refl, subst, ◌∙◌, append_assoc, Result, Ok, Err, OnOk, OnErr}
-use Rattle.std.specs.Prelude.{IfOk, IfErr}
+use Rattle.std.specs.Prelude.{IfOk, IfErr, ⊤}
 use Rattle.std.specs.List.{AllByRecursion}
 use Rattle.exif_files.specs.States.{State, Now, Run}
 use Rattle.exif_files.specs.Steps.{Moves}
@@ -22,12 +22,14 @@ now_told P (t ∷ rest) now s past e = let same : t ≡ s = cc in subst P same n
 pub run_begin : (P : State → State → Type 0) (R : State → Type 0) (old : List State) → Now old R → Run P (λ s t. (t ≡ s) × R s) old old
 run_begin P R old now = record {
   told = λ s past e. record { now = s; earlier = past; since = []; is = e; begun = refl; each = tt; last = (refl, now_told R old now s past e) };
+  none = λ e. e;
 }
 
 -- a call that changed nothing
 pub run_none : {P Q : State → State → Type 0} {old new : List State} → new ≡ old → ((s : State) → Q s s) → Run P Q old new
 run_none e q = record {
   told = λ s past is. record { now = s; earlier = past; since = []; is = e ∙ is; begun = refl; each = tt; last = q s };
+  none = λ is. e ∙ is;
 }
 
 moved : (step : State → State → Type 0) (old new : List State) → Moves step old new → (s : State) (past : List State) → old ≡ s ∷ past → (t : State) × step s t × (new ≡ t ∷ s ∷ past)
@@ -36,12 +38,17 @@ moved step (x ∷ rest) new m s past e =
     let head : x ≡ s = cc in
     (m.0, subst (λ (y : State). step y m.0) head m.1, m.2 ∙ ap (λ xs. m.0 ∷ xs) e)
 
+moves_none : (step : State → State → Type 0) (old new : List State) → Moves step old new → old ≡ [] → new ≡ []
+moves_none step [] new m e = m
+moves_none step (x ∷ rest) new m e = cc
+
 -- one call
 pub run_one : {P Q : State → State → Type 0} {old new : List State} (step : State → State → Type 0) → Moves step old new
     → ((s t : State) → step s t → P s t) → ((s t : State) → step s t → Q s t) → Run P Q old new
 run_one {old = old} {new = new} step m p q = record {
   told = λ s past e. let one = moved step old new m s past e in
       record { now = one.0; earlier = s ∷ past; since = one.0 ∷ []; is = one.2; begun = refl; each = (p s one.0 one.1, tt); last = q s one.0 one.1 };
+  none = moves_none step old new m;
 }
 
 -- a run, and then another
@@ -61,6 +68,7 @@ run_then {P = P} {P' = P'} {P'' = P''} first second weaker p q = record {
         each = every_append (P'' s) y.since x.since (every_map (P' x.now) (P'' s) y.since (λ u. p s x.now u x.last) y.each) (every_map (P s) (P'' s) x.since (weaker s) x.each);
         last = q s x.now y.now x.last y.last;
       };
+  none = λ e. second.none (first.none e);
 }
 
 -- a run, and then one call
@@ -75,6 +83,7 @@ pub run_weaker : {P Q P' Q' : State → State → Type 0} {a b : List State} →
 run_weaker {P = P} {P' = P'} run p q = record {
   told = λ s past e. let x = run.told s past e in
       record { now = x.now; earlier = x.earlier; since = x.since; is = x.is; begun = x.begun; each = every_map (P s) (P' s) x.since (p s) x.each; last = q s x.now x.last };
+  none = run.none;
 }
 
 -- a run, and then a call that changed nothing
@@ -82,6 +91,7 @@ pub run_stay : {P Q : State → State → Type 0} {a b c : List State} → Run P
 run_stay run e = record {
   told = λ s past is. let x = run.told s past is in
       record { now = x.now; earlier = x.earlier; since = x.since; is = e ∙ x.is; begun = x.begun; each = x.each; last = x.last };
+  none = λ is. e ∙ run.none is;
 }
 
 -- what an answer that is an error, or none, says
@@ -93,9 +103,29 @@ pub on_err : {T E : Type 0} (P Q : Type 0) (r : Result T E) → OnErr r P → (P
 on_err P Q (Ok x) h f = tt
 on_err P Q (Err e) h f = f h
 
+pub ok_at : {T E : Type 0} (P : T → Type 0) (r : Result T E) (x : T) → r ≡ Ok x → IfOk r P → P x
+ok_at {T = T} {E = E} P r x is h = let Q : Result T E → Type 0 = λ y. IfOk y P in subst Q is h
+
 pub at_err : {T E : Type 0} (Q : Type 0) (r : Result T E) → Q → OnErr r Q
 at_err Q (Ok x) h = tt
 at_err Q (Err e) h = h
+
+-- what is known of the last state by what is known of the one that was
+pub run_now : {P Q : State → State → Type 0} (X Y : State → Type 0) (a b : List State) → Now a X → Run P Q a b → ((s t : State) → X s → Q s t → Y t) → Now b Y
+run_now X Y [] b now run f = let R : List State → Type 0 = λ xs. Now xs Y in subst R (sym (run.none refl)) tt
+run_now X Y (s ∷ past) b now run f =
+    let x = run.told s past refl in
+    let R : List State → Type 0 = λ xs. Now xs Y in
+    subst R (sym x.is) (f s x.now now x.last)
+
+-- and by a call
+pub moves_now : (X Y : State → Type 0) (step : State → State → Type 0) (a b : List State) → Now a X → Moves step a b → ((s t : State) → X s → step s t → Y t) → Now b Y
+moves_now X Y step a b now m f = run_now X Y a b now (run_one step m (λ s t h. h) (λ s t h. h)) f
+
+-- nothing is known of a state
+pub now_any : (a : List State) → Now a (λ s. ⊤)
+now_any [] = tt
+now_any (s ∷ past) = tt
 
 -- what is known of the last state, of the one that was
 pub now_back : {P Q : State → State → Type 0} (X Y : State → Type 0) (a b : List State) → Run P Q a b → ((s t : State) → Q s t → X t → Y s) → Now b X → Now a Y

@@ -2,6 +2,7 @@ pub mod Changed
 pub mod Each
 pub mod Failed
 pub mod Names
+pub mod NewNames
 pub mod Parts
 pub mod PowerLoss
 pub mod States

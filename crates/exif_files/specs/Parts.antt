@@ -5,7 +5,7 @@ use Rattle.exif_files.specs.declared.outcome.Status.{Status}
 use Rattle.exif_files.specs.States.{Entry, State, Holds, Elsewhere, Run}
 use Rattle.exif_files.specs.Changed.{IsWholeChange, IsOutcome}
 use Rattle.exif_files.specs.Steps.{count_after}
-use Rattle.exif_files.specs.Written.{IsLike, IsNew, IsMade}
+use Rattle.exif_files.specs.Written.{IsLike, IsNew, IsMade, IsMadeOrHeld}
 
 -- some calls failed, or none
 abbrev pub FailsOrNot : ℕ → ℕ → Type 0
@@ -88,9 +88,14 @@ pub record IsPutNew (name beside bytes : List ℕ) (mode : ℕ) (s t : State) : 
   pub gone : t.at beside ≡ None
   pub others : (n : List ℕ) → n ≢ name → n ≢ beside → t.at n ≡ s.at n
 
-pub record IsPuttingNew (name beside bytes : List ℕ) (mode : ℕ) (s t : State) : Type 0 where
-  pub file : (t.at name ≡ s.at name) ⊎ IsMade name bytes mode s t
+pub record IsPuttingNew (name beside bytes : List ℕ) (mode : ℕ) (failed : Type 0) (s t : State) : Type 0 where
+  pub file : (t.at name ≡ s.at name) ⊎ IsMadeOrHeld name bytes mode failed s t
   pub others : (n : List ℕ) → n ≢ name → n ≢ beside → t.at n ≡ s.at n
+
+-- the new file does not have its name, or a removal failed too
+abbrev pub IsNotPutNew : List ℕ → List ℕ → List ℕ → ℕ → Type 0 → Type 0 → State → State → Type 0
+IsNotPutNew name beside bytes mode failed twice s t =
+    Elsewhere beside s t ⊎ (IsPuttingNew name beside bytes mode failed s t × twice)
 
 -- a name was given before, and nothing was done; or its file was changed, if it could be
 abbrev pub Takes : (List ℕ → List ℕ → Type 0) → List ℕ → Option (List ℕ) → Bool → List State → List State → Bool → List (Option Status) → List (Option Status) → Type 0

@@ -1,7 +1,8 @@
 -- What is left after a process is killed, or a machine loses its power.
-use Rattle.std.specs.Prelude.{◌≡◌, ◌⊎◌, ℕ, List, [], ◌∷◌, ◌++◌, Bool, true, false, Option, None, Some, ⊤}
+use Rattle.std.specs.Prelude.{◌≤◌, ◌≡◌, ◌⊎◌, ℕ, List, [], ◌∷◌, ◌++◌, Bool, true, false, Option, None, Some, ⊤}
 use Rattle.std.specs.List.{AllByRecursion}
 use Rattle.exif_files.specs.States.{Entry, State}
+use Rattle.exif_files.specs.Steps.{count_after}
 use Rattle.exif_files.specs.Written.{IsWhole, IsWholeNew}
 
 -- what a loss of power leaves of a file: one that the disk has all of as it is, of another anything
@@ -25,10 +26,10 @@ LossLaw = (name : List ℕ) (backup : Option (List ℕ)) (bytes : List ℕ) (tim
     → MayLeave (since ++ (s ∷ past)) name left
     → (left ≡ Some old) ⊎ ((f : Entry) × (left ≡ Some f) × (f.bytes ≡ bytes))
 
--- And while a new file is made: nothing, or the whole new file.
+-- And while a new file is made: nothing, or the whole new file, unless a call failed.
 abbrev pub NewLossLaw : Type 0
-NewLossLaw = (name bytes : List ℕ) (mode : ℕ) (s : State) (past since : List State) (left : Option Entry)
+NewLossLaw = (name bytes : List ℕ) (mode failures failures' : ℕ) (s : State) (past since : List State) (left : Option Entry)
     → s.settled name ≡ true → s.at name ≡ None
-    → AllByRecursion (IsWholeNew name bytes mode s) since
+    → AllByRecursion (IsWholeNew name bytes mode (count_after true failures ≤ failures') s) since
     → MayLeave (since ++ (s ∷ past)) name left
-    → (left ≡ None) ⊎ ((f : Entry) × (left ≡ Some f) × (f.bytes ≡ bytes))
+    → (count_after true failures ≤ failures') ⊎ ((left ≡ None) ⊎ ((f : Entry) × (left ≡ Some f) × (f.bytes ≡ bytes)))

@@ -47,8 +47,9 @@ pub record Ran (P Q : State → State → Type 0) (s : State) (past new : List S
   pub each : AllByRecursion (P s) since
   pub last : Q s now
 
--- A run from the state that was: P says what each state since is to it, Q what the last is. Where
--- no states are known, nothing. P is what holds if the process is killed, Q what holds at the
--- return.
+-- A run from the state that was: P says what each state since is to it, Q what the last is. P is
+-- what holds if the process is killed, Q what holds at the return. Where no states are known, none
+-- is known at the return.
 pub record Run (P Q : State → State → Type 0) (old new : List State) : Type 0 where
   pub told : (s : State) (past : List State) → old ≡ s ∷ past → Ran P Q s past new
+  pub none : old ≡ [] → new ≡ []

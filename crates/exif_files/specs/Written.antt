@@ -1,5 +1,5 @@
 -- What a file that is written whole or not at all leaves.
-use Rattle.std.specs.Prelude.{◌≡◌, ◌≢◌, ◌≤◌, ◌-◌, ◌^◌, ◌⊎◌, ℕ, List, Bool, true, Option, None, Some, ◌==◌, ◌&&◌, ltb}
+use Rattle.std.specs.Prelude.{◌≡◌, ◌≢◌, ◌≤◌, ◌-◌, ◌^◌, ◌⊎◌, ℕ, List, [], Bool, true, Option, None, Some, ◌==◌, ◌&&◌, ltb}
 use Rattle.exif_files.specs.States.{Entry, State, Holds, Elsewhere, IsUnchanged}
 use Rattle.exif_files.specs.Steps.{count_after}
 use Rattle.exif_files.specs.Names.{IsFresh, OthersKept}
@@ -69,9 +69,19 @@ abbrev pub IsMade : List ℕ → List ℕ → ℕ → State → State → Type 0
 IsMade name bytes mode s t = (s.at name ≡ None)
     × Holds t name (λ f. (f.bytes ≡ bytes) × (f.mode ≡ mode) × (f.kept ≡ true))
 
--- in each state: the name has what it had, or the whole new file
-pub record IsWholeNew (name bytes : List ℕ) (mode : ℕ) (s t : State) : Type 0 where
-  pub file : (t.at name ≡ s.at name) ⊎ IsMade name bytes mode s t
+-- A file without bytes has a name, which nothing had. It holds the name until the new file replaces
+-- it.
+abbrev pub IsHeld : List ℕ → State → State → Type 0
+IsHeld name s t = (s.at name ≡ None) × Holds t name (λ f. f.bytes ≡ [])
+
+-- the whole new file has the name; or, where a call failed, a file without bytes
+abbrev pub IsMadeOrHeld : List ℕ → List ℕ → ℕ → Type 0 → State → State → Type 0
+IsMadeOrHeld name bytes mode failed s t = IsMade name bytes mode s t ⊎ (IsHeld name s t × failed)
+
+-- In each state: the name has what it had, or the whole new file; or, where a call failed, a file
+-- without bytes, as where no file can have two names.
+pub record IsWholeNew (name bytes : List ℕ) (mode : ℕ) (failed : Type 0) (s t : State) : Type 0 where
+  pub file : (t.at name ≡ s.at name) ⊎ IsMadeOrHeld name bytes mode failed s t
   pub others : OthersKept None name s t
 
 -- the new file, and the other names what they had
@@ -83,6 +93,8 @@ pub record IsCreatedForGood (name bytes : List ℕ) (mode : ℕ) (s t : State) :
   pub created : IsCreated name bytes mode s t
   pub settled : t.settled name ≡ true
 
-abbrev pub IsNotCreated : List ℕ → List ℕ → ℕ → Type 0 → State → State → Type 0
-IsNotCreated name bytes mode twice s t =
-    IsUnchanged s t ⊎ (IsCreated name bytes mode s t ⊎ (IsLeftOver name None s t × twice))
+-- What an error leaves: all as it was; or the new file, where only the name could not be synced; or
+-- what a state between them had, where a removal failed too.
+abbrev pub IsNotCreated : List ℕ → List ℕ → ℕ → Type 0 → Type 0 → State → State → Type 0
+IsNotCreated name bytes mode failed twice s t =
+    IsUnchanged s t ⊎ (IsCreated name bytes mode s t ⊎ (IsWholeNew name bytes mode failed s t × twice))

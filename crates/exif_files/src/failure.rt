@@ -1,7 +1,7 @@
 //! Why a file was not written.
 
 ghost use Rattle.std.specs.Prelude.{◌≡◌, ◌≢◌};
-ghost use Rattle.exif_files.specs.declared.failure.WriteError.TheVariants.{OutOfMemory, Taken, Crowded};
+ghost use Rattle.exif_files.specs.declared.failure.WriteError.TheVariants.{OutOfMemory, Taken, Crowded, OtherDevice};
 
 use std::alloc::{AllocError, AllocFailed};
 use std::{fmt, io};
@@ -13,6 +13,8 @@ pub enum WriteError {
     Io(io::Error),
     /// The name that the file is to have, or the old file is to be kept by, is taken.
     Taken,
+    /// The name that the file is to have is on another device.
+    OtherDevice,
     /// All names for a temporary file are taken.
     Crowded,
     /// Out of memory.
@@ -20,7 +22,8 @@ pub enum WriteError {
 }
 
 impl From<io::Error> for WriteError {
-    ghost from_gives = { λ _ e. (e ≢ OutOfMemory) × (e ≢ Taken) × (e ≢ Crowded) };
+    ghost from_gives = { λ _ e. (e ≢ OutOfMemory) × (e ≢ Taken) × (e ≢ Crowded)
+        × (e ≢ OtherDevice) };
 
     fn from(e: io::Error) -> WriteError {
         WriteError::Io(e)
@@ -48,6 +51,7 @@ impl fmt::Display for WriteError {
         match self {
             WriteError::Io(cause) => write!(f, "{cause}"),
             WriteError::Taken => write!(f, "file exists"),
+            WriteError::OtherDevice => write!(f, "its new name is on another device"),
             WriteError::Crowded => write!(
                 f,
                 "too many temporary files named .mexaldor-N; delete them"

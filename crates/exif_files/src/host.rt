@@ -10,13 +10,34 @@ use std::io::{self, ErrorKind, Write};
 use std::os::unix::fs::{MetadataExt, OpenOptionsExt, fchown};
 use std::path::Path;
 
-/// The file system of the host. A name is a path.
+/// The file system of the host. A name is a path. A file that was read here is replaced only if it
+/// is still the one that was read: another program may have changed it meanwhile.
 #[derive(Drop)]
 pub struct HostFiles<'r> {
     rt: &'r HostRuntime,
     // the file that is being written
     current: Option<Current>,
+    // the file that was read last
+    known: Option<Known>,
     failures: u64,
+}
+
+// A file that was read, and what it was then.
+#[derive(Drop)]
+struct Known {
+    name: String,
+    stamp: Stamp,
+}
+
+// What a file is at a moment: which file, how long, when its bytes and when its attributes were
+// changed last, in seconds and nanoseconds.
+#[derive(Clone, Copy, PartialEq, Eq)]
+struct Stamp {
+    device: u64,
+    inode: u64,
+    length: u64,
+    modified: (i64, i64),
+    changed: (i64, i64),
 }
 
 #[derive(Drop)]
@@ -40,6 +61,7 @@ impl<'r> HostFiles<'r> {
         HostFiles {
             rt,
             current: None,
+            known: None,
             failures: 0,
         }
     }
@@ -141,6 +163,84 @@ impl<'r> HostFiles<'r> {
         current.file.sync_all()
     }
 
+    fn stamp(&self, name: &str) -> io::Result<Stamp> {
+        let found = fs::symlink_metadata(self.rt, name)?;
+        Ok(Stamp {
+            device: found.dev(),
+            inode: found.ino(),
+            length: found.size(),
+            modified: (found.mtime(), found.mtime_nsec()),
+            changed: (found.ctime(), found.ctime_nsec()),
+        })
+    }
+
+    // Reads a file, and notes what it was before: so a change meanwhile is seen too.
+    fn try_read(&mut self, name: &str) -> io::Result<Vec<u8>>
+        ensures { self.new.failures ≡ self.old.failures }
+    {
+        let stamp = self.stamp(name)?;
+        let bytes = fs::read(self.rt, name)?;
+        let name = String::from_str(self.rt.alloc(), name)?;
+        self.known = Some(Known { name, stamp });
+        Ok(bytes)
+    }
+
+    // Whether a file was read here and is not what it was then.
+    fn is_changed(&self, name: &str) -> io::Result<bool> {
+        match &self.known {
+            Some(known) if known.name.as_str() == name => Ok(known.stamp != self.stamp(name)?),
+            _ => Ok(false),
+        }
+    }
+
+    // Refuses a file that was read here and is not what it was then.
+    fn refuse_changed(&self, name: &str) -> io::Result<()> {
+        if self.is_changed(name)? {
+            return Err(io::Error::new(
+                ErrorKind::Other,
+                "another program has changed it since it was read; nothing was changed",
+            ));
+        }
+        Ok(())
+    }
+
+    // Gives a file one more name if that is free, unless it is not what was read.
+    fn try_link_known(&mut self, source: &str, name: &str) -> io::Result<bool>
+        ensures { self.new.failures ≡ self.old.failures }
+    {
+        self.refuse_changed(source)?;
+        let linked = self.try_link(source, name)?;
+        self.note_link(source);
+        Ok(linked)
+    }
+
+    // Notes that a file has one more name, which counts as a change of its attributes, and as none
+    // of its bytes.
+    fn note_link(&mut self, source: &str)
+        ensures { self.new.failures ≡ self.old.failures }
+    {
+        let Some(mut known) = self.known.take() else {
+            return;
+        };
+        if known.name.as_str() == source {
+            match self.stamp(source) {
+                Ok(stamp) => known.stamp.changed = stamp.changed,
+                Err(_gone) => return,
+            }
+        }
+        self.known = Some(known);
+    }
+
+    // Gives a file another name, unless the file that has it is not what was read.
+    fn try_rename(&mut self, source: &str, name: &str) -> io::Result<()>
+        ensures { self.new.failures ≡ self.old.failures }
+    {
+        self.refuse_changed(name)?;
+        fs::rename(self.rt, source, name)?;
+        self.known = None;
+        Ok(())
+    }
+
     fn try_is_free(&self, name: &str) -> io::Result<bool> {
         match fs::symlink_metadata(self.rt, name) {
             Ok(_) => Ok(false),
@@ -168,7 +268,7 @@ impl<'r> FileSystem for HostFiles<'r> {
     ghost failures = { λ f. f.failures };
 
     fn read(&mut self, _alloc: Global, name: &str) -> io::Result<Vec<u8>> {
-        let result = fs::read(self.rt, name);
+        let result = self.try_read(name);
         self.count(result.is_err());
         result
     }
@@ -216,13 +316,13 @@ impl<'r> FileSystem for HostFiles<'r> {
     }
 
     fn link(&mut self, source: &str, name: &str) -> io::Result<bool> {
-        let result = self.try_link(source, name);
+        let result = self.try_link_known(source, name);
         self.count(result.is_err());
         result
     }
 
     fn rename(&mut self, source: &str, name: &str) -> io::Result<()> {
-        let result = fs::rename(self.rt, source, name);
+        let result = self.try_rename(source, name);
         self.count(result.is_err());
         result
     }

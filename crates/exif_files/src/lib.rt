@@ -14,6 +14,7 @@ mod power;
 mod replacing;
 mod running;
 mod system;
+mod taking;
 mod temporary;
 
 pub use changing::{Edit, EditError, Edited, Failure, Keeping, Report, change};
@@ -25,3 +26,4 @@ pub use power::{loss_law, new_loss_law};
 pub use replacing::replace;
 pub use running::{Reporter, change_all};
 pub use system::FileSystem;
+pub use taking::move_new;

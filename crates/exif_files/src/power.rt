@@ -9,7 +9,7 @@ pub fn loss_law()
 {}
 
 /// At any moment while a new file is made a loss of power leaves nothing under its name or the
-/// whole file. It does nothing: its contract is the law.
+/// whole file, if no call failed. It does nothing: its contract is the law.
 pub fn new_loss_law()
     ensures { NewLossLaw }
 {}

@@ -4,6 +4,7 @@ ghost use Rattle.std.specs.Prelude.{◌≡◌, ◌≢◌, ◌≤◌, [], is_err,
 ghost use Rattle.exif_files.specs.States.{Run, Now, Holds, Elsewhere};
 ghost use Rattle.exif_files.specs.Steps.{count_after};
 ghost use Rattle.exif_files.specs.Names.{IsHidden, name_if};
+ghost use Rattle.exif_files.specs.NewNames.{IsThere};
 ghost use Rattle.exif_files.specs.Written.{IsWhole, IsReplacedForGood, IsGivenUp, IsTakenIf, FailedTwice, FailedToRemove, none_failed};
 ghost use Rattle.exif_files.specs.Parts.{FailsOrNot, FailsOnceOrNot, FailsOnceOrTwice, MayHaveOwner, HasTimesIf, HasAccess, IsMoving, IsMoved, IsNotMoved, IsPutting, IsPut, IsNotPut};
 ghost use Rattle.exif_files.specs.declared.failure.WriteError.TheVariants.{OutOfMemory, Taken, Crowded};
@@ -164,6 +165,7 @@ fn link_and_rename<F: FileSystem>(
     beside: &str,
     backup: Option<&str>,
 ) -> Result<(), WriteError>
+    requires there { Now (F.states files.old) (IsThere name.now) }
     requires apart { beside.now ≢ name.now }
     requires backup_apart { name_if backup ≢ Some name.now }
     requires backup_beside { name_if backup ≢ Some beside.now }

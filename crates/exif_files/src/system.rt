@@ -2,6 +2,7 @@
 
 ghost use Rattle.std.specs.Prelude.{◌≡◌, ◌≢◌, ◌≤◌, ◌<◌, ◌↔◌, ℕ, List, None, IfOk, IsTrue, OnErr, is_err, length, take};
 ghost use Rattle.exif_files.specs.States.{State, Now, Holds};
+ghost use Rattle.exif_files.specs.NewNames.{IsThere};
 ghost use Rattle.exif_files.specs.Steps.{Does, DoesIfFree, Creates, Appends, Copies, HasOwner, HasMode, HasTimes, Syncs, Links, Renames, Removes, Settles, Moves, count_after};
 
 use std::alloc::Global;
@@ -75,9 +76,13 @@ pub trait FileSystem {
         ensures does { DoesIfFree name.now (Links source.now name.now) (states self.old)
             (states self.new) (failures self.old) (failures self.new) result };
 
-    /// Gives a file another name, in one step, in place of what has it.
+    /// Gives a file another name, in one step, in place of what has it. Something must have it: a
+    /// name that nothing has is taken by [`FileSystem::link`] or [`FileSystem::create`], which fail
+    /// where another program has taken it meanwhile. It fails where another program has changed the
+    /// file that has the name since it was read here.
     fn rename(&mut self, source: &str, name: &str) -> io::Result<()>
-        requires { source.now ≢ name.now }
+        requires apart { source.now ≢ name.now }
+        requires there { Now (states self.old) (IsThere name.now) }
         ensures does { Does (Renames source.now name.now) (states self.old) (states self.new)
             (failures self.old) (failures self.new) result };
 

@@ -56,6 +56,8 @@ pub struct MemoryFiles {
     steps: Vec<Step>,
     // how many calls come before the one that fails
     left: u64,
+    // whether a file can have two names
+    links: bool,
     // the owner of new files
     owner: u32,
     failures: u64,
@@ -100,6 +102,7 @@ impl MemoryFiles {
             alloc,
             steps: Vec::new(alloc),
             left: u64::MAX,
+            links: true,
             owner: 0,
             failures: 0,
         }
@@ -115,6 +118,13 @@ impl MemoryFiles {
         ensures { self.new.steps ≡ self.old.steps }
     {
         self.owner = owner;
+    }
+
+    /// Lets no file have two names, as the file systems of memory cards do.
+    pub fn lack_links(&mut self)
+        ensures { self.new.steps ≡ self.old.steps }
+    {
+        self.links = false;
     }
 
     /// Lets so many calls succeed, and the next one fail.
@@ -273,6 +283,9 @@ impl MemoryFiles {
             self.old.steps.items self.new.steps.items self.old.failures self.new.failures result }
     {
         self.begin()?;
+        if !self.links {
+            return Err(io::Error::from(ErrorKind::PermissionDenied));
+        }
         if !self.is_absent(name)? {
             return Ok(false);
         }

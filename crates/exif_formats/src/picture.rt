@@ -57,8 +57,8 @@ fn read_data(reader: &Reader, alloc: Global, data: Result<Vec<u8>, Error>) -> Re
     Ok(exif)
 }
 
-// What is read of bytes that are read as a picture of a format. The first byte is at this offset of
-// a source that goes back; with none, the source does not go back.
+// What is read of bytes that are read as a picture of a format. The first byte is at this offset;
+// with none, the stream is read in order.
 fn read_as<R: Source>(
     options: Options,
     alloc: Global,
@@ -104,7 +104,7 @@ fn make_read(format: Option<PictureFormat>, front: &mut [u8])
     }
 }
 
-// Where the source may go back to: not where the bytes are read as others.
+// The offset at which the stream may be read again: none where the bytes are read as others.
 fn origin_for(format: Option<PictureFormat>, origin: Option<u64>) -> Option<u64>
     ensures { result ≡ origin_for format origin }
 {

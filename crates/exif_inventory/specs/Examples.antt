@@ -3,9 +3,9 @@ use Rattle.std.specs.Prelude.{◌≡◌, refl, ℕ, List, [], ◌∷◌, ◌++�
 use Rattle.exif_inventory.specs.JpegPieces.{between_piece, stream_piece}
 use Rattle.exif_inventory.specs.JxlPieces.{box_piece}
 use Rattle.exif_inventory.specs.PngPieces.{png_piece}
-use Rattle.exif_inventory.specs.Resources.{resource_piece}
+use Rattle.exif_inventory.specs.Resources.{resource_at, resource_piece}
 use Rattle.exif_inventory.specs.Walks.{inventory, walked}
-use Rattle.exif_inventory.specs.WebpPieces.{chunk_piece}
+use Rattle.exif_inventory.specs.WebpPieces.{chunk_piece, frame_piece}
 use Rattle.exif_inventory.specs.declared.kind.Kind.{Kind}
 use Rattle.exif_inventory.specs.declared.kind.Kind.TheVariants as kind
 use Rattle.exif_inventory.specs.declared.part.Part.{Part}
@@ -49,8 +49,46 @@ with_resource =
 parts_of_resource : inventory with_resource
     ≡ Some (part kind.Picture 0 0 2 0 2 ∷ part kind.Photoshop 0 2 18 20 0
     ∷ part kind.Iptc 0 20 16 32 3 ∷ part kind.Broken 0 36 4 36 4 ∷ [])
-unfolding walked stream_piece between_piece resource_piece
+unfolding walked stream_piece between_piece resource_piece resource_at
 parts_of_resource = refl
+
+-- resources with Exif data of two bytes and an XMP packet of one, a resolution, a caption, and a
+-- copyright flag that has a name
+abbrev resources : List ℕ
+resources =
+    0xff ∷ 0xd8
+    ∷ 0xff ∷ 0xed ∷ 0 ∷ 100 ∷ codes "Photoshop 3.0\0"
+    ++ codes "8BIM" ++ 4 ∷ 0x22 ∷ 0 ∷ 0 ∷ 0 ∷ 0 ∷ 0 ∷ 2 ∷ 1 ∷ 2
+    ∷ codes "8BIM" ++ 4 ∷ 0x24 ∷ 0 ∷ 0 ∷ 0 ∷ 0 ∷ 0 ∷ 1 ∷ 3 ∷ 0
+    ∷ codes "8BIM" ++ 3 ∷ 0xed ∷ 0 ∷ 0 ∷ 0 ∷ 0 ∷ 0 ∷ 16
+    ∷ 0 ∷ 72 ∷ 0 ∷ 0 ∷ 0 ∷ 1 ∷ 0 ∷ 1 ∷ 0 ∷ 72 ∷ 0 ∷ 0 ∷ 0 ∷ 1 ∷ 0 ∷ 1
+    ∷ codes "8BIM" ++ 3 ∷ 0xf0 ∷ 0 ∷ 0 ∷ 0 ∷ 0 ∷ 0 ∷ 2 ∷ 1 ∷ 0x62
+    ∷ codes "8BIM" ++ 4 ∷ 0x0a ∷ 1 ∷ 0x62 ∷ 0 ∷ 0 ∷ 0 ∷ 1 ∷ 1 ∷ 0 ∷ []
+
+parts_of_resources : inventory resources
+    ≡ Some (part kind.Picture 0 0 2 0 2 ∷ part kind.Photoshop 0 2 18 20 0
+    ∷ part kind.PhotoshopExif 0 20 14 32 2 ∷ part kind.PhotoshopXmp 0 34 14 46 1
+    ∷ part kind.Photoshop 0 48 28 60 16 ∷ part kind.PhotoshopOther 0 76 14 88 2
+    ∷ part kind.PhotoshopOther 0 90 14 96 7 ∷ [])
+unfolding walked stream_piece between_piece resource_piece resource_at
+parts_of_resources = refl
+
+-- more bytes than the numbers of a resource take: a flag with two
+longer_flag : resource_at (codes "8BIM" ++ 4 ∷ 0x0a ∷ 0 ∷ 0 ∷ 0 ∷ 0 ∷ 0 ∷ 2 ∷ 1 ∷ 0x62 ∷ [])
+    ≡ record { kind = kind.PhotoshopOther; front = 12; size = 2; len = 14 }
+unfolding resource_at
+longer_flag = refl
+
+-- a file that goes on without a marker behind its first one, and the frame of JPEG-LS (f7)
+abbrev no_second_marker : List ℕ
+no_second_marker =
+    0xff ∷ 0xd8 ∷ 5 ∷ 0xff ∷ 0xf7 ∷ 0 ∷ 3 ∷ 8 ∷ 0xff ∷ 0xf9 ∷ 0 ∷ 3 ∷ 9 ∷ []
+
+parts_of_no_second : inventory no_second_marker
+    ≡ Some (part kind.Picture 0 0 2 0 2 ∷ part kind.Unknown 0 2 1 2 1
+    ∷ part kind.Picture 0 3 5 3 5 ∷ part kind.Unknown 0 8 5 8 5 ∷ [])
+unfolding walked stream_piece between_piece
+parts_of_no_second = refl
 
 -- a WebP file with Exif data of three bytes, which are padded, and an XMP packet
 abbrev webp : List ℕ
@@ -64,6 +102,39 @@ parts_of_webp : inventory webp
     ∷ part kind.Xmp 0 24 10 32 2 ∷ [])
 unfolding walked chunk_piece
 parts_of_webp = refl
+
+-- an animation frame with a picture of one byte, which is padded, and then Exif data of two bytes
+-- within the frame; one of an odd size; and one that is too short for its fields
+abbrev frame_fields : List ℕ
+frame_fields = 0 ∷ 0 ∷ 0 ∷ 0 ∷ 0 ∷ 0 ∷ 0 ∷ 0 ∷ 0 ∷ 0 ∷ 0 ∷ 0 ∷ 0 ∷ 0 ∷ 0 ∷ 0 ∷ []
+
+abbrev animated : List ℕ
+animated =
+    codes "RIFF" ++ 96 ∷ 0 ∷ 0 ∷ 0 ∷ codes "WEBP"
+    ++ codes "ANMF" ++ 36 ∷ 0 ∷ 0 ∷ 0 ∷ frame_fields
+    ++ codes "VP8 " ++ 1 ∷ 0 ∷ 0 ∷ 0 ∷ 7 ∷ 0
+    ∷ codes "EXIF" ++ 2 ∷ 0 ∷ 0 ∷ 0 ∷ 8 ∷ 9
+    ∷ codes "ANMF" ++ 25 ∷ 0 ∷ 0 ∷ 0 ∷ frame_fields
+    ++ codes "ALPH" ++ 2 ∷ 0 ∷ 0 ∷ 0 ∷ 7 ∷ 0
+    ∷ codes "ANMF" ++ 2 ∷ 0 ∷ 0 ∷ 0 ∷ 5 ∷ 6 ∷ []
+
+parts_of_animated : inventory animated
+    ≡ Some (part kind.Picture 0 0 46 0 46 ∷ part kind.Unknown 0 46 10 54 2
+    ∷ part kind.Picture 0 56 34 56 34 ∷ part kind.Unknown 0 90 10 98 2 ∷ [])
+unfolding walked chunk_piece frame_piece
+parts_of_animated = refl
+
+-- a chunk that is longer than its frame
+abbrev frame_cut : List ℕ
+frame_cut =
+    codes "RIFF" ++ 38 ∷ 0 ∷ 0 ∷ 0 ∷ codes "WEBP"
+    ++ codes "ANMF" ++ 26 ∷ 0 ∷ 0 ∷ 0 ∷ frame_fields
+    ++ codes "VP8 " ++ 3 ∷ 0 ∷ 0 ∷ 0 ∷ 7 ∷ 8 ∷ []
+
+parts_of_frame_cut : inventory frame_cut
+    ≡ Some (part kind.Picture 0 0 36 0 36 ∷ part kind.Broken 0 36 10 36 10 ∷ [])
+unfolding walked chunk_piece frame_piece
+parts_of_frame_cut = refl
 
 -- the signature of a PNG file
 abbrev png_signature : List ℕ

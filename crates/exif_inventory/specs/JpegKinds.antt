@@ -1,7 +1,7 @@
--- What the markers and segments of a JPEG stream are (ITU-T T.81, table B.1; JFIF 1.02; Exif 2.32,
--- 4.7.2; ICC.1:2022, B.4; XMP part 3, 1.1.3; CIPA DC-007, 5; ISO/IEC 19566-5, annex D; C2PA 2.1,
+-- What the markers and segments of a JPEG stream are (ITU-T T.81, table B.1; T.84; T.87; JFIF 1.02;
+-- Exif 2.32, 4.7.2; ICC.1:2022, B.4; XMP part 3, 1.1.3; CIPA DC-007, 5; ISO/IEC 19566-5, annex D; C2PA 2.1,
 -- A.3.1).
-use Rattle.std.specs.Prelude.{ℕ, ◌+◌, List, [], ◌∷◌, length, take, codes, nat_le, nat_lt, Bool, false, ◌&&◌, ◌||◌, ◌==◌, if◌then◌else◌}
+use Rattle.std.specs.Prelude.{ℕ, ◌+◌, List, length, take, codes, nat_le, nat_lt, Bool, false, ◌&&◌, ◌||◌, ◌==◌, if◌then◌else◌}
 use Rattle.std.specs.Str.{bytes_eq}
 use Rattle.exif_inventory.specs.declared.kind.Kind.{Kind}
 use Rattle.exif_inventory.specs.declared.kind.Kind.TheVariants as kind
@@ -55,10 +55,12 @@ app_kind code content =
     if code == 237 then named (codes "Photoshop 3.0\0") kind.Photoshop content else
     if code == 238 then named (codes "Adobe") kind.Adobe content else kind.Unknown
 
--- what a segment is: c0 to df make up the picture, e0 to ef are the applications', fe is a comment
+-- what a segment is: c0 to df make up the picture, and so do f0 to f6 (extensions, T.84), f7 and f8
+-- (JPEG-LS, T.87); e0 to ef are the applications', fe is a comment
 abbrev pub segment_kind : ℕ → List ℕ → Kind
 segment_kind code content =
-    if nat_le 192 code && nat_le code 223 then kind.Picture else
+    if (nat_le 192 code && nat_le code 223) || (nat_le 240 code && nat_le code 248)
+    then kind.Picture else
     if nat_le 224 code && nat_le code 239 then app_kind code content else
     if code == 254 then kind.Comment else kind.Unknown
 

@@ -8,7 +8,12 @@ use Rattle.exif_inventory.specs.declared.piece.Piece.{Piece}
 use Rattle.exif_inventory.specs.declared.piece.State.{State}
 use Rattle.exif_inventory.specs.declared.piece.State.TheVariants.{Stream, Resources, Between}
 
--- whether bytes begin as a JPEG stream does: with its first marker, and another one
+-- whether a file begins with the first marker of a JPEG stream
+abbrev pub begins_file : List ℕ → Bool
+begins_file (a ∷ b ∷ bytes) = (a == 255) && (b == 216)
+begins_file bytes = false
+
+-- whether bytes within a file begin as a JPEG stream does: with its first marker, and another one
 abbrev pub is_stream : List ℕ → Bool
 is_stream (a ∷ b ∷ c ∷ bytes) = (a == 255) && (b == 216) && (c == 255)
 is_stream bytes = false
@@ -155,7 +160,11 @@ first_piece picture = record {
   next = Stream picture false;
 }
 
--- the piece at the front of what follows a stream, or begins a file
+-- the first marker of a file, or all that there is of it
+abbrev pub start_piece : List ℕ → Piece
+start_piece bytes = if nat_lt (length bytes) 2 then rest_piece 0 bytes else first_piece 0
+
+-- the piece at the front of what follows a stream
 unfoldable pub between_piece : ℕ → List ℕ → Piece
 between_piece picture bytes =
     if nat_lt 0 (gap_len bytes) then gap_piece picture (gap_len bytes) else first_piece picture

@@ -7,4 +7,5 @@ pub mod JxlPieces
 pub mod Pieces
 pub mod Walks
 pub mod Promises
+pub mod KindTexts
 pub mod Examples

@@ -2,7 +2,7 @@
 
 ghost use Rattle.std.specs.Prelude.{◌≡◌, true, ◌<◌, ◌≤◌, ◌+◌, ◌-◌, ◌^◌, length, take, drop};
 ghost use Rattle.exif_inventory.specs.JpegKinds.{app0_kind, app1_kind, app2_kind, app_kind, begins, front_len, has_no_length, has_resources, id_len, named, segment_kind, unsegmented, xmp_kind};
-ghost use Rattle.exif_inventory.specs.JpegPieces.{between_piece, fill_len, free_len, gap_len, given_len, is_stream, marker_piece, rest_piece, segment_piece, sized_segment, stream_piece};
+ghost use Rattle.exif_inventory.specs.JpegPieces.{begins_file, between_piece, fill_len, first_piece, free_len, gap_len, given_len, is_stream, marker_piece, rest_piece, segment_piece, sized_segment, start_piece, stream_piece, unit_piece};
 
 use crate::kind::Kind;
 use crate::piece::{Piece, State};
@@ -14,8 +14,15 @@ const EOI: u8 = 0xd9;
 // The start of a scan.
 const SOS: u8 = 0xda;
 
-/// Whether bytes begin as a JPEG stream does: with its first marker, and another one.
-pub fn is_stream(bytes: &[u8]) -> bool
+/// Whether a file begins with the first marker of a JPEG stream.
+pub fn begins_file(file: &[u8]) -> bool
+    ensures { result ≡ begins_file file.now }
+{
+    file.len() >= 2 && file[0] == MARK && file[1] == 0xd8
+}
+
+// Whether bytes within a file begin as a JPEG stream does: with its first marker, and another one.
+fn is_stream(bytes: &[u8]) -> bool
     ensures { result ≡ is_stream bytes.now }
 {
     bytes.len() >= 3 && bytes[0] == MARK && bytes[1] == 0xd8 && bytes[2] == MARK
@@ -170,7 +177,7 @@ fn segment_kind(code: u8, content: &[u8]) -> Kind
     ensures long { id_len result ≤ length content.now }
 {
     match code {
-        0xc0..=0xdf => Kind::Picture,
+        0xc0..=0xdf | 0xf0..=0xf8 => Kind::Picture,
         0xe0..=0xef => app_kind(code, content),
         0xfe => Kind::Comment,
         _ => Kind::Unknown,
@@ -327,6 +334,26 @@ fn segment_piece(picture: u64, scanned: bool, at: usize, code: u8, bytes: &[u8])
     sized_segment(picture, scanned, at, code, bytes, len)
 }
 
+// A marker behind so many ffs, with its segment if it has one.
+fn unit_piece(picture: u64, scanned: bool, fill: usize, bytes: &[u8]) -> Piece
+    requires some { 0 < length bytes.now }
+    requires fill { fill ≤ length bytes.now }
+    ensures value { result ≡ unit_piece picture scanned fill bytes.now }
+    ensures some { 0 < result.len }
+    ensures within { result.len ≤ length bytes.now }
+    ensures framed { result.front + result.pad ≤ result.len }
+{
+    if fill == bytes.len() {
+        return rest_piece(picture, bytes);
+    }
+    let code = bytes[fill];
+    if has_no_length(code) {
+        marker_piece(picture, scanned, fill, code)
+    } else {
+        segment_piece(picture, scanned, fill, code, bytes)
+    }
+}
+
 /// The piece at the front of a stream behind its first marker: bytes outside of segments, a marker
 /// without a length, or a segment. Ffs that fill the space before a marker belong to it.
 #[tactic(auto, unfolding(crate::specs::JpegPieces::stream_piece))]
@@ -348,16 +375,37 @@ pub fn stream_piece(picture: u64, scanned: bool, bytes: &[u8]) -> Piece
             next: State::Stream(picture, scanned),
         };
     }
-    let fill = fill_len(bytes);
-    if fill == bytes.len() {
-        return rest_piece(picture, bytes);
+    unit_piece(picture, scanned, fill_len(bytes), bytes)
+}
+
+// The first marker of a stream.
+fn first_piece(picture: u64) -> Piece
+    ensures value { result ≡ first_piece picture }
+    ensures two { result.len ≡ 2 }
+    ensures framed { result.front + result.pad ≤ result.len }
+{
+    Piece {
+        kind: Kind::Picture,
+        picture,
+        len: 2,
+        front: 0,
+        pad: 0,
+        next: State::Stream(picture, false),
     }
-    let code = bytes[fill];
-    if has_no_length(code) {
-        marker_piece(picture, scanned, fill, code)
-    } else {
-        segment_piece(picture, scanned, fill, code, bytes)
+}
+
+/// The first marker of a file, or all that there is of it.
+pub fn start_piece(bytes: &[u8]) -> Piece
+    requires { 0 < length bytes.now }
+    ensures value { result ≡ start_piece bytes.now }
+    ensures some { 0 < result.len }
+    ensures within { result.len ≤ length bytes.now }
+    ensures framed { result.front + result.pad ≤ result.len }
+{
+    if bytes.len() < 2 {
+        return rest_piece(0, bytes);
     }
+    first_piece(0)
 }
 
 /// The piece at the front of what follows a stream: the first marker of the next one, or what comes
@@ -381,12 +429,5 @@ pub fn between_piece(picture: u64, bytes: &[u8]) -> Piece
             next: State::Between(picture),
         };
     }
-    Piece {
-        kind: Kind::Picture,
-        picture,
-        len: 2,
-        front: 0,
-        pad: 0,
-        next: State::Stream(picture, false),
-    }
+    first_piece(picture)
 }

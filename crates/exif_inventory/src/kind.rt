@@ -1,5 +1,7 @@
 //! What a part of a file holds.
 
+ghost use Rattle.std.specs.Prelude.{Some};
+
 use std::fmt;
 
 /// What a part of a file holds.
@@ -17,8 +19,14 @@ pub enum Kind {
     Xmp,
     /// A part of a long XMP packet.
     ExtendedXmp,
-    /// The identifier of Photoshop's resources, or one of them.
+    /// The identifier of Photoshop's resources, or one of them whose fields are numbers alone.
     Photoshop,
+    /// The resource of Photoshop that holds Exif data.
+    PhotoshopExif,
+    /// The resource of Photoshop that holds an XMP packet.
+    PhotoshopXmp,
+    /// Any other resource of Photoshop: a caption, a thumbnail, or one that has a name.
+    PhotoshopOther,
     /// The resource of Photoshop that holds IPTC data.
     Iptc,
     /// A comment.
@@ -41,6 +49,10 @@ pub enum Kind {
 
 /// What people call it.
 impl fmt::Display for Kind {
+    ghost use Rattle.exif_inventory.specs.KindTexts.{kind_text};
+
+    ghost output = { λ kind. Some (kind_text kind) };
+
     fn fmt<W: fmt::Write>(&self, f: &mut fmt::Formatter<W>) -> fmt::Result {
         f.write_str(match self {
             Kind::Picture => "picture data",
@@ -50,6 +62,9 @@ impl fmt::Display for Kind {
             Kind::Xmp => "XMP packet",
             Kind::ExtendedXmp => "part of a long XMP packet",
             Kind::Photoshop => "Photoshop resource",
+            Kind::PhotoshopExif => "Photoshop resource with Exif data",
+            Kind::PhotoshopXmp => "Photoshop resource with an XMP packet",
+            Kind::PhotoshopOther => "other Photoshop resource",
             Kind::Iptc => "IPTC data",
             Kind::Comment => "comment",
             Kind::IccProfile => "colour profile",

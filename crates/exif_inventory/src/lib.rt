@@ -17,4 +17,5 @@ mod webp;
 
 pub use kind::Kind;
 pub use part::Part;
+pub use resource::{Resource, resource_at};
 pub use walk::inventory;

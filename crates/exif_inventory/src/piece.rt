@@ -3,16 +3,18 @@
 ghost use Rattle.std.specs.Prelude.{◌≡◌, ◌<◌, ◌≤◌, ◌+◌, length};
 ghost use Rattle.exif_inventory.specs.Pieces.{piece_at, start_of};
 
-use crate::jpeg::{between_piece, is_stream, stream_piece};
+use crate::jpeg::{begins_file, between_piece, start_piece, stream_piece};
 use crate::jxl::{box_piece, is_jxl};
 use crate::kind::Kind;
 use crate::png::{behind_png, is_png, png_piece, signature_piece};
 use crate::resource::resource_piece;
-use crate::webp::{chunk_piece, header_piece, is_webp};
+use crate::webp::{chunk_piece, frame_piece, header_piece, is_webp};
 
 /// What the bytes that come next belong to.
 #[derive(Clone, Copy)]
 pub enum State {
+    /// The first marker of a JPEG file.
+    Opening,
     /// A JPEG stream behind its first marker: which picture it is, and whether a scan began.
     Stream(u64, bool),
     /// The resources of Photoshop in a segment of a stream, which have so much space.
@@ -23,6 +25,9 @@ pub enum State {
     Header,
     /// The chunks of a WebP file: so much space is left for them.
     Chunks(u64),
+    /// The chunks of an animation frame in a WebP file: so much space is left for them, and so much
+    /// for the chunks that follow the frame.
+    Frame(u64, u64),
     /// The signature of a PNG file.
     PngSignature,
     /// The chunks of a PNG file.
@@ -52,8 +57,8 @@ pub struct Piece {
 pub fn start_of(file: &[u8]) -> Option<State>
     ensures { result ≡ start_of file.now }
 {
-    if is_stream(file) {
-        Some(State::Between(0))
+    if begins_file(file) {
+        Some(State::Opening)
     } else if is_webp(file) {
         Some(State::Header)
     } else if is_png(file) {
@@ -74,6 +79,7 @@ pub fn piece_at(state: State, bytes: &[u8]) -> Piece
     ensures framed { result.front + result.pad ≤ result.len }
 {
     match state {
+        State::Opening => start_piece(bytes),
         State::Stream(picture, scanned) => stream_piece(picture, scanned, bytes),
         State::Resources(picture, scanned, space) => {
             resource_piece(picture, scanned, space, bytes)
@@ -81,6 +87,7 @@ pub fn piece_at(state: State, bytes: &[u8]) -> Piece
         State::Between(picture) => between_piece(picture, bytes),
         State::Header => header_piece(bytes),
         State::Chunks(space) => chunk_piece(space, bytes),
+        State::Frame(inner, outer) => frame_piece(inner, outer, bytes),
         State::PngSignature => signature_piece(bytes),
         State::PngChunks => png_piece(bytes),
         State::PngEnd => behind_png(bytes),

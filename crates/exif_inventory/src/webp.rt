@@ -1,7 +1,7 @@
 //! The pieces of a WebP file (WebP Container Specification, "RIFF File Format").
 
 ghost use Rattle.std.specs.Prelude.{◌≡◌, ◌<◌, ◌≤◌, ◌+◌, length};
-ghost use Rattle.exif_inventory.specs.WebpPieces.{chunk_kind, chunk_piece, front_of, header_piece, is_webp, pad_of, padded, rest_of, sized_chunk};
+ghost use Rattle.exif_inventory.specs.WebpPieces.{chunk_kind, chunk_piece, frame_chunk, frame_front, frame_kind, frame_piece, frame_rest, front_of, header_piece, is_webp, kind_chunk, pad_of, padded, rest_of, sized_chunk};
 
 use crate::kind::Kind;
 use crate::piece::{Piece, State};
@@ -10,6 +10,8 @@ use crate::piece::{Piece, State};
 const HEADER_LEN: usize = 12;
 // The name and the size of a chunk.
 const NAME_LEN: usize = 8;
+// The fields of an animation frame, before its chunks.
+const FRAME_LEN: u64 = 16;
 
 /// Whether bytes begin as a WebP file does.
 pub fn is_webp(bytes: &[u8]) -> bool
@@ -23,7 +25,7 @@ fn chunk_kind(name: &[u8]) -> Kind
     ensures { result ≡ chunk_kind name.now }
 {
     match name {
-        b"VP8 " | b"VP8L" | b"VP8X" | b"ALPH" | b"ANIM" | b"ANMF" => Kind::Picture,
+        b"VP8 " | b"VP8L" | b"VP8X" | b"ALPH" | b"ANIM" => Kind::Picture,
         b"ICCP" => Kind::IccProfile,
         b"EXIF" => Kind::Exif,
         b"XMP " => Kind::Xmp,
@@ -103,6 +105,38 @@ fn pad_of(kind: Kind, size: usize, len: usize) -> usize
     }
 }
 
+// The front of an animation frame, with its fields: so much space is left for its chunks, and so
+// much for those that follow the frame.
+fn frame_front(inner: u64, outer: u64) -> Piece
+    ensures { result ≡ frame_front inner outer }
+{
+    Piece {
+        kind: Kind::Picture,
+        picture: 0,
+        len: NAME_LEN + FRAME_LEN as usize,
+        front: 0,
+        pad: 0,
+        next: State::Frame(inner, outer),
+    }
+}
+
+// A chunk of this kind and length, whose payload has this size.
+fn kind_chunk(kind: Kind, size: usize, len: usize, next: State) -> Piece
+    requires { 8 + size ≤ len }
+    ensures value { result ≡ kind_chunk kind size len next }
+    ensures framed { result.front + result.pad ≤ result.len }
+    ensures same { result.len ≡ len }
+{
+    Piece {
+        kind,
+        picture: 0,
+        len,
+        front: front_of(kind),
+        pad: pad_of(kind, size, len - NAME_LEN),
+        next,
+    }
+}
+
 // A whole chunk, whose payload has this size, at the front of so much space. Its pad byte may be
 // missing at the end of the file.
 fn sized_chunk(space: u64, bytes: &[u8], size: u64) -> Piece
@@ -114,16 +148,13 @@ fn sized_chunk(space: u64, bytes: &[u8], size: u64) -> Piece
     ensures framed { result.front + result.pad ≤ result.len }
 {
     let taken = padded(size, space - 8);
+    let behind = space - 8 - taken;
+    if bytes[..4] == b"ANMF"[..] && size >= FRAME_LEN {
+        return frame_front(taken - FRAME_LEN, behind);
+    }
     let kind = chunk_kind(&bytes[..4]);
     let len = (NAME_LEN as u64 + taken).min(bytes.len() as u64) as usize;
-    Piece {
-        kind,
-        picture: 0,
-        len,
-        front: front_of(kind),
-        pad: pad_of(kind, size as usize, len - NAME_LEN),
-        next: State::Chunks(space - 8 - taken),
-    }
+    kind_chunk(kind, size as usize, len, State::Chunks(behind))
 }
 
 /// The chunk at the front of so much space, its pad byte included; or all bytes that are left,
@@ -147,4 +178,76 @@ pub fn chunk_piece(space: u64, bytes: &[u8]) -> Piece
         return rest_of(Kind::Broken, bytes);
     }
     sized_chunk(space, bytes, size)
+}
+
+// What a chunk of an animation frame is, by its name.
+fn frame_kind(name: &[u8]) -> Kind
+    ensures { result ≡ frame_kind name.now }
+{
+    match name {
+        b"VP8 " | b"VP8L" | b"ALPH" => Kind::Picture,
+        _ => Kind::Unknown,
+    }
+}
+
+// A whole chunk of an animation frame, whose payload has this size.
+fn frame_chunk(inner: u64, outer: u64, bytes: &[u8], size: u64) -> Piece
+    requires space { 8 + size ≤ inner }
+    requires within { 8 + size ≤ length bytes.now }
+    ensures value { result ≡ frame_chunk inner outer bytes.now size }
+    ensures some { 0 < result.len }
+    ensures within { result.len ≤ length bytes.now }
+    ensures framed { result.front + result.pad ≤ result.len }
+{
+    let taken = padded(size, inner - 8);
+    let kind = frame_kind(&bytes[..4]);
+    let len = (NAME_LEN as u64 + taken).min(bytes.len() as u64) as usize;
+    kind_chunk(
+        kind,
+        size as usize,
+        len,
+        State::Frame(inner - 8 - taken, outer),
+    )
+}
+
+// What is left of an animation frame and holds no whole chunk.
+fn frame_rest(inner: u64, outer: u64, bytes: &[u8]) -> Piece
+    requires space { 0 < inner }
+    requires bytes { 0 < length bytes.now }
+    ensures value { result ≡ frame_rest inner outer bytes.now }
+    ensures some { 0 < result.len }
+    ensures within { result.len ≤ length bytes.now }
+    ensures framed { result.front + result.pad ≤ result.len }
+{
+    Piece {
+        kind: Kind::Broken,
+        picture: 0,
+        len: inner.min(bytes.len() as u64) as usize,
+        front: 0,
+        pad: 0,
+        next: State::Chunks(outer),
+    }
+}
+
+/// The chunk at the front of so much space of an animation frame; behind its last one, the chunk
+/// that follows the frame.
+#[tactic(auto, unfolding(crate::specs::WebpPieces::frame_piece))]
+pub fn frame_piece(inner: u64, outer: u64, bytes: &[u8]) -> Piece
+    requires { 0 < length bytes.now }
+    ensures value { result ≡ frame_piece inner outer bytes.now }
+    ensures some { 0 < result.len }
+    ensures within { result.len ≤ length bytes.now }
+    ensures framed { result.front + result.pad ≤ result.len }
+{
+    if inner == 0 {
+        return chunk_piece(outer, bytes);
+    }
+    if inner < 8 || bytes.len() < NAME_LEN {
+        return frame_rest(inner, outer, bytes);
+    }
+    let size = u64::from(u32::from_le_bytes([bytes[4], bytes[5], bytes[6], bytes[7]]));
+    if inner - 8 < size || ((bytes.len() - NAME_LEN) as u64) < size {
+        return frame_rest(inner, outer, bytes);
+    }
+    frame_chunk(inner, outer, bytes, size)
 }

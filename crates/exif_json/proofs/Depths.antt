@@ -18,18 +18,16 @@ use Rattle.exif_types.specs.ValueTypes.{count_of}
 use Rattle.json.specs.Word.{after_number}
 use Rattle.exif_json.specs.Flat.{column_members, columns_members, fact_members, flat_json, format_members, number_or_text, picture_members, shown_json, string_of}
 use Rattle.exif_json.specs.declared.flat.FileFacts.{FileFacts}
-use Rattle.exif_summary.specs.Columns.{Shown, cell_of, name_of}
+use Rattle.exif_summary.specs.Columns.{Shown, cell_of, columns, name_of}
 use Rattle.exif_summary.specs.Columns as shown
 use Rattle.exif_summary.specs.declared.columns.Column.{Column}
-use Rattle.exif_summary.specs.declared.columns.TheConstants.{COLUMNS}
 use Rattle.exif_json.specs.Prints.{Prints}
 use Rattle.exif_formats.specs.declared.format.PictureFormat.{PictureFormat}
 use Rattle.exif_json.specs.Fields.{chosen, count_json, field_json}
 use Rattle.exif_types.specs.declared.tag.Tag.{Tag}
 use Rattle.exif_json.specs.Files.{chosen_answer, chosen_members, error_json, fault_json, file_members, format_json, no_exif_json, no_exif_members, refusal_json}
 use Rattle.exif_summary.specs.Coordinates.{Degrees}
-use Rattle.exif_summary.specs.Dates.{fraction_of}
-use Rattle.exif_summary.specs.declared.dates.TheConstants.{TAKEN}
+use Rattle.exif_summary.specs.Dates.{fraction_of, taken}
 use Rattle.exif_json.specs.Summaries.{camera_members, date_json, degrees_json, maybe, location_members, size_members, standing_members, summary_json}
 use Rattle.exif_json.specs.Texts.{latin1_json, text_json}
 use Rattle.exif_json.specs.Trees.{items_of, members_of, signed, unsigned}
@@ -111,7 +109,7 @@ texts_shallow name o = maybe_shallow 1 name text_json o text_shallow
 
 summary_shallow : (fields : List Field) → depth (summary_json fields) ≤ 2
 summary_shallow fields =
-    let standing : AreShallow 1 (standing_members fields) = both_shallow 1 _ _ (number_shallow _ _) (maybe_shallow 1 _ (date_json (fraction_of fields TAKEN)) _ (λ x. omega arith)) in
+    let standing : AreShallow 1 (standing_members fields) = both_shallow 1 _ _ (number_shallow _ _) (maybe_shallow 1 _ (date_json (fraction_of fields taken)) _ (λ x. omega arith)) in
     let offset : AreShallow 1 (location_members fields) = both_shallow 1 _ _ (degrees_shallow _ _) (degrees_shallow _ _) in
     let camera : AreShallow 1 (camera_members fields) = both_shallow 1 _ _ (texts_shallow _ _) (texts_shallow _ _) in
     let size : AreShallow 1 (size_members fields) = both_shallow 1 _ _ (number_shallow _ _) (number_shallow _ _) in
@@ -153,7 +151,7 @@ columns_shallow fields (column ∷ columns) =
 
 picture_shallow : (exif : Option (List Field)) → AreShallow 1 (picture_members exif)
 picture_shallow None = record { within = omega arith }
-picture_shallow (Some fields) = columns_shallow fields COLUMNS
+picture_shallow (Some fields) = columns_shallow fields columns
 
 format_shallow : (format : Option PictureFormat) → AreShallow 1 (format_members format)
 format_shallow None = record { within = omega arith }

@@ -7,10 +7,9 @@ use Rattle.json.specs.Json.{Json}
 use Rattle.json.specs.Word.{after_number}
 use Rattle.exif_formats.specs.declared.format.PictureFormat.{PictureFormat}
 use Rattle.exif_formats.specs.declared.format.PictureFormat.TheVariants as format
-use Rattle.exif_summary.specs.Columns.{Shown, cell_of, name_of}
+use Rattle.exif_summary.specs.Columns.{Shown, cell_of, columns, name_of}
 use Rattle.exif_summary.specs.Columns as shown
 use Rattle.exif_summary.specs.declared.columns.Column.{Column}
-use Rattle.exif_summary.specs.declared.columns.TheConstants.{COLUMNS}
 use Rattle.exif_types.specs.declared.field.Field.{Field}
 use Rattle.exif_json.specs.Files.{format_json}
 use Rattle.exif_json.specs.Summaries.{maybe}
@@ -77,7 +76,7 @@ fact_members facts =
 -- those of a picture, if it has Exif data
 abbrev pub picture_members : Option (List Field) → List (List ℕ × Json)
 picture_members None = []
-picture_members (Some fields) = columns_members fields COLUMNS
+picture_members (Some fields) = columns_members fields columns
 
 -- all of them in one object
 abbrev pub flat_json : FileFacts → Option (List Field) → Json

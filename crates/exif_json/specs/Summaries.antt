@@ -5,11 +5,10 @@ use Rattle.json.specs.Json.{Json}
 use Rattle.exif_table.specs.declared.context.Context.TheVariants.{Tiff, Exif}
 use Rattle.exif_types.specs.declared.field.Field.{Field}
 use Rattle.exif_datetime.specs.declared.datetime.DateTime.{DateTime}
-use Rattle.exif_summary.specs.Dates.{date_of, fraction_of, iso_text}
+use Rattle.exif_summary.specs.Dates.{date_of, fraction_of, iso_text, taken}
 use Rattle.exif_summary.specs.Finding.{degrees_of, number_of, orientation_of, text_found}
 use Rattle.exif_summary.specs.Coordinates.{Degrees, degrees_text, latitude, longitude}
 use Rattle.exif_summary.specs.Columns.{either_number}
-use Rattle.exif_summary.specs.declared.dates.TheConstants.{TAKEN}
 use Rattle.exif_json.specs.Texts.{text_json}
 use Rattle.exif_json.specs.Trees.{object, unsigned}
 
@@ -30,7 +29,7 @@ date_json digits d = J.string (iso_text digits d)
 abbrev pub standing_members : List Field → List (List ℕ × Json)
 standing_members fields =
     maybe (codes "orientation") unsigned (orientation_of fields)
-    ++ maybe (codes "date_taken") (date_json (fraction_of fields TAKEN)) (date_of fields TAKEN)
+    ++ maybe (codes "date_taken") (date_json (fraction_of fields taken)) (date_of fields taken)
 
 -- where it was taken
 abbrev pub location_members : List Field → List (List ℕ × Json)

@@ -6,7 +6,7 @@ ghost use Rattle.json.specs.Json as J;
 ghost use Rattle.json.specs.Json.{document};
 ghost use Rattle.json.specs.Print.{print};
 ghost use Rattle.json.specs.Tree.{json_tokens};
-ghost use Rattle.exif_summary.specs.Columns.{cell_view};
+ghost use Rattle.exif_summary.specs.Columns.{cell_view, columns};
 ghost use Rattle.exif_json.specs.Flat.{column_members, columns_members, fact_members, flat_json, format_members, mime_type, number_text, picture_members, shown_json, string_of};
 ghost use Rattle.exif_json.specs.Prints.{Prints};
 ghost use Rattle.exif_json.specs.Summaries.{maybe};
@@ -128,7 +128,7 @@ fn write_column(printer: &mut Printer, exif: &Exif, column: Column) -> Result<()
 // Writes the members of all columns.
 fn write_columns(printer: &mut Printer, exif: &Exif) -> Result<(), AllocError>
     ensures { Prints result printer.old.out printer.new.out
-        (parts_tokens (columns_members exif.now.fields COLUMNS)) }
+        (parts_tokens (columns_members exif.now.fields columns)) }
 {
     for column in COLUMNS.as_slice() {
         write_column(printer, exif, *column)?;

@@ -1,3 +1,4 @@
+pub mod FaultTexts
 pub mod IptcDatasets
 pub mod IptcPromises
 pub mod Spaced

@@ -1,6 +1,6 @@
 -- Texts, keywords and encoded pictures, in which a location may be named (XMP Specification, Part 2;
 -- IPTC Photo Metadata Standard; IPTC-NAA Information Interchange Model 4, 6).
-use Rattle.std.specs.Prelude.{ℕ, ◌==◌, ◌&&◌, ◌||◌, Bool, false, List, [], ◌∷◌, length, take, codes}
+use Rattle.std.specs.Prelude.{ℕ, ◌==◌, ◌&&◌, ◌||◌, not, Bool, false, List, [], ◌∷◌, length, take, codes}
 use Rattle.std.specs.Str.{bytes_eq}
 
 -- bytes begin with a word
@@ -47,17 +47,81 @@ begins_list bytes =
     || begins_with (codes "CatalogSets") bytes
     || begins_with (codes "image") bytes
 
+-- whether they begin with the name of one that holds keywords, categories, a label or comments
+abbrev pub begins_subject : List ℕ → Bool
+begins_subject bytes =
+    begins_with (codes "weightedFlatSubject") bytes
+    || begins_with (codes "SupplementalCategories") bytes
+    || begins_with (codes "Category") bytes
+    || begins_with (codes "Label") bytes
+    || begins_with (codes "comment") bytes
+
+-- whether they begin with the name of one that holds the name of a region, a person, an organisation or the picture
+abbrev pub begins_region : List ℕ → Bool
+begins_region bytes =
+    begins_with (codes "Name") bytes
+    || begins_with (codes "Nickname") bytes
+    || begins_with (codes "PersonInImage") bytes
+    || begins_with (codes "PersonDisplayName") bytes
+    || begins_with (codes "OrganisationInImage") bytes
+
+-- whether they begin with the name of one that holds what is shown, or the address of who made the picture
+abbrev pub begins_object : List ℕ → Bool
+begins_object bytes =
+    begins_with (codes "AOTitle") bytes
+    || begins_with (codes "AOContent") bytes
+    || begins_with (codes "AOPhysical") bytes
+    || begins_with (codes "ProductInImage") bytes
+    || begins_with (codes "CiAdr") bytes
+
+-- whether they begin with the name of one that holds texts of layers, a history or a title
+abbrev pub begins_layer : List ℕ → Bool
+begins_layer bytes =
+    begins_with (codes "TextLayers") bytes
+    || begins_with (codes "LayerText") bytes
+    || begins_with (codes "LayerName") bytes
+    || begins_with (codes "History") bytes
+    || begins_with (codes "Title") bytes
+
+-- whether bytes begin with an identifier that is empty, or the one that Windows writes
+abbrev pub begins_no_about : List ℕ → Bool
+begins_no_about bytes =
+    begins_with (codes "about=''") bytes
+    || begins_with (codes "about=\"\"") bytes
+    || begins_with (codes "about=\"uuid:faf5bdd5-ba3d-11da-ad31-d33d75182f1b\"") bytes
+
+-- whether they begin with a name of RDF that holds an identifier, which may be any text
+abbrev pub begins_identifier : List ℕ → Bool
+begins_identifier bytes =
+    begins_with (codes "nodeID") bytes
+    || begins_with (codes "ID=") bytes
+    || begins_with (codes "resource") bytes
+    || (begins_with (codes "about") bytes && not (begins_no_about bytes))
+
+-- whether bytes behind `<` begin a comment, character data, or an instruction that is not that of a
+-- packet (XML 1.0, 2.5 to 2.7)
+abbrev pub begins_remark : List ℕ → Bool
+begins_remark [] = false
+begins_remark (b ∷ bytes) =
+    (b == 33) || ((b == 63) && not (bytes_eq (take 8 bytes) (codes "xpacket ")))
+
+-- whether bytes begin with the name of one of the last five
+unfoldable pub begins_further : List ℕ → Bool
+begins_further bytes =
+    begins_subject bytes || begins_region bytes || begins_object bytes
+    || begins_layer bytes || begins_identifier bytes
+
 -- whether bytes begin with the name of one of these
 unfoldable pub begins_name : List ℕ → Bool
 begins_name bytes =
     begins_caption bytes || begins_comment bytes || begins_account bytes
-    || begins_keywords bytes || begins_list bytes
+    || begins_keywords bytes || begins_list bytes || begins_further bytes
 
--- an XMP packet has such a name behind the colon of a prefix
+-- an XMP packet has such a name behind the colon of a prefix, or a remark
 abbrev pub xmp_has_texts : List ℕ → Bool
 xmp_has_texts [] = false
 xmp_has_texts (b ∷ bytes) =
-    ((b == 58) && begins_name bytes) || xmp_has_texts bytes
+    ((b == 58) && begins_name bytes) || ((b == 60) && begins_remark bytes) || xmp_has_texts bytes
 
 -- whether a dataset of the second record holds a text or keywords: title, category, supplemental
 -- category, keywords, instructions, headline, caption

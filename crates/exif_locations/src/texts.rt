@@ -1,7 +1,7 @@
 //! Texts, keywords and encoded pictures, in which a location may be named.
 
 ghost use Rattle.std.specs.Prelude.{◌≡◌};
-ghost use Rattle.exif_locations.specs.Texts.{begins_account, begins_caption, begins_comment, begins_keywords, begins_list, begins_name, begins_text, begins_with, iptc_has_texts, is_text, xmp_has_texts};
+ghost use Rattle.exif_locations.specs.Texts.{begins_account, begins_caption, begins_comment, begins_further, begins_identifier, begins_keywords, begins_layer, begins_list, begins_name, begins_no_about, begins_object, begins_region, begins_remark, begins_subject, begins_text, begins_with, iptc_has_texts, is_text, xmp_has_texts};
 
 // Whether bytes begin with a word.
 #[tactic(auto, unfolding(crate::specs::Texts::begins_with))]
@@ -60,6 +60,95 @@ fn begins_list(bytes: &[u8]) -> bool
         || begins_with(b"image", bytes)
 }
 
+// Whether they begin with the name of one that holds keywords, categories, a label or comments.
+fn begins_subject(bytes: &[u8]) -> bool
+    ensures { result ≡ begins_subject bytes.now }
+{
+    begins_with(b"weightedFlatSubject", bytes)
+        || begins_with(b"SupplementalCategories", bytes)
+        || begins_with(b"Category", bytes)
+        || begins_with(b"Label", bytes)
+        || begins_with(b"comment", bytes)
+}
+
+// Whether they begin with the name of one that holds the name of a region, a person, an organisation or the picture.
+fn begins_region(bytes: &[u8]) -> bool
+    ensures { result ≡ begins_region bytes.now }
+{
+    begins_with(b"Name", bytes)
+        || begins_with(b"Nickname", bytes)
+        || begins_with(b"PersonInImage", bytes)
+        || begins_with(b"PersonDisplayName", bytes)
+        || begins_with(b"OrganisationInImage", bytes)
+}
+
+// Whether they begin with the name of one that holds what is shown, or the address of who made the picture.
+fn begins_object(bytes: &[u8]) -> bool
+    ensures { result ≡ begins_object bytes.now }
+{
+    begins_with(b"AOTitle", bytes)
+        || begins_with(b"AOContent", bytes)
+        || begins_with(b"AOPhysical", bytes)
+        || begins_with(b"ProductInImage", bytes)
+        || begins_with(b"CiAdr", bytes)
+}
+
+// Whether they begin with the name of one that holds texts of layers, a history or a title.
+fn begins_layer(bytes: &[u8]) -> bool
+    ensures { result ≡ begins_layer bytes.now }
+{
+    begins_with(b"TextLayers", bytes)
+        || begins_with(b"LayerText", bytes)
+        || begins_with(b"LayerName", bytes)
+        || begins_with(b"History", bytes)
+        || begins_with(b"Title", bytes)
+}
+
+// Whether bytes begin with an identifier that is empty, or the one that Windows writes.
+fn begins_no_about(bytes: &[u8]) -> bool
+    ensures { result ≡ begins_no_about bytes.now }
+{
+    begins_with(b"about=''", bytes)
+        || begins_with(b"about=\"\"", bytes)
+        || begins_with(
+            b"about=\"uuid:faf5bdd5-ba3d-11da-ad31-d33d75182f1b\"",
+            bytes,
+        )
+}
+
+// Whether they begin with a name of RDF that holds an identifier, which may be any text.
+fn begins_identifier(bytes: &[u8]) -> bool
+    ensures { result ≡ begins_identifier bytes.now }
+{
+    begins_with(b"nodeID", bytes)
+        || begins_with(b"ID=", bytes)
+        || begins_with(b"resource", bytes)
+        || (begins_with(b"about", bytes) && !begins_no_about(bytes))
+}
+
+// Whether bytes behind `<` begin a comment, character data, or an instruction that is not that of a
+// packet.
+fn begins_remark(bytes: &[u8]) -> bool
+    ensures { result ≡ begins_remark bytes.now }
+{
+    match bytes {
+        [first, rest @ ..] => *first == b'!' || (*first == b'?' && !rest.starts_with(b"xpacket ")),
+        [] => false,
+    }
+}
+
+// Whether bytes begin with the name of one of the last five.
+#[tactic(auto, unfolding(crate::specs::Texts::begins_further))]
+fn begins_further(bytes: &[u8]) -> bool
+    ensures { result ≡ begins_further bytes.now }
+{
+    begins_subject(bytes)
+        || begins_region(bytes)
+        || begins_object(bytes)
+        || begins_layer(bytes)
+        || begins_identifier(bytes)
+}
+
 // Whether bytes begin with the name of one of these.
 #[tactic(auto, unfolding(crate::specs::Texts::begins_name))]
 fn begins_name(bytes: &[u8]) -> bool
@@ -70,16 +159,21 @@ fn begins_name(bytes: &[u8]) -> bool
         || begins_account(bytes)
         || begins_keywords(bytes)
         || begins_list(bytes)
+        || begins_further(bytes)
 }
 
-/// Whether an XMP packet has a property that holds what people write of a picture, keywords or a
-/// picture: a name of one behind the colon of a prefix, wherever that is.
+/// Whether an XMP packet has a property that holds what people write of a picture, keywords, names,
+/// an identifier or a picture: a name of one behind the colon of a prefix, wherever that is. So does
+/// one with a comment, character data, or an instruction that is not that of a packet.
 pub fn xmp_has_texts(packet: &[u8]) -> bool
     ensures { result ≡ xmp_has_texts packet.now }
 {
     for i in 0..packet.len() {
         let rest = &packet[i + 1..];
         if packet[i] == b':' && begins_name(rest) {
+            return true;
+        }
+        if packet[i] == b'<' && begins_remark(rest) {
             return true;
         }
     }

@@ -2,4 +2,5 @@ pub mod Boundaries
 pub mod Characters
 pub mod EntrySteps
 pub mod Pieces
+pub mod SharedPaths
 pub mod Symbols

@@ -13,14 +13,16 @@ attribute name None = []
 attribute name (Some text) =
     codes " data-" ++ (name ++ between (codes "=\"") text.now (codes "\""))
 
--- what the filters read: the path, the camera, the day and the location
+-- what the filters and the style read: the path, the camera, the orientation by which the style
+-- turns the thumbnail, the day and the location
 unfoldable pub attributes : Entry → List ℕ
 attributes entry =
     attribute (codes "path") (Some entry.path)
     ++ (attribute (codes "camera") entry.camera
+    ++ (attribute (codes "orientation") entry.orientation
     ++ (attribute (codes "day") entry.day
     ++ (attribute (codes "latitude") entry.latitude
-    ++ attribute (codes "longitude") entry.longitude)))
+    ++ attribute (codes "longitude") entry.longitude))))
 
 -- bytes in base64 (RFC 4648, section 4), padded
 unfoldable pub base64 : List ℕ → List ℕ
@@ -36,6 +38,17 @@ image name bytes =
 unfoldable pub picture : List ℕ → Option (Bor (List ℕ)) → List ℕ
 picture name None = codes "<p class=\"none\">No thumbnail</p>\n"
 picture name (Some bytes) = image name bytes.now
+
+-- the thumbnail within a link
+unfoldable pub within : List ℕ → List ℕ → Option (Bor (List ℕ)) → List ℕ
+within link name thumbnail =
+    between (codes "<a class=\"open\" href=\"") link (codes "\">\n")
+    ++ (picture name thumbnail ++ codes "</a>\n")
+
+-- the same, where there is one
+unfoldable pub opened : Option (Bor (List ℕ)) → List ℕ → Option (Bor (List ℕ)) → List ℕ
+opened None name thumbnail = picture name thumbnail
+opened (Some link) name thumbnail = within link.now name thumbnail
 
 -- a location as a text with a geo URI (RFC 5870)
 unfoldable pub link : List ℕ → List ℕ → List ℕ
@@ -68,6 +81,6 @@ name_of entry = file_name entry.path.now
 unfoldable pub card : Entry → List ℕ
 card entry =
     codes "<li" ++ (attributes entry
-    ++ (codes ">\n" ++ (picture (name_of entry) entry.thumbnail
+    ++ (codes ">\n" ++ (opened entry.link (name_of entry) entry.thumbnail
     ++ (between (codes "<h3>") (name_of entry) (codes "</h3>\n")
     ++ (facts entry ++ codes "</li>\n")))))

@@ -1,13 +1,14 @@
 -- Worked examples: the definitions compute what small pages hold.
-use Rattle.std.specs.Prelude.{◌≡◌, refl, ℕ, List, [], ◌++◌, None, Some, codes}
+use Rattle.std.specs.Prelude.{◌≡◌, refl, ℕ, List, [], ◌∷◌, ◌++◌, None, Some, codes}
 use denote.Ref.{Bor}
 use Rattle.base64.specs.Rfc4648.{encode_symbols}
 use Rattle.std.specs.Fmt.{digits}
 use Rattle.exif_page.specs.Cameras.{camera_of}
-use Rattle.exif_page.specs.Cards.{attribute, attributes, base64, card, facts, image, link, location, picture}
+use Rattle.exif_page.specs.Cards.{attribute, attributes, base64, card, facts, image, link, location, opened, picture, within}
 use Rattle.exif_page.specs.Dates.{day_of, time_of}
 use Rattle.exif_page.specs.Escaping.{between, between_if, escaped}
 use Rattle.exif_page.specs.Exposures.{exposure_of, time_part}
+use Rattle.exif_page.specs.Links.{link_of}
 use Rattle.exif_page.specs.Numbers.{billionths_of, short_text}
 use Rattle.exif_page.specs.Paths.{file_name}
 use Rattle.exif_page.specs.Sections.{closing, opening, section_of, start}
@@ -27,6 +28,21 @@ name_of_name = refl
 
 name_of_folder : file_name (codes "may/") ≡ []
 name_of_folder = refl
+
+-- a picture below the page's folder, one in a folder beside it, and one of another folder whose
+-- name begins alike
+below : link_of (codes "/p/") (codes "/p/may/a 1.jpg") ≡ codes "may/a%201.jpg"
+below = refl
+
+beside : link_of (codes "/p/pages/") (codes "/p/may/a.jpg") ≡ codes "../may/a.jpg"
+beside = refl
+
+alike : link_of (codes "/p/may1/") (codes "/p/may2/a.jpg") ≡ codes "../may2/a.jpg"
+alike = refl
+
+-- `#`, `?`, `%`, `:` and a byte of UTF-8 would end the path or be read otherwise
+escaped_path : link_of (codes "/") (codes "/#?%:" ++ 195 ∷ []) ≡ codes "%23%3F%25%3A%C3"
+escaped_path = refl
 
 base64_of_man : base64 (codes "Man") ≡ codes "TWFu"
 unfolding base64 encode_symbols
@@ -61,6 +77,8 @@ text bytes = record { ref_ptr = (0, 0); now = bytes }
 abbrev beach : Entry
 beach = record {
   path = text (codes "a/b.jpg");
+  link = Some (text (codes "../a/b.jpg"));
+  orientation = Some (text (codes "6"));
   day = Some (text (codes "2024-05-01"));
   time = None;
   camera = Some (text (codes "R&D"));
@@ -72,10 +90,11 @@ beach = record {
 
 -- no link without a longitude
 card_of_beach : card beach
-    ≡ codes "<li data-path=\"a/b.jpg\" data-camera=\"R&amp;D\" data-day=\"2024-05-01\""
-    ++ (codes " data-latitude=\"1.5\">\n<p class=\"none\">No thumbnail</p>\n<h3>b.jpg</h3>\n"
-    ++ codes "<p class=\"path\">a/b.jpg</p>\n<p>R&amp;D</p>\n</li>\n")
-unfolding card attributes attribute picture facts location between between_if escaped
+    ≡ codes "<li data-path=\"a/b.jpg\" data-camera=\"R&amp;D\" data-orientation=\"6\""
+    ++ (codes " data-day=\"2024-05-01\" data-latitude=\"1.5\">\n"
+    ++ (codes "<a class=\"open\" href=\"../a/b.jpg\">\n<p class=\"none\">No thumbnail</p>\n</a>\n"
+    ++ codes "<h3>b.jpg</h3>\n<p class=\"path\">a/b.jpg</p>\n<p>R&amp;D</p>\n</li>\n"))
+unfolding card attributes attribute opened within picture facts location between between_if escaped
 card_of_beach = refl
 
 first_day : opening Closed (section_of beach)

@@ -5,6 +5,7 @@ pub mod Escaping
 pub mod Examples
 pub mod Exposures
 pub mod Facts
+pub mod Links
 pub mod Markup
 pub mod Numbers
 pub mod Pages

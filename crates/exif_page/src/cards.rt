@@ -1,10 +1,10 @@
 //! The card of a picture.
 
 ghost use Rattle.std.specs.Prelude.{◌≡◌, ◌++◌, OnOk};
-ghost use Rattle.exif_page.specs.Cards.{attribute, attributes, base64, card, facts, image, link, location, picture};
+ghost use Rattle.exif_page.specs.Cards.{attribute, attributes, base64, card, facts, image, link, location, opened, picture, within};
 
 use crate::entries::Entry;
-use crate::escaping::{push_between, push_between_if};
+use crate::escaping::{push_between, push_between_if, push_markup};
 use crate::paths::file_name;
 use base64::engine::general_purpose::STANDARD;
 use std::alloc::{AllocError, Global};
@@ -30,6 +30,7 @@ fn push_attributes(out: &mut Vec<u8>, entry: &Entry) -> Result<(), AllocError>
 {
     push_attribute(out, b"path", Some(entry.path))?;
     push_attribute(out, b"camera", entry.camera)?;
+    push_attribute(out, b"orientation", entry.orientation)?;
     push_attribute(out, b"day", entry.day)?;
     push_attribute(out, b"latitude", entry.latitude)?;
     push_attribute(out, b"longitude", entry.longitude)
@@ -67,6 +68,41 @@ fn push_picture(
     match thumbnail {
         Some(bytes) => push_image(alloc, out, name, bytes),
         None => out.extend_from_slice(b"<p class=\"none\">No thumbnail</p>\n"),
+    }
+}
+
+// Appends the thumbnail as a link.
+#[tactic(auto, unfolding(crate::specs::Cards::within))]
+fn push_within(
+    alloc: Global,
+    out: &mut Vec<u8>,
+    link: &[u8],
+    name: &[u8],
+    thumbnail: Option<&[u8]>,
+) -> Result<(), AllocError>
+    ensures { OnOk result (out.new.items
+        ≡ out.old.items ++ within link.now name.now thumbnail.entry) }
+{
+    push_between(out, b"<a class=\"open\" href=\"", link, b"\">\n")?;
+    push_picture(alloc, out, name, thumbnail)?;
+    push_markup(out, b"</a>\n")
+}
+
+// Appends the thumbnail, as a link to the file where there is one.
+#[tactic(auto, unfolding(crate::specs::Cards::opened))]
+fn push_opened(
+    alloc: Global,
+    out: &mut Vec<u8>,
+    link: Option<&str>,
+    name: &[u8],
+    thumbnail: Option<&[u8]>,
+) -> Result<(), AllocError>
+    ensures { OnOk result (out.new.items
+        ≡ out.old.items ++ opened link.entry name.now thumbnail.entry) }
+{
+    match link {
+        Some(link) => push_within(alloc, out, link.as_bytes(), name, thumbnail),
+        None => push_picture(alloc, out, name, thumbnail),
     }
 }
 
@@ -121,7 +157,7 @@ pub(crate) fn push_card(alloc: Global, out: &mut Vec<u8>, entry: &Entry) -> Resu
     out.extend_from_slice(b"<li")?;
     push_attributes(out, entry)?;
     out.extend_from_slice(b">\n")?;
-    push_picture(alloc, out, name, entry.thumbnail)?;
+    push_opened(alloc, out, entry.link, name, entry.thumbnail)?;
     push_between(out, b"<h3>", name, b"</h3>\n")?;
     push_facts(out, entry)?;
     out.extend_from_slice(b"</li>\n")

@@ -5,6 +5,10 @@
 pub struct Entry<'a> {
     /// The path of its file. What is behind the last `/` is its name on the page.
     pub path: &'a str,
+    /// Where a click on it leads: a URL, as [`link_to`](crate::link_to) makes one.
+    pub link: Option<&'a str>,
+    /// The orientation of Exif by which the thumbnail is turned, as `6`.
+    pub orientation: Option<&'a str>,
     /// The day that it was taken, as `2024-05-01`: its section, and what the dates filter.
     pub day: Option<&'a str>,
     /// The time of the day, as `12:30:59`.

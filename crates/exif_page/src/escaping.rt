@@ -30,6 +30,13 @@ pub(crate) fn push_escaped(out: &mut Vec<u8>, text: &[u8]) -> Result<(), AllocEr
     Ok(())
 }
 
+// Appends markup.
+pub(crate) fn push_markup(out: &mut Vec<u8>, markup: &[u8]) -> Result<(), AllocError>
+    ensures { OnOk result (out.new.items ≡ out.old.items ++ markup.now) }
+{
+    out.extend_from_slice(markup)
+}
+
 // Appends a text, escaped, between two pieces of markup.
 #[tactic(auto, unfolding(crate::specs::Escaping::between))]
 pub(crate) fn push_between(

@@ -15,6 +15,10 @@ use std::alloc::{AllocError, Global};
 pub struct Facts<'a> {
     /// The path of its file.
     pub path: &'a str,
+    /// Where a click on it leads.
+    pub link: Option<&'a str>,
+    /// The orientation of Exif, as a number.
+    pub orientation: Option<&'a str>,
     /// When it was taken, as `2016-05-04T03:02:01.74+09:00`.
     pub date_taken: Option<&'a str>,
     /// The maker of the camera.
@@ -95,6 +99,10 @@ pub fn entry_of<'a>(
     thumbnail: Option<&'a [u8]>,
 ) -> Entry<'a>
     ensures path { result.path.now ≡ facts.now.path.now }
+    ensures link { option_map (λ t. t.now) result.link
+        ≡ option_map (λ t. t.now) facts.now.link }
+    ensures orientation { option_map (λ t. t.now) result.orientation
+        ≡ option_map (λ t. t.now) facts.now.orientation }
     ensures day { option_map (λ t. t.now) result.day ≡ day_of_facts facts.now }
     ensures time { option_map (λ t. t.now) result.time ≡ time_of_facts facts.now }
     ensures camera { option_map (λ t. t.now) result.camera
@@ -109,6 +117,8 @@ pub fn entry_of<'a>(
 {
     Entry {
         path: facts.path,
+        link: shorter(facts.link),
+        orientation: shorter(facts.orientation),
         day: day_in(shorter(facts.date_taken)),
         time: time_in(shorter(facts.date_taken)),
         camera: text_of(&texts.camera),

@@ -55,9 +55,21 @@ h2 span { margin-left: .5rem; font-weight: normal; color: var(--soft); }
 ul { list-style: none; margin: 0; padding: 0; display: grid; gap: 1rem;
   grid-template-columns: repeat(auto-fill, minmax(13rem, 1fr)); }
 li { padding-bottom: .5rem; overflow: hidden; background: var(--card);
-  border: 1px solid var(--line); border-radius: 8px; }
+  border: 1px solid var(--line); border-radius: 8px;
+  content-visibility: auto; contain-intrinsic-size: auto 17rem; }
 li img, li .none { display: block; width: 100%; height: 10rem; object-fit: contain;
   background: var(--empty); }
+li .open { display: block; overflow: hidden; color: inherit; text-decoration: none;
+  background: var(--empty); }
+li[data-orientation="2"] img { transform: scaleX(-1); }
+li[data-orientation="3"] img { transform: rotate(180deg); }
+li[data-orientation="4"] img { transform: scaleY(-1); }
+li[data-orientation="5"] img, li[data-orientation="6"] img,
+li[data-orientation="7"] img, li[data-orientation="8"] img { width: 10rem; margin: 0 auto; }
+li[data-orientation="5"] img { transform: rotate(270deg) scaleX(-1); }
+li[data-orientation="6"] img { transform: rotate(90deg); }
+li[data-orientation="7"] img { transform: rotate(90deg) scaleX(-1); }
+li[data-orientation="8"] img { transform: rotate(270deg); }
 li .none { margin: 0; padding-top: 4.25rem; text-align: center; }
 h3, p { margin: .15rem .75rem; font-size: .85rem; overflow-wrap: anywhere; }
 h3 { margin-top: .6rem; font-size: .95rem; }

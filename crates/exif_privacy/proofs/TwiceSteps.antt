@@ -13,7 +13,7 @@ use Rattle.exif_privacy.specs.Data.{data_of, with_data}
 use Rattle.exif_privacy.specs.Erasing.{all_stay, erased, erased_by, found, found_in, front_erased, parts_erased, stays_for}
 use Rattle.exif_privacy.specs.Files.{parts_of}
 use Rattle.exif_privacy.specs.Judging.{front_reasons, judged_from}
-use Rattle.exif_privacy.specs.Parts.{part_answer, reasons_from}
+use Rattle.exif_privacy.specs.Parts.{changed_reasons, part_answer, reasons_from, version_reasons}
 use Rattle.exif_privacy.specs.Portions.{joined, joined_len, portion, portion_of, put_back}
 use Rattle.exif_privacy.specs.Promises.{TwiceIsOnce, is_still_there, would_change}
 use Rattle.exif_privacy.specs.declared.stays.Stays.{Stays}
@@ -50,23 +50,27 @@ same_portions (p ∷ ps) file =
     ∙ same_portions ps file)
 
 -- what would not be erased
-settled_by : {P : Type 0} → (b : Bool) (whys : List Why) → (b ≡ true → P) → list_any is_still_there (cond b whys (StillThere ∷ [])) ≡ false → P
-settled_by true whys h e = h refl
-settled_by false whys h e = absurd (no e)
+settled_by : (b : Bool) (version : Option (List Why)) (whys : List Why) → list_any is_still_there (cond b whys (changed_reasons version)) ≡ false → b ≡ true
+settled_by true version whys e = refl
+settled_by false None whys e = absurd (no e)
+  where
+    no : true ≡ false → ⊥
+    no e = cc
+settled_by false (Some left) whys e = absurd (no e)
   where
     no : true ≡ false → ⊥
     no e = cc
 
-settled : (old : List ℕ) (answer : List ℕ × List Why) → list_any is_still_there (reasons_from old answer) ≡ false → answer.0 ≡ old
-settled old answer e = settled_by (bytes_eq answer.0 old) answer.1 ((bytes_eq-Decides answer.0 old).0) e
+settled : (version : Option (List Why)) (old : List ℕ) (answer : List ℕ × List Why) → list_any is_still_there (reasons_from version old answer) ≡ false → answer.0 ≡ old
+settled version old answer e = (bytes_eq-Decides answer.0 old).0 (settled_by (bytes_eq answer.0 old) version answer.1 e)
 
 -- a part that stays, or the packet that it begins
 front_settled : (unread : Unread) (file : List ℕ) (n : ℕ) (p : Part) (ps : List Part) → list_any is_still_there (front_reasons unread file n p ps) ≡ false → front_erased unread n p ps file ≡ file
 front_settled unread file zero p ps e =
-    ap (λ bytes. with_data p bytes file) (settled (data_of p file) (part_answer unread p.kind (data_of p file)) e) ∙ same_data p file
+    ap (λ bytes. with_data p bytes file) (settled (version_reasons unread p.kind (data_of p file)) (data_of p file) (part_answer unread p.kind (data_of p file)) e) ∙ same_data p file
 front_settled unread file (suc n) p ps e =
     let parts : List Part = take (suc n) (p ∷ ps) in
-    ap (λ bytes. put_back parts bytes file) (settled (joined parts file) (part_answer unread kind.Xmp (joined parts file)) e) ∙ same_portions parts file
+    ap (λ bytes. put_back parts bytes file) (settled None (joined parts file) (part_answer unread kind.Xmp (joined parts file)) e) ∙ same_portions parts file
 
 any_stays : (part : Part) (whys : List Why) → list_any would_change (map (stays_for part) whys) ≡ list_any is_still_there whys
 any_stays part [] = refl

@@ -18,6 +18,23 @@ zeros_hold_nothing = refl
 others_may : part_reasons Keep kind.Comment (0 ∷ 7 ∷ []) ≡ NotJudged ∷ []
 others_may = refl
 
+-- a JFIF header of 14 bytes holds nothing, what follows them may, and so may a thumbnail, a caption
+-- of Photoshop, and Adobe's segment with more than 12 bytes
+header_holds_nothing : part_reasons Keep kind.Jfif (replicate 14 9) ≡ []
+header_holds_nothing = refl
+
+more_may : part_reasons Keep kind.Jfif (replicate 15 9) ≡ NotJudged ∷ []
+more_may = refl
+
+thumbnail_may : part_reasons Keep kind.JfifThumbnail (9 ∷ []) ≡ NotJudged ∷ []
+thumbnail_may = refl
+
+caption_may : part_reasons Keep kind.PhotoshopOther (9 ∷ []) ≡ NotJudged ∷ []
+caption_may = refl
+
+adobe_may : part_reasons Keep kind.Adobe (replicate 13 9) ≡ NotJudged ∷ []
+adobe_may = refl
+
 -- the data of a portion: a GUID of this letter, the length of the packet, and the offset in it
 abbrev held : ℕ → ℕ → ℕ → List ℕ → List ℕ
 held letter len offset bytes =

@@ -1,10 +1,10 @@
 -- The locations in one part of a file.
-use Rattle.std.specs.Prelude.{ℕ, ◌==◌, List, [], ◌∷◌, map, Bool, true, false, Option, None, Some, if◌then◌else◌}
-use Rattle.std.specs.List.{list_all}
-use Rattle.std.specs.Option.{option_to_list}
+use Rattle.std.specs.Prelude.{ℕ, List, [], ◌∷◌, drop, map, Bool, true, false, Option, None, Some, if◌then◌else◌}
+use Rattle.std.specs.Option.{option_map, option_to_list}
 use Rattle.std.specs.Str.{bytes_eq}
 use Rattle.exif_data_locations.specs.Locations.{data_erased}
-use Rattle.exif_data_locations.specs.Regions.{can_be_blanked as unread_in_data}
+use Rattle.exif_data_locations.specs.Regions.{all_zero, can_be_blanked as unread_in_data}
+use Rattle.exif_data_locations.specs.Versions.{version_erased}
 use Rattle.exif_data_locations.specs.declared.why.Why as data_why
 use Rattle.exif_inventory.specs.declared.kind.Kind.{Kind}
 use Rattle.exif_inventory.specs.declared.kind.Kind.TheVariants as kind
@@ -13,7 +13,7 @@ use Rattle.exif_locations.specs.Unread as packets
 use Rattle.exif_locations.specs.Unread.{because}
 use Rattle.exif_locations.specs.declared.unread.Unread.{Unread}
 use Rattle.exif_privacy.specs.declared.stays.Why.{Why}
-use Rattle.exif_privacy.specs.declared.stays.Why.TheVariants.{XmpNotRead, IptcNotRead, InExif, NotJudged, StillThere, Texts}
+use Rattle.exif_privacy.specs.declared.stays.Why.TheVariants.{XmpNotRead, IptcNotRead, InExif, NotJudged, StillThere, GpsVersion, Texts}
 
 -- an XMP packet without its locations
 abbrev pub xmp_answer : Unread → List ℕ → List ℕ × Option Why
@@ -51,19 +51,22 @@ listed (new, why) = (new, option_to_list why)
 abbrev pub in_exif : List ℕ × List data_why.Why → List ℕ × List Why
 in_exif (new, whys) = (new, map InExif whys)
 
--- whether all bytes are zero
-abbrev pub all_zero : List ℕ → Bool
-all_zero bytes = list_all (λ b. b == 0) bytes
-
 -- why data that are not looked at may hold a location: zeros hold none
 abbrev pub unjudged : List ℕ → Option Why
 unjudged bytes = if all_zero bytes then None else Some NotJudged
 
--- the data of a part without their locations, and why they may still hold one
+-- the data of a part without their locations, and why they may still hold one; a JFIF header has 14
+-- bytes (JFIF 1.02), and maybe a small picture, Adobe's segment has 12
 abbrev pub part_answer : Unread → Kind → List ℕ → List ℕ × List Why
 part_answer unread kind.Exif bytes = in_exif (data_erased unread bytes)
+part_answer unread kind.PhotoshopExif bytes = in_exif (data_erased unread bytes)
 part_answer unread kind.Xmp bytes = listed (xmp_judged unread bytes)
+part_answer unread kind.PhotoshopXmp bytes = listed (xmp_judged unread bytes)
 part_answer unread kind.Iptc bytes = listed (iptc_judged unread bytes)
+part_answer unread kind.Jfif bytes = listed (bytes, unjudged (drop 14 bytes))
+part_answer unread kind.Adobe bytes = listed (bytes, unjudged (drop 12 bytes))
+part_answer unread kind.JfifThumbnail bytes = listed (bytes, unjudged bytes)
+part_answer unread kind.PhotoshopOther bytes = listed (bytes, unjudged bytes)
 part_answer unread kind.ExtendedXmp bytes = listed (bytes, unjudged bytes)
 part_answer unread kind.Comment bytes = listed (bytes, unjudged bytes)
 part_answer unread kind.ContentCredentials bytes = listed (bytes, unjudged bytes)
@@ -72,10 +75,30 @@ part_answer unread kind.Unknown bytes = listed (bytes, unjudged bytes)
 part_answer unread kind.Broken bytes = listed (bytes, unjudged bytes)
 part_answer unread _ bytes = (bytes, [])
 
+-- why data that would change may hold a location: of those whose GPS data are a version alone these
+-- reasons are known
+abbrev pub changed_reasons : Option (List Why) → List Why
+changed_reasons None = StillThere ∷ []
+changed_reasons (Some whys) = GpsVersion ∷ whys
+
 -- why data may hold a location: it would be erased, or else for the reasons why it would stay
-abbrev pub reasons_from : List ℕ → List ℕ × List Why → List Why
-reasons_from old (new, whys) = if bytes_eq new old then whys else StillThere ∷ []
+abbrev pub reasons_from : Option (List Why) → List ℕ → List ℕ × List Why → List Why
+reasons_from version old (new, whys) =
+    if bytes_eq new old then whys else changed_reasons version
+
+-- the reasons of Exif data whose GPS data are no version alone
+abbrev pub exif_reasons : Unread → List ℕ → List Why
+exif_reasons unread bytes = reasons_from None bytes (in_exif (data_erased unread bytes))
+
+-- those of Exif data without the version of their GPS data, if these are no more
+abbrev pub version_reasons : Unread → Kind → List ℕ → Option (List Why)
+version_reasons unread kind.Exif bytes =
+    option_map (exif_reasons unread) (version_erased bytes)
+version_reasons unread kind.PhotoshopExif bytes =
+    option_map (exif_reasons unread) (version_erased bytes)
+version_reasons unread _ bytes = None
 
 -- the same of the data of a part
 abbrev pub part_reasons : Unread → Kind → List ℕ → List Why
-part_reasons unread k bytes = reasons_from bytes (part_answer unread k bytes)
+part_reasons unread k bytes =
+    reasons_from (version_reasons unread k bytes) bytes (part_answer unread k bytes)

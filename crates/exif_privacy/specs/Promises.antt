@@ -14,12 +14,13 @@ use Rattle.exif_privacy.specs.Parts.{part_reasons}
 use Rattle.exif_privacy.specs.Portions.{is_extended}
 use Rattle.exif_privacy.specs.declared.stays.Stays.{Stays}
 use Rattle.exif_privacy.specs.declared.stays.Why.{Why}
-use Rattle.exif_privacy.specs.declared.stays.Why.TheVariants.{StillThere}
+use Rattle.exif_privacy.specs.declared.stays.Why.TheVariants.{GpsVersion, StillThere}
 use Rattle.exif_locations.specs.declared.unread.Unread.{Unread}
 
--- whether a reason is that a location would be erased
+-- whether a reason is that something would be erased
 abbrev pub is_still_there : Why → Bool
 is_still_there StillThere = true
+is_still_there GpsVersion = true
 is_still_there _ = false
 
 -- whether a part is answered for that
@@ -53,6 +54,8 @@ ReasonsAreItsOwn =
 -- whether data of this kind are searched for locations
 abbrev pub is_searched : Kind → Bool
 is_searched kind.Exif = true
+is_searched kind.PhotoshopExif = true
+is_searched kind.PhotoshopXmp = true
 is_searched kind.Xmp = true
 is_searched kind.ExtendedXmp = true
 is_searched kind.Iptc = true

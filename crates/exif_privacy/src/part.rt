@@ -1,8 +1,9 @@
 //! The locations in one part of a file.
 
-ghost use Rattle.std.specs.Prelude.{◌≡◌, false, IfOk, map};
+ghost use Rattle.std.specs.Prelude.{◌≡◌, ◌∷◌, drop, false, IfOk, map};
 ghost use Rattle.std.specs.Option.{option_to_list};
-ghost use Rattle.exif_privacy.specs.Parts.{all_zero, in_exif, iptc_answer, iptc_judged, part_answer, part_reasons, unjudged, xmp_answer, xmp_judged};
+ghost use Rattle.exif_privacy.specs.Parts.{changed_reasons, exif_reasons, in_exif, iptc_answer, iptc_judged, part_answer, part_reasons, unjudged, version_reasons, xmp_answer, xmp_judged};
+ghost use Rattle.exif_data_locations.specs.Regions.{all_zero};
 ghost use Rattle.exif_privacy.specs.Promises.{is_searched};
 ghost use Rattle.exif_data_locations.specs.Locations.{data_erased};
 
@@ -97,6 +98,16 @@ fn unjudged(bytes: &[u8]) -> Option<Why>
     }
 }
 
+// The same of those behind so many.
+fn unjudged_behind(n: usize, bytes: &[u8]) -> Option<Why>
+    ensures { result ≡ unjudged (drop n bytes.now) }
+{
+    match bytes.get(n..) {
+        Some(rest) => unjudged(rest),
+        None => None,
+    }
+}
+
 /// Erases the locations in the data of a part, and answers why it may still hold one.
 pub fn erase_part(
     alloc: Global,
@@ -109,22 +120,64 @@ pub fn erase_part(
     ensures others { is_searched kind ≡ false → bytes.new ≡ bytes.old }
 {
     match kind {
-        Kind::Exif => erase_exif(alloc, unread, bytes),
-        Kind::Xmp => listed(alloc, judge_xmp(bytes, unread)),
+        Kind::Exif | Kind::PhotoshopExif => erase_exif(alloc, unread, bytes),
+        Kind::Xmp | Kind::PhotoshopXmp => listed(alloc, judge_xmp(bytes, unread)),
         Kind::Iptc => listed(alloc, judge_iptc(bytes, unread)),
-        Kind::ExtendedXmp
+        Kind::Jfif => listed(alloc, unjudged_behind(14, bytes)),
+        Kind::Adobe => listed(alloc, unjudged_behind(12, bytes)),
+        Kind::JfifThumbnail
+        | Kind::PhotoshopOther
+        | Kind::ExtendedXmp
         | Kind::Comment
         | Kind::ContentCredentials
         | Kind::Trailer
         | Kind::Unknown
         | Kind::Broken => listed(alloc, unjudged(bytes)),
-        Kind::Picture
-        | Kind::Jfif
-        | Kind::JfifThumbnail
-        | Kind::Photoshop
-        | Kind::IccProfile
-        | Kind::Adobe
-        | Kind::MultiPicture => listed(alloc, None),
+        Kind::Picture | Kind::Photoshop | Kind::IccProfile | Kind::MultiPicture => {
+            listed(alloc, None)
+        }
+    }
+}
+
+// Why Exif data whose GPS data are no version alone may hold a location, by a copy of them.
+fn exif_reasons(alloc: Global, unread: Unread, bytes: &[u8]) -> Result<Vec<Why>, AllocError>
+    ensures { IfOk result (λ whys. whys.items ≡ exif_reasons unread bytes.now) }
+{
+    let mut new = Vec::from_slice(alloc, bytes)?;
+    let whys = erase_exif(alloc, unread, &mut new)?;
+    if new.as_slice() == bytes {
+        Ok(whys)
+    } else {
+        listed(alloc, Some(Why::StillThere))
+    }
+}
+
+// Those of Exif data without the version of their GPS data, behind the reason of that.
+fn behind_version(alloc: Global, unread: Unread, bytes: &[u8]) -> Result<Vec<Why>, AllocError>
+    ensures { IfOk result (λ whys. whys.items ≡ Why.GpsVersion ∷ exif_reasons unread bytes.now) }
+{
+    let whys = exif_reasons(alloc, unread, bytes)?;
+    let mut all = listed(alloc, Some(Why::GpsVersion))?;
+    all.extend_from_slice(whys.as_slice())?;
+    Ok(all)
+}
+
+// Why data of this kind that would change may hold a location.
+fn changed_reasons(
+    alloc: Global,
+    unread: Unread,
+    kind: Kind,
+    bytes: &[u8],
+) -> Result<Vec<Why>, AllocError>
+    ensures { IfOk result (λ whys. whys.items
+        ≡ changed_reasons (version_reasons unread kind bytes.now)) }
+{
+    if !matches!(kind, Kind::Exif | Kind::PhotoshopExif) {
+        return listed(alloc, Some(Why::StillThere));
+    }
+    match exif_data_locations::without_version(alloc, bytes)? {
+        Some(new) => behind_version(alloc, unread, new.as_slice()),
+        None => listed(alloc, Some(Why::StillThere)),
     }
 }
 
@@ -137,7 +190,7 @@ fn tried(alloc: Global, unread: Unread, kind: Kind, bytes: &[u8]) -> Result<Vec<
     if new.as_slice() == bytes {
         Ok(whys)
     } else {
-        listed(alloc, Some(Why::StillThere))
+        changed_reasons(alloc, unread, kind, bytes)
     }
 }
 
@@ -152,19 +205,21 @@ pub fn part_reasons(
     ensures { IfOk result (λ whys. whys.items ≡ part_reasons unread kind bytes.now) }
 {
     match kind {
-        Kind::Exif | Kind::Xmp | Kind::Iptc => tried(alloc, unread, kind, bytes),
-        Kind::ExtendedXmp
+        Kind::Exif | Kind::PhotoshopExif | Kind::Xmp | Kind::PhotoshopXmp | Kind::Iptc => tried(
+            alloc, unread, kind, bytes,
+        ),
+        Kind::Jfif => listed(alloc, unjudged_behind(14, bytes)),
+        Kind::Adobe => listed(alloc, unjudged_behind(12, bytes)),
+        Kind::JfifThumbnail
+        | Kind::PhotoshopOther
+        | Kind::ExtendedXmp
         | Kind::Comment
         | Kind::ContentCredentials
         | Kind::Trailer
         | Kind::Unknown
         | Kind::Broken => listed(alloc, unjudged(bytes)),
-        Kind::Picture
-        | Kind::Jfif
-        | Kind::JfifThumbnail
-        | Kind::Photoshop
-        | Kind::IccProfile
-        | Kind::Adobe
-        | Kind::MultiPicture => listed(alloc, None),
+        Kind::Picture | Kind::Photoshop | Kind::IccProfile | Kind::MultiPicture => {
+            listed(alloc, None)
+        }
     }
 }

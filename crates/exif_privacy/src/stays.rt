@@ -1,6 +1,8 @@
 //! Parts of a file that may still hold a location.
 
-ghost use Rattle.std.specs.Prelude.{◌≡◌};
+ghost use Rattle.std.specs.Prelude.{◌≡◌, Some};
+ghost use Rattle.std.specs.Fmt.{WritesOnOk};
+ghost use Rattle.exif_privacy.specs.StaysTexts.{exif_text};
 ghost use Rattle.exif_privacy.specs.Parts.{can_be_blanked};
 
 use exif_inventory::{Kind, Part};
@@ -22,6 +24,9 @@ pub enum Why {
     NotJudged,
     /// Erasing it again would change the part.
     StillThere,
+    /// Erasing it again would change the part: its GPS data are a version alone, which names no
+    /// location.
+    GpsVersion,
 }
 
 impl Why {
@@ -53,7 +58,9 @@ fn write_exif<W: fmt::Write>(
     name: Kind,
     offset: usize,
     why: exif_data_locations::Why,
-) -> fmt::Result {
+) -> fmt::Result
+    ensures { WritesOnOk W.write_str_gives f.old result (exif_text name offset why) f.new }
+{
     match why {
         exif_data_locations::Why::NotChanged => write!(
             f,
@@ -75,6 +82,10 @@ fn write_exif<W: fmt::Write>(
 }
 
 impl fmt::Display for Stays {
+    ghost use Rattle.exif_privacy.specs.StaysTexts.{stays_text};
+
+    ghost output = { λ stays. Some (stays_text stays) };
+
     fn fmt<W: fmt::Write>(&self, f: &mut fmt::Formatter<W>) -> fmt::Result {
         let name = self.part.kind;
         let offset = self.part.offset;
@@ -97,6 +108,10 @@ impl fmt::Display for Stays {
                 "still there: {name} at offset {offset}, which may hold a location"
             ),
             Why::StillThere => write!(f, "a location is still there: {name} at offset {offset}"),
+            Why::GpsVersion => write!(
+                f,
+                "the version of GPS data is still there: {name} at offset {offset}"
+            ),
         }
     }
 }

@@ -163,8 +163,8 @@ impl Reader {
         Ok(exif)
     }
 
-    // What `read_from_container` reads, where the first byte is at this offset of a source that
-    // goes back. With none, the source does not go back.
+    // What `read_from_container` reads, where the first byte is at this offset. With none, the
+    // stream is read in order.
     fn read_from<R: Source>(
         &self,
         alloc: Global,
@@ -233,8 +233,8 @@ impl Reader {
         self.read_through(alloc, source, origin, &mut [0; BLOCK])
     }
 
-    // The same through this block, where the first byte is at this offset of a source that goes
-    // back. With none, the source does not go back.
+    // The same through this block, where the first byte is at this offset. With none, the stream
+    // is read in order.
     fn read_through<R: Source>(
         &self,
         alloc: Global,
@@ -263,9 +263,8 @@ impl Reader {
     }
 
     /// What [`read_by_need`](Reader::read_by_need) answers of a stream whose signature is that of
-    /// this container, or of bytes that begin none. The first byte is at this offset of a source
-    /// that goes back; with none, the source does not go back. It is for callers that have read
-    /// the signature themselves.
+    /// this container, or of bytes that begin none. The first byte is at this offset; with none,
+    /// the stream is read in order. It is for callers that have read the signature themselves.
     pub fn read_as<R: Source>(
         &self,
         alloc: Global,

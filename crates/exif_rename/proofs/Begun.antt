@@ -19,7 +19,8 @@ use Rattle.exif_rename.specs.declared.starts.Series.{Series}
 use Rattle.exif_rename.specs.declared.wish.Wish.{Wish}
 use Rattle.exif_rename.specs.declared.wish.WishFile.{WishFile}
 use Rattle.exif_rename.proofs.Plans.{FitIs, now_all, now_both, now_map}
-use Rattle.exif_rename.proofs.Searches.{Begins, Found}
+use Rattle.exif_rename.proofs.Searches.{Begins}
+use Rattle.exif_rename.proofs.Kept.{Chosen}
 
 -- what is answered of a path
 abbrev pub OpenIs : List State → (List ℕ → Bool) → List ℕ → Bool → Type 0
@@ -149,7 +150,7 @@ closed_after a b is_given is_given' starts starts' name files names same are are
 -- what a search finds that begins at such a start
 pub wish_fits : (a b d : List State) (is_given : List ℕ → Bool) (starts : BTreeMap Series ℕ) (names : List (List ℕ)) (wish : Wish) (start : ℕ) (found : Option ℕ) → b ≡ a → d ≡ a
     → Now a (λ s. AreStarts (free_in s) is_given starts) → Now b (λ s. AreStarts (free_in s) is_given starts → Begins s is_given wish start)
-    → Found d names is_given wish start found → FitIs a names wish found
+    → Chosen d names is_given wish start found → FitIs a names wish found
 wish_fits a b d is_given starts names wish start found same same' closed begins finds =
     let begun : Now a (λ s. Begins s is_given wish start) = now_both _ _ _ a b same closed begins (λ s x f. f x) in
     now_both _ _ _ a d same' begun finds (λ s x f. f x)

@@ -1,14 +1,14 @@
 -- What the calls make of the states by which a file is copied.
-use Rattle.std.proofs.Common.{◌≡◌, ◌≢◌, ◌⊎◌, ℕ, List, Bool, true, false, Some, None, Result, Ok, Err, is_ok, subst, sym, ap, refl, ◌∙◌, inl, inr}
+use Rattle.std.proofs.Common.{◌≡◌, ◌≢◌, ◌⊎◌, ℕ, List, Bool, true, false, Some, None, Result, Ok, Err, is_ok, is_err, ◌≤◌, arith, subst, sym, ap, refl, ◌∙◌, inl, inr}
 use Rattle.std.specs.Prelude.{IfErr}
 use Rattle.exif_files.specs.States.{Entry, State, Holds, Elsewhere, Now, Run}
-use Rattle.exif_files.specs.Steps.{Copies, HasOwner, HasMode, HasTimes, Syncs, Settles, Moves, Does}
-use Rattle.exif_files.specs.Written.{FailedToRemove, IsCreatedForGood, IsMade, IsNotCreated, IsWholeNew}
+use Rattle.exif_files.specs.Steps.{Copies, HasOwner, HasMode, HasTimes, Syncs, Settles, Moves, Does, count_after}
+use Rattle.exif_files.specs.Written.{FailedToRemove, IsCreatedForGood, IsMade, IsMadeOrHeld, IsNotCreated, IsWholeNew}
 use Rattle.exif_files.specs.declared.failure.WriteError.{WriteError}
 use Rattle.exif_files.proofs.Runs.{run_begin, run_none, run_one, run_then, run_step, run_stay, run_weaker}
 use Rattle.exif_files.proofs.Filling.{elsewhere_then}
-use Rattle.exif_rename.specs.Moves.{IsAlike, IsCaused, IsCopied, IsCopiedForGood, IsCopy, IsNotCopied, IsWholeCopy}
-use Rattle.exif_rename.specs.MoveParts.{KeepsBytes, MayBeAlike, MayCopy}
+use Rattle.exif_rename.specs.Moves.{IsAlike, IsCaused, IsCopied, IsCopiedForGood, IsCopy, IsCopyOrHeld, IsNotCopied, IsWholeCopy}
+use Rattle.exif_rename.specs.MoveParts.{FailuresStay, KeepsBytes, MayBeAlike, MayCopy}
 use Rattle.exif_rename.specs.declared.moving.Attributes.{Attributes}
 use Rattle.exif_rename.specs.declared.moving.Attributes.TheVariants.{Kept}
 
@@ -34,34 +34,51 @@ copy_made : (from to bytes : List ℕ) (mode : ℕ) (s t : State) → HasFile fr
 copy_made from to bytes mode s t was made =
     let g = made.1 in (made.0, (was.0, was.1, (g.0, g.1, g.2.0 ∙ sym was.2)))
 
-whole_made : (from to bytes : List ℕ) (mode : ℕ) (s t : State) → HasFile from bytes s → IsWholeNew to bytes mode s t → IsWholeCopy from to s t
-whole_made from to bytes mode s t was whole = record { file = file whole.file; others = whole.others }
+whole_made : (from to bytes : List ℕ) (mode : ℕ) (failed : Type 0) (s t : State) → HasFile from bytes s → IsWholeNew to bytes mode failed s t → IsWholeCopy from to failed s t
+whole_made from to bytes mode failed s t was whole = record { file = file whole.file; others = whole.others }
   where
-    file : (t.at to ≡ s.at to) ⊎ IsMade to bytes mode s t → (t.at to ≡ s.at to) ⊎ IsCopy from to s t
+    file : (t.at to ≡ s.at to) ⊎ IsMadeOrHeld to bytes mode failed s t → (t.at to ≡ s.at to) ⊎ IsCopyOrHeld from to failed s t
     file (inl same) = inl same
-    file (inr made) = inr (copy_made from to bytes mode s t was made)
+    file (inr (inl made)) = inr (inl (copy_made from to bytes mode s t was made))
+    file (inr (inr held)) = inr (inr held)
 
-pub run_made : (from to bytes : List ℕ) (mode : ℕ) (a b c : List State) → b ≡ a → Now a (HasFile from bytes)
-    → Run (IsWholeNew to bytes mode) (IsCreatedForGood to bytes mode) b c → Run (IsWholeCopy from to) (IsCopied from to) a c
-run_made from to bytes mode a b c same was run =
-    let P : List State → Type 0 = λ xs. Run (IsWholeNew to bytes mode) (IsCreatedForGood to bytes mode) xs c in
-    run_knowing (HasFile from bytes) a c was (subst P same run) (whole_made from to bytes mode)
+pub run_made : (from to bytes : List ℕ) (mode : ℕ) (a b c : List State) (f f' f'' : ℕ) → b ≡ a → f' ≡ f → Now a (HasFile from bytes)
+    → Run (IsWholeNew to bytes mode (count_after true f' ≤ f'')) (IsCreatedForGood to bytes mode) b c → Run (IsWholeCopy from to (count_after true f ≤ f'')) (IsCopied from to) a c
+run_made from to bytes mode a b c f f' f'' same count was run =
+    let P : List State → ℕ → Type 0 = λ xs n. Run (IsWholeNew to bytes mode (count_after true n ≤ f'')) (IsCreatedForGood to bytes mode) xs c in
+    run_knowing (HasFile from bytes) a c was (subst (P a) count (subst (λ (xs : List State). P xs f') same run)) (whole_made from to bytes mode (count_after true f ≤ f''))
     (λ s t was made. record { copy = copy_made from to bytes mode s t was made.created.file; others = made.created.others })
 
 pub run_not_made : (from to bytes : List ℕ) (mode : ℕ) (e : WriteError) (a b c : List State) (f f' f'' : ℕ) → b ≡ a → f' ≡ f → Now a (HasFile from bytes)
-    → Run (IsWholeNew to bytes mode) (IsNotCreated to bytes mode (FailedToRemove e f' f'')) b c → IsCaused e f' f''
-    → Run (IsWholeCopy from to) (IsNotCopied from to (IsCaused e f f'') (FailedToRemove e f f'')) a c
+    → Run (IsWholeNew to bytes mode (count_after true f' ≤ f'')) (IsNotCreated to bytes mode (count_after true f' ≤ f'') (FailedToRemove e f' f'')) b c → IsCaused e f' f''
+    → Run (IsWholeCopy from to (count_after true f ≤ f'')) (IsNotCopied from to (IsCaused e f f'') (count_after true f ≤ f'') (FailedToRemove e f f'')) a c
 run_not_made from to bytes mode e a b c f f' f'' same count was run cause =
-    let P : List State → ℕ → Type 0 = λ xs n. Run (IsWholeNew to bytes mode) (IsNotCreated to bytes mode (FailedToRemove e n f'')) xs c in
-    run_knowing (HasFile from bytes) a c was (subst (P a) count (subst (λ (xs : List State). P xs f') same run)) (whole_made from to bytes mode) left
+    let P : List State → ℕ → Type 0 = λ xs n. Run (IsWholeNew to bytes mode (count_after true n ≤ f'')) (IsNotCreated to bytes mode (count_after true n ≤ f'') (FailedToRemove e n f'')) xs c in
+    run_knowing (HasFile from bytes) a c was (subst (P a) count (subst (λ (xs : List State). P xs f') same run)) (whole_made from to bytes mode (count_after true f ≤ f'')) left
   where
     caused : IsCaused e f f''
     caused = let Q : ℕ → Type 0 = λ n. IsCaused e n f'' in subst Q count cause
 
-    left : (s t : State) → HasFile from bytes s → IsNotCreated to bytes mode (FailedToRemove e f f'') s t → IsNotCopied from to (IsCaused e f f'') (FailedToRemove e f f'') s t
+    left : (s t : State) → HasFile from bytes s → IsNotCreated to bytes mode (count_after true f ≤ f'') (FailedToRemove e f f'') s t → IsNotCopied from to (IsCaused e f f'') (count_after true f ≤ f'') (FailedToRemove e f f'') s t
     left s t was (inl same) = inl (same, caused)
     left s t was (inr (inl made)) = inr (inl (record { copy = copy_made from to bytes mode s t was made.file; others = made.others }))
-    left s t was (inr (inr over)) = inr (inr over)
+    left s t was (inr (inr (whole, both))) = inr (inr (whole_made from to bytes mode (count_after true f ≤ f'') s t was whole, both))
+
+-- what is said where a call failed is said where more failed
+pub copy_more : (from to : List ℕ) (failed failed' : Type 0) → (failed → failed') → (s t : State) → IsWholeCopy from to failed s t → IsWholeCopy from to failed' s t
+copy_more from to failed failed' more s t x = record { file = file x.file; others = x.others }
+  where
+    file : (t.at to ≡ s.at to) ⊎ IsCopyOrHeld from to failed s t → (t.at to ≡ s.at to) ⊎ IsCopyOrHeld from to failed' s t
+    file (inl same) = inl same
+    file (inr (inl copy)) = inr (inl copy)
+    file (inr (inr (held, yes_))) = inr (inr (held, more yes_))
+
+pub stay_call : {T E : Type 0} (r : Result T E) (f f' : ℕ) → f' ≡ count_after (is_err r) f → FailuresStay f f'
+stay_call (Ok x) f f' e n more = omega (arith, e, more)
+stay_call (Err x) f f' e n more = omega (arith, e, more)
+
+pub stay_then : (f g h : ℕ) → FailuresStay f g → FailuresStay g h → FailuresStay f h
+stay_then f g h first second n more = second n (first n more)
 
 -- ---- the attributes
 
@@ -149,8 +166,8 @@ copied_still from to s t u x y =
     let h = y.file g.0 g.1 in
     record { copy = (x.copy.0, (f.0, f.1, (h.0, h.1, h.2 ∙ g.2))); others = elsewhere_then to s t u x.others y.others }
 
-copied_whole : (from to : List ℕ) (s t : State) → IsCopied from to s t → IsWholeCopy from to s t
-copied_whole from to s t x = record { file = inr x.copy; others = λ n ne fresh. x.others n ne }
+copied_whole : (from to : List ℕ) (failed : Type 0) (s t : State) → IsCopied from to s t → IsWholeCopy from to failed s t
+copied_whole from to failed s t x = record { file = inr (inl x.copy); others = λ n ne fresh. x.others n ne }
 
 apart : (from to : List ℕ) (s t : State) → IsCopied from to s t → from ≢ to
 apart from to s t x same = let here : s.at from ≡ s.at to = ap s.at same in let some = x.copy.1.1 in let none = x.copy.0 in cc
@@ -190,10 +207,10 @@ copied_alike from to attributes s t u x y =
       others = elsewhere_then to s t u x.others y.others;
     }
 
-pub run_copied_alike : (from to : List ℕ) (attributes : Attributes) (a b c : List State) → Run (IsWholeCopy from to) (IsCopied from to) a b → Run (KeepsBytes to) (MayBeAlike from to attributes) b c
-    → Run (IsWholeCopy from to) (IsCopiedAlike false from to attributes) a c
-run_copied_alike from to attributes a b c first second =
-    run_then first second (λ s t x. x) (λ s t u x y. copied_whole from to s u (copied_still from to s t u x y)) (copied_alike from to attributes)
+pub run_copied_alike : (from to : List ℕ) (failed failed' : Type 0) → (failed → failed') → (attributes : Attributes) (a b c : List State) → Run (IsWholeCopy from to failed) (IsCopied from to) a b
+    → Run (KeepsBytes to) (MayBeAlike from to attributes) b c → Run (IsWholeCopy from to failed') (IsCopiedAlike false from to attributes) a c
+run_copied_alike from to failed failed' more attributes a b c first second =
+    run_then first second (copy_more from to failed failed' more) (λ s t u x y. copied_whole from to failed' s u (copied_still from to s t u x y)) (copied_alike from to attributes)
 
 as_copied : (kept : Bool) (from to : List ℕ) (attributes : Attributes) (s t : State) → IsCopiedAlike kept from to attributes s t → IsCopied from to s t
 as_copied kept from to attributes s t x =
@@ -229,11 +246,11 @@ synced from to attributes s t u x y =
       others = elsewhere_then to s t u x.others y.others;
     }
 
-pub run_copy_synced : (from to : List ℕ) (attributes : Attributes) (a b c : List State) → Run (IsWholeCopy from to) (IsCopiedAlike false from to attributes) a b → Moves (Syncs to) b c
-    → Run (IsWholeCopy from to) (IsCopiedAlike true from to attributes) a c
-run_copy_synced from to attributes a b c run m =
+pub run_copy_synced : (from to : List ℕ) (failed : Type 0) (attributes : Attributes) (a b c : List State) → Run (IsWholeCopy from to failed) (IsCopiedAlike false from to attributes) a b → Moves (Syncs to) b c
+    → Run (IsWholeCopy from to failed) (IsCopiedAlike true from to attributes) a c
+run_copy_synced from to failed attributes a b c run m =
     run_step (Syncs to) run m (λ s t x. x)
-    (λ s t u x y. copied_whole from to s u (as_copied true from to attributes s u (synced from to attributes s t u x y))) (synced from to attributes)
+    (λ s t u x y. copied_whole from to failed s u (as_copied true from to attributes s u (synced from to attributes s t u x y))) (synced from to attributes)
 
 settled : (from to : List ℕ) (attributes : Attributes) (s t u : State) → IsCopiedAlike true from to attributes s t → Settles to t u → IsCopiedForGood from to attributes s u
 settled from to attributes s t u x y =
@@ -250,14 +267,14 @@ pub for_good_copied : (from to : List ℕ) (attributes : Attributes) (s t : Stat
 for_good_copied from to attributes s t x =
     let f = x.file in record { copy = (x.free, (f.0, f.1, (f.2.0, f.2.1, f.2.2.0))); others = x.others }
 
-pub run_copy_settled : (from to : List ℕ) (attributes : Attributes) (a b c : List State) → Run (IsWholeCopy from to) (IsCopiedAlike true from to attributes) a b → Moves (Settles to) b c
-    → Run (IsWholeCopy from to) (IsCopiedForGood from to attributes) a c
-run_copy_settled from to attributes a b c run m =
+pub run_copy_settled : (from to : List ℕ) (failed : Type 0) (attributes : Attributes) (a b c : List State) → Run (IsWholeCopy from to failed) (IsCopiedAlike true from to attributes) a b → Moves (Settles to) b c
+    → Run (IsWholeCopy from to failed) (IsCopiedForGood from to attributes) a c
+run_copy_settled from to failed attributes a b c run m =
     run_step (Settles to) run m (λ s t x. x)
-    (λ s t u x y. copied_whole from to s u (for_good_copied from to attributes s u (settled from to attributes s t u x y))) (settled from to attributes)
+    (λ s t u x y. copied_whole from to failed s u (for_good_copied from to attributes s u (settled from to attributes s t u x y))) (settled from to attributes)
 
 -- the disk may not have all of the copy
-pub run_copy_unsure : (kept : Bool) (from to : List ℕ) (attributes : Attributes) (cause twice : Type 0) (a b c : List State) → Run (IsWholeCopy from to) (IsCopiedAlike kept from to attributes) a b → c ≡ b
-    → Run (IsWholeCopy from to) (IsNotCopied from to cause twice) a c
-run_copy_unsure kept from to attributes cause twice a b c run same =
+pub run_copy_unsure : (kept : Bool) (from to : List ℕ) (failed : Type 0) (attributes : Attributes) (cause twice : Type 0) (a b c : List State) → Run (IsWholeCopy from to failed) (IsCopiedAlike kept from to attributes) a b → c ≡ b
+    → Run (IsWholeCopy from to failed) (IsNotCopied from to cause failed twice) a c
+run_copy_unsure kept from to failed attributes cause twice a b c run same =
     run_weaker (run_stay run same) (λ s t x. x) (λ s t x. inr (inl (as_copied kept from to attributes s t x)))

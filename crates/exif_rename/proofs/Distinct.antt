@@ -1,9 +1,10 @@
 -- Why no two files get one path, and none is overwritten.
+use Rattle.std.specs.Prelude.{if◌then◌else◌}
 use Rattle.std.proofs.Common.{◌≡◌, ℕ, ◌+◌, suc, zero, List, [], ◌∷◌, ◌++◌, Bool, true, false, not, ◌&&◌, ◌||◌, cond, Option, Some, None, Result, Ok, Err, ap, refl, subst, ◌∙◌, length, map}
 use Rattle.std.specs.Str.{bytes_eq}
 use Rattle.exif_files.specs.Each.{is_among}
 use Rattle.exif_rename.specs.Apart.{AreToFree, DifferAfter, all_moves, paths_by}
-use Rattle.exif_rename.specs.Planned.{can_have, fit, fit_from, fits, planned_after, with_number, with_paths}
+use Rattle.exif_rename.specs.Planned.{can_have, chosen, fit, fit_from, fits, kept_or, own, planned_after, with_number, with_paths}
 use Rattle.exif_rename.specs.Wishes.{File, Wanted, candidate, moves_by, moves_in, path_of}
 
 both : (a b : Bool) → (a && b) ≡ true → (a ≡ true) × (b ≡ true)
@@ -29,6 +30,20 @@ found_fits free given wanted (suc tries) number found h =
     ] in
     f (fits free given (candidate wanted.base number) wanted.files) refl h
 
+-- so is the one that a wish gets
+chosen_fits : (free : List ℕ → Bool) (given : List (List ℕ)) (wanted : Wanted) (number : ℕ) → chosen free given wanted ≡ Some number
+    → fits free given (candidate wanted.base number) wanted.files ≡ true
+chosen_fits free given wanted number h = kept (own wanted) h
+  where
+    whether : (had : ℕ) (b : Bool) → fits free given (candidate wanted.base had) wanted.files ≡ b → (if b then Some had else fit free given wanted) ≡ Some number
+        → fits free given (candidate wanted.base number) wanted.files ≡ true
+    whether had true is e = let same : had ≡ number = cc in subst (λ (n : ℕ). fits free given (candidate wanted.base n) wanted.files ≡ true) same is
+    whether had false is e = found_fits free given wanted 100000 0 number e
+
+    kept : (had : Option ℕ) → kept_or free given wanted had ≡ Some number → fits free given (candidate wanted.base number) wanted.files ≡ true
+    kept None e = found_fits free given wanted 100000 0 number e
+    kept (Some had) e = whether had (fits free given (candidate wanted.base had) wanted.files) refl e
+
 -- what a plan of a wish and others says of them
 pub record Parts (free : List ℕ → Bool) (given : List (List ℕ)) (wanted : Wanted) (rest : List Wanted) (numbers : List ℕ) : Type 0 where
   pub number : ℕ
@@ -43,15 +58,15 @@ numbered : (free : List ℕ → Bool) (given : List (List ℕ)) (wanted : Wanted
 numbered free given wanted rest number numbers (Ok others) is e h = record { number = number; others = others; are = cc; fit = is; after = e }
 numbered free given wanted rest number numbers (Err n) is e h = cc
 
-parts_of : (free : List ℕ → Bool) (given : List (List ℕ)) (wanted : Wanted) (rest : List Wanted) (numbers : List ℕ) (found : Option ℕ) → fit free given wanted ≡ found
+parts_of : (free : List ℕ → Bool) (given : List (List ℕ)) (wanted : Wanted) (rest : List Wanted) (numbers : List ℕ) (found : Option ℕ) → chosen free given wanted ≡ found
     → ◌≡◌ {A = Result (List ℕ) ℕ} (elim found [ None ↦ Err 0 | Some number ↦ with_number number (planned_after free (with_paths (candidate wanted.base number) wanted.files given) rest) ]) (Ok numbers)
     → Parts free given wanted rest numbers
 parts_of free given wanted rest numbers None e h = cc
 parts_of free given wanted rest numbers (Some number) e h =
-    numbered free given wanted rest number numbers _ (found_fits free given wanted 100000 0 number e) refl h
+    numbered free given wanted rest number numbers _ (chosen_fits free given wanted number e) refl h
 
 parts : (free : List ℕ → Bool) (given : List (List ℕ)) (wanted : Wanted) (rest : List Wanted) (numbers : List ℕ) → planned_after free given (wanted ∷ rest) ≡ Ok numbers → Parts free given wanted rest numbers
-parts free given wanted rest numbers h = parts_of free given wanted rest numbers (fit free given wanted) refl h
+parts free given wanted rest numbers h = parts_of free given wanted rest numbers (chosen free given wanted) refl h
 
 -- the paths of files that fit differ, and so do those that come after
 differ_in : (free : List ℕ → Bool) (name : List ℕ) (files : List File) (given others : List (List ℕ)) → fits free given name files ≡ true → DifferAfter (with_paths name files given) others

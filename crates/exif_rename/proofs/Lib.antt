@@ -1,7 +1,10 @@
 pub mod Plans
 pub mod Distinct
 pub mod Parsed
+pub mod GroupSteps
+pub mod Kept
 pub mod Named
+pub mod NestedSteps
 pub mod Copying
 pub mod Away
 pub mod Slashes

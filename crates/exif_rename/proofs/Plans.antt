@@ -5,7 +5,7 @@ use Rattle.std.specs.Str.{bytes_eq}
 use Rattle.std.specs.String.{string_bytes}
 use Rattle.exif_files.specs.Each.{is_among}
 use Rattle.exif_files.specs.States.{State, Now}
-use Rattle.exif_rename.specs.Planned.{can_have, fit, fits, free_in, planned, planned_after, with_number, with_paths}
+use Rattle.exif_rename.specs.Planned.{can_have, chosen, fits, free_in, planned, planned_after, with_number, with_paths}
 use Rattle.exif_rename.specs.Wishes.{File, Wanted, candidate, file_of, path_of, wanted_of}
 use Rattle.exif_rename.specs.declared.wish.Wish.{Wish}
 use Rattle.exif_rename.specs.declared.wish.WishFile.{WishFile}
@@ -24,7 +24,7 @@ now_all P [] f = tt
 now_all P (s ∷ past) f = f s
 
 -- the member of an index in a list of what is made of others
-next_of : {X Y : Type 0} (f : X → Y) (xs : List X) (i : ℕ) (x : X) → i < length xs → x ≡ get_or xs i x
+pub next_of : {X Y : Type 0} (f : X → Y) (xs : List X) (i : ℕ) (x : X) → i < length xs → x ≡ get_or xs i x
     → (take (i + 1) (map f xs) ≡ take i (map f xs) ++ f x ∷ []) × (drop i (map f xs) ≡ f x ∷ drop (i + 1) (map f xs))
 next_of f xs i x h is =
     let within : i < length (map f xs) = omega (arith, length-map xs f) in
@@ -173,9 +173,9 @@ PlannedFrom a wishes names numbers i = Now a (λ s. planned (free_in s) (map wan
 
 -- what is answered of a wish
 abbrev pub FitIs : List State → List (List ℕ) → Wish → Option ℕ → Type 0
-FitIs b names wish found = Now b (λ s. fit (free_in s) names (wanted_of wish) ≡ found)
+FitIs b names wish found = Now b (λ s. chosen (free_in s) names (wanted_of wish) ≡ found)
 
-after_some : (free : List ℕ → Bool) (names : List (List ℕ)) (wanted : Wanted) (rest : List Wanted) (number : ℕ) → fit free names wanted ≡ Some number
+after_some : (free : List ℕ → Bool) (names : List (List ℕ)) (wanted : Wanted) (rest : List Wanted) (number : ℕ) → chosen free names wanted ≡ Some number
     → planned_after free names (wanted ∷ rest) ≡ with_number number (planned_after free (with_paths (candidate wanted.base number) wanted.files names) rest)
 after_some free names wanted rest number is =
     ap (λ (found : Option ℕ). elim found [
@@ -183,7 +183,7 @@ after_some free names wanted rest number is =
       | Some number ↦ with_number number (planned_after free (with_paths (candidate wanted.base number) wanted.files names) rest)
     ]) is
 
-after_none : (free : List ℕ → Bool) (names : List (List ℕ)) (wanted : Wanted) (rest : List Wanted) → fit free names wanted ≡ None
+after_none : (free : List ℕ → Bool) (names : List (List ℕ)) (wanted : Wanted) (rest : List Wanted) → chosen free names wanted ≡ None
     → planned_after free names (wanted ∷ rest) ≡ Err 0
 after_none free names wanted rest is =
     ap (λ (found : Option ℕ). elim found [

@@ -1,12 +1,16 @@
 -- Worked examples: patterns, names and plans.
-use Rattle.std.specs.Prelude.{◌≡◌, refl, ℕ, List, [], ◌∷◌, Bool, not, Some, Ok, Err, codes}
+use Rattle.std.specs.Prelude.{◌≡◌, refl, ℕ, List, [], ◌∷◌, Bool, true, false, not, None, Some, Ok, Err, codes}
 use Rattle.std.specs.Char.{encode_utf8}
 use Rattle.std.specs.Fmt.{digits}
 use Rattle.std.specs.Str.{chars, trim_end, trim_start}
+use Rattle.std.specs.declared.cmp.Ordering.TheVariants.{Less, Greater}
 use Rattle.exif_files.specs.Each.{is_among}
+use Rattle.exif_rename.specs.Grouped.{ending_of, grouped}
 use Rattle.exif_rename.specs.Naming.{Known, named, safe}
+use Rattle.exif_rename.specs.Nested.{folders_of}
+use Rattle.exif_rename.specs.Orders.{dated_cmp, moment_cmp}
 use Rattle.exif_rename.specs.Patterns.{parsed}
-use Rattle.exif_rename.specs.Planned.{fit_from, planned}
+use Rattle.exif_rename.specs.Planned.{fit_from, own_from, planned}
 use Rattle.exif_rename.specs.Unused.{unused, unused_from}
 use Rattle.exif_rename.specs.Wishes.{Wanted, moves_by}
 use Rattle.exif_rename.specs.declared.naming.Missing.TheVariants as missing
@@ -109,8 +113,13 @@ free_here n = not (is_among n (codes "a.jpg" ∷ codes "a.xmp" ∷ codes "x_1.jp
     ∷ codes "x.xmp" ∷ codes "x.jpg" ∷ []))
 
 three : planned free_here (with_sidecar ∷ numbered ∷ third ∷ []) ≡ Ok (2 ∷ 1 ∷ 3 ∷ [])
-unfolding fit_from digits
+unfolding fit_from own_from digits
 three = refl
+
+-- a picture whose name was given by a number stays, though the name without one is free
+stays : planned (λ n. not (is_among n (codes "x_1.jpg" ∷ []))) (numbered ∷ []) ≡ Ok (1 ∷ [])
+unfolding own_from digits
+stays = refl
 
 -- the name that the first of two equal wishes got is not given again, though nothing has it yet
 given_once : planned (λ n. not (is_among n (codes "b.jpg" ∷ []))) (third ∷ third ∷ []) ≡ Ok (0 ∷ 1 ∷ [])
@@ -137,3 +146,40 @@ third_of_its_name : unused (λ q. is_among q (codes "a.png_1.jpg" ∷ codes "a.p
     (codes "a.png") (codes ".jpg") ≡ Some (codes "a.png_2.jpg")
 unfolding unused_from digits
 third_of_its_name = refl
+
+-- ---- the order of pictures
+
+abbrev later : Taken
+later = record { year = 2024; month = 3; day = 9; hour = 7; minute = 5; second = 3 }
+
+-- the frames of one second, in the order of its fractions
+fractions : moment_cmp (record { taken = march; nanosecond = 100000000 }) (record { taken = march; nanosecond = 900000000 }) ≡ Less
+fractions = refl
+
+-- no fraction makes up for a second
+seconds : moment_cmp (record { taken = later; nanosecond = 0 }) (record { taken = march; nanosecond = 999999999 }) ≡ Greater
+seconds = refl
+
+without_a_date : dated_cmp None (Some (record { taken = march; nanosecond = 0 })) ≡ Greater
+without_a_date = refl
+
+-- ---- files of one stem
+
+two_endings : ending_of (codes "d.x/a.tar.gz") ≡ codes ".gz"
+two_endings = refl
+
+only_a_name : ending_of (codes "d.x/.a") ≡ []
+only_a_name = refl
+
+-- a picture, its raw file, its two sidecars, a picture of another folder, and a sidecar alone
+one_stem : grouped ((codes "d/a.JPG", false) ∷ (codes "d/a.NEF", false) ∷ (codes "d/a.jpg.xmp", true) ∷ (codes "d/a.xmp", true)
+    ∷ (codes "e/a.JPG", false) ∷ (codes "d/b.c.xmp", true) ∷ []) ≡ 0 ∷ 0 ∷ 0 ∷ 0 ∷ 4 ∷ 5 ∷ []
+one_stem = refl
+
+-- ---- folders of new names
+
+two_folders : folders_of (codes "2023/06/15") ≡ codes "2023/06"
+two_folders = refl
+
+no_folder : folders_of (codes "15") ≡ []
+no_folder = refl

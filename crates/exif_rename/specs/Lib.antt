@@ -1,9 +1,12 @@
 pub mod Apart
 pub mod Examples
 pub mod Failures
+pub mod Grouped
 pub mod MoveParts
 pub mod Moves
 pub mod Naming
+pub mod Nested
+pub mod Orders
 pub mod Patterns
 pub mod Planned
 pub mod Starts

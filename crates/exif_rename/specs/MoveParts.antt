@@ -1,9 +1,15 @@
 -- What the steps of a copy leave, one after the other.
-use Rattle.std.specs.Prelude.{◌≡◌, ◌≢◌, ℕ, List, Bool, true, Some}
+use Rattle.std.specs.Prelude.{◌≡◌, ◌≢◌, ◌≤◌, ℕ, List, Bool, true, Some}
 use Rattle.exif_files.specs.States.{Entry, State, Holds, Elsewhere}
+use Rattle.exif_files.specs.Steps.{count_after}
 use Rattle.exif_rename.specs.Moves.{IsAlike}
 use Rattle.exif_rename.specs.declared.moving.Attributes.{Attributes}
 use Rattle.exif_rename.specs.declared.moving.Attributes.TheVariants.{Kept}
+
+-- where a call failed before, one did after it
+abbrev pub FailuresStay : ℕ → ℕ → Type 0
+FailuresStay failures failures' =
+    (n : ℕ) → count_after true n ≤ failures → count_after true n ≤ failures'
 
 -- a file keeps its bytes, and the other names what they had
 pub record KeepsBytes (name : List ℕ) (s t : State) : Type 0 where

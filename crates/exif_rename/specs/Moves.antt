@@ -3,7 +3,8 @@ use Rattle.std.specs.Prelude.{◌≡◌, ◌≢◌, ◌≤◌, ◌⊎◌, ℕ, L
 use Rattle.exif_files.specs.States.{Entry, State, Holds, Elsewhere, ElsewhereOfTwo, IsUnchanged}
 use Rattle.exif_files.specs.Names.{IsFresh, OthersKept}
 use Rattle.exif_files.specs.Steps.{count_after}
-use Rattle.exif_files.specs.Written.{IsLeftOver}
+use Rattle.exif_files.specs.NewNames.{IsRenamed}
+use Rattle.exif_files.specs.Written.{IsHeld}
 use Rattle.exif_files.specs.declared.failure.WriteError.{WriteError}
 use Rattle.exif_files.specs.declared.failure.WriteError.TheVariants.{OutOfMemory, Taken, Crowded}
 use Rattle.exif_rename.specs.declared.moving.Attributes.{Attributes}
@@ -22,9 +23,14 @@ abbrev pub IsCopy : List ℕ → List ℕ → State → State → Type 0
 IsCopy from to s t = (s.at to ≡ None)
     × ((f : Entry) × (s.at from ≡ Some f) × Holds t to (λ g. g.bytes ≡ f.bytes))
 
--- in each state: the name has what it had, or a whole copy, and every other name what it had
-pub record IsWholeCopy (from to : List ℕ) (s t : State) : Type 0 where
-  pub file : (t.at to ≡ s.at to) ⊎ IsCopy from to s t
+-- a name that nothing had has a whole copy; or, where a call failed, a file without bytes
+abbrev pub IsCopyOrHeld : List ℕ → List ℕ → Type 0 → State → State → Type 0
+IsCopyOrHeld from to failed s t = IsCopy from to s t ⊎ (IsHeld to s t × failed)
+
+-- In each state: the name has what it had, or a whole copy, and every other name what it had. Where a
+-- call failed, as where no file can have two names, the name may have a file without bytes.
+pub record IsWholeCopy (from to : List ℕ) (failed : Type 0) (s t : State) : Type 0 where
+  pub file : (t.at to ≡ s.at to) ⊎ IsCopyOrHeld from to failed s t
   pub others : OthersKept None to s t
 
 -- a copy, and every other name has what it had
@@ -47,25 +53,18 @@ IsCaused error failures failures' = error ≢ OutOfMemory → error ≢ Taken �
     → count_after true failures ≤ failures'
 
 -- What an error leaves: all as it was, which has a cause; or a copy, where the disk may not have
--- all of it; or all as it was but for a hidden file, where its removal failed too.
-abbrev pub IsNotCopied : List ℕ → List ℕ → Type 0 → Type 0 → State → State → Type 0
-IsNotCopied from to cause twice s t =
-    (IsUnchanged s t × cause) ⊎ (IsCopied from to s t ⊎ (IsLeftOver to None s t × twice))
+-- all of it; or what a state between them had, where a removal failed too.
+abbrev pub IsNotCopied : List ℕ → List ℕ → Type 0 → Type 0 → Type 0 → State → State → Type 0
+IsNotCopied from to cause failed twice s t =
+    (IsUnchanged s t × cause) ⊎ (IsCopied from to s t ⊎ (IsWholeCopy from to failed s t × twice))
 
--- In each state the whole file has one of the two names, the new name nothing else, and every other
--- name what it had.
-pub record IsWholeMove (from to : List ℕ) (s t : State) : Type 0 where
+-- In each state the whole file has one of the two names at least, the new name nothing else, but
+-- for a file without bytes where a call failed, and every other name what it had.
+pub record IsWholeMove (from to : List ℕ) (failed : Type 0) (s t : State) : Type 0 where
   pub file : (f : Entry) → s.at from ≡ Some f
       → (t.at from ≡ Some f) ⊎ ((t.at from ≡ None) × IsCopy from to s t)
-  pub there : (t.at to ≡ s.at to) ⊎ IsCopy from to s t
+  pub there : (t.at to ≡ s.at to) ⊎ IsCopyOrHeld from to failed s t
   pub others : (n : List ℕ) → n ≢ from → n ≢ to → (IsFresh None s n → ⊥) → t.at n ≡ s.at n
-
--- the file has the other name, which nothing had
-pub record IsRenamed (from to : List ℕ) (s t : State) : Type 0 where
-  pub free : s.at to ≡ None
-  pub file : t.at to ≡ s.at from
-  pub gone : t.at from ≡ None
-  pub others : ElsewhereOfTwo from to s t
 
 -- a copy of the file, whose own name is gone
 pub record IsCopiedAway (from to : List ℕ) (attributes : Attributes) (s t : State) : Type 0 where
@@ -88,5 +87,6 @@ IsMoved from to s t = (attributes : Attributes) × IsCopiedAway from to attribut
 
 -- What an error leaves: what one of a copy leaves; or a copy has the other name, where only the
 -- disk may not have it.
-abbrev pub IsNotMoved : List ℕ → List ℕ → Type 0 → Type 0 → State → State → Type 0
-IsNotMoved from to cause twice s t = IsNotCopied from to cause twice s t ⊎ IsMoved from to s t
+abbrev pub IsNotMoved : List ℕ → List ℕ → Type 0 → Type 0 → Type 0 → State → State → Type 0
+IsNotMoved from to cause failed twice s t =
+    IsNotCopied from to cause failed twice s t ⊎ IsMoved from to s t

@@ -1,5 +1,5 @@
 -- Which new paths files get.
-use Rattle.std.specs.Prelude.{ℕ, zero, suc, ◌+◌, List, [], ◌∷◌, Bool, true, false, ◌&&◌, ◌||◌, not, Option, Some, None, Result, Ok, Err}
+use Rattle.std.specs.Prelude.{ℕ, zero, suc, ◌+◌, List, [], ◌∷◌, Bool, true, false, if◌then◌else◌, ◌&&◌, ◌||◌, not, Option, Some, None, Result, Ok, Err, length, take}
 use Rattle.std.specs.Option.{is_none}
 use Rattle.std.specs.Str.{bytes_eq}
 use Rattle.exif_files.specs.Each.{is_among}
@@ -42,6 +42,41 @@ fit_from free given wanted (suc tries) number =
 abbrev pub fit : (List ℕ → Bool) → List (List ℕ) → Wanted → Option ℕ
 fit free given wanted = fit_from free given wanted 100000 0
 
+-- whether each file has its path by a name already
+abbrev pub all_own : List ℕ → List File → Bool
+all_own name [] = true
+all_own name (file ∷ files) = bytes_eq (path_of name file) file.old && all_own name files
+
+-- the first number from one on, of so many, by whose candidate each file has its path already
+unfoldable pub own_from : Wanted → ℕ → ℕ → Option ℕ
+own_from wanted zero number = None
+own_from wanted (suc tries) number =
+    elim (all_own (candidate wanted.base number) wanted.files) [
+      | true ↦ Some number
+      | false ↦ own_from wanted tries (number + 1)
+    ]
+
+-- whether the first file's path begins with the base: each candidate does
+abbrev pub has_base : List ℕ → List File → Bool
+has_base base [] = false
+has_base base (file ∷ files) = bytes_eq base (take (length base) file.old)
+
+-- the first of all
+abbrev pub own : Wanted → Option ℕ
+own wanted = if has_base wanted.base wanted.files then own_from wanted 100000 0 else None
+
+-- a number, if the files can have their paths by its candidate; or the first such number
+abbrev pub kept_or : (List ℕ → Bool) → List (List ℕ) → Wanted → Option ℕ → Option ℕ
+kept_or free given wanted None = fit free given wanted
+kept_or free given wanted (Some number) =
+    if fits free given (candidate wanted.base number) wanted.files then Some number
+    else fit free given wanted
+
+-- The number that a wish gets: the one by which all its files have their paths already, so that they
+-- stay; or else the first of all whose candidate all the files can have.
+abbrev pub chosen : (List ℕ → Bool) → List (List ℕ) → Wanted → Option ℕ
+chosen free given wanted = kept_or free given wanted (own wanted)
+
 -- a number in front of others; of a wish without one, how many are before it
 abbrev pub with_number : ℕ → Result (List ℕ) ℕ → Result (List ℕ) ℕ
 with_number number (Ok numbers) = Ok (number ∷ numbers)
@@ -51,7 +86,7 @@ with_number number (Err before) = Err (before + 1)
 -- before; or the index of the first wish that gets none.
 abbrev pub planned_after : (List ℕ → Bool) → List (List ℕ) → List Wanted → Result (List ℕ) ℕ
 planned_after free given [] = Ok []
-planned_after free given (wanted ∷ rest) = elim (fit free given wanted) [
+planned_after free given (wanted ∷ rest) = elim (chosen free given wanted) [
   | None ↦ Err 0
   | Some number ↦ with_number number
       (planned_after free (with_paths (candidate wanted.base number) wanted.files given) rest)

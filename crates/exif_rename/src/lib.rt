@@ -1,17 +1,23 @@
 //! Files that get new names: the plan of new paths, and the moves.
 #![tactic(auto)]
 
+mod grouping;
 pub mod laws;
 mod moving;
 mod naming;
+mod nested;
+mod order;
 mod pattern;
 mod plan;
 mod starts;
 mod unused;
 mod wish;
 
+pub use grouping::{Entry, group, split_path};
 pub use moving::{Attributes, Moved, copy_file, move_file};
 pub use naming::{Facts, Missing, Taken};
+pub use nested::root_of;
+pub use order::{Moment, Shot, compare_shots};
 pub use pattern::{DatePart, Fault, Part, Pattern, PatternError};
 pub use plan::{PlanError, plan_names};
 pub use unused::give_unused;

@@ -8,7 +8,7 @@ ghost use Rattle.exif_files.specs.Each.{is_among};
 ghost use Rattle.exif_files.specs.States.{Now};
 ghost use Rattle.exif_files.specs.Steps.{count_after};
 ghost use Rattle.exif_rename.specs.Failures.{is_failed, IfCrowded};
-ghost use Rattle.exif_rename.specs.Planned.{free_in, fit, fit_from, fits, is_claimed, planned, with_paths};
+ghost use Rattle.exif_rename.specs.Planned.{chosen, free_in, fit, fit_from, fits, is_claimed, planned, with_paths};
 ghost use Rattle.exif_rename.specs.Starts.{IsStart};
 ghost use Rattle.exif_rename.specs.Wishes.{File, candidate, file_of, wanted_of};
 ghost use Rattle.exif_rename.specs.declared.plan.PlanError.TheVariants.{Io, Crowded, OutOfMemory};
@@ -69,11 +69,12 @@ impl fmt::Display for PlanError {
 }
 
 /// Which new names files get: the number of the candidate of each wish, from which
-/// [`Wish::moves`](crate::Wish::moves) makes the new paths. It is the first by which each file of
-/// the wish has a path that nothing has, or that is its own, and that no file was given before. It
-/// only asks which paths are free, and takes the memory of all new paths. It remembers how far the
-/// numbers of each name and ending are taken, so many files of one name take no longer than as many
-/// of different names.
+/// [`Wish::moves`](crate::Wish::moves) makes the new paths. Files that have all their paths by one
+/// number already, which no file was given before, keep it: so a second run changes nothing. Other
+/// wishes get the first number by which each file has a path that nothing has, or that is its own,
+/// and that no file was given before. It only asks which paths are free, and takes the memory of
+/// all new paths. It remembers how far the numbers of each name and ending are taken, so many files
+/// of one name take no longer than as many of different names.
 pub fn plan_names<F: FileSystem>(
     alloc: Global,
     files: &mut F,
@@ -91,13 +92,41 @@ pub fn plan_names<F: FileSystem>(
     let mut numbers = Vec::new(alloc);
     for (index, wish) in wishes.iter().enumerate() {
         let start = find_start(alloc, files, &given, &mut starts, wish)?;
-        let Some(number) = first_fit(alloc, files, &given, wish, start)? else {
+        let Some(number) = choose(alloc, files, &given, wish, start)? else {
             return Err(PlanError::Crowded(index));
         };
         numbers.push(number)?;
         give_paths(alloc, &mut given, wish, number)?;
     }
     Ok(numbers)
+}
+
+// The number that a wish gets: the one by which its files have their paths already, or the first
+// whose candidate they can have.
+fn choose<F: FileSystem>(
+    alloc: Global,
+    files: &mut F,
+    given: &BTreeSet<String>,
+    wish: &Wish,
+    start: u32,
+) -> Result<Option<u32>, PlanError>
+    requires { start ≤ 100000 }
+    ensures answer { IfOk result (λ number. (names : List (List ℕ))
+        → ((q : List ℕ) → contains_text given.now q ≡ is_among q names)
+        → Now (F.states files.old)
+        (λ s. IsStart (free_in s) (contains_text given.now) (wanted_of wish.now) start
+        → chosen (free_in s) names (wanted_of wish.now) ≡ number)) }
+    ensures never { IfErr result (λ e. IfCrowded e (λ index. ⊥)) }
+    ensures same { F.states files.new ≡ F.states files.old }
+    ensures count { F.failures files.new ≡ count_after (is_failed result) (F.failures files.old) }
+{
+    let Some(own) = wish.kept_number(alloc)? else {
+        return first_fit(alloc, files, given, wish, start);
+    };
+    if all_fit_by(alloc, files, given, wish, own)? {
+        return Ok(Some(own));
+    }
+    first_fit(alloc, files, given, wish, start)
 }
 
 // The first number whose candidate all files of a wish can have. Below `start` that is only the
@@ -287,7 +316,7 @@ fn give_by(
 }
 
 // Adds a path to those that were given.
-fn insert(given: &mut BTreeSet<String>, path: String) -> Result<(), AllocError>
+pub(crate) fn insert(given: &mut BTreeSet<String>, path: String) -> Result<(), AllocError>
     ensures { OnOk result ((q : List ℕ) → contains_text given.new q
         ≡ (if bytes_eq (string_bytes path) q then true else contains_text given.old q)) }
 {

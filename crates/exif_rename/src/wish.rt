@@ -1,9 +1,11 @@
 //! The new names that are asked for, and the moves that give them.
 
 ghost use Rattle.std.specs.Prelude.{◌≡◌, ◌<◌, ◌^◌, ◌++◌, ℕ, IfOk, Some, map, string_bytes};
+ghost use Rattle.exif_rename.specs.Planned.{all_own, own};
 ghost use Rattle.exif_rename.specs.Starts.{IsOwn};
 ghost use Rattle.exif_rename.specs.Wishes.{file_of, wanted_of, move_of, candidate, moves_in, moves_by};
 
+use crate::plan::TRIES;
 use std::alloc::{AllocError, Global};
 
 /// A file that is to have a new path.
@@ -15,12 +17,14 @@ pub struct WishFile {
     pub ending: String,
 }
 
-/// Files that are to have one new name: a picture, and those that go along.
+/// Files that are to have one new name: pictures, raw files and videos of one stem, and their
+/// sidecars.
 #[derive(Debug, Drop)]
 pub struct Wish {
     /// The new path without what the files end in.
     pub base: String,
-    /// The files, the picture first.
+    /// The files, in the order in which they are moved: sidecars before their picture. So where a
+    /// run is stopped between them, the next run gives the picture the name that its sidecars have.
     pub files: Vec<WishFile>,
 }
 
@@ -85,7 +89,39 @@ fn moves_in(alloc: Global, name: &str, files: &[WishFile]) -> Result<Vec<Move>, 
     Ok(moves)
 }
 
+// Whether each file has its path by a name already.
+fn has_paths(alloc: Global, name: &str, files: &[WishFile]) -> Result<bool, AllocError>
+    ensures { IfOk result (λ answer. answer ≡ all_own name.now (map file_of files.now)) }
+{
+    for file in files {
+        if joined(alloc, name, file.ending.as_str())?.as_str() != file.old.as_str() {
+            return Ok(false);
+        }
+    }
+    Ok(true)
+}
+
 impl Wish {
+    // The number by which each file has its new path already, if there is one below `TRIES`.
+    pub(crate) fn kept_number(&self, alloc: Global) -> Result<Option<u32>, AllocError>
+        ensures { IfOk result (λ number. own (wanted_of self.now) ≡ number) }
+    {
+        let Some(_first) = self.files.first() else {
+            return Ok(None);
+        };
+        let Some(number) = self.own_number() else {
+            return Ok(None);
+        };
+        if number >= TRIES {
+            return Ok(None);
+        }
+        let name = candidate(alloc, self.base.as_str(), number)?;
+        if has_paths(alloc, name.as_str(), self.files.as_slice())? {
+            return Ok(Some(number));
+        }
+        Ok(None)
+    }
+
     // The number by which the first file has its new path already, if one does.
     pub(crate) fn own_number(&self) -> Option<u32>
         ensures { IsOwn (wanted_of self.now) result }

@@ -6,9 +6,8 @@ use Rattle.exif_table.specs.declared.context.Context.TheVariants.{Tiff}
 use Rattle.exif_types.specs.Contents.{ExifContents}
 use Rattle.exif_types.specs.declared.field.Field.{Field}
 use Rattle.exif_summary.specs.Coordinates.{latitude, longitude}
-use Rattle.exif_summary.specs.Dates.{date_of}
+use Rattle.exif_summary.specs.Dates.{date_of, taken}
 use Rattle.exif_summary.specs.Finding.{degrees_of, text_found}
-use Rattle.exif_summary.specs.declared.dates.TheConstants.{TAKEN}
 use Rattle.exif_select.specs.Dates.{stamp}
 use Rattle.exif_select.specs.declared.choice.Choice.{Choice}
 use Rattle.exif_select.specs.declared.choice.Facts.{Facts}
@@ -16,7 +15,7 @@ use Rattle.exif_select.specs.declared.choice.Facts.{Facts}
 -- when a picture was taken
 abbrev pub taken_in : List Field → Option ℕ
 taken_in fields =
-    option_map (λ d. stamp d.year d.month d.day d.hour d.minute d.second) (date_of fields TAKEN)
+    option_map (λ d. stamp d.year d.month d.day d.hour d.minute d.second) (date_of fields taken)
 
 -- whether it tells latitude and longitude
 abbrev pub is_located : List Field → Bool

@@ -8,6 +8,7 @@ use crate::session::{Session, Stop};
 use exif::Sink;
 use exif_change::Refusal;
 use exif_console::NoteLine;
+use exif_decisions::Outcome;
 use exif_files::Status;
 
 /// Writes a changed file to OUT, and answers its status.
@@ -17,7 +18,7 @@ pub fn change_into<W: Sink, E: Sink>(
     path: &str,
     to: &str,
     force: bool,
-) -> Result<Status, Stop> {
+) -> Result<Outcome, Stop> {
     let rt = session.rt;
     let destination = match out_of(rt, path, to, force)? {
         Ok(destination) => destination,
@@ -39,12 +40,11 @@ pub fn change_into<W: Sink, E: Sink>(
         Ok(()) => {}
         Err(error) => return session.refuse(path, &error),
     }
-    let mut status = Status::Success;
     for left in new.left.iter() {
-        status = session.leave(path, left)?;
+        session.say(path, left)?;
     }
     say_notes(session, what, path, old.as_slice())?;
-    Ok(status)
+    Ok(Outcome::of_done(new.left.is_empty()))
 }
 
 // Writes the notes on a change of these bytes.
@@ -66,9 +66,9 @@ fn say_notes<W: Sink, E: Sink>(
 /// Changes standard input into standard output.
 pub fn change_input<W: Sink, E: Sink>(session: &mut Session<'_, '_, W, E>) -> Result<Status, Stop> {
     let request = session.request;
-    let status = match &request.task {
+    let outcome = match &request.task {
         Task::Change(what, _) => change_into(session, what, "-", "-", false)?,
         _ => session.refuse("-", &"standard input has no name")?,
     };
-    Ok(session.count(status))
+    Ok(session.count(outcome))
 }

@@ -2,15 +2,16 @@
 
 use crate::change::ChangeEdit;
 use crate::change_out::change_input;
-use crate::pending::Next;
+use crate::pending::{Next, name_of};
 use crate::request::Change;
 use crate::session::{Session, Stop};
 use exif::Sink;
 use exif_change::{Left, Note, Refusal};
 use exif_console::{Console, NoteLine};
-use exif_decisions::{Counts, Escaped};
+use exif_decisions::{Counts, Escaped, Found, Outcome};
 use exif_files::{
     Failure, HostFiles, Keeping, Report, Reporter, Status, WriteError, change, change_all,
+    folder_of,
 };
 use std::alloc::AllocError;
 use std::io::{self, ErrorKind};
@@ -103,6 +104,10 @@ impl Plan {
         match next {
             Next::Input => change_input(session),
             Next::Failed(path, cause) => refuse(session, path.as_str(), &cause),
+            Next::Beside(path, why) => {
+                session.skip(path.as_str(), Found::NotRead(why))?;
+                Ok(Status::Success)
+            }
             Next::Named(path) | Next::Found(path) => match key_of(session.rt, path.as_str()) {
                 Ok(key) => {
                     self.paths.push(path)?;
@@ -133,6 +138,14 @@ pub fn change_in_turn<W: Sink, E: Sink>(
     Ok(report_change(session, path, key, changed))
 }
 
+// What became of a file: it was changed, or in part where something was left undone, or refused.
+fn outcome_of(outcome: &Result<Report<Left, Note>, Failure<Refusal>>) -> Outcome {
+    match outcome {
+        Ok(report) => Outcome::of_done(report.left.is_empty()),
+        Err(_) => Outcome::Refused,
+    }
+}
+
 // Reports what became of a file that was changed, and answers its status.
 fn report_change<W: Sink, E: Sink>(
     session: &mut Session<'_, '_, W, E>,
@@ -140,11 +153,7 @@ fn report_change<W: Sink, E: Sink>(
     key: &str,
     outcome: Result<Report<Left, Note>, Failure<Refusal>>,
 ) -> Status {
-    let status = match &outcome {
-        Ok(report) if report.left.is_empty() => Status::Success,
-        Ok(_) => Status::Incomplete,
-        Err(_) => Status::Refused,
-    };
+    let became = outcome_of(&outcome);
     match outcome {
         Ok(report) => {
             for left in report.left.iter() {
@@ -153,9 +162,8 @@ fn report_change<W: Sink, E: Sink>(
         }
         Err(failure) => session.console.say(path, &Cause { failure, key }),
     }
-    session.pending.counts.add(status);
     session.console.step(session.pending.len());
-    status
+    session.count(became)
 }
 
 fn refuse<W: Sink, E: Sink>(
@@ -163,8 +171,26 @@ fn refuse<W: Sink, E: Sink>(
     path: &str,
     cause: &io::Error,
 ) -> Result<Status, Stop> {
-    session.pending.counts.add(Status::Refused);
-    session.refuse(path, cause)
+    let outcome = session.refuse(path, cause)?;
+    Ok(session.count(outcome))
+}
+
+/// A path from the root of the file system on: where its links end, and where nothing has it, its
+/// name in the folder where those of its folder end.
+pub fn absolute_of(rt: &HostRuntime, path: &str) -> Result<String, AllocError> {
+    let alloc = rt.alloc();
+    if let Ok(found) = fs::canonicalize(rt, path) {
+        return String::from_str(alloc, found.as_path().as_str());
+    }
+    let (folder, name) = (folder_of(path), name_of(path));
+    match fs::canonicalize(rt, folder) {
+        Ok(found) if !name.is_empty() => {
+            let folder = found.as_path().as_str();
+            let slash = if folder.ends_with('/') { "" } else { "/" };
+            format!(in alloc; "{folder}{slash}{name}")
+        }
+        _ => String::from_str(alloc, path),
+    }
 }
 
 /// Where the links of a path end, if that is a regular file.
@@ -213,15 +239,10 @@ impl<'p, 'k, 'c, 'r, 'n, E: Sink> Reporter<Left, Note, Refusal>
             (Some(path), Some(key)) => (path.as_str(), key.as_str()),
             _ => ("", ""),
         };
+        self.counts.add(outcome_of(&outcome));
         match outcome {
-            Ok(report) => {
-                self.say_all(path, &report);
-                self.counts.add(Status::Success);
-            }
-            Err(failure) => {
-                self.say_failure(path, key, failure);
-                self.counts.add(Status::Refused);
-            }
+            Ok(report) => self.say_all(path, &report),
+            Err(failure) => self.say_failure(path, key, failure),
         }
         self.console
             .step(self.paths.len().saturating_sub(index).saturating_sub(1));

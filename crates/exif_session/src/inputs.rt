@@ -1,8 +1,10 @@
 //! Files as they are read: a file that seeks costs what is read of it, anything else is taken into
 //! memory.
 
+use crate::pending::name_of;
 use exif::{Counted, Error, Seekable};
 use exif_containers::container::SNIFF_LEN;
+use exif_decisions::{Found, ending_of, found_of, unsupported_of};
 use exif_formats::{Options, Picture, PictureFormat, format_of, read_picture};
 use std::alloc::Global;
 use std::fs::File;
@@ -53,17 +55,6 @@ pub enum Use {
     Parts,
 }
 
-/// What the first bytes of a file show.
-#[derive(Drop)]
-pub enum Head {
-    /// A picture of a format that is supported for this use.
-    Picture,
-    /// Nothing, since the file can't be read.
-    Unreadable,
-    /// No such picture: these bytes.
-    Other(Vec<u8>),
-}
-
 // Whether the parts of pictures of a format are known: raw files are only read.
 fn has_parts(format: PictureFormat) -> bool {
     match format {
@@ -82,16 +73,25 @@ fn is_supported(head: &[u8], wanted: Use) -> bool {
     }
 }
 
-/// What the first bytes of a file show.
-pub fn head_of_file(rt: &HostRuntime, path: &str, wanted: Use) -> Head {
+/// What is done with a file that was found in a folder, by its first bytes and its name. One that
+/// can't be read is processed, which reports that.
+pub fn found_in_folder(rt: &HostRuntime, path: &str, wanted: Use) -> Found {
     let head = match File::open(rt, path) {
         Ok(mut file) => head_of(rt.alloc(), &mut file),
         Err(cause) => Err(cause),
     };
     match head {
-        Ok(head) if is_supported(head.as_slice(), wanted) => Head::Picture,
-        Ok(head) => Head::Other(head),
-        Err(_cause) => Head::Unreadable,
+        Ok(head) => {
+            let head = head.as_slice();
+            let ending = ending_of(name_of(path));
+            found_of(
+                is_supported(head, wanted),
+                head.is_empty(),
+                unsupported_of(head),
+                ending,
+            )
+        }
+        Err(_cause) => Found::Picture,
     }
 }
 

@@ -16,7 +16,7 @@ mod stamps;
 pub use change_out::change_into;
 pub use choosing::exif_of;
 pub use exif_files::Keeping;
-pub use in_place::{Plan, change_in_place, change_in_turn, key_of};
+pub use in_place::{Plan, absolute_of, change_in_place, change_in_turn, key_of};
 pub use inputs::{Input, Use, open, read, read_file};
 pub use output::{OutError, out_of, write_out};
 pub use pending::{Next, Pending, name_of};

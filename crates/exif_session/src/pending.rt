@@ -1,6 +1,9 @@
 //! The files that are named, and those in folders, one after the other.
 
-use exif_decisions::{Action, Counts, Kind, action_of, is_own_name, is_unreadable, readable};
+use exif_decisions::{
+    Action, Counts, Kind, NotRead, action_of, is_own_name, is_temporary_name, is_unreadable,
+    readable,
+};
 use std::alloc::{AllocError, Global};
 use std::fs::{self, Metadata};
 use std::io::{self, ErrorKind, Read};
@@ -17,6 +20,8 @@ pub struct Pending {
     recursive: bool,
     /// What was skipped so far.
     pub counts: Counts,
+    /// Temporary files that were found since this was looked at last.
+    pub temporary: Vec<String>,
 }
 
 // A file or a folder.
@@ -35,6 +40,8 @@ pub enum Next {
     Named(String),
     /// A file that was found in a folder, and may be a picture.
     Found(String),
+    /// A file that was found in a folder and is not read, but goes with the pictures beside it.
+    Beside(String, NotRead),
     /// A name that can't be followed.
     Failed(String, io::Error),
 }
@@ -54,6 +61,7 @@ impl Pending {
             waiting,
             recursive,
             counts: Counts::new(),
+            temporary: Vec::new(alloc),
         })
     }
 
@@ -120,11 +128,14 @@ impl Pending {
                 Ok(Some(Next::Failed(path, cause)))
             }
             Action::SkipLink => {
-                self.counts.links = self.counts.links.saturating_add(1);
+                self.counts.skip_link();
                 Ok(None)
             }
             Action::SkipOwn => {
-                self.counts.own = self.counts.own.saturating_add(1);
+                self.counts.skip_own();
+                if is_temporary_name(name_of(path.as_str())) {
+                    self.temporary.push(path)?;
+                }
                 Ok(None)
             }
             Action::Ignore => Ok(None),

@@ -36,8 +36,8 @@ pub enum Task<'a> {
     Json(Reading, Option<Vec<Tag>>),
     /// A row of a table is written.
     Table(Table),
-    /// What its parts hold is written.
-    Check(Form),
+    /// What its parts hold is written; whether a maker note counts as a finding.
+    Check(Form, bool),
     /// It is changed.
     Change(Change<'a>, Target<'a>),
     /// Its flat JSON object is written in a line.
@@ -67,10 +67,23 @@ impl Task<'_> {
             Task::Rename(renaming) => renaming.verb(),
             Task::Touch(_) => "touched",
             Task::Copy(_) => "changed",
-            Task::Show(_) | Task::Json(..) | Task::Summary(_) | Task::Check(_) => "read",
+            Task::Show(_) | Task::Json(..) | Task::Summary(_) | Task::Check(..) => "read",
             Task::Thumbnail(..) | Task::Thumbnails(..) | Task::Table(_) => "read",
             Task::Catalog(_) => "read",
         }
+    }
+
+    /// What a summary says of the files of which something was skipped, left undone or found.
+    pub fn partial(&self) -> &'static str {
+        match self {
+            Task::Check(..) => "with findings",
+            _ => "not completely",
+        }
+    }
+
+    /// Whether files that are not read get new names with the pictures beside them.
+    pub fn moves_companions(&self) -> bool {
+        matches!(self, Task::Rename(_))
     }
 
     /// What it requires of a picture.
@@ -79,7 +92,7 @@ impl Task<'_> {
             Task::Show(_) | Task::Json(..) | Task::Summary(_) | Task::Rename(_) => Use::Fields,
             Task::Thumbnail(..) | Task::Thumbnails(..) | Task::Touch(_) => Use::Fields,
             Task::Table(_) | Task::Catalog(_) => Use::Fields,
-            Task::Check(_) | Task::Change(..) | Task::Geotag(_) | Task::Copy(_) => Use::Parts,
+            Task::Check(..) | Task::Change(..) | Task::Geotag(_) | Task::Copy(_) => Use::Parts,
         }
     }
 }
@@ -139,6 +152,8 @@ pub struct Geotagging<'a> {
     pub track: &'a str,
     /// The offset of the camera's clock from UTC, as `+hh:mm`, for pictures that name none.
     pub zone: &'a str,
+    /// Whether a location that a picture has already is replaced.
+    pub overwrite: bool,
     /// What is kept of the old files.
     pub keeping: Keeping,
 }

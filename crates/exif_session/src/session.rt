@@ -1,13 +1,13 @@
 //! What a run has: the files that wait, and where its answers and messages go.
 
 use crate::choosing::is_chosen;
-use crate::inputs::{Head, head_of_file};
+use crate::inputs::found_in_folder;
 use crate::pending::{Next, Pending};
 use crate::request::Request;
 use exif::Sink;
 use exif_base::send_all;
 use exif_console::Console;
-use exif_decisions::{Summary, status_of, unsupported_of};
+use exif_decisions::{Found, Outcome, Summary, status_of};
 use exif_files::Status;
 use std::alloc::{AllocError, AllocFailed};
 use std::fmt::Display;
@@ -82,59 +82,95 @@ impl<'r, 'a, W: Sink, E: Sink> Session<'r, 'a, W, E> {
         if self.request.recursive && !self.request.quiet {
             let verb = self.request.task.verb();
             let counts = &self.pending.counts;
-            let summary = Summary { verb, counts };
+            let partial = self.request.task.partial();
+            let summary = Summary {
+                verb,
+                partial,
+                counts,
+            };
             let line = format!(in self.rt.alloc(); "mexaldor: {summary}\n")?;
             self.console.write(line.as_str());
         }
-        let status = status_of(worst, self.pending.counts.unsupported());
+        let status = status_of(worst, self.pending.counts.not_read);
         Ok(status.code())
     }
 
     /// The next file that is to be processed, if there is one: one that is chosen, and where it was
-    /// found in a folder, a picture. Others are skipped.
+    /// found in a folder, a picture. Others are skipped: counted, and reported where they are
+    /// pictures, videos or documents that are not read.
     pub fn next_chosen(&mut self) -> Result<Option<Next>, Stop> {
         for _ in 0..u64::MAX {
-            let Some(next) = self.pending.next(self.rt)? else {
+            let next = self.pending.next(self.rt)?;
+            self.name_temporary()?;
+            let Some(next) = next else {
                 break;
             };
-            if self.takes(&next)? {
+            if let Some(next) = self.chosen(next)? {
                 return Ok(Some(next));
             }
         }
         Ok(None)
     }
 
-    fn takes(&mut self, next: &Next) -> Result<bool, AllocError> {
+    // Reports the temporary files that were found. Whose they are is not known: another run may
+    // still write them.
+    fn name_temporary(&mut self) -> Result<(), Stop> {
+        for _ in 0..self.pending.temporary.len() {
+            let Some(path) = self.pending.temporary.pop() else {
+                break;
+            };
+            let what =
+                "a temporary file of another run; if that was interrupted, it may be deleted";
+            self.say(path.as_str(), &what)?;
+        }
+        Ok(())
+    }
+
+    // What is processed of a name: nothing where it is skipped.
+    fn chosen(&mut self, next: Next) -> Result<Option<Next>, Stop> {
         match next {
-            Next::Input | Next::Failed(_, _) => Ok(true),
-            Next::Named(path) => is_chosen(self.rt, self.request, path.as_str()),
-            Next::Found(path) => {
-                Ok(
-                    self.is_picture(path.as_str())
-                        && is_chosen(self.rt, self.request, path.as_str())?,
-                )
+            Next::Named(path) if is_chosen(self.rt, self.request, path.as_str())? => {
+                Ok(Some(Next::Named(path)))
+            }
+            Next::Named(_) => Ok(None),
+            Next::Found(path) => self.chosen_in_folder(path),
+            next => Ok(Some(next)),
+        }
+    }
+
+    // What is processed of a file that was found in a folder.
+    fn chosen_in_folder(&mut self, path: String) -> Result<Option<Next>, Stop> {
+        match found_in_folder(self.rt, path.as_str(), self.request.task.use_of_files()) {
+            Found::Picture if is_chosen(self.rt, self.request, path.as_str())? => {
+                Ok(Some(Next::Found(path)))
+            }
+            Found::Picture => Ok(None),
+            Found::NotRead(why) if self.request.task.moves_companions() => {
+                Ok(Some(Next::Beside(path, why)))
+            }
+            found => {
+                self.skip(path.as_str(), found)?;
+                Ok(None)
             }
         }
     }
 
-    // Whether a file that was found is a picture, or can't be read, which is reported then. A
-    // picture in a format that is not supported is counted.
-    fn is_picture(&mut self, path: &str) -> bool {
-        match head_of_file(self.rt, path, self.request.task.use_of_files()) {
-            Head::Picture | Head::Unreadable => true,
-            Head::Other(head) => {
-                if let Some(format) = unsupported_of(head.as_slice()) {
-                    self.pending.counts.skip(format);
-                }
-                false
+    /// Skips a file that was found in a folder: it is counted, and reported where it is a picture,
+    /// a video or a document that is not read.
+    pub fn skip(&mut self, path: &str, found: Found) -> Result<(), Stop> {
+        self.pending.counts.skip(found);
+        if let Found::NotRead(why) = found {
+            if why.is_named() {
+                self.say(path, &why)?;
             }
         }
+        Ok(())
     }
 
     /// Counts a file.
-    pub fn count(&mut self, status: Status) -> Status {
-        self.pending.counts.add(status);
-        status
+    pub fn count(&mut self, outcome: Outcome) -> Status {
+        self.pending.counts.add(outcome);
+        outcome.status()
     }
 
     /// Writes an answer.
@@ -143,27 +179,33 @@ impl<'r, 'a, W: Sink, E: Sink> Session<'r, 'a, W, E> {
     }
 
     /// Reports why a file was refused.
-    pub fn refuse<T: Display>(&mut self, path: &str, cause: &T) -> Result<Status, Stop> {
+    pub fn refuse<T: Display>(&mut self, path: &str, cause: &T) -> Result<Outcome, Stop> {
         self.say(path, cause)?;
-        Ok(Status::Refused)
+        Ok(Outcome::Refused)
     }
 
-    /// Reports why a file was left as it is, or is not complete.
-    pub fn leave<T: Display>(&mut self, path: &str, what: &T) -> Result<Status, Stop> {
+    /// Reports why nothing was done with a file.
+    pub fn leave<T: Display>(&mut self, path: &str, why: &T) -> Result<Outcome, Stop> {
+        self.say(path, why)?;
+        Ok(Outcome::Unchanged)
+    }
+
+    /// Reports what was skipped or left undone in a file.
+    pub fn report_partial<T: Display>(&mut self, path: &str, what: &T) -> Result<Outcome, Stop> {
         self.say(path, what)?;
-        Ok(Status::Incomplete)
+        Ok(Outcome::Partial)
     }
 
-    /// Reports how many faults were skipped in a file, if there were some, and answers its status.
-    pub fn skip_faults(&mut self, path: &str, count: usize) -> Result<Status, Stop> {
+    /// Reports how many faults were skipped in a file that was read, if there were some.
+    pub fn skip_faults(&mut self, path: &str, count: usize) -> Result<Outcome, Stop> {
         if count == 0 {
-            return Ok(Status::Success);
+            return Ok(Outcome::Done);
         }
         if count == 1 {
-            return self.leave(path, &"1 fault was skipped");
+            return self.report_partial(path, &"1 fault was skipped");
         }
         let text = format!(in self.rt.alloc(); "{count} faults were skipped")?;
-        self.leave(path, &text)
+        self.report_partial(path, &text)
     }
 
     /// Writes a message about a file, after all answers that were written before.

@@ -1,34 +1,56 @@
-//! The sizes and the times of files.
+//! What files are at a moment, by which a change is noticed.
 
 use std::fs::{self, Metadata};
-use std::time::SystemTime;
+use std::os::unix::fs::MetadataExt;
 
-/// How long a file is, and when it was modified.
+/// What a file is at a moment. Times are in seconds from 1970 on, and the nanoseconds behind them.
 #[derive(Clone, Copy)]
 pub struct FileStamp {
     /// How many bytes it has.
     pub size: Option<u64>,
-    /// When it was modified, in seconds from 1970 on.
+    /// When its bytes were changed, as the file says, which programs can set.
     pub modified: Option<u64>,
+    /// The nanoseconds of that.
+    pub modified_ns: Option<u64>,
+    /// When its bytes or attributes were changed, as the system counts it.
+    pub changed: Option<u64>,
+    /// The nanoseconds of that.
+    pub changed_ns: Option<u64>,
+    /// The number of its file system.
+    pub device: Option<u64>,
+    /// Its number in that.
+    pub inode: Option<u64>,
 }
 
-/// The size and the time of a regular file.
+impl FileStamp {
+    /// Nothing is known.
+    pub const UNKNOWN: FileStamp = FileStamp {
+        size: None,
+        modified: None,
+        modified_ns: None,
+        changed: None,
+        changed_ns: None,
+        device: None,
+        inode: None,
+    };
+}
+
+/// What a regular file is now.
 pub fn stamp_of(rt: &HostRuntime, path: &str) -> FileStamp {
     match fs::metadata(rt, path) {
-        Ok(found) if found.is_file() => FileStamp {
-            size: Some(found.len()),
-            modified: seconds_of(&found),
-        },
-        _ => FileStamp {
-            size: None,
-            modified: None,
-        },
+        Ok(found) if found.is_file() => stamp_in(&found),
+        _ => FileStamp::UNKNOWN,
     }
 }
 
-// When a file was modified, in seconds from 1970 on, if it was after that.
-fn seconds_of(found: &Metadata) -> Option<u64> {
-    let modified = found.modified().ok()?;
-    let since = modified.duration_since(SystemTime::UNIX_EPOCH).ok()?;
-    Some(since.as_secs())
+fn stamp_in(found: &Metadata) -> FileStamp {
+    FileStamp {
+        size: Some(found.len()),
+        modified: u64::try_from(found.mtime()).ok(),
+        modified_ns: u64::try_from(found.mtime_nsec()).ok(),
+        changed: u64::try_from(found.ctime()).ok(),
+        changed_ns: u64::try_from(found.ctime_nsec()).ok(),
+        device: Some(found.dev()),
+        inode: Some(found.ino()),
+    }
 }

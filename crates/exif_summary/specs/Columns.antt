@@ -10,9 +10,8 @@ use Rattle.exif_types.specs.declared.field.Field.{Field}
 use Rattle.exif_types.specs.declared.value.Value.{Value}
 use Rattle.exif_types.specs.declared.value.Value.TheVariants as value
 use Rattle.exif_summary.specs.Coordinates.{Degrees, degrees_text, latitude, longitude}
-use Rattle.exif_summary.specs.Dates.{date_of, fraction_of, iso_text}
+use Rattle.exif_summary.specs.Dates.{changed, date_of, digitized, fraction_of, iso_text, taken}
 use Rattle.exif_summary.specs.Finding.{degrees_of, found, number_of, orientation_of, text_found}
-use Rattle.exif_summary.specs.declared.dates.TheConstants.{CHANGED, DIGITIZED, TAKEN}
 use Rattle.exif_summary.specs.declared.columns.Cell.{Cell}
 use Rattle.exif_summary.specs.declared.columns.Cell.TheVariants as cells
 use Rattle.exif_summary.specs.declared.columns.Column.{Column}
@@ -66,6 +65,15 @@ name_of column.Artist = codes "artist"
 name_of column.Copyright = codes "copyright"
 name_of column.Description = codes "description"
 name_of column.Thumbnail = codes "has_thumbnail"
+
+-- all of them, in the order of tables
+abbrev pub columns : List Column
+columns = column.Width ∷ column.Height ∷ column.Orientation ∷ column.Make ∷ column.Model
+    ∷ column.Lens ∷ column.BodySerial ∷ column.LensSerial ∷ column.Taken ∷ column.Digitized
+    ∷ column.Changed ∷ column.Exposure ∷ column.FNumber ∷ column.Sensitivity
+    ∷ column.FocalLength ∷ column.FocalLength35 ∷ column.Latitude ∷ column.Longitude
+    ∷ column.Altitude ∷ column.Artist ∷ column.Copyright ∷ column.Description
+    ∷ column.Thumbnail ∷ []
 
 -- a number of the picture's own size, else of the image's
 abbrev pub either_number : Option ℕ → Option ℕ → Option ℕ
@@ -131,9 +139,9 @@ cell_of fields column.Model = text_shown fields Tiff 272
 cell_of fields column.Lens = text_shown fields Exif 42036
 cell_of fields column.BodySerial = text_shown fields Exif 42033
 cell_of fields column.LensSerial = text_shown fields Exif 42037
-cell_of fields column.Taken = date_shown fields TAKEN
-cell_of fields column.Digitized = date_shown fields DIGITIZED
-cell_of fields column.Changed = date_shown fields CHANGED
+cell_of fields column.Taken = date_shown fields taken
+cell_of fields column.Digitized = date_shown fields digitized
+cell_of fields column.Changed = date_shown fields changed
 cell_of fields column.Exposure = decimal_in (fraction_found fields Exif 33434)
 cell_of fields column.FNumber = decimal_in (fraction_found fields Exif 33437)
 cell_of fields column.Sensitivity = number_shown (number_of fields Exif 34855)

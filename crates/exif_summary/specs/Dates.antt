@@ -8,6 +8,7 @@ use Rattle.std.specs.Int.{is_negative}
 use Rattle.exif_text.specs.Clock.{date_text, time_text}
 use Rattle.exif_text.specs.Plain.{zero_filled}
 use Rattle.exif_text.specs.Subsec.{subsec_bytes}
+use Rattle.exif_table.specs.declared.context.Context.TheVariants.{Exif, Tiff}
 use Rattle.exif_datetime.specs.Dates.{calendar_date, read_date, read_offset, time_of_day, with_offset}
 use Rattle.exif_types.specs.Refusals.{Refusal}
 use Rattle.exif_datetime.specs.declared.datetime.DateTime.{DateTime}
@@ -15,6 +16,31 @@ use Rattle.exif_types.specs.declared.field.Field.{Field}
 use Rattle.exif_types.specs.declared.tag.Tag.{Tag}
 use Rattle.exif_summary.specs.declared.dates.Moment.{Moment}
 use Rattle.exif_summary.specs.Finding.{text_found}
+
+-- when the picture was taken (Exif 2.32, 4.6.5: DateTimeOriginal, OffsetTimeOriginal and
+-- SubSecTimeOriginal)
+abbrev pub taken : Moment
+taken = record {
+  date = record { 0 = Exif; 1 = 36867 };
+  offset = record { 0 = Exif; 1 = 36881 };
+  fraction = record { 0 = Exif; 1 = 37521 };
+}
+
+-- when it was digitized (DateTimeDigitized, OffsetTimeDigitized and SubSecTimeDigitized)
+abbrev pub digitized : Moment
+digitized = record {
+  date = record { 0 = Exif; 1 = 36868 };
+  offset = record { 0 = Exif; 1 = 36882 };
+  fraction = record { 0 = Exif; 1 = 37522 };
+}
+
+-- when its file was changed (4.6.4: DateTime; 4.6.5: OffsetTime and SubSecTime)
+abbrev pub changed : Moment
+changed = record {
+  date = record { 0 = Tiff; 1 = 306 };
+  offset = record { 0 = Exif; 1 = 36880 };
+  fraction = record { 0 = Exif; 1 = 37520 };
+}
 
 -- the digits of a fraction of a second: the bytes that are read of its text, if all are digits
 abbrev pub fraction_digits : List ℕ → List ℕ

@@ -41,8 +41,9 @@ pub static READ_FAILURES: [Failure; 3] = [
     },
 ];
 
-/// The errors of writers.
-pub static WRITE_FAILURES: [Failure; 3] = [
+/// The errors of writers. With the last one a writer takes no byte any more, and its calls do not
+/// fail.
+pub static WRITE_FAILURES: [Failure; 4] = [
     Failure {
         kind: ErrorKind::Other,
         text: "the writer failed",
@@ -54,6 +55,10 @@ pub static WRITE_FAILURES: [Failure; 3] = [
     Failure {
         kind: ErrorKind::UnexpectedEof,
         text: "the writer reported an end",
+    },
+    Failure {
+        kind: ErrorKind::WriteZero,
+        text: "no byte was taken",
     },
 ];
 
@@ -119,10 +124,18 @@ impl Drip {
         self.good_calls -= 1;
         Ok(())
     }
+
+    // Whether no byte is taken any more, without an error.
+    fn is_full(&self) -> bool {
+        self.good_calls == 0 && self.failure.kind == ErrorKind::WriteZero
+    }
 }
 
 impl Write for Drip {
     fn write(&mut self, buf: &[u8]) -> io::Result<usize> {
+        if self.is_full() {
+            return Ok(0);
+        }
         self.call()?;
         if buf.is_empty() {
             return Ok(0);
@@ -132,6 +145,9 @@ impl Write for Drip {
     }
 
     fn flush(&mut self) -> io::Result<()> {
+        if self.is_full() {
+            return Ok(());
+        }
         self.call()
     }
 }

@@ -30,9 +30,9 @@ fn whole(alloc: Global, case: &Case, input: &[u8]) -> Result<Outcome, CaseError>
 }
 
 // The case over a source that seeks.
-fn sought(alloc: Global, case: &Case) -> Result<Outcome, CaseError> {
+fn sought(alloc: Global, case: &Case, input: &[u8]) -> Result<Outcome, CaseError> {
     let mut out = Counted::new(Vec::new(alloc));
-    let mut source = Seekable::new(Cursor::new(case.input.as_slice()));
+    let mut source = Seekable::new(Cursor::new(input));
     let end = run(alloc, case, &mut source, &mut out)?;
     Ok(Outcome {
         bytes: out.into_inner(),
@@ -128,23 +128,42 @@ fn writers(alloc: Global, case: &Case, failure: Failure) -> Result<Option<String
     Ok(Some(format!(in alloc; "writer: no end")?))
 }
 
-// Each proper prefix is refused, with a text if one is given.
-fn prefixes(alloc: Global, case: &Case, text: &str) -> Result<Option<String>, CaseError> {
-    for len in 0..case.input.len() {
-        let got = whole(alloc, case, case.input.get(..len).unwrap_or(b""))?;
-        if got.end.is_empty() || (!text.is_empty() && got.end.as_str() != text) {
+// Each proper prefix of so many bytes or more is refused, with a text if one is given, and alike
+// over a source that seeks.
+fn prefixes(alloc: Global, case: &Case, least: usize) -> Result<Option<String>, CaseError> {
+    for len in least..case.input.len() {
+        let input = case.input.get(..len).unwrap_or(b"");
+        let got = whole(alloc, case, input)?;
+        if !is_refused(case, &got) {
             let end = &got.end;
             return Ok(Some(format!(in alloc; "prefix {len}: ends {end:?}")?));
+        }
+        let other = sought(alloc, case, input)?;
+        if other.end != got.end || other.bytes != got.bytes {
+            let end = &other.end;
+            return Ok(Some(format!(in alloc; "prefix {len}, seeking: ends {end:?}")?));
         }
     }
     Ok(None)
 }
 
+// Whether a prefix was refused as it is to be, and nothing came out; of a JPEG stream that is
+// written again, a prefix of the output.
+fn is_refused(case: &Case, got: &Outcome) -> bool {
+    let is_sent = match case.call {
+        Call::Rewrite => case.input.starts_with(b"\xff\xd8"),
+        _ => false,
+    };
+    let is_named = case.refusal.is_empty() || got.end == case.refusal;
+    let is_kept = got.bytes.is_empty() || is_sent && case.output.starts_with(got.bytes.as_slice());
+    !got.end.is_empty() && is_named && is_kept
+}
+
 // How many of the errors a case is run with: one, where the call reads all of its input at first.
 fn failure_count(case: &Case) -> usize {
     match case.call {
-        Call::Report | Call::ByNeed | Call::Exif | Call::Rewrite => 3,
-        Call::Scrub | Call::Copy | Call::Keep | Call::Write => 3,
+        Call::Report | Call::ByNeed | Call::Exif | Call::Rewrite => 4,
+        Call::Scrub | Call::Copy | Call::Keep | Call::Write => 4,
         _ => 1,
     }
 }
@@ -174,7 +193,7 @@ fn unfailing(alloc: Global, case: &Case) -> Result<Option<String>, CaseError> {
     if found.is_some() {
         return Ok(found);
     }
-    let got = sought(alloc, case)?;
+    let got = sought(alloc, case, case.input.as_slice())?;
     let found = compared(alloc, case, "seeking", 0, &got)?;
     if found.is_some() {
         return Ok(found);
@@ -195,8 +214,8 @@ pub fn mismatch(alloc: Global, case: &Case) -> Result<Option<String>, CaseError>
             return Ok(found);
         }
     }
-    let found = match &case.prefixes {
-        Some(text) => prefixes(alloc, case, text.as_str())?,
+    let found = match case.prefixes {
+        Some(least) => prefixes(alloc, case, least)?,
         None => None,
     };
     if found.is_some() || !case.short_of_memory {

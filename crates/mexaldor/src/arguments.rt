@@ -111,11 +111,19 @@ fn check<'a>(alloc: Global) -> Result<Command<'a>, AllocError> {
     let command = Command::new(alloc, "check")
         .about("List what files hold beside the picture, and where they hold a location")
         .override_usage("mexaldor check [OPTIONS] PATH...")
-        .after_help("The exit status is 3 if a file holds a location, or may hold one.")
+        .after_help(
+            "The exit status is 3 if a file holds a location, or may hold one other than in a \
+             maker note.",
+        )
         .arg(options::flag(
             alloc,
             "json",
             "Print one JSON object per file, with all parts of the file",
+        ))?
+        .arg(options::flag(
+            alloc,
+            "strict",
+            "Exit with 3 also if only a maker note may hold a location",
         ))?;
     many(alloc, command)?.arg(options::paths(alloc))
 }
@@ -289,9 +297,14 @@ fn geotag<'a>(alloc: Global) -> Result<Command<'a>, AllocError> {
         .about("Set the locations of pictures from the track of a GPS receiver")
         .override_usage("mexaldor geotag [OPTIONS] TRACK.gpx FILE...")
         .after_help(
-            "The location at the time when a picture was taken is found between two points of the track that are at most five minutes apart. A picture without a date, or of another time, is left and reported, and the exit status is 3.",
+            "The location at the time when a picture was taken is found between two points of the track that are at most five minutes apart. A picture without a date, of another time, or with a location already, is left and reported, and the exit status is 3.",
         )
         .arg(options::offset(alloc))?
+        .arg(options::flag(
+            alloc,
+            "overwrite",
+            "Replace locations that pictures have already",
+        ))?
         .arg(
             Arg::new(alloc, "track")
                 .value_name("TRACK")

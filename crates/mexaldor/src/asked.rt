@@ -113,7 +113,8 @@ fn check_of<'a>(
     matches: &ArgMatches<'a>,
 ) -> Result<Result<Request<'a>, Wrong>, AllocError> {
     let files = words_of(alloc, matches)?;
-    request(alloc, Task::Check(form_of(matches)), matches, files)
+    let strict = matches.get_flag("strict");
+    request(alloc, Task::Check(form_of(matches), strict), matches, files)
 }
 
 fn form_of(matches: &ArgMatches<'_>) -> Form {

@@ -121,6 +121,7 @@ pub fn geotag_of<'a>(
     let geotagging = Geotagging {
         track: matches.get_str("track").unwrap_or(""),
         zone,
+        overwrite: matches.get_flag("overwrite"),
         keeping: keeping_of(matches),
     };
     let files = words_of(alloc, matches)?;

@@ -1,15 +1,17 @@
 //! The bytes of the Exif item, which are read from the file as far as its extents need.
 
-ghost use Rattle.std.specs.Prelude.{◌≡◌, ◌≤◌, ◌-◌, ◌++◌, ℕ, List, length, drop, None, IfOk, IfErr, IfSome, true, false};
+ghost use Rattle.std.specs.Prelude.{◌≡◌, ◌<◌, ◌≤◌, ◌++◌, length, drop, None, Some, IfOk, IfErr, IfSome, OnOk, false};
+ghost use Rattle.std.specs.Io.KnownBytes.{Keeps};
 ghost use Rattle.exif_base.specs.Reads.{Counts};
-ghost use Rattle.exif_base.specs.Told.{HasFewer, Skips};
+ghost use Rattle.exif_base.specs.Told.{left_behind};
 ghost use Rattle.exif_types.specs.Refusals.{Gives, IsInterrupted, is_io};
 ghost use Rattle.exif_isobmff.specs.ItemLocations.{item_bytes, location_view};
 ghost use Rattle.exif_isobmff.specs.HeifRefusals.{heif_refusals};
 ghost use Rattle.exif_segments.specs.Answer.{IsNamed};
-ghost use Rattle.exif_containers.specs.GoingBack.{HasRead, IsReached};
+ghost use Rattle.exif_containers.specs.GoingBack.{MayGive};
 ghost use Rattle.exif_containers.specs.HeifSteps.{OffsetIsReached, one_part};
 
+use super::at::{read_at, read_front_at};
 use super::front::read_whole;
 use exif_base::Source;
 use exif_isobmff::{Location, MAX_EXIF_SIZE, extent_front, item_bytes};
@@ -113,48 +115,80 @@ pub fn bytes_in_file<R: Source>(
     one_extent(alloc, source, front, offset, extent.len)
 }
 
-// Moves a source, of which a file was read from `origin` up to `at`, to an offset of the file.
-// Answers whether the file goes on so far.
-fn move_to<R: Source>(source: &mut R, origin: u64, at: u64, offset: u64) -> Result<bool, Error>
-    requires { origin ≤ at }
-    ensures reached { IfOk result (λ goes_on. (file : List ℕ)
-        → HasRead origin (at - origin) file (R.stream source.old) (R.left source.old)
-        → IsReached offset goes_on file (R.left source.new)) }
-    ensures interrupted { IfErr result IsInterrupted }
+// Why an item of one extent, which begins at this offset of the stream, is refused as too long: by
+// its last byte, which is there or not.
+fn long_extent_at<R: Source>(source: &mut R, at: u64, len: u64) -> Result<Option<Vec<u8>>, Error>
+    requires { TOO_MANY < len }
+    ensures gives { IfSome (left_behind (Some at) (R.stream source.old))
+        (λ xs. MayGive (λ v. v.items) result (one_part len xs)) }
+    ensures kept { OnOk result (Keeps (R.left source.old) (R.left source.new)) }
+    ensures named { IfErr result (IsNamed heif_refusals) }
+    ensures stream { R.stream source.new ≡ R.stream source.old }
     ensures counts { Counts R.Source source.old source.new (is_io result) }
 {
-    let read = at - origin;
-    if read <= offset {
-        return pass_over(source, offset - read);
+    let Some(last) = at.checked_add(len - 1) else {
+        return Ok(None);
+    };
+    let mut byte = [0; 1];
+    let Some(n) = read_front_at(source, last, &mut byte)? else {
+        return Ok(None);
+    };
+    if n == 0 {
+        return Err(Error::InvalidFormat("Broken HEIF file"));
     }
-    source.go_to(origin + offset)?;
-    Ok(true)
+    Err(Error::InvalidFormat("Exif data too large"))
 }
 
-/// The bytes of an item of one extent in the file, whose source goes back to its start at `origin`
-/// and was read up to `at`.
-pub fn bytes_from<R: Source>(
+// The bytes of an item of one extent, which begins at this offset of the stream.
+fn extent_at<R: Source>(
+    alloc: Global,
+    source: &mut R,
+    at: u64,
+    len: u64,
+) -> Result<Option<Vec<u8>>, Error>
+    ensures gives { IfSome (left_behind (Some at) (R.stream source.old))
+        (λ xs. MayGive (λ v. v.items) result (one_part len xs)) }
+    ensures kept { OnOk result (Keeps (R.left source.old) (R.left source.new)) }
+    ensures named { IfErr result (IsNamed heif_refusals) }
+    ensures stream { R.stream source.new ≡ R.stream source.old }
+    ensures counts { Counts R.Source source.old source.new (is_io result) }
+{
+    if len > TOO_MANY {
+        return long_extent_at(source, at, len);
+    }
+    let wanted = if len == 0 { TOO_MANY } else { len };
+    let Some(bytes) = read_at(alloc, source, at, wanted)? else {
+        return Ok(None);
+    };
+    let part = part_of(alloc, len, &bytes)?;
+    Ok(Some(part))
+}
+
+/// The bytes of an item in the file, which begins at `origin` of the stream, where it has one
+/// extent and the source reads at an offset.
+pub fn bytes_at<R: Source>(
     alloc: Global,
     source: &mut R,
     origin: u64,
-    at: u64,
     location: &Location,
-) -> Result<Vec<u8>, Error>
-    requires method { location.now.method ≡ 0 }
-    requires one { length location.now.extents.items ≡ 1 }
-    requires order { origin ≤ at }
-    ensures gives { (file : List ℕ)
-        → HasRead origin (at - origin) file (R.stream source.old) (R.left source.old)
-        → Gives (λ v. v.items) result (item_bytes file None (location_view location.now)) }
+) -> Result<Option<Vec<u8>>, Error>
+    requires { location.now.method ≡ 0 }
+    ensures gives { IfSome (left_behind (Some origin) (R.stream source.old)) (λ file.
+        MayGive (λ v. v.items) result (item_bytes file None (location_view location.now))) }
+    ensures kept { OnOk result (Keeps (R.left source.old) (R.left source.new)) }
     ensures named { IfErr result (IsNamed heif_refusals) }
+    ensures stream { R.stream source.new ≡ R.stream source.old }
     ensures counts { Counts R.Source source.old source.new (is_io result) }
 {
+    if location.extents.len() != 1 {
+        return Ok(None);
+    }
     let extent = location.extents[0];
     let Some(offset) = location.base.checked_add(extent.offset) else {
         return Err(Error::InvalidFormat("Invalid offset"));
     };
-    if !move_to(source, origin, at, offset)? {
-        return part_of(alloc, extent.len, &[]);
-    }
-    one_extent(alloc, source, Vec::new(alloc), 0, extent.len)
+    let Some(at) = origin.checked_add(offset) else {
+        return Ok(None);
+    };
+    extent_at(alloc, source, at, extent.len)
 }

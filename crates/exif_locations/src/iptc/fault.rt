@@ -1,5 +1,7 @@
 //! Why data are refused.
 
+ghost use Rattle.std.specs.Prelude.{Some};
+
 use std::fmt;
 
 /// Why data are refused, and left as they were.
@@ -14,6 +16,10 @@ pub enum Fault {
 }
 
 impl fmt::Display for Fault {
+    ghost use Rattle.exif_locations.specs.FaultTexts.{iptc_text};
+
+    ghost output = { λ fault. Some (iptc_text fault) };
+
     fn fmt<W: fmt::Write>(&self, f: &mut fmt::Formatter<W>) -> fmt::Result {
         let input = match self {
             Fault::NoDataset => "IPTC data with bytes that are no dataset",

@@ -1,5 +1,7 @@
 //! Why a packet is refused.
 
+ghost use Rattle.std.specs.Prelude.{Some};
+
 use std::fmt;
 
 /// Why a packet is refused, and left as it was.
@@ -16,6 +18,10 @@ pub enum Fault {
 }
 
 impl fmt::Display for Fault {
+    ghost use Rattle.exif_locations.specs.FaultTexts.{xmp_text};
+
+    ghost output = { λ fault. Some (xmp_text fault) };
+
     fn fmt<W: fmt::Write>(&self, f: &mut fmt::Formatter<W>) -> fmt::Result {
         let input = match self {
             Fault::Malformed => "XMP is not well formed",

@@ -2,8 +2,9 @@
 
 use super::devices::{dripping, one_byte};
 use exif_base::{
-    Blocks, Counted, Feed, ReadFault, Seekable, Sink, Source, discard_exact, read_exact,
-    read_exact_len, read_front, read_to_end, read8, read16, read64, send_all,
+    BigEndian, Blocks, Counted, Endian, Feed, LittleEndian, ReadFault, Seekable, Sink, Source,
+    discard_exact, read_exact, read_exact_len, read_front, read_to_end, read8, read16, read64,
+    send_all,
 };
 use std::alloc::AllocError;
 use std::io;
@@ -276,4 +277,24 @@ fn faults(rt: HostRuntime) -> Result<(), Fail> {
 fn faults_of_devices(rt: HostRuntime) {
     let broken = ReadFault::from(io::Error::new(ErrorKind::Other, "broken"));
     assert!(rt; matches!(broken, ReadFault::Io(_)));
+}
+
+/// The numbers of 16, 32 and 64 bits behind the first byte, after they were written over zeros.
+fn numbers<E: Endian>(bytes: &[u8; 9]) -> (u16, u32, u64) {
+    let mut buf = [0u8; 9];
+    E::writeu64(&mut buf, 1, E::loadu64(bytes, 1));
+    (
+        E::loadu16(&buf, 1),
+        E::loadu32(&buf, 1),
+        E::loadu64(&buf, 1),
+    )
+}
+
+#[test]
+fn numbers_in_both_orders(rt: HostRuntime) {
+    let bytes = b"\xff\x80\x01\x02\x03\x04\x05\x06\x07";
+    let big = numbers::<BigEndian>(bytes);
+    assert!(rt; big == (0x8001, 0x8001_0203, 0x8001_0203_0405_0607));
+    let little = numbers::<LittleEndian>(bytes);
+    assert!(rt; little == (0x0180, 0x0302_0180, 0x0706_0504_0302_0180));
 }

@@ -1,9 +1,13 @@
 //! Sources that are not at their beginning, and what the containers leave in them.
 
 use exif_base::{Counted, Source, discard_exact};
+use exif_containers::container::is_tiff;
 use exif_containers::isobmff;
+use exif_containers::isobmff::is_heif;
 use exif_segments::get_exif_attr_from_jpeg;
+use exif_segments::jpeg::is_jpeg;
 use exif_segments::util::read_all;
+use exif_segments::webp::is_webp;
 use std::test::Fail;
 
 /// Three bytes that are taken before, and a HEIF file whose item is in the file.
@@ -29,4 +33,38 @@ fn jpeg_leaves_what_follows(rt: HostRuntime) {
     assert!(rt; rest.as_slice() == b"\xff\xd9".as_slice());
     let count = source.fetch(&mut [0u8; 1]).expect(&rt, "the end");
     assert!(rt; count == 0);
+}
+
+/// The first bytes of files of each container, and how many of them begin one.
+static BEGINNINGS: [(&[u8], usize); 5] = [
+    (b"MM\0*\0\0\0\x08\0\0", 4),
+    (b"II*\0\x08\0\0\0\0\0", 4),
+    (b"\xff\xd8\xff\xd9", 2),
+    (b"\0\0\0\x14ftypmif1\0\0\0\0mif1\0\0\0\x08free", 20),
+    (b"RIFF\x0e\0\0\0WEBPEXIF\x02\0\0\0ab", 12),
+];
+
+/// Whether bytes begin a TIFF, JPEG, HEIF and WebP file.
+fn kinds(bytes: &[u8]) -> [bool; 4] {
+    [
+        is_tiff(bytes),
+        is_jpeg(bytes),
+        is_heif(bytes),
+        is_webp(bytes),
+    ]
+}
+
+#[test]
+fn prefixes_are_recognised(rt: HostRuntime) {
+    for (bytes, least) in &BEGINNINGS {
+        let whole = kinds(bytes);
+        for len in 0..=bytes.len() {
+            let expected = if len < *least { [false; 4] } else { whole };
+            assert!(rt; kinds(&bytes[..len]) == expected, "{len}");
+        }
+    }
+    assert!(rt; kinds(BEGINNINGS[1].0) == [true, false, false, false]);
+    assert!(rt; kinds(BEGINNINGS[2].0) == [false, true, false, false]);
+    assert!(rt; kinds(BEGINNINGS[3].0) == [false, false, true, false]);
+    assert!(rt; kinds(BEGINNINGS[4].0) == [false, false, false, true]);
 }

@@ -4,7 +4,7 @@ ghost use Rattle.std.specs.Prelude.{⊤};
 
 use exif_files::{
     Edit, EditError, Edited, Failure, HostFiles, Keeping, Report, Reporter, Status, WriteError,
-    change, change_all, create_new, replace,
+    change, change_all, create_new, move_new, replace,
 };
 use exif_files_memory::{MemoryFiles, Stored};
 use std::alloc::Global;
@@ -123,7 +123,7 @@ fn a_new_file_is_whole_or_absent(rt: HostRuntime) -> Result<(), Fail> {
         let result = create_new(alloc, &mut files, "/b.jpg", NEW);
         let is_ok = result.is_ok();
         drop(result);
-        // create, append, sync, is_free, rename, settle
+        // create, append, sync, link, remove, settle
         assert_eq!(rt; is_ok, calls >= 6, "at {calls}");
         let file = files.find("/b.jpg")?;
         assert_eq!(rt; file.is_some(), calls >= 5, "at {calls}");
@@ -137,6 +137,108 @@ fn a_new_file_is_whole_or_absent(rt: HostRuntime) -> Result<(), Fail> {
     drop(result);
     assert!(rt; is_taken);
     assert!(rt; has(&files, "/b.jpg", OLD)?);
+    Ok(())
+}
+
+#[test]
+fn a_file_is_moved_whole_or_not_at_all(rt: HostRuntime) -> Result<(), Fail> {
+    let alloc = rt.alloc();
+    for calls in 0..4u64 {
+        let mut files = MemoryFiles::new(alloc);
+        files.insert("/a.jpg", stored(alloc, OLD)?)?;
+        files.fail_after(calls);
+        let result = move_new(&mut files, "/a.jpg", "/b.jpg");
+        let is_ok = result.is_ok();
+        drop(result);
+        // link, remove
+        assert_eq!(rt; is_ok, calls >= 2, "at {calls}");
+        assert!(rt;
+            has(&files, "/a.jpg", if is_ok { b"" } else { OLD })?,
+            "at {calls}"
+        );
+        assert!(rt;
+            has(&files, "/b.jpg", if is_ok { OLD } else { b"" })?,
+            "at {calls}"
+        );
+    }
+    Ok(())
+}
+
+#[test]
+fn a_file_is_moved_where_it_can_not_have_two_names(rt: HostRuntime) -> Result<(), Fail> {
+    let alloc = rt.alloc();
+    let mut files = MemoryFiles::new(alloc);
+    files.lack_links();
+    files.insert("/a.jpg", stored(alloc, OLD)?)?;
+    files.insert("/taken.jpg", stored(alloc, NEW)?)?;
+    let taken = move_new(&mut files, "/a.jpg", "/taken.jpg");
+    assert!(rt; matches!(&taken, Err(WriteError::Taken)));
+    assert!(rt; move_new(&mut files, "/a.jpg", "/b.jpg").is_ok());
+    assert!(rt; files.find("/a.jpg")?.is_none());
+    assert!(rt; has(&files, "/b.jpg", OLD)? && has(&files, "/taken.jpg", NEW)?);
+    assert!(rt; create_new(alloc, &mut files, "/c.jpg", NEW).is_ok());
+    let made = files.find("/c.jpg")?;
+    assert!(rt; matches!(&made, Some(file) if file.bytes.as_slice() == NEW));
+    assert!(rt; files.find("/.mexaldor-0")?.is_none());
+    Ok(())
+}
+
+const THEIRS: &[u8] = b"theirs";
+
+// Changes a file in which another program writes meanwhile.
+#[derive(Drop)]
+struct Disturbed<'r> {
+    rt: &'r HostRuntime,
+}
+
+impl Edit for Disturbed<'_> {
+    type Left = u8;
+
+    type Note = u8;
+
+    type Refusal = u8;
+
+    ghost answer = { λ _ _ _. ⊤ };
+
+    fn apply(&self, alloc: Global, old: &[u8]) -> Result<Edited<u8, u8>, EditError<u8>> {
+        let mut file = Vec::new(alloc);
+        if file.extend_from_slice(old).is_err() || file.push(b'!').is_err() {
+            return Err(EditError::OutOfMemory);
+        }
+        if fs::write(self.rt, "disturbed.test", THEIRS).is_err() {
+            return Err(EditError::Refused(1));
+        }
+        Ok(Edited {
+            file,
+            report: Report {
+                left: Vec::new(alloc),
+                notes: Vec::new(alloc),
+            },
+        })
+    }
+}
+
+#[test]
+fn a_file_that_another_program_changed_is_not_replaced(rt: HostRuntime) -> Result<(), Fail> {
+    let alloc = rt.alloc();
+    fs::write(&rt, "disturbed.test", OLD)?;
+    let keeping = Keeping {
+        backup: false,
+        times: false,
+    };
+    let edit = Disturbed { rt: &rt };
+    let result = change(
+        alloc,
+        &mut HostFiles::new(&rt),
+        &edit,
+        "disturbed.test",
+        keeping,
+    );
+    let is_refused = matches!(&result, Err(Failure::Writing(WriteError::Io(_))));
+    drop(result);
+    assert!(rt; is_refused);
+    assert!(rt; fs::read(&rt, "disturbed.test")?.as_slice() == THEIRS);
+    fs::remove_file(&rt, "disturbed.test")?;
     Ok(())
 }
 

@@ -1,4 +1,4 @@
-//! Sources that go back, and HEIF files whose media come first.
+//! Sources that read at an offset, and HEIF files whose media come first.
 
 use crate::tests::devices::seeking;
 use exif_base::{Blocks, Counted, Seekable, Source, discard_exact, read8};
@@ -41,35 +41,43 @@ fn reads<R: Source>(rt: &impl Abort, source: &mut R, digit: u8) {
     assert!(rt; read == digit);
 }
 
+/// Reads this digit at an offset.
+fn reads_at<R: Source>(rt: &impl Abort, source: &mut R, offset: u64, digit: u8) {
+    let mut byte = [0];
+    let found = source.fetch_at(offset, &mut byte).expect(rt, "a digit");
+    assert!(rt; found == Some(1) && byte[0] == digit);
+}
+
 #[test]
-fn a_source_that_seeks_goes_back(rt: HostRuntime) {
+fn a_source_that_seeks_reads_at_an_offset(rt: HostRuntime) {
     let mut source = Seekable::new(Cursor::new(DIGITS));
     discard_exact(&mut source, 3).expect(&rt, "three digits");
+    reads_at(&rt, &mut source, 7, b'7');
+    let found = source.fetch_at(10, &mut [0]).expect(&rt, "the end");
+    assert!(rt; found == Some(0));
     assert!(rt; source.offset() == Some(3));
-    source.go_to(1).expect(&rt, "the second digit");
-    reads(&rt, &mut source, b'1');
-    assert!(rt; source.offset() == Some(2));
+    reads(&rt, &mut source, b'3');
 }
 
 #[test]
 fn a_source_that_only_reads_does_not(rt: HostRuntime) {
     let mut source = Counted::new(DIGITS);
     assert!(rt; source.offset().is_none());
-    let kind = source.go_to(0).err().map(|e| e.kind());
-    assert!(rt; kind == Some(ErrorKind::Unsupported));
+    let found = source.fetch_at(0, &mut [0]).expect(&rt, "no failure");
+    assert!(rt; found.is_none());
     reads(&rt, &mut source, b'0');
 }
 
 #[test]
-fn blocks_go_back_through_their_source(rt: HostRuntime) {
+fn blocks_read_at_an_offset_through_their_source(rt: HostRuntime) {
     let mut block = *b"xy......";
     let mut source = Seekable::new(Cursor::new(DIGITS));
     let mut blocks = Blocks::new(&mut block, 2, &mut source);
     assert!(rt; blocks.offset().is_none());
     reads(&rt, &mut blocks, b'x');
-    blocks.go_to(7).expect(&rt, "the eighth digit");
-    assert!(rt; blocks.offset() == Some(7));
-    reads(&rt, &mut blocks, b'7');
+    reads_at(&rt, &mut blocks, 7, b'7');
+    reads(&rt, &mut blocks, b'y');
+    assert!(rt; blocks.offset() == Some(0));
 }
 
 #[test]
@@ -121,7 +129,7 @@ fn cut_files_are_refused_alike(rt: HostRuntime) -> Result<(), Fail> {
 fn media_are_not_read(rt: HostRuntime) -> Result<(), Fail> {
     let file = media_first(rt.alloc(), 300_000)?;
     let kind = ErrorKind::Interrupted;
-    for good_calls in 0..24 {
+    for good_calls in 0..40 {
         let mut source = seeking(file.as_slice(), good_calls, kind);
         match exif_attr_of_stream(rt.alloc(), &mut source) {
             Ok(payload) => {

@@ -35,9 +35,12 @@ fn a_list_is_looked_at_as_a_vector(rt: HostRuntime) {
 #[test]
 fn a_list_becomes_a_vector_and_back(rt: HostRuntime) {
     let items = Items::from_slice(rt.alloc(), &[8u16, 9]).expect(&rt, "memory");
+    let copy = items.clone(rt.alloc()).expect(&rt, "memory");
+    assert!(rt; copy == items);
     let mut vec: Vec<u16> = items.into();
     vec.push(10).expect(&rt, "memory");
     let items = Items::from(vec);
+    assert!(rt; copy != items);
     let mut sum = 0;
     for item in items {
         sum = u32::from(item).saturating_add(sum);

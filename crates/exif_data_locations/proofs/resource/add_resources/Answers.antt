@@ -1,4 +1,4 @@
-use Rattle.std.proofs.Common.{◌+◌, ◌++◌, length, take, drop, arith}
+use Rattle.std.proofs.Common.{◌+◌, ◌++◌, ◌∷◌, [], length, take, drop, ap, ◌∙◌, arith}
 use Rattle.std.proofs.lemmas.Bool.Decides.{nat_tests}
 use Rattle.std.proofs.lemmas.List.{take_rest}
 use Rattle.exif_data_locations.specs.Resources.{resource_regions}
@@ -15,7 +15,7 @@ loop-rest-preserved c =
     c.loop-rest.regions.items c.push.new.self.items c.loop-rest.at rest _ r c.loop-rest.invariant
     c.requires.within (grind (arith, nat_tests)) c.resource_at-resource.ensures.value
     c.resource_at-resource.ensures.some c.resource_at-resource.ensures.within
-    c.resource_at-resource.ensures.framed c.in_ok-push.ensures.items (take_rest rest r.len)
+    c.resource_at-resource.ensures.framed (c.in_ok-push.ensures.items ∙ ap (λ x. c.loop-rest.regions.items ++ x ∷ []) c.region_of.ensures) (take_rest rest r.len)
 
 pub returns-clause-value : goal.returns-clause-value
 returns-clause-value c =

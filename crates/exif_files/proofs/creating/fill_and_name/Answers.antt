@@ -1,44 +1,50 @@
-use Rattle.std.proofs.Common.{◌≡◌, ◌≢◌, ◌∙◌, sym, subst, rules, None, List}
-use Rattle.exif_files.specs.States.{State, Now}
-use Rattle.exif_files.proofs.Runs.{run_stay, run_weaker, at_err, now_back}
-use Rattle.exif_files.proofs.NewFiles.{run_ready_new, run_beside, run_put_new, free_now, taken_now}
+use Rattle.std.proofs.Common.{◌≢◌, ◌∙◌, sym, inl, inr}
+use Rattle.exif_files.specs.NewNames.{IsThere}
+use Rattle.exif_files.proofs.Runs.{run_stay, run_weaker, at_err, if_err, now_back}
+use Rattle.exif_files.proofs.NameSteps.{moved_since, not_moved_since}
+use Rattle.exif_files.proofs.NewFiles.{run_ready_new, run_only_beside, run_put_new, run_not_put_new}
 use Rattle.exif_files.proofs.creating.fill_and_name.Goals as goal
+
+pub returns-in_err-append_all-clause-failed : goal.returns-in_err-append_all-clause-failed
+returns-in_err-append_all-clause-failed g c =
+    let apart : c.args.name.now ≢ c.args.beside.now = λ e. c.requires.apart (sym e) in
+    at_err _ c.from_residual.result (run_only_beside c.args.name.now c.args.beside.now c.args.bytes.now _ apart _ _ _ _ c.in_err-append_all.ensures.failed)
 
 pub returns-in_err-sync-clause-failed : goal.returns-in_err-sync-clause-failed
 returns-in_err-sync-clause-failed g c =
-    at_err _ c.from_residual-in_err-sync.result (run_weaker (run_stay c.in_ok-append_all.ensures.done c.in_err-sync.ensures.does.failed) (λ s t h. h) (λ s t h. h.others))
-
-pub returns-in_err-is_free-clause-failed : goal.returns-in_err-is_free-clause-failed
-returns-in_err-is_free-clause-failed g c =
     let apart : c.args.name.now ≢ c.args.beside.now = λ e. c.requires.apart (sym e) in
-    let ready = run_ready_new c.args.name.now c.args.beside.now c.args.bytes.now _ apart _ _ _ c.requires.empty c.in_ok-append_all.ensures.done c.in_ok-sync.ensures.does.done in
-    at_err _ c.from_residual-in_err-is_free.result (run_beside c.args.name.now c.args.beside.now c.args.bytes.now _ apart _ _ _ ready c.in_err-is_free.ensures.same)
-
-pub returns-then-not-branch-clause-failed : goal.returns-then-not-branch-clause-failed
-returns-then-not-branch-clause-failed g c =
-    let apart : c.args.name.now ≢ c.args.beside.now = λ e. c.requires.apart (sym e) in
-    let ready = run_ready_new c.args.name.now c.args.beside.now c.args.bytes.now _ apart _ _ _ c.requires.empty c.in_ok-append_all.ensures.done c.in_ok-sync.ensures.does.done in
-    run_beside c.args.name.now c.args.beside.now c.args.bytes.now _ apart _ _ _ ready c.in_ok-is_free.ensures.same
-
-pub returns-then-not-branch-clause-taken : goal.returns-then-not-branch-clause-taken
-returns-then-not-branch-clause-taken g c = λ is.
-    let apart : c.args.name.now ≢ c.args.beside.now = λ e. c.requires.apart (sym e) in
-    let ready = run_ready_new c.args.name.now c.args.beside.now c.args.bytes.now _ apart _ _ _ c.requires.empty c.in_ok-append_all.ensures.done c.in_ok-sync.ensures.does.done in
-    now_back (λ s. s.at c.args.name.now ≢ None) (λ s. s.at c.args.name.now ≢ None) _ _ ready
-    (λ s t x taken none. taken (x.others c.args.name.now apart ∙ none))
-    (taken_now c.args.name.now c.in_ok-is_free.field-0 _ (search rules) c.in_ok-is_free.ensures.free)
-
-pub returns-in_err-rename-clause-failed : goal.returns-in_err-rename-clause-failed
-returns-in_err-rename-clause-failed g c =
-    let apart : c.args.name.now ≢ c.args.beside.now = λ e. c.requires.apart (sym e) in
-    let ready = run_ready_new c.args.name.now c.args.beside.now c.args.bytes.now _ apart _ _ _ c.requires.empty c.in_ok-append_all.ensures.done c.in_ok-sync.ensures.does.done in
-    at_err _ c.from_residual-in_err-rename.result (run_beside c.args.name.now c.args.beside.now c.args.bytes.now _ apart _ _ _ ready (c.in_err-rename.ensures.does.failed ∙ c.in_ok-is_free.ensures.same))
+    at_err _ c.from_residual-in_err-sync.result (run_only_beside c.args.name.now c.args.beside.now c.args.bytes.now _ apart _ _ _ _
+    (run_weaker (run_stay c.in_ok-append_all.ensures.done c.in_err-sync.ensures.does.failed) (λ s t h. h) (λ s t h. h.others)))
 
 pub returns-clause-done : goal.returns-clause-done
 returns-clause-done g c =
-    let apart : c.args.name.now ≢ c.args.beside.now = λ e. c.requires.apart (sym e) in
-    let ready = run_ready_new c.args.name.now c.args.beside.now c.args.bytes.now _ apart _ _ _ c.requires.empty c.in_ok-append_all.ensures.done c.in_ok-sync.ensures.does.done in
-    let P : List State → Type 0 = λ xs. Now xs (λ s. s.at c.args.name.now ≡ None) in
-    run_put_new c.args.name.now c.args.beside.now c.args.bytes.now _ apart _ _ _ (run_stay ready c.in_ok-is_free.ensures.same)
-    (subst P (sym c.in_ok-is_free.ensures.same) (free_now c.args.name.now c.in_ok-is_free.field-0 _ (search rules) c.in_ok-is_free.ensures.free))
-    c.in_ok-rename.ensures.does.done
+    let name = c.args.name.now in
+    let beside = c.args.beside.now in
+    let apart : name ≢ beside = λ e. c.requires.apart (sym e) in
+    let ready = run_ready_new name beside c.args.bytes.now _ apart _ _ _ c.requires.empty c.in_ok-append_all.ensures.done c.in_ok-sync.ensures.does.done in
+    let e = c.in_ok-sync.ensures.does.count ∙ c.in_ok-append_all.ensures.count in
+    let k = g.F.FileSystem.failures c.move_new.new.files in
+    run_put_new name beside c.args.bytes.now _ apart _ c.move_new.result _ _ _ ready
+    (moved_since c.move_new.result beside name _ _ _ _ k e c.move_new.ensures.done)
+
+pub returns-clause-failed : goal.returns-clause-failed
+returns-clause-failed g c =
+    let name = c.args.name.now in
+    let beside = c.args.beside.now in
+    let apart : name ≢ beside = λ e. c.requires.apart (sym e) in
+    let ready = run_ready_new name beside c.args.bytes.now _ apart _ _ _ c.requires.empty c.in_ok-append_all.ensures.done c.in_ok-sync.ensures.does.done in
+    let e = c.in_ok-sync.ensures.does.count ∙ c.in_ok-append_all.ensures.count in
+    let k = g.F.FileSystem.failures c.move_new.new.files in
+    run_not_put_new name beside c.args.bytes.now _ apart _ c.move_new.result _ _ _ _ ready
+    (not_moved_since c.move_new.result beside name _ _ _ _ k e c.move_new.ensures.failed)
+
+pub returns-clause-taken : goal.returns-clause-taken
+returns-clause-taken g c =
+    let name = c.args.name.now in
+    let beside = c.args.beside.now in
+    let apart : name ≢ beside = λ e. c.requires.apart (sym e) in
+    let ready = run_ready_new name beside c.args.bytes.now _ apart _ _ _ c.requires.empty c.in_ok-append_all.ensures.done c.in_ok-sync.ensures.does.done in
+    if_err _ _ c.move_new.result c.move_new.ensures.taken (λ e taken is. elim (taken is) [
+      | inl same ↦ absurd (c.requires.apart same)
+      | inr now ↦ now_back (IsThere name) (IsThere name) _ _ ready (λ s t x there none. there (x.others name apart ∙ none)) now
+    ])

@@ -5,7 +5,7 @@ use Rattle.exif_files.specs.Written.{IsTakenIf}
 use Rattle.exif_files.proofs.Runs.{run_then, run_stay, run_weaker, at_err, on_err, if_err, now_back}
 use Rattle.exif_files.proofs.Filling.{elsewhere_then}
 use Rattle.exif_files.proofs.Counts.{fails_since}
-use Rattle.exif_files.proofs.Moving.{run_filled, run_ready, run_synced, putting_before, put_done, put_failed}
+use Rattle.exif_files.proofs.Moving.{ready_there, run_filled, run_ready, run_synced, putting_before, put_done, put_failed}
 use Rattle.exif_files.proofs.replacing.fill_and_move.Goals as goal
 
 pub returns-in_err-append_all-clause-failed : goal.returns-in_err-append_all-clause-failed
@@ -61,3 +61,11 @@ returns-clause-taken g c =
 pub returns-clause-rises : goal.returns-clause-rises
 returns-clause-rises g c =
     on_err _ _ c.link_and_rename.result c.link_and_rename.ensures.rises (λ rises. fails_since _ _ _ _ c.in_ok-append_all.ensures.count c.in_ok-copy_access.ensures.count (let P : ℕ → Type 0 = λ n. FailsOrNot n (g.F.FileSystem.failures c.link_and_rename.new.files) in subst P c.in_ok-sync.ensures.does.count rises))
+
+pub link_and_rename-requires-clause-there : goal.link_and_rename-requires-clause-there
+link_and_rename-requires-clause-there g c =
+    let apart : c.args.name.now ≢ c.args.beside.now = λ e. c.requires.apart (sym e) in
+    let filled = run_filled c.args.beside.now c.args.bytes.now _ _ c.requires.empty c.in_ok-append_all.ensures.done in
+    let ready = run_ready c.args.name.now c.args.beside.now c.args.bytes.now c.args.times _ _ _ _ apart filled c.in_ok-copy_access.ensures.done in
+    ready_there c.args.name.now c.args.beside.now c.args.bytes.now c.args.times _ _ _ apart
+    (run_synced c.args.name.now c.args.beside.now c.args.bytes.now c.args.times _ _ _ _ ready c.in_ok-sync.ensures.does.done)

@@ -1,8 +1,7 @@
-use Rattle.std.proofs.Common.{◌≡◌, ◌+◌, ◌-◌, ◌<◌, length, take, drop, ap, sym, ◌∙◌, subst, arith, rules}
+use Rattle.std.proofs.Common.{arith, rules}
 use Rattle.std.proofs.lemmas.Bool.Decides.{nat_tests}
 use Rattle.std.proofs.lemmas.List.{take_rest}
-use Rattle.exif_inventory.specs.Promises.{AreInOrder}
-use Rattle.exif_inventory.specs.Walks.{all_parts, none, walk_view, walked}
+use Rattle.exif_inventory.specs.Walks.{none, walk_view}
 use Rattle.exif_inventory.proofs.WalkSteps.{walks_on, walks_over}
 use Rattle.exif_inventory.proofs.walk.parts_from.Goals as goal
 

@@ -10,7 +10,7 @@ returns-clause-done g c =
     let P : List ℕ → Type 0 = λ bytes. Now a (HasFile c.args.from.now bytes) in
     let was = subst P (sym c.as_slice.ensures.value) c.in_ok-bytes.ensures.bytes in
     on_ok _ _ c.create_new.result c.create_new.ensures.done
-    (run_made c.args.from.now c.args.to.now c.as_slice.result.now 438 a _ _ c.in_ok-bytes.ensures.same was)
+    (run_made c.args.from.now c.args.to.now c.as_slice.result.now 438 a _ _ _ _ _ c.in_ok-bytes.ensures.same c.in_ok-bytes.ensures.count was)
 
 pub returns-clause-failed : goal.returns-clause-failed
 returns-clause-failed g c =
