@@ -18,6 +18,7 @@ pub data Undone : Type 0 where
   stays : Stays → Undone
   still_there : Part → Undone
   color_kept : Undone
+  other_dates : Undone
 
 -- what the program says of it; a refused edit has a cause
 abbrev pub undone_of : Left → Option Undone
@@ -27,6 +28,7 @@ undone_of left.CutOff = Some cut_off
 undone_of (left.Stays s) = Some (stays s)
 undone_of (left.Part part) = Some (still_there part)
 undone_of left.Color = Some color_kept
+undone_of left.OtherDates = Some other_dates
 
 -- the new bytes of a file, and what was left undone
 pub record Change : Type 0 where

@@ -47,6 +47,8 @@ pub enum Left {
     Part(Part),
     /// The colour profile, which was to be removed, stays: the file's format keeps it.
     Color,
+    /// The file has XMP or IPTC data, the dates of which stay.
+    OtherDates,
 }
 
 impl fmt::Display for Left {
@@ -73,6 +75,7 @@ impl fmt::Display for Left {
                 )
             }
             Left::Color => write!(f, "the colour profile stays in files of this format"),
+            Left::OtherDates => f.write_str("dates in its XMP or IPTC data are not changed"),
         }
     }
 }

@@ -30,6 +30,9 @@ pub enum Note {
     /// The orientation goes with the other fields: the rotation that a HEIF file stores with its
     /// picture decides.
     OwnRotation,
+    /// An orientation other than upright goes with the other fields: the picture is shown as it is
+    /// stored.
+    Orientation,
 }
 
 // Whether the profile stays.

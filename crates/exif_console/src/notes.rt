@@ -20,6 +20,9 @@ impl fmt::Display for NoteLine {
             Note::Pictures(count) => {
                 write!(f, "{count} pictures behind the first one were removed")
             }
+            Note::Orientation => f.write_str(
+                "its orientation is removed, so it may lie on its side; --keep-orientation keeps it",
+            ),
             Note::OwnRotation => f.write_str(
                 "the rotation that is stored with the picture stays; the orientation of Exif does not",
             ),

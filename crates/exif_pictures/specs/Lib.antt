@@ -2,4 +2,6 @@ pub mod Boxes
 pub mod Codestreams
 pub mod PngChanges
 pub mod Ways
+pub mod OtherDates
+pub mod Rotation
 pub mod Pictures

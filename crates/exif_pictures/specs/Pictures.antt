@@ -21,7 +21,9 @@ use Rattle.exif_change.specs.declared.scrubbing.Removed.{Removed}
 use Rattle.exif_change.specs.declared.scrubbing.Removed.TheVariants as removed
 use Rattle.exif_pictures.specs.Boxes.{jxl_emptied}
 use Rattle.exif_pictures.specs.Codestreams.{codestream_of}
+use Rattle.exif_pictures.specs.OtherDates.{has_other_dates, leaves_dates, with_other_dates}
 use Rattle.exif_pictures.specs.PngChanges.{png_emptied, png_set, png_shifted, png_unlocated}
+use Rattle.exif_pictures.specs.Rotation.{file_turned, if_turned, png_turned}
 use Rattle.exif_pictures.specs.Ways.{way_for}
 use Rattle.exif_pictures.specs.declared.codestream.Codestream.{Codestream}
 use Rattle.exif_pictures.specs.declared.codestream.Codestream.TheVariants as codestream
@@ -103,7 +105,7 @@ color_scrubbed_by way.Raw removed file = Err raw_refused
 abbrev pub picture_scrubbed_with_color : Removed → List ℕ → Result Change Why
 picture_scrubbed_with_color removed file = color_scrubbed_by (way_for file) removed file
 
--- a file with values set
+-- a file with values set; where dates are, those that it may have beside its Exif data stay
 abbrev pub set_by : Way → List Assignment → List ℕ → Result Change Why
 set_by way.Known assignments file = set_file assignments file
 set_by way.Png assignments file = png_set assignments file
@@ -111,9 +113,10 @@ set_by way.Jxl assignments file = Err jxl_refused
 set_by way.Raw assignments file = Err raw_refused
 
 abbrev pub picture_set : List Assignment → List ℕ → Result Change Why
-picture_set assignments file = set_by (way_for file) assignments file
+picture_set assignments file =
+    with_other_dates (leaves_dates assignments file) (set_by (way_for file) assignments file)
 
--- a file with its dates moved
+-- a file with its dates moved; those that it may have beside its Exif data stay
 abbrev pub shifted_by : Way → ClockShift → Dates → List ℕ → Result Change Why
 shifted_by way.Known by dates file = shifted by dates file
 shifted_by way.Png by dates file = png_shifted by dates file
@@ -121,14 +124,18 @@ shifted_by way.Jxl by dates file = Err jxl_refused
 shifted_by way.Raw by dates file = Err raw_refused
 
 abbrev pub picture_shifted : ClockShift → Dates → List ℕ → Result Change Why
-picture_shifted by dates file = shifted_by (way_for file) by dates file
+picture_shifted by dates file =
+    with_other_dates (has_other_dates file) (shifted_by (way_for file) by dates file)
 
--- the notes on a file that is scrubbed: a JPEG XL file keeps the orientation of its picture
+-- the notes on a file that is scrubbed: a JPEG XL file keeps the orientation of its picture, and
+-- that of other files goes with their Exif data
 abbrev pub notes_by : Way → Removed → Color → List ℕ → List Note
 notes_by way.Jxl removed color file =
     if keeps_orientation removed then OwnRotation ∷ [] else []
-notes_by way.Known removed color file = notes.scrub_notes removed color file
-notes_by way.Png removed color file = notes.scrub_notes removed color file
+notes_by way.Known removed color file =
+    notes.scrub_notes removed color file ++ if_turned removed (file_turned file)
+notes_by way.Png removed color file =
+    notes.scrub_notes removed color file ++ if_turned removed (png_turned file)
 notes_by way.Raw removed color file = notes.scrub_notes removed color file
 
 abbrev pub picture_notes : Removed → Color → List ℕ → List Note

@@ -6,8 +6,10 @@
 
 mod codestream;
 mod jxl;
+mod other_dates;
 mod pictures;
 mod png;
+mod rotation;
 mod way;
 
 pub use pictures::{scrub, scrub_notes, scrub_with_color, set, shift};

@@ -1,13 +1,17 @@
 //! What programs change of a picture, by its format.
 
-ghost use Rattle.std.specs.Prelude.{◌≡◌, ◌∷◌, [], if◌then◌else◌, IfOk, Ok, Some};
+ghost use Rattle.std.specs.Prelude.{◌≡◌, ◌∷◌, ◌++◌, [], if◌then◌else◌, IfOk, Ok, Some};
 ghost use Rattle.exif_change.specs.Changed.{change_of};
 ghost use Rattle.exif_change.specs.Changes.{keeps_orientation, with_color};
+ghost use Rattle.exif_change.specs.Notes.{scrub_notes};
 ghost use Rattle.exif_change.specs.Refusals.{Answers, why_of};
-ghost use Rattle.exif_pictures.specs.Pictures.{if_cut_off, jxl_refused, jxl_scrubbed, jxl_unlocated, jxl_without, no_codestream, picture_notes, picture_scrubbed, picture_scrubbed_with_color, picture_set, picture_shifted, png_scrubbed, png_with_color, raw_refused};
+ghost use Rattle.exif_pictures.specs.Rotation.{if_turned};
+ghost use Rattle.exif_pictures.specs.Pictures.{if_cut_off, jxl_refused, jxl_scrubbed, jxl_unlocated, jxl_without, no_codestream, picture_notes, picture_scrubbed, picture_scrubbed_with_color, picture_set, picture_shifted, png_scrubbed, png_with_color, raw_refused, set_by, shifted_by};
 
 use crate::codestream::{Codestream, codestream_of};
+use crate::other_dates::{has_other_dates, leaves_dates, with_other_dates};
 use crate::png::whole;
+use crate::rotation::{file_turned, note_turned, png_turned};
 use crate::way::{Way, way_for};
 use crate::{jxl, png};
 use exif::Error;
@@ -147,8 +151,22 @@ pub fn scrub_with_color(alloc: Global, file: Vec<u8>, removed: Removed) -> Resul
 
 /// The picture with values set: [`exif_change::set`] for TIFF, JPEG, HEIF and WebP files. The Exif
 /// data of a PNG file are changed as a TIFF file is, or it gets new ones. Other files are refused.
+/// Where a date is set and the file has XMP or IPTC data, the answer has that their dates stay.
 pub fn set(alloc: Global, file: Vec<u8>, assignments: &[Assignment<'_>]) -> Result<Changed, Refusal>
     ensures { Answers change_of result (picture_set assignments.now file.items) }
+{
+    let others = leaves_dates(alloc, file.as_slice(), assignments)?;
+    with_other_dates(others, set_by_way(alloc, file, assignments)?)
+}
+
+// The picture with values set, by its format.
+fn set_by_way(
+    alloc: Global,
+    file: Vec<u8>,
+    assignments: &[Assignment<'_>],
+) -> Result<Changed, Refusal>
+    ensures { Answers change_of result
+        (set_by (way_for file.items) assignments.now file.items) }
 {
     match way_for(file.as_slice()) {
         Way::Known => exif_change::set(alloc, file, assignments),
@@ -159,8 +177,22 @@ pub fn set(alloc: Global, file: Vec<u8>, assignments: &[Assignment<'_>]) -> Resu
 }
 
 /// The picture with its dates moved: [`exif_change::shift`], also in the Exif data of a PNG file.
+/// Where the file has XMP or IPTC data, the answer has that their dates stay.
 pub fn shift(alloc: Global, file: Vec<u8>, by: ClockShift, dates: Dates) -> Result<Changed, Refusal>
     ensures { Answers change_of result (picture_shifted by dates file.items) }
+{
+    let others = has_other_dates(alloc, file.as_slice())?;
+    with_other_dates(others, shift_by_way(alloc, file, by, dates)?)
+}
+
+// The picture with its dates moved, by its format.
+fn shift_by_way(
+    alloc: Global,
+    file: Vec<u8>,
+    by: ClockShift,
+    dates: Dates,
+) -> Result<Changed, Refusal>
+    ensures { Answers change_of result (shifted_by (way_for file.items) by dates file.items) }
 {
     match way_for(file.as_slice()) {
         Way::Known => exif_change::shift(alloc, file, by, dates),
@@ -182,7 +214,24 @@ fn own_rotation(alloc: Global, removed: Removed) -> Result<Vec<Note>, AllocError
     Ok(notes)
 }
 
-/// What the user is to know of a picture that is scrubbed ([`exif_change::scrub_notes`]).
+// The notes on a picture that is no JPEG XL file; whether its orientation is other than upright.
+fn notes_with(
+    alloc: Global,
+    file: &[u8],
+    removed: Removed,
+    color: Color,
+    turned: bool,
+) -> Result<Vec<Note>, AllocError>
+    ensures { IfOk result (λ notes. notes.items
+        ≡ scrub_notes removed color file.now ++ if_turned removed turned) }
+{
+    let mut notes = exif_change::scrub_notes(alloc, file, removed, color)?;
+    note_turned(removed, turned, &mut notes)?;
+    Ok(notes)
+}
+
+/// What the user is to know of a picture that is scrubbed: [`exif_change::scrub_notes`], and that an
+/// orientation other than upright goes with the Exif data.
 pub fn scrub_notes(
     alloc: Global,
     file: &[u8],
@@ -193,8 +242,8 @@ pub fn scrub_notes(
 {
     match way_for(file) {
         Way::Jxl => own_rotation(alloc, removed),
-        Way::Known | Way::Png | Way::Raw => {
-            exif_change::scrub_notes(alloc, file, removed, color)
-        }
+        Way::Known => notes_with(alloc, file, removed, color, file_turned(alloc, file)?),
+        Way::Png => notes_with(alloc, file, removed, color, png_turned(alloc, file)?),
+        Way::Raw => exif_change::scrub_notes(alloc, file, removed, color),
     }
 }
