@@ -59,6 +59,47 @@ exiftool -validate -warning -a -s3 work/all.jpg | tail -n +2 >old.warnings
 exiftool -validate -warning -a -s3 work/new.jpg | tail -n +2 | grep -v GPSVersionID >new.warnings
 check "exiftool finds nothing wrong, but that an empty directory has no version" cmp old.warnings new.warnings
 
+# An orientation other than upright goes with the other fields, which is reported.
+turned="its orientation is removed, so it may lie on its side; --keep-orientation keeps it"
+for made in all.jpg all.tif; do
+    gives "$made lies on its side" 0 "$mexaldor" scrub --force "work/$made" "work/new.$made"
+    says "when it is scrubbed, and says so" "work/$made: $turned"
+    check "the orientation is gone" test -z "$(exiftool -s3 -Orientation "work/new.$made")"
+    gives "$made keeps its orientation" 0 "$mexaldor" scrub --force --keep-orientation "work/$made" "work/new.$made"
+    check "then nothing is said of it" test "$(grep -c 'lie on its side' err)" = 0
+    check "and exiftool reads it" test "$(exiftool -s3 -n -Orientation "work/new.$made")" = 6
+done
+cp work/all.jpg work/turned.jpg
+gives "in place" 0 "$mexaldor" scrub --in-place work/turned.jpg
+says "it is said too" "work/turned.jpg: $turned"
+cp work/all.jpg work/turned.jpg
+gives "but not with -q" 0 "$mexaldor" scrub -q --in-place work/turned.jpg
+check "which writes nothing" test ! -s err
+exiftool -q -overwrite_original -Orientation#=1 work/all.jpg -o work/upright.jpg
+gives "an upright picture" 0 "$mexaldor" scrub --force work/upright.jpg work/new.jpg
+check "stays so" test ! -s err
+gives "a picture without its location" 0 "$mexaldor" scrub --force --places-only work/all.jpg work/new.jpg
+check "keeps its orientation" test ! -s err
+
+# Dates of XMP and IPTC data stay, which is reported.
+stay="dates in its XMP or IPTC data are not changed"
+exiftool -q -XMP-xmp:CreateDate="2020:02:28 23:30:01" work/all.jpg -o work/xmp.jpg
+exiftool -q -IPTC:DateCreated=2020:02:28 work/all.jpg -o work/iptc.jpg
+exiftool -q -XMP-xmp:CreateDate="2020:02:28 23:30:01" work/all.tif -o work/xmp.tif
+for made in xmp.jpg iptc.jpg xmp.tif; do
+    cp "work/$made" "work/new.$made"
+    gives "dates of $made are moved" 3 "$mexaldor" shift +1d "work/new.$made"
+    says "but for those of XMP and IPTC" "work/new.$made: $stay"
+    check "exiftool reads the new date" test "$(exiftool -s3 -ExifIFD:DateTimeOriginal "work/new.$made")" = "2020:02:29 23:30:00"
+    gives "a date of $made is set" 3 "$mexaldor" set --force "work/$made" "work/new.$made" "DateTimeOriginal=2021:01:01 00:00:00"
+    says "but for those of XMP and IPTC" "work/$made: $stay"
+    gives "another value of $made is set" 0 "$mexaldor" set --force "work/$made" "work/new.$made" Orientation=1
+    check "and nothing is reported" test ! -s err
+done
+cp work/all.jpg work/new.jpg
+gives "without XMP and IPTC data" 0 "$mexaldor" shift +1d work/new.jpg
+check "nothing stays" test ! -s err
+
 # A camera's notes, whose text stands where they say, counted from the first byte of the data.
 python3 - files/plain.jpg work/noted.jpg <<'NOTED'
 import struct, sys
