@@ -299,7 +299,32 @@ check "the file was shifted once" test "$(grep -c '2020-02-29 00:30:00' out)" = 
 check "a file outside of the folder stays" cmp files/whole.jpg outside/far.jpg
 check "a backup stays" cmp files/whole.jpg work/links/a.jpg.orig
 check "a hidden file stays" cmp files/whole.jpg work/links/.mexaldor-0
-says "and is named" "work/links/.mexaldor-0: a temporary file of another run; if that was interrupted, it may be deleted"
+says "and is named" "work/links/.mexaldor-0: a temporary file of another run; it stays"
+
+# temporary files that a run left: one that nobody writes any more is removed by a run that changes files
+fresh
+mkdir work/left
+cp files/whole.jpg work/left/a.jpg
+cp files/whole.jpg work/left/.mexaldor-0
+cp files/whole.jpg work/left/.mexaldor-1
+cp files/whole.jpg work/left/.mexaldor-old
+ln -s a.jpg work/left/.mexaldor-2
+sleep 4
+gives "a run that only reads" 0 "$mexaldor" json -r work/left
+says "names a temporary file" "work/left/.mexaldor-0: a temporary file; a run that changes files removes it"
+check "which stays" test -f work/left/.mexaldor-0
+gives "a run that changes files" 3 env flocked=work/left/.mexaldor-1 python3 - "$mexaldor" shift -r +1:00 work/left <<'P'
+import fcntl, os, subprocess, sys
+with open(os.environ["flocked"], "r+b") as held:
+    fcntl.flock(held, fcntl.LOCK_EX)
+    sys.exit(subprocess.run(sys.argv[1:]).returncode)
+P
+says "removes one that nobody writes" "work/left/.mexaldor-0: a temporary file of an interrupted run; it was removed"
+check "so it is gone" test ! -e work/left/.mexaldor-0
+says "and leaves one that a run writes" "work/left/.mexaldor-1: a temporary file of another run; it stays"
+check "so it is there" cmp files/whole.jpg work/left/.mexaldor-1
+check "other names are not its own" cmp files/whole.jpg work/left/.mexaldor-old
+check "nor are links" test -L work/left/.mexaldor-2
 cp files/whole.jpg work/links/a.jpg
 gives "a file named in four ways is shifted once" 3 "$mexaldor" shift +1:00 work/links/a.jpg work/links/a.jpg ./work/../work/links/b.jpg -r work/links
 "$mexaldor" show work/links/a.jpg >out

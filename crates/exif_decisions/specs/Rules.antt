@@ -1,6 +1,7 @@
 -- What the program does with a name, an OUT and a word.
-use Rattle.std.specs.Prelude.{ℕ, List, [], ◌∷◌, Bool, true, false, ◌||◌, ◌==◌, if◌then◌else◌, nat_eq, codes}
-use Rattle.std.specs.List.{starts_with, ends_with}
+use Rattle.std.specs.Prelude.{ℕ, List, [], ◌∷◌, Bool, true, false, ◌||◌, ◌&&◌, ◌==◌, if◌then◌else◌, nat_eq, nat_lt, length, drop, codes}
+use Rattle.std.specs.Char.{is_ascii_digit}
+use Rattle.std.specs.List.{starts_with, ends_with, list_all}
 use Rattle.exif_decisions.specs.declared.rules.Kind.{Kind}
 use Rattle.exif_decisions.specs.declared.rules.Kind.TheVariants.{File, Folder, Link, Other}
 use Rattle.exif_decisions.specs.declared.rules.Action.{Action}
@@ -23,9 +24,11 @@ action_for Link false is_own recursive = SkipLink
 action_for Other false is_own recursive = Ignore
 action_for File false is_own recursive = if is_own then SkipOwn else ProcessPicture
 
--- the names of files that are being written
+-- the names of files that are being written: a word and a number
 abbrev pub is_temporary : List ℕ → Bool
-is_temporary name = starts_with nat_eq name (codes ".mexaldor-")
+is_temporary name =
+    starts_with nat_eq name (codes ".mexaldor-")
+    && (nat_lt 10 (length name) && list_all is_ascii_digit (drop 10 name))
 
 -- the names of backups, and of files that are being written
 abbrev pub is_own : List ℕ → Bool

@@ -1,6 +1,8 @@
 //! What the program does with a name, an OUT and a word.
 
-ghost use Rattle.std.specs.Prelude.{◌≡◌, true};
+ghost use Rattle.std.specs.Prelude.{◌≡◌, ◌≤◌, true, drop, length};
+ghost use Rattle.std.specs.Char.{is_ascii_digit};
+ghost use Rattle.std.specs.List.{list_all};
 ghost use Rattle.exif_decisions.specs.Rules.{action_for, destination_for, is_own, is_temporary, assigns};
 
 /// What a path is.
@@ -61,7 +63,22 @@ pub fn is_own_name(name: &str) -> bool
 pub fn is_temporary_name(name: &str) -> bool
     ensures { result ≡ is_temporary name.now }
 {
-    name.as_bytes().starts_with(b".mexaldor-")
+    let name = name.as_bytes();
+    name.starts_with(b".mexaldor-") && name.len() > 10 && are_digits(bytes_from(name, 10))
+}
+
+// The bytes from an index on.
+fn bytes_from(bytes: &[u8], at: usize) -> &[u8]
+    requires { at ≤ length bytes.now }
+    ensures { result.now ≡ drop at bytes.now }
+{
+    &bytes[at..]
+}
+
+fn are_digits(bytes: &[u8]) -> bool
+    ensures { result ≡ list_all is_ascii_digit bytes.now }
+{
+    bytes.iter().all(|byte| byte.is_ascii_digit())
 }
 
 /// What an OUT is.

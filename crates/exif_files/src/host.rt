@@ -15,7 +15,7 @@ use std::path::Path;
 #[derive(Drop)]
 pub struct HostFiles<'r> {
     rt: &'r HostRuntime,
-    // the file that is being written
+    // the file that is being written, which is locked where the file system has locks
     current: Option<Current>,
     // the file that was read last
     known: Option<Known>,
@@ -86,6 +86,8 @@ impl<'r> HostFiles<'r> {
             .open(self.rt, name);
         match created {
             Ok(file) => {
+                // not all file systems have locks
+                let _ = file.try_lock();
                 self.current = Some(Current { name: text, file });
                 Ok(true)
             }
@@ -160,7 +162,9 @@ impl<'r> HostFiles<'r> {
         ensures { self.new.failures ≡ self.old.failures }
     {
         let current = self.take_current(name)?;
-        current.file.sync_all()
+        let synced = current.file.sync_all();
+        self.current = Some(current);
+        synced
     }
 
     fn stamp(&self, name: &str) -> io::Result<Stamp> {

@@ -5,6 +5,7 @@
 //! killed. [`HostFiles`] is that of the system.
 #![tactic(auto)]
 
+mod abandoned;
 mod changing;
 mod creating;
 mod failure;
@@ -17,6 +18,7 @@ mod system;
 mod taking;
 mod temporary;
 
+pub use abandoned::remove_abandoned;
 pub use changing::{Edit, EditError, Edited, Failure, Keeping, Report, change};
 pub use creating::create_new;
 pub use failure::WriteError;

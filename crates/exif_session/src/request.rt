@@ -73,6 +73,18 @@ impl Task<'_> {
         }
     }
 
+    /// Whether it changes files, makes some, or gives them other names.
+    pub fn changes_files(&self) -> bool {
+        match self {
+            Task::Rename(renaming) => !renaming.dry_run,
+            Task::Change(_, target) => matches!(target, Target::InPlace(_)),
+            Task::Geotag(_) | Task::Copy(_) | Task::Touch(_) => true,
+            Task::Show(_) | Task::Json(..) | Task::Summary(_) | Task::Table(_) => false,
+            Task::Check(..) | Task::Thumbnail(..) | Task::Thumbnails(..) => false,
+            Task::Catalog(_) => false,
+        }
+    }
+
     /// What a summary says of the files of which something was skipped, left undone or found.
     pub fn partial(&self) -> &'static str {
         match self {

@@ -8,7 +8,7 @@ use exif::Sink;
 use exif_base::send_all;
 use exif_console::Console;
 use exif_decisions::{Found, Outcome, Summary, status_of};
-use exif_files::Status;
+use exif_files::{Status, remove_abandoned};
 use std::alloc::{AllocError, AllocFailed};
 use std::fmt::Display;
 use std::io;
@@ -112,16 +112,37 @@ impl<'r, 'a, W: Sink, E: Sink> Session<'r, 'a, W, E> {
         Ok(None)
     }
 
-    // Reports the temporary files that were found. Whose they are is not known: another run may
-    // still write them.
+    // Reports the temporary files that were found. A run that changes files removes those that no
+    // other run writes.
     fn name_temporary(&mut self) -> Result<(), Stop> {
         for _ in 0..self.pending.temporary.len() {
             let Some(path) = self.pending.temporary.pop() else {
                 break;
             };
-            let what =
-                "a temporary file of another run; if that was interrupted, it may be deleted";
-            self.say(path.as_str(), &what)?;
+            let path = path.as_str();
+            if !self.request.task.changes_files() {
+                self.say(
+                    path,
+                    &"a temporary file; a run that changes files removes it",
+                )?;
+                continue;
+            }
+            match remove_abandoned(self.rt, path) {
+                Ok(true) => {
+                    self.say(
+                        path,
+                        &"a temporary file of an interrupted run; it was removed",
+                    )?;
+                }
+                Ok(false) => self.say(path, &"a temporary file of another run; it stays")?,
+                Err(cause) => {
+                    let alloc = self.rt.alloc();
+                    let what = format!(in alloc;
+                        "a temporary file that can't be removed: {cause}"
+                    )?;
+                    self.say(path, &what)?;
+                }
+            }
         }
         Ok(())
     }
