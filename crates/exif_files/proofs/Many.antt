@@ -11,6 +11,7 @@ use Rattle.exif_files.specs.Names.{IsHidden, backup_of, backup_if}
 use Rattle.exif_files.specs.Changed.{HasAnswer, IsWholeChange, IsOutcome}
 use Rattle.exif_files.specs.Parts.{Takes}
 use Rattle.exif_files.specs.Each.{is_among, is_repeated, OnceAfter, AreOnce, IsDone, IsAnswer, IsAnswered, IsEachWhole, AllAnswered, IsEachDone}
+use Rattle.exif_files.specs.Statuses.{status_for}
 use Rattle.exif_files.proofs.Runs.{run_none, run_then, run_weaker, run_stay}
 use Rattle.exif_files.proofs.Counts.{same_or_other}
 
@@ -56,10 +57,10 @@ once_more before [] rest name (r ∷ results) result e once is = cc
 once_more before (x ∷ front) rest name [] result e once is = cc
 once_more before (x ∷ front) rest name (r ∷ results) result e once is = (once.0, once_more (x ∷ before) front rest name results result (omega arith) once.1 is)
 
-module _ (answer : List ℕ → List ℕ → Type 0) (backup times : Bool) where
+module _ (answer : List ℕ → List ℕ → Type 0) (backup times : Bool) (undone : List ℕ → ℕ) where
   answered_more : (s u : State) (front rest : List (List ℕ)) (name : List ℕ) (results : List (Option Status)) (result : Option Status) → length front ≡ length results
-      → AllAnswered answer times s u (front ++ name ∷ rest) results → (IsDone result → (old : Entry) → s.at name ≡ Some old → IsAnswered answer times old (u.at name))
-      → AllAnswered answer times s u (front ++ name ∷ rest) (results ++ result ∷ [])
+      → AllAnswered answer times undone s u (front ++ name ∷ rest) results → (IsDone result → (old : Entry) → s.at name ≡ Some old → IsAnswered answer times old (u.at name) × (result ≡ Some (status_for (undone old.bytes))))
+      → AllAnswered answer times undone s u (front ++ name ∷ rest) (results ++ result ∷ [])
   answered_more s u [] rest name [] result e all is = (is, tt)
   answered_more s u [] rest name (r ∷ results) result e all is = cc
   answered_more s u (x ∷ front) rest name [] result e all is = cc
@@ -68,13 +69,13 @@ module _ (answer : List ℕ → List ℕ → Type 0) (backup times : Bool) where
   -- the files of other names are as they were
   answered_still : (s t u : State) (front rest : List (List ℕ)) (name : List ℕ) (results : List (Option Status)) → length front ≡ length results → is_among name front ≡ false
       → ((n : List ℕ) (f : Entry) → n ≢ name → t.at n ≡ Some f → u.at n ≡ Some f)
-      → AllAnswered answer times s t (front ++ name ∷ rest) results → AllAnswered answer times s u (front ++ name ∷ rest) results
+      → AllAnswered answer times undone s t (front ++ name ∷ rest) results → AllAnswered answer times undone s u (front ++ name ∷ rest) results
   answered_still s t u [] rest name [] e among still all = tt
   answered_still s t u [] rest name (r ∷ results) e among still all = cc
   answered_still s t u (x ∷ front) rest name [] e among still all = cc
   answered_still s t u (x ∷ front) rest name (r ∷ results) e among still all =
       let parts = or_false (bytes_eq x name) (is_among name front) among in (
-        λ done old is. let a = all.0 done old is in (a.0, still x a.0 (other_name x name parts.0) a.1, a.2),
+        λ done old is. let both = all.0 done old is in let a = both.0 in ((a.0, still x a.0 (other_name x name parts.0) a.1, a.2), both.1),
         answered_still s t u front rest name results (omega arith) parts.1 still all.1,
       )
 
@@ -135,20 +136,21 @@ module _ (answer : List ℕ → List ℕ → Type 0) (backup times : Bool) where
   -- the names so far, and what became of them
   pub record IsSoFar (names front : List (List ℕ)) (results : List (Option Status)) (s t : State) : Type 0 where
     pub each : IsEachWhole answer backup times s t
-    pub done : AllAnswered answer times s t names results
+    pub done : AllAnswered answer times undone s t names results
     pub left : (n : List ℕ) (old : Entry) → s.at n ≡ Some old → is_among n (gathered [] front) ≡ false → t.at n ≡ Some old
 
   pub run_begun : (names : List (List ℕ)) (a b : List State) → b ≡ a → Run (IsEachWhole answer backup times) (IsSoFar names [] []) a b
   run_begun names a b e = run_none e (λ s. record { each = each_same s; done = tt; left = λ n old is among. is })
 
   first_more : (front rest : List (List ℕ)) (name : List ℕ) (results : List (Option Status)) (status : Status) → length front ≡ length results → is_among name (gathered [] front) ≡ false
-      → (s t u : State) → IsSoFar (front ++ name ∷ rest) front results s t → IsOutcome answer name (backup_if backup name) times status t u
+      → (s t u : State) → IsSoFar (front ++ name ∷ rest) front results s t → IsOutcome answer name (backup_if backup name) times undone status t u
       → IsSoFar (front ++ name ∷ rest) (front ++ name ∷ []) (results ++ Some status ∷ []) s u
   first_more front rest name results status e among s t u x y = record {
     each = each_more name s t u x.each (λ old is. x.left name old is among) y.whole;
     done = answered_more s u front rest name results (Some status) e
         (answered_still s t u front rest name results e (among_gathered name [] front among).0 (still name t u y.whole) x.done)
-        (λ done old is. is_answer name t u old (x.left name old is among) (y.done (not_refused status done)));
+        (λ done old is. let there = x.left name old is among in
+        (is_answer name t u old there (y.done (not_refused status done)), ap (λ (r : Status). Some r) (y.is (not_refused status done) old there)));
     left = λ n old is off.
         let here : is_among n (name ∷ gathered [] front) ≡ false = sym (ap (is_among n) (gathered-more [] front name)) ∙ off in
         let parts = or_false (bytes_eq name n) (is_among n (gathered [] front)) here in
@@ -186,7 +188,7 @@ module _ (answer : List ℕ → List ℕ → Type 0) (backup times : Bool) where
   one_more (x ∷ front) name (r ∷ results) result e = let h = one_more front name results result (omega arith) in ap suc h
 
   pub so_far_more : (front rest : List (List ℕ)) (name : List ℕ) (results results' : List (Option Status)) (a b c : List State) (among : Bool) → among ≡ is_among name (gathered [] front)
-      → SoFar (front ++ name ∷ rest) front results a b → Takes answer name (backup_if backup name) times b c among results results'
+      → SoFar (front ++ name ∷ rest) front results a b → Takes answer name (backup_if backup name) times undone b c among results results'
       → SoFar (front ++ name ∷ rest) (front ++ name ∷ []) results' a c
   so_far_more front rest name results results' a b c among e so_far (inl (is, same, more)) =
       let P : List (Option Status) → Type 0 = λ rs. SoFar (front ++ name ∷ rest) (front ++ name ∷ []) rs a c in
@@ -220,7 +222,7 @@ module _ (answer : List ℕ → List ℕ → Type 0) (backup times : Bool) where
   pub whole_so_far : (names front : List (List ℕ)) (results : List (Option Status)) (a b : List State) → SoFar names front results a b → Run (IsEachWhole answer backup times) (IsEachWhole answer backup times) a b
   whole_so_far names front results a b so_far = run_weaker so_far.run (λ s t h. h) (λ s t h. h.each)
 
-  pub all_done : (names : List (List ℕ)) (results : List (Option Status)) (a b : List State) → SoFar names names results a b → Run (IsEachWhole answer backup times) (IsEachDone answer times names results) a b
+  pub all_done : (names : List (List ℕ)) (results : List (Option Status)) (a b : List State) → SoFar names names results a b → Run (IsEachWhole answer backup times) (IsEachDone answer times undone names results) a b
   all_done names results a b so_far = run_weaker so_far.run (λ s t h. h) (λ s t h. record { done = h.done; left = λ n old is off. h.left n old is (gathered_among n [] names off refl) })
 
   pub are_once : (names : List (List ℕ)) (results : List (Option Status)) (a b : List State) → SoFar names names results a b → AreOnce names results
@@ -250,28 +252,28 @@ names_of f all i x name h e e' =
     let is : name ≡ get_or (map f all) i name = e' ∙ ap f e ∙ sym (get_or-map f all i x name h) in
     (names_at (map f all) i name within is, take_at (map f all) i name within is)
 
-module _ (answer : List ℕ → List ℕ → Type 0) (backup times : Bool) where
+module _ (answer : List ℕ → List ℕ → Type 0) (backup times : Bool) (undone : List ℕ → ℕ) where
   -- one more name, where the names and what was seen are given by equations
   pub so_far_next : (names front front' rest : List (List ℕ)) (name : List ℕ) (results results' : List (Option Status)) (a b c : List State) (among : Bool) → names ≡ front ++ name ∷ rest → front' ≡ front ++ name ∷ []
-      → among ≡ is_among name (gathered [] front) → SoFar answer backup times names front results a b → Takes answer name (backup_if backup name) times b c among results results'
-      → SoFar answer backup times names front' results' a c
+      → among ≡ is_among name (gathered [] front) → SoFar answer backup times undone names front results a b → Takes answer name (backup_if backup name) times undone b c among results results'
+      → SoFar answer backup times undone names front' results' a c
   so_far_next names front front' rest name results results' a b c among e e' is so_far takes =
-      let P : List (List ℕ) → List (List ℕ) → Type 0 = λ xs ys. SoFar answer backup times xs ys results' a c in
-      let Q : List (List ℕ) → Type 0 = λ xs. SoFar answer backup times xs front results a b in
-      let next = so_far_more answer backup times front rest name results results' a b c among is (subst Q e so_far) takes in
+      let P : List (List ℕ) → List (List ℕ) → Type 0 = λ xs ys. SoFar answer backup times undone xs ys results' a c in
+      let Q : List (List ℕ) → Type 0 = λ xs. SoFar answer backup times undone xs front results a b in
+      let next = so_far_more answer backup times undone front rest name results results' a b c among is (subst Q e so_far) takes in
       subst (P names) (sym e') (subst (λ (xs : List (List ℕ)). P xs (front ++ name ∷ [])) (sym e) next)
 
   pub whole_next : (names front rest : List (List ℕ)) (name : List ℕ) (results : List (Option Status)) (a b c : List State) (among : Bool) → names ≡ front ++ name ∷ rest
-      → among ≡ is_among name (gathered [] front) → SoFar answer backup times names front results a b
+      → among ≡ is_among name (gathered [] front) → SoFar answer backup times undone names front results a b
       → Run (IsWholeChange answer name (backup_if backup name) times false) (IsWholeChange answer name (backup_if backup name) times false) b c → (among ≡ true → c ≡ b)
       → Run (IsEachWhole answer backup times) (IsEachWhole answer backup times) a c
   whole_next names front rest name results a b c among e is so_far run same =
-      let Q : List (List ℕ) → Type 0 = λ xs. SoFar answer backup times xs front results a b in
-      whole_then answer backup times front rest name results a b c (subst Q e so_far) run among is same
+      let Q : List (List ℕ) → Type 0 = λ xs. SoFar answer backup times undone xs front results a b in
+      whole_then answer backup times undone front rest name results a b c (subst Q e so_far) run among is same
 
   -- all names
-  pub so_far_all : (names : List (List ℕ)) (i : ℕ) (results : List (Option Status)) (a b : List State) → length names ≤ i → SoFar answer backup times names (take i names) results a b → SoFar answer backup times names names results a b
-  so_far_all names i results a b h so_far = let P : List (List ℕ) → Type 0 = λ xs. SoFar answer backup times names xs results a b in subst P (take_all i names h) so_far
+  pub so_far_all : (names : List (List ℕ)) (i : ℕ) (results : List (Option Status)) (a b : List State) → length names ≤ i → SoFar answer backup times undone names (take i names) results a b → SoFar answer backup times undone names names results a b
+  so_far_all names i results a b h so_far = let P : List (List ℕ) → Type 0 = λ xs. SoFar answer backup times undone names xs results a b in subst P (take_all i names h) so_far
 
 pub seen_as : (front' front : List (List ℕ)) (q : List ℕ) (then_ : Bool) → front' ≡ front → then_ ≡ is_among q (gathered [] front) → then_ ≡ is_among q (gathered [] front')
 seen_as front' front q then_ e h = h ∙ ap (λ (xs : List (List ℕ)). is_among q (gathered [] xs)) (sym e)

@@ -4,6 +4,7 @@ use Rattle.exif_files.specs.declared.outcome.Status.{Status}
 use Rattle.exif_files.specs.declared.outcome.Status.TheVariants.{Refused}
 use Rattle.exif_files.specs.States.{Entry, State, Holds, IsUnchanged}
 use Rattle.exif_files.specs.Names.{OthersKept}
+use Rattle.exif_files.specs.Statuses.{status_for}
 use Rattle.exif_files.specs.Written.{IsLike, IsLeftOver}
 
 -- the file has an answer to the old bytes, and is like the old one
@@ -38,7 +39,9 @@ abbrev pub IsNotChanged : (List ℕ → List ℕ → Type 0) → List ℕ → Op
 IsNotChanged answer name backup times calm twice s t =
     IsUnchanged s t ⊎ (IsChanged answer name backup times calm s t ⊎ (IsLeftOver name backup s t × twice))
 
--- what became of a file: it has the answer, or it is the old one or the answer, whole
-pub record IsOutcome (answer : List ℕ → List ℕ → Type 0) (name : List ℕ) (backup : Option (List ℕ)) (times : Bool) (status : Status) (s t : State) : Type 0 where
+-- what became of a file: it has the answer, and its status says whether something was left undone
+-- in it; or it is the old one or the answer, whole
+pub record IsOutcome (answer : List ℕ → List ℕ → Type 0) (name : List ℕ) (backup : Option (List ℕ)) (times : Bool) (undone : List ℕ → ℕ) (status : Status) (s t : State) : Type 0 where
   pub done : status ≢ Refused → HasAnswer answer name times false s t
+  pub is : status ≢ Refused → (old : Entry) → s.at name ≡ Some old → status ≡ status_for (undone old.bytes)
   pub whole : IsWholeChange answer name backup times false s t

@@ -5,6 +5,7 @@ use Rattle.exif_files.specs.declared.outcome.Status.{Status}
 use Rattle.exif_files.specs.declared.outcome.Status.TheVariants.{Success, Incomplete, Refused}
 use Rattle.exif_files.specs.States.{Entry, State}
 use Rattle.exif_files.specs.Names.{IsHidden, backup_of}
+use Rattle.exif_files.specs.Statuses.{status_for}
 
 -- whether a name is among others
 abbrev pub is_among : List ℕ → List (List ℕ) → Bool
@@ -49,15 +50,18 @@ pub record IsEachWhole (answer : List ℕ → List ℕ → Type 0) (backup times
   pub nothing_more : (n : List ℕ) → s.at n ≡ None → (IsHidden n → ⊥)
       → (backup ≡ true → (m : List ℕ) → n ≢ backup_of m) → t.at n ≡ None
 
--- a file whose change succeeded has its answer
-abbrev pub AllAnswered : (List ℕ → List ℕ → Type 0) → Bool → State → State → List (List ℕ) → List (Option Status) → Type 0
-AllAnswered answer times s t names [] = ⊤
-AllAnswered answer times s t [] (result ∷ results) = ⊤
-AllAnswered answer times s t (name ∷ names) (result ∷ results) =
-    (IsDone result → (old : Entry) → s.at name ≡ Some old → IsAnswered answer times old (t.at name)) × AllAnswered answer times s t names results
+-- a file whose change succeeded has its answer, and its status says whether something was left
+-- undone in it
+abbrev pub AllAnswered : (List ℕ → List ℕ → Type 0) → Bool → (List ℕ → ℕ) → State → State → List (List ℕ) → List (Option Status) → Type 0
+AllAnswered answer times undone s t names [] = ⊤
+AllAnswered answer times undone s t [] (result ∷ results) = ⊤
+AllAnswered answer times undone s t (name ∷ names) (result ∷ results) =
+    (IsDone result → (old : Entry) → s.at name ≡ Some old
+    → IsAnswered answer times old (t.at name) × (result ≡ Some (status_for (undone old.bytes))))
+    × AllAnswered answer times undone s t names results
 
 -- After a run: a file whose change succeeded has its answer, and a file that has none of the names
 -- is as it was.
-pub record IsEachDone (answer : List ℕ → List ℕ → Type 0) (times : Bool) (names : List (List ℕ)) (results : List (Option Status)) (s t : State) : Type 0 where
-  pub done : AllAnswered answer times s t names results
+pub record IsEachDone (answer : List ℕ → List ℕ → Type 0) (times : Bool) (undone : List ℕ → ℕ) (names : List (List ℕ)) (results : List (Option Status)) (s t : State) : Type 0 where
+  pub done : AllAnswered answer times undone s t names results
   pub left : (n : List ℕ) (old : Entry) → s.at n ≡ Some old → is_among n names ≡ false → t.at n ≡ Some old

@@ -98,8 +98,8 @@ IsNotPutNew name beside bytes mode failed twice s t =
     Elsewhere beside s t ⊎ (IsPuttingNew name beside bytes mode failed s t × twice)
 
 -- a name was given before, and nothing was done; or its file was changed, if it could be
-abbrev pub Takes : (List ℕ → List ℕ → Type 0) → List ℕ → Option (List ℕ) → Bool → List State → List State → Bool → List (Option Status) → List (Option Status) → Type 0
-Takes answer name backup times old new among results results' =
+abbrev pub Takes : (List ℕ → List ℕ → Type 0) → List ℕ → Option (List ℕ) → Bool → (List ℕ → ℕ) → List State → List State → Bool → List (Option Status) → List (Option Status) → Type 0
+Takes answer name backup times undone old new among results results' =
     ((among ≡ true) × (new ≡ old) × (results' ≡ results ++ None ∷ []))
     ⊎ ((among ≡ false) × ((status : Status) × (results' ≡ results ++ Some status ∷ [])
-    × Run (IsWholeChange answer name backup times false) (IsOutcome answer name backup times status) old new))
+    × Run (IsWholeChange answer name backup times false) (IsOutcome answer name backup times undone status) old new))

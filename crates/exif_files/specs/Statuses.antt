@@ -1,5 +1,5 @@
 -- What becomes of a run.
-use Rattle.std.specs.Prelude.{ℕ, List, [], ◌∷◌, Option, None, Some}
+use Rattle.std.specs.Prelude.{ℕ, ◌==◌, List, [], ◌∷◌, Option, None, Some, if◌then◌else◌}
 use Rattle.exif_files.specs.declared.outcome.Status.{Status}
 use Rattle.exif_files.specs.declared.outcome.Status.TheVariants.{Success, Incomplete, Refused}
 
@@ -8,6 +8,10 @@ abbrev pub code : Status → ℕ
 code Success = 0
 code Incomplete = 3
 code Refused = 1
+
+-- the status of a file that was changed, of which so many things were left undone
+abbrev pub status_for : ℕ → Status
+status_for undone = if undone == 0 then Success else Incomplete
 
 abbrev pub worse : Status → Status → Status
 worse Success other = other

@@ -1,7 +1,7 @@
 //! A file that is changed in place.
 
-ghost use Rattle.std.specs.Prelude.{◌≡◌, ◌⊎◌, ℕ, List, IfOk, IfErr, OnOk, string_bytes};
-ghost use Rattle.exif_files.specs.States.{Run};
+ghost use Rattle.std.specs.Prelude.{◌≡◌, ◌⊎◌, ℕ, List, IfOk, IfErr, OnOk, length, string_bytes};
+ghost use Rattle.exif_files.specs.States.{Holds, Now, Run};
 ghost use Rattle.exif_files.specs.Names.{backup_of, backup_if};
 ghost use Rattle.exif_files.specs.Written.{IsWhole, IsReplacedForGood, IsGivenUp, FailedToRemove, none_failed};
 ghost use Rattle.exif_files.specs.Changed.{AnyState, HasOtherBytes, IsWholeChange, IsChanged, IsNotChanged};
@@ -54,13 +54,18 @@ pub trait Edit {
     /// What the edit may make of bytes.
     ghost answer: { Self → List ℕ → List ℕ → Type 0 };
 
+    /// How many things it leaves undone in bytes.
+    ghost undone: { Self → List ℕ → ℕ };
+
     /// The new bytes. They depend on nothing but the old ones and the edit.
     fn apply(
         &self,
         alloc: Global,
         old: &[u8],
     ) -> Result<Edited<Self::Left, Self::Note>, EditError<Self::Refusal>>
-        ensures answered { IfOk result (λ edited. answer self.now old.now edited.file.items) };
+        ensures answered { IfOk result (λ edited. answer self.now old.now edited.file.items) }
+        ensures left { IfOk result (λ edited.
+            length edited.report.left.items ≡ undone self.now old.now) };
 }
 
 /// What is kept of a file that is replaced.
@@ -169,6 +174,9 @@ pub fn change<F: FileSystem, E: Edit>(
         keeping.times (none_failed (F.failures files.old) (F.failures files.new))
         (FailedInWriting e (F.failures files.old) (F.failures files.new)))
         (F.states files.old) (F.states files.new)) }
+    // what is reported as left undone is as many things as the edit leaves in the old bytes
+    ensures left { IfOk result (λ report. Now (F.states files.old) (λ s. Holds s name.now
+        (λ f. length report.left.items ≡ E.undone edit.now f.bytes))) }
     ensures refused { IfErr result (λ e. IfRefused e (F.states files.new ≡ F.states files.old)) }
     // a file that is its own answer is not written
     ensures written { OnOk result ((F.states files.new ≡ F.states files.old)

@@ -8,6 +8,7 @@ ghost use Rattle.exif_files.specs.declared.outcome.Status.TheVariants.{Success, 
 ghost use Rattle.exif_files.specs.States.{Run};
 ghost use Rattle.exif_files.specs.Names.{backup_if};
 ghost use Rattle.exif_files.specs.Changed.{IsWholeChange, IsOutcome};
+ghost use Rattle.exif_files.specs.Statuses.{status_for};
 ghost use Rattle.exif_files.specs.Parts.{Takes};
 ghost use Rattle.exif_files.specs.Each.{IsEachWhole, IsEachDone, AreOnce};
 
@@ -24,8 +25,9 @@ pub trait Reporter<L, N, R> {
 }
 
 /// Changes the files of these names in place, each once however often it is named, and reports
-/// each. Answers what became of each name's file, and nothing for a name that came before. A file
-/// that is refused does not stop the others.
+/// each. Answers what became of each name's file, and nothing for a name that came before: a file
+/// that was changed is incomplete exactly where the edit leaves something undone in its bytes. A
+/// file that is refused does not stop the others.
 ///
 /// In every state of the run each file is the old one or its answer, whole: also where the process
 /// is killed, and where memory runs out, which alone ends the run.
@@ -44,8 +46,8 @@ pub fn change_all<F: FileSystem, E: Edit, P: Reporter<E::Left, E::Note, E::Refus
         AreOnce (map string_bytes names.now) results.items) }
     ensures done { IfOk result (λ results.
         Run (IsEachWhole (E.answer edit.now) keeping.backup keeping.times)
-        (IsEachDone (E.answer edit.now) keeping.times (map string_bytes names.now)
-        results.items)
+        (IsEachDone (E.answer edit.now) keeping.times (E.undone edit.now)
+        (map string_bytes names.now) results.items)
         (F.states files.old) (F.states files.new)) }
 {
     let mut seen: BTreeSet<String> = BTreeSet::new(alloc);
@@ -81,8 +83,8 @@ fn change_next<F: FileSystem, E: Edit, P: Reporter<E::Left, E::Note, E::Refusal>
     results: &mut Vec<Option<Status>>,
 ) -> Result<(), AllocError>
     ensures taken { OnOk result (Takes (E.answer edit.now) name.now
-        (backup_if keeping.backup name.now) keeping.times (F.states files.old)
-        (F.states files.new) (contains_text seen.old name.now) results.old.items
+        (backup_if keeping.backup name.now) keeping.times (E.undone edit.now)
+        (F.states files.old) (F.states files.new) (contains_text seen.old name.now) results.old.items
         results.new.items) }
     ensures more { OnOk result ((q : List ℕ) → contains_text seen.new q
         ≡ (if bytes_eq name.now q then true else contains_text seen.old q)) }
@@ -125,7 +127,7 @@ fn change_one<F: FileSystem, E: Edit, P: Reporter<E::Left, E::Note, E::Refusal>>
     ensures { Run (IsWholeChange (E.answer edit.now) name.now
         (backup_if keeping.backup name.now) keeping.times false)
         (IsOutcome (E.answer edit.now) name.now (backup_if keeping.backup name.now)
-        keeping.times result)
+        keeping.times (E.undone edit.now) result)
         (F.states files.old) (F.states files.new) }
 {
     let changed = change(alloc, files, edit, name, keeping);
@@ -137,7 +139,7 @@ fn change_one<F: FileSystem, E: Edit, P: Reporter<E::Left, E::Note, E::Refusal>>
 // The status of a file: it is refused at an error, and incomplete where something was left undone.
 fn status_of<L, N, R>(changed: &Result<Report<L, N>, Failure<R>>) -> Status
     ensures ok { IfOk changed.now (λ report.
-        result ≡ (if length report.left.items == 0 then Success else Incomplete)) }
+        result ≡ status_for (length report.left.items)) }
     ensures err { OnErr changed.now (result ≡ Refused) }
 {
     match changed {

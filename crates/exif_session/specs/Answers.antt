@@ -1,5 +1,5 @@
 -- What a change makes of a file.
-use Rattle.std.specs.Prelude.{◌≡◌, ℕ, List, [], Result, Ok, Err}
+use Rattle.std.specs.Prelude.{◌≡◌, ℕ, List, [], length, Result, Ok, Err}
 use Rattle.exif_change.specs.Changed as changed
 use Rattle.exif_change.specs.Refusals.{Why}
 use Rattle.exif_change.specs.declared.notes.Color.TheVariants.{Keep, Strip}
@@ -22,6 +22,14 @@ answer_of (Copy from selection) old = selected selection from.items old
 abbrev pub file_of : Result changed.Change Why → Result (List ℕ) Why
 file_of (Ok made) = Ok made.file
 file_of (Err why) = Err why
+
+-- how many things are left undone in the new file
+abbrev pub undone_by : Result changed.Change Why → ℕ
+undone_by (Ok made) = length made.undone
+undone_by (Err why) = 0
+
+abbrev pub undone_in : Change → List ℕ → ℕ
+undone_in change old = undone_by (answer_of change old)
 
 -- the bytes of the new file are exactly these
 abbrev pub IsAnswerOf : Change → List ℕ → List ℕ → Type 0

@@ -3,7 +3,7 @@
 ghost use Rattle.std.specs.Prelude.{◌≡◌, IfOk, IfErr};
 ghost use Rattle.exif_change.specs.Changed.{change_of};
 ghost use Rattle.exif_change.specs.Refusals.{Answers, Fails};
-ghost use Rattle.exif_session.specs.Answers.{IsAnswerOf, answer_of, notes_of};
+ghost use Rattle.exif_session.specs.Answers.{IsAnswerOf, answer_of, notes_of, undone_in};
 
 use crate::request::Change;
 use exif_change::{Changed, Color, Left, Note, Refusal};
@@ -51,6 +51,8 @@ impl<'c, 'a> Edit for ChangeEdit<'c, 'a> {
     type Refusal = Refusal;
 
     ghost answer = { λ edit. IsAnswerOf edit.0.now };
+
+    ghost undone = { λ edit. undone_in edit.0.now };
 
     fn apply(&self, alloc: Global, old: &[u8]) -> Result<Edited<Left, Note>, EditError<Refusal>> {
         let Ok(notes) = notes_of(alloc, self.0, old) else {

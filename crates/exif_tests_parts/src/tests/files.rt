@@ -24,6 +24,8 @@ impl Edit for Unspaced {
 
     ghost answer = { λ _ _ _. ⊤ };
 
+    ghost undone = { λ _ _. 0 };
+
     fn apply(&self, alloc: Global, old: &[u8]) -> Result<Edited<u8, u8>, EditError<u8>> {
         if old.is_empty() {
             return Err(EditError::Refused(1));
@@ -199,6 +201,8 @@ impl Edit for Disturbed<'_> {
     type Refusal = u8;
 
     ghost answer = { λ _ _ _. ⊤ };
+
+    ghost undone = { λ _ _. 0 };
 
     fn apply(&self, alloc: Global, old: &[u8]) -> Result<Edited<u8, u8>, EditError<u8>> {
         let mut file = Vec::new(alloc);
