@@ -1,5 +1,9 @@
 //! Files that are changed in place, each once.
 
+ghost use Rattle.std.specs.Prelude.{◌≡◌, ◌==◌, IfOk, OnErr, length};
+ghost use Rattle.exif_decisions.specs.Outcomes.{outcome_for};
+ghost use Rattle.exif_decisions.specs.declared.outcome.Outcome.TheVariants.{Refused};
+
 use crate::change::ChangeEdit;
 use crate::change_out::change_input;
 use crate::pending::{Next, name_of};
@@ -139,7 +143,11 @@ pub fn change_in_turn<W: Sink, E: Sink>(
 }
 
 // What became of a file: it was changed, or in part where something was left undone, or refused.
-fn outcome_of(outcome: &Result<Report<Left, Note>, Failure<Refusal>>) -> Outcome {
+fn outcome_of(outcome: &Result<Report<Left, Note>, Failure<Refusal>>) -> Outcome
+    ensures ok { IfOk outcome.now (λ report.
+        result ≡ outcome_for (length report.left.items == 0)) }
+    ensures err { OnErr outcome.now (result ≡ Refused) }
+{
     match outcome {
         Ok(report) => Outcome::of_done(report.left.is_empty()),
         Err(_) => Outcome::Refused,

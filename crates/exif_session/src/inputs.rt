@@ -1,6 +1,10 @@
 //! Files as they are read: a file that seeks costs what is read of it, anything else is taken into
 //! memory.
 
+ghost use Rattle.std.specs.Prelude.{◌≡◌};
+ghost use Rattle.exif_formats.specs.Formats.{format_in};
+ghost use Rattle.exif_session.specs.Uses.{has_parts, serves};
+
 use crate::pending::name_of;
 use exif::{Counted, Error, Seekable};
 use exif_containers::container::SNIFF_LEN;
@@ -56,7 +60,9 @@ pub enum Use {
 }
 
 // Whether the parts of pictures of a format are known: raw files are only read.
-fn has_parts(format: PictureFormat) -> bool {
+fn has_parts(format: PictureFormat) -> bool
+    ensures { result ≡ has_parts format }
+{
     match format {
         PictureFormat::Raf | PictureFormat::Orf | PictureFormat::Rw2 | PictureFormat::Cr3 => false,
         PictureFormat::Tiff | PictureFormat::Jpeg | PictureFormat::Heif => true,
@@ -65,7 +71,9 @@ fn has_parts(format: PictureFormat) -> bool {
 }
 
 // Whether bytes begin a picture of a format that is supported for this use.
-fn is_supported(head: &[u8], wanted: Use) -> bool {
+fn is_supported(head: &[u8], wanted: Use) -> bool
+    ensures { result ≡ serves (format_in head.now) wanted }
+{
     match (format_of(head), wanted) {
         (None, _) => false,
         (Some(_), Use::Fields) => true,

@@ -1,5 +1,8 @@
 //! What the arguments request.
 
+ghost use Rattle.std.specs.Prelude.{◌≡◌};
+ghost use Rattle.exif_session.specs.Uses.{changes, takes_companions, use_for};
+
 use crate::inputs::Use;
 use exif::Tag;
 use exif_change::{Assignment, ClockShift, Color, Dates, Removed};
@@ -74,7 +77,9 @@ impl Task<'_> {
     }
 
     /// Whether it changes files, makes some, or gives them other names.
-    pub fn changes_files(&self) -> bool {
+    pub fn changes_files(&self) -> bool
+        ensures { result ≡ changes self.now }
+    {
         match self {
             Task::Rename(renaming) => !renaming.dry_run,
             Task::Change(_, target) => matches!(target, Target::InPlace(_)),
@@ -94,12 +99,16 @@ impl Task<'_> {
     }
 
     /// Whether files that are not read get new names with the pictures beside them.
-    pub fn moves_companions(&self) -> bool {
+    pub fn moves_companions(&self) -> bool
+        ensures { result ≡ takes_companions self.now }
+    {
         matches!(self, Task::Rename(_))
     }
 
     /// What it requires of a picture.
-    pub fn use_of_files(&self) -> Use {
+    pub fn use_of_files(&self) -> Use
+        ensures { result ≡ use_for self.now }
+    {
         match self {
             Task::Show(_) | Task::Json(..) | Task::Summary(_) | Task::Rename(_) => Use::Fields,
             Task::Thumbnail(..) | Task::Thumbnails(..) | Task::Touch(_) => Use::Fields,
