@@ -7,7 +7,7 @@ passed=0
 failed=0
 
 if [ ! -x "$mexaldor" ]; then
-    echo "no program at $mexaldor: run ./mexaldor --version, or set MEXALDOR" >&2
+    echo "no program at $mexaldor: run tools/build mexaldor, or set MEXALDOR" >&2
     exit 1
 fi
 

@@ -421,4 +421,22 @@ says "they are counted" "mexaldor: 0 read, 0 refused, 1 skipped (1 other file)"
 gives "a location is a finding" 3 "$mexaldor" check -r card
 says "which is counted" "1 read (1 with findings), 0 refused"
 
+# Until the program is built its script answers by files of the repository, which are the program's own texts.
+mkdir -p door/docs door/bin door/crates/mexaldor
+cp -r "$root/tools" "$root/mexaldor" door
+cp -r "$root/docs/help" door/docs
+printf 'mexaldor:\n' >door/crates.txt
+printf '#!/bin/sh\n[ "$1" != doc ] || echo "$0.kit/doc"\n' >door/bin/rt
+chmod +x door/bin/rt
+for words in --help --version tags "show --help" "json --help" "table --help" "check --help" "scrub --help" "set --help" \
+    "shift --help" "copy --help" "rename --help" "geotag --help" "touch --help" "thumbnail --help" "catalog --help" \
+    "query --help" "page --help"; do
+    "$mexaldor" $words >wanted
+    gives "without a build: mexaldor $words" 0 door/mexaldor $words
+    check "what the program says" cmp wanted out
+done
+gives "other words need the program" 1 env PATH="$scratch/door/bin:$PATH" door/mexaldor show files/whole.jpg
+says "which is said" "mexaldor: not built yet; ./install.sh proves, builds and installs it"
+says "with how long it takes" "mexaldor: 1 crate to prove and build"
+
 ends

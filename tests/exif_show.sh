@@ -37,8 +37,9 @@ says "the refusal is named" "TIFF data too large"
 rm large.tif
 
 # The first calls: tools/ in a repository of four crates, with an rt that only prints.
-mkdir -p young/bin young/crates/exif_show young/crates/base/out/rlib young/crates/other/src
-cp -r "$root/tools" "$root/exif_show" young
+mkdir -p young/bin young/docs young/crates/exif_show young/crates/middle young/crates/base/out/rlib young/crates/other/src
+cp -r "$root/tools" "$root/exif_show" "$root/mexaldor" young
+cp -r "$root/docs/help" young/docs
 cat >young/crates.txt <<'T'
 # a library, one on it, and the program
 base:
@@ -58,12 +59,25 @@ if [ "$1" = try ]; then
     echo "run=ended status=3 runners=1 proved=no" >&2
     exit 3
 fi
-echo "library core: modules loaded=1 checked=0"
-echo "crate base: modules loaded=1 checked=1"
-echo "crate middle: modules loaded=1 checked=1"
-mkdir -p out ../middle/out && printf '#!/bin/sh\necho shown "$@"\n' >out/exif_show && chmod +x out/exif_show
+[ "$1" = doc ] && echo "$0.kit/doc"
+[ "$1" = run ] && mkdir -p out && printf '#!/bin/sh\necho shown "$@"\n' >out/exif_show && chmod +x out/exif_show
+exit 0
 T
 chmod +x young/bin/rt
+gives "help needs no build" 0 young/exif_show --help
+holds "it is the program's" "usage: exif_show [-c] FILE"
+"$exif_show" --help >help
+check "word for word" cmp help "$root/docs/help/exif_show"
+gives "so does -h" 0 young/exif_show -h
+check "with the same text" cmp out help
+gives "a missing file needs no build" 1 young/exif_show absent.jpg
+says "it is named" "exif_show: absent.jpg: No such file or directory"
+for words in "" "-c" "one two" "-c one two"; do
+    gives "wrong arguments need no build: $words" 2 young/exif_show $words
+    says "the usage line is printed" "usage: exif_show [-c] FILE"
+done
+gives "without the toolchain nothing runs" 1 env PATH=/usr/bin:/bin young/exif_show files/whole.jpg
+says "and it is named" "the command rt of the Rattle toolchain is not in PATH; README.md says where it comes from"
 odd='an odd = $na"me
 .jpg'
 cp files/whole.jpg "$odd"
@@ -80,14 +94,14 @@ says "it says why" "the program wrote more than 1048576 bytes"
 says "and what has no such limit" "./install.sh"
 mv young/bin/kept young/bin/rt
 gives "MEXALDOR_PROVED=1 builds" 0 env MEXALDOR_PROVED=1 PATH="$scratch/young/bin:$PATH" young/exif_show picture.jpg
-says "it says how much there is to prove" "exif_show: proving and building 2 crates"
-says "it says how far it is" "exif_show: 1 of 2 crates proved, about 1 minutes left"
+says "it says how much there is to prove" "exif_show: 2 crates to prove and build"
+says "and about how long that takes" "about 1 minute"
 holds "then it runs the program" "shown picture.jpg"
 gives "a later call only runs it" 0 young/exif_show picture.jpg
 check "it says nothing else" test ! -s err
 sleep 1
 touch young/crates/other/src/lib.rt
-gives "after an edit it runs unproved" 3 env PATH="$scratch/young/bin:$PATH" young/exif_show picture.jpg
+gives "after an edit it runs unproved" 3 env PATH="$scratch/young/bin:$PATH" young/exif_show files/whole.jpg
 printf '#!/bin/sh\necho "error: not proved"\n' >young/bin/rt
 gives "what is not proved is not run" 1 env MEXALDOR_PROVED=1 PATH="$scratch/young/bin:$PATH" young/exif_show picture.jpg
 says "the last lines of rt are shown" "error: not proved"
