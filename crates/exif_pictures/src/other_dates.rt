@@ -11,6 +11,7 @@ use exif::{Context, Error, Field, Tag};
 use exif_change::{Assignment, Changed, Left, Refusal, read};
 use exif_inventory::{Kind, Part};
 use exif_privacy::parts_of;
+use exif_types::fields_left;
 use std::alloc::{AllocError, Global};
 
 // Whether parts of this kind may hold dates.
@@ -62,7 +63,7 @@ fn has_dated_field(alloc: Global, file: &[u8]) -> Result<bool, AllocError>
     ensures { IfOk result (λ has. has ≡ has_dated_field (file_contents file.now)) }
 {
     match read(alloc, file) {
-        Ok(exif) => Ok(has_dated_in(exif.fields())),
+        Ok(exif) => Ok(has_dated_in(fields_left(&exif.fields()))),
         Err(Error::OutOfMemory | Error::Io(_) | Error::PartialResult(_)) => Err(AllocError),
         Err(_no_fields) => Ok(false),
     }

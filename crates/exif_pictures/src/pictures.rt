@@ -6,6 +6,7 @@ ghost use Rattle.exif_change.specs.Changes.{keeps_orientation, with_color};
 ghost use Rattle.exif_change.specs.Notes.{scrub_notes};
 ghost use Rattle.exif_change.specs.Refusals.{Answers, why_of};
 ghost use Rattle.exif_pictures.specs.Rotation.{if_turned};
+ghost use Rattle.exif_pictures.specs.Ways.{way_for};
 ghost use Rattle.exif_pictures.specs.Pictures.{if_cut_off, jxl_refused, jxl_scrubbed, jxl_unlocated, jxl_without, no_codestream, picture_notes, picture_scrubbed, picture_scrubbed_with_color, picture_set, picture_shifted, png_scrubbed, png_with_color, raw_refused, set_by, shifted_by};
 
 use crate::codestream::{Codestream, codestream_of};
