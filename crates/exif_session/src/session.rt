@@ -150,12 +150,17 @@ impl<'r, 'a, W: Sink, E: Sink> Session<'r, 'a, W, E> {
     // What is processed of a name: nothing where it is skipped.
     fn chosen(&mut self, next: Next) -> Result<Option<Next>, Stop> {
         match next {
-            Next::Named(path) if is_chosen(self.rt, self.request, path.as_str())? => {
-                Ok(Some(Next::Named(path)))
+            Next::Named(path) => {
+                if is_chosen(self.rt, self.request, path.as_str())? {
+                    Ok(Some(Next::Named(path)))
+                } else {
+                    Ok(None)
+                }
             }
-            Next::Named(_) => Ok(None),
             Next::Found(path) => self.chosen_in_folder(path),
-            next => Ok(Some(next)),
+            Next::Input => Ok(Some(Next::Input)),
+            Next::Beside(path, why) => Ok(Some(Next::Beside(path, why))),
+            Next::Failed(path, cause) => Ok(Some(Next::Failed(path, cause))),
         }
     }
 
