@@ -3,6 +3,8 @@ use Rattle.std.specs.Prelude.{ℕ, List, [], ◌∷◌, Bool, true, false, ◌==
 use Rattle.std.specs.Borrow.{Bor}
 use Rattle.std.specs.List.{ends_with, list_any, starts_with}
 use Rattle.exif_catalog.specs.declared.known.Known.{Known}
+use Rattle.exif_catalog.specs.declared.known.Side.{Side}
+use Rattle.exif_catalog.specs.declared.known.Side.TheVariants as side
 use Rattle.exif_catalog.specs.declared.known.Stamp.{Stamp}
 
 -- what is behind a folder's path is nothing, or begins behind a `/` (47)
@@ -56,3 +58,10 @@ has_stamp (Some known) stamp = is_stamp known.stamp stamp
 -- a row whose file was seen
 abbrev pub seen : Known → Known
 seen known = record known { is_seen = true }
+
+-- What a picture may be of a move: one that had no row as the run began is new, and one below the
+-- roots that was not seen is gone.
+abbrev pub side_of : Option Known → List ℕ → List (Bor (List ℕ)) → Option Side
+side_of None path roots = Some side.New
+side_of (Some known) path roots =
+    if not known.is_seen && is_below_any path roots then Some side.Gone else None

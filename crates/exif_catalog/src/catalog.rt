@@ -6,10 +6,11 @@ ghost use Rattle.exif_catalog.specs.Parameters.{bound, parameter_of};
 ghost use Rattle.exif_catalog.specs.Values.{stored};
 ghost use Rattle.exif_catalog.specs.Runs.{has_path, has_stamp_of, known_after, known_at, marks_in};
 
-use crate::database::{execute, number_at, prepare, prepare_tables, text_at};
+use crate::database::{number_at, prepare, prepare_tables, text_at};
 use crate::errors::CatalogError;
+use crate::hashes::{Move, read_moves};
 use crate::known::{Known, Rows, Stamp, is_unchanged, mark_of, see, stamp_for};
-use crate::schema::{MARK_ROW, READ_ROWS, insert_text};
+use crate::schema::{DELETE_ROW, MARK_ROW, READ_ROWS, insert_text};
 use crate::totals::{Outcome, Totals, outcome_of};
 use crate::values::SqlValue;
 use sqlite::types::ValueRef;
@@ -190,6 +191,23 @@ impl Catalog {
         let outcome = outcome_of(self.rows.get(path).is_some());
         self.keep(path);
         Ok(outcome)
+    }
+
+    /// Finds the files that were moved, among the rows below the roots that were not seen and those
+    /// that are new, and takes the rows of their old paths away.
+    pub(crate) fn take_moves<S: Alter>(
+        &mut self,
+        alloc: Global,
+        database: &mut Connection<S>,
+        roots: &[&str],
+    ) -> Result<Vec<Move>, CatalogError> {
+        let moves = read_moves(alloc, database, &self.rows, roots)?;
+        let delete = prepare(database, DELETE_ROW)?;
+        for moved in moves.iter() {
+            write(database, &delete, params![moved.old.as_str()])?;
+            self.rows.remove(moved.old.as_str());
+        }
+        Ok(moves)
     }
 
     // Sets the mark of a row.
