@@ -243,13 +243,13 @@ fn texts_of(alloc: Global, strings: &[String]) -> Result<Vec<&str>, AllocError> 
     Ok(texts)
 }
 
-// Brings the rows up to date.
+// Brings the rows below roots up to date.
 fn update_rows<W: Sink, E: Sink>(
     gathered: &mut Gathered<'_, '_, '_, '_, '_, W, E>,
+    roots: &[String],
 ) -> Result<Updated, RunError<Stop>> {
     let rt = gathered.session.rt;
-    let roots = roots_of(rt, gathered.session.request.paths.as_slice())?;
-    let names = texts_of(rt.alloc(), roots.as_slice())?;
+    let names = texts_of(rt.alloc(), roots)?;
     let database = gathered.cataloguing.database;
     update(rt, database, names.as_slice(), gathered)
 }
@@ -262,6 +262,7 @@ pub fn update_catalog<W: Sink, E: Sink>(
 ) -> Result<Status, Stop> {
     let alloc = session.rt.alloc();
     let has_conditions = session.request.choice.is_any();
+    let roots = roots_of(session.rt, session.request.paths.as_slice())?;
     let mut gathered = Gathered {
         shown: String::new(alloc),
         path: String::new(alloc),
@@ -275,7 +276,7 @@ pub fn update_catalog<W: Sink, E: Sink>(
         worst: Status::Success,
         failed: Vec::new(alloc),
     };
-    let updated = update_rows(&mut gathered);
+    let updated = update_rows(&mut gathered, roots.as_slice());
     let Gathered { session, worst, .. } = gathered;
     match updated {
         Ok(updated) => {
