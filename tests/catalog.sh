@@ -225,6 +225,17 @@ says "unless it may be replaced" "page.html exists; use --force to replace it"
 gives "which --force allows" 0 "$mexaldor" page --force db page.html
 gives "a page is written to standard output" 0 "$mexaldor" page db -
 check "the same" cmp page.html out
+# the thumbnail in the Exif data of each format, whose four bytes are FF D8 FF D9
+python3 "$root/tests/format_files.py" files || exit 1
+mkdir kinds
+for kind in jpg webp heic tif png jxl raf orf rw2; do
+    cp "files/whole.$kind" kinds
+done
+gives "pictures of each format have rows" 0 "$mexaldor" catalog -q -r kinds.db kinds
+gives "and a page" 0 "$mexaldor" page kinds.db kinds.html
+for kind in jpg webp heic tif png jxl raf orf rw2; do
+    check "the card of whole.$kind shows its thumbnail" sh -c 'grep -A2 "data-path=\"[^\"]*whole\.$1\"" kinds.html | grep -qF "src=\"data:image/jpeg;base64,/9j/2Q==\""' sh "$kind"
+done
 rm many/plain.jpg
 gives "a picture that is gone is reported" 3 "$mexaldor" page --force db other.html
 says "by name" "many/plain.jpg: "

@@ -2,6 +2,7 @@
 use Rattle.std.specs.Prelude.{ℕ, List, [], ◌∷◌, Option, Some, None, filter, flat_map}
 use Rattle.std.specs.Str.{bytes_eq}
 use Rattle.std.specs.String.{string_bytes}
+use Rattle.exif_catalog.specs.declared.hashes.Move.{Move}
 use Rattle.exif_catalog.specs.declared.moving.Hashed.{Hashed}
 use Rattle.exif_catalog.specs.declared.moving.Holder.{Holder}
 use Rattle.exif_catalog.specs.declared.moving.Holder.TheVariants as holder
@@ -60,3 +61,7 @@ moves_of gone new =
 -- the paths of a move
 abbrev pub paths_of : Moved → List ℕ × List ℕ
 paths_of moved = (moved.old.now, moved.new.now)
+
+-- the same of texts of its own
+abbrev pub moved_paths : Move → List ℕ × List ℕ
+moved_paths moved = (string_bytes moved.old, string_bytes moved.new)

@@ -1,5 +1,8 @@
 //! The moves of a run, by the hashes of rows.
 
+ghost use Rattle.std.specs.Prelude.{◌≡◌, IfOk, map};
+ghost use Rattle.exif_catalog.specs.Moves.{moved_paths, moves_of};
+
 use crate::database::text_at;
 use crate::errors::CatalogError;
 use crate::known::{Rows, Side, side_of};
@@ -51,9 +54,13 @@ fn read_sides<S: Alter>(
 }
 
 // The moves that are found among them.
-fn find_moves(alloc: Global, sides: &Sides) -> Result<Vec<Move>, AllocError> {
+fn find_moves(alloc: Global, sides: &Sides) -> Result<Vec<Move>, AllocError>
+    ensures { IfOk result (λ moves. map moved_paths moves.items
+        ≡ moves_of sides.now.gone.items sides.now.new.items) }
+{
+    let found = moves_of(alloc, sides.gone.as_slice(), sides.new.as_slice())?;
     let mut moves = Vec::new(alloc);
-    for moved in moves_of(alloc, sides.gone.as_slice(), sides.new.as_slice())? {
+    for moved in found.as_slice() {
         let old = String::from_str(alloc, moved.old)?;
         let new = String::from_str(alloc, moved.new)?;
         moves.push(Move { old, new })?;
