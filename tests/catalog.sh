@@ -82,6 +82,37 @@ gives "and once more" 0 "$mexaldor" catalog -r --hash hashed many
 says "then they are not" "0 added, 0 changed, 3 unchanged, 0 removed, 0 restored"
 "$mexaldor" query hashed 'SELECT hash, path FROM picture ORDER BY path' | tail -n +2 | sed 's/	/  /' >sums
 check "they are those of sha256sum" sha256sum --quiet -c sums
+# files that move between folders
+mkdir -p album/old album/new
+cp many/sample.jpg album/old/one.jpg
+cp files/plain.jpg album/old/two.jpg
+cp files/whole.webp album/old/three.webp
+"$mexaldor" catalog -q -r --hash moves album
+mv album/old/one.jpg album/new/uno.jpg
+mv album/old/three.webp album/new/three.webp
+gives "two files were moved" 0 "$mexaldor" catalog -r --hash moves album
+says "which is said of one" "moves: moved: $here/album/old/one.jpg -> $here/album/new/uno.jpg"
+says "and of the other" "moves: moved: $here/album/old/three.webp -> $here/album/new/three.webp"
+says "and counted" "0 added, 0 changed, 1 unchanged, 0 removed, 0 restored, 2 moved"
+check "there is one row for each" test "$("$mexaldor" query moves 'SELECT path, removed FROM picture ORDER BY path' | tail -n +2)" = "$here/album/new/three.webp	0
+$here/album/new/uno.jpg	0
+$here/album/old/two.jpg	0"
+gives "the next run" 0 "$mexaldor" catalog -r --hash moves album
+says "finds nothing to do" "0 added, 0 changed, 3 unchanged, 0 removed, 0 restored, 0 moved"
+mv album/new/uno.jpg album/new/due.jpg
+gives "a file is moved, and its old folder is not looked through" 0 "$mexaldor" catalog --hash moves album/new/due.jpg
+says "so it is new" "1 added, 0 changed, 0 unchanged, 0 removed, 0 restored, 0 moved"
+cp album/new/due.jpg album/new/tre.jpg
+rm album/new/due.jpg
+gives "two rows had its bytes" 0 "$mexaldor" catalog -r --hash moves album
+says "so it is not said which was moved" "1 added, 0 changed, 2 unchanged, 2 removed, 0 restored, 0 moved"
+mv album/old/two.jpg album/new/two.jpg
+cp album/new/two.jpg album/new/quattro.jpg
+gives "one has two copies" 0 "$mexaldor" catalog -r --hash moves album
+says "so neither was moved" "2 added, 0 changed, 2 unchanged, 1 removed, 0 restored, 0 moved"
+mv album/new/three.webp album/old/three.webp
+gives "without --hash" 0 "$mexaldor" catalog -r moves album
+says "a moved file is new" "1 added, 0 changed, 3 unchanged, 1 removed, 0 restored"
 gives "pictures without a date get rows" 0 "$mexaldor" catalog -q -r --without date some many
 check "only they" test "$("$mexaldor" query some 'SELECT path FROM picture' | tail -n +2)" = "$here/many/plain.jpg"
 gives "then those with one" 0 "$mexaldor" catalog -q -r --where date some many
@@ -99,6 +130,12 @@ done
 is "and nothing is lost" "SELECT count(*) FROM picture" "3"
 gives "a query of no catalogue is refused" 1 "$mexaldor" query nothing 'SELECT 1'
 check "and makes none" test ! -e nothing
+says "and why is said" "no such catalogue: \`catalog\` makes one"
+gives "nor is there a catalogue in a folder that is missing" 1 "$mexaldor" catalog missing/db many/sample.jpg
+says "which is said" "its folder is missing, or can't be written"
+mkdir folder
+gives "a folder is no catalogue" 1 "$mexaldor" query folder 'SELECT 1'
+says "which is said, too" "not a regular file"
 cp files/plain.jpg picture
 gives "a file that is no catalogue is refused" 1 "$mexaldor" catalog picture many/sample.jpg
 check "and stays" cmp files/plain.jpg picture
@@ -109,7 +146,68 @@ if has sqlite3; then
     cp other kept
     gives "a table that others made is refused" 1 "$mexaldor" catalog other many/sample.jpg
     check "and stays" cmp kept other
+    cp db newer
+    sqlite3 newer 'UPDATE catalog SET version = 3'
+    gives "a newer version is refused" 1 "$mexaldor" page newer -
+    says "by its number" "a catalogue of version 3, made by a newer program; this one reads version 2"
 fi
+
+# a catalogue that can be read and not written
+if [ "$(id -u)" = 0 ]; then
+    chmod 755 "$scratch"
+    nobody="setpriv --reuid=65534 --regid=65534 --clear-groups"
+    $nobody "$mexaldor" --version >out 2>err || nobody=
+else
+    nobody=env
+fi
+if [ -n "$nobody" ]; then
+    mkdir shelf
+    cp db shelf/db
+    chmod 644 shelf/db
+    chmod 555 shelf
+    gives "a catalogue in a read-only folder is queried" 0 $nobody "$mexaldor" query shelf/db 'SELECT count(*) AS pictures FROM picture'
+    check "and answers" sh -c 'printf "pictures\n3\n" | cmp - out'
+    gives "it has a page" 0 $nobody "$mexaldor" page shelf/db -
+    check "with its pictures" grep -q 'sample.jpg' out
+    gives "it is not brought up to date" 1 $nobody "$mexaldor" catalog shelf/db many/sample.jpg
+    says "and why is said" "it can't be changed: the file or its folder can't be written"
+    check "it stays" cmp db shelf/db
+    check "and no file is made beside it" test "$(ls -A shelf)" = db
+    chmod 755 shelf
+    chmod 444 shelf/db
+    gives "a read-only file is queried" 0 $nobody "$mexaldor" query shelf/db 'SELECT count(*) AS pictures FROM picture'
+    check "and answers, too" sh -c 'printf "pictures\n3\n" | cmp - out'
+    chmod 000 shelf/db
+    gives "a file that can't be read is refused" 1 $nobody "$mexaldor" query shelf/db 'SELECT 1'
+    check "by its cause" grep -qi 'permission denied' err
+    chmod 644 shelf/db
+    # a change of another program that is in the log alone
+    if python3 - shelf/db 2>/dev/null <<'P'
+import os, sqlite3, sys
+if sqlite3.sqlite_version_info < (3, 37):
+    sys.exit(1)
+db = sqlite3.connect(sys.argv[1])
+db.execute("PRAGMA wal_autocheckpoint = 0")
+db.execute("UPDATE picture SET artist = 'Logged'")
+db.commit()
+os._exit(0)
+P
+    then
+        chmod 644 shelf/*
+        chmod 555 shelf
+        gives "a log beside a read-only catalogue is read" 0 $nobody "$mexaldor" query shelf/db 'SELECT DISTINCT artist FROM picture'
+        check "with what is in it" sh -c 'printf "artist\nLogged\n" | cmp - out'
+        chmod 755 shelf
+    else
+        echo "skipped, no SQLite of version 3.37 in python3: a log beside a read-only catalogue"
+    fi
+else
+    echo "skipped, the program can't be run as nobody: a read-only catalogue"
+fi
+ln db name
+gives "a catalogue with a second name is refused" 1 "$mexaldor" query db 'SELECT 1'
+says "and why is said" "the database or its log has a second name, or is a link"
+rm name
 
 # the page
 gives "a page is written" 0 "$mexaldor" page db page.html
@@ -127,6 +225,17 @@ says "unless it may be replaced" "page.html exists; use --force to replace it"
 gives "which --force allows" 0 "$mexaldor" page --force db page.html
 gives "a page is written to standard output" 0 "$mexaldor" page db -
 check "the same" cmp page.html out
+# the thumbnail in the Exif data of each format, whose four bytes are FF D8 FF D9
+python3 "$root/tests/format_files.py" files || exit 1
+mkdir kinds
+for kind in jpg webp heic tif png jxl raf orf rw2; do
+    cp "files/whole.$kind" kinds
+done
+gives "pictures of each format have rows" 0 "$mexaldor" catalog -q -r kinds.db kinds
+gives "and a page" 0 "$mexaldor" page kinds.db kinds.html
+for kind in jpg webp heic tif png jxl raf orf rw2; do
+    check "the card of whole.$kind shows its thumbnail" sh -c 'grep -A2 "data-path=\"[^\"]*whole\.$1\"" kinds.html | grep -qF "src=\"data:image/jpeg;base64,/9j/2Q==\""' sh "$kind"
+done
 rm many/plain.jpg
 gives "a picture that is gone is reported" 3 "$mexaldor" page --force db other.html
 says "by name" "many/plain.jpg: "

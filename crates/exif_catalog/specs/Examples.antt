@@ -3,11 +3,13 @@ use Rattle.std.specs.Prelude.{◌≡◌, [], ◌∷◌, ◌++◌, pos, codes, So
 use Rattle.std.specs.Char.{encode_utf8}
 use Rattle.exif_catalog.specs.Cells.{begins_word, tsv_field}
 use Rattle.exif_catalog.specs.Heads.{kind_of}
-use Rattle.exif_catalog.specs.Known.{is_below, mark_for}
+use Rattle.exif_catalog.specs.Known.{is_below, mark_for, side_of}
+use Rattle.exif_catalog.specs.Moves.{move_by, nobody, one, several}
 use Rattle.exif_catalog.specs.Runs.{has_path, has_stamp_of}
 use Rattle.exif_catalog.specs.Tables.{tables_for}
 use Rattle.exif_catalog.specs.Values.{amount_value, integer, latin1, null}
 use Rattle.exif_catalog.specs.Totals.{more, outcome_of}
+use Rattle.exif_catalog.specs.declared.known.Side.TheVariants as side
 use Rattle.exif_catalog.specs.declared.known.Stamp.{Stamp}
 use Rattle.exif_catalog.specs.declared.heads.FileKind.TheVariants as kind
 use Rattle.exif_catalog.specs.declared.totals.Outcome.TheVariants as outcome
@@ -47,6 +49,23 @@ again = refl
 
 pub elsewhere : mark_for false false false ≡ None
 elsewhere = refl
+
+-- moves: a picture without a row before is new; one that is gone and one that is new with its bytes
+new_picture : side_of None (codes "b.jpg") [] ≡ Some side.New
+new_picture = refl
+
+a_move : move_by (one (codes "a.jpg")) (one (codes "b.jpg")) ≡ Some (codes "a.jpg", codes "b.jpg")
+a_move = refl
+
+-- two copies of one that is gone, one of two that are gone, and a picture that is only new
+two_copies : move_by (one (codes "a.jpg")) several ≡ None
+two_copies = refl
+
+one_of_two : move_by several (one (codes "b.jpg")) ≡ None
+one_of_two = refl
+
+only_new : move_by nobody (one (codes "b.jpg")) ≡ None
+only_new = refl
 
 -- a new file, a catalogue, and another database
 pub new_file : tables_for 0 0 ≡ tables.None

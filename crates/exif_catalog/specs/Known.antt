@@ -1,8 +1,11 @@
 -- What a catalogue knows of the pictures that it has, and what becomes of their rows.
-use Rattle.std.specs.Prelude.{ℕ, List, [], ◌∷◌, Bool, true, false, ◌==◌, ◌&&◌, ◌||◌, not, nat_eq, length, drop, Option, Some, None, if◌then◌else◌, codes}
+use Rattle.std.specs.Prelude.{ℕ, ℤ, pos, List, [], ◌∷◌, Bool, true, false, ◌==◌, ◌&&◌, ◌||◌, not, nat_eq, length, drop, Option, Some, None, if◌then◌else◌, codes, option_and_then, slice_get}
 use Rattle.std.specs.Borrow.{Bor}
+use Rattle.std.specs.Ordering.{int_eq}
 use Rattle.std.specs.List.{ends_with, list_any, starts_with}
 use Rattle.exif_catalog.specs.declared.known.Known.{Known}
+use Rattle.exif_catalog.specs.declared.known.Side.{Side}
+use Rattle.exif_catalog.specs.declared.known.Side.TheVariants as side
 use Rattle.exif_catalog.specs.declared.known.Stamp.{Stamp}
 
 -- what is behind a folder's path is nothing, or begins behind a `/` (47)
@@ -56,3 +59,43 @@ has_stamp (Some known) stamp = is_stamp known.stamp stamp
 -- a row whose file was seen
 abbrev pub seen : Known → Known
 seen known = record known { is_seen = true }
+
+-- What a picture may be of a move: one that had no row as the run began is new, and one below the
+-- roots that was not seen is gone.
+abbrev pub side_of : Option Known → List ℕ → List (Bor (List ℕ)) → Option Side
+side_of None path roots = Some side.New
+side_of (Some known) path roots =
+    if not known.is_seen && is_below_any path roots then Some side.Gone else None
+
+-- a part of a stamp, if it is there
+abbrev pub part : List (Option ℕ) → ℕ → Option ℕ
+part parts at = option_and_then (λ number. number) (slice_get parts at)
+
+-- a stamp of its seven parts, if all are there
+abbrev pub stamp_from : List (Option ℕ) → Option Stamp
+stamp_from parts =
+    option_and_then (λ size. option_and_then (λ modified. option_and_then (λ modified_ns.
+    option_and_then (λ changed. option_and_then (λ changed_ns. option_and_then (λ device.
+    option_and_then (λ inode. Some (record {
+      size = size;
+      modified = modified;
+      modified_ns = modified_ns;
+      changed = changed;
+      changed_ns = changed_ns;
+      device = device;
+      inode = inode;
+    })) (part parts 6)) (part parts 5)) (part parts 4)) (part parts 3)) (part parts 2))
+    (part parts 1)) (part parts 0)
+
+-- a number that is 0: neither NULL nor another one
+abbrev pub is_no : Option ℤ → Bool
+is_no None = false
+is_no (Some n) = int_eq n (pos 0)
+
+-- what is known of a picture before a run: its row has a mark that is not 0, or it has a hash
+abbrev pub known_from : Option Stamp → Option ℤ → Option ℤ → Bool → Known
+known_from stamp removed lacks_hash needs_hash = record {
+  stamp = stamp_for stamp needs_hash (is_no lacks_hash);
+  is_removed = not (is_no removed);
+  is_seen = false;
+}

@@ -3,6 +3,7 @@ pub mod Parameters
 pub mod Schema
 pub mod Heads
 pub mod Known
+pub mod Moves
 pub mod Tables
 pub mod Cells
 pub mod Runs

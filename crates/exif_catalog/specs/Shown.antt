@@ -1,9 +1,10 @@
 -- The texts of values that SQLite answers.
-use Rattle.std.specs.Prelude.{◌≡◌, ℕ, List, [], ◌∷◌, Option, Some, None, IsSome, map, option_and_then, option_map, slice_get, unwrap_or}
+use Rattle.std.specs.Prelude.{◌≡◌, ℕ, List, [], ◌∷◌, ◌++◌, Option, Some, None, IsSome, map, option_and_then, option_map, slice_get, unwrap_or}
 use Rattle.std.specs.String.{string_bytes}
 use Rattle.std.specs.Fmt.{signed_decimal}
 use Rattle.sqlite_value.specs.declared.value.ValueRef.{ValueRef}
 use Rattle.sqlite_value.specs.declared.value.ValueRef.TheVariants as ref
+use Rattle.exif_catalog.specs.Cells.{tsv_field}
 use Rattle.exif_catalog.specs.Values.{text_of}
 use Rattle.exif_catalog.specs.declared.visiting.PictureRow.{PictureRow}
 use Rattle.exif_catalog.specs.declared.visiting.Texts.{Texts}
@@ -16,6 +17,15 @@ Shows (ref.Int n) text = text ≡ Some (signed_decimal n)
 Shows (ref.Real x) text = IsSome text
 Shows (ref.Text t) text = text ≡ Some (text_of t.now)
 Shows (ref.Blob b) text = text ≡ Some (text_of b.now)
+
+-- What a value adds to a line between tabs: nothing for NULL, the digits of a whole number, and the
+-- bytes of a text or a blob. A number with a fraction adds some text.
+abbrev pub Adds : ValueRef → List ℕ → List ℕ → Type 0
+Adds ref.Null old new = new ≡ old
+Adds (ref.Int n) old new = new ≡ old ++ tsv_field (signed_decimal n)
+Adds (ref.Real x) old new = (digits : List ℕ) × (new ≡ old ++ tsv_field digits)
+Adds (ref.Text t) old new = new ≡ old ++ tsv_field t.now
+Adds (ref.Blob b) old new = new ≡ old ++ tsv_field b.now
 
 -- the text of a column of an answer's row, if there is one
 abbrev pub text_at : Texts → ℕ → Option (List ℕ)

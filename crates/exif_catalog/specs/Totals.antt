@@ -31,3 +31,7 @@ counted totals outcome.Refused = record totals { refused = more totals.refused }
 abbrev pub marked : Totals → Bool → Totals
 marked totals true = record totals { removed = more totals.removed }
 marked totals false = record totals { restored = more totals.restored }
+
+-- a picture that counts as added was moved
+abbrev pub moved : Totals → Totals
+moved totals = record totals { added = totals.added - 1; moved = more totals.moved }

@@ -3,9 +3,10 @@
 ghost use Rattle.std.specs.Prelude.{◌≡◌, ◌++◌, [], OnOk, codes};
 
 use crate::cells::{is_query, push_text, push_value};
-use crate::database::{Job, prepare, run_job};
+use crate::database::{Job, prepare};
 use crate::errors::{CatalogError, RunError};
 use crate::heads::check_existing;
+use crate::opening::run_reading;
 use sqlite::{Alter, Connection, Row, Statement};
 use std::alloc::{AllocError, Global};
 
@@ -129,5 +130,5 @@ pub fn query<L: Lines>(
         return Err(RunError::Catalog(CatalogError::NotAQuery));
     }
     check_existing(rt, path)?;
-    run_job(rt, path, &mut QueryJob { sql, lines })
+    run_reading(rt, path, &mut QueryJob { sql, lines })
 }

@@ -4,12 +4,14 @@ ghost use Rattle.std.specs.Prelude.{◌≡◌, ℕ, List, IfOk, OnOk, Some, is_s
 ghost use Rattle.exif_catalog.specs.Totals.{outcome_of};
 ghost use Rattle.exif_catalog.specs.Parameters.{bound, parameter_of};
 ghost use Rattle.exif_catalog.specs.Values.{stored};
+ghost use Rattle.exif_catalog.specs.Known.{is_no, known_from, stamp_from};
 ghost use Rattle.exif_catalog.specs.Runs.{has_path, has_stamp_of, known_after, known_at, marks_in};
 
-use crate::database::{execute, number_at, prepare, prepare_tables, text_at};
+use crate::database::{number_at, prepare, prepare_tables, text_at};
 use crate::errors::CatalogError;
+use crate::hashes::{Move, read_moves};
 use crate::known::{Known, Rows, Stamp, is_unchanged, mark_of, see, stamp_for};
-use crate::schema::{MARK_ROW, READ_ROWS, insert_text};
+use crate::schema::{DELETE_ROW, MARK_ROW, READ_ROWS, insert_text};
 use crate::totals::{Outcome, Totals, outcome_of};
 use crate::values::SqlValue;
 use sqlite::types::ValueRef;
@@ -50,7 +52,9 @@ fn stamp_of(row: &Row) -> Result<Option<Stamp>, CatalogError> {
 }
 
 // A stamp of its parts, if all are there.
-fn stamp_from(parts: [Option<u64>; 7]) -> Option<Stamp> {
+fn stamp_from(parts: [Option<u64>; 7]) -> Option<Stamp>
+    ensures { result ≡ stamp_from parts }
+{
     Some(Stamp {
         size: parts[0]?,
         modified: parts[1]?,
@@ -62,16 +66,37 @@ fn stamp_from(parts: [Option<u64>; 7]) -> Option<Stamp> {
     })
 }
 
+// Whether a number is 0: neither NULL nor another one.
+fn is_no(number: Option<i64>) -> bool
+    ensures { result ≡ is_no number }
+{
+    match number {
+        Some(number) => number == 0,
+        None => false,
+    }
+}
+
+// What is known of a picture, by its stamp, its mark, and whether its hash is NULL.
+fn known_from(
+    stamp: Option<Stamp>,
+    removed: Option<i64>,
+    lacks_hash: Option<i64>,
+    needs_hash: bool,
+) -> Known
+    ensures { result ≡ known_from stamp removed lacks_hash needs_hash }
+{
+    Known {
+        stamp: stamp_for(stamp, needs_hash, is_no(lacks_hash)),
+        is_removed: !is_no(removed),
+        is_seen: false,
+    }
+}
+
 // What is known of a picture, by its row.
 fn known_of(row: &Row, needs_hash: bool) -> Result<Known, CatalogError> {
     let stamp = stamp_of(row)?;
-    let removed = number_at(row, 8)?;
-    let has_hash = number_at(row, 9)? == Some(0);
-    Ok(Known {
-        stamp: stamp_for(stamp, needs_hash, has_hash),
-        is_removed: removed != Some(0),
-        is_seen: false,
-    })
+    let (removed, lacks_hash) = (number_at(row, 8)?, number_at(row, 9)?);
+    Ok(known_from(stamp, removed, lacks_hash, needs_hash))
 }
 
 // What is known of all pictures.
@@ -190,6 +215,23 @@ impl Catalog {
         let outcome = outcome_of(self.rows.get(path).is_some());
         self.keep(path);
         Ok(outcome)
+    }
+
+    /// Finds the files that were moved, among the rows below the roots that were not seen and those
+    /// that are new, and takes the rows of their old paths away.
+    pub(crate) fn take_moves<S: Alter>(
+        &mut self,
+        alloc: Global,
+        database: &mut Connection<S>,
+        roots: &[&str],
+    ) -> Result<Vec<Move>, CatalogError> {
+        let moves = read_moves(alloc, database, &self.rows, roots)?;
+        let delete = prepare(database, DELETE_ROW)?;
+        for moved in moves.iter() {
+            write(database, &delete, params![moved.old.as_str()])?;
+            self.rows.remove(moved.old.as_str());
+        }
+        Ok(moves)
     }
 
     // Sets the mark of a row.

@@ -2,6 +2,7 @@
 
 ghost use Rattle.std.specs.Prelude.{◌≡◌, ◌++◌, OnOk};
 ghost use Rattle.exif_catalog.specs.Cells.{begins_word, is_query, is_word_byte, tsv_byte, tsv_field};
+ghost use Rattle.exif_catalog.specs.Shown.{Adds};
 
 use sqlite::types::ValueRef;
 use std::alloc::{AllocError, Global};
@@ -64,7 +65,9 @@ pub(crate) fn push_value(
     alloc: Global,
     line: &mut Vec<u8>,
     value: ValueRef<'_>,
-) -> Result<(), AllocError> {
+) -> Result<(), AllocError>
+    ensures { OnOk result (Adds value.entry line.old.items line.new.items) }
+{
     match value {
         ValueRef::Null => Ok(()),
         ValueRef::Int(number) => {

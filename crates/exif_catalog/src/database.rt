@@ -136,29 +136,3 @@ pub(crate) trait Job {
         database: &mut Connection<S>,
     ) -> Result<Self::Answer, RunError<Self::Error>>;
 }
-
-// Does a job in a transaction.
-fn run_inside<S: Alter, J: Job>(
-    alloc: Global,
-    database: &mut Connection<S>,
-    job: &mut J,
-) -> Result<J::Answer, RunError<J::Error>> {
-    execute(database, "BEGIN")?;
-    job.run(alloc, database)
-}
-
-/// Does a job with a database file, which is made where it is not there. This is the only function
-/// that owns a connection: it closes it on each way, so that no proof of how its parts are dropped
-/// is asked for, here and in the crates above.
-pub(crate) fn run_job<J: Job>(
-    rt: &HostRuntime,
-    path: &str,
-    job: &mut J,
-) -> Result<J::Answer, RunError<J::Error>> {
-    let mut database = Connection::open(rt, path)?;
-    let answer = run_inside(rt.alloc(), &mut database, job);
-    // What was not kept is undone, and the log is copied into the file. Where that fails, the next
-    // open reads the log.
-    let _ = database.close();
-    answer
-}

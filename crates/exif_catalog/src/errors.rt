@@ -1,14 +1,27 @@
 //! Why a catalogue cannot be used.
 
+use crate::schema::VERSION;
 use sqlite::{Error, ErrorCode};
 use std::alloc::{AllocError, AllocFailed};
-use std::fmt;
+use std::{fmt, io};
 
 /// Why a catalogue cannot be opened, written or read. The file is as it was.
 #[derive(Debug, Drop)]
 pub enum CatalogError {
     /// There is no such file.
     Absent,
+    /// It is a folder or a device.
+    NotAFile,
+    /// It cannot be read.
+    Unreadable(io::Error),
+    /// There is none, and none can be made in its folder.
+    NotMade,
+    /// It cannot be written, or its folder cannot, so that it gets no log.
+    ReadOnly,
+    /// It has a second name (a hard link), or its log has, or the log is no regular file.
+    Linked,
+    /// A rollback journal is beside it: a program that wrote it was interrupted.
+    Journal,
     /// It is no SQLite database.
     NotADatabase,
     /// It has tables that are not those of a catalogue.
@@ -37,9 +50,27 @@ pub enum RunError<E> {
 impl fmt::Display for CatalogError {
     fn fmt<W: fmt::Write>(&self, f: &mut fmt::Formatter<W>) -> fmt::Result {
         match self {
-            CatalogError::Absent => f.write_str("no such catalogue"),
+            CatalogError::Absent => f.write_str("no such catalogue: `catalog` makes one"),
+            CatalogError::NotAFile => f.write_str("not a regular file"),
+            CatalogError::Unreadable(error) => write!(f, "{error}"),
+            CatalogError::NotMade => {
+                f.write_str("it can't be made: its folder is missing, or can't be written")
+            }
+            CatalogError::ReadOnly => {
+                f.write_str("it can't be changed: the file or its folder can't be written")
+            }
+            CatalogError::Linked => {
+                f.write_str("the database or its log has a second name, or is a link")
+            }
+            CatalogError::Journal => {
+                f.write_str("a program that wrote it was interrupted: open it with sqlite3 first")
+            }
             CatalogError::NotADatabase => f.write_str("not a SQLite database"),
             CatalogError::OtherTables => f.write_str("a database that is no catalogue of pictures"),
+            CatalogError::OtherVersion(version) if *version > VERSION => write!(
+                f,
+                "a catalogue of version {version}, made by a newer program; this one reads version 2"
+            ),
             CatalogError::OtherVersion(version) => write!(
                 f,
                 "a catalogue of version {version}; this program reads version 2: move it away, and make a new one"
@@ -59,6 +90,15 @@ impl From<Error> for CatalogError {
         match error {
             Error::SqliteFailure(ErrorCode::OutOfMemory) => CatalogError::OutOfMemory,
             other => CatalogError::Database(other),
+        }
+    }
+}
+
+impl From<io::Error> for CatalogError {
+    fn from(error: io::Error) -> CatalogError {
+        match error.kind() {
+            io::ErrorKind::OutOfMemory => CatalogError::OutOfMemory,
+            _ => CatalogError::Unreadable(error),
         }
     }
 }

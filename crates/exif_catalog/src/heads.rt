@@ -4,11 +4,9 @@ ghost use Rattle.std.specs.Prelude.{◌≡◌};
 ghost use Rattle.exif_catalog.specs.Heads.{kind_of};
 
 use crate::errors::CatalogError;
-use sqlite::{Error, ErrorCode};
 use std::alloc::Global;
-use std::fs::File;
-use std::io::Read;
-use std::{fs, io};
+use std::fs::{self, File};
+use std::io::{self, ErrorKind, Read};
 
 /// What is at a path.
 #[derive(Clone, Copy, Debug, PartialEq, Eq)]
@@ -21,8 +19,6 @@ pub enum FileKind {
     Database,
     /// Another file.
     Other,
-    /// A folder, a device, or what cannot be read.
-    Unreadable,
 }
 
 // The length of the mark of a database.
@@ -49,40 +45,33 @@ fn read_head(rt: &HostRuntime, path: &str) -> io::Result<Vec<u8>> {
     Ok(head)
 }
 
-// What is at a path. Nothing is changed there.
-fn find_kind(rt: &HostRuntime, path: &str) -> FileKind {
+// What is at a path. Nothing is changed there. A folder, a device, and what cannot be read are
+// refused.
+fn find_kind(rt: &HostRuntime, path: &str) -> Result<FileKind, CatalogError> {
     match fs::metadata(rt, path) {
-        Err(_) => return FileKind::Absent,
-        Ok(found) if !found.is_file() => return FileKind::Unreadable,
-        Ok(_) => {}
+        Ok(found) if found.is_file() => {}
+        Ok(_) => return Err(CatalogError::NotAFile),
+        Err(error) if error.kind() == ErrorKind::NotFound => return Ok(FileKind::Absent),
+        Err(error) => return Err(CatalogError::from(error)),
     }
-    match read_head(rt, path) {
-        Ok(head) => kind_of(head.as_slice()),
-        Err(_) => FileKind::Unreadable,
-    }
-}
-
-// Refuses what is neither a database nor becomes one.
-fn check_kind(kind: FileKind) -> Result<(), CatalogError> {
-    match kind {
-        FileKind::Absent | FileKind::Empty | FileKind::Database => Ok(()),
-        FileKind::Other => Err(CatalogError::NotADatabase),
-        FileKind::Unreadable => Err(CatalogError::Database(Error::SqliteFailure(
-            ErrorCode::CannotOpen,
-        ))),
-    }
+    let head = read_head(rt, path)?;
+    Ok(kind_of(head.as_slice()))
 }
 
 /// Refuses a file that is not empty and no database.
 pub(crate) fn check_new(rt: &HostRuntime, path: &str) -> Result<(), CatalogError> {
-    check_kind(find_kind(rt, path))
+    match find_kind(rt, path)? {
+        FileKind::Absent | FileKind::Empty | FileKind::Database => Ok(()),
+        FileKind::Other => Err(CatalogError::NotADatabase),
+    }
 }
 
 /// Refuses a file that is no database yet.
 pub(crate) fn check_existing(rt: &HostRuntime, path: &str) -> Result<(), CatalogError> {
-    match find_kind(rt, path) {
+    match find_kind(rt, path)? {
+        FileKind::Database => Ok(()),
         FileKind::Absent => Err(CatalogError::Absent),
         FileKind::Empty => Err(CatalogError::OtherTables),
-        kind => check_kind(kind),
+        FileKind::Other => Err(CatalogError::NotADatabase),
     }
 }

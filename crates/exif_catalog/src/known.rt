@@ -3,7 +3,7 @@
 ghost use Rattle.std.specs.Prelude.{◌≡◌, ℕ, List, if◌then◌else◌, option_map};
 ghost use Rattle.std.specs.BTreeMap.{get_by_text};
 ghost use Rattle.std.specs.Str.{bytes_eq};
-ghost use Rattle.exif_catalog.specs.Known.{has_stamp, is_below, is_below_any, is_same, is_stamp, mark_of, seen, stamp_for};
+ghost use Rattle.exif_catalog.specs.Known.{has_stamp, is_below, is_below_any, is_same, is_stamp, mark_of, seen, side_of, stamp_for};
 
 use std::collections::BTreeMap;
 
@@ -58,6 +58,27 @@ fn is_below_any(path: &str, roots: &[&str]) -> bool
     ensures { result ≡ is_below_any path.now roots.now }
 {
     roots.iter().any(|root| is_below(path, root))
+}
+
+/// What a picture with a row may be of a move.
+#[derive(Clone, Copy)]
+pub enum Side {
+    /// Its file is gone.
+    Gone,
+    /// It is new.
+    New,
+}
+
+/// What a picture may be of a move, by what was known of it as the run began: one that was looked
+/// for below the roots and not seen is gone, and one that had no row is new.
+pub fn side_of(rows: &Rows, path: &str, roots: &[&str]) -> Option<Side>
+    ensures { result ≡ side_of (get_by_text rows.now path.now) path.now roots.now }
+{
+    match rows.get(path) {
+        None => Some(Side::New),
+        Some(known) if !known.is_seen && is_below_any(path, roots) => Some(Side::Gone),
+        Some(_) => None,
+    }
 }
 
 /// How a row's mark changes: a file that was seen is not removed, and one below the roots that was

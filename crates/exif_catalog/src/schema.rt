@@ -44,6 +44,12 @@ pub(crate) const SHOWN: [Column; 10] = [
     Column::Orientation,
 ];
 
+/// Reads the hashes that rows have.
+pub(crate) const READ_HASHES: &str = "SELECT path, hash FROM picture WHERE hash IS NOT NULL";
+
+/// Takes a row away.
+pub(crate) const DELETE_ROW: &str = "DELETE FROM picture WHERE path = ?1";
+
 /// Marks a row as removed, or not.
 pub(crate) const MARK_ROW: &str = "UPDATE picture SET removed = ?2 WHERE path = ?1";
 

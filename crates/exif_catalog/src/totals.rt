@@ -1,7 +1,7 @@
 //! What a run did with the rows.
 
 ghost use Rattle.std.specs.Prelude.{◌≡◌};
-ghost use Rattle.exif_catalog.specs.Totals.{counted, marked, more, outcome_of};
+ghost use Rattle.exif_catalog.specs.Totals.{counted, marked, more, moved, outcome_of};
 
 /// What became of the row of a picture.
 #[derive(Clone, Copy, Debug, PartialEq, Eq)]
@@ -19,8 +19,10 @@ pub enum Outcome {
 /// What a run did with the rows.
 #[derive(Clone, Copy, Debug, PartialEq, Eq)]
 pub struct Totals {
-    /// Pictures that had no row.
+    /// Pictures that had no row, and whose files were not moved.
     pub added: u64,
+    /// Pictures whose files were moved: the row has the new path.
+    pub moved: u64,
     /// Pictures whose rows were written anew, since the file has another stamp.
     pub changed: u64,
     /// Pictures whose files had the stamps of their rows.
@@ -55,6 +57,7 @@ impl Totals {
     /// Nothing yet.
     pub(crate) const NONE: Totals = Totals {
         added: 0,
+        moved: 0,
         changed: 0,
         unchanged: 0,
         refused: 0,
@@ -84,6 +87,15 @@ impl Totals {
         } else {
             self.restored = more(self.restored);
         }
+        self
+    }
+
+    /// The same where a picture that counts as added was moved.
+    pub(crate) fn moved(mut self) -> Totals
+        ensures { result ≡ moved self }
+    {
+        self.added = self.added.saturating_sub(1);
+        self.moved = more(self.moved);
         self
     }
 }

@@ -5,10 +5,12 @@ ghost use Rattle.exif_catalog.specs.Runs.{has_stamp_of, known_after, known_at};
 ghost use Rattle.exif_catalog.specs.Totals.{is_unchanged};
 
 use crate::catalog::Catalog;
-use crate::database::{Job, execute, run_job};
-use crate::errors::RunError;
+use crate::database::{Job, execute};
+use crate::errors::{CatalogError, RunError};
+use crate::hashes::Move;
 use crate::heads::check_new;
 use crate::known::Stamp;
+use crate::opening::run_job;
 use crate::totals::{Outcome, Totals};
 use crate::values::SqlValue;
 use sqlite::{Alter, Connection};
@@ -21,6 +23,15 @@ pub struct Found {
     pub path: String,
     /// What its file was before it was read, if all of that is known.
     pub stamp: Option<Stamp>,
+}
+
+/// What a run did.
+#[derive(Drop)]
+pub struct Updated {
+    /// What became of the rows.
+    pub totals: Totals,
+    /// The files that were moved, where hashes are needed ([`Pictures::needs_hash`]).
+    pub moves: Vec<Move>,
 }
 
 /// The pictures of a run.
@@ -87,14 +98,36 @@ fn whole_roots<'a, P: Pictures>(
     Ok(whole)
 }
 
+// Gives the rows of files that were moved their new paths, and marks those of the others.
+fn end<S: Alter>(
+    alloc: Global,
+    database: &mut Connection<S>,
+    catalog: &mut Catalog,
+    roots: &[&str],
+    needs_hash: bool,
+    mut totals: Totals,
+) -> Result<Updated, CatalogError> {
+    let moves = if needs_hash && totals.added > 0 {
+        catalog.take_moves(alloc, database, roots)?
+    } else {
+        Vec::new(alloc)
+    };
+    for _moved in moves.iter() {
+        totals = totals.moved();
+    }
+    let totals = catalog.set_marks(database, roots, totals)?;
+    Ok(Updated { totals, moves })
+}
+
 // Brings all rows up to date.
 fn take_all<S: Alter, P: Pictures>(
     alloc: Global,
     database: &mut Connection<S>,
     roots: &[&str],
     pictures: &mut P,
-) -> Result<Totals, RunError<P::Error>> {
-    let mut catalog = Catalog::open(alloc, database, pictures.needs_hash())?;
+) -> Result<Updated, RunError<P::Error>> {
+    let needs_hash = pictures.needs_hash();
+    let mut catalog = Catalog::open(alloc, database, needs_hash)?;
     let mut totals = Totals::NONE;
     for _ in 0..u64::MAX {
         let Some(found) = pictures.next().map_err(RunError::Caller)? else {
@@ -103,8 +136,15 @@ fn take_all<S: Alter, P: Pictures>(
         let outcome = take(alloc, database, &mut catalog, pictures, &found)?;
         totals = totals.counted(outcome);
     }
-    let roots = whole_roots(alloc, roots, pictures)?;
-    Ok(catalog.set_marks(database, roots.as_slice(), totals)?)
+    let whole = whole_roots(alloc, roots, pictures)?;
+    Ok(end(
+        alloc,
+        database,
+        &mut catalog,
+        whole.as_slice(),
+        needs_hash,
+        totals,
+    )?)
 }
 
 // The pictures of a run, and what was looked through for them.
@@ -115,7 +155,7 @@ struct UpdateJob<'u, P> {
 }
 
 impl<P: Pictures> Job for UpdateJob<'_, P> {
-    type Answer = Totals;
+    type Answer = Updated;
 
     type Error = P::Error;
 
@@ -123,17 +163,19 @@ impl<P: Pictures> Job for UpdateJob<'_, P> {
         &mut self,
         alloc: Global,
         database: &mut Connection<S>,
-    ) -> Result<Totals, RunError<P::Error>> {
-        let totals = take_all(alloc, database, self.roots, self.pictures)?;
+    ) -> Result<Updated, RunError<P::Error>> {
+        let updated = take_all(alloc, database, self.roots, self.pictures)?;
         execute(database, "COMMIT")?;
-        Ok(totals)
+        Ok(updated)
     }
 }
 
 /// Brings a catalogue up to date: each picture whose file is new or has another [`Stamp`], or
 /// whose row lacks a hash that is needed ([`Pictures::needs_hash`]), gets the values that the caller
 /// has for it, and each row below the roots whose picture was not among them is marked as removed,
-/// if the root was looked through ([`Pictures::is_whole`]). A file that is not there is made, also
+/// if the root was looked through ([`Pictures::is_whole`]). Where hashes are needed, a new picture
+/// whose hash is that of one such row, and of no other new one, takes its place: its file was moved
+/// ([`moves_of`](crate::moves_of)). A file that is not there is made, also
 /// where the run then ends with an error. One that is no database, or has another version or other
 /// tables, is refused and left as it is. No other program can read or write the file until the run
 /// ends.
@@ -144,7 +186,7 @@ pub fn update<P: Pictures>(
     path: &str,
     roots: &[&str],
     pictures: &mut P,
-) -> Result<Totals, RunError<P::Error>> {
+) -> Result<Updated, RunError<P::Error>> {
     check_new(rt, path)?;
     run_job(rt, path, &mut UpdateJob { roots, pictures })
 }

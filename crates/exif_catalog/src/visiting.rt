@@ -3,9 +3,10 @@
 ghost use Rattle.std.specs.Prelude.{◌≡◌, IfOk, option_map, string_bytes};
 ghost use Rattle.exif_catalog.specs.Shown.{Shows, row_texts, text_at, texts_of_row};
 
-use crate::database::{Job, check_tables, run_job};
+use crate::database::{Job, check_tables};
 use crate::errors::{CatalogError, RunError};
 use crate::heads::check_existing;
+use crate::opening::run_reading;
 use crate::schema::pictures_text;
 use crate::values::text_of;
 use sqlite::types::ValueRef;
@@ -156,5 +157,5 @@ pub fn visit<V: Visitor>(
     visitor: &mut V,
 ) -> Result<u64, RunError<V::Error>> {
     check_existing(rt, path)?;
-    run_job(rt, path, &mut VisitJob { visitor })
+    run_reading(rt, path, &mut VisitJob { visitor })
 }

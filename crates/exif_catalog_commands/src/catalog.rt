@@ -2,10 +2,10 @@
 
 use exif::{Error, Exif, Sink};
 use exif_catalog::{
-    CatalogError, Found, PictureFile, Pictures, RunError, SqlValue, Stamp, Totals, is_below,
-    row_values, text_of, update,
+    CatalogError, Found, Move, PictureFile, Pictures, RunError, SqlValue, Stamp, Totals, Updated,
+    is_below, row_values, text_of, update,
 };
-use exif_decisions::{self as decisions, Outcome};
+use exif_decisions::{self as decisions, Escaped, Outcome};
 use exif_files::Status;
 use exif_formats::{Picture, PictureFormat};
 use exif_json::mime_type;
@@ -243,13 +243,13 @@ fn texts_of(alloc: Global, strings: &[String]) -> Result<Vec<&str>, AllocError> 
     Ok(texts)
 }
 
-// Brings the rows up to date.
+// Brings the rows below roots up to date.
 fn update_rows<W: Sink, E: Sink>(
     gathered: &mut Gathered<'_, '_, '_, '_, '_, W, E>,
-) -> Result<Totals, RunError<Stop>> {
+    roots: &[String],
+) -> Result<Updated, RunError<Stop>> {
     let rt = gathered.session.rt;
-    let roots = roots_of(rt, gathered.session.request.paths.as_slice())?;
-    let names = texts_of(rt.alloc(), roots.as_slice())?;
+    let names = texts_of(rt.alloc(), roots)?;
     let database = gathered.cataloguing.database;
     update(rt, database, names.as_slice(), gathered)
 }
@@ -262,6 +262,7 @@ pub fn update_catalog<W: Sink, E: Sink>(
 ) -> Result<Status, Stop> {
     let alloc = session.rt.alloc();
     let has_conditions = session.request.choice.is_any();
+    let roots = roots_of(session.rt, session.request.paths.as_slice())?;
     let mut gathered = Gathered {
         shown: String::new(alloc),
         path: String::new(alloc),
@@ -275,11 +276,12 @@ pub fn update_catalog<W: Sink, E: Sink>(
         worst: Status::Success,
         failed: Vec::new(alloc),
     };
-    let updated = update_rows(&mut gathered);
+    let updated = update_rows(&mut gathered, roots.as_slice());
     let Gathered { session, worst, .. } = gathered;
     match updated {
-        Ok(totals) => {
-            report_totals(session, cataloguing.database, totals)?;
+        Ok(updated) => {
+            report_moves(session, cataloguing.database, updated.moves.as_slice())?;
+            report_totals(session, cataloguing, updated.totals)?;
             Ok(worst)
         }
         Err(RunError::Caller(stop)) => Err(stop),
@@ -290,25 +292,48 @@ pub fn update_catalog<W: Sink, E: Sink>(
     }
 }
 
-// Reports what a run did with the rows.
-fn report_totals<W: Sink, E: Sink>(
+// Reports the files that were moved.
+fn report_moves<W: Sink, E: Sink>(
     session: &mut Session<'_, '_, W, E>,
     database: &str,
+    moves: &[Move],
+) -> Result<(), Stop> {
+    if session.request.quiet {
+        return Ok(());
+    }
+    for moved in moves {
+        let (old, new) = (Escaped(moved.old.as_str()), Escaped(moved.new.as_str()));
+        let text = format!(in session.rt.alloc(); "moved: {old} -> {new}")?;
+        session.say(database, &text)?;
+    }
+    Ok(())
+}
+
+// Reports what a run did with the rows. Moves are only known by hashes.
+fn report_totals<W: Sink, E: Sink>(
+    session: &mut Session<'_, '_, W, E>,
+    cataloguing: &Cataloguing<'_>,
     totals: Totals,
 ) -> Result<(), Stop> {
     if session.request.quiet {
         return Ok(());
     }
+    let alloc = session.rt.alloc();
     let Totals {
         added,
+        moved,
         changed,
         unchanged,
         refused: _,
         removed,
         restored,
     } = totals;
-    let text = format!(in session.rt.alloc();
+    let mut text = format!(in alloc;
         "{added} added, {changed} changed, {unchanged} unchanged, {removed} removed, {restored} restored"
     )?;
-    session.say(database, &text)
+    if cataloguing.hash {
+        let more = format!(in alloc; ", {moved} moved")?;
+        text.push_str(more.as_str())?;
+    }
+    session.say(cataloguing.database, &text)
 }

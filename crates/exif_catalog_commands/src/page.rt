@@ -51,7 +51,7 @@ impl LastSection {
 }
 
 // What a row says of its picture.
-fn facts_of<'a>(picture: &PictureRow<'a>, link: &'a str) -> Facts<'a> {
+fn facts_of<'a>(picture: &'a PictureRow<'_>, link: &'a str) -> Facts<'a> {
     Facts {
         path: picture.path,
         link: Some(link),

@@ -20,9 +20,8 @@ const POLICY: &[u8] = br#"<meta http-equiv="Content-Security-Policy" content="de
  base-uri 'none'; form-action 'none'">
 "#;
 
-// The style, for light and dark screens, and the beginning of the body.
-const STYLE: &[u8] = br#"<style>
-:root {
+/// The style, for light and dark screens.
+pub(crate) const STYLE: &[u8] = br#":root {
   color-scheme: light dark;
   --page: #f4f4f2; --card: #ffffff; --text: #1c1c1a; --soft: #595955;
   --line: #d6d6d0; --link: #0a58a8; --empty: #e9e9e5;
@@ -77,10 +76,6 @@ p { color: var(--soft); }
 a { color: var(--link); }
 @media (max-width: 40rem), (max-height: 30rem) { header { position: static; } }
 @media print { header { position: static; } form { display: none; } li { break-inside: avoid; } }
-</style>
-</head>
-<body>
-<header>
 "#;
 
 // The filters, which the script shows, and the beginning of the sections.
@@ -97,11 +92,9 @@ const FILTERS: &[u8] = br#"<form hidden>
 <main>
 "#;
 
-// The script of the filters, and the end of the page. It reads the `data-` attributes of the cards,
-// and writes nothing but numbers.
-const ENDING: &[u8] = br#"</main>
-<script>
-"use strict";
+/// The script of the filters. It reads the `data-` attributes of the cards, and writes nothing but
+/// numbers.
+pub(crate) const SCRIPT: &[u8] = br#""use strict";
 (() => {
   const form = document.querySelector("form");
   const { text, from, to, located, undated } = form.elements;
@@ -146,9 +139,6 @@ const ENDING: &[u8] = br#"</main>
   form.hidden = false;
   update();
 })();
-</script>
-</body>
-</html>
 "#;
 
 // Appends what is before the policy.
@@ -176,12 +166,27 @@ pub(crate) fn push_beginning(out: &mut Vec<u8>) -> Result<(), AllocError>
     push_policy(out)
 }
 
+// Appends three texts.
+fn push_parts(out: &mut Vec<u8>, before: &[u8], text: &[u8], after: &[u8]) -> Result<(), AllocError>
+    ensures { OnOk result (out.new.items
+        ≡ out.old.items ++ (before.now ++ (text.now ++ after.now))) }
+{
+    out.extend_from_slice(before)?;
+    out.extend_from_slice(text)?;
+    out.extend_from_slice(after)
+}
+
 // Appends the style, and the beginning of the body.
 #[tactic(auto, unfolding(crate::specs::Markup::style))]
 pub(crate) fn push_style(out: &mut Vec<u8>) -> Result<(), AllocError>
     ensures { OnOk result (out.new.items ≡ out.old.items ++ style) }
 {
-    out.extend_from_slice(STYLE)
+    push_parts(
+        out,
+        b"<style>\n",
+        STYLE,
+        b"</style>\n</head>\n<body>\n<header>\n",
+    )
 }
 
 // Appends the filters, and the beginning of the sections.
@@ -197,5 +202,10 @@ pub(crate) fn push_filters(out: &mut Vec<u8>) -> Result<(), AllocError>
 pub(crate) fn push_ending(out: &mut Vec<u8>) -> Result<(), AllocError>
     ensures { OnOk result (out.new.items ≡ out.old.items ++ ending) }
 {
-    out.extend_from_slice(ENDING)
+    push_parts(
+        out,
+        b"</main>\n<script>\n",
+        SCRIPT,
+        b"</script>\n</body>\n</html>\n",
+    )
 }
