@@ -11,7 +11,8 @@ use Rattle.exif_rename.specs.declared.order.Moment.{Moment}
 abbrev pub tag_named : List ℕ → Option DateTag
 tag_named name =
     if bytes_eq name (codes "DateTimeOriginal") then Some Original
-    else if bytes_eq name (codes "DateTimeDigitized") || bytes_eq name (codes "CreateDate") then Some Digitized
+    else if bytes_eq name (codes "DateTimeDigitized") || bytes_eq name (codes "CreateDate")
+    then Some Digitized
     else if bytes_eq name (codes "DateTime") || bytes_eq name (codes "ModifyDate") then Some Changed
     else None
 

@@ -155,7 +155,8 @@ unfolding chars encode_utf8
 moved_line = refl
 
 -- a path with an arrow and a line feed (10)
-coded_line : line_of true (codes "/a -> b") (47 ∷ 10 ∷ []) ≡ codes "/a -" ++ (92 ∷ codes "x3e b => /") ++ (92 ∷ codes "x0a")
+coded_line : line_of true (codes "/a -> b") (47 ∷ 10 ∷ [])
+    ≡ codes "/a -" ++ (92 ∷ codes "x3e b => /") ++ (92 ∷ codes "x0a")
 unfolding chars encode_utf8
 coded_line = refl
 

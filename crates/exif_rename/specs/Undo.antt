@@ -33,7 +33,8 @@ step_of step = (step.copied, (string_bytes step.from, string_bytes step.to))
 -- a line is that of what is read of it
 abbrev pub IsOfLine : List ℕ → Option Step → Type 0
 IsOfLine line None = ⊤
-IsOfLine line (Some step) = line ≡ line_of step.copied (string_bytes step.from) (string_bytes step.to)
+IsOfLine line (Some step) =
+    line ≡ line_of step.copied (string_bytes step.from) (string_bytes step.to)
 
 -- the character whose code follows a `\`, and how many characters it takes
 abbrev pub escape : List ℕ → Option (ℕ × ℕ)
@@ -53,7 +54,8 @@ char_at first rest =
 abbrev pub with_text : List ℕ → List ℕ × List ℕ → List ℕ × List ℕ
 with_text text found = (text ++ found.0, found.1)
 
--- The path that characters begin with, and those that follow it; the first few are of what is before.
+-- The path that characters begin with, and those that follow it; the first few are of what is
+-- before.
 abbrev pub read : ℕ → List ℕ → List ℕ × List ℕ
 read taken [] = ([], [])
 read (suc taken) (first ∷ rest) = read taken rest

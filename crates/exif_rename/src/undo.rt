@@ -20,9 +20,9 @@ pub struct Step {
     pub copied: bool,
 }
 
-/// The line of a file that was moved, `FROM -> TO`, or copied, `FROM => TO`. In both paths a control
-/// character, `\` and `>` are written as `\x` and the two digits of their code, so that no path looks
-/// like another line. It takes the memory of the line, twice.
+/// The line of a file that was moved, `FROM -> TO`, or copied, `FROM => TO`. In both paths a
+/// control character, `\` and `>` are written as `\x` and the two digits of their code, so that no
+/// path looks like another line. It takes the memory of the line, twice.
 pub fn write_line(alloc: Global, from: &str, to: &str, copied: bool) -> Result<String, AllocError>
     ensures line { IfOk result (λ line.
         string_bytes line ≡ line_of copied from.now to.now) }
@@ -110,7 +110,8 @@ fn digit(value: u32) -> char
     char::from_digit(value, 16).unwrap_or('0')
 }
 
-// The path that characters begin with, and where it ends: before a `>`, or a `\` that begins no code.
+// The path that characters begin with, and where it ends: before a `>`, or a `\` that begins no
+// code.
 fn read_path(alloc: Global, all: &[char]) -> Result<(String, usize), AllocError>
     ensures path { IfOk result (λ found.
         read 0 all.now ≡ (string_bytes found.0, drop found.1 all.now)) }
