@@ -86,6 +86,103 @@ gives "the date of digitizing serves" 0 "$mexaldor" rename '%Y-%m-%d' dated.jpg
 check "as a name" test -e 2019-01-02.jpg
 holds "the run writes what it did" "/dated.jpg -> "
 
+# the date that is chosen
+fresh
+"$mexaldor" set -q work/whole.jpg dates.jpg DateTimeOriginal='2011-01-02 03:04:05' DateTimeDigitized='2012-01-02 03:04:05' DateTime='2013-01-02 03:04:05' 2>/dev/null
+for chosen in DateTimeOriginal=2011 DateTimeDigitized=2012 CreateDate=2012 DateTime=2013 ModifyDate=2013; do
+    gives "a name by ${chosen%=*}" 0 "$mexaldor" rename --dry-run --date "${chosen%=*}" '%Y' dates.jpg
+    holds "has its year" "/${chosen#*=}.jpg"
+done
+gives "if none is chosen" 0 "$mexaldor" rename --dry-run '%Y' dates.jpg
+holds "the best one serves" "/2011.jpg"
+"$mexaldor" set -q work/plain.jpg digitized.jpg DateTimeDigitized='2019-01-02 03:04:05' 2>/dev/null
+gives "a chosen date has no substitute" 3 "$mexaldor" rename --date DateTimeOriginal '%Y' digitized.jpg
+says "the file is left" "digitized.jpg: no date"
+check "indeed" test -e digitized.jpg
+gives "an unknown date is refused" 2 "$mexaldor" rename --date Taken '%Y' work/whole.jpg
+says "with those that there are" "expected DateTimeOriginal, DateTimeDigitized (or CreateDate) or DateTime (or ModifyDate)"
+
+# a run is taken back by its lines, whatever the names are
+fresh
+mkdir back
+cp files/whole.jpg 'back/a b.jpg'
+printf '<x/>' >'back/a b.xmp'
+cp files/whole.jpg 'back/c -> d.jpg'
+cp files/whole.jpg "back/e
+f.jpg"
+ls back >before
+gives "files with odd names are renamed" 0 "$mexaldor" rename -r '%Y%m%d_%H%M%S' back
+cp out run.txt
+check "a line for each" test "$(wc -l <run.txt)" = 4
+holds "with its old name" "/back/a b.jpg -> "
+holds "in which an arrow is no arrow" '/back/c -\x3e d.jpg -> '
+holds "and a line feed ends no line" '/back/e\x0af.jpg -> '
+gives "a dry run prints what would be taken back" 0 "$mexaldor" rename --dry-run --undo run.txt
+check "a line for each" test "$(wc -l <out)" = 4
+holds "the other way round" "/$stamp.xmp -> "
+check "and changes nothing" test -e "back/$stamp.jpg"
+gives "the run is taken back" 0 "$mexaldor" rename --undo run.txt
+ls back >after
+check "each has its old name" cmp before after
+check "and its bytes" cmp files/whole.jpg 'back/c -> d.jpg'
+gives "there is nothing more to take back" 1 "$mexaldor" rename --undo run.txt
+says "which is said" "/$stamp.jpg: it is not there any more"
+gives "they are renamed again" 0 "$mexaldor" rename -r '%Y%m%d_%H%M%S' back
+cp out run.txt
+printf 'precious' >'back/a b.jpg'
+gives "no file is overwritten" 1 "$mexaldor" rename --undo run.txt
+says "one of that name is reported" "/$stamp.jpg: its old name is taken: "
+check "it stays" test "$(cat 'back/a b.jpg')" = precious
+check "the others are back" test -e 'back/c -> d.jpg' -a -e 'back/a b.xmp'
+
+fresh
+gives "a file is renamed" 0 "$mexaldor" rename '%Y%m%d_%H%M%S' work/whole.jpg
+cp out run.txt
+{ cat run.txt; echo 'nonsense'; } >bad.txt
+gives "a line of no run is refused" 1 "$mexaldor" rename --undo bad.txt
+says "by its number" "bad.txt: line 2 is no line of rename"
+check "and nothing is taken back" test ! -e work/whole.jpg
+gives "the lines are read from standard input" 0 "$mexaldor" rename --undo - <run.txt
+check "the file is back" cmp files/whole.jpg work/whole.jpg
+gives "a file is copied" 0 "$mexaldor" rename --copy --into undone '%Y%m%d_%H%M%S' work/whole.jpg
+holds "which its line says" "/whole.jpg => "
+cp out run.txt
+gives "a copy is not taken back" 1 "$mexaldor" rename --undo run.txt
+says "but reported" "/$stamp.jpg: a copy, which is not taken back; remove it by rm"
+check "both are there" cmp work/whole.jpg "undone/$stamp.jpg"
+gives "--undo takes no pattern" 2 "$mexaldor" rename --undo run.txt '%Y' work/whole.jpg
+gives "and a pattern is required without it" 2 "$mexaldor" rename
+says "which is said" "expected PATTERN PATH..., or --undo FILE"
+
+# files whose bytes are there already
+fresh
+mkdir card
+cp files/whole.jpg card/a.jpg
+printf '<x/>' >card/a.xmp
+"$mexaldor" set -q work/whole.jpg card/b.jpg DateTimeOriginal='2021-03-04 05:06:07' SubSecTimeOriginal=20 2>/dev/null
+"$mexaldor" set -q work/whole.jpg card/c.jpg DateTimeOriginal='2021-03-04 05:06:07' SubSecTimeOriginal=40 2>/dev/null
+gives "a card is copied" 0 "$mexaldor" rename -r --copy --into archive '%Y%m%d_%H%M%S' card
+check "each file" test "$(find archive -type f | wc -l)" = 4
+gives "and copied again" 0 "$mexaldor" rename -r --copy --into archive '%Y%m%d_%H%M%S' card
+says "what is there is reported" "card/a.jpg: already there: "
+says "and counted" "0 copied, 3 already so, 0 refused"
+check "there is no further file" test "$(find archive -type f | wc -l)" = 4
+gives "a quiet run" 0 "$mexaldor" rename -q -r --copy --into archive '%Y%m%d_%H%M%S' card
+check "says nothing" test ! -s err
+"$mexaldor" set -q work/whole.jpg card/d.jpg DateTimeOriginal='2021-03-04 05:06:07' SubSecTimeOriginal=90 2>/dev/null
+gives "a new shot of the same second is copied" 0 "$mexaldor" rename -q -r --copy --into archive '%Y%m%d_%H%M%S' card
+check "with a number" cmp card/d.jpg archive/20210304_050607_2.jpg
+check "and no other" test "$(find archive -type f | wc -l)" = 5
+printf '<other/>' >card/a.xmp
+gives "a sidecar that differs" 3 "$mexaldor" rename -q -r --copy --into archive '%Y%m%d_%H%M%S' card
+says "is reported" "card/a.xmp: left, as its picture is there already; it differs from "
+check "and not copied" test "$(cat "archive/$stamp.xmp")" = '<x/>' -a "$(find archive -type f | wc -l)" = 5
+gives "what is there is not moved" 3 "$mexaldor" rename -r --into archive '%Y%m%d_%H%M%S' card
+says "but reported" "card/b.jpg: already there: "
+check "all files stay" test "$(find card -type f | wc -l)" = 5 -a "$(find archive -type f | wc -l)" = 5
+gives "nor would it be" 3 "$mexaldor" rename --dry-run --into archive '%Y%m%d_%H%M%S' card/b.jpg
+check "no line is printed" test ! -s out
+
 # two runs side by side
 fresh
 rm -rf many && mkdir many

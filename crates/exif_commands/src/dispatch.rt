@@ -9,6 +9,7 @@ use crate::show::show_file;
 use crate::table::{write_header, write_row};
 use crate::thumbnail::{write_thumbnail, write_thumbnails};
 use crate::touch::touch_file;
+use crate::undo::undo_renames;
 use exif::Sink;
 use exif_catalog_commands::update_catalog;
 use exif_decisions::{Found, Outcome};
@@ -30,6 +31,7 @@ pub fn run<'r, W: Sink, E: Sink>(
             change_in_place(&mut session, change, *keeping)?
         }
         Task::Rename(renaming) => rename_files(&mut session, renaming)?,
+        Task::Undo(dry_run) => undo_renames(&mut session, *dry_run)?,
         Task::Geotag(geotagging) => geotag_files(&mut session, geotagging)?,
         Task::Copy(copying) => copy_into_files(&mut session, copying)?,
         Task::Catalog(cataloguing) => update_catalog(&mut session, cataloguing)?,
@@ -88,7 +90,7 @@ fn process<W: Sink, E: Sink>(
         Task::Touch(zone) => touch_file(session, zone, path),
         // these have all files in view, and are done above
         Task::Change(_, Target::InPlace(_)) | Task::Thumbnails(..) => Ok(Outcome::Unchanged),
-        Task::Rename(_) | Task::Geotag(_) => Ok(Outcome::Unchanged),
+        Task::Rename(_) | Task::Undo(_) | Task::Geotag(_) => Ok(Outcome::Unchanged),
         Task::Copy(_) | Task::Catalog(_) => Ok(Outcome::Unchanged),
     }
 }

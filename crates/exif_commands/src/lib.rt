@@ -8,10 +8,12 @@ mod geotag;
 mod json;
 mod moves;
 mod names;
+mod present;
 mod rename;
 mod show;
 mod table;
 mod thumbnail;
 mod touch;
+mod undo;
 
 pub use dispatch::run;

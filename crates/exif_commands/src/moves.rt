@@ -1,10 +1,10 @@
 //! Files that are moved or copied to their new names.
 
 use exif::Sink;
-use exif_decisions::{Escaped, Outcome};
+use exif_decisions::Outcome;
 use exif_files::{FileSystem, HostFiles, Status, WriteError, folder_of};
-use exif_rename::{Attributes, Move, Moved, copy_file, move_file};
-use exif_session::{Renaming, Session, Stop};
+use exif_rename::{Attributes, Move, Moved, copy_file, move_file, write_line};
+use exif_session::{Session, Stop};
 use std::alloc::{AllocError, Global};
 use std::collections::BTreeSet;
 use std::fs;
@@ -55,11 +55,21 @@ impl Folders {
     }
 }
 
-/// Moves or copies the files of one stem, in their order, and writes a line for each. Where one
-/// can't be moved, those behind it stay. Answers what became of them.
+/// What is done with files that get other names.
+#[derive(Clone, Copy)]
+pub struct Moving {
+    /// Whether the old files stay.
+    pub copy: bool,
+    /// Whether the new names are written only.
+    pub dry_run: bool,
+}
+
+/// Moves or copies the files of one stem, in their order, and writes a line for each, which is
+/// there once the file is moved, also where the run is stopped. Where one can't be moved, those
+/// behind it stay. Answers what became of them.
 pub fn move_all<W: Sink, E: Sink>(
     session: &mut Session<'_, '_, W, E>,
-    renaming: &Renaming<'_>,
+    moving: Moving,
     folders: &mut Folders,
     path: &str,
     moves: &[Move],
@@ -67,11 +77,11 @@ pub fn move_all<W: Sink, E: Sink>(
     let mut is_complete = true;
     for wanted in moves {
         let (from, to) = (wanted.from.as_str(), wanted.to.as_str());
-        if renaming.dry_run {
-            write_move(session, from, to)?;
+        if moving.dry_run {
+            write_move(session, wanted, moving.copy)?;
             continue;
         }
-        match give_name(session.rt, renaming.copy, from, to) {
+        match give_name(session.rt, moving.copy, from, to) {
             Ok(Moved::Renamed) => folders.add(session.rt.alloc(), to)?,
             Ok(Moved::Copied(Attributes::Kept)) => {}
             Ok(Moved::Copied(Attributes::Lost)) => {
@@ -84,20 +94,22 @@ pub fn move_all<W: Sink, E: Sink>(
             Err(error) => return session.refuse(path, &error),
         }
         if !session.request.quiet {
-            write_move(session, from, to)?;
+            write_move(session, wanted, moving.copy)?;
+            session.out.flush().map_err(Stop::Output)?;
         }
     }
     Ok(Outcome::of_done(is_complete))
 }
 
-// Writes a line with both paths of a file.
+// Writes a line with both paths of a file, by which `--undo` finds them.
 fn write_move<W: Sink, E: Sink>(
     session: &mut Session<'_, '_, W, E>,
-    from: &str,
-    to: &str,
+    wanted: &Move,
+    copied: bool,
 ) -> Result<(), Stop> {
-    let (from, to) = (Escaped(from), Escaped(to));
-    let line = format!(in session.rt.alloc(); "{from} -> {to}\n")?;
+    let (from, to) = (wanted.from.as_str(), wanted.to.as_str());
+    let mut line = write_line(session.rt.alloc(), from, to, copied)?;
+    line.push('\n')?;
     session.answer(line.as_bytes())
 }
 

@@ -2,15 +2,12 @@
 
 use exif::{Error, Exif, Tag};
 use exif_decisions::is_own_name;
-use exif_rename::{Facts, Missing, Moment, Pattern, Taken, split_path};
-use exif_session::{exif_of, name_of};
+use exif_rename::{DateTag, Dates, Facts, Missing, Moment, Taken, split_path};
+use exif_session::{Renaming, exif_of, name_of};
 use exif_summary::{
     self as summary, CHANGED, DIGITIZED, TAKEN, find_date, find_fraction, find_text,
 };
 use std::alloc::{AllocError, Global};
-
-// The dates that a picture may have, the best first.
-const DATES: [summary::Moment; 3] = [TAKEN, DIGITIZED, CHANGED];
 
 /// The new name of a picture, or why it has none.
 #[derive(Drop)]
@@ -26,17 +23,17 @@ pub fn split_name(path: &str) -> (&str, &str) {
     split_path(path)
 }
 
-/// The new name of a file by a pattern, or what it lacks; or why it can't be read.
+/// The new name of a file by a pattern and its date, or what it lacks; or why it can't be read.
 pub fn new_name(
     rt: &HostRuntime,
-    pattern: &Pattern,
+    renaming: &Renaming<'_>,
     path: &str,
 ) -> Result<Result<Named, Error>, AllocError> {
     let alloc = rt.alloc();
     let (stem, _) = split_name(name_of(path));
     match exif_of(rt, path) {
-        Ok(exif) => Ok(Ok(name_by(alloc, pattern, Some(&exif), stem)?)),
-        Err(Error::NotFound(_)) => Ok(Ok(name_by(alloc, pattern, None, stem)?)),
+        Ok(exif) => Ok(Ok(name_by(alloc, renaming, Some(&exif), stem)?)),
+        Err(Error::NotFound(_)) => Ok(Ok(name_by(alloc, renaming, None, stem)?)),
         Err(error) => Ok(Err(error)),
     }
 }
@@ -44,33 +41,33 @@ pub fn new_name(
 // The new name by what is known of a picture. The program's own names are not given.
 fn name_by(
     alloc: Global,
-    pattern: &Pattern,
+    renaming: &Renaming<'_>,
     exif: Option<&Exif>,
     stem: &str,
 ) -> Result<Named, AllocError> {
-    let moment = moment_of(exif);
+    let moment = moment_of(exif, renaming.date);
     let facts = Facts {
         taken: moment.map(|moment| moment.taken),
         make: text_of(exif, Tag::Make),
         model: text_of(exif, Tag::Model),
         name: stem,
     };
-    match pattern.name(alloc, &facts)? {
+    match renaming.pattern.name(alloc, &facts)? {
         Ok(name) if is_own_name(name_of(name.as_str())) => Ok(Named::Missing(Missing::Name)),
         Ok(name) => Ok(Named::New(name, moment)),
         Err(missing) => Ok(Named::Missing(missing)),
     }
 }
 
-// When a picture was taken: DateTimeOriginal, else DateTimeDigitized, else DateTime.
-fn moment_of(exif: Option<&Exif>) -> Option<Moment> {
+// When a picture was taken, by the date that is chosen, or else the first that is known.
+fn moment_of(exif: Option<&Exif>, choice: Option<DateTag>) -> Option<Moment> {
     let exif = exif?;
-    for date in DATES {
-        if let Some(found) = moment_by(exif, date) {
-            return Some(found);
-        }
-    }
-    None
+    let dates = Dates {
+        original: moment_by(exif, TAKEN),
+        digitized: moment_by(exif, DIGITIZED),
+        changed: moment_by(exif, CHANGED),
+    };
+    dates.chosen(choice)
 }
 
 fn moment_by(exif: &Exif, which: summary::Moment) -> Option<Moment> {

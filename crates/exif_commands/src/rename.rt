@@ -1,9 +1,10 @@
 //! Files that get other names, by when and with which camera they were taken.
 
-use crate::moves::{Folders, move_all};
+use crate::moves::{Folders, Moving, move_all};
 use crate::names::{Named, new_name, split_name};
+use crate::present::{Sizes, There, find_there};
 use exif::Sink;
-use exif_decisions::{Found, NotRead, Outcome, ending_of};
+use exif_decisions::{Escaped, Found, NotRead, Outcome, ending_of};
 use exif_files::{HostFiles, Status, folder_of};
 use exif_rename::{
     Entry, Moment, PlanError, Shot, Wish, WishFile, compare_shots, group, plan_names, root_of,
@@ -41,6 +42,8 @@ enum Kind {
 #[derive(Drop)]
 struct Stem {
     wish: Wish,
+    // how many of its files, the first ones, are sidecars
+    sidecars: usize,
     // the path of its first picture, as it was named or found
     path: String,
     moment: Option<Moment>,
@@ -65,15 +68,32 @@ pub fn rename_files<W: Sink, E: Sink>(
             );
         }
     };
-    let (members, mut worst) = gather(session)?;
-    let members = members.as_slice();
-    let leaders = group(alloc, entries_of(alloc, members)?.as_slice())?;
+    let mut members = Vec::new(alloc);
+    let failed = gather(session, &mut members)?;
     let mut stems = Vec::new(alloc);
+    let left = add_stems(session, renaming, &into, members.as_slice(), &mut stems)?;
+    sort_stems(&mut stems)?;
+    let planned = carry_out(session, renaming, stems)?;
+    Ok(failed.or_worse(left).or_worse(planned))
+}
+
+// Plans the new names of all files, those of one stem together, and answers the worst status of
+// those that stay.
+fn add_stems<W: Sink, E: Sink>(
+    session: &mut Session<'_, '_, W, E>,
+    renaming: &Renaming<'_>,
+    into: &str,
+    members: &[Member],
+    stems: &mut Vec<Stem>,
+) -> Result<Status, Stop> {
+    let alloc = session.rt.alloc();
+    let leaders = group(alloc, entries_of(alloc, members)?.as_slice())?;
+    let mut worst = Status::Success;
     let mut together = Vec::new(alloc);
     let mut last = None;
     for (leader, _, index) in order_of(alloc, members, leaders.as_slice())? {
         if last != Some(leader) {
-            worst = worst.or_worse(add_stem(session, renaming, &into, &together, &mut stems)?);
+            worst = worst.or_worse(add_stem(session, renaming, into, &together, stems)?);
             together.clear();
             last = Some(leader);
         }
@@ -81,10 +101,7 @@ pub fn rename_files<W: Sink, E: Sink>(
             together.push(member)?;
         }
     }
-    worst = worst.or_worse(add_stem(session, renaming, &into, &together, &mut stems)?);
-    sort_stems(&mut stems)?;
-    let planned = carry_out(session, renaming, stems)?;
-    Ok(worst.or_worse(planned))
+    Ok(worst.or_worse(add_stem(session, renaming, into, &together, stems)?))
 }
 
 // Sorts stems by when their pictures were taken.
@@ -114,13 +131,12 @@ fn into_folder(rt: &HostRuntime, renaming: &Renaming<'_>) -> io::Result<String> 
     }
 }
 
-// All files of the run, and the worst status of names that lead to none.
+// Adds all files of the run, and answers the worst status of names that lead to none.
 fn gather<W: Sink, E: Sink>(
     session: &mut Session<'_, '_, W, E>,
-) -> Result<(Vec<Member>, Status), Stop> {
-    let alloc = session.rt.alloc();
-    let mut members = Vec::new(alloc);
-    let mut seen = BTreeSet::new(alloc);
+    members: &mut Vec<Member>,
+) -> Result<Status, Stop> {
+    let mut seen = BTreeSet::new(session.rt.alloc());
     let mut worst = Status::Success;
     for _ in 0..u64::MAX {
         let Some(next) = session.next_chosen()? else {
@@ -130,16 +146,16 @@ fn gather<W: Sink, E: Sink>(
             Next::Input => refuse(session, "-", &"standard input has no name")?,
             Next::Failed(path, cause) => refuse(session, path.as_str(), &cause)?,
             Next::Named(path) | Next::Found(path) => {
-                add_file(session, &mut members, &mut seen, path, Kind::Picture)?
+                add_file(session, members, &mut seen, path, Kind::Picture)?
             }
             Next::Beside(path, why) => {
-                add_file(session, &mut members, &mut seen, path, Kind::Beside(why))?
+                add_file(session, members, &mut seen, path, Kind::Beside(why))?
             }
         };
         worst = worst.or_worse(status);
     }
-    add_sidecars(session.rt, &mut members, &mut seen)?;
-    Ok((members, worst))
+    add_sidecars(session.rt, members, &mut seen)?;
+    Ok(worst)
 }
 
 // Adds a file, once however often it is named.
@@ -252,11 +268,12 @@ fn add_stem<W: Sink, E: Sink>(
         if !matches!(member.kind, Kind::Picture) {
             continue;
         }
-        match new_name(session.rt, &renaming.pattern, member.key.as_str())? {
+        match new_name(session.rt, renaming, member.key.as_str())? {
             Ok(Named::New(name, moment)) => {
-                let stem = stem_of(session.rt.alloc(), into, together, member, name.as_str())?;
+                let wish = wish_of(session.rt.alloc(), into, together, member, name.as_str())?;
                 stems.push(Stem {
-                    wish: stem,
+                    wish,
+                    sidecars: count_sidecars(together),
                     path: member.path.clone()?,
                     moment,
                 })?;
@@ -283,7 +300,7 @@ fn leave_all<W: Sink, E: Sink>(
         let path = member.path.as_str();
         match member.kind {
             Kind::Picture => {
-                let named = new_name(session.rt, &renaming.pattern, member.key.as_str())?;
+                let named = new_name(session.rt, renaming, member.key.as_str())?;
                 if let Ok(Named::Missing(missing)) = named {
                     let outcome = session.leave(path, &missing)?;
                     worst = worst.or_worse(session.count(outcome));
@@ -300,8 +317,19 @@ fn leave_all<W: Sink, E: Sink>(
     Ok(worst)
 }
 
+// How many files are sidecars.
+fn count_sidecars(together: &[&Member]) -> usize {
+    let mut count = 0usize;
+    for member in together {
+        if is_sidecar(member.kind) {
+            count = count.saturating_add(1);
+        }
+    }
+    count
+}
+
 // The new name that the files of a stem are to have, by that of one of them.
-fn stem_of(
+fn wish_of(
     alloc: Global,
     into: &str,
     together: &[&Member],
@@ -327,6 +355,16 @@ fn stem_of(
     Ok(Wish { base, files })
 }
 
+// The files that are to be planned.
+#[derive(Drop)]
+struct Planned {
+    wishes: Vec<Wish>,
+    // the path of the first picture of each, as it was named or found
+    paths: Vec<String>,
+    // the worst status of the others
+    worst: Status,
+}
+
 // Plans the numbers of the names, and moves the files or writes what would be moved.
 fn carry_out<W: Sink, E: Sink>(
     session: &mut Session<'_, '_, W, E>,
@@ -334,12 +372,15 @@ fn carry_out<W: Sink, E: Sink>(
     stems: Vec<Stem>,
 ) -> Result<Status, Stop> {
     let alloc = session.rt.alloc();
-    let mut wishes = Vec::new(alloc);
-    let mut paths = Vec::new(alloc);
-    for Stem { wish, path, .. } in stems {
-        wishes.push(wish)?;
-        paths.push(path)?;
-    }
+    let moving = Moving {
+        copy: renaming.copy,
+        dry_run: renaming.dry_run,
+    };
+    let Planned {
+        wishes,
+        paths,
+        mut worst,
+    } = leave_there(session, renaming, stems)?;
     let numbers = match plan_names(alloc, &mut HostFiles::new(session.rt), wishes.as_slice()) {
         Ok(numbers) => numbers,
         Err(PlanError::OutOfMemory) => return Err(Stop::OutOfMemory),
@@ -350,7 +391,6 @@ fn carry_out<W: Sink, E: Sink>(
         }
         Err(error) => return refuse(session, "", &error),
     };
-    let mut worst = Status::Success;
     let mut moved = Folders::new(alloc);
     for ((path, wish), number) in paths.iter().zip(wishes.iter()).zip(numbers.iter()) {
         let moves = wish.moves(alloc, *number)?;
@@ -358,12 +398,68 @@ fn carry_out<W: Sink, E: Sink>(
         let outcome = if moves.is_empty() {
             Outcome::Current
         } else {
-            move_all(session, renaming, &mut moved, path, moves.as_slice())?
+            move_all(session, moving, &mut moved, path, moves.as_slice())?
         };
         worst = worst.or_worse(session.count(outcome));
     }
     let settled = moved.settle(session)?;
     Ok(worst.or_worse(settled))
+}
+
+// The files that are to be planned: not those of which another folder, or a copy, has the bytes by
+// one of their new names already. These are left and reported.
+fn leave_there<W: Sink, E: Sink>(
+    session: &mut Session<'_, '_, W, E>,
+    renaming: &Renaming<'_>,
+    stems: Vec<Stem>,
+) -> Result<Planned, Stop> {
+    let alloc = session.rt.alloc();
+    let mut sizes = Sizes::new(alloc);
+    let mut planned = Planned {
+        wishes: Vec::new(alloc),
+        paths: Vec::new(alloc),
+        worst: Status::Success,
+    };
+    for stem in stems {
+        if renaming.copy || renaming.into.is_some() {
+            let found = find_there(session.rt, &mut sizes, &stem.wish, stem.sidecars)?;
+            if let Some(there) = found {
+                let outcome = report_there(session, renaming.copy, stem.path.as_str(), &there)?;
+                planned.worst = planned.worst.or_worse(session.count(outcome));
+                continue;
+            }
+        }
+        planned.wishes.push(stem.wish)?;
+        planned.paths.push(stem.path)?;
+    }
+    Ok(planned)
+}
+
+// Reports that the files of a stem are there already. All is done where they were to be copied and
+// each is there; a file that was to be moved, and a sidecar that differs, stays where it is.
+fn report_there<W: Sink, E: Sink>(
+    session: &mut Session<'_, '_, W, E>,
+    copy: bool,
+    path: &str,
+    there: &There,
+) -> Result<Outcome, Stop> {
+    let alloc = session.rt.alloc();
+    let to = Escaped(there.to.as_str());
+    let what = format!(in alloc; "already there: {to}")?;
+    if !copy || !session.request.quiet {
+        session.say(path, &what)?;
+    }
+    for sidecar in there.differing.iter() {
+        let to = Escaped(sidecar.to.as_str());
+        let what = format!(in alloc;
+            "left, as its picture is there already; it differs from {to}"
+        )?;
+        session.say(sidecar.from.as_str(), &what)?;
+    }
+    if copy && there.differing.is_empty() {
+        return Ok(Outcome::Current);
+    }
+    Ok(Outcome::Unchanged)
 }
 
 fn refuse<W: Sink, E: Sink, T: std::fmt::Display>(

@@ -8,6 +8,7 @@ pub mod NestedSteps
 pub mod Copying
 pub mod Away
 pub mod Slashes
+pub mod Undone
 pub mod Searches
 pub mod Begun
 pub mod Numbered

@@ -1,5 +1,5 @@
 -- Worked examples: patterns, names and plans.
-use Rattle.std.specs.Prelude.{◌≡◌, refl, ℕ, List, [], ◌∷◌, Bool, true, false, not, None, Some, Ok, Err, codes}
+use Rattle.std.specs.Prelude.{◌≡◌, refl, ℕ, List, [], ◌∷◌, ◌++◌, Bool, true, false, not, None, Some, Ok, Err, codes}
 use Rattle.std.specs.Char.{encode_utf8}
 use Rattle.std.specs.Fmt.{digits}
 use Rattle.std.specs.Str.{chars, trim_end, trim_start}
@@ -11,6 +11,7 @@ use Rattle.exif_rename.specs.Nested.{folders_of}
 use Rattle.exif_rename.specs.Orders.{dated_cmp, moment_cmp}
 use Rattle.exif_rename.specs.Patterns.{parsed}
 use Rattle.exif_rename.specs.Planned.{fit_from, own_from, planned}
+use Rattle.exif_rename.specs.Undo.{line_of}
 use Rattle.exif_rename.specs.Unused.{unused, unused_from}
 use Rattle.exif_rename.specs.Wishes.{Wanted, moves_by}
 use Rattle.exif_rename.specs.declared.naming.Missing.TheVariants as missing
@@ -146,6 +147,18 @@ third_of_its_name : unused (λ q. is_among q (codes "a.png_1.jpg" ∷ codes "a.p
     (codes "a.png") (codes ".jpg") ≡ Some (codes "a.png_2.jpg")
 unfolding unused_from digits
 third_of_its_name = refl
+
+-- ---- the lines of a run
+
+moved_line : line_of false (codes "/a b.jpg") (codes "/c.jpg") ≡ codes "/a b.jpg -> /c.jpg"
+unfolding chars encode_utf8
+moved_line = refl
+
+-- a path with an arrow and a line feed (10)
+coded_line : line_of true (codes "/a -> b") (47 ∷ 10 ∷ [])
+    ≡ codes "/a -" ++ (92 ∷ codes "x3e b => /") ++ (92 ∷ codes "x0a")
+unfolding chars encode_utf8
+coded_line = refl
 
 -- ---- the order of pictures
 

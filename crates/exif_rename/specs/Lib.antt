@@ -1,4 +1,5 @@
 pub mod Apart
+pub mod Dates
 pub mod Examples
 pub mod Failures
 pub mod Grouped
@@ -9,7 +10,9 @@ pub mod Nested
 pub mod Orders
 pub mod Patterns
 pub mod Planned
+pub mod Present
 pub mod Starts
+pub mod Undo
 pub mod Unused
 pub mod Views
 pub mod Wishes

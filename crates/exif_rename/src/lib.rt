@@ -1,6 +1,7 @@
 //! Files that get new names: the plan of new paths, and the moves.
 #![tactic(auto)]
 
+mod dates;
 mod grouping;
 pub mod laws;
 mod moving;
@@ -9,10 +10,13 @@ mod nested;
 mod order;
 mod pattern;
 mod plan;
+mod present;
 mod starts;
+mod undo;
 mod unused;
 mod wish;
 
+pub use dates::{DateTag, Dates};
 pub use grouping::{Entry, group, split_path};
 pub use moving::{Attributes, Moved, copy_file, move_file};
 pub use naming::{Facts, Missing, Taken};
@@ -20,5 +24,7 @@ pub use nested::root_of;
 pub use order::{Moment, Shot, compare_shots};
 pub use pattern::{DatePart, Fault, Part, Pattern, PatternError};
 pub use plan::{PlanError, plan_names};
+pub use present::{Presence, are_there};
+pub use undo::{Step, parse_line, write_line};
 pub use unused::give_unused;
-pub use wish::{Move, Wish, WishFile};
+pub use wish::{Move, Wish, WishFile, candidate};

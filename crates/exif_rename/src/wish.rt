@@ -44,8 +44,8 @@ pub(crate) fn joined(alloc: Global, front: &str, back: &str) -> Result<String, A
     format!(in alloc; "{front}{back}")
 }
 
-// The candidate of a number: the base itself, `base_1`, `base_2` and so on.
-pub(crate) fn candidate(alloc: Global, base: &str, number: u32) -> Result<String, AllocError>
+/// The candidate of a number: the base itself, `base_1`, `base_2` and so on.
+pub fn candidate(alloc: Global, base: &str, number: u32) -> Result<String, AllocError>
     ensures { IfOk result (λ name. string_bytes name ≡ candidate base.now number) }
 {
     if number == 0 {

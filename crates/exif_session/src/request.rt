@@ -10,7 +10,7 @@ use exif_columns::{self as columns, Separator};
 use exif_copy::Selection;
 use exif_files::Keeping;
 use exif_formats::Options;
-use exif_rename::Pattern;
+use exif_rename::{DateTag, Pattern};
 use exif_select::Choice;
 
 /// What the arguments request.
@@ -51,6 +51,8 @@ pub enum Task<'a> {
     Thumbnails(&'a str, bool),
     /// It gets another name.
     Rename(Renaming<'a>),
+    /// It has the lines of a run of `rename`, which is taken back; whether the names are written only.
+    Undo(bool),
     /// Its modification time is set to when it was taken; the offset from UTC, as `+hh:mm`, of
     /// pictures that name none.
     Touch(&'a str),
@@ -68,6 +70,7 @@ impl Task<'_> {
         match self {
             Task::Change(..) | Task::Geotag(_) => "changed",
             Task::Rename(renaming) => renaming.verb(),
+            Task::Undo(_) => "undone",
             Task::Touch(_) => "touched",
             Task::Copy(_) => "changed",
             Task::Show(_) | Task::Json(..) | Task::Summary(_) | Task::Check(..) => "read",
@@ -112,7 +115,7 @@ impl Task<'_> {
         match self {
             Task::Show(_) | Task::Json(..) | Task::Summary(_) | Task::Rename(_) => Use::Fields,
             Task::Thumbnail(..) | Task::Thumbnails(..) | Task::Touch(_) => Use::Fields,
-            Task::Table(_) | Task::Catalog(_) => Use::Fields,
+            Task::Table(_) | Task::Catalog(_) | Task::Undo(_) => Use::Fields,
             Task::Check(..) | Task::Change(..) | Task::Geotag(_) | Task::Copy(_) => Use::Parts,
         }
     }
@@ -184,6 +187,8 @@ pub struct Geotagging<'a> {
 pub struct Renaming<'a> {
     /// What the names are made of.
     pub pattern: Pattern,
+    /// The date that gives the names; the first that is known if none is chosen.
+    pub date: Option<DateTag>,
     /// The folder that they are in; that of each file if there is none.
     pub into: Option<&'a str>,
     /// Whether the old files stay.

@@ -269,15 +269,19 @@ fn copy<'a>(alloc: Global) -> Result<Command<'a>, AllocError> {
 fn rename<'a>(alloc: Global) -> Result<Command<'a>, AllocError> {
     let command = Command::new(alloc, "rename")
         .about("Rename or move pictures by date and camera")
-        .override_usage("mexaldor rename [OPTIONS] PATTERN PATH...")
+        .override_usage(
+            "mexaldor rename [OPTIONS] PATTERN PATH...\n       mexaldor rename [--dry-run] --undo FILE",
+        )
         .after_help(
-            "PATTERN has %Y %m %d %H %M %S (when the picture was taken), %y, %%, {Make}, {Model} and {Name}; a / makes folders. Each file keeps its extension, and its sidecars go along. Where names are equal, _1, _2 and so on are added. No file is ever overwritten.",
+            "PATTERN has %Y %m %d %H %M %S (when the picture was taken), %y, %%, {Make}, {Model} and {Name}; a / makes folders. Each file keeps its extension, and its sidecars go along. Where names are equal, _1, _2 and so on are added. No file is ever overwritten. What is printed, --undo takes back.",
         )
         .arg(options::into(
             alloc,
             "Put the new names below FOLDER instead of the folder of each file",
         ))?
         .arg(options::flag(alloc, "copy", "Copy the files instead of renaming them"))?
+        .arg(options::date_tag(alloc))?
+        .arg(options::undo(alloc))?
         .arg(options::flag(
             alloc,
             "dry-run",
@@ -286,7 +290,6 @@ fn rename<'a>(alloc: Global) -> Result<Command<'a>, AllocError> {
         .arg(
             Arg::new(alloc, "pattern")
                 .value_name("PATTERN")
-                .required(true)
                 .help("The new name, e.g. %Y/%m/%Y%m%d_%H%M%S"),
         )?;
     many(alloc, command)?.arg(options::words(alloc, "PATH", "Pictures, or with -r folders"))

@@ -5,7 +5,7 @@ use crate::tags::tags_in;
 use clap::ArgMatches;
 use exif_columns::{self as columns, Separator};
 use exif_decisions::Escaped;
-use exif_rename::Pattern;
+use exif_rename::{DateTag, Pattern};
 use exif_session::{Cataloguing, Geotagging, Renaming, Request, Table, Task};
 use exif_track::exif_time_of;
 use std::alloc::{AllocError, Global};
@@ -67,7 +67,16 @@ pub fn rename_of<'a>(
     alloc: Global,
     matches: &ArgMatches<'a>,
 ) -> Result<Result<Request<'a>, Wrong>, AllocError> {
-    let text = matches.get_str("pattern").unwrap_or("");
+    if let Some(file) = matches.get_str("undo") {
+        return undo_of(alloc, matches, file);
+    }
+    let Some(text) = matches.get_str("pattern") else {
+        return wrong(alloc, "expected PATTERN PATH..., or --undo FILE");
+    };
+    let date = match date_tag_of(alloc, matches)? {
+        Ok(date) => date,
+        Err(wrong) => return Ok(Err(wrong)),
+    };
     let pattern = match Pattern::parse(alloc, text)? {
         Ok(pattern) => pattern,
         Err(error) => {
@@ -77,12 +86,57 @@ pub fn rename_of<'a>(
     };
     let renaming = Renaming {
         pattern,
+        date,
         into: matches.get_str("into"),
         copy: matches.get_flag("copy"),
         dry_run: matches.get_flag("dry-run"),
     };
     let files = words_of(alloc, matches)?;
     request(alloc, Task::Rename(renaming), matches, files)
+}
+
+// The date that gives new names, if one is chosen.
+fn date_tag_of(
+    alloc: Global,
+    matches: &ArgMatches<'_>,
+) -> Result<Result<Option<DateTag>, Wrong>, AllocError> {
+    let Some(text) = matches.get_str("date") else {
+        return Ok(Ok(None));
+    };
+    match DateTag::named(text) {
+        Some(tag) => Ok(Ok(Some(tag))),
+        None => {
+            let text = Escaped(text);
+            Ok(Err(format!(in alloc;
+                "unknown date '{text}'; expected DateTimeOriginal, DateTimeDigitized (or CreateDate) or DateTime (or ModifyDate)"
+            )?))
+        }
+    }
+}
+
+// The run that takes back the one whose lines a file has.
+fn undo_of<'a>(
+    alloc: Global,
+    matches: &ArgMatches<'a>,
+    file: &'a str,
+) -> Result<Result<Request<'a>, Wrong>, AllocError> {
+    let has_name = ["pattern", "into", "date"]
+        .iter()
+        .any(|id| matches.get_str(id).is_some());
+    let has_files = !words_of(alloc, matches)?.is_empty();
+    if has_name || has_files || matches.get_flag("copy") || takes_many(matches) {
+        return wrong(
+            alloc,
+            "--undo FILE takes no other argument but --dry-run and --quiet",
+        );
+    }
+    let files = Vec::from_slice(alloc, &[file])?;
+    request(
+        alloc,
+        Task::Undo(matches.get_flag("dry-run")),
+        matches,
+        files,
+    )
 }
 
 // The offset from UTC of pictures that name none.

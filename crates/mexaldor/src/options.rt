@@ -127,6 +127,20 @@ pub fn into<'a>(alloc: Global, help: &'a str) -> Arg<'a> {
         .help(help)
 }
 
+/// The date that gives new names.
+pub fn date_tag<'a>(alloc: Global) -> Arg<'a> {
+    Arg::new(alloc, "date").long("date").value_name("TAG").help(
+        "Take the date from TAG alone: DateTimeOriginal, DateTimeDigitized (or CreateDate), DateTime (or ModifyDate) [default: the first of these that is there]",
+    )
+}
+
+/// The lines of a run that is taken back.
+pub fn undo<'a>(alloc: Global) -> Arg<'a> {
+    Arg::new(alloc, "undo").long("undo").value_name("FILE").help(
+        "Give files their old names back: FILE has what a run printed, - is standard input",
+    )
+}
+
 /// The tags that are asked for.
 pub fn tags<'a>(alloc: Global) -> Arg<'a> {
     Arg::new(alloc, "tags")
