@@ -32,10 +32,10 @@ pub fn time_of_picture(exif: &Exif, zone: &[u8]) -> Option<u64>
 }
 
 /// The location of a track at the time of a picture; `None` where the picture has no date, or the
-/// track has no location at its time.
-pub fn fix_of_picture(exif: &Exif, zone: &[u8], track: &Track) -> Option<Fix>
-    ensures { result ≡ fix_in exif.now.fields zone.now track.now.points }
+/// track has no location at its time: its points around that may be `max_gap` milliseconds apart.
+pub fn fix_of_picture(exif: &Exif, zone: &[u8], track: &Track, max_gap: u64) -> Option<Fix>
+    ensures { result ≡ fix_in exif.now.fields zone.now max_gap track.now.points }
 {
     let time = time_of_picture(exif, zone)?;
-    track.at(time)
+    track.at(time, max_gap)
 }
