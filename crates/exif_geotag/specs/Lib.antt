@@ -1,1 +1,3 @@
 pub mod Located
+pub mod Replaced
+pub mod Stamps

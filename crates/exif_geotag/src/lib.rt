@@ -1,12 +1,17 @@
 //! Where a picture was taken, by the track of a GPS receiver.
 #![tactic(auto)]
 
+mod replaced;
+mod stamps;
+
 ghost use Rattle.std.specs.Prelude.{◌≡◌, option_map};
 ghost use Rattle.exif_geotag.specs.Located.{fix_in, text_or, time_in};
 
 use exif_summary::find_text;
 use exif_track::{Fix, Track, exif_time_of};
 use exif_types::{Exif, Tag};
+pub use replaced::stale_tags;
+pub use stamps::TimeStamp;
 
 // A text, or another where there is none.
 fn text_or<'a>(text: Option<&'a [u8]>, other: &'a [u8]) -> &'a [u8]
