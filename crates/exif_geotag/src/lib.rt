@@ -1,6 +1,8 @@
 //! Where a picture was taken, by the track of a GPS receiver.
 #![tactic(auto)]
 
+mod erasing;
+mod relocating;
 mod replaced;
 mod stamps;
 
@@ -10,6 +12,7 @@ ghost use Rattle.exif_geotag.specs.Located.{fix_in, text_or, time_in};
 use exif_summary::find_text;
 use exif_track::{Fix, Track, exif_time_of};
 use exif_types::{Exif, Tag};
+pub use relocating::{Relocated, Relocation, Unfinished, relocate};
 pub use replaced::stale_tags;
 pub use stamps::TimeStamp;
 
