@@ -129,7 +129,7 @@ fn location_by(exif: &Exif, geotagging: &Geotagging<'_>, track: &Track) -> Locat
     if !geotagging.overwrite && has_location(exif) {
         return Located::Unknown(HAS_LOCATION);
     }
-    match fix_of_picture(exif, zone, track) {
+    match fix_of_picture(exif, zone, track, geotagging.max_gap) {
         Some(fix) => Located::At(fix),
         None => Located::Unknown("no location is set: the track has none for its time"),
     }

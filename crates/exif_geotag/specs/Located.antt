@@ -20,6 +20,7 @@ time_in fields zone =
     option_and_then (λ date. exif_time_of date (text_or (text_found fields Exif 37521) [])
     (text_or (text_found fields Exif 36881) zone)) (text_found fields Exif 36867)
 
--- where it was taken
-abbrev pub fix_in : List Field → List ℕ → List Point → Option Fix
-fix_in fields zone points = option_and_then (λ time. fix_at time points) (time_in fields zone)
+-- where it was taken, by a track whose points may be so far apart
+abbrev pub fix_in : List Field → List ℕ → ℕ → List Point → Option Fix
+fix_in fields zone max_gap points =
+    option_and_then (λ time. fix_at max_gap time points) (time_in fields zone)

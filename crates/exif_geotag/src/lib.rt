@@ -1,12 +1,20 @@
 //! Where a picture was taken, by the track of a GPS receiver.
 #![tactic(auto)]
 
+mod erasing;
+mod relocating;
+mod replaced;
+mod stamps;
+
 ghost use Rattle.std.specs.Prelude.{◌≡◌, option_map};
 ghost use Rattle.exif_geotag.specs.Located.{fix_in, text_or, time_in};
 
 use exif_summary::find_text;
 use exif_track::{Fix, Track, exif_time_of};
 use exif_types::{Exif, Tag};
+pub use relocating::{Relocated, Relocation, Unfinished, relocate};
+pub use replaced::stale_tags;
+pub use stamps::TimeStamp;
 
 // A text, or another where there is none.
 fn text_or<'a>(text: Option<&'a [u8]>, other: &'a [u8]) -> &'a [u8]
@@ -32,10 +40,10 @@ pub fn time_of_picture(exif: &Exif, zone: &[u8]) -> Option<u64>
 }
 
 /// The location of a track at the time of a picture; `None` where the picture has no date, or the
-/// track has no location at its time.
-pub fn fix_of_picture(exif: &Exif, zone: &[u8], track: &Track) -> Option<Fix>
-    ensures { result ≡ fix_in exif.now.fields zone.now track.now.points }
+/// track has no location at its time: its points around that may be `max_gap` milliseconds apart.
+pub fn fix_of_picture(exif: &Exif, zone: &[u8], track: &Track, max_gap: u64) -> Option<Fix>
+    ensures { result ≡ fix_in exif.now.fields zone.now max_gap track.now.points }
 {
     let time = time_of_picture(exif, zone)?;
-    track.at(time)
+    track.at(time, max_gap)
 }

@@ -176,6 +176,9 @@ pub struct Geotagging<'a> {
     pub track: &'a str,
     /// The offset of the camera's clock from UTC, as `+hh:mm`, for pictures that name none.
     pub zone: &'a str,
+    /// How far two points of the track may be apart between which a picture is located, in
+    /// milliseconds.
+    pub max_gap: u64,
     /// Whether a location that a picture has already is replaced.
     pub overwrite: bool,
     /// What is kept of the old files.

@@ -1,6 +1,8 @@
 pub mod AtSteps
 pub mod CalendarSteps
+pub mod DaySteps
 pub mod FixSteps
+pub mod FormatSteps
 pub mod SortSteps
 pub mod StepSteps
 pub mod WalkSteps

@@ -12,8 +12,8 @@ use Rattle.exif_track.proofs.AtSteps.{at_between, at_last, at_none}
 
 -- ---- at a point
 
-at_time : (time : ℕ) (last next : Point) → last.time ≡ time → fix_before time last next ≡ Some (fix_of last)
-at_time time last next e = rw (eq-eqb last.time time e) refl
+at_time : (gap time : ℕ) (last next : Point) → last.time ≡ time → fix_before gap time last next ≡ Some (fix_of last)
+at_time gap time last next e = rw (eq-eqb last.time time e) refl
 
 last_at_time : (time : ℕ) (last : Point) → last.time ≡ time → fix_at_last time last ≡ Some (fix_of last)
 last_at_time time last e = rw (eq-eqb last.time time e) refl
@@ -38,37 +38,37 @@ reached_point ps k d up h last = record {
 }
 
 -- at the time of a point a track is at that point
-pub point_is_there : (ps : List Point) (k : ℕ) (d : Point) → AreInOrder ps → k < length ps
+pub point_is_there : (gap : ℕ) (ps : List Point) (k : ℕ) (d : Point) → AreInOrder ps → k < length ps
     → (k + 1 < length ps → (get_or ps k d).time < (get_or ps (k + 1) d).time)
-    → fix_at (get_or ps k d).time ps ≡ Some (fix_of (get_or ps k d))
-point_is_there ps k d up h last = go (nat_le (length ps) (suc k)) refl
+    → fix_at gap (get_or ps k d).time ps ≡ Some (fix_of (get_or ps k d))
+point_is_there gap ps k d up h last = go (nat_le (length ps) (suc k)) refl
   where
-    go : (b : Bool) → nat_le (length ps) (suc k) ≡ b → fix_at (get_or ps k d).time ps ≡ Some (fix_of (get_or ps k d))
+    go : (b : Bool) → nat_le (length ps) (suc k) ≡ b → fix_at gap (get_or ps k d).time ps ≡ Some (fix_of (get_or ps k d))
     go true e =
-        at_last (get_or ps k d).time (suc k) k ps d refl (reached_point ps k d up h last) (leb-true (length ps) (suc k) e)
+        at_last gap (get_or ps k d).time (suc k) k ps d refl (reached_point ps k d up h last) (leb-true (length ps) (suc k) e)
         ∙ last_at_time (get_or ps k d).time (get_or ps k d) refl
     go false e =
-        at_between (get_or ps k d).time (suc k) k ps d d refl (reached_point ps k d up h last) (leb-false (length ps) (suc k) e)
-        ∙ at_time (get_or ps k d).time (get_or ps k d) (get_or ps (suc k) d) refl
+        at_between gap (get_or ps k d).time (suc k) k ps d d refl (reached_point ps k d up h last) (leb-false (length ps) (suc k) e)
+        ∙ at_time gap (get_or ps k d).time (get_or ps k d) (get_or ps (suc k) d) refl
 
 -- ---- outside
 
 -- before all of its points a track is nowhere
-pub nothing_before : (ps : List Point) (time : ℕ) → ((k : ℕ) (d : Point) → k < length ps → time < (get_or ps k d).time) → fix_at time ps ≡ None
-nothing_before ps time h = at_none time 0 ps refl (record {
+pub nothing_before : (gap : ℕ) (ps : List Point) (time : ℕ) → ((k : ℕ) (d : Point) → k < length ps → time < (get_or ps k d).time) → fix_at gap time ps ≡ None
+nothing_before gap ps time h = at_none gap time 0 ps refl (record {
   within = omega arith;
   before = λ k d low. absurd (omega arith);
   after = λ k d low high. h k d high;
 })
 
 -- and behind all of them
-pub nothing_behind : (ps : List Point) (time : ℕ) → ((k : ℕ) (d : Point) → k < length ps → (get_or ps k d).time < time) → fix_at time ps ≡ None
-nothing_behind [] time h = refl
-nothing_behind (p ∷ ps) time h =
+pub nothing_behind : (gap : ℕ) (ps : List Point) (time : ℕ) → ((k : ℕ) (d : Point) → k < length ps → (get_or ps k d).time < time) → fix_at gap time ps ≡ None
+nothing_behind gap [] time h = refl
+nothing_behind gap (p ∷ ps) time h =
     let n : ℕ = length ps in
     let low : (get_or (p ∷ ps) n p).time < time = h n p (omega arith) in
     let other : eqb (get_or (p ∷ ps) n p).time time ≡ false = ne_eqb (get_or (p ∷ ps) n p).time time (λ e. omega arith) in
-    at_last time (suc n) n (p ∷ ps) p refl (record {
+    at_last gap time (suc n) n (p ∷ ps) p refl (record {
       within = omega arith;
       before = λ k d l. let t : (get_or (p ∷ ps) k d).time < time = h k d (omega arith) in omega arith;
       after = λ k d l m. absurd (omega arith);

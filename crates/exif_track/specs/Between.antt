@@ -48,21 +48,23 @@ abbrev pub fix_at_last : ℕ → Point → Option Fix
 fix_at_last time last = if last.time == time then Some (fix_of last) else None
 
 -- the location at a time before the next point: that of the last point if it is its time, else one
--- between the two, if they are at most five minutes apart
-abbrev pub fix_before : ℕ → Point → Point → Option Fix
-fix_before time last next =
+-- between the two, if they are no further apart than a gap
+abbrev pub fix_before : ℕ → ℕ → Point → Point → Option Fix
+fix_before max_gap time last next =
     if last.time == time then Some (fix_of last)
-    else (if nat_le (next.time - last.time) 300000 then Some (interpolated time last next)
+    else (if nat_le (next.time - last.time) max_gap then Some (interpolated time last next)
     else None)
 
 -- the location at a time, where the last point so far is at or before it
-abbrev pub fix_from : ℕ → Point → List Point → Option Fix
-fix_from time last [] = fix_at_last time last
-fix_from time last (next ∷ points) =
-    if nat_le next.time time then fix_from time next points else fix_before time last next
+abbrev pub fix_from : ℕ → ℕ → Point → List Point → Option Fix
+fix_from max_gap time last [] = fix_at_last time last
+fix_from max_gap time last (next ∷ points) =
+    if nat_le next.time time then fix_from max_gap time next points
+    else fix_before max_gap time last next
 
--- the location of a track at a time: `points` are in the order of their times
-abbrev pub fix_at : ℕ → List Point → Option Fix
-fix_at time [] = None
-fix_at time (first ∷ points) =
-    if nat_le first.time time then fix_from time first points else None
+-- the location of a track at a time: `points` are in the order of their times; none between two that
+-- are further apart than a gap
+abbrev pub fix_at : ℕ → ℕ → List Point → Option Fix
+fix_at max_gap time [] = None
+fix_at max_gap time (first ∷ points) =
+    if nat_le first.time time then fix_from max_gap time first points else None

@@ -1,22 +1,29 @@
 -- Worked examples, with values by hand.
-use Rattle.std.specs.Prelude.{◌≡◌, ℕ, ◌+◌, ◌*◌, List, [], ◌∷◌, ◌++◌, codes, Option, Some, None, Ok, Err, refl}
+use Rattle.std.specs.Prelude.{◌≡◌, ℕ, ◌+◌, ◌-◌, ◌*◌, Bool, true, false, List, [], ◌∷◌, ◌++◌, codes, Option, Some, None, Result, Ok, Err, refl}
 use Rattle.std.specs.Fmt.{digits}
-use Rattle.exif_locations.specs.declared.xmp.fault.Fault.TheVariants.{Cut}
+use Rattle.exif_locations.specs.declared.xmp.fault.Fault.TheVariants.{Malformed, Cut}
 use Rattle.exif_locations.specs.XmpNames.{is_location, is_word}
 use Rattle.exif_locations.specs.XmpTokens.{attribute_at, closing_at, content_at, declared_at, markup_at, opening_at, tag_at}
-use Rattle.exif_track.specs.declared.error.TrackError.TheVariants.{Xml, NotGpx, Empty}
+use Rattle.exif_track.specs.declared.error.TrackError.{TrackError}
+use Rattle.exif_track.specs.declared.error.TrackError.TheVariants.{Xml, Other, NotGpx, Empty}
+use Rattle.exif_track.specs.declared.format.OtherFormat.TheVariants.{Kml, Zip, Tcx, Nmea, Fit}
+use Rattle.exif_track.specs.declared.moment.Clock.{Clock}
+use Rattle.exif_track.specs.declared.moment.Moment.{Moment}
 use Rattle.exif_track.specs.declared.point.Fix.{Fix}
 use Rattle.exif_track.specs.declared.point.Point.{Point}
 use Rattle.exif_track.specs.Between.{between, fix_at, longitude_between}
 use Rattle.exif_track.specs.Calendar.{day_number, days_before_month, days_before_year}
 use Rattle.exif_track.specs.Elements.{element_at}
 use Rattle.exif_track.specs.FixTexts.{fix_text, zero_filled}
+use Rattle.exif_track.specs.Formats.{other_format}
+use Rattle.exif_track.specs.Gaps.{gap_in}
+use Rattle.exif_track.specs.Moments.{moment_at, moment_text, month_from, year_from}
 use Rattle.exif_track.specs.Numbers.{negative_of, number_of, positive_of}
 use Rattle.exif_track.specs.States.{enter, leave, with_attribute, with_text}
 use Rattle.exif_track.specs.Steps.{content_step, step_at, tag_step}
 use Rattle.exif_track.specs.Texts.{trimmed}
 use Rattle.exif_track.specs.Times.{clock_of, date_of, ended, exif_time_of, milliseconds_of, time_of, zone_of}
-use Rattle.exif_track.specs.Walks.{points_from, track_of}
+use Rattle.exif_track.specs.Walks.{TrackView, points_from, track_of}
 
 -- ---- numbers
 
@@ -63,6 +70,28 @@ two_points = refl
 pub no_text : number_of 900000000 10000000 (codes "") ≡ None
 unfolding negative_of positive_of
 no_text = refl
+
+-- ---- gaps
+
+pub a_gap : gap_in (codes "300") ≡ Some 300000
+unfolding gap_in
+a_gap = refl
+
+pub a_part_of_a_second : gap_in (codes "0.5") ≡ Some 500
+unfolding gap_in
+a_part_of_a_second = refl
+
+pub ten_days : gap_in (codes "864000") ≡ Some 864000000
+unfolding gap_in
+ten_days = refl
+
+pub longer_than_ten_days : gap_in (codes "864000.001") ≡ None
+unfolding gap_in
+longer_than_ten_days = refl
+
+pub a_gap_with_a_unit : gap_in (codes "5m") ≡ None
+unfolding gap_in
+a_gap_with_a_unit = refl
 
 -- ---- the calendar
 
@@ -151,11 +180,16 @@ before_the_antimeridian = refl
 pub back_over_the_antimeridian : longitude_between 1000000 3599000000 3 4 ≡ 3599500000
 back_over_the_antimeridian = refl
 
--- the location at a time of a track of three points, with a gap before the last one
-abbrev pub at_times : ℕ → Option Fix
-at_times time =
-    fix_at time (p 1000 900000000 1800000000 (Some 5)
+-- the location at a time of a track of three points, with a gap before the last one, where one of so
+-- many milliseconds is allowed
+abbrev pub within_gap : ℕ → ℕ → Option Fix
+within_gap max_gap time =
+    fix_at max_gap time (p 1000 900000000 1800000000 (Some 5)
     ∷ p 2000 900000010 1800000020 None ∷ p 400000 900000000 1800000000 None ∷ [])
+
+-- five minutes
+abbrev pub at_times : ℕ → Option Fix
+at_times = within_gap 300000
 
 pub before_the_first : at_times 999 ≡ None
 before_the_first = refl
@@ -170,6 +204,16 @@ half_way = refl
 
 pub in_a_gap : at_times 2001 ≡ None
 in_a_gap = refl
+
+pub in_a_gap_that_is_allowed : within_gap 398000 201000
+    ≡ Some (record { latitude = 900000005; longitude = 1800000010; elevation = None })
+in_a_gap_that_is_allowed = refl
+
+pub in_one_that_is_not : within_gap 397999 201000 ≡ None
+in_one_that_is_not = refl
+
+pub points_alone : within_gap 0 1500 ≡ None
+points_alone = refl
 
 pub at_the_last : at_times 400000
     ≡ Some (record { latitude = 900000000; longitude = 1800000000; elevation = None })
@@ -215,6 +259,7 @@ pub two_of_three_points : track_of a_file ≡ Ok (record {
   points = p (719528 * 86400000 + 1000) 940000000 1830000000 None
       ∷ p (719528 * 86400000 + 2000) 915000000 1780000000 (Some 1000007000) ∷ [];
   skipped = 1;
+  cut_off = false;
 })
 unfolding points_from step_at content_step tag_step enter leave with_text with_attribute element_at tag_at attribute_at content_at markup_at opening_at closing_at declared_at is_location is_word negative_of positive_of time_of ended milliseconds_of date_of clock_of zone_of days_before_month days_before_year
 two_of_three_points = refl
@@ -231,6 +276,94 @@ pub no_points : track_of (codes "<gpx></gpx>") ≡ Err Empty
 unfolding points_from step_at content_step tag_step enter leave with_text with_attribute element_at tag_at attribute_at content_at markup_at opening_at closing_at declared_at is_location is_word
 no_points = refl
 
-pub cut_off : track_of (codes "<gpx><trk>") ≡ Err (Xml Cut)
+pub cut_off_before_a_point : track_of (codes "<gpx><trk>") ≡ Err (Xml Cut)
 unfolding points_from step_at content_step tag_step enter leave with_text with_attribute element_at tag_at attribute_at content_at markup_at opening_at closing_at declared_at is_location is_word
-cut_off = refl
+cut_off_before_a_point = refl
+
+-- one point, and more behind it
+abbrev pub a_point_and : List ℕ → List ℕ
+a_point_and rest =
+    codes "<gpx><trkpt lat='1' lon='2'><time>1970-01-01T00:00:01Z</time></trkpt>" ++ rest
+
+-- the track of that point
+abbrev pub the_point : Bool → Result TrackView TrackError
+the_point cut_off = Ok (record {
+  points = p (719528 * 86400000 + 1000) 910000000 1820000000 None ∷ [];
+  skipped = 0;
+  cut_off = cut_off;
+})
+
+pub a_whole_file : track_of (a_point_and (codes "</gpx>")) ≡ the_point false
+unfolding points_from step_at content_step tag_step enter leave with_text with_attribute element_at tag_at attribute_at content_at markup_at opening_at closing_at declared_at is_location is_word negative_of positive_of time_of ended milliseconds_of date_of clock_of zone_of days_before_month days_before_year
+a_whole_file = refl
+
+pub cut_off_in_a_tag : track_of (a_point_and (codes "<trkpt la")) ≡ the_point true
+unfolding points_from step_at content_step tag_step enter leave with_text with_attribute element_at tag_at attribute_at content_at markup_at opening_at closing_at declared_at is_location is_word negative_of positive_of time_of ended milliseconds_of date_of clock_of zone_of days_before_month days_before_year
+cut_off_in_a_tag = refl
+
+pub cut_off_in_a_value : track_of (a_point_and (codes "<trkpt lat='3' lon='4"))
+    ≡ the_point true
+unfolding points_from step_at content_step tag_step enter leave with_text with_attribute element_at tag_at attribute_at content_at markup_at opening_at closing_at declared_at is_location is_word negative_of positive_of time_of ended milliseconds_of date_of clock_of zone_of days_before_month days_before_year
+cut_off_in_a_value = refl
+
+pub cut_off_in_a_time : track_of (a_point_and (codes "<trkpt lat='3' lon='4'><time>1970-01"))
+    ≡ the_point true
+unfolding points_from step_at content_step tag_step enter leave with_text with_attribute element_at tag_at attribute_at content_at markup_at opening_at closing_at declared_at is_location is_word negative_of positive_of time_of ended milliseconds_of date_of clock_of zone_of days_before_month days_before_year
+cut_off_in_a_time = refl
+
+pub cut_off_in_a_comment : track_of (a_point_and (codes "<!-- 2 > 1")) ≡ the_point true
+unfolding points_from step_at content_step tag_step enter leave with_text with_attribute element_at tag_at attribute_at content_at markup_at opening_at closing_at declared_at is_location is_word negative_of positive_of time_of ended milliseconds_of date_of clock_of zone_of days_before_month days_before_year
+cut_off_in_a_comment = refl
+
+pub not_well_formed : track_of (a_point_and (codes "<trkpt lat=3></trkpt></gpx>"))
+    ≡ Err (Xml Malformed)
+unfolding points_from step_at content_step tag_step enter leave with_text with_attribute element_at tag_at attribute_at content_at markup_at opening_at closing_at declared_at is_location is_word negative_of positive_of time_of ended milliseconds_of date_of clock_of zone_of days_before_month days_before_year
+not_well_formed = refl
+
+-- ---- other formats
+
+pub google_earth : track_of (codes "<?xml version='1.0'?><kml></kml>") ≡ Err (Other Kml)
+unfolding points_from step_at content_step tag_step enter leave with_text with_attribute element_at tag_at attribute_at content_at markup_at opening_at closing_at declared_at is_location is_word negative_of positive_of time_of ended milliseconds_of date_of clock_of zone_of days_before_month days_before_year
+google_earth = refl
+
+pub training_center : track_of (codes "<TrainingCenterDatabase>") ≡ Err (Other Tcx)
+unfolding points_from step_at content_step tag_step enter leave with_text with_attribute element_at tag_at attribute_at content_at markup_at opening_at closing_at declared_at is_location is_word negative_of positive_of time_of ended milliseconds_of date_of clock_of zone_of days_before_month days_before_year
+training_center = refl
+
+pub sentences : track_of (codes "@Sony\n$GPGGA,1") ≡ Err (Other Nmea)
+unfolding points_from step_at content_step content_at
+sentences = refl
+
+-- the header of a FIT file, and that of a zip archive
+pub fit : other_format (14 ∷ 16 ∷ 84 ∷ 8 ∷ 1 ∷ 0 ∷ 0 ∷ 0 ∷ codes ".FIT") ≡ Some Fit
+fit = refl
+
+pub zip : other_format (80 ∷ 75 ∷ 3 ∷ 4 ∷ 20 ∷ []) ≡ Some Zip
+zip = refl
+
+pub none_of_these : other_format (codes "P") ≡ None
+none_of_these = refl
+
+-- ---- the day and the clock of a time
+
+-- a time
+abbrev pub moment : ℕ → ℕ → ℕ → Clock → Moment
+moment year month day clock =
+    record { day = record { year = year; month = month; day = day }; clock = clock }
+
+-- 366 days are before the year 1
+pub a_time_of_the_year_1 : moment_at (366 * 86400000 + 3723456)
+    ≡ Some (moment 1 1 1 (record { hour = 1; minute = 2; second = 3; millisecond = 456 }))
+unfolding year_from month_from
+a_time_of_the_year_1 = refl
+
+pub a_leap_days_end : moment_at (1521 * 86400000 - 1)
+    ≡ Some (moment 4 2 29 (record { hour = 23; minute = 59; second = 59; millisecond = 999 }))
+unfolding year_from month_from
+a_leap_days_end = refl
+
+pub a_moments_text : moment_text (moment 2024 5 1
+    (record { hour = 2; minute = 30; second = 1; millisecond = 0 }))
+    ≡ codes "2024-05-01T02:30:01Z"
+unfolding zero_filled digits
+a_moments_text = refl

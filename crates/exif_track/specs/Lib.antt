@@ -1,8 +1,12 @@
 pub mod Between
 pub mod Calendar
 pub mod Elements
+pub mod Errors
 pub mod Examples
 pub mod FixTexts
+pub mod Formats
+pub mod Gaps
+pub mod Moments
 pub mod Numbers
 pub mod Reached
 pub mod Read

@@ -5,9 +5,6 @@ ghost use Rattle.exif_track.specs.Between.{between, elevation_between, fix_at_la
 
 use crate::point::{Fix, Point};
 
-// The longest gap between two points, in milliseconds.
-const MAX_GAP: u64 = 300_000;
-
 // All longitudes, in units of 1e-7 degree.
 const TURN: u64 = 3_600_000_000;
 
@@ -15,19 +12,17 @@ const TURN: u64 = 3_600_000_000;
 fn part_of(units: u64, part: u64, all: u64) -> u64
     requires some { 0 < all }
     requires part { part ≤ all }
-    requires short { all ≤ 300000 }
     requires units { units < 2 ^ 34 }
     ensures value { result ≡ units * part / all }
     ensures within { result ≤ units }
 {
-    units * part / all
+    (u128::from(units) * u128::from(part) / u128::from(all)) as u64
 }
 
 // The number at so many of all parts of the way between two, rounded towards the first.
 fn between(from: u64, to: u64, part: u64, all: u64) -> u64
     requires some { 0 < all }
     requires part { part ≤ all }
-    requires short { all ≤ 300000 }
     requires from { from < 2 ^ 33 }
     requires to { to < 2 ^ 33 }
     ensures value { result ≡ between from to part all }
@@ -56,7 +51,6 @@ fn wrapped(longitude: u64) -> u64
 fn longitude_between(from: u32, to: u32, part: u64, all: u64) -> u32
     requires some { 0 < all }
     requires part { part ≤ all }
-    requires short { all ≤ 300000 }
     ensures { result ≡ longitude_between from to part all }
 {
     let (from, to) = (u64::from(from), u64::from(to));
@@ -74,7 +68,6 @@ fn longitude_between(from: u32, to: u32, part: u64, all: u64) -> u32
 fn elevation_between(from: Option<u32>, to: Option<u32>, part: u64, all: u64) -> Option<u32>
     requires some { 0 < all }
     requires part { part ≤ all }
-    requires short { all ≤ 300000 }
     ensures { result ≡ elevation_between from to part all }
 {
     match (from, to) {
@@ -101,7 +94,6 @@ fn interpolated(time: u64, from: Point, to: Point) -> Fix
     requires order { from.time < to.time }
     requires after { from.time ≤ time }
     requires before { time ≤ to.time }
-    requires short { to.time - from.time ≤ 300000 }
     ensures { result ≡ interpolated time from to }
 {
     let part = time - from.time;
@@ -126,16 +118,16 @@ pub(crate) fn fix_at_last(time: u64, last: Point) -> Option<Fix>
 }
 
 /// The location at a time before the next point: that of the last point if it is its time, else one
-/// between the two, if they are at most five minutes apart.
-pub(crate) fn fix_before(time: u64, last: Point, next: Point) -> Option<Fix>
+/// between the two, if they are no further apart than `max_gap`.
+pub(crate) fn fix_before(max_gap: u64, time: u64, last: Point, next: Point) -> Option<Fix>
     requires after { last.time ≤ time }
     requires before { time < next.time }
-    ensures { result ≡ fix_before time last next }
+    ensures { result ≡ fix_before max_gap time last next }
 {
     if last.time == time {
         return Some(fix_of(last));
     }
-    if next.time - last.time <= MAX_GAP {
+    if next.time - last.time <= max_gap {
         Some(interpolated(time, last, next))
     } else {
         None

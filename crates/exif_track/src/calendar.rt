@@ -1,13 +1,26 @@
 //! The days of the calendar by their number (the Gregorian calendar, in the years 1 to 9999).
 
 ghost use Rattle.std.specs.Prelude.{◌≡◌, ◌*◌, ◌<◌, ◌≤◌, ◌^◌, IfSome};
-ghost use Rattle.exif_track.specs.Calendar.{day_number, days_before_month, days_before_year, days_in_month, is_day, is_leap};
+ghost use Rattle.exif_track.specs.Calendar.{day_number, days_before_month, days_before_year, days_in_month, days_in_year, is_day, is_leap};
+ghost use Rattle.exif_track.specs.Moments.{day_at, month_at, year_at};
+
+use crate::moment::Day;
+
+// The years of four digits.
+const YEARS: u16 = 10_000;
 
 // Whether a year has 366 days.
 fn is_leap(year: u64) -> bool
     ensures { result ≡ is_leap year }
 {
     year % 4 == 0 && (year % 100 != 0 || year % 400 == 0)
+}
+
+// The days of a year.
+fn days_in_year(year: u16) -> u64
+    ensures { result ≡ days_in_year year }
+{
+    if is_leap(u64::from(year)) { 366 } else { 365 }
 }
 
 // The days of a month.
@@ -63,4 +76,43 @@ pub(crate) fn day_number(year: u64, month: u64, day: u64) -> Option<u64>
         return None;
     }
     Some(days_before_year(year) + days_before_month(year, month - 1) + (day - 1))
+}
+
+// The year that has the day of this number, and how many days of the year are before it.
+fn year_at(day: u64) -> Option<(u16, u64)>
+    ensures { result ≡ year_at day }
+{
+    let mut rest = day;
+    for year in 0..YEARS {
+        let days = days_in_year(year);
+        if rest < days {
+            return Some((year, rest));
+        }
+        rest -= days;
+    }
+    None
+}
+
+// The month that has a day of a year, of which so many are before it, and the day of the month.
+fn month_at(year: u64, day: u64) -> Option<(u8, u8)>
+    ensures { result ≡ month_at year day }
+{
+    let mut rest = day;
+    for past in 0..12 {
+        let days = days_in_month(year, past + 1);
+        if rest < days {
+            return Some((past as u8 + 1, rest as u8 + 1));
+        }
+        rest -= days;
+    }
+    None
+}
+
+/// The day of a number, if it is before the year 10000.
+pub(crate) fn day_at(number: u64) -> Option<Day>
+    ensures { result ≡ day_at number }
+{
+    let (year, rest) = year_at(number)?;
+    let (month, day) = month_at(u64::from(year), rest)?;
+    Some(Day { year, month, day })
 }

@@ -21,8 +21,8 @@ pub(crate) enum Element {
     Other,
 }
 
-// How many bytes there are before the first one like this.
-fn until(mark: u8, text: &[u8]) -> usize
+/// How many bytes there are before the first one like this.
+pub(crate) fn until(mark: u8, text: &[u8]) -> usize
     ensures value { result ≡ until mark text.now }
     ensures within { result ≤ length text.now }
 {

@@ -1,9 +1,10 @@
 //! The points of a GPX file (GPX 1.0 and 1.1).
 
 ghost use Rattle.std.specs.Prelude.{◌≡◌, ◌+◌, ◌++◌, ◌<◌, ◌≤◌, ◌^◌, length, IfOk, OnOk};
-ghost use Rattle.exif_track.specs.Read.{read_points};
-ghost use Rattle.exif_track.specs.Walks.{fault_at_end, kept_of, points_of, skipped_of};
+ghost use Rattle.exif_track.specs.Read.{read_points, walked};
+ghost use Rattle.exif_track.specs.Walks.{ended_at, is_cut, is_cut_markup, kept_of, points_of, refused_at, skipped_of};
 
+use crate::element::until;
 use crate::error::TrackError;
 use crate::point::Point;
 use crate::state::{Found, State};
@@ -16,6 +17,14 @@ use std::alloc::{AllocError, Global};
 pub(crate) struct Points {
     pub(crate) kept: Vec<Point>,
     pub(crate) skipped: usize,
+}
+
+/// What was read of a file.
+#[derive(Drop)]
+pub(crate) struct Read {
+    pub(crate) points: Points,
+    /// Whether the file is cut off behind them.
+    pub(crate) cut_off: bool,
 }
 
 // Adds what the end of an element has completed.
@@ -32,23 +41,62 @@ fn add(points: &mut Points, found: Found) -> Result<(), AllocError>
     Ok(())
 }
 
-// Why a file may not end in a state.
-fn fault_at_end(state: State) -> Option<TrackError>
-    ensures { result ≡ fault_at_end state }
+// Whether a token that is refused is the cut end of a file: within the root element, its markup
+// ends too early, or none ends behind it.
+fn is_cut(state: State, rest: &[u8], error: TrackError) -> bool
+    ensures { result ≡ is_cut state rest.now error }
+{
+    0 < state.depth && (is_cut_markup(error) || rest.len() <= until(b'>', rest))
+}
+
+// Whether markup ends too early.
+fn is_cut_markup(error: TrackError) -> bool
+    ensures { result ≡ is_cut_markup error }
+{
+    match error {
+        TrackError::Xml(fault) => fault == Fault::Cut,
+        _ => false,
+    }
+}
+
+// Whether a file is cut off where a token is refused; or the refusal.
+fn refused_at(state: State, rest: &[u8], error: TrackError) -> Result<bool, TrackError>
+    ensures { result ≡ refused_at state rest.now error }
+{
+    if is_cut(state, rest, error) {
+        Ok(true)
+    } else {
+        Err(error)
+    }
+}
+
+// Whether a file is cut off where it ends; it is refused before its first element.
+fn ended_at(state: State) -> Result<bool, TrackError>
+    ensures { result ≡ ended_at state }
 {
     if state.in_tag || 0 < state.depth {
-        return Some(TrackError::Xml(Fault::Cut));
+        return Ok(true);
     }
     if state.rooted {
-        None
+        Ok(false)
     } else {
-        Some(TrackError::NotGpx)
+        Err(TrackError::NotGpx)
+    }
+}
+
+// The points that were read up to an end.
+fn walked(points: Points, end: Result<bool, TrackError>) -> Result<Read, TrackError>
+    ensures { read_points result ≡ walked points.kept.items points.skipped end }
+{
+    match end {
+        Ok(cut_off) => Ok(Read { points, cut_off }),
+        Err(error) => Err(error),
     }
 }
 
 /// The points of a file in the order of their elements. It takes memory for the points, and the
 /// time of one pass.
-pub(crate) fn points_of(alloc: Global, gpx: &[u8]) -> Result<Result<Points, TrackError>, AllocError>
+pub(crate) fn points_of(alloc: Global, gpx: &[u8]) -> Result<Result<Read, TrackError>, AllocError>
     ensures { IfOk result (λ answer. read_points answer ≡ points_of gpx.now) }
 {
     let mut points = Points {
@@ -60,14 +108,11 @@ pub(crate) fn points_of(alloc: Global, gpx: &[u8]) -> Result<Result<Points, Trac
     while at < gpx.len() {
         let next = match next_step(state, &gpx[at..]) {
             Ok(next) => next,
-            Err(error) => return Ok(Err(error)),
+            Err(error) => return Ok(walked(points, refused_at(state, &gpx[at..], error))),
         };
         add(&mut points, next.found)?;
         state = next.state;
         at += next.len;
     }
-    match fault_at_end(state) {
-        Some(error) => Ok(Err(error)),
-        None => Ok(Ok(points)),
-    }
+    Ok(walked(points, ended_at(state)))
 }

@@ -9,21 +9,21 @@ ghost use Rattle.exif_track.specs.declared.point.Point.{Point};
 
 /// At the time of a point a track is at that point; of points of one time, at the last one.
 pub fn a_point_is_on_the_track()
-    ensures { (points : List Point) (k : ℕ) (d : Point) → AreInOrder points → k < length points
+    ensures { (max_gap : ℕ) (points : List Point) (k : ℕ) (d : Point) → AreInOrder points → k < length points
         → (k + 1 < length points
         → (slice_index_or points k d).time < (slice_index_or points (k + 1) d).time)
-        → fix_at (slice_index_or points k d).time points
+        → fix_at max_gap (slice_index_or points k d).time points
         ≡ Some (fix_of (slice_index_or points k d)) }
 {}
 
 /// Before all of its points a track is nowhere, and behind all of them too.
 pub fn a_track_is_nowhere_else()
-    ensures before { (points : List Point) (time : ℕ)
+    ensures before { (max_gap : ℕ) (points : List Point) (time : ℕ)
         → ((k : ℕ) (d : Point) → k < length points → time < (slice_index_or points k d).time)
-        → fix_at time points ≡ None }
-    ensures behind { (points : List Point) (time : ℕ)
+        → fix_at max_gap time points ≡ None }
+    ensures behind { (max_gap : ℕ) (points : List Point) (time : ℕ)
         → ((k : ℕ) (d : Point) → k < length points → (slice_index_or points k d).time < time)
-        → fix_at time points ≡ None }
+        → fix_at max_gap time points ≡ None }
 {}
 
 /// Between two points the latitude is between theirs.

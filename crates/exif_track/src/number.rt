@@ -60,8 +60,8 @@ fn begins_number(text: &[u8]) -> bool
     first.is_ascii_digit() || first == b'.' && byte_at(text, 1).is_ascii_digit()
 }
 
-// A number without a sign.
-fn decimal_of(scale: u64, text: &[u8]) -> Option<u64>
+/// A number without a sign: digits, and a fraction behind a point, in units of which `scale` are one.
+pub(crate) fn decimal_of(scale: u64, text: &[u8]) -> Option<u64>
     requires { scale ≤ 10000000 }
     ensures { result ≡ decimal_of scale text.now }
 {

@@ -16,10 +16,11 @@ fn reached(time: u64, points: &[Point]) -> usize
     points.partition_point(|point| point.time <= time)
 }
 
-/// The location at a time of a track with these points, in the order of their times.
-pub(crate) fn fix_at(time: u64, points: &[Point]) -> Option<Fix>
+/// The location at a time of a track with these points, in the order of their times; none between
+/// two that are further apart than `max_gap`.
+pub(crate) fn fix_at(max_gap: u64, time: u64, points: &[Point]) -> Option<Fix>
     requires { AreInOrder points.now }
-    ensures { result ≡ fix_at time points.now }
+    ensures { result ≡ fix_at max_gap time points.now }
 {
     let next = reached(time, points);
     if next == 0 {
@@ -27,7 +28,7 @@ pub(crate) fn fix_at(time: u64, points: &[Point]) -> Option<Fix>
     }
     let last = points[next - 1];
     if next < points.len() {
-        fix_before(time, last, points[next])
+        fix_before(max_gap, time, last, points[next])
     } else {
         fix_at_last(time, last)
     }

@@ -1,11 +1,14 @@
 //! A track: its points in the order of their times, and where it was at one.
 
 ghost use Rattle.std.specs.Prelude.{◌≡◌};
+ghost use Rattle.exif_track.specs.Walks.{without_points};
 
 use crate::error::TrackError;
-use crate::gpx::points_of;
+use crate::format::other_format;
+use crate::gpx::{Points, Read, points_of};
 use crate::point::{Fix, Point};
 use crate::search::fix_at;
+use exif_locations::xmp::Fault;
 use std::alloc::{AllocError, Global};
 use std::marker::Model;
 
@@ -14,6 +17,7 @@ use std::marker::Model;
 pub struct Track {
     points: Vec<Point>,
     skipped: usize,
+    cut_off: bool,
 }
 
 impl Model for Track {
@@ -22,9 +26,24 @@ impl Model for Track {
 
     ghost Value = { TrackView };
 
-    ghost view = { λ track. record { points = track.points.items; skipped = track.skipped } };
+    ghost view = { λ track. record {
+      points = track.points.items;
+      skipped = track.skipped;
+      cut_off = track.cut_off;
+    } };
 
     ghost invariant = { λ track. AreInOrder track.points.items };
+}
+
+// Why a file without a point is no track.
+fn without_points(cut_off: bool) -> TrackError
+    ensures { result ≡ without_points cut_off }
+{
+    if cut_off {
+        TrackError::Xml(Fault::Cut)
+    } else {
+        TrackError::Empty
+    }
 }
 
 impl Track {
@@ -36,28 +55,38 @@ impl Track {
     /// The track of a GPX file, version 1.0 or 1.1: its elements `trkpt`, of all tracks and
     /// segments, in the order of their times. Other elements are ignored. A point is skipped,
     /// and counted, if it has no time, latitude or longitude, or one that can't be read or is out
-    /// of range. Of an elevation that can't be read nothing is known. An error says why the file is
-    /// no track. It takes memory for the points, and for half of them again while they are sorted.
+    /// of range. Of an elevation that can't be read nothing is known. Of a file that is cut off
+    /// within its root element the points before that are read. An error says why the file is no
+    /// track, and names another format by [`other_format`]. It takes memory for the points, and for
+    /// half of them again while they are sorted.
     pub fn read(alloc: Global, gpx: &[u8]) -> Result<Result<Track, TrackError>, AllocError>
         ensures { IfOk result (λ answer. answer ≡ track_of gpx.now) }
     {
-        let points = match points_of(alloc, gpx)? {
-            Ok(points) => points,
-            Err(error) => return Ok(Err(error)),
+        let read = match points_of(alloc, gpx)? {
+            Ok(read) => read,
+            Err(error) => return Ok(Err(error.named(other_format(gpx)))),
         };
-        if points.kept.is_empty() {
-            return Ok(Err(TrackError::Empty));
+        if read.points.kept.is_empty() {
+            return Ok(Err(without_points(read.cut_off)));
         }
-        Ok(Ok(Track::of(points.kept, points.skipped)?))
+        Ok(Ok(Track::of(read)?))
     }
 
-    // A track of points that are in any order.
-    fn of(mut points: Vec<Point>, skipped: usize) -> Result<Track, AllocError>
-        ensures points { IfOk result (λ track. track.points ≡ in_order points.items) }
-        ensures skipped { IfOk result (λ track. track.skipped ≡ skipped) }
+    // The track of what was read, whose points are in any order.
+    fn of(read: Read) -> Result<Track, AllocError>
+        ensures points { IfOk result (λ track. track.points ≡ in_order read.points.kept.items) }
+        ensures skipped { IfOk result (λ track. track.skipped ≡ read.points.skipped) }
+        ensures cut_off { IfOk result (λ track. track.cut_off ≡ read.cut_off) }
     {
+        let Read { points, cut_off } = read;
+        let Points { kept, skipped } = points;
+        let mut points = kept;
         points.sort_by_key(|point| point.time)?;
-        Ok(Track { points, skipped })
+        Ok(Track {
+            points,
+            skipped,
+            cut_off,
+        })
     }
 
     /// The points, in the order of their times.
@@ -74,15 +103,22 @@ impl Track {
         self.skipped
     }
 
+    /// Whether the file ends within its root element: the points are those before that.
+    pub fn is_cut_off(&self) -> bool
+        ensures { result ≡ self.now.cut_off }
+    {
+        self.cut_off
+    }
+
     /// Where the track was at a time, in milliseconds of UTC from the start of the year 0: at the
     /// last point that is at or before it, if it is the time of that point; else between that point
-    /// and the next one, in proportion to the time, if they are at most five minutes apart. Each
-    /// value is rounded towards the earlier point; the longitude goes the short way round; there is
+    /// and the next one, in proportion to the time, if they are at most `max_gap` milliseconds
+    /// apart. Each value is rounded towards the earlier point; the longitude goes the short way round; there is
     /// an elevation if both points have one. `None` before the first point, behind the last one,
     /// and in a longer gap. Its time grows with the logarithm of the points. It takes no memory.
-    pub fn at(&self, time: u64) -> Option<Fix>
-        ensures { result ≡ fix_at time self.now.points }
+    pub fn at(&self, time: u64, max_gap: u64) -> Option<Fix>
+        ensures { result ≡ fix_at max_gap time self.now.points }
     {
-        fix_at(time, self.points.as_slice())
+        fix_at(max_gap, time, self.points.as_slice())
     }
 }

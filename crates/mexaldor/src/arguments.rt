@@ -300,9 +300,10 @@ fn geotag<'a>(alloc: Global) -> Result<Command<'a>, AllocError> {
         .about("Set the locations of pictures from the track of a GPS receiver")
         .override_usage("mexaldor geotag [OPTIONS] TRACK.gpx FILE...")
         .after_help(
-            "The location at the time when a picture was taken is found between two points of the track that are at most five minutes apart. A picture without a date, of another time, or with a location already, is left and reported, and the exit status is 3.",
+            "The location at the time when a picture was taken is found between two points of the track that are at most five minutes apart, or --max-gap. GPSDateStamp and GPSTimeStamp become the time in UTC. A picture without a date, of another time, or with a location already, is left and reported, and the exit status is 3.",
         )
         .arg(options::offset(alloc))?
+        .arg(options::max_gap(alloc))?
         .arg(options::flag(
             alloc,
             "overwrite",

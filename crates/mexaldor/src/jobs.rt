@@ -7,7 +7,7 @@ use exif_columns::{self as columns, Separator};
 use exif_decisions::Escaped;
 use exif_rename::{DateTag, Pattern};
 use exif_session::{Cataloguing, Geotagging, Renaming, Request, Table, Task};
-use exif_track::exif_time_of;
+use exif_track::{DEFAULT_GAP, exif_time_of, gap_in};
 use std::alloc::{AllocError, Global};
 
 pub fn table_of<'a>(
@@ -164,6 +164,22 @@ pub fn touch_of<'a>(
     request(alloc, Task::Touch(zone), matches, files)
 }
 
+// How far two points of a track may be apart, in milliseconds.
+fn gap_of(alloc: Global, matches: &ArgMatches<'_>) -> Result<Result<u64, Wrong>, AllocError> {
+    let Some(text) = matches.get_str("max-gap") else {
+        return Ok(Ok(DEFAULT_GAP));
+    };
+    match gap_in(text.as_bytes()) {
+        Some(gap) => Ok(Ok(gap)),
+        None => {
+            let text = Escaped(text);
+            Ok(Err(format!(in alloc;
+                "invalid gap '{text}'; expected seconds from 0 to 864000, e.g. 300"
+            )?))
+        }
+    }
+}
+
 pub fn geotag_of<'a>(
     alloc: Global,
     matches: &ArgMatches<'a>,
@@ -172,9 +188,14 @@ pub fn geotag_of<'a>(
         Ok(zone) => zone,
         Err(wrong) => return Ok(Err(wrong)),
     };
+    let max_gap = match gap_of(alloc, matches)? {
+        Ok(max_gap) => max_gap,
+        Err(wrong) => return Ok(Err(wrong)),
+    };
     let geotagging = Geotagging {
         track: matches.get_str("track").unwrap_or(""),
         zone,
+        max_gap,
         overwrite: matches.get_flag("overwrite"),
         keeping: keeping_of(matches),
     };

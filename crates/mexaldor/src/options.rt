@@ -119,6 +119,14 @@ pub fn offset<'a>(alloc: Global) -> Arg<'a> {
         )
 }
 
+/// How far two points of a track may be apart.
+pub fn max_gap<'a>(alloc: Global) -> Arg<'a> {
+    Arg::new(alloc, "max-gap")
+        .long("max-gap")
+        .value_name("SECONDS")
+        .help("Locate pictures between points of the track at most SECONDS apart [default: 300]")
+}
+
 /// A folder that files are written to.
 pub fn into<'a>(alloc: Global, help: &'a str) -> Arg<'a> {
     Arg::new(alloc, "into")

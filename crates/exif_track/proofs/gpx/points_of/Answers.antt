@@ -1,13 +1,16 @@
-use Rattle.std.proofs.Common.{◌≡◌, ◌+◌, ◌-◌, ◌<◌, ◌≤◌, Ok, Err, length, drop, length-drop, sym, ◌∙◌, arith}
+use Rattle.std.proofs.Common.{◌≡◌, ◌+◌, ◌-◌, ◌<◌, ◌≤◌, Ok, Err, length, drop, length-drop, ap, sym, ◌∙◌, arith}
 use Rattle.std.proofs.lemmas.List.{take_rest}
+use Rattle.exif_track.specs.Read.{walked}
 use Rattle.exif_track.specs.Steps.{step_at}
-use Rattle.exif_track.specs.Walks.{skipped_of}
-use Rattle.exif_track.proofs.WalkSteps.{from_here, skipped_few, walk_end, walk_fault, walk_next, walk_refused}
+use Rattle.exif_track.specs.Walks.{refused_at, skipped_of}
+use Rattle.exif_track.proofs.WalkSteps.{from_here, skipped_few, walk_end, walk_next, walk_refused}
 use Rattle.exif_track.proofs.gpx.points_of.Goals as goal
 
 pub returns-in-Err : goal.returns-in-Err
 returns-in-Err c =
-    sym (walk_refused c.args.gpx.now c.loop-at.at c.loop-at.state c.in-Err.error c.loop-at.points.kept.items c.loop-at.points.skipped _ c.loop-at-test.true
+    c.walked.ensures ∙ ap (walked c.loop-at.points.kept.items c.loop-at.points.skipped)
+    (c.refused_at.ensures ∙ ap (λ rest. refused_at c.loop-at.state rest c.in-Err.error) (take_rest c.args.gpx.now c.loop-at.at))
+    ∙ sym (walk_refused c.args.gpx.now c.loop-at.at c.loop-at.state c.in-Err.error c.loop-at.points.kept.items c.loop-at.points.skipped _ c.loop-at-test.true
     (from_here c.args.gpx.now c.loop-at.at c.loop-at.state (Err c.in-Err.error) (sym c.next_step.ensures.answer ∙ c.in-Err.is)) c.loop-at.invariant.rest)
 
 pub loop-at-preserved : goal.loop-at-preserved
@@ -33,12 +36,8 @@ loop-at-preserved c =
       inside = omega arith;
     }
 
-pub returns-in-Some : goal.returns-in-Some
-returns-in-Some c =
-    sym (walk_fault c.args.gpx.now c.loop-at.at c.loop-at.state c.loop-at.points.kept.items c.loop-at.points.skipped c.in-Some.error _ c.loop-at-test.false
-    (sym c.fault_at_end.ensures ∙ c.in-Some.is) c.loop-at.invariant.rest)
-
-pub returns-in-None : goal.returns-in-None
-returns-in-None c =
-    sym (walk_end c.args.gpx.now c.loop-at.at c.loop-at.state c.loop-at.points.kept.items c.loop-at.points.skipped _ c.loop-at-test.false
-    (sym c.fault_at_end.ensures ∙ c.in-None.is) c.loop-at.invariant.rest)
+pub returns : goal.returns
+returns c =
+    c.walked-2.ensures ∙ ap (walked c.loop-at.points.kept.items c.loop-at.points.skipped) c.ended_at.ensures
+    ∙ sym (walk_end c.args.gpx.now c.loop-at.at c.loop-at.state c.loop-at.points.kept.items c.loop-at.points.skipped _ c.loop-at-test.false
+    c.loop-at.invariant.rest)

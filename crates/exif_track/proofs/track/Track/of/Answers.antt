@@ -10,6 +10,6 @@ invariant_of-result c =
 
 pub returns-clause-points : goal.returns-clause-points
 returns-clause-points c =
-    in_order_is c.args.points.items _
+    in_order_is c.args.read.points.kept.items _
     (IsNonDecreasingBy-from_sort_by_key (λ (p : Point). p.time) _ c.in_ok-sort_by_key.ensures.sorted (λ a r q k. search rules))
     (c.sort_by_key.ensures.stable (λ (p : Point). p.time) (answers_always _ _ _ (λ f a r q k. search rules)))

@@ -1,0 +1,42 @@
+-- A picture that gets another location.
+use Rattle.std.specs.Prelude.{◌≡◌, ℕ, List, [], map, Option, Result, Ok, Err}
+use Rattle.exif_assign.specs.declared.assignment.Assignment.{Assignment}
+use Rattle.exif_change.specs.Changed.{Undone, undone_of}
+use Rattle.exif_change.specs.Refusals.{Why, ◌>>=◌}
+use Rattle.exif_pictures.specs.Pictures.{picture_set}
+use Rattle.exif_types.specs.declared.tag.Tag.{Tag}
+use Rattle.exif_geotag.specs.Erasing.{all_erased}
+use Rattle.exif_geotag.specs.declared.relocating.Relocated.{Relocated}
+
+-- the new bytes, what was left undone of the values, and which old fields stay
+pub record Relocation : Type 0 where
+  pub file : List ℕ
+  pub undone : List (Option Undone)
+  pub kept : List Tag
+
+-- those that a call answers
+abbrev pub relocation_of : Relocated → Relocation
+relocation_of made = record {
+  file = made.file.items;
+  undone = map undone_of made.left.items;
+  kept = made.kept.items;
+}
+
+-- a changed file without old fields, as far as they can be taken out
+abbrev pub with_erased : List (Option Undone) → List ℕ × List Tag → Relocation
+with_erased undone (file, kept) = record { file = file; undone = undone; kept = kept }
+
+-- the values are set, and then the old fields are taken out
+abbrev pub relocated : List Assignment → List Tag → List ℕ → Result Relocation Why
+relocated values stale file =
+    picture_set values file
+    >>= λ made. Ok (with_erased made.undone (all_erased stale (made.file, [])))
+
+-- the new bytes alone
+abbrev pub file_of : Result Relocation Why → Result (List ℕ) Why
+file_of (Ok made) = Ok made.file
+file_of (Err why) = Err why
+
+-- the bytes of the new file are exactly these
+abbrev pub IsRelocated : List Assignment → List Tag → List ℕ → List ℕ → Type 0
+IsRelocated values stale old new = file_of (relocated values stale old) ≡ Ok new

@@ -1,0 +1,17 @@
+-- The time of a location, as the value of a field (Exif 2.32, 4.6.6, GPSTimeStamp: hours, minutes and
+-- seconds of UTC).
+use Rattle.std.specs.Prelude.{ℕ, ◌==◌, if◌then◌else◌, List, [], ◌++◌, codes}
+use Rattle.std.specs.Fmt.{decimal}
+use Rattle.exif_track.specs.FixTexts.{zero_filled}
+use Rattle.exif_track.specs.declared.moment.Clock.{Clock}
+
+-- a fraction of a second behind a point, if there is one
+abbrev pub fraction_text : ℕ → List ℕ
+fraction_text millisecond =
+    if millisecond == 0 then [] else codes "." ++ zero_filled 3 (decimal millisecond)
+
+-- three numbers, and the fraction
+abbrev pub clock_words : Clock → List ℕ
+clock_words clock =
+    decimal clock.hour ++ (codes " " ++ (decimal clock.minute ++ (codes " "
+    ++ (decimal clock.second ++ fraction_text clock.millisecond))))
