@@ -85,6 +85,7 @@ impl Task<'_> {
     {
         match self {
             Task::Rename(renaming) => !renaming.dry_run,
+            Task::Undo(dry_run) => !*dry_run,
             Task::Change(_, target) => matches!(target, Target::InPlace(_)),
             Task::Geotag(_) | Task::Copy(_) | Task::Touch(_) => true,
             Task::Show(_) | Task::Json(..) | Task::Summary(_) | Task::Table(_) => false,
