@@ -1,5 +1,5 @@
 -- A picture that gets another location.
-use Rattle.std.specs.Prelude.{◌≡◌, ℕ, List, [], map, Option, Result, Ok, Err}
+use Rattle.std.specs.Prelude.{◌≡◌, ℕ, ◌+◌, List, [], length, map, Option, Result, Ok, Err}
 use Rattle.exif_assign.specs.declared.assignment.Assignment.{Assignment}
 use Rattle.exif_change.specs.Changed.{Undone, undone_of}
 use Rattle.exif_change.specs.Refusals.{Why, ◌>>=◌}
@@ -36,6 +36,14 @@ relocated values stale file =
 abbrev pub file_of : Result Relocation Why → Result (List ℕ) Why
 file_of (Ok made) = Ok made.file
 file_of (Err why) = Err why
+
+-- how many things are left undone in the new file
+abbrev pub undone_by : Result Relocation Why → ℕ
+undone_by (Ok made) = length made.undone + length made.kept
+undone_by (Err why) = 0
+
+abbrev pub undone_in : List Assignment → List Tag → List ℕ → ℕ
+undone_in values stale old = undone_by (relocated values stale old)
 
 -- the bytes of the new file are exactly these
 abbrev pub IsRelocated : List Assignment → List Tag → List ℕ → List ℕ → Type 0

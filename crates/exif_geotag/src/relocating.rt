@@ -1,8 +1,8 @@
 //! A picture that gets another location.
 
-ghost use Rattle.std.specs.Prelude.{◌≡◌, IfOk};
+ghost use Rattle.std.specs.Prelude.{◌≡◌, ◌+◌, length, IfOk, OnOk};
 ghost use Rattle.exif_change.specs.Refusals.{Answers};
-ghost use Rattle.exif_geotag.specs.Relocating.{IsRelocated, relocated, relocation_of};
+ghost use Rattle.exif_geotag.specs.Relocating.{IsRelocated, relocated, relocation_of, undone_in};
 
 use crate::erasing::erase_all;
 use exif_change::{Assignment, Changed, Left, Note, Refusal};
@@ -70,31 +70,38 @@ impl fmt::Display for Unfinished {
     }
 }
 
-// All that was left undone.
-fn all_left(alloc: Global, left: Vec<Left>, kept: &[Tag]) -> Result<Vec<Unfinished>, AllocError> {
-    let mut all = Vec::new(alloc);
+// Adds what was left undone of the values.
+fn add_changes(left: Vec<Left>, all: &mut Vec<Unfinished>) -> Result<(), AllocError>
+    ensures { OnOk result (length all.new.items ≡ length all.old.items + length left.items) }
+{
     for left in left {
         all.push(Unfinished::Change(left))?;
     }
+    Ok(())
+}
+
+// Adds the old fields that stay.
+fn add_old(kept: &[Tag], all: &mut Vec<Unfinished>) -> Result<(), AllocError>
+    ensures { OnOk result (length all.new.items ≡ length all.old.items + length kept.now) }
+{
     for tag in kept {
         all.push(Unfinished::Old(*tag))?;
     }
-    Ok(all)
+    Ok(())
 }
 
 // The bytes of an edit, and its report.
-fn edited(
-    alloc: Global,
-    relocated: Relocated,
-) -> Result<Edited<Unfinished, Note>, EditError<Refusal>>
-    ensures { IfOk result (λ edited. edited.file.items ≡ relocated.file.items) }
+fn edited(alloc: Global, made: Relocated) -> Result<Edited<Unfinished, Note>, AllocError>
+    ensures file { IfOk result (λ edited. edited.file.items ≡ made.file.items) }
+    ensures left { IfOk result (λ edited. length edited.report.left.items
+        ≡ length made.left.items + length made.kept.items) }
 {
-    let Relocated { file, left, kept } = relocated;
-    let Ok(left) = all_left(alloc, left, kept.as_slice()) else {
-        return Err(EditError::OutOfMemory);
-    };
+    let Relocated { file, left, kept } = made;
+    let mut all = Vec::new(alloc);
+    add_changes(left, &mut all)?;
+    add_old(kept.as_slice(), &mut all)?;
     let notes = Vec::new(alloc);
-    let report = Report { left, notes };
+    let report = Report { left: all, notes };
     Ok(Edited { file, report })
 }
 
@@ -107,6 +114,8 @@ impl<'v, 'a> Edit for Relocation<'v, 'a> {
 
     ghost answer = { λ edit. IsRelocated edit.values.now edit.stale.now };
 
+    ghost undone = { λ edit. undone_in edit.values.now edit.stale.now };
+
     fn apply(
         &self,
         alloc: Global,
@@ -116,7 +125,10 @@ impl<'v, 'a> Edit for Relocation<'v, 'a> {
             return Err(EditError::OutOfMemory);
         };
         match relocate(alloc, file, self.values, self.stale) {
-            Ok(relocated) => edited(alloc, relocated),
+            Ok(relocated) => match edited(alloc, relocated) {
+                Ok(edited) => Ok(edited),
+                Err(_memory) => Err(EditError::OutOfMemory),
+            },
             Err(Refusal::OutOfMemory) => Err(EditError::OutOfMemory),
             Err(refusal) => Err(EditError::Refused(refusal)),
         }
