@@ -149,7 +149,7 @@ if has sqlite3; then
     cp db newer
     sqlite3 newer 'UPDATE catalog SET version = 3'
     gives "a newer version is refused" 1 "$mexaldor" page newer -
-    says "by its number" "a catalogue of version 3, made by a newer program; this one reads version 2"
+    says "by its number" "a catalogue of version 3, by a newer program; this one reads version 2"
 fi
 
 # a catalogue that can be read and not written

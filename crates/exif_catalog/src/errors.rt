@@ -69,7 +69,7 @@ impl fmt::Display for CatalogError {
             CatalogError::OtherTables => f.write_str("a database that is no catalogue of pictures"),
             CatalogError::OtherVersion(version) if *version > VERSION => write!(
                 f,
-                "a catalogue of version {version}, made by a newer program; this one reads version 2"
+                "a catalogue of version {version}, by a newer program; this one reads version 2"
             ),
             CatalogError::OtherVersion(version) => write!(
                 f,

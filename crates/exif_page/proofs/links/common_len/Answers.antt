@@ -1,4 +1,4 @@
-use Rattle.std.proofs.Common.{◌≡◌, drop, sym}
+use Rattle.std.proofs.Common.{drop, sym}
 use Rattle.exif_page.proofs.SharedPaths.{shared_so_far}
 use Rattle.exif_page.proofs.links.common_len.Goals as goal
 
