@@ -301,6 +301,11 @@ check "a backup stays" cmp files/whole.jpg work/links/a.jpg.orig
 check "a hidden file stays" cmp files/whole.jpg work/links/.mexaldor-0
 says "and is named" "work/links/.mexaldor-0: a temporary file of another run; it stays"
 
+cp files/whole.jpg work/links/a.jpg
+gives "a file named in four ways is shifted once" 3 "$mexaldor" shift +1:00 work/links/a.jpg work/links/a.jpg ./work/../work/links/b.jpg -r work/links
+"$mexaldor" show work/links/a.jpg >out
+check "once" test "$(grep -c '2020-02-29 00:30:00' out)" = 2
+
 # temporary files that a run left: one that nobody writes any more is removed by a run that changes files
 fresh
 mkdir work/left
@@ -325,10 +330,6 @@ says "and leaves one that a run writes" "work/left/.mexaldor-1: a temporary file
 check "so it is there" cmp files/whole.jpg work/left/.mexaldor-1
 check "other names are not its own" cmp files/whole.jpg work/left/.mexaldor-old
 check "nor are links" test -L work/left/.mexaldor-2
-cp files/whole.jpg work/links/a.jpg
-gives "a file named in four ways is shifted once" 3 "$mexaldor" shift +1:00 work/links/a.jpg work/links/a.jpg ./work/../work/links/b.jpg -r work/links
-"$mexaldor" show work/links/a.jpg >out
-check "once" test "$(grep -c '2020-02-29 00:30:00' out)" = 2
 
 # names that are no UTF-8, control characters
 fresh
