@@ -182,6 +182,10 @@ says "but reported" "card/b.jpg: already there: "
 check "all files stay" test "$(find card -type f | wc -l)" = 5 -a "$(find archive -type f | wc -l)" = 5
 gives "nor would it be" 3 "$mexaldor" rename --dry-run --into archive '%Y%m%d_%H%M%S' card/b.jpg
 check "no line is printed" test ! -s out
+mkdir same && cp files/whole.jpg same/a.jpg && cp files/whole.jpg same/b.jpg
+gives "two pictures of the same bytes are both moved" 0 "$mexaldor" rename -r --into sames '%Y' same
+gives "and keep their names" 0 "$mexaldor" rename -r --into sames '%Y' sames
+says "as those that have them already" "0 renamed, 2 already so"
 
 # two runs side by side
 fresh

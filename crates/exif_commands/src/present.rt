@@ -72,6 +72,9 @@ pub fn find_there(
     wish: &Wish,
     sidecars: usize,
 ) -> Result<Option<There>, AllocError> {
+    if wish.kept_number(rt.alloc())?.is_some() {
+        return Ok(None);
+    }
     let Some(main) = wish.files.get(sidecars) else {
         return Ok(None);
     };
@@ -85,7 +88,7 @@ pub fn find_there(
         }
         let moves = wish.moves(rt.alloc(), number)?;
         if moves.len() != wish.files.len() {
-            // a file has its new path itself
+            // one of the files has its new path itself
             return Ok(None);
         }
         let found = presences(rt, moves.as_slice(), sidecars)?;

@@ -102,8 +102,9 @@ fn has_paths(alloc: Global, name: &str, files: &[WishFile]) -> Result<bool, Allo
 }
 
 impl Wish {
-    // The number by which each file has its new path already, if there is one below `TRIES`.
-    pub(crate) fn kept_number(&self, alloc: Global) -> Result<Option<u32>, AllocError>
+    /// The number by which each file has its new path already, if there is one below 100,000: the
+    /// files of such a wish stay.
+    pub fn kept_number(&self, alloc: Global) -> Result<Option<u32>, AllocError>
         ensures { IfOk result (λ number. own (wanted_of self.now) ≡ number) }
     {
         let Some(_first) = self.files.first() else {
