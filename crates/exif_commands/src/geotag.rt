@@ -1,32 +1,44 @@
 //! Pictures that get their location from the track of a GPS receiver.
 
-use exif::{Error, Exif, Sink};
-use exif_change::Assignment;
-use exif_files::Status;
-use exif_geotag::{fix_of_picture, time_of_picture};
-use exif_session::{Change, Geotagging, Plan, Session, Stop, change_in_turn, exif_of, read_file};
+use exif::{Error, Exif, Sink, Tag};
+use exif_change::{Assignment, Refusal};
+use exif_decisions::{Escaped, Outcome};
+use exif_files::{Failure, HostFiles, Status, WriteError, change};
+use exif_geotag::{Relocation, TimeStamp, fix_of_picture, stale_tags, time_of_picture};
+use exif_session::{Geotagging, Plan, Session, Stop, exif_of, read_file};
 use exif_summary::{LATITUDE, LONGITUDE, find_degrees};
-use exif_track::{Fix, Track};
+use exif_track::{Fix, Moment, Track, moment_at};
+use std::alloc::AllocError;
+
+// The location of a picture and its time, and which of its fields are of an old one.
+#[derive(Drop)]
+struct Spot {
+    fix: Fix,
+    moment: Moment,
+    stale: Vec<Tag>,
+}
 
 // The location of a picture, or why it is not known.
+#[derive(Drop)]
 enum Located {
-    At(Fix),
+    At(Spot),
     Unknown(&'static str),
 }
 
 /// Sets the location of each file that is named or found, in place, by a track, and answers the
 /// worst status. A file without a date, or of a time at which the track was nowhere, is left and
-/// reported, and one that has a location unless that is to be replaced; so are points of the track that tell no time or no location.
+/// reported, and one that has a location unless that is to be replaced; so are points of the track
+/// without a time or a location, and that it is cut off.
 pub fn geotag_files<W: Sink, E: Sink>(
     session: &mut Session<'_, '_, W, E>,
     geotagging: &Geotagging<'_>,
 ) -> Result<Status, Stop> {
-    let (track, skipped) = match track_of(session, geotagging.track)? {
+    let (track, status) = match track_of(session, geotagging.track)? {
         Ok(found) => found,
         Err(refused) => return Ok(refused),
     };
     let (plan, gathered) = Plan::gather(session)?;
-    let mut worst = skipped.or_worse(gathered);
+    let mut worst = status.or_worse(gathered);
     for (path, key) in plan.paths.iter().zip(plan.keys.iter()) {
         let status = geotag_file(session, geotagging, &track, path.as_str(), key.as_str())?;
         worst = worst.or_worse(status);
@@ -45,8 +57,9 @@ fn track_of<W: Sink, E: Sink>(
     };
     match Track::read(session.rt.alloc(), bytes.as_slice())? {
         Ok(track) => {
-            let status = skip_points(session, path, track.skipped())?;
-            Ok(Ok((track, status)))
+            let skipped = skip_points(session, path, track.skipped())?;
+            let cut_off = report_cut(session, path, &track)?;
+            Ok(Ok((track, skipped.or_worse(cut_off))))
         }
         Err(error) => Ok(Err(session.refuse(path, &error)?.status())),
     }
@@ -71,6 +84,29 @@ fn skip_points<W: Sink, E: Sink>(
     Ok(Status::Incomplete)
 }
 
+// Reports that a track is cut off, if it is, and answers its status.
+fn report_cut<W: Sink, E: Sink>(
+    session: &mut Session<'_, '_, W, E>,
+    path: &str,
+    track: &Track,
+) -> Result<Status, Stop> {
+    if !track.is_cut_off() {
+        return Ok(Status::Success);
+    }
+    let last = match track.points().last() {
+        Some(point) => moment_at(point.time),
+        None => None,
+    };
+    if let Some(last) = last {
+        let alloc = session.rt.alloc();
+        let text = format!(in alloc; "the file is cut off; the track is used up to {last}")?;
+        session.say(path, &text)?;
+    } else {
+        session.say(path, &"the file is cut off; the track is used up to there")?;
+    }
+    Ok(Status::Incomplete)
+}
+
 // Sets the location of a file, if it is known.
 fn geotag_file<W: Sink, E: Sink>(
     session: &mut Session<'_, '_, W, E>,
@@ -79,23 +115,91 @@ fn geotag_file<W: Sink, E: Sink>(
     path: &str,
     key: &str,
 ) -> Result<Status, Stop> {
-    let fix = match location_of_file(session.rt, geotagging, track, key) {
-        Ok(Located::At(fix)) => fix,
-        Ok(Located::Unknown(why)) => {
-            let outcome = session.leave(path, &why)?;
-            return Ok(session.count(outcome));
+    let outcome = match location_of_file(session.rt, geotagging, track, key) {
+        Ok(Located::At(spot)) => {
+            let outcome = relocate_file(session, geotagging, &spot, path, key)?;
+            session.console.step(session.pending.len());
+            outcome
         }
-        Err(error) => {
-            let outcome = session.refuse(path, &error)?;
-            return Ok(session.count(outcome));
+        Ok(Located::Unknown(why)) => session.leave(path, &why)?,
+        Err(Error::OutOfMemory) => return Err(Stop::OutOfMemory),
+        Err(error) => session.refuse(path, &error)?,
+    };
+    Ok(session.count(outcome))
+}
+
+// Sets the location of a file and its time, and takes out what is of the old one.
+fn relocate_file<W: Sink, E: Sink>(
+    session: &mut Session<'_, '_, W, E>,
+    geotagging: &Geotagging<'_>,
+    spot: &Spot,
+    path: &str,
+    key: &str,
+) -> Result<Outcome, Stop> {
+    let alloc = session.rt.alloc();
+    let (fix, day, time) = (spot.fix, spot.moment.day, TimeStamp(spot.moment.clock));
+    let location = format!(in alloc; "Location={fix}")?;
+    let day = format!(in alloc; "{day}")?;
+    let time = format!(in alloc; "{time}")?;
+    let Some(mut values) = Assignment::parse_all(alloc, location.as_str())? else {
+        return session.refuse(path, &"its location can't be written");
+    };
+    for (tag, text) in [
+        (Tag::GPSDateStamp, day.as_str()),
+        (Tag::GPSTimeStamp, time.as_str()),
+    ] {
+        values.push(Assignment { tag, text })?;
+    }
+    let relocation = Relocation {
+        values: values.as_slice(),
+        stale: spot.stale.as_slice(),
+    };
+    replace_file(session, geotagging, &relocation, path, key)
+}
+
+// Changes a file in place, and reports what was left undone in it, or why it was not changed.
+fn replace_file<W: Sink, E: Sink>(
+    session: &mut Session<'_, '_, W, E>,
+    geotagging: &Geotagging<'_>,
+    relocation: &Relocation<'_, '_>,
+    path: &str,
+    key: &str,
+) -> Result<Outcome, Stop> {
+    let alloc = session.rt.alloc();
+    let mut files = HostFiles::new(session.rt);
+    match change(alloc, &mut files, relocation, key, geotagging.keeping) {
+        Ok(report) => {
+            for left in report.left.iter() {
+                session.say(path, left)?;
+            }
+            Ok(Outcome::of_done(report.left.is_empty()))
         }
-    };
-    let text = format!(in session.rt.alloc(); "Location={fix}")?;
-    let Some(values) = Assignment::parse_all(session.rt.alloc(), text.as_str())? else {
-        let outcome = session.refuse(path, &"its location can't be written")?;
-        return Ok(session.count(outcome));
-    };
-    change_in_turn(session, &Change::Set(values), geotagging.keeping, path, key)
+        Err(failure) => refuse_change(session, failure, path, key),
+    }
+}
+
+// Reports why a file was not changed.
+fn refuse_change<W: Sink, E: Sink>(
+    session: &mut Session<'_, '_, W, E>,
+    failure: Failure<Refusal>,
+    path: &str,
+    key: &str,
+) -> Result<Outcome, Stop> {
+    let alloc = session.rt.alloc();
+    match failure {
+        Failure::OutOfMemory => Err(Stop::OutOfMemory),
+        Failure::Reading(cause) => session.refuse(path, &cause),
+        Failure::Refused(refusal) => session.refuse(path, &refusal),
+        Failure::Writing(WriteError::Taken) => {
+            let key = Escaped(key);
+            let text = format!(in alloc; "not changed: the backup {key}.orig exists")?;
+            session.refuse(path, &text)
+        }
+        Failure::Writing(cause) => {
+            let text = format!(in alloc; "cannot replace the file: {cause}")?;
+            session.refuse(path, &text)
+        }
+    }
 }
 
 // The location of a file's picture; or why it can't be read.
@@ -106,7 +210,10 @@ fn location_of_file(
     path: &str,
 ) -> Result<Located, Error> {
     match exif_of(rt, path) {
-        Ok(exif) => Ok(location_by(&exif, geotagging, track)),
+        Ok(exif) => match location_by(rt, &exif, geotagging, track) {
+            Ok(located) => Ok(located),
+            Err(_memory) => Err(Error::OutOfMemory),
+        },
         Err(Error::NotFound(_)) => Ok(Located::Unknown(NO_DATE)),
         Err(error) => Err(error),
     }
@@ -121,16 +228,26 @@ fn has_location(exif: &Exif) -> bool {
     find_degrees(exif, &LATITUDE).is_some() && find_degrees(exif, &LONGITUDE).is_some()
 }
 
-fn location_by(exif: &Exif, geotagging: &Geotagging<'_>, track: &Track) -> Located {
+fn location_by(
+    rt: &HostRuntime,
+    exif: &Exif,
+    geotagging: &Geotagging<'_>,
+    track: &Track,
+) -> Result<Located, AllocError> {
     let zone = geotagging.zone.as_bytes();
-    if time_of_picture(exif, zone).is_none() {
-        return Located::Unknown(NO_DATE);
-    }
+    let Some(time) = time_of_picture(exif, zone) else {
+        return Ok(Located::Unknown(NO_DATE));
+    };
     if !geotagging.overwrite && has_location(exif) {
-        return Located::Unknown(HAS_LOCATION);
+        return Ok(Located::Unknown(HAS_LOCATION));
     }
-    match fix_of_picture(exif, zone, track, geotagging.max_gap) {
-        Some(fix) => Located::At(fix),
-        None => Located::Unknown("no location is set: the track has none for its time"),
-    }
+    let found = (
+        fix_of_picture(exif, zone, track, geotagging.max_gap),
+        moment_at(time),
+    );
+    let (Some(fix), Some(moment)) = found else {
+        return Ok(Located::Unknown("no location is set: the track has none for its time"));
+    };
+    let stale = stale_tags(rt.alloc(), exif, fix.elevation.is_some())?;
+    Ok(Located::At(Spot { fix, moment, stale }))
 }
