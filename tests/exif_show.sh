@@ -36,6 +36,11 @@ gives "one more is refused" 1 sh -c 'ulimit -v 65536 && exec "$1" large.tif' sh 
 says "the refusal is named" "TIFF data too large"
 rm large.tif
 
+# A HEIF file with a box that ends behind the highest offset of a file.
+printf '\0\0\0\030ftypheic\0\0\0\0mif1heic\0\0\0\001mdat\200\0\0\0\0\0\0\017x' >far.heic
+gives "a box that no file can hold ends a HEIF file" 1 "$exif_show" far.heic
+says "which has no Exif data" "exif_show: No Exif data found in HEIF"
+
 # The first calls: tools/ in a repository of four crates, with an rt that only prints.
 mkdir -p young/bin young/docs young/crates/exif_show young/crates/middle young/crates/base/out/rlib young/crates/other/src
 cp -r "$root/tools" "$root/exif_show" "$root/mexaldor" young

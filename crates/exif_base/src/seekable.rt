@@ -21,6 +21,9 @@ const BLOCK: usize = 512;
 // How many bytes in memory are copied at a time.
 const PIECE: usize = 4096;
 
+// The highest offset that a file can have: systems count them in 63 bits.
+const MAX_OFFSET: u64 = i64::MAX as u64;
+
 /// A reader that seeks in what it reads.
 pub trait ReadSeek: Read + Seek {
     /// Reads give the bytes of the stream from the current offset on, where both are known.
@@ -328,7 +331,7 @@ fn go_in<R: ReadSeek>(stream: &mut R, offset: u64) -> io::Result<()>
 }
 
 // Reads at an offset of the stream, and goes back to where it was. None where the stream does not
-// report where that is.
+// report where that is, and at an offset that no file has.
 fn fetch_at_in<R: ReadSeek>(
     stream: &mut R,
     offset: u64,
@@ -345,6 +348,9 @@ fn fetch_at_in<R: ReadSeek>(
     ensures stream { known_stream (R.stream_position stream.new) (R.stream_bytes stream.new)
         ≡ known_stream (R.stream_position stream.old) (R.stream_bytes stream.old) }
 {
+    if offset > MAX_OFFSET {
+        return Ok(None);
+    }
     let Some(back) = offset_in(stream) else {
         return Ok(None);
     };
