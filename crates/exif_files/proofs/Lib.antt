@@ -7,4 +7,5 @@ pub mod NewFiles
 pub mod Runs
 pub mod Whole
 pub mod Outcomes
+pub mod Private
 pub mod Many

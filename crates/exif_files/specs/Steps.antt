@@ -1,5 +1,6 @@
 -- What each call of a file system does.
-use Rattle.std.specs.Prelude.{◌≡◌, ◌≢◌, ℕ, ◌+◌, ◌-◌, ◌^◌, min, List, [], ◌∷◌, ◌++◌, Bool, true, false, if◌then◌else◌, None, Some, Result, IfOk, OnOk, OnErr, is_err}
+use Rattle.std.specs.Prelude.{◌≡◌, ◌≢◌, ◌⊎◌, ℕ, ◌+◌, ◌-◌, ◌^◌, min, List, [], ◌∷◌, ◌++◌, Bool, true, false, if◌then◌else◌, None, Some, Result, IfOk, OnOk, OnErr, is_err}
+use Rattle.exif_files.specs.Names.{IsHidden}
 use Rattle.exif_files.specs.States.{Entry, State, Holds, Elsewhere, ElsewhereOfTwo, Now}
 
 -- a new file, with no bytes yet, under a name that nothing had
@@ -89,3 +90,12 @@ pub record DoesIfFree {E : Type 0} (name : List ℕ) (step : State → State →
   pub done : IfOk result (MovesIfFree name step old new)
   pub failed : OnErr result (new ≡ old)
   pub count : failures' ≡ count_after (is_err result) failures
+
+-- A run whose first call was such a step, if there was a call that changed anything.
+abbrev pub BeginsWith : (State → State → Type 0) → List State → List State → Type 0
+BeginsWith step old new = (s : State) (past : List State) → old ≡ s ∷ past
+    → (new ≡ old) ⊎ ((t : State) × (since : List State) × step s t × (new ≡ since ++ (t ∷ s ∷ past)))
+
+-- a new file under a hidden name, which its owner alone may use: 384 is 0o600
+abbrev pub CreatesPrivate : State → State → Type 0
+CreatesPrivate s t = (n : List ℕ) × IsHidden n × Creates n 384 s t

@@ -2,7 +2,7 @@
 
 ghost use Rattle.std.specs.Prelude.{◌≡◌, ◌≢◌, ◌≤◌, [], is_err, IfErr, OnOk, OnErr, Some, None, true};
 ghost use Rattle.exif_files.specs.States.{Run, Now, Holds, Elsewhere};
-ghost use Rattle.exif_files.specs.Steps.{count_after};
+ghost use Rattle.exif_files.specs.Steps.{BeginsWith, CreatesPrivate, count_after};
 ghost use Rattle.exif_files.specs.Names.{IsHidden, name_if};
 ghost use Rattle.exif_files.specs.NewNames.{IsThere};
 ghost use Rattle.exif_files.specs.Written.{IsWhole, IsReplacedForGood, IsGivenUp, IsTakenIf, FailedTwice, FailedToRemove, none_failed};
@@ -19,7 +19,7 @@ use std::io;
 const PRIVATE: u32 = 0o600;
 
 /// Replaces the file of this name by one with these bytes: it is written first in the same folder
-/// under a hidden name, and then in one step. It has the mode of the old one, its owner if the
+/// under a hidden name, by which its owner alone may use it, and then in one step. It has the mode of the old one, its owner if the
 /// system allows that, and its times if `times` says so. The old one stays under the name `backup`,
 /// which must be free. It takes the memory of a name.
 ///
@@ -49,6 +49,8 @@ pub fn replace<F: FileSystem>(
         (none_failed (F.failures files.old) (F.failures files.new))
         (FailedToRemove e (F.failures files.old) (F.failures files.new)))
         (F.states files.old) (F.states files.new)) }
+    // First the new file is made, which its owner alone may use.
+    ensures private { BeginsWith CreatesPrivate (F.states files.old) (F.states files.new) }
     // `Taken` is of the backup's name.
     ensures taken { IfErr result (λ e. e ≡ Taken
         → Now (F.states files.old) (IsTakenIf (name_if backup.entry))) }
